@@ -1,0 +1,265 @@
+-- What follows from the definitions, for every transcript from every valid state: the promises of the product. Each is a
+-- statement; the crate iova_laws proves it.
+use Rattle.std.specs.Prelude.{ℕ, zero, suc, ◌≡◌, ◌≢◌, ◌<◌, ◌≤◌, ◌+◌, ◌-◌, ◌%◌, ◌==◌, ◌⊎◌, true, if◌then◌else◌, min, List, [], ◌∷◌, ◌++◌, length, map, filter, Option, Some, None, slice_get, sum_by}
+use Rattle.iova_range.specs.declared.refusal.Refusal.TheVariants as refusal
+use Rattle.iova_range.specs.Frames.{Frames, covers, meets}
+use Rattle.iova_range.specs.Sizes.{need, align_of}
+use Rattle.iova_range.specs.Bounds.{Extent, IsExtent}
+use Rattle.iova_model.specs.declared.step.Step.{Step}
+use Rattle.iova_model.specs.declared.step.Step.TheVariants as step
+use Rattle.iova_model.specs.declared.step.Reply.{Reply}
+use Rattle.iova_model.specs.declared.step.Reply.TheVariants as reply
+use Rattle.iova_model.specs.declared.step.Point.{Point}
+use Rattle.iova_model.specs.declared.step.Point.TheVariants as point
+use Rattle.iova_model.specs.declared.place.Place.{Place}
+use Rattle.iova_model.specs.declared.place.Place.TheVariants as place
+use Rattle.iova_model.specs.declared.totals.Totals.{Totals}
+use Rattle.iova_model.specs.Fit.{IsBest}
+use Rattle.iova_model.specs.Caches.{Caches, freed_by_puts, emptied}
+use Rattle.iova_model.specs.Flushes.{Flushes, is_in_flight, ended, entry_range, flushed, AreSound, NumbersRise}
+use Rattle.iova_model.specs.Clients.{Client, client_with, totals, totals_of, share_of}
+use Rattle.iova_model.specs.State.{State, Holder, holders, held_ranges, window_holders, magazine_holders, depot_holders, ring_holders, cached_holders, new_domain, place_of, times_held, counts}
+use Rattle.iova_model.specs.Valid.{IsValid}
+use Rattle.iova_model.specs.Next.{Next, next, from_to, ring_at, with_caches}
+use Rattle.iova_model.specs.Transcript.{Pair, IsTranscript, after, IsUnmappedAt, IsFlushedBetween, FlushLaw}
+
+-- 1. Validity is kept.
+
+abbrev pub NewDomainsAreValid : Type 0
+NewDomainsAreValid = (bounds : Extent) (workers : ℕ) → IsExtent bounds → 1 ≤ workers → workers ≤ 16 → IsValid (new_domain bounds workers)
+
+abbrev pub StepsKeepValidity : Type 0
+StepsKeepValidity = (s : State) (st : Step) (m : Point) → IsValid s → IsValid (next s st m).state
+
+abbrev pub TranscriptsKeepValidity : Type 0
+TranscriptsKeepValidity = (s : State) (ps : List Pair) → IsValid s → IsValid (after s ps)
+
+-- 2. One place. That no frame is in two holders is part of what is valid.
+
+-- one holder has the frame, at this place, or none has and it is free
+pub record IsOnlyAt (s : State) (frame : ℕ) (p : Place) : Type 0 where
+  pub free : p ≡ place.Free → times_held frame (holders s) ≡ 0
+  pub held : p ≢ place.Free → times_held frame (holders s) ≡ 1
+  pub here : p ≢ place.Free → (i : ℕ) × (h : Holder) × (slice_get (holders s) i ≡ Some h) × (covers frame h.range ≡ true) × (h.place ≡ p)
+
+abbrev pub EachFrameIsInOnePlace : Type 0
+EachFrameIsInOnePlace = (s : State) (frame : ℕ) → IsValid s → IsOnlyAt s frame (place_of s frame)
+
+abbrev pub frames_of : List Holder → ℕ
+frames_of hs = sum_by (λ h. h.range.len) hs
+
+-- the counts of the places are the frames of the holders there, and all of them are the frames of the bounds
+pub record CountsAddUp (s : State) : Type 0 where
+  pub reserved : (counts s).reserved ≡ frames_of (window_holders s.windows)
+  pub client : (counts s).client ≡ (totals s.clients).frames
+  pub magazine : (counts s).magazine ≡ frames_of (magazine_holders 0 s.caches.workers)
+  pub depot : (counts s).depot ≡ frames_of (depot_holders 0 s.caches.depots)
+  pub ring : (counts s).ring ≡ frames_of (ring_holders 0 s.rings)
+  pub all : (counts s).free + (counts s).reserved + (counts s).client + (counts s).magazine + (counts s).depot + (counts s).ring ≡ s.bounds.last + 1 - s.bounds.start
+
+abbrev pub PlacesAddUp : Type 0
+PlacesAddUp = (s : State) → IsValid s → CountsAddUp s
+
+-- 3. Conservation: no frame is lost, none is made. A step takes ranges from free frames (`gained`) and makes ranges free
+-- (`freed`), those that it says and no others; whatever ranges weigh, nothing else is gained or lost.
+
+-- what a drain of ring q by worker w makes free
+abbrev pub freed_by_drain : State → ℕ → ℕ → List Frames
+freed_by_drain s q w = freed_by_puts s.bounds.profile s.caches w (map entry_range (flushed s.flushes.finish (ring_at s q)))
+
+abbrev pub cached_ranges : Caches → List Frames
+cached_ranges c = map (λ h. h.range) (cached_holders c)
+
+-- nothing becomes free, or all that is cached does
+abbrev pub FreesCaches : Caches → List Frames → Type 0
+FreesCaches c freed = (freed ≡ []) ⊎ (freed ≡ cached_ranges c)
+
+-- a range is given from a cache, and nothing becomes free; or it is given from free frames
+abbrev pub MovesInAlloc : Caches → Reply → List Frames → List Frames → Type 0
+MovesInAlloc c (reply.Given r) gained freed = ((gained ≡ []) × (freed ≡ [])) ⊎ ((gained ≡ r ∷ []) × FreesCaches c freed)
+MovesInAlloc c r gained freed = (gained ≡ []) × FreesCaches c freed
+
+-- which ranges a step with this reply takes from free frames, and which it makes free
+abbrev pub Moves : State → Step → Reply → List Frames → List Frames → Type 0
+Moves s (step.Reserve lo hi) (reply.Reserved window) gained freed = (gained ≡ window ∷ []) × (freed ≡ filter (meets (from_to lo hi)) s.windows)
+Moves s (step.Alloc w id frames limit) r gained freed = MovesInAlloc s.caches r gained freed
+Moves s (step.Unmap w id lo) (reply.Queued r) gained freed = (gained ≡ []) × (freed ≡ freed_by_drain s w w)
+Moves s (step.CloseOne w id) (reply.Queued r) gained freed = (gained ≡ []) × (freed ≡ freed_by_drain s w w)
+Moves s (step.Drain q w) (reply.Drained n) gained freed = (gained ≡ []) × (freed ≡ freed_by_drain s q w)
+Moves s st r gained freed = (gained ≡ []) × (freed ≡ [])
+
+pub record Conserves (s : State) (st : Step) (n : Next) : Type 0 where
+  pub gained : List Frames
+  pub freed : List Frames
+  pub moves : Moves s st n.reply gained freed
+  pub balance : (weigh : Frames → ℕ) → sum_by weigh (held_ranges n.state) + sum_by weigh freed ≡ sum_by weigh (held_ranges s) + sum_by weigh gained
+
+abbrev pub StepsConserve : Type 0
+StepsConserve = (s : State) (st : Step) (m : Point) → IsValid s → Conserves s st (next s st m)
+
+-- 4. Totals.
+
+abbrev pub add_totals : Totals → Totals → Totals
+add_totals a b = record { count = a.count + b.count; frames = a.frames + b.frames; sum_lo = a.sum_lo + b.sum_lo }
+
+-- the shares of the workers below w, added
+abbrev pub shares_below : ℕ → List Client → Totals
+shares_below zero clients = totals_of []
+shares_below (suc w) clients = add_totals (shares_below w clients) (share_of w clients)
+
+abbrev pub TotalsAreShares : Type 0
+TotalsAreShares = (s : State) → IsValid s → totals s.clients ≡ shares_below s.workers s.clients
+
+-- `Given` raises the totals by its range, `Queued` lowers them, and no other reply moves them
+abbrev pub MovesTotals : Reply → Totals → Totals → Type 0
+MovesTotals (reply.Given r) old new = new ≡ add_totals old (totals_of (r ∷ []))
+MovesTotals (reply.Queued r) old new = old ≡ add_totals new (totals_of (r ∷ []))
+MovesTotals r old new = new ≡ old
+
+-- the worker that a step names
+abbrev pub worker_of : Step → Option ℕ
+worker_of (step.Open w sac) = Some w
+worker_of (step.Alloc w id frames limit) = Some w
+worker_of (step.Unmap w id lo) = Some w
+worker_of (step.Close w id) = Some w
+worker_of (step.CloseOne w id) = Some w
+worker_of st = None
+
+-- the share of the worker that the step names moves as the totals do, and no other
+abbrev pub MovesShare : Option ℕ → Reply → ℕ → Totals → Totals → Type 0
+MovesShare None r worker old new = new ≡ old
+MovesShare (Some w) r worker old new = ((worker ≡ w) × MovesTotals r old new) ⊎ ((worker ≢ w) × (new ≡ old))
+
+pub record MovesLedgers (s : State) (st : Step) (n : Next) : Type 0 where
+  pub totals : MovesTotals n.reply (totals s.clients) (totals n.state.clients)
+  pub share : (worker : ℕ) → MovesShare (worker_of st) n.reply worker (share_of worker s.clients) (share_of worker n.state.clients)
+
+abbrev pub StepsMoveLedgers : Type 0
+StepsMoveLedgers = (s : State) (st : Step) (m : Point) → IsValid s → MovesLedgers s st (next s st m)
+
+-- 5. The flush law.
+
+abbrev pub TranscriptsAreFlushed : Type 0
+TranscriptsAreFlushed = (s : State) (ps : List Pair) → IsValid s → IsTranscript s ps → FlushLaw s ps
+
+-- a request was given the frame
+abbrev pub Gives : ℕ → Step → Reply → Type 0
+Gives frame (step.Alloc w id frames limit) (reply.Given r) = covers frame r ≡ true
+Gives frame st r = ⊥
+
+pub record IsGivenAt (ps : List Pair) (n frame : ℕ) : Type 0 where
+  pub pair : Pair
+  pub is : slice_get ps n ≡ Some pair
+  pub gives : Gives frame pair.step pair.reply
+
+-- Between an unmap of a frame and the next time that it is given, a flush has begun and ended well.
+abbrev pub ReuseIsFlushed : Type 0
+ReuseIsFlushed =
+    (s : State) (ps : List Pair) (i n frame : ℕ) → IsValid s → IsTranscript s ps → i < n
+    → IsUnmappedAt ps i frame → IsGivenAt ps n frame → IsFlushedBetween ps i n
+
+-- 6. Closing.
+
+-- the ranges that the closing of the client queued, in order
+abbrev pub queued_in : ℕ → Step → Reply → List Frames
+queued_in id (step.CloseOne w client) (reply.Queued r) = if client == id then r ∷ [] else []
+queued_in id st r = []
+
+abbrev pub queued_by_closing : ℕ → List Pair → List Frames
+queued_by_closing id [] = []
+queued_by_closing id (p ∷ ps) = queued_in id p.step p.reply ++ queued_by_closing id ps
+
+-- a step with this reply marks the client closing
+abbrev pub Marks : ℕ → Step → Reply → Type 0
+Marks id (step.Close w client) (reply.Marked left) = client ≡ id
+Marks id (step.CloseOne w client) (reply.Queued r) = client ≡ id
+Marks id (step.CloseOne w client) reply.Empty = client ≡ id
+Marks id (step.CloseOne w client) (reply.Refused refusal.RingFull) = client ≡ id
+Marks id st r = ⊥
+
+-- the client's closing was answered `Empty`
+abbrev pub Empties : ℕ → Step → Reply → Type 0
+Empties id (step.CloseOne w client) reply.Empty = client ≡ id
+Empties id st r = ⊥
+
+pub record IsEmptiedAt (ps : List Pair) (i id : ℕ) : Type 0 where
+  pub pair : Pair
+  pub is : slice_get ps i ≡ Some pair
+  pub empties : Empties id pair.step pair.reply
+
+-- the client is closing, and what was queued and what it has left are its old holdings, in their order
+pub record IsClosing (id : ℕ) (old : List Frames) (ps : List Pair) (t : State) : Type 0 where
+  pub client : Client
+  pub is : client_with id t.clients ≡ Some client
+  pub closing : client.closing ≡ true
+  pub left : queued_by_closing id ps ++ client.holdings ≡ old
+  pub none_emptied : (i : ℕ) → IsEmptiedAt ps i id → ⊥
+
+-- the client is gone, after `Empty`, and all its old holdings were queued, in their order
+pub record IsGone (id : ℕ) (old : List Frames) (ps : List Pair) (t : State) : Type 0 where
+  pub gone : client_with id t.clients ≡ None
+  pub all : queued_by_closing id ps ≡ old
+  pub index : ℕ
+  pub emptied : IsEmptiedAt ps index id
+
+-- From the pair that marks a client on, nothing but its closing takes its holdings, and takes them lowest first.
+abbrev pub ClientsCloseInOrder : Type 0
+ClientsCloseInOrder =
+    (s : State) (p : Pair) (ps : List Pair) (id : ℕ) (c : Client) → IsValid s → IsTranscript s (p ∷ ps)
+    → client_with id s.clients ≡ Some c → Marks id p.step p.reply
+    → IsClosing id c.holdings (p ∷ ps) (after s (p ∷ ps)) ⊎ IsGone id c.holdings (p ∷ ps) (after s (p ∷ ps))
+
+-- the client that a step names
+abbrev pub client_named : Step → Option ℕ
+client_named (step.Alloc w id frames limit) = Some id
+client_named (step.Unmap w id lo) = Some id
+client_named (step.Close w id) = Some id
+client_named (step.CloseOne w id) = Some id
+client_named st = None
+
+-- refused for want of a client, or before that is asked
+abbrev pub IsRefusedUnknown : Reply → Type 0
+IsRefusedUnknown (reply.Refused refusal.NoClient) = Unit {0}
+IsRefusedUnknown (reply.Refused refusal.NoWorker) = Unit {0}
+IsRefusedUnknown (reply.Refused refusal.Zero) = Unit {0}
+IsRefusedUnknown (reply.Refused refusal.TooBig) = Unit {0}
+IsRefusedUnknown r = ⊥
+
+-- A serial that was given and whose client is gone stays so, and each step that names it is refused.
+abbrev pub GoneClientsStayGone : Type 0
+GoneClientsStayGone =
+    (s : State) (ps : List Pair) (id : ℕ) → IsValid s → IsTranscript s ps → id ≤ s.serial → client_with id s.clients ≡ None
+    → (client_with id (after s ps).clients ≡ None)
+    × ((i : ℕ) (p : Pair) → slice_get ps i ≡ Some p → client_named p.step ≡ Some id → IsRefusedUnknown p.reply)
+
+-- 7. What a request is given.
+
+-- as many frames as it needs, aligned, inside the bounds, and none above the limit
+pub record IsAnswerTo (s : State) (frames limit : ℕ) (r : Frames) : Type 0 where
+  pub size : r.len ≡ need frames
+  pub aligned : r.lo % align_of r.len ≡ 0
+  pub start : s.bounds.start ≤ r.lo
+  pub last : r.lo + r.len ≤ min limit s.bounds.last + 1
+
+abbrev pub Answers : State → ℕ → ℕ → Point → Reply → Type 0
+Answers s frames limit m (reply.Given r) = IsAnswerTo s frames limit r
+-- nothing fits with all caches emptied
+Answers s frames limit m (reply.Refused refusal.NoSpace) = IsBest s.bounds (held_ranges (with_caches s (emptied s.caches))) (need frames) limit None
+Answers s frames limit m r = Unit {0}
+
+abbrev pub RequestsAreAnswered : Type 0
+RequestsAreAnswered = (s : State) (w id frames limit : ℕ) (m : Point) → IsValid s → Answers s frames limit m (next s (step.Alloc w id frames limit) m).reply
+
+-- memory is wanting only where a growth was refused
+abbrev pub NoMemoryIsRefused : Type 0
+NoMemoryIsRefused = (s : State) (st : Step) → (next s st point.Never).reply ≡ reply.Refused refusal.NoMemory → ⊥
+
+-- 8. The numbers of the flushes.
+
+-- where the oldest flush in flight ends well, the finish count reaches its number
+abbrev pub OldestFlushReaches : Type 0
+OldestFlushReaches = (f : Flushes) (n : ℕ) → AreSound f → is_in_flight n f.in_flight ≡ true → NumbersRise (n - 1) f.in_flight f.start → n ≤ (ended f n true).finish
+
+-- no more flushes ended well or are in flight than have begun
+abbrev pub GoodFlushesBegan : Type 0
+GoodFlushesBegan = (f : Flushes) → AreSound f → f.good + length f.in_flight ≤ f.start

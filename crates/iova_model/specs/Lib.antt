@@ -1,0 +1,13 @@
+pub use Rattle.iova_range.specs.Frames
+pub use Rattle.iova_range.specs.Sizes
+pub use Rattle.iova_range.specs.Bounds
+pub use Rattle.iova_range.specs.Refusals
+pub mod Fit
+pub mod Caches
+pub mod Flushes
+pub mod Clients
+pub mod State
+pub mod Valid
+pub mod Next
+pub mod Transcript
+pub mod Laws

@@ -1,0 +1,8 @@
+/// A flush in flight.
+#[derive(Clone, Copy, Debug, Default, PartialEq, Eq)]
+pub struct Flight {
+    /// Its number, the start count that it began with.
+    pub number: u64,
+    /// By how much the finish count grows where it ends well, at least 1.
+    pub credit: u64,
+}

@@ -1,0 +1,15 @@
+-- Page frames in a row.
+use Rattle.std.specs.Prelude.{ℕ, ◌+◌, ◌&&◌, Bool, nat_lt, nat_le}
+
+-- `len` frames, the first of which is `lo`. What a `Range` is seen as
+pub record Frames : Type 0 where
+  pub lo : ℕ
+  pub len : ℕ
+
+-- the frame is one of them
+abbrev pub covers : ℕ → Frames → Bool
+covers frame r = nat_le r.lo frame && nat_lt frame (r.lo + r.len)
+
+-- they have a frame in common
+abbrev pub meets : Frames → Frames → Bool
+meets a b = nat_lt a.lo (b.lo + b.len) && nat_lt b.lo (a.lo + a.len)

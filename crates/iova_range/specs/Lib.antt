@@ -1,0 +1,4 @@
+pub mod Frames
+pub mod Sizes
+pub mod Bounds
+pub mod Refusals

@@ -1,0 +1,9 @@
+//! Ranges of page frames, the sizes that requests are rounded to, the bounds and the profile of a domain, and the
+//! refusals.
+#![tactic(auto)]
+
+pub mod bounds;
+pub mod profile;
+pub mod range;
+pub mod refusal;
+pub mod sizes;

@@ -1,0 +1,82 @@
+ghost use Rattle.std.specs.Prelude.{◌≡◌, ◌<◌, ◌≤◌, IfOk, ◌↔◌};
+ghost use Rattle.iova_range.specs.Bounds.{first_profile, second_profile, IsProfile};
+
+use crate::refusal::Refusal;
+use std::marker::Model;
+
+/// The sizes of a domain's caches, and its greatest frame number.
+#[derive(Clone, Copy, Debug, PartialEq, Eq)]
+pub struct Profile {
+    mag: usize,
+    depot: usize,
+    top: u64,
+}
+
+impl Model for Profile {
+    ghost use Rattle.iova_range.specs.Bounds.{Capacities, IsProfile};
+
+    ghost Value = { Capacities };
+
+    ghost view = { λ p. record { mag = p.mag; depot = p.depot; top = p.top } };
+
+    ghost invariant = { λ p. IsProfile (record { mag = p.mag; depot = p.depot; top = p.top }) };
+
+    ghost inverse = { λ v. record { mag = v.mag; depot = v.depot; top = v.top } };
+}
+
+impl Profile {
+    /// The most magazines of one order that a depot of the second profile can take.
+    pub const MAX_DEPOT: u64 = 32;
+
+    /// The first profile: magazines of 128 entries, 32 of them in the depot for each order, frames up to 2^36 - 1
+    /// (`IOVA_MAG_SIZE` and `MAX_GLOBAL_MAGS` of Linux 5.15 `drivers/iommu/iova.c`; the greatest frame is our own).
+    pub fn one() -> Self
+        ensures { result ≡ first_profile }
+    {
+        Profile {
+            mag: 128,
+            depot: 32,
+            top: 0xf_ffff_ffff,
+        }
+    }
+
+    /// The second profile: magazines of 127 entries, `depot` of them in the depot for each order, frames up to
+    /// 2^40 - 1. It is our own. Refused by `BadProfile` exactly where `depot` is above 32.
+    pub fn two(depot: u64) -> Result<Self, Refusal>
+        ensures value { IfOk result (λ p. p ≡ second_profile depot) }
+        ensures refused { (result ≡ Err Refusal.BadProfile) ↔ (32 < depot) }
+    {
+        if depot > Self::MAX_DEPOT {
+            return Err(Refusal::BadProfile);
+        }
+        Ok(Profile {
+            mag: 127,
+            depot: depot as usize,
+            top: 0xff_ffff_ffff,
+        })
+    }
+
+    /// How many entries a magazine is full at: 128 or 127.
+    pub fn mag(self) -> usize
+        ensures is { result ≡ self.mag }
+        ensures profile { IsProfile self }
+    {
+        self.mag
+    }
+
+    /// How many full magazines of one order the depot takes, 0 to 32.
+    pub fn depot(self) -> usize
+        ensures is { result ≡ self.depot }
+        ensures profile { IsProfile self }
+    {
+        self.depot
+    }
+
+    /// The greatest frame that bounds may have: 2^36 - 1 or 2^40 - 1.
+    pub fn top(self) -> u64
+        ensures is { result ≡ self.top }
+        ensures profile { IsProfile self }
+    {
+        self.top
+    }
+}

@@ -1,0 +1,53 @@
+ghost use Rattle.std.specs.Prelude.{◌≡◌, ◌≤◌, ◌<◌, ◌^◌, ℕ, IfSome, IfNone, ◌≢◌};
+ghost use Rattle.std.specs.Int.{IsNextPowerOfTwo};
+ghost use Rattle.iova_range.specs.Sizes.{need, align_of, order_of};
+
+/// The most frames of one request.
+pub const MAX_FRAMES: u64 = 1_048_576;
+
+/// How many orders have magazines: sizes 1, 2, 4, 8, 16 and 32
+/// (`IOVA_RANGE_CACHE_MAX_SIZE` of Linux 5.15 `include/linux/iova.h`).
+pub const ORDERS: usize = 6;
+
+/// How many frames a request for `n` frames is given, `n` being 1 to 1,048,576: the least power of two that is not
+/// below `n` for `n` below 32, else `n` itself (Linux 5.15 `drivers/iommu/dma-iommu.c`: `iommu_dma_alloc_iova`).
+pub fn need(n: u64) -> u64
+    requires some { 1 ≤ n }
+    requires bounded { n ≤ MAX_FRAMES }
+    ensures computed { result ≡ need n }
+    ensures small { n < 32 → IsNextPowerOfTwo n result }
+    ensures great { 32 ≤ n → result ≡ n }
+{
+    if n < 32 { align_of(n) } else { n }
+}
+
+/// What the first frame of a range of `size` frames is a multiple of, `size` being 1 to 1,048,576: the least power of
+/// two that is not below `size` (Linux 5.15 `drivers/iommu/iova.c`: `alloc_iova`).
+pub fn align_of(size: u64) -> u64
+    requires some { 1 ≤ size }
+    requires bounded { size ≤ MAX_FRAMES }
+    ensures computed { result ≡ align_of size }
+    ensures least { IsNextPowerOfTwo size result }
+{
+    size.next_power_of_two()
+}
+
+/// The order of the magazines that ranges of `size` frames go to, `size` being 1 to 1,048,576: 0 to 5 for 1, 2, 4, 8,
+/// 16 and 32 frames, else none (Linux 5.15 `drivers/iommu/iova.c`: `iova_rcache_get`).
+pub fn order_of(size: u64) -> Option<u8>
+    requires some { 1 ≤ size }
+    requires bounded { size ≤ MAX_FRAMES }
+    ensures computed { result ≡ order_of size }
+    ensures power { IfSome result (λ order. (order < ORDERS) × (size ≡ 2 ^ order)) }
+    ensures uncached { IfNone result ((order : ℕ) → order < ORDERS → size ≢ 2 ^ order) }
+{
+    match size {
+        1 => Some(0),
+        2 => Some(1),
+        4 => Some(2),
+        8 => Some(3),
+        16 => Some(4),
+        32 => Some(5),
+        _ => None,
+    }
+}
