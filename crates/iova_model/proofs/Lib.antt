@@ -1,2 +1,3 @@
 mod Examples
+pub mod Placing
 pub mod Unless
