@@ -1,7 +1,7 @@
 -- The greatest place that fits: what the function computes has the property, and nothing else has it.
 use Rattle.std.proofs.Common.{ℕ, zero, suc, ◌≡◌, ◌+◌, ◌-◌, ◌%◌, ◌<◌, ◌≤◌, ◌==◌, ◌&&◌, ◌||◌, min, ◌⊎◌, inl, inr, Bool, true, false, not, List, [], ◌∷◌, Option, Some, None, refl, sym, ap, ◌∙◌, arith}
-use Rattle.std.specs.Prelude.{nat_le, nat_lt}
-use Rattle.std.specs.List.{list_all, list_any, AllByRecursion}
+use Rattle.std.specs.Prelude.{nat_le}
+use Rattle.std.specs.List.{AllByRecursion}
 use Rattle.std.proofs.lemmas.Bool.{and_parts, and_from, cases_order}
 use Rattle.std.proofs.lemmas.Bool.Decides.{nat_tests}
 use Rattle.iova_range.specs.Frames.{Frames, covers, meets}
@@ -94,8 +94,8 @@ pub uncovered-clear : (r : Frames) (ranges : List Frames) → 1 ≤ r.len → Ar
 uncovered-clear r [] some all free = refl
 uncovered-clear r (x ∷ xs) some all free =
     and_from (not (meets r x)) (is_clear r xs)
-      (meet_step r x (meets r x) refl some all.0 (λ frame from until. (or_false (covers frame x) (is_covered frame xs) (free frame from until)).0))
-      (uncovered-clear r xs some all.1 (λ frame from until. (or_false (covers frame x) (is_covered frame xs) (free frame from until)).1))
+    (meet_step r x (meets r x) refl some all.0 (λ frame from until. (or_false (covers frame x) (is_covered frame xs) (free frame from until)).0))
+    (uncovered-clear r xs some all.1 (λ frame from until. (or_false (covers frame x) (is_covered frame xs) (free frame from until)).1))
 
 pub fits-Fits : (b : Extent) (ranges : List Frames) (size limit lo : ℕ) → fits b ranges size limit lo ≡ true → Fits b ranges size limit lo
 fits-Fits b ranges size limit lo h =
@@ -126,8 +126,8 @@ Fits-fits b ranges size limit lo some all h =
     let s : b.start ≤ lo = h.start in
     let l : lo + size - 1 ≤ min limit b.last = h.last in
     and_from (aligned && start && last) clear
-      (and_from (aligned && start) last (and_from aligned start (grind (arith, nat_tests)) (grind (arith, nat_tests))) (grind (arith, nat_tests)))
-      (uncovered-clear (record { lo = lo; len = size }) ranges some all h.free)
+    (and_from (aligned && start) last (and_from aligned start (grind (arith, nat_tests)) (grind (arith, nat_tests))) (grind (arith, nat_tests)))
+    (uncovered-clear (record { lo = lo; len = size }) ranges some all h.free)
 
 -- what fits lies below the bound of the search
 fits_below : (b : Extent) (ranges : List Frames) (size limit lo : ℕ) → 1 ≤ size → Fits b ranges size limit lo → lo < min limit b.last + 1

@@ -10,7 +10,7 @@ abbrev pub is_covered : ℕ → List Frames → Bool
 is_covered frame ranges = list_any (covers frame) ranges
 
 -- `size` frames from `lo` on fit below the limit: aligned, inside the bounds, none above the limit, and all free. The limit
--- is inclusive and the size aligned in Linux 5.15 drivers/iommu/iova.c: __alloc_and_insert_iova_range
+-- is inclusive and the size aligned as in Linux 5.15 drivers/iommu/iova.c: alloc_iova
 pub record Fits (bounds : Extent) (ranges : List Frames) (size limit lo : ℕ) : Type 0 where
   pub aligned : lo % align_of size ≡ 0
   pub start : bounds.start ≤ lo
@@ -22,7 +22,7 @@ abbrev pub IsBest : Extent → List Frames → ℕ → ℕ → Option ℕ → Ty
 IsBest bounds ranges size limit None = (lo : ℕ) → Fits bounds ranges size limit lo → ⊥
 IsBest bounds ranges size limit (Some best) = Fits bounds ranges size limit best × ((lo : ℕ) → Fits bounds ranges size limit lo → lo ≤ best)
 
--- The same as a function.
+-- The same as a function, for sizes and ranges of a frame at least.
 
 -- it meets none of the ranges
 abbrev pub is_clear : Frames → List Frames → Bool

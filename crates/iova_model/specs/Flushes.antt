@@ -1,5 +1,5 @@
 -- The flushes with their credits, and the rings. The two counts and the rings are those of Linux 5.15
--- drivers/iommu/iova.c (fq_flush_iotlb, fq_ring_free, queue_iova); credits, failures and numbers are our own.
+-- drivers/iommu/iova.c (iova_domain_flush, fq_ring_free, queue_iova); credits, failures and numbers are our own.
 use Rattle.std.specs.Prelude.{ℕ, ◌≡◌, ◌<◌, ◌≤◌, ◌+◌, ◌-◌, ◌^◌, ◌==◌, Bool, true, false, nat_lt, max, List, [], ◌∷◌, ◌++◌, length, if◌then◌else◌}
 use Rattle.iova_range.specs.Frames.{Frames}
 use Rattle.iova_model.specs.declared.flight.Flight.{Flight}
@@ -89,8 +89,8 @@ abbrev pub NumbersRise : ℕ → List Flight → ℕ → Type 0
 NumbersRise low [] top = low ≤ top
 NumbersRise low (f ∷ fs) top = (low < f.number) × NumbersRise f.number fs top
 
--- Were all flights up to one to end well, the finish count would reach that one's number, and pass no number that hasn't
--- ended well.
+-- Were all flights up to one to end well, the finish count would reach that one's number, and not pass the greatest number
+-- that had then ended well.
 abbrev pub CreditsReach : ℕ → ℕ → List Flight → Type 0
 CreditsReach newest finish [] = Unit {0}
 CreditsReach newest finish (f ∷ fs) =

@@ -1,6 +1,8 @@
 -- What follows from the definitions, for every transcript from every valid state: the promises of the product. Each is a
 -- statement; the crate iova_laws proves it.
-use Rattle.std.specs.Prelude.{ℕ, zero, suc, ◌≡◌, ◌≢◌, ◌<◌, ◌≤◌, ◌+◌, ◌-◌, ◌%◌, ◌==◌, ◌⊎◌, true, if◌then◌else◌, min, List, [], ◌∷◌, ◌++◌, length, map, filter, Option, Some, None, slice_get, sum_by}
+use Rattle.std.specs.Prelude.{ℕ, zero, suc, ◌≡◌, ◌≢◌, ◌<◌, ◌≤◌, ◌+◌, ◌-◌, ◌%◌, ◌^◌, ◌==◌, ◌⊎◌, Bool, true, false, nat_lt, if◌then◌else◌, min, List, [], ◌∷◌, ◌++◌, length, map, filter, Option, Some, None, slice_get, sum_by}
+use Rattle.std.specs.List.{AllByRecursion}
+use Rattle.iova_range.specs.declared.refusal.Refusal.{Refusal}
 use Rattle.iova_range.specs.declared.refusal.Refusal.TheVariants as refusal
 use Rattle.iova_range.specs.Frames.{Frames, covers, meets}
 use Rattle.iova_range.specs.Sizes.{need, align_of}
@@ -14,13 +16,13 @@ use Rattle.iova_model.specs.declared.step.Point.TheVariants as point
 use Rattle.iova_model.specs.declared.place.Place.{Place}
 use Rattle.iova_model.specs.declared.place.Place.TheVariants as place
 use Rattle.iova_model.specs.declared.totals.Totals.{Totals}
-use Rattle.iova_model.specs.Fit.{IsBest}
+use Rattle.iova_model.specs.Fit.{IsBest, best}
 use Rattle.iova_model.specs.Caches.{Caches, freed_by_puts, emptied}
-use Rattle.iova_model.specs.Flushes.{Flushes, is_in_flight, ended, entry_range, flushed, AreSound, NumbersRise}
-use Rattle.iova_model.specs.Clients.{Client, client_with, totals, totals_of, share_of}
+use Rattle.iova_model.specs.Flushes.{Flushes, flushes_from, begun, is_in_flight, ended, entry_range, flushed, AreSound, NumbersRise}
+use Rattle.iova_model.specs.Clients.{Client, changed, marked, client_with, totals, totals_of, share_of}
 use Rattle.iova_model.specs.State.{State, Holder, holders, held_ranges, window_holders, magazine_holders, depot_holders, ring_holders, cached_holders, new_domain, place_of, times_held, counts}
 use Rattle.iova_model.specs.Valid.{IsValid}
-use Rattle.iova_model.specs.Next.{Next, next, from_to, ring_at, with_caches}
+use Rattle.iova_model.specs.Next.{Next, next, no_worker, from_to, ring_at, with_caches, with_clients}
 use Rattle.iova_model.specs.Transcript.{Pair, IsTranscript, after, IsUnmappedAt, IsFlushedBetween, FlushLaw}
 
 -- 1. Validity is kept.
@@ -60,8 +62,9 @@ pub record CountsAddUp (s : State) : Type 0 where
 abbrev pub PlacesAddUp : Type 0
 PlacesAddUp = (s : State) → IsValid s → CountsAddUp s
 
--- 3. Conservation: no frame is lost, none is made. A step takes ranges from free frames (`gained`) and makes ranges free
--- (`freed`), those that it says and no others; whatever ranges weigh, nothing else is gained or lost.
+-- 3. Conservation: no frame is lost, none is made. A step brings ranges in among those that somebody has (`gained`) and lets
+-- ranges go (`freed`), those that are said here and no others; whatever ranges weigh, nothing else is gained or lost. But for
+-- the windows that a new one joins, what is gained was free, and what is freed is free afterwards.
 
 -- what a drain of ring q by worker w makes free
 abbrev pub freed_by_drain : State → ℕ → ℕ → List Frames
@@ -77,9 +80,11 @@ FreesCaches c freed = (freed ≡ []) ⊎ (freed ≡ cached_ranges c)
 -- a range is given from a cache, and nothing becomes free; or it is given from free frames
 abbrev pub MovesInAlloc : Caches → Reply → List Frames → List Frames → Type 0
 MovesInAlloc c (reply.Given r) gained freed = ((gained ≡ []) × (freed ≡ [])) ⊎ ((gained ≡ r ∷ []) × FreesCaches c freed)
-MovesInAlloc c r gained freed = (gained ≡ []) × FreesCaches c freed
+MovesInAlloc c (reply.Refused refusal.NoSpace) gained freed = (gained ≡ []) × (freed ≡ cached_ranges c)
+MovesInAlloc c (reply.Refused refusal.NoMemory) gained freed = (gained ≡ []) × FreesCaches c freed
+MovesInAlloc c r gained freed = (gained ≡ []) × (freed ≡ [])
 
--- which ranges a step with this reply takes from free frames, and which it makes free
+-- which ranges a step with this reply brings in, and which it lets go
 abbrev pub Moves : State → Step → Reply → List Frames → List Frames → Type 0
 Moves s (step.Reserve lo hi) (reply.Reserved window) gained freed = (gained ≡ window ∷ []) × (freed ≡ filter (meets (from_to lo hi)) s.windows)
 Moves s (step.Alloc w id frames limit) r gained freed = MovesInAlloc s.caches r gained freed
@@ -195,8 +200,9 @@ pub record IsClosing (id : ℕ) (old : List Frames) (ps : List Pair) (t : State)
   pub left : queued_by_closing id ps ++ client.holdings ≡ old
   pub none_emptied : (i : ℕ) → IsEmptiedAt ps i id → ⊥
 
--- the client is gone, after `Empty`, and all its old holdings were queued, in their order
+-- the client is gone, after `Empty`, and all its old holdings were queued, in their order; its serial isn't given again
 pub record IsGone (id : ℕ) (old : List Frames) (ps : List Pair) (t : State) : Type 0 where
+  pub known : id ≤ t.serial
   pub gone : client_with id t.clients ≡ None
   pub all : queued_by_closing id ps ≡ old
   pub index : ℕ
@@ -217,20 +223,24 @@ client_named (step.Close w id) = Some id
 client_named (step.CloseOne w id) = Some id
 client_named st = None
 
--- refused for want of a client, or before that is asked
-abbrev pub IsRefusedUnknown : Reply → Type 0
-IsRefusedUnknown (reply.Refused refusal.NoClient) = Unit {0}
-IsRefusedUnknown (reply.Refused refusal.NoWorker) = Unit {0}
-IsRefusedUnknown (reply.Refused refusal.Zero) = Unit {0}
-IsRefusedUnknown (reply.Refused refusal.TooBig) = Unit {0}
-IsRefusedUnknown r = ⊥
+-- why a step is refused whose client there isn't: for want of it, or by what is asked before
+abbrev pub unless_no_worker : State → ℕ → Refusal → Refusal
+unless_no_worker s w r = if no_worker s w then refusal.NoWorker else r
+
+abbrev pub unknown_refusal : State → Step → Refusal
+unknown_refusal s (step.Alloc w id frames limit) =
+    unless_no_worker s w (if frames == 0 then refusal.Zero else if nat_lt 1048576 frames then refusal.TooBig else refusal.NoClient)
+unknown_refusal s (step.Unmap w id lo) = unless_no_worker s w refusal.NoClient
+unknown_refusal s (step.Close w id) = unless_no_worker s w refusal.NoClient
+unknown_refusal s (step.CloseOne w id) = unless_no_worker s w refusal.NoClient
+unknown_refusal s st = refusal.NoClient
 
 -- A serial that was given and whose client is gone stays so, and each step that names it is refused.
 abbrev pub GoneClientsStayGone : Type 0
 GoneClientsStayGone =
     (s : State) (ps : List Pair) (id : ℕ) → IsValid s → IsTranscript s ps → id ≤ s.serial → client_with id s.clients ≡ None
     → (client_with id (after s ps).clients ≡ None)
-    × ((i : ℕ) (p : Pair) → slice_get ps i ≡ Some p → client_named p.step ≡ Some id → IsRefusedUnknown p.reply)
+    × ((i : ℕ) (p : Pair) → slice_get ps i ≡ Some p → client_named p.step ≡ Some id → p.reply ≡ reply.Refused (unknown_refusal s p.step))
 
 -- 7. What a request is given.
 
@@ -241,25 +251,66 @@ pub record IsAnswerTo (s : State) (frames limit : ℕ) (r : Frames) : Type 0 whe
   pub start : s.bounds.start ≤ r.lo
   pub last : r.lo + r.len ≤ min limit s.bounds.last + 1
 
-abbrev pub Answers : State → ℕ → ℕ → Point → Reply → Type 0
-Answers s frames limit m (reply.Given r) = IsAnswerTo s frames limit r
+abbrev pub Answers : State → ℕ → ℕ → Reply → Type 0
+Answers s frames limit (reply.Given r) = IsAnswerTo s frames limit r
 -- nothing fits with all caches emptied
-Answers s frames limit m (reply.Refused refusal.NoSpace) = IsBest s.bounds (held_ranges (with_caches s (emptied s.caches))) (need frames) limit None
-Answers s frames limit m r = Unit {0}
+Answers s frames limit (reply.Refused refusal.NoSpace) = IsBest s.bounds (held_ranges (with_caches s (emptied s.caches))) (need frames) limit None
+Answers s frames limit r = Unit {0}
 
 abbrev pub RequestsAreAnswered : Type 0
-RequestsAreAnswered = (s : State) (w id frames limit : ℕ) (m : Point) → IsValid s → Answers s frames limit m (next s (step.Alloc w id frames limit) m).reply
+RequestsAreAnswered = (s : State) (w id frames limit : ℕ) (m : Point) → IsValid s → Answers s frames limit (next s (step.Alloc w id frames limit) m).reply
+
+-- the greatest place that fits, as the definitions compute it, is that: no greater one fits, and none where there is none
+abbrev pub BestIsGreatest : Type 0
+BestIsGreatest = (bounds : Extent) (ranges : List Frames) (size limit : ℕ) → 1 ≤ size → AllByRecursion (λ (r : Frames). 1 ≤ r.len) ranges → IsBest bounds ranges size limit (best bounds ranges size limit)
+
+-- 8. Refusals and memory.
 
 -- memory is wanting only where a growth was refused
 abbrev pub NoMemoryIsRefused : Type 0
 NoMemoryIsRefused = (s : State) (st : Step) → (next s st point.Never).reply ≡ reply.Refused refusal.NoMemory → ⊥
 
--- 8. The numbers of the flushes.
+-- the steps that may grow something
+abbrev pub takes_memory : Step → Bool
+takes_memory (step.Reserve lo hi) = true
+takes_memory (step.Open w sac) = true
+takes_memory (step.Alloc w id frames limit) = true
+takes_memory st = false
+
+-- no other step wants for memory
+abbrev pub OtherStepsTakeNoMemory : Type 0
+OtherStepsTakeNoMemory = (s : State) (st : Step) (m : Point) → takes_memory st ≡ false → (next s st m).reply ≡ reply.Refused refusal.NoMemory → ⊥
+
+-- a refused growth is answered so, or the step didn't come to it and is as if there had been memory
+abbrev pub PointsOnlyRefuse : Type 0
+PointsOnlyRefuse = (s : State) (st : Step) (m : Point) → ((next s st m).reply ≡ reply.Refused refusal.NoMemory) ⊎ (next s st m ≡ next s st point.Never)
+
+-- what a refused step leaves: the state as it was, but for the caches of a request that found nothing or no memory, and the
+-- mark of a client whose closing finds the ring full
+abbrev pub Leaves : State → Step → Refusal → State → Type 0
+Leaves s (step.Alloc w id frames limit) refusal.NoSpace t = t ≡ with_caches s (emptied s.caches)
+Leaves s (step.Alloc w id frames limit) refusal.NoMemory t = t ≡ with_caches s t.caches
+Leaves s (step.CloseOne w id) refusal.RingFull t = t ≡ with_clients s (changed id marked s.clients)
+Leaves s st r t = t ≡ s
+
+abbrev pub RefusalsKeepTheState : Type 0
+RefusalsKeepTheState = (s : State) (st : Step) (m : Point) (r : Refusal) → IsValid s → (next s st m).reply ≡ reply.Refused r → Leaves s st r (next s st m).state
+
+-- no step changes the bounds or the worker count
+abbrev pub StepsKeepTheDomain : Type 0
+StepsKeepTheDomain = (s : State) (st : Step) (m : Point) → ((next s st m).state.bounds ≡ s.bounds) × ((next s st m).state.workers ≡ s.workers)
+
+-- 9. The numbers of the flushes.
+
+abbrev pub NewFlushesAreSound : Type 0
+NewFlushesAreSound = (n : ℕ) → n ≤ 2 ^ 63 - 1 → AreSound (flushes_from n)
+
+abbrev pub BeginsKeepFlushesSound : Type 0
+BeginsKeepFlushesSound = (f : Flushes) → AreSound f → length f.in_flight < 32 → f.start < 2 ^ 63 - 1 → AreSound (begun f)
+
+abbrev pub EndsKeepFlushesSound : Type 0
+EndsKeepFlushesSound = (f : Flushes) (n : ℕ) (ok : Bool) → AreSound f → is_in_flight n f.in_flight ≡ true → AreSound (ended f n ok)
 
 -- where the oldest flush in flight ends well, the finish count reaches its number
 abbrev pub OldestFlushReaches : Type 0
 OldestFlushReaches = (f : Flushes) (n : ℕ) → AreSound f → is_in_flight n f.in_flight ≡ true → NumbersRise (n - 1) f.in_flight f.start → n ≤ (ended f n true).finish
-
--- no more flushes ended well or are in flight than have begun
-abbrev pub GoodFlushesBegan : Type 0
-GoodFlushesBegan = (f : Flushes) → AreSound f → f.good + length f.in_flight ≤ f.start

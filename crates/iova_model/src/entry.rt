@@ -3,7 +3,7 @@
 pub struct Entry {
     /// The first frame.
     pub lo: u64,
-    /// How many frames, 1 to 1,048,576.
+    /// How many frames, in a ring 1 to 1,048,576.
     pub len: u64,
     /// The start count when the range was queued.
     pub count: u64,

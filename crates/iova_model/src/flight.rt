@@ -3,6 +3,6 @@
 pub struct Flight {
     /// Its number, the start count that it began with.
     pub number: u64,
-    /// By how much the finish count grows where it ends well, at least 1.
+    /// By how much the finish count grows where it ends well.
     pub credit: u64,
 }

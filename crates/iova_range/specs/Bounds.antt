@@ -8,7 +8,8 @@ pub record Capacities : Type 0 where
   pub depot : ℕ
   pub top : ℕ
 
--- The kernel's sizes: IOVA_MAG_SIZE and MAX_GLOBAL_MAGS of Linux 5.15 drivers/iommu/iova.c; the greatest frame is our own
+-- The kernel's sizes: IOVA_MAG_SIZE of Linux 5.15 drivers/iommu/iova.c and MAX_GLOBAL_MAGS of include/linux/iova.h; the
+-- greatest frame is our own
 abbrev pub first_profile : Capacities
 first_profile = record { mag = 128; depot = 32; top = 2 ^ 36 - 1 }
 

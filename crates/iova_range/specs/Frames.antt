@@ -10,6 +10,6 @@ pub record Frames : Type 0 where
 abbrev pub covers : ℕ → Frames → Bool
 covers frame r = nat_le r.lo frame && nat_lt frame (r.lo + r.len)
 
--- they have a frame in common
+-- two ranges of a frame at least have one in common
 abbrev pub meets : Frames → Frames → Bool
 meets a b = nat_lt a.lo (b.lo + b.len) && nat_lt b.lo (a.lo + a.len)

@@ -7,7 +7,7 @@ doubled_to n zero p = p
 doubled_to n (suc times) p = let further = doubled_to n times (2 * p) in if nat_le n p then p else further
 
 -- The least power of two that isn't below the size: a range begins at a multiple of it.
--- Linux 5.15 drivers/iommu/iova.c: alloc_iova, size aligned
+-- Linux 5.15 drivers/iommu/iova.c: __alloc_and_insert_iova_range, size aligned
 abbrev pub align_of : ℕ → ℕ
 align_of size = doubled_to size size 1
 

@@ -1,4 +1,4 @@
-ghost use Rattle.std.specs.Prelude.{◌≡◌, IfOk, ◌↔◌, IsOk, IsErr};
+ghost use Rattle.std.specs.Prelude.{◌≡◌, ◌<◌, ◌^◌, IfOk, ◌↔◌, IsOk, IsErr};
 ghost use Rattle.iova_range.specs.Bounds.{first_profile, AreBounds, IsExtent};
 
 use crate::profile::Profile;
@@ -63,10 +63,11 @@ impl Bounds {
         self.start
     }
 
-    /// The last frame, at least the first.
+    /// The last frame, at least the first, below 2^40.
     #[inline]
     pub fn last(self) -> u64
         ensures is { result ≡ self.last }
+        ensures small { result < 2 ^ 40 }
         ensures extent { IsExtent self }
     {
         self.last
@@ -79,5 +80,43 @@ impl Bounds {
         ensures extent { IsExtent self }
     {
         self.profile
+    }
+}
+
+#[cfg(test)]
+mod tests {
+    use super::*;
+
+    #[test]
+    fn bounds_of_both_profiles(rt: HostRuntime) {
+        assert!(rt; Profile::two(33) == Err(Refusal::BadProfile));
+        let Ok(deep) = Profile::two(32) else {
+            assert!(rt; false, "a depot of 32 is allowed");
+            return;
+        };
+        assert_eq!(rt;
+            (deep.mag(), deep.depot(), deep.top()),
+            (127, 32, 1_099_511_627_775)
+        );
+        for (profile, start, last, good) in [
+            (Profile::one(), 1, 1, true),
+            (Profile::one(), 0, 5, false),
+            (Profile::one(), 6, 5, false),
+            (Profile::one(), 1, 68_719_476_735, true),
+            (Profile::one(), 1, 68_719_476_736, false),
+            (deep, 1, 1_099_511_627_775, true),
+            (deep, 1, 1_099_511_627_776, false),
+        ] {
+            let made = Bounds::new_in(profile, start, last);
+            assert_eq!(rt; made.is_ok(), good, "{start} to {last}");
+            if let Ok(bounds) = made {
+                assert_eq!(rt; (bounds.start(), bounds.last()), (start, last));
+                assert_eq!(rt; bounds.profile(), profile);
+            }
+        }
+        assert_eq!(rt;
+            Bounds::new(1, 1023),
+            Bounds::new_in(Profile::one(), 1, 1023)
+        );
     }
 }

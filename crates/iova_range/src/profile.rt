@@ -1,4 +1,4 @@
-ghost use Rattle.std.specs.Prelude.{◌≡◌, ◌<◌, ◌≤◌, IfOk, ◌↔◌};
+ghost use Rattle.std.specs.Prelude.{◌≡◌, ◌≤◌, IfOk, IsOk, IsErr, ◌↔◌};
 ghost use Rattle.iova_range.specs.Bounds.{first_profile, second_profile, IsProfile};
 
 use crate::refusal::Refusal;
@@ -29,7 +29,8 @@ impl Profile {
     pub const MAX_DEPOT: u64 = 32;
 
     /// The first profile: magazines of 128 entries, 32 of them in the depot for each order, frames up to 2^36 - 1
-    /// (`IOVA_MAG_SIZE` and `MAX_GLOBAL_MAGS` of Linux 5.15 `drivers/iommu/iova.c`; the greatest frame is our own).
+    /// (`IOVA_MAG_SIZE` of Linux 5.15 `drivers/iommu/iova.c` and `MAX_GLOBAL_MAGS` of `include/linux/iova.h`; the greatest
+    /// frame is our own).
     pub fn one() -> Self
         ensures { result ≡ first_profile }
     {
@@ -44,7 +45,8 @@ impl Profile {
     /// 2^40 - 1. It is our own. Refused by `BadProfile` exactly where `depot` is above 32.
     pub fn two(depot: u64) -> Result<Self, Refusal>
         ensures value { IfOk result (λ p. p ≡ second_profile depot) }
-        ensures refused { (result ≡ Err Refusal.BadProfile) ↔ (32 < depot) }
+        ensures accepted { IsOk result ↔ (depot ≤ 32) }
+        ensures refused { IsErr result → result ≡ Err Refusal.BadProfile }
     {
         if depot > Self::MAX_DEPOT {
             return Err(Refusal::BadProfile);

@@ -1,4 +1,5 @@
 ghost use Rattle.std.specs.Prelude.{◌≡◌, ◌+◌, ◌≤◌, ◌^◌};
+ghost use Rattle.iova_range.specs.Frames.{covers};
 
 use std::marker::Model;
 
@@ -57,5 +58,28 @@ impl Range {
         ensures { result + 1 ≡ self.lo + self.len }
     {
         self.lo + (self.len - 1)
+    }
+
+    /// Whether the frame is one of them.
+    #[inline]
+    pub fn covers(self, frame: u64) -> bool
+        ensures { result ≡ covers frame self }
+    {
+        self.lo <= frame && frame - self.lo < self.len
+    }
+}
+
+#[cfg(test)]
+mod tests {
+    use super::*;
+
+    #[test]
+    fn ends_are_inside(rt: HostRuntime) {
+        let range = Range::new(1016, 4);
+        assert_eq!(rt; (range.lo(), range.len(), range.hi()), (1016, 4, 1019));
+        assert_eq!(rt; Range::new(u64::MAX, 1).hi(), u64::MAX);
+        for (frame, inside) in [(1015, false), (1016, true), (1019, true), (1020, false)] {
+            assert_eq!(rt; range.covers(frame), inside, "frame {frame}");
+        }
     }
 }

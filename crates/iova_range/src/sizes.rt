@@ -22,7 +22,7 @@ pub fn need(n: u64) -> u64
 }
 
 /// What the first frame of a range of `size` frames is a multiple of, `size` being 1 to 1,048,576: the least power of
-/// two that is not below `size` (Linux 5.15 `drivers/iommu/iova.c`: `alloc_iova`).
+/// two that is not below `size` (Linux 5.15 `drivers/iommu/iova.c`: `__alloc_and_insert_iova_range`).
 pub fn align_of(size: u64) -> u64
     requires some { 1 ≤ size }
     requires bounded { size ≤ MAX_FRAMES }
@@ -49,5 +49,36 @@ pub fn order_of(size: u64) -> Option<u8>
         16 => Some(4),
         32 => Some(5),
         _ => None,
+    }
+}
+
+#[cfg(test)]
+mod tests {
+    use super::*;
+
+    #[test]
+    fn sizes_around_the_cached_ones(rt: HostRuntime) {
+        for (n, want) in [
+            (1, 1),
+            (5, 8),
+            (31, 32),
+            (32, 32),
+            (33, 33),
+            (1_048_576, 1_048_576),
+        ] {
+            assert_eq!(rt; need(n), want, "need of {n}");
+        }
+        for (size, want) in [(1, 1), (33, 64), (1024, 1024), (1_000_000, 1_048_576)] {
+            assert_eq!(rt; align_of(size), want, "alignment of {size}");
+        }
+        for (size, want) in [
+            (1, Some(0)),
+            (3, None),
+            (32, Some(5)),
+            (33, None),
+            (64, None),
+        ] {
+            assert_eq!(rt; order_of(size), want, "order of {size}");
+        }
     }
 }

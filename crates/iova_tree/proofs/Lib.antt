@@ -1,0 +1,5 @@
+pub mod Apart
+pub mod Gaps
+pub mod Multiples
+pub mod Picked
+pub mod Spaces

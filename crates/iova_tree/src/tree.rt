@@ -1,0 +1,103 @@
+ghost use Rattle.std.specs.Prelude.{◌≡◌, ◌+◌, ◌≤◌, ◌<◌, [], IfOk, OnOk, OnErr, IsTrue, ◌↔◌, IsSome, Some, find, false, true};
+ghost use Rattle.iova_model.specs.Fit.{IsBest, is_covered, is_clear};
+ghost use Rattle.iova_model.specs.Clients.{insert_rising, remove_at, begins_at};
+ghost use Rattle.iova_tree.specs.Space.{Space, ranges_of, IsInside, IsSpace};
+
+use crate::place::{has_frame, last_aligned, pick, place_of};
+use iova_range::bounds::Bounds;
+use iova_range::range::Range;
+use iova_range::refusal::Refusal;
+use iova_range::sizes::{MAX_FRAMES, align_of};
+use std::alloc::Global;
+use std::marker::Model;
+
+/// The allocated ranges of a domain.
+#[derive(Drop)]
+pub struct Tree {
+    bounds: Bounds,
+    inserted: Vec<Range>,
+    windows: Vec<Range>,
+}
+
+impl Model for Tree {
+    ghost use Rattle.iova_tree.specs.Space.{Space, IsSpace};
+
+    ghost Value = { Space };
+
+    ghost view = { λ t. record { bounds = t.bounds; inserted = t.inserted.items; windows = t.windows.items } };
+
+    ghost invariant = { λ t. IsSpace (record { bounds = t.bounds; inserted = t.inserted.items; windows = t.windows.items }) };
+}
+
+impl Tree {
+    /// A tree with nothing allocated.
+    pub fn new(alloc: Global, bounds: Bounds) -> Result<Self, Refusal>
+        ensures value { IfOk result (λ t. t ≡ record { bounds = bounds; inserted = []; windows = [] }) }
+        ensures refused { OnErr result (result ≡ Err Refusal.NoMemory) }
+    {
+        let _start = bounds.start();
+        Ok(Tree {
+            bounds,
+            inserted: Vec::new(alloc),
+            windows: Vec::new(alloc),
+        })
+    }
+
+    /// The greatest first frame from which `size` frames fit, `size` being 1 to 1,048,576: aligned to `align_of(size)`,
+    /// inside the bounds, none above `limit`, and all free. None where nothing fits. The ranges are walked once, from
+    /// the limit down, and the walk stops at the first fit (own: the kernel begins where it remembers, Linux 5.15
+    /// `drivers/iommu/iova.c`: `__alloc_and_insert_iova_range`).
+    pub fn highest(&self, size: u64, limit: u64) -> Option<u64>
+        requires some { 1 ≤ size }
+        requires bounded { size ≤ MAX_FRAMES }
+        ensures { IsBest self.now.bounds (ranges_of self.now) size limit result }
+    {
+        let align = align_of(size);
+        let mut until = limit.min(self.bounds.last()) + 1;
+        let mut i = self.inserted.len();
+        let mut j = self.windows.len();
+        while i > 0 || j > 0 {
+            let (range, left, others) = pick(&self.inserted, &self.windows, i, j);
+            (i, j) = (left, others);
+            if let Some(lo) = last_aligned(range.hi() + 1, until, size, align) {
+                return Some(lo);
+            }
+            until = until.min(range.lo());
+        }
+        last_aligned(self.bounds.start(), until, size, align)
+    }
+
+    /// Allocates a range whose frames are free. `NoMemory` leaves the tree as it was.
+    pub fn insert(&mut self, range: Range) -> Result<(), Refusal>
+        requires inside { IsInside self.old.bounds range }
+        requires free { is_clear range (ranges_of self.old) ≡ true }
+        ensures ok { OnOk result (self.new ≡ record self.old { inserted = insert_rising range self.old.inserted }) }
+        ensures err { OnErr result ((result ≡ Err Refusal.NoMemory) × (self.new ≡ self.old)) }
+    {
+        let at = place_of(&self.inserted, range.lo());
+        let Ok(()) = self.inserted.insert(at, range) else {
+            return Err(Refusal::NoMemory);
+        };
+        Ok(())
+    }
+
+    /// Frees the range that was inserted at `lo`, and gives it back. It takes no memory.
+    pub fn remove(&mut self, lo: u64) -> Range
+        requires { IsSome (find (begins_at lo) self.old.inserted) }
+        ensures value { find (begins_at lo) self.old.inserted ≡ Some result }
+        ensures rest { self.new ≡ record self.old { inserted = remove_at lo self.old.inserted } }
+    {
+        let at = place_of(&self.inserted, lo);
+        self.inserted.remove(at)
+    }
+
+    /// Whether the frame is inside the bounds and in no allocated range.
+    pub fn is_free(&self, frame: u64) -> bool
+        ensures { IsTrue result ↔ ((self.now.bounds.start ≤ frame) × (frame ≤ self.now.bounds.last) × (is_covered frame (ranges_of self.now) ≡ false)) }
+    {
+        self.bounds.start() <= frame
+            && frame <= self.bounds.last()
+            && !has_frame(&self.windows, frame)
+            && !has_frame(&self.inserted, frame)
+    }
+}
