@@ -63,8 +63,8 @@ abbrev pub PlacesAddUp : Type 0
 PlacesAddUp = (s : State) → IsValid s → CountsAddUp s
 
 -- 3. Conservation: no frame is lost, none is made. A step brings ranges in among those that somebody has (`gained`) and lets
--- ranges go (`freed`), those that are said here and no others; whatever ranges weigh, nothing else is gained or lost. But for
--- the windows that a new one joins, what is gained was free, and what is freed is free afterwards.
+-- ranges go (`freed`), those that are said here and no others; whatever ranges weigh, nothing else is gained or lost. A window
+-- that joins others gains their frames again, and a range may be given from what emptied caches let go in the same step.
 
 -- what a drain of ring q by worker w makes free
 abbrev pub freed_by_drain : State → ℕ → ℕ → List Frames

@@ -1,5 +1,5 @@
 ghost use Rattle.std.specs.Prelude.{◌≡◌, ◌+◌, ◌≤◌, ◌<◌, [], IfOk, OnOk, OnErr, IsTrue, ◌↔◌, IsSome, Some, find, false, true};
-ghost use Rattle.iova_model.specs.Fit.{IsBest, is_covered, is_clear};
+ghost use Rattle.iova_model.specs.Fit.{IsBest, best, is_covered, is_clear};
 ghost use Rattle.iova_model.specs.Clients.{insert_rising, remove_at, begins_at};
 ghost use Rattle.iova_tree.specs.Space.{Space, ranges_of, IsInside, IsSpace};
 
@@ -50,7 +50,8 @@ impl Tree {
     pub fn highest(&self, size: u64, limit: u64) -> Option<u64>
         requires some { 1 ≤ size }
         requires bounded { size ≤ MAX_FRAMES }
-        ensures { IsBest self.now.bounds (ranges_of self.now) size limit result }
+        ensures greatest { IsBest self.now.bounds (ranges_of self.now) size limit result }
+        ensures computed { result ≡ best self.now.bounds (ranges_of self.now) size limit }
     {
         let align = align_of(size);
         let mut until = limit.min(self.bounds.last()) + 1;

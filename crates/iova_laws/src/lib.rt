@@ -1,0 +1,9 @@
+//! The laws of the product: what follows from the definitions of `iova_model` for every state and every transcript. Each
+//! function has a law as its contract, and no body.
+#![tactic(auto)]
+
+pub mod fitting;
+pub mod numbers;
+pub mod places;
+pub mod refusals;
+pub mod validity;
