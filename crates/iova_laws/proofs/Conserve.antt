@@ -16,8 +16,8 @@ use Rattle.iova_model.specs.Next.{Next, refused, Found, At, Nowhere, OutOfMemory
 use Rattle.iova_model.specs.Laws.{Moves, MovesInAlloc, Conserves, StepsConserve, freed_by_drain, cached_ranges}
 use Rattle.iova_laws.proofs.Weight as weight
 use Rattle.iova_laws.proofs.WeightHolders.{held_weigh}
-use Rattle.iova_laws.proofs.ValidCases.{is_no_space, IsOwn, with_marked, Cases, next_cases}
-use Rattle.iova_laws.proofs.ConserveWalk.{Outcome, walk_cases}
+use Rattle.iova_laws.proofs.ValidCases.{is_no_space, AreThere, with_marked, Cases, next_cases}
+use Rattle.iova_laws.proofs.ConserveWalk.{WalkOutcome, walk_cases}
 use Rattle.iova_laws.proofs.ConserveSteps.{IsMoved, moved_none, moved_then, opened_moved, marked_moved, forgotten_moved, given_moved, emptied_moved, may_moved, left_moved, HasShape, shape_of, drained_moved, queued_moved, flushes_moved}
 use Rattle.iova_laws.proofs.ValidFound.{held_at, first_held, changed_found}
 
@@ -45,15 +45,15 @@ reserved_conserves s lo hi =
     }
 
 -- a request is given what was found
-given_conserves : (s : State) (w id frames limit size : ℕ) (client : Client) → IsOwn s w id client → (found : Found) (c : Caches) → Outcome s true size found c → Conserves s (step.Alloc w id frames limit) (given found (with_caches s c) id size)
+given_conserves : (s : State) (w id frames limit size : ℕ) (client : Client) → AreThere s w id client → (found : Found) (c : Caches) → WalkOutcome s true size limit found c → Conserves s (step.Alloc w id frames limit) (given found (with_caches s c) id size)
 given_conserves s w id frames limit size client own Nowhere c none =
-    moved_conserves s (step.Alloc w id frames limit) _ [] (cached_ranges s.caches) (refl, refl) (emptied_moved s c none)
+    moved_conserves s (step.Alloc w id frames limit) _ [] (cached_ranges s.caches) (refl, refl) (emptied_moved s c none.0)
 given_conserves s w id frames limit size client own OutOfMemory c may =
     let free = may_moved s c may in
     moved_conserves s (step.Alloc w id frames limit) _ [] free.freed (refl, free.is) free.moved
-given_conserves s w id frames limit size client own (At lo) c (inl left) =
+given_conserves s w id frames limit size client own (At lo) c (inl was) =
     let r : Frames = record { lo = lo; len = size } in
-    moved_conserves s (step.Alloc w id frames limit) _ [] [] (inl (refl, refl)) (left_moved s c id client r left own.found)
+    moved_conserves s (step.Alloc w id frames limit) _ [] [] (inl (refl, refl)) (left_moved s c id client r was.left own.found)
 given_conserves s w id frames limit size client own (At lo) c (inr fresh) =
     let r : Frames = record { lo = lo; len = size } in
     let free = may_moved s c fresh.0 in
@@ -68,11 +68,11 @@ drained_queued_moved s w id c r shape below found held =
     moved_then s d (queued d w id r) [] (freed_by_drain s w w) (drained_moved s w w shape below below) (queued_moved d w id c r (omega (arith, shape.each_ring)) found held)
 
 -- the same of the first holding of a client that is marked
-pub closed_moved : (s : State) (w id : ℕ) (c : Client) (r : Frames) (rs : List Frames) → HasShape s → IsOwn s w id c → c.holdings ≡ r ∷ rs → IsMoved s (queued (drained (with_marked s id) w w) w id r) [] (freed_by_drain s w w)
+pub closed_moved : (s : State) (w id : ℕ) (c : Client) (r : Frames) (rs : List Frames) → HasShape s → AreThere s w id c → c.holdings ≡ r ∷ rs → IsMoved s (queued (drained (with_marked s id) w w) w id r) [] (freed_by_drain s w w)
 closed_moved s w id c r rs shape own is =
     let t = with_marked s id in
     let shape' : HasShape t = record { takes = shape.takes; caches = shape.caches; each_ring = shape.each_ring } in
-    let found : client_with id t.clients ≡ Some (marked c) = changed_found id marked c s.clients (λ x. refl) own.found in
+    let found : client_with id t.clients ≡ Some (marked c) = changed_found id marked c s.clients own.found refl in
     let held : find (begins_at r.lo) c.holdings ≡ Some r = ap (find (begins_at r.lo)) is ∙ first_held r rs in
     let queued_moves = drained_queued_moved t w id (marked c) r shape' own.worker found held in
     let none = marked_moved s id in

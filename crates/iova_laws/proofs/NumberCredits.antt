@@ -1,5 +1,5 @@
 -- Flights in flight, as they come and go: their numbers, their credits, and how many there are.
-use Rattle.std.proofs.Common.{ℕ, ◌≡◌, ◌+◌, ◌≤◌, ◌==◌, max, Bool, true, false, List, [], ◌∷◌, ◌++◌, length, refl, subst, arith}
+use Rattle.std.proofs.Common.{ℕ, ◌≡◌, ◌+◌, ◌<◌, ◌≤◌, ◌==◌, max, Bool, true, false, List, [], ◌∷◌, ◌++◌, length, refl, subst, arith}
 use Rattle.std.proofs.lemmas.Bool.Decides.{nat_tests}
 use Rattle.iova_model.specs.declared.flight.Flight.{Flight}
 use Rattle.iova_model.specs.Flushes.{is_in_flight, credit_of, without_flight, passed_on, left_over, credit_sum, NumbersRise, CreditsReach}
@@ -16,7 +16,12 @@ numbers_in_order : (low : ℕ) (fs : List Flight) (top : ℕ) → NumbersRise lo
 numbers_in_order low [] top rise = rise
 numbers_in_order low (f ∷ fs) top rise = omega (arith, numbers_in_order f.number fs top rise.1)
 
--- the number of a flight is none above the upper one
+-- the number of a flight is above the lower one
+pub in_flight_above : (n low : ℕ) (fs : List Flight) (top : ℕ) → is_in_flight n fs ≡ true → NumbersRise low fs top → low < n
+in_flight_above n low [] top flies rise = absurd cc
+in_flight_above n low (f ∷ fs) top flies rise = grind (arith, nat_tests, in_flight_above n f.number fs top)
+
+-- and none above the upper one
 pub in_flight_begun : (n low : ℕ) (fs : List Flight) (top : ℕ) → is_in_flight n fs ≡ true → NumbersRise low fs top → n ≤ top
 in_flight_begun n low [] top flies rise = absurd cc
 in_flight_begun n low (f ∷ fs) top flies rise = grind (arith, nat_tests, in_flight_begun n f.number fs top, numbers_in_order f.number fs top)

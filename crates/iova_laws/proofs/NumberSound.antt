@@ -1,8 +1,10 @@
 -- The numbers of the flushes stay sound.
-use Rattle.std.proofs.Common.{◌+◌, [], ◌∷◌, true, false, arith, length-append}
+use Rattle.std.proofs.Common.{ℕ, ◌≡◌, ◌+◌, ◌-◌, ◌≤◌, true, false, List, [], ◌∷◌, arith, length-append}
+use Rattle.std.proofs.lemmas.Bool.Decides.{nat_tests}
 use Rattle.iova_model.specs.declared.flight.Flight.{Flight}
-use Rattle.iova_model.specs.Laws.{NewFlushesAreSound, BeginsKeepFlushesSound, EndsKeepFlushesSound}
-use Rattle.iova_laws.proofs.NumberCredits.{in_flight_begun, numbers_push, numbers_without, numbers_passed, length-without_flight, length-passed_on, credit_sum-append, credits_without, credits_passed, reach_push, reach_without, reach_passed}
+use Rattle.iova_model.specs.Flushes.{is_in_flight, credit_of, NumbersRise, CreditsReach}
+use Rattle.iova_model.specs.Laws.{NewFlushesAreSound, BeginsKeepFlushesSound, EndsKeepFlushesSound, OldestFlushReaches}
+use Rattle.iova_laws.proofs.NumberCredits.{in_flight_above, in_flight_begun, numbers_push, numbers_without, numbers_passed, length-without_flight, length-passed_on, credit_sum-append, credits_without, credits_passed, reach_push, reach_without, reach_passed}
 
 -- nothing is in flight, and nothing is owed
 pub new_flushes_are_sound : NewFlushesAreSound
@@ -56,3 +58,12 @@ ends_keep_flushes_sound f n false sound flies = record {
   room = omega (arith, length-passed_on n f.in_flight flies, sound.room);
   worn = sound.worn;
 }
+
+-- the first flight's credit reaches its number
+first_reaches : (n newest finish : ℕ) (fs : List Flight) (top : ℕ) → CreditsReach newest finish fs → NumbersRise (n - 1) fs top → is_in_flight n fs ≡ true → n ≤ finish + credit_of n fs
+first_reaches n newest finish [] top reach rise flies = absurd cc
+first_reaches n newest finish (f ∷ fs) top reach rise flies = grind (arith, nat_tests, in_flight_above n f.number fs top)
+
+-- so the oldest takes the finish count there
+pub oldest_flush_reaches : OldestFlushReaches
+oldest_flush_reaches = λ f n sound flies rise. first_reaches n f.newest f.finish f.in_flight f.start sound.reach rise flies

@@ -20,7 +20,7 @@ use Rattle.iova_laws.proofs.ValidCases.{Cases, next_cases}
 use Rattle.iova_laws.proofs.ValidSizes.{need_ge, need_le}
 use Rattle.iova_laws.proofs.Valid.{answered_valid}
 use Rattle.iova_laws.proofs.ValidFound.{changed_found}
-use Rattle.iova_laws.proofs.ConserveWalk.{AreOwn, Outcome, walk_cases}
+use Rattle.iova_laws.proofs.ConserveWalk.{AreOwn, WalkOutcome, walk_cases}
 use Rattle.iova_laws.proofs.PlaceOnce.{has, none_has, in_order}
 
 -- where a frame weighs nothing, no ring has it
@@ -41,17 +41,17 @@ GivesNoRinged s frame n = (r : Frames) → n.reply ≡ reply.Given r → covers 
 
 module _ (s : State) (frame : ℕ) (valid : IsValid s) where
   -- what a walk finds is held by a client then, and so by no ring
-  found_not_ringed : (id size : ℕ) (c : Client) → 1 ≤ size → size ≤ 1048576 → length c.holdings < 4096 → client_with id s.clients ≡ Some c → (found : Found) (left : Caches) → AreOwn s left → Outcome s true size found left → GivesNoRinged s frame (given found (with_caches s left) id size)
-  found_not_ringed id size c some few room is Nowhere left own outcome r e = absurd cc
-  found_not_ringed id size c some few room is OutOfMemory left own outcome r e = absurd cc
-  found_not_ringed id size c some few room is (At lo) left own outcome r e =
+  found_not_ringed : (id size limit : ℕ) (c : Client) → 1 ≤ size → size ≤ 1048576 → length c.holdings < 4096 → client_with id s.clients ≡ Some c → (found : Found) (left : Caches) → AreOwn s left → WalkOutcome s true size limit found left → GivesNoRinged s frame (given found (with_caches s left) id size)
+  found_not_ringed id size limit c some few room is Nowhere left own outcome r e = absurd cc
+  found_not_ringed id size limit c some few room is OutOfMemory left own outcome r e = absurd cc
+  found_not_ringed id size limit c some few room is (At lo) left own outcome r e =
       let x : Frames = record { lo = lo; len = size } in
       let same : r ≡ x = cc in
       let u = given (At lo) (with_caches s left) id size in
-      let valid' = answered_valid s id size c valid some few room is (At lo) left own outcome in
+      let valid' = answered_valid s id size limit c valid some few room is (At lo) left own outcome in
       λ here.
       let one : has frame x ≡ 1 = ap (λ b. cond b 1 0) (ap (covers frame) (sym same) ∙ here) in
-      let found = changed_found id (with_holding x) c s.clients (λ y. refl) is in
+      let found = changed_found id (with_holding x) c s.clients is refl in
       not_ringed frame s.rings (omega (arith, one, (in_order u.state valid'.one_place).once frame, weight.holdings_le (has frame) id (with_holding x c) u.state.clients found, weight.ranges-insert (has frame) x c.holdings))
 
   -- no other step gives a range
@@ -62,7 +62,7 @@ module _ (s : State) (frame : ℕ) (valid : IsValid s) where
     on_open = λ w sac may r e. absurd cc;
     on_alloc = λ w id frames limit m c own may.
         let size = need frames in
-        walk_cases s w size own.worker c.sac limit m (λ t. GivesNoRinged s frame (given_by t id size)) valid.caches (found_not_ringed id size c (need_ge frames may.some) (need_le frames may.some may.few) may.room own.found);
+        walk_cases s w size own.worker c.sac limit m (λ t. GivesNoRinged s frame (given_by t id size)) valid.caches (found_not_ringed id size limit c (need_ge frames may.some) (need_le frames may.some may.few) may.room own.found);
     on_unmap = λ w id lo c x own held room r e. absurd cc;
     on_begin = λ may r e. absurd cc;
     on_end = λ n ok flies r e. absurd cc;

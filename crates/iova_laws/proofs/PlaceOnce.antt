@@ -14,10 +14,11 @@ use Rattle.iova_laws.proofs.Weight as weight
 use Rattle.iova_laws.proofs.WeightHolders.{load, holder_ranges, owners_hold, all_hold, held_are}
 use Rattle.iova_laws.proofs.ConserveSteps.{IsMoved}
 
--- one where the range has the frame; one where it fails the test
+-- one where the range has the frame
 abbrev pub has : ℕ → Frames → ℕ
 has frame r = cond (covers frame r) 1 0
 
+-- one where the range fails the test
 abbrev pub lacks : (Frames → Bool) → Frames → ℕ
 lacks test r = cond (test r) 0 1
 

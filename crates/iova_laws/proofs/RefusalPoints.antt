@@ -115,6 +115,7 @@ alloc_to_alike (Some c) s w id size limit m =
     unless_memory s (take 2 (ledger_tests c m)) (is_at point.Ledger m) (given_by (walked m) id size) (given_by (walked point.Never) id size)
     (given_alike (walked m) (walked point.Never) id size (walk_alike s w c.sac size limit m))
 
+-- the steps that take memory have their point after all other tests, and the others have none
 pub points_only_refuse : PointsOnlyRefuse
 points_only_refuse s (step.Reserve lo hi) m =
     let n = reserved s (from_to lo hi) in unless_memory s (take 3 (reserve_tests s lo hi m)) (is_at point.Once m) n n (inr refl)

@@ -23,7 +23,7 @@ use Rattle.iova_laws.proofs.ValidRising.{rises-insert, rises-filter, inserted_ap
 use Rattle.iova_laws.proofs.ValidClients.{opened_valid, changed_valid, found_valid, marked_valid, with_holding_valid, without_holding_valid, forgotten_valid}
 use Rattle.iova_laws.proofs.NumberSound.{new_flushes_are_sound, begins_keep_flushes_sound, ends_keep_flushes_sound}
 use Rattle.iova_laws.proofs.ValidRings.{later_ring, unflushed_valid, pushed_valid}
-use Rattle.iova_laws.proofs.ConserveWalk.{Outcome, AreOwn, walk_cases}
+use Rattle.iova_laws.proofs.ConserveWalk.{WalkOutcome, AreOwn, walk_cases}
 use Rattle.iova_laws.proofs.ConserveSteps.{IsMoved, opened_moved, marked_moved, forgotten_moved, given_moved, emptied_moved, may_moved, left_moved, shape_of, drained_moved, queued_moved, flushes_moved}
 use Rattle.iova_laws.proofs.ValidFound.{held_at, first_held, changed_found}
 use Rattle.iova_laws.proofs.PlaceOnce.{has, lacks, none_lacks, InOrder, in_order, one_place, moved_in_order, added_in_order, fit_may_add, new_in_order}
@@ -121,7 +121,7 @@ without_client_valid s id c h found none =
 given_valid : (s : State) (id : ℕ) (c : Client) (r : Frames) → IsValid s → client_with id s.clients ≡ Some c → length c.holdings < 4096 → r.len ≤ 1048576 → InOrder (with_clients s (changed id (with_holding r) s.clients)) → IsValid (with_clients s (changed id (with_holding r) s.clients))
 given_valid s id c r h found room sized order =
     let cs = changed id (with_holding r) s.clients in
-    let found' = changed_found id (with_holding r) c s.clients (λ x. refl) found in
+    let found' = changed_found id (with_holding r) c s.clients found refl in
     let le : (weigh : Frames → ℕ) → weight.ranges weigh (insert_rising r c.holdings) ≤ weight.clients weigh cs = λ weigh. weight.holdings_le weigh id (with_holding r c) cs found' in
     let outside = lacks (is_inside s.bounds) in
     let apart = inserted_apart s.bounds r c.holdings (omega (arith, order.once r.lo, le (has r.lo))) (omega (arith, order.inside, le outside)) in
@@ -134,23 +134,23 @@ left_valid s c freed h own moved =
     with_caches_valid s c h own (moved_in_order s (with_caches s c) freed moved (in_order s h.one_place))
 
 -- what a request comes to
-pub answered_valid : (s : State) (id size : ℕ) (x : Client) → IsValid s → 1 ≤ size → size ≤ 1048576 → length x.holdings < 4096 → client_with id s.clients ≡ Some x → (found : Found) (c : Caches) → AreOwn s c → Outcome s true size found c → IsValid (given found (with_caches s c) id size).state
-answered_valid s id size x h some few room is Nowhere c own none = left_valid s c (cached_ranges s.caches) h own (emptied_moved s c none)
-answered_valid s id size x h some few room is OutOfMemory c own may =
+pub answered_valid : (s : State) (id size limit : ℕ) (x : Client) → IsValid s → 1 ≤ size → size ≤ 1048576 → length x.holdings < 4096 → client_with id s.clients ≡ Some x → (found : Found) (c : Caches) → AreOwn s c → WalkOutcome s true size limit found c → IsValid (given found (with_caches s c) id size).state
+answered_valid s id size limit x h some few room is Nowhere c own none = left_valid s c (cached_ranges s.caches) h own (emptied_moved s c none.0)
+answered_valid s id size limit x h some few room is OutOfMemory c own may =
     let free = may_moved s c may in left_valid s c free.freed h own free.moved
-answered_valid s id size x h some few room is (At lo) c own (inl left) =
+answered_valid s id size limit x h some few room is (At lo) c own (inl was) =
     let r : Frames = record { lo = lo; len = size } in
     let t = with_caches s c in
     let u = with_clients t (changed id (with_holding r) s.clients) in
-    let moved : IsMoved s t [] (r ∷ []) = record { windows = refl; bounds = refl; balance = λ weigh. omega (arith, left weigh) } in
-    given_valid t id x r (left_valid s c (r ∷ []) h own moved) is room few (moved_in_order s u [] (left_moved s c id x r left is) (in_order s h.one_place))
-answered_valid s id size x h some few room is (At lo) c own (inr fresh) =
+    let moved : IsMoved s t [] (r ∷ []) = record { windows = refl; bounds = refl; balance = λ weigh. omega (arith, was.left weigh) } in
+    given_valid t id x r (left_valid s c (r ∷ []) h own moved) is room few (moved_in_order s u [] (left_moved s c id x r was.left is) (in_order s h.one_place))
+answered_valid s id size limit x h some few room is (At lo) c own (inr fresh) =
     let r : Frames = record { lo = lo; len = size } in
     let t = with_caches s c in
     let u = with_clients t (changed id (with_holding r) s.clients) in
     let free = may_moved s c fresh.0 in
     let h' = left_valid s c free.freed h own free.moved in
-    let may = fit_may_add t size fresh.1.limit lo some fresh.1.fits in
+    let may = fit_may_add t size fresh.1.used lo some fresh.1.fits in
     given_valid t id x r h' is room few (added_in_order t u r may (given_moved t id x r is) (in_order t h'.one_place))
 
 -- Rings.
@@ -248,7 +248,7 @@ cases s h = record {
   on_open = λ w sac may. open_valid s w sac h may;
   on_alloc = λ w id frames limit m c own may.
       let size = need frames in
-      walk_cases s w size own.worker c.sac limit m (λ t. IsValid (given_by t id size).state) h.caches (answered_valid s id size c h (need_ge frames may.some) (need_le frames may.some may.few) may.room own.found);
+      walk_cases s w size own.worker c.sac limit m (λ t. IsValid (given_by t id size).state) h.caches (answered_valid s id size limit c h (need_ge frames may.some) (need_le frames may.some may.few) may.room own.found);
   on_unmap = λ w id lo c r own held room.
       unmapped_valid s w id c r h own.worker own.found (held_at lo r c.holdings held) room;
   on_begin = λ may. begun_valid s h may;
@@ -258,7 +258,7 @@ cases s h = record {
   on_close_last = λ w id c own none. without_client_valid s id c h own.found none;
   on_close_full = λ w id c r own. with_marked_valid s id c h own.found;
   on_close_one = λ w id c r rs own is room.
-      let found : client_with id (with_marked s id).clients ≡ Some (marked c) = changed_found id marked c s.clients (λ x. refl) own.found in
+      let found : client_with id (with_marked s id).clients ≡ Some (marked c) = changed_found id marked c s.clients own.found refl in
       unmapped_valid (with_marked s id) w id (marked c) r (with_marked_valid s id c h own.found) own.worker found (ap (find (begins_at r.lo)) is ∙ first_held r rs) room;
 }
 

@@ -1,19 +1,15 @@
 -- The clients keep their limits.
-use Rattle.std.proofs.Common.{ℕ, ◌≡◌, ◌+◌, ◌-◌, ◌^◌, ◌<◌, ◌≤◌, Bool, true, false, List, [], ◌∷◌, ◌++◌, length, Some, refl, sym, subst, arith, length-append}
+use Rattle.std.proofs.Common.{ℕ, ◌≡◌, ◌+◌, ◌-◌, ◌^◌, ◌<◌, ◌≤◌, Bool, true, false, List, [], ◌∷◌, ◌++◌, length, Some, refl, subst, arith, length-append}
 use Rattle.std.specs.List.{AllByRecursion}
 use Rattle.iova_range.specs.Frames.{Frames}
 use Rattle.iova_model.specs.Clients.{Client, new_client, has_id, client_with, changed, forgotten, with_holding, without_holding, marked}
-use Rattle.iova_model.specs.Valid.{IsRequestSized, IsClient, SerialsRise, AreClients}
+use Rattle.iova_model.specs.Valid.{IsRequestSized, IsClient, AreClients}
 use Rattle.iova_laws.proofs.Weight as weight
+use Rattle.iova_laws.proofs.Serials.{KeepsSerial, serials-push, serials-changed, serials-forgotten}
 use Rattle.iova_laws.proofs.ValidLists.{all-push, all_found}
 use Rattle.iova_laws.proofs.ValidRising.{begins, rises-insert, rises-remove, length-insert, length_remove_le, all-insert, all-remove}
 
 -- A new client.
-
--- the next serial comes last
-serials-push : (low : ℕ) (cs : List Client) (last w : ℕ) (sac : Bool) → SerialsRise low cs last → SerialsRise low (cs ++ new_client (last + 1) w sac ∷ []) (last + 1)
-serials-push low [] last w sac h = (omega arith, omega arith)
-serials-push low (c ∷ cs) last w sac h = (h.0, serials-push c.id cs last w sac h.1)
 
 -- the clients with a new one
 pub opened_valid : (workers : ℕ) (cs : List Client) (serial w : ℕ) (sac : Bool) → w < workers → serial < 2 ^ 63 - 1 → length cs < 1024 → AreClients workers cs serial → AreClients workers (cs ++ new_client (serial + 1) w sac ∷ []) (serial + 1)
@@ -21,25 +17,15 @@ opened_valid workers cs serial w sac below worn room h =
     let c = new_client (serial + 1) w sac in
     record {
       room = omega (arith, length-append cs (c ∷ []));
-      serials = serials-push 0 cs serial w sac h.serials;
+      serials = serials-push 0 cs serial c refl h.serials;
       worn = omega arith;
       each = all-push (IsClient workers) cs c (record { worker = below; room = omega arith; rising = tt; sized = tt }) h.each;
     }
 
 -- A changed client.
 
-module _ (id : ℕ) (change : Client → Client) (keeps : (x : Client) → (change x).id ≡ x.id) where
-  -- the serials stay
-  serials-changed : (low : ℕ) (cs : List Client) (last : ℕ) → SerialsRise low cs last → SerialsRise low (changed id change cs) last
-  serials-changed low [] last h = h
-  serials-changed low (c ∷ cs) last h = changed_step (serials-changed c.id cs last h.1) (has_id id c) refl
-    where
-      changed_step : SerialsRise c.id (changed id change cs) last → (b : Bool) → has_id id c ≡ b → SerialsRise low (changed id change (c ∷ cs)) last
-      changed_step more true is =
-          let P : ℕ → Type 0 = λ n. (low < n) × SerialsRise n cs last in rw is (subst P (sym (keeps c)) h)
-      changed_step more false is = rw is (h.0, more)
-
-  -- and the count
+module _ (id : ℕ) (change : Client → Client) (keeps : KeepsSerial change) where
+  -- there are as many clients
   length-changed : (cs : List Client) → length (changed id change cs) ≡ length cs
   length-changed [] = refl
   length-changed (c ∷ cs) = changed_step (length-changed cs) (has_id id c) refl
@@ -65,7 +51,7 @@ module _ (id : ℕ) (change : Client → Client) (keeps : (x : Client) → (chan
   pub changed_valid : (workers : ℕ) (c : Client) (cs : List Client) (serial : ℕ) → client_with id cs ≡ Some c → IsClient workers (change c) → AreClients workers cs serial → AreClients workers (changed id change cs) serial
   changed_valid workers c cs serial found here h = record {
     room = omega (arith, length-changed cs, h.room);
-    serials = serials-changed 0 cs serial h.serials;
+    serials = serials-changed 0 id change cs serial keeps h.serials;
     worn = h.worn;
     each = all-changed (IsClient workers) c cs found here h.each;
   }
@@ -98,20 +84,6 @@ without_holding_valid workers c lo h = record {
 
 -- A client goes.
 
--- serials above a number are above a smaller one
-serials_from : (low high : ℕ) (cs : List Client) (last : ℕ) → low ≤ high → SerialsRise high cs last → SerialsRise low cs last
-serials_from low high [] last le h = omega arith
-serials_from low high (c ∷ cs) last le h = (omega (arith, h.0), h.1)
-
--- the other serials rise
-serials-forgotten : (id low : ℕ) (cs : List Client) (last : ℕ) → SerialsRise low cs last → SerialsRise low (forgotten id cs) last
-serials-forgotten id low [] last h = h
-serials-forgotten id low (c ∷ cs) last h = forgotten_step (serials-forgotten id c.id cs last h.1) (has_id id c) refl
-  where
-    forgotten_step : SerialsRise c.id (forgotten id cs) last → (b : Bool) → has_id id c ≡ b → SerialsRise low (forgotten id (c ∷ cs)) last
-    forgotten_step more true is = rw is (serials_from low c.id cs last (omega (arith, h.0)) h.1)
-    forgotten_step more false is = rw is (h.0, more)
-
 -- there are no more clients
 length_forgotten_le : (id : ℕ) (cs : List Client) → length (forgotten id cs) ≤ length cs
 length_forgotten_le id [] = omega arith
@@ -134,7 +106,7 @@ all-forgotten P id (c ∷ cs) all = forgotten_step (all-forgotten P id cs all.1)
 pub forgotten_valid : (workers id : ℕ) (cs : List Client) (serial : ℕ) → AreClients workers cs serial → AreClients workers (forgotten id cs) serial
 forgotten_valid workers id cs serial h = record {
   room = omega (arith, length_forgotten_le id cs, h.room);
-  serials = serials-forgotten id 0 cs serial h.serials;
+  serials = serials-forgotten 0 id cs serial h.serials;
   worn = h.worn;
   each = all-forgotten (IsClient workers) id cs h.each;
 }

@@ -10,51 +10,59 @@ use Rattle.iova_model.specs.Flushes.{entry_range, flushed, unflushed}
 use Rattle.iova_model.specs.Clients.{Client, has_id, client_with, changed, forgotten, marked, insert_rising, begins_at, remove_at}
 
 module _ (weigh : Frames → ℕ) where
-  -- ranges; the first frames of an order; lists of these
+  -- ranges
   abbrev pub ranges : List Frames → ℕ
   ranges [] = 0
   ranges (r ∷ rs) = weigh r + ranges rs
 
+  -- the first frames of an order's ranges
   abbrev pub firsts : ℕ → List ℕ → ℕ
   firsts o [] = 0
   firsts o (lo ∷ los) = weigh (record { lo = lo; len = 2 ^ o }) + firsts o los
 
+  -- the lists of one order's depot
   abbrev pub lists : ℕ → List (List ℕ) → ℕ
   lists o [] = 0
   lists o (los ∷ rest) = firsts o los + lists o rest
 
-  -- the caches of one worker from order o on, and of all workers; the depots from order o on
+  -- the two magazines of one worker and order
   abbrev pub cache : ℕ → Cache → ℕ
   cache o c = firsts o c.loaded + firsts o c.previous
 
+  -- the magazines of one worker, from this order on
   abbrev pub caches : ℕ → List Cache → ℕ
   caches o [] = 0
   caches o (c ∷ cs) = cache o c + caches (o + 1) cs
 
+  -- those of all workers
   abbrev pub magazines : List (List Cache) → ℕ
   magazines [] = 0
   magazines (cs ∷ rest) = caches 0 cs + magazines rest
 
+  -- the depot, from this order on
   abbrev pub depots : ℕ → List (List (List ℕ)) → ℕ
   depots o [] = 0
   depots o (d ∷ rest) = lists o d + depots (o + 1) rest
 
-  -- a shelf of an order, and all caches
+  -- a shelf of an order
   abbrev pub shelf : ℕ → Shelf → ℕ
   shelf o s = firsts o s.loaded + firsts o s.previous + lists o s.depot
 
+  -- all that is cached
   abbrev pub cached : Caches → ℕ
   cached c = magazines c.workers + depots 0 c.depots
 
-  -- rings and clients
+  -- one ring
   abbrev pub entries : List Entry → ℕ
   entries [] = 0
   entries (e ∷ es) = weigh (entry_range e) + entries es
 
+  -- all rings
   abbrev pub rings : List (List Entry) → ℕ
   rings [] = 0
   rings (r ∷ rs) = entries r + rings rs
 
+  -- all holdings of all clients
   abbrev pub clients : List Client → ℕ
   clients [] = 0
   clients (c ∷ cs) = ranges c.holdings + clients cs

@@ -7,9 +7,9 @@ use Rattle.iova_range.specs.Sizes.{order_of}
 use Rattle.iova_range.specs.Bounds.{Capacities}
 use Rattle.iova_model.specs.Caches.{Cache, Caches, Shelf, no_magazines, is_empty, last_or, front, shelf_at, with_shelf, reloaded, fitting, popped, get, with_room, put, sent_out, put_range, put_all, freed_by_put, freed_by_puts, emptied}
 use Rattle.iova_model.specs.Valid.{AreCaches}
+use Rattle.iova_model.proofs.Placing.{greatest_some}
 use Rattle.iova_laws.proofs.Weight as weight
 use Rattle.iova_laws.proofs.ValidCaches.{order_is, HasShelf, has_shelf, put_range_valid}
-use Rattle.iova_laws.proofs.ValidGreatest.{greatest_is}
 
 -- the test for an empty list
 not_empty : {A : Type 0} (xs : List A) → not (is_empty xs) ≡ false → xs ≡ []
@@ -55,7 +55,7 @@ module _ (weigh : Frames → ℕ) where
   popped_pops : (o : ℕ) (s : Shelf) (limit size : ℕ) (x : Option ℕ) → fitting s.loaded limit size ≡ x → Pops o s (popped s x).0 (popped s x).1
   popped_pops o s limit size None is = refl
   popped_pops o s limit size (Some i) is =
-      omega (arith, weight.firsts-swap_remove weigh o i s.loaded (greatest_is _ (length s.loaded) i is).0)
+      omega (arith, weight.firsts-swap_remove weigh o i s.loaded (greatest_some _ (length s.loaded) i is).below)
 
   -- the moves before it change no weight
   pops_reloaded : (o : ℕ) (s : Shelf) (x : Option ℕ) (t : Shelf) → Pops o (reloaded s) x t → Pops o s x t

@@ -2,8 +2,12 @@
 //! function has a law as its contract, and no body.
 #![tactic(auto)]
 
+pub mod closing;
 pub mod fitting;
+pub mod flushing;
+pub mod ledgers;
 pub mod numbers;
 pub mod places;
 pub mod refusals;
+pub mod requests;
 pub mod validity;

@@ -294,7 +294,7 @@ Leaves s (step.CloseOne w id) refusal.RingFull t = t ≡ with_clients s (changed
 Leaves s st r t = t ≡ s
 
 abbrev pub RefusalsKeepTheState : Type 0
-RefusalsKeepTheState = (s : State) (st : Step) (m : Point) (r : Refusal) → IsValid s → (next s st m).reply ≡ reply.Refused r → Leaves s st r (next s st m).state
+RefusalsKeepTheState = (s : State) (st : Step) (m : Point) (r : Refusal) → (next s st m).reply ≡ reply.Refused r → Leaves s st r (next s st m).state
 
 -- no step changes the bounds or the worker count
 abbrev pub StepsKeepTheDomain : Type 0

@@ -43,6 +43,14 @@ impl Tree {
         })
     }
 
+    /// The bounds.
+    #[inline]
+    pub fn bounds(&self) -> Bounds
+        ensures { result ≡ self.now.bounds }
+    {
+        self.bounds
+    }
+
     /// The greatest first frame from which `size` frames fit, `size` being 1 to 1,048,576: aligned to `align_of(size)`,
     /// inside the bounds, none above `limit`, and all free. None where nothing fits. The ranges are walked once, from
     /// the limit down, and the walk stops at the first fit (own: the kernel begins where it remembers, Linux 5.15

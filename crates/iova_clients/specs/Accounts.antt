@@ -1,0 +1,43 @@
+-- The accounts of the clients, by rising serial, and where they are stored.
+use Rattle.std.specs.Prelude.{◌≡◌, ◌≢◌, ℕ, Bool, List, [], ◌∷◌, ◌++◌, map, Option, None, Some, IsSome}
+use Rattle.iova_range.specs.Frames.{Frames}
+use Rattle.iova_model.specs.Clients.{Client}
+
+-- What a `Ledger` is seen as: a client but for its serial, and how many more holdings fit without memory
+pub record Account : Type 0 where
+  pub worker : ℕ
+  pub sac : Bool
+  pub closing : Bool
+  pub holdings : List Frames
+  pub spare : ℕ
+
+-- a serial with the account that stands there, if one does
+abbrev pub entry_of : ℕ → Option Account → List (ℕ × Account)
+entry_of serial None = []
+entry_of serial (Some account) = (serial, account) ∷ []
+
+-- the accounts that these serials have at their keys
+abbrev pub listed : (ℕ → Option Account) → List (ℕ × ℕ) → List (ℕ × Account)
+listed at [] = []
+listed at (e ∷ es) = entry_of e.0 (at e.1) ++ listed at es
+
+-- no serial has this key
+abbrev pub IsApart : ℕ → List (ℕ × ℕ) → Type 0
+IsApart key [] = Unit {0}
+IsApart key (e ∷ es) = (e.1 ≢ key) × IsApart key es
+
+-- each serial has an account at its key, and no two have one key
+abbrev pub AreKeyed : (ℕ → Option Account) → List (ℕ × ℕ) → Type 0
+AreKeyed at [] = Unit {0}
+AreKeyed at (e ∷ es) = IsSome (at e.1) × IsApart e.1 es × AreKeyed at es
+
+-- the client of this serial and account
+abbrev pub client_at : ℕ × Account → Client
+client_at e = record { id = e.0; worker = e.1.worker; sac = e.1.sac; closing = e.1.closing; holdings = e.1.holdings }
+
+abbrev pub clients_at : List (ℕ × Account) → List Client
+clients_at es = map client_at es
+
+-- by its serial, how many more holdings each can be given without memory
+abbrev pub spares_at : List (ℕ × Account) → List (ℕ × ℕ)
+spares_at es = map (λ e. (e.0, e.1.spare)) es

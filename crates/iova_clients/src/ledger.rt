@@ -1,0 +1,142 @@
+ghost use Rattle.std.specs.Prelude.{◌≡◌, ◌≤◌, ◌+◌, ◌-◌, false, true, [], find, Some, Err, OnOk, OnErr, OnSome, IfSome, IfNone, IsOkUnless};
+ghost use Rattle.iova_model.specs.Fit.{is_covered};
+ghost use Rattle.iova_model.specs.Clients.{insert_rising, begins_at, remove_at};
+ghost use Rattle.iova_model.specs.Valid.{Rises};
+ghost use Rattle.iova_clients.specs.Registry.{room_refusal};
+ghost use Rattle.iova_clients.specs.Accounts.{client_at};
+
+use crate::MAX_HOLDINGS;
+use iova_range::range::Range;
+use iova_range::refusal::Refusal;
+use std::alloc::Global;
+use std::marker::Model;
+
+/// What is kept of a client, besides its serial. The holdings rise by first frame.
+#[derive(Drop)]
+pub(crate) struct Ledger {
+    worker: u64,
+    sac: bool,
+    closing: bool,
+    holdings: Vec<Range>,
+}
+
+impl Model for Ledger {
+    ghost use Rattle.std.specs.Prelude.{◌-◌, vec_len, vec_capacity};
+    ghost use Rattle.iova_clients.specs.Accounts.{Account};
+
+    ghost Value = { Account };
+
+    ghost view = { λ l. record {
+      worker = l.worker;
+      sac = l.sac;
+      closing = l.closing;
+      holdings = l.holdings.items;
+      spare = vec_capacity l.holdings - vec_len l.holdings;
+    } };
+}
+
+impl Ledger {
+    pub(crate) fn new(alloc: Global, worker: u64, sac: bool) -> Ledger
+        ensures { result ≡ record { worker = worker; sac = sac; closing = false; holdings = []; spare = 0 } }
+    {
+        Ledger {
+            worker,
+            sac,
+            closing: false,
+            holdings: Vec::new(alloc),
+        }
+    }
+
+    #[inline]
+    pub(crate) fn worker(&self) -> u64
+        ensures { result ≡ self.now.worker }
+    {
+        self.worker
+    }
+
+    #[inline]
+    pub(crate) fn is_sac(&self) -> bool
+        ensures { result ≡ self.now.sac }
+    {
+        self.sac
+    }
+
+    #[inline]
+    pub(crate) fn is_closing(&self) -> bool
+        ensures { result ≡ self.now.closing }
+    {
+        self.closing
+    }
+
+    #[inline]
+    pub(crate) fn holdings(&self) -> &[Range]
+        ensures { result.now ≡ self.now.holdings }
+    {
+        self.holdings.as_slice()
+    }
+
+    pub(crate) fn covers(&self, frame: u64) -> bool
+        ensures { result ≡ is_covered frame self.now.holdings }
+    {
+        self.holdings
+            .iter()
+            .any(|range| range.lo() <= frame && frame <= range.hi())
+    }
+
+    /// Makes room for one holding more.
+    pub(crate) fn room(&mut self) -> Result<(), Refusal>
+        ensures refused { IfSome (room_refusal (Some (client_at (0, self.old)))) (λ refusal. result ≡ Err refusal) }
+        ensures accepted { IfNone (room_refusal (Some (client_at (0, self.old)))) (IsOkUnless result Refusal.NoMemory) }
+        ensures starved { result ≡ Err Refusal.NoMemory → self.old.spare ≡ 0 }
+        ensures spare { OnOk result (1 ≤ self.new.spare) }
+        ensures grows { self.old.spare ≤ self.new.spare }
+        ensures kept { self.new ≡ record self.old { spare = self.new.spare } }
+        ensures unchanged { OnErr result (self.new ≡ self.old) }
+    {
+        if self.closing {
+            return Err(Refusal::Closing);
+        }
+        if self.holdings.len() >= MAX_HOLDINGS {
+            return Err(Refusal::HoldingsFull);
+        }
+        match self.holdings.reserve(1) {
+            Ok(()) => Ok(()),
+            Err(_) => Err(Refusal::NoMemory),
+        }
+    }
+
+    /// Takes the range in at its place.
+    pub(crate) fn add(&mut self, range: Range)
+        requires spare { 1 ≤ self.old.spare }
+        requires rises { Rises 0 self.old.holdings }
+        ensures { self.new ≡ record self.old { holdings = insert_rising range self.old.holdings; spare = self.old.spare - 1 } }
+    {
+        let place = self
+            .holdings
+            .as_slice()
+            .partition_point(|held| held.lo() <= range.lo());
+        self.holdings.insert(place, range).unwrap();
+    }
+
+    /// Gives up the holding that begins there.
+    pub(crate) fn take(&mut self, lo: u64) -> Option<Range>
+        requires { Rises 0 self.old.holdings }
+        ensures value { result ≡ find (begins_at lo) self.old.holdings }
+        ensures some { OnSome result (self.new ≡ record self.old { holdings = remove_at lo self.old.holdings; spare = self.old.spare + 1 }) }
+        ensures none { IfNone result (self.new ≡ self.old) }
+    {
+        let place = self
+            .holdings
+            .as_slice()
+            .binary_search_by_key(&lo, |held| held.lo())
+            .ok()?;
+        Some(self.holdings.remove(place))
+    }
+
+    #[inline]
+    pub(crate) fn mark_closing(&mut self)
+        ensures { self.new ≡ record self.old { closing = true } }
+    {
+        self.closing = true;
+    }
+}

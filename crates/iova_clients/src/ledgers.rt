@@ -1,0 +1,113 @@
+ghost use Rattle.std.specs.Prelude.{◌≡◌, ◌<◌, [], ◌∷◌, ◌++◌, find, option_map, option_copied, length, OnOk, OnErr, IsOkUnless};
+ghost use Rattle.std.specs.Option.{option_copied_mut};
+ghost use Rattle.std.specs.Borrow.{sem};
+ghost use Rattle.std.specs.List.{AllByRecursion};
+ghost use Rattle.std.specs.Map.{lookup, remove_entry};
+ghost use Rattle.iova_model.specs.Fit.{is_covered};
+ghost use Rattle.iova_clients.specs.Registry.{is_serial};
+
+use crate::ledger::Ledger;
+use iova_range::refusal::Refusal;
+use slab::Slab;
+use std::alloc::Global;
+use std::collections::BTreeMap;
+use std::marker::Model;
+
+/// The ledgers by the serials of their clients. They stand in a slab, under keys that nobody else sees.
+#[derive(Drop)]
+pub(crate) struct Ledgers {
+    slab: Slab<Ledger>,
+    keys: BTreeMap<u64, usize>,
+}
+
+impl Model for Ledgers {
+    ghost use Rattle.std.specs.Prelude.{ℕ, List};
+    ghost use Rattle.iova_clients.specs.Accounts.{Account, listed, AreKeyed};
+    ghost use Rattle.slab.specs.Slab.{get};
+
+    ghost Value = { List (ℕ × Account) };
+
+    ghost view = { λ l. listed (get l.slab) l.keys.entries };
+
+    ghost invariant = { λ l. AreKeyed (get l.slab) l.keys.entries };
+}
+
+impl Ledgers {
+    ghost use Rattle.iova_clients.specs.AccountsLends.{LendsLedger};
+
+    pub(crate) fn new(alloc: Global) -> Ledgers
+        ensures { result ≡ [] }
+    {
+        Ledgers {
+            slab: Slab::new(alloc),
+            keys: BTreeMap::new(alloc),
+        }
+    }
+
+    #[inline]
+    pub(crate) fn len(&self) -> usize
+        ensures { result ≡ length self.now }
+    {
+        self.keys.len()
+    }
+
+    /// The ledger of this serial.
+    pub(crate) fn get(&self, id: u64) -> Option<&Ledger>
+        ensures { option_copied result ≡ lookup (is_serial id) self.now }
+    {
+        let key = self.keys.get(&id).copied()?;
+        self.slab.get(key)
+    }
+
+    /// The same, to change it.
+    pub(crate) fn get_mut(&mut self, id: u64) -> Option<&mut Ledger>
+        ensures* writes_back { sem 𝓛 (LendsLedger self.entry id result) }
+        ensures value { option_copied_mut result ≡ lookup (is_serial id) self.old }
+    {
+        let key = self.keys.get(&id).copied()?;
+        Some(&mut self.slab[key])
+    }
+
+    /// A ledger comes in, under a serial above all others. Refused by `NoMemory`.
+    pub(crate) fn push(&mut self, id: u64, ledger: Ledger) -> Result<(), Refusal>
+        requires { AllByRecursion (λ e. e.0 < id) self.old }
+        ensures ok { OnOk result (self.new ≡ self.old ++ (id, ledger) ∷ []) }
+        ensures refused { IsOkUnless result Refusal.NoMemory }
+        ensures err { OnErr result (self.new ≡ self.old) }
+    {
+        let Ok(()) = self.slab.reserve(1) else {
+            return Err(Refusal::NoMemory);
+        };
+        let key = self.slab.vacant_key();
+        let Ok(_) = self.keys.insert(id, key) else {
+            return Err(Refusal::NoMemory);
+        };
+        self.slab.insert_reserved(ledger);
+        Ok(())
+    }
+
+    /// The ledger of this serial leaves.
+    pub(crate) fn remove(&mut self, id: u64) -> Option<Ledger>
+        ensures value { result ≡ lookup (is_serial id) self.old }
+        ensures left { self.new ≡ remove_entry (is_serial id) self.old }
+    {
+        match self.keys.remove(&id) {
+            Some(key) => self.slab.try_remove(key),
+            None => None,
+        }
+    }
+
+    /// The serial of the first ledger with a holding that has the frame.
+    pub(crate) fn holder(&self, frame: u64) -> Option<u64>
+        ensures { result ≡ option_map (λ e. e.0) (find (λ e. is_covered frame e.1.holdings) self.now) }
+    {
+        for (id, key) in self.keys.iter() {
+            if let Some(ledger) = self.slab.get(*key)
+                && ledger.covers(frame)
+            {
+                return Some(*id);
+            }
+        }
+        None
+    }
+}

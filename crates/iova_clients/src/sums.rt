@@ -1,0 +1,93 @@
+ghost use Rattle.std.specs.Prelude.{◌≡◌, ◌<◌, ◌≤◌, ◌+◌, ◌^◌, replicate, length};
+ghost use Rattle.iova_clients.specs.Sums.{no_totals, with_one, without_one, share_at, with_share, HaveRoom, Include};
+
+use iova_model::totals::Totals;
+use iova_range::range::Range;
+
+/// How many workers a domain can have.
+pub(crate) const WORKERS: u64 = 16;
+
+const NO_TOTALS: Totals = Totals {
+    count: 0,
+    frames: 0,
+    sum_lo: 0,
+};
+
+/// The totals over all holdings, and over those of each worker's clients.
+#[derive(Drop)]
+pub(crate) struct Sums {
+    pub(crate) all: Totals,
+    pub(crate) shares: [Totals; 16],
+}
+
+fn with_one(range: Range, totals: Totals) -> Totals
+    requires room { HaveRoom totals }
+    requires low { range.lo + range.len ≤ 2 ^ 40 }
+    ensures { result ≡ with_one range totals }
+{
+    Totals {
+        count: totals.count + 1,
+        frames: totals.frames + range.len(),
+        sum_lo: totals.sum_lo + range.lo(),
+    }
+}
+
+fn without_one(range: Range, totals: Totals) -> Totals
+    requires { Include range totals }
+    ensures { result ≡ without_one range totals }
+{
+    Totals {
+        count: totals.count - 1,
+        frames: totals.frames - range.len(),
+        sum_lo: totals.sum_lo - range.lo(),
+    }
+}
+
+impl Sums {
+    /// Of no holdings.
+    pub(crate) fn new() -> Sums
+        ensures all { result.all ≡ no_totals }
+        ensures shares { result.shares ≡ replicate 16 no_totals }
+    {
+        Sums {
+            all: NO_TOTALS,
+            shares: [NO_TOTALS; 16],
+        }
+    }
+
+    /// One worker's.
+    #[inline]
+    pub(crate) fn share(&self, worker: u64) -> Totals
+        requires { worker < 16 }
+        ensures { result ≡ share_at worker self.now.shares }
+    {
+        self.shares[worker as usize]
+    }
+
+    /// A client of this worker is given a holding.
+    pub(crate) fn add(&mut self, worker: u64, range: Range)
+        requires worker { worker < 16 }
+        requires low { range.lo + range.len ≤ 2 ^ 40 }
+        requires all_room { HaveRoom self.old.all }
+        requires share_room { HaveRoom (share_at worker self.old.shares) }
+        ensures all { self.new.all ≡ with_one range self.old.all }
+        ensures shares { self.new.shares ≡ with_share worker (with_one range) self.old.shares }
+    {
+        let place = worker as usize;
+        self.all = with_one(range, self.all);
+        self.shares[place] = with_one(range, self.shares[place]);
+    }
+
+    /// A client of this worker gives a holding up.
+    pub(crate) fn remove(&mut self, worker: u64, range: Range)
+        requires worker { worker < 16 }
+        requires in_all { Include range self.old.all }
+        requires in_share { Include range (share_at worker self.old.shares) }
+        ensures all { self.new.all ≡ without_one range self.old.all }
+        ensures shares { self.new.shares ≡ with_share worker (without_one range) self.old.shares }
+    {
+        let place = worker as usize;
+        self.all = without_one(range, self.all);
+        self.shares[place] = without_one(range, self.shares[place]);
+    }
+}

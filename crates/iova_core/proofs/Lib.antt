@@ -1,0 +1,11 @@
+pub mod Covered
+pub mod Given
+pub mod Outcomes
+pub mod Placed
+pub mod Plain
+pub mod Reductions
+pub mod Ties
+pub mod Domains
+pub mod Allocs
+pub mod AllocCalls
+pub mod Runs

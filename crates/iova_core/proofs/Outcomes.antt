@@ -1,0 +1,54 @@
+-- What a call's clauses on its refusals say together, and whose a client is.
+use Rattle.std.proofs.Common.{ℕ, ◌≡◌, ◌==◌, Bool, true, false, not, cond, Option, Some, None, List, refl, sym, ap, subst, ◌∙◌, ◌⊎◌, inl, inr}
+use Rattle.std.specs.Prelude.{Result, Ok, Err, IfSome, IfNone, IsOkUnless, option_map, option_and_then, nat_eq, if◌then◌else◌}
+use Rattle.std.specs.Option.{option_eq}
+use Rattle.std.proofs.lemmas.Bool.Decides.{nat_tests}
+use Rattle.std.proofs.Common.{arith}
+use Rattle.iova_range.specs.declared.refusal.Refusal.{Refusal}
+use Rattle.iova_range.specs.declared.refusal.Refusal.TheVariants as refusal
+use Rattle.iova_model.specs.Clients.{Client, if_owned}
+
+-- A call that is refused where a test says so, and else only for want of memory.
+pub record Refuses {A : Type 0} (tested : Option Refusal) (result : Result A Refusal) : Type 0 where
+  pub refused : IfSome tested (λ r. result ≡ Err r)
+  pub accepted : IfNone tested (IsOkUnless result refusal.NoMemory)
+
+pub refuses_ok : {A : Type 0} (tested : Option Refusal) (result : Result A Refusal) (x : A) → Refuses tested result → result ≡ Ok x → tested ≡ None
+refuses_ok None result x h is = refl
+refuses_ok (Some r) result x h is = absurd (let both : Ok x ≡ Err r = sym is ∙ h.refused in cc)
+
+pub refuses_err : {A : Type 0} (tested : Option Refusal) (result : Result A Refusal) (r : Refusal) → Refuses tested result → result ≡ Err r → ((r ≡ refusal.NoMemory) × (tested ≡ None)) ⊎ (tested ≡ Some r)
+refuses_err {A} None result r h is =
+    let only = subst (λ (x : Result A Refusal). IsOkUnless x refusal.NoMemory) is h.accepted in
+    inl (only, refl)
+refuses_err (Some t) result r h is = let both : Err r ≡ Err t = sym is ∙ h.refused in inr (let e : r ≡ t = cc in ap (λ x. Some x) (sym e))
+
+-- the client with this serial, which the worker opened
+pub record IsOwned (w : ℕ) (o : Option Client) (c : Client) : Type 0 where
+  pub found : o ≡ Some c
+  pub owned : option_and_then (if_owned w) o ≡ Some c
+
+owned_step : (w : ℕ) (c : Client) (b : Bool) → (c.worker == w) ≡ b → Some c.worker ≡ Some w → (if c.worker == w then Some c else None) ≡ Some c
+owned_step w c true is e = rw is refl
+owned_step w c false is e = let same : c.worker ≡ w = cc in absurd (grind (arith, nat_tests))
+
+pub owner_is : (w : ℕ) (o : Option Client) → option_map (λ c. c.worker) o ≡ Some w → (c : Client) × IsOwned w o c
+owner_is w None e = absurd cc
+owner_is w (Some c) e = (c, record { found = refl; owned = owned_step w c (c.worker == w) refl e })
+
+other_step : (w : ℕ) (c : Client) (b : Bool) → (c.worker == w) ≡ b → (c.worker ≡ w → ⊥) → (if c.worker == w then Some c else None) ≡ None
+other_step w c true is other = absurd (other (grind (arith, nat_tests)))
+other_step w c false is other = rw is refl
+
+pub owner_none : (w : ℕ) (o : Option Client) → (option_map (λ c. c.worker) o ≡ Some w → ⊥) → option_and_then (if_owned w) o ≡ None
+owner_none w None other = refl
+owner_none w (Some c) other = other_step w c (c.worker == w) refl (λ e. other (ap (λ x. Some x) e))
+
+not_true : (b : Bool) → false ≡ not b → b ≡ true
+not_true true e = refl
+not_true false e = absurd cc
+
+-- an owner that was compared with the worker
+pub same_owner : (w : ℕ) (o : Option ℕ) → false ≡ not (option_eq nat_eq o (Some w)) → o ≡ Some w
+same_owner w None e = absurd cc
+same_owner w (Some x) e = let test : nat_eq x w ≡ true = not_true (nat_eq x w) e in ap (λ (n : ℕ). Some n) (let same : x ≡ w = grind (arith, nat_tests) in same)

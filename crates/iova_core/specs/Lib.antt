@@ -1,0 +1,4 @@
+pub use Rattle.iova_model.specs.State
+pub mod Domain
+pub mod Tied
+pub mod Walk

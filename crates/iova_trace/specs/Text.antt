@@ -1,0 +1,117 @@
+-- The text of a trace: a line for its header, one for each step, and one for each reply. All of it is ASCII, a line ends by LF,
+-- and the words of a line have one space between them. Own.
+use Rattle.std.specs.Prelude.{ℕ, ◌+◌, ◌-◌, ◌<◌, ◌≤◌, ◌^◌, ◌==◌, Bool, true, false, List, [], ◌∷◌, ◌++◌, map, codes, decimal, if◌then◌else◌}
+use Rattle.iova_range.specs.Bounds.{Extent, IsExtent, first_profile}
+use Rattle.iova_range.specs.Refusals.{refusal_number, refusal_name}
+use Rattle.iova_model.specs.declared.step.Step.{Step}
+use Rattle.iova_model.specs.declared.step.Step.TheVariants as step
+use Rattle.iova_model.specs.declared.step.Reply.{Reply}
+use Rattle.iova_model.specs.declared.step.Reply.TheVariants as reply
+use Rattle.iova_trace.specs.declared.line.Verb.{Verb}
+use Rattle.iova_trace.specs.declared.line.Verb.TheVariants as verb
+
+-- each word with a space before it
+abbrev pub spaced_words : List (List ℕ) → List ℕ
+spaced_words [] = []
+spaced_words (w ∷ ws) = 32 ∷ (w ++ spaced_words ws)
+
+-- a word and its arguments
+abbrev pub line_text : List ℕ → List (List ℕ) → List ℕ
+line_text word arguments = word ++ spaced_words arguments
+
+-- a word and numbers
+abbrev pub numbers_line : List ℕ → List ℕ → List ℕ
+numbers_line word ns = line_text word (map decimal ns)
+
+-- Steps
+
+abbrev pub verb_text : Verb → List ℕ
+verb_text verb.Reserve = codes "reserve"
+verb_text verb.Open = codes "open"
+verb_text verb.Alloc = codes "alloc"
+verb_text verb.Unmap = codes "unmap"
+verb_text verb.Begin = codes "begin"
+verb_text verb.End = codes "end"
+verb_text verb.Drain = codes "drain"
+verb_text verb.Close = codes "close"
+verb_text verb.CloseOne = codes "closeone"
+
+abbrev pub verb_of : Step → Verb
+verb_of (step.Reserve lo hi) = verb.Reserve
+verb_of (step.Open worker sac) = verb.Open
+verb_of (step.Alloc worker client frames limit) = verb.Alloc
+verb_of (step.Unmap worker client lo) = verb.Unmap
+verb_of step.Begin = verb.Begin
+verb_of (step.End number ok) = verb.End
+verb_of (step.Drain ring by) = verb.Drain
+verb_of (step.Close worker client) = verb.Close
+verb_of (step.CloseOne worker client) = verb.CloseOne
+
+abbrev pub kind_text : Bool → List ℕ
+kind_text true = codes "sac"
+kind_text false = codes "dac"
+
+abbrev pub outcome_text : Bool → List ℕ
+outcome_text true = codes "ok"
+outcome_text false = codes "fail"
+
+abbrev pub arguments_of : Step → List (List ℕ)
+arguments_of (step.Reserve lo hi) = decimal lo ∷ decimal hi ∷ []
+arguments_of (step.Open worker sac) = decimal worker ∷ kind_text sac ∷ []
+arguments_of (step.Alloc worker client frames limit) = decimal worker ∷ decimal client ∷ decimal frames ∷ decimal limit ∷ []
+arguments_of (step.Unmap worker client lo) = decimal worker ∷ decimal client ∷ decimal lo ∷ []
+arguments_of step.Begin = []
+arguments_of (step.End number ok) = decimal number ∷ outcome_text ok ∷ []
+arguments_of (step.Drain ring by) = decimal ring ∷ decimal by ∷ []
+arguments_of (step.Close worker client) = decimal worker ∷ decimal client ∷ []
+arguments_of (step.CloseOne worker client) = decimal worker ∷ decimal client ∷ []
+
+-- a step's line without its LF
+abbrev pub step_text : Step → List ℕ
+step_text s = line_text (verb_text (verb_of s)) (arguments_of s)
+
+-- its numbers are those of 64 bits
+abbrev pub Fits : Step → Type 0
+Fits (step.Reserve lo hi) = (lo < 2 ^ 64) × (hi < 2 ^ 64)
+Fits (step.Open worker sac) = worker < 2 ^ 64
+Fits (step.Alloc worker client frames limit) = (worker < 2 ^ 64) × (client < 2 ^ 64) × (frames < 2 ^ 64) × (limit < 2 ^ 64)
+Fits (step.Unmap worker client lo) = (worker < 2 ^ 64) × (client < 2 ^ 64) × (lo < 2 ^ 64)
+Fits step.Begin = Unit {0}
+Fits (step.End number ok) = number < 2 ^ 64
+Fits (step.Drain ring by) = (ring < 2 ^ 64) × (by < 2 ^ 64)
+Fits (step.Close worker client) = (worker < 2 ^ 64) × (client < 2 ^ 64)
+Fits (step.CloseOne worker client) = (worker < 2 ^ 64) × (client < 2 ^ 64)
+
+-- The header
+
+-- the version, the bounds, the worker count, and in the second version the depot's limit: version 1 is the first profile
+abbrev pub header_numbers : Extent → ℕ → List ℕ
+header_numbers bounds workers =
+    if bounds.profile.mag == first_profile.mag
+    then 1 ∷ bounds.start ∷ bounds.last ∷ workers ∷ []
+    else 2 ∷ bounds.start ∷ bounds.last ∷ workers ∷ bounds.profile.depot ∷ []
+
+-- the header's line without its LF
+abbrev pub header_text : Extent → ℕ → List ℕ
+header_text bounds workers = numbers_line (codes "iovatrace") (header_numbers bounds workers)
+
+-- good bounds, and a worker count that a domain can have
+pub record IsHeader (bounds : Extent) (workers : ℕ) : Type 0 where
+  pub extent : IsExtent bounds
+  pub some : 1 ≤ workers
+  pub most : workers ≤ 16
+
+-- Replies
+
+-- a reply's line with its LF
+abbrev pub reply_text : Reply → List ℕ
+reply_text (reply.Reserved r) = numbers_line (codes "reserved") (r.lo ∷ (r.lo + r.len - 1) ∷ []) ++ 10 ∷ []
+reply_text (reply.Opened serial) = numbers_line (codes "opened") (serial ∷ []) ++ 10 ∷ []
+reply_text (reply.Given r) = numbers_line (codes "given") (r.lo ∷ r.len ∷ []) ++ 10 ∷ []
+reply_text (reply.Queued r) = numbers_line (codes "queued") (r.lo ∷ r.len ∷ []) ++ 10 ∷ []
+reply_text reply.Empty = codes "empty" ++ 10 ∷ []
+reply_text (reply.Begun number) = numbers_line (codes "begun") (number ∷ []) ++ 10 ∷ []
+reply_text reply.Ended = codes "ended" ++ 10 ∷ []
+reply_text (reply.Drained n) = numbers_line (codes "drained") (n ∷ []) ++ 10 ∷ []
+reply_text (reply.Marked left) = numbers_line (codes "marked") (left ∷ []) ++ 10 ∷ []
+reply_text (reply.Refused r) = line_text (codes "no") (decimal (refusal_number r) ∷ refusal_name r ∷ []) ++ 10 ∷ []

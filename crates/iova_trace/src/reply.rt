@@ -1,0 +1,91 @@
+ghost use Rattle.std.specs.Prelude.{◌≡◌, ◌+◌, ◌<◌, ◌≤◌, [], ◌∷◌, ◌++◌, length, OnOk, OnErr, decimal, codes, vec_len, vec_capacity};
+ghost use Rattle.iova_range.specs.Refusals.{refusal_number, refusal_name};
+ghost use Rattle.iova_trace.specs.Text.{line_text, reply_text};
+
+use crate::words::{MAX_LINE, append, put, put_numbers};
+use arrayvec::ArrayVec;
+use iova_model::step::Reply;
+use iova_range::refusal::Refusal;
+
+/// The most bytes that a reply's line has, with its LF.
+pub const MAX_REPLY: usize = 64;
+
+/// Appends the reply's line with its LF, at most 64 bytes, for which there is room. It takes no memory. Our own form.
+pub fn put_reply(reply: &Reply, out: &mut ArrayVec<u8, 128>)
+    requires { length out.old.items + MAX_REPLY ≤ 128 }
+    ensures items { out.new.items ≡ out.old.items ++ reply_text reply.now }
+    ensures short { length out.new.items ≤ length out.old.items + MAX_REPLY }
+{
+    match *reply {
+        Reply::Reserved(range) => put_numbers(out, b"reserved", &[range.lo(), range.hi()]),
+        Reply::Opened(serial) => put_numbers(out, b"opened", &[serial]),
+        Reply::Given(range) => put_numbers(out, b"given", &[range.lo(), range.len()]),
+        Reply::Queued(range) => put_numbers(out, b"queued", &[range.lo(), range.len()]),
+        Reply::Empty => put(out, b"empty"),
+        Reply::Begun(number) => put_numbers(out, b"begun", &[number]),
+        Reply::Ended => put(out, b"ended"),
+        Reply::Drained(count) => put_numbers(out, b"drained", &[count]),
+        Reply::Marked(left) => put_numbers(out, b"marked", &[left]),
+        Reply::Refused(refusal) => put_refusal(refusal, out),
+    }
+    put(out, b"\n");
+}
+
+/// Appends the reply's line with its LF. Refused by `NoMemory`, which appends nothing and comes only where
+/// `out` has to grow. Our own form.
+pub fn write_reply(reply: &Reply, out: &mut Vec<u8>) -> Result<(), Refusal>
+    ensures ok { OnOk result (out.new.items ≡ out.old.items ++ reply_text reply.now) }
+    ensures err { OnErr result ((result ≡ Err Refusal.NoMemory) × (out.new.items ≡ out.old.items)) }
+    ensures full { OnErr result (vec_capacity out.old < vec_len out.old + length (reply_text reply.now)) }
+{
+    let mut text = ArrayVec::new();
+    put_reply(reply, &mut text);
+    append(out, &text)
+}
+
+fn put_refusal(refusal: Refusal, out: &mut ArrayVec<u8, MAX_LINE>)
+    requires { length out.old.items + MAX_REPLY ≤ MAX_LINE }
+    ensures items { out.new.items ≡ out.old.items ++ line_text (codes "no") (decimal (refusal_number refusal) ∷ refusal_name refusal ∷ []) }
+    ensures short { length out.new.items + 1 ≤ length out.old.items + MAX_REPLY }
+{
+    put_numbers(out, b"no", &[u64::from(refusal.number())]);
+    put(out, b" ");
+    put(out, refusal.name().as_bytes());
+}
+
+#[cfg(test)]
+mod tests {
+    use super::*;
+    use iova_range::range::Range;
+    use std::test::Fail;
+
+    #[test]
+    fn each_reply_has_its_text(rt: HostRuntime) -> Result<(), Fail> {
+        for (reply, want) in [
+            (Reply::Reserved(Range::new(16, 8)), "reserved 16 23\n"),
+            (Reply::Opened(7), "opened 7\n"),
+            (Reply::Given(Range::new(1016, 8)), "given 1016 8\n"),
+            (Reply::Queued(Range::new(1016, 8)), "queued 1016 8\n"),
+            (Reply::Empty, "empty\n"),
+            (Reply::Begun(3), "begun 3\n"),
+            (Reply::Ended, "ended\n"),
+            (Reply::Drained(255), "drained 255\n"),
+            (Reply::Marked(0), "marked 0\n"),
+            (Reply::Refused(Refusal::NoSpace), "no 6 NoSpace\n"),
+            (Reply::Refused(Refusal::FlightsFull), "no 13 FlightsFull\n"),
+            (
+                Reply::Reserved(Range::new(18446744073709551614, 2)),
+                "reserved 18446744073709551614 18446744073709551615\n",
+            ),
+        ] {
+            let mut line: ArrayVec<u8, 128> = ArrayVec::new();
+            put_reply(&reply, &mut line);
+            assert_eq!(rt; line.as_slice(), want.as_bytes());
+            let mut out = b">".as_slice().to_vec(rt.alloc())?;
+            assert_eq!(rt; write_reply(&reply, &mut out), Ok(()));
+            assert_eq!(rt; &out[..1], b">".as_slice());
+            assert_eq!(rt; &out[1..], want.as_bytes());
+        }
+        Ok(())
+    }
+}
