@@ -44,6 +44,11 @@ abbrev pub unless : List (Bool × Refusal) → State → Next → Next
 unless [] s n = n
 unless ((b, r) ∷ tests) s n = if b then refused r s else unless tests s n
 
+-- the refusal of the first test that passes, if one does
+abbrev pub first_refusal : List (Bool × Refusal) → Option Refusal
+first_refusal [] = None
+first_refusal ((b, r) ∷ tests) = if b then Some r else first_refusal tests
+
 abbrev pub no_worker : State → ℕ → Bool
 no_worker s w = nat_le s.workers w
 
