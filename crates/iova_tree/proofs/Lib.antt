@@ -3,3 +3,4 @@ pub mod Gaps
 pub mod Multiples
 pub mod Picked
 pub mod Spaces
+pub mod Unions
