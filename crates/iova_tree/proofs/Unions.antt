@@ -1,90 +1,125 @@
--- The union of a window with those that it meets: how a walk makes it, where it lies, and what it is clear of.
-use Rattle.std.proofs.Common.{ℕ, zero, suc, ◌≡◌, ◌+◌, ◌-◌, ◌<◌, ◌≤◌, ◌&&◌, Bool, true, false, not, cond, ◌⊎◌, inl, inr, List, [], ◌∷◌, ◌++◌, length, take, drop, slice_index_or, min, refl, sym, ap, ◌∙◌, arith}
-use Rattle.std.specs.Prelude.{All, remove, filter}
-use Rattle.std.proofs.Math.Seq.{drop-cons, take-suc, take-length, drop-length}
-use Rattle.std.proofs.lemmas.List.{take-append-le, take-take, drop_at, length-take-le, get_or_append_left, get_or-take, append-nil, append_assoc, length-append, get_or_default}
-use Rattle.std.proofs.lemmas.Bool.{cond-true, cond-false}
+-- The union of a window with those that it meets: where it lies, and what it is clear of.
+use Rattle.std.proofs.Common.{ℕ, ◌≡◌, ◌+◌, ◌<◌, ◌≤◌, ◌||◌, Bool, true, false, not, ◌⊎◌, inl, inr, List, [], ◌∷◌, length, slice_index_or, refl, sym, ap, ◌∙◌, arith}
+use Rattle.std.specs.List.{AllByRecursion, list_any}
+use Rattle.std.proofs.lemmas.List.{get_or_default}
+use Rattle.std.proofs.lemmas.List.Elements.{recursion_from_All}
+use Rattle.std.proofs.lemmas.Bool.{and_parts, and_from, or_parts, cond_both, cases_order, not-true, not_from_false}
+use Rattle.std.proofs.lemmas.Bool.Decides.{nat_tests}
 use Rattle.iova_range.specs.Frames.{Frames, meets}
+use Rattle.iova_model.specs.Fit.{is_clear}
 use Rattle.iova_model.specs.Next.{join, union}
-use Rattle.iova_tree.specs.Space.{clear_of}
+use Rattle.iova_tree.specs.Space.{RiseApart, clear_of}
+use Rattle.iova_tree.proofs.Apart.{LiesWithin, rise_within, rise_apart, meets_swap}
 
--- How far the walk from the last range down has come: from place i on the ranges that meet r have left the list, and `all`
--- is the union of r with these.
-pub record Absorbs (r : Frames) (old : List Frames) (i : ℕ) (all : Frames) (now : List Frames) : Type 0 where
-  pub within : i ≤ length old
-  pub union : all ≡ union r (drop i old)
-  pub list : now ≡ take i old ++ clear_of r (drop i old)
-  pub above_zero : 1 ≤ all.lo
+pub all_weaker : (P Q : Frames → Type 0) → ((x : Frames) → P x → Q x) → (xs : List Frames) → AllByRecursion P xs → AllByRecursion Q xs
+all_weaker P Q weaker [] all = tt
+all_weaker P Q weaker (x ∷ xs) all = (weaker x all.0, all_weaker P Q weaker xs all.1)
 
-pub absorbs_first : (r : Frames) (old : List Frames) → 1 ≤ r.lo → Absorbs r old (length old) r old
-absorbs_first r old some = record {
-  within = omega arith;
-  union = rw (drop-length old) refl;
-  list = rw (drop-length old, take-length old, append-nil old) refl;
-  above_zero = some;
+-- Where it lies.
+
+join_within : (from until : ℕ) (a b : Frames) → LiesWithin from until a → LiesWithin from until b → LiesWithin from until (join a b)
+join_within from until a b p q = record {
+  start = omega (arith, p.start, q.start);
+  some = omega (arith, p.some, q.some);
+  end = omega (arith, p.end, q.end, p.some, q.some);
 }
 
--- what the list has below the place where the walk is
-pub absorbs_at : (r : Frames) (old : List Frames) (i : ℕ) (all : Frames) (now : List Frames) (k : ℕ) (d : Frames) → Absorbs r old i all now → k < i → slice_index_or now k d ≡ slice_index_or old k d
-absorbs_at r old i all now k d h lt =
-    let len : length (take i old) ≡ i = length-take-le i old h.within in
-    rw (h.list, get_or_append_left (take i old) (clear_of r (drop i old)) d k (omega arith), get_or-take i old k d lt) refl
+union_lies : (from until : ℕ) (r : Frames) (ws : List Frames) → LiesWithin from until r → AllByRecursion (LiesWithin from until) ws → LiesWithin from until (union r ws)
+union_lies from until r [] own all = own
+union_lies from until r (w ∷ ws) own all =
+    let rest = union_lies from until r ws own all.1 in
+    cond_both (meets r w) (join (union r ws) w) (union r ws) (LiesWithin from until) (λ e. join_within from until (union r ws) w rest all.0) (λ e. rest)
 
-pub absorbs_within : (r : Frames) (old : List Frames) (i : ℕ) (all : Frames) (now : List Frames) → Absorbs r old i all now → i ≤ length now
-absorbs_within r old i all now h =
-    let len : length (take i old) ≡ i = length-take-le i old h.within in
-    rw (h.list, length-append (take i old) (clear_of r (drop i old))) (omega arith)
+-- between the bounds that r and the others lie between
+pub union_within : (from until : ℕ) (r : Frames) (ws : List Frames) → LiesWithin from until r → RiseApart from ws until → LiesWithin from until (union r ws)
+union_within from until r ws own rise =
+    union_lies from until r ws own (recursion_from_All (LiesWithin from until) ws (λ k d lt. rise_within from until ws k d rise lt))
 
-pub join_above_zero : (a b : Frames) → 1 ≤ a.lo → 1 ≤ b.lo → 1 ≤ (join a b).lo
-join_above_zero a b p q = omega arith
+-- What it is clear of: what is clear of r and of those that meet r.
 
-module _ (r : Frames) (old : List Frames) (i : ℕ) (all : Frames) (now : List Frames) (w : Frames) (h : Absorbs r old (suc i) all now) (is : w ≡ slice_index_or now i w) where
-  here : w ≡ slice_index_or old i w
-  here = is ∙ absorbs_at r old (suc i) all now i w h (omega arith)
+-- x is clear of those that meet r
+abbrev pub IsClearOfMet : Frames → Frames → List Frames → Type 0
+IsClearOfMet x r ws = AllByRecursion (λ w. meets r w ≡ true → meets x w ≡ false) ws
 
-  split : drop i old ≡ w ∷ drop (suc i) old
-  split = drop-cons old i w (omega (arith, h.within)) ∙ ap (λ (x : Frames). x ∷ drop (suc i) old) (sym here)
+below_met : (x r w : Frames) → x.lo + x.len ≤ r.lo → 1 ≤ x.len → meets r w ≡ true → meets x w ≡ false → x.lo + x.len ≤ w.lo
+below_met x r w below some met apart = grind (arith, nat_tests)
 
-  removed : remove now i ≡ take i old ++ clear_of r (drop (suc i) old)
-  removed =
-      let len : length (take (suc i) old) ≡ suc i = length-take-le (suc i) old h.within in
-      let front : take i (take (suc i) old ++ clear_of r (drop (suc i) old)) ≡ take i old = take-append-le i (take (suc i) old) _ (omega arith) ∙ take-take i (suc i) old (omega arith) in
-      let back : drop (suc i) (take (suc i) old ++ clear_of r (drop (suc i) old)) ≡ clear_of r (drop (suc i) old) = drop_at (take (suc i) old) _ (suc i) len in
-      rw (h.list, front, back) refl
+above_met : (x r w : Frames) → r.lo + r.len ≤ x.lo → 1 ≤ x.len → meets r w ≡ true → meets x w ≡ false → w.lo + w.len ≤ x.lo
+above_met x r w above some met apart = grind (arith, nat_tests)
 
-  absorbs_joined : meets r w ≡ true → 1 ≤ w.lo → Absorbs r old i (join all w) (remove now i)
-  absorbs_joined met some = record {
-    within = omega (arith, h.within);
-    union = rw (split, met, h.union) refl;
-    list = rw (split, met) removed;
-    above_zero = join_above_zero all w h.above_zero some;
-  }
+below_union : (x r : Frames) (ws : List Frames) → x.lo + x.len ≤ r.lo → 1 ≤ x.len → IsClearOfMet x r ws → x.lo + x.len ≤ (union r ws).lo
+below_union x r [] below some clear = below
+below_union x r (w ∷ ws) below some clear =
+    let rest = below_union x r ws below some clear.1 in
+    cond_both (meets r w) (join (union r ws) w) (union r ws) (λ u. x.lo + x.len ≤ u.lo)
+    (λ e. let here = below_met x r w below some e (clear.0 e) in omega arith)
+    (λ e. rest)
 
-  absorbs_kept : meets r w ≡ false → Absorbs r old i all now
-  absorbs_kept apart = record {
-    within = omega (arith, h.within);
-    union = rw (split, apart) h.union;
-    list = rw (split, apart, h.list, take-suc old i w (omega (arith, h.within)), ← here, append_assoc) refl;
-    above_zero = h.above_zero;
-  }
+above_union : (x r : Frames) (ws : List Frames) → r.lo + r.len ≤ x.lo → 1 ≤ x.len → IsClearOfMet x r ws → (union r ws).lo + (union r ws).len ≤ x.lo
+above_union x r [] above some clear = above
+above_union x r (w ∷ ws) above some clear =
+    let rest = above_union x r ws above some clear.1 in
+    cond_both (meets r w) (join (union r ws) w) (union r ws) (λ u. u.lo + u.len ≤ x.lo)
+    (λ e. let here = above_met x r w above some e (clear.0 e) in omega arith)
+    (λ e. rest)
 
--- the same at a place above zero; what is tested and what is removed are read each on its own
-pub absorbs_join : (r : Frames) (old : List Frames) (i : ℕ) (all : Frames) (now : List Frames) (v w : Frames) → 0 < i → Absorbs r old i all now → v ≡ slice_index_or now (i - 1) v → w ≡ slice_index_or now (i - 1) w
-    → meets r v ≡ true → All (λ (x : Frames). 1 ≤ x.lo) old → Absorbs r old (i - 1) (join all w) (remove now (i - 1))
-absorbs_join r old zero all now v w lt h read is met some = absurd (omega arith)
-absorbs_join r old (suc i) all now v w lt h read is met some =
-    let place : suc i - 1 ≡ i = omega arith in
-    let within : suc i ≤ length now = absorbs_within r old (suc i) all now h in
-    let is_w : w ≡ slice_index_or now i w = rw place at is in
-    let same : v ≡ w = rw place at read ∙ (get_or_default now i v w (omega arith) ∙ sym is_w) in
-    let above : 1 ≤ w.lo = rw (here r old i all now w h is_w) (some i w (omega (arith, h.within))) in
-    rw place (absorbs_joined r old i all now w h is_w (rw same at met) above)
+sides : (r x : Frames) → meets r x ≡ false → 1 ≤ r.len → 1 ≤ x.len → (x.lo + x.len ≤ r.lo) ⊎ (r.lo + r.len ≤ x.lo)
+sides r x apart some_r some_x = grind (arith, nat_tests)
 
-pub absorbs_keep : (r : Frames) (old : List Frames) (i : ℕ) (all : Frames) (now : List Frames) (w : Frames) → 0 < i → Absorbs r old i all now → w ≡ slice_index_or now (i - 1) w → meets r w ≡ false → Absorbs r old (i - 1) all now
-absorbs_keep r old zero all now w lt h is apart = absurd (omega arith)
-absorbs_keep r old (suc i) all now w lt h is apart =
-    let place : suc i - 1 ≡ i = omega arith in
-    rw place (absorbs_kept r old i all now w h (rw place at is) apart)
+apart_above : (u x : Frames) → x.lo + x.len ≤ u.lo → not (meets u x) ≡ true
+apart_above u x le = grind (arith, nat_tests)
 
-pub absorbs_all : (r : Frames) (old : List Frames) (all : Frames) (now : List Frames) → Absorbs r old 0 all now → (all ≡ union r old) × (now ≡ clear_of r old)
-absorbs_all r old all now h = (h.union, h.list)
+apart_below : (u x : Frames) → u.lo + u.len ≤ x.lo → not (meets u x) ≡ true
+apart_below u x le = grind (arith, nat_tests)
+
+union_apart : (r x : Frames) (ws : List Frames) → 1 ≤ r.len → 1 ≤ x.len → meets r x ≡ false → IsClearOfMet x r ws → not (meets (union r ws) x) ≡ true
+union_apart r x ws some_r some_x apart clear = split (sides r x apart some_r some_x)
+  where
+    split : (x.lo + x.len ≤ r.lo) ⊎ (r.lo + r.len ≤ x.lo) → not (meets (union r ws) x) ≡ true
+    split (inl below) = apart_above (union r ws) x (below_union x r ws below some_x clear)
+    split (inr above) = apart_below (union r ws) x (above_union x r ws above some_x clear)
+
+-- of ranges that rise apart, one is clear of all others
+other_apart : (from until : ℕ) (ws : List Frames) (k j : ℕ) (d : Frames) → RiseApart from ws until → k < length ws → j < length ws → (k ≡ j → ⊥) → meets (slice_index_or ws k d) (slice_index_or ws j d) ≡ false
+other_apart from until ws k j d rise within_k within_j other = split (cases_order k j)
+  where
+    split : (k ≡ j) ⊎ ((k < j) ⊎ (j < k)) → meets (slice_index_or ws k d) (slice_index_or ws j d) ≡ false
+    split (inl e) = absurd (other e)
+    split (inr (inl lt)) = not-true _ (apart_below (slice_index_or ws k d) (slice_index_or ws j d) (rise_apart from until ws k j d rise lt within_j))
+    split (inr (inr lt)) = not-true _ (apart_above (slice_index_or ws k d) (slice_index_or ws j d) (rise_apart from until ws j k d rise lt within_k))
+
+one_clear : (from until : ℕ) (r : Frames) (ws : List Frames) (k : ℕ) (d : Frames) → RiseApart from ws until → k < length ws → meets r (slice_index_or ws k d) ≡ false → IsClearOfMet (slice_index_or ws k d) r ws
+one_clear from until r ws k d rise lt apart =
+    recursion_from_All (λ w. meets r w ≡ true → meets (slice_index_or ws k d) w ≡ false) ws
+    (λ j e within met.
+      let same : slice_index_or ws j e ≡ slice_index_or ws j d = get_or_default ws j e d within in
+      let met_j : meets r (slice_index_or ws j d) ≡ true = rw same at met in
+      rw same (other_apart from until ws k j d rise lt within (λ (is : k ≡ j). let met_k : meets r (slice_index_or ws k d) ≡ true = rw is met_j in cc)))
+
+clear_kept : (u r : Frames) (xs : List Frames) → AllByRecursion (λ x. not (meets r x) ≡ true → not (meets u x) ≡ true) xs → is_clear u (clear_of r xs) ≡ true
+clear_kept u r [] all = refl
+clear_kept u r (x ∷ xs) all =
+    let rest = clear_kept u r xs all.1 in
+    cond_both (not (meets r x)) (x ∷ clear_of r xs) (clear_of r xs) (λ ys. is_clear u ys ≡ true)
+    (λ e. and_from (not (meets u x)) (is_clear u (clear_of r xs)) (all.0 e) rest)
+    (λ e. rest)
+
+-- it is clear of the others
+pub union_clear_others : (from until : ℕ) (r : Frames) (ws : List Frames) → 1 ≤ r.len → RiseApart from ws until → is_clear (union r ws) (clear_of r ws) ≡ true
+union_clear_others from until r ws some rise =
+    clear_kept (union r ws) r ws (recursion_from_All (λ x. not (meets r x) ≡ true → not (meets (union r ws) x) ≡ true) ws
+    (λ k d lt apart.
+      let clear : meets r (slice_index_or ws k d) ≡ false = not-true _ apart in
+      union_apart r (slice_index_or ws k d) ws some (rise_within from until ws k d rise lt).some clear (one_clear from until r ws k d rise lt clear)))
+
+-- and of ranges of which r and all the windows are clear
+pub union_clear : (from until : ℕ) (r : Frames) (ws xs : List Frames) → 1 ≤ r.len → RiseApart from xs until → list_any (meets r) xs ≡ false → AllByRecursion (λ w. is_clear w xs ≡ true) ws → is_clear (union r ws) xs ≡ true
+union_clear from until r ws [] some rise none all = refl
+union_clear from until r ws (x ∷ xs) some rise none all =
+    let parts = or_parts (meets r x) (list_any (meets r) xs) none in
+    let here : IsClearOfMet x r ws
+    = all_weaker (λ w. is_clear w (x ∷ xs) ≡ true) (λ w. meets r w ≡ true → meets x w ≡ false)
+      (λ w clear met. meets_swap x w ∙ not-true _ (and_parts (not (meets w x)) (is_clear w xs) clear).0) ws all in
+    let others : AllByRecursion (λ w. is_clear w xs ≡ true) ws
+    = all_weaker (λ w. is_clear w (x ∷ xs) ≡ true) (λ w. is_clear w xs ≡ true) (λ w clear. (and_parts (not (meets w x)) (is_clear w xs) clear).1) ws all in
+    and_from (not (meets (union r ws) x)) (is_clear (union r ws) xs) (union_apart r x ws some rise.1 parts.0 here) (union_clear (x.lo + x.len) until r ws xs some rise.2 parts.1 others)

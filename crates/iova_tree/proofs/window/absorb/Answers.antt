@@ -1,6 +1,6 @@
 use Rattle.std.proofs.Common.{◌≡◌, true, false, arith}
 use Rattle.iova_range.specs.Frames.{meets}
-use Rattle.iova_tree.proofs.Unions.{absorbs_join, absorbs_keep}
+use Rattle.iova_tree.proofs.Absorbing.{absorbs_join, absorbs_keep}
 use Rattle.iova_tree.proofs.window.absorb.Goals as goal
 
 pub loop-i-preserved-then-meets : goal.loop-i-preserved-then-meets

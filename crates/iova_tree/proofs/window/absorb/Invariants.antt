@@ -1,5 +1,5 @@
 use Rattle.std.proofs.Common.{◌≡◌, ◌≤◌, vec_len, vec_capacity}
-use Rattle.iova_tree.proofs.Unions.{Absorbs}
+use Rattle.iova_tree.proofs.Absorbing.{Absorbs}
 use Rattle.iova_tree.proofs.window.absorb.Given as goal
 
 abbrev pub invariant-loop-i : goal.invariant-loop-i
