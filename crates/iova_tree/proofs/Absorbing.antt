@@ -1,9 +1,8 @@
 -- How a walk over the windows makes the union of a window with those that it meets.
-use Rattle.std.proofs.Common.{ℕ, zero, suc, ◌≡◌, ◌+◌, ◌-◌, ◌<◌, ◌≤◌, ◌&&◌, Bool, true, false, not, cond, ◌⊎◌, inl, inr, List, [], ◌∷◌, ◌++◌, length, take, drop, slice_index_or, min, refl, sym, ap, ◌∙◌, arith}
-use Rattle.std.specs.Prelude.{All, remove, filter}
+use Rattle.std.proofs.Common.{ℕ, zero, suc, ◌≡◌, ◌-◌, ◌<◌, ◌≤◌, true, false, List, ◌∷◌, ◌++◌, length, take, drop, slice_index_or, refl, sym, ap, ◌∙◌, arith}
+use Rattle.std.specs.Prelude.{All, remove}
 use Rattle.std.proofs.Math.Seq.{drop-cons, take-suc, take-length, drop-length}
 use Rattle.std.proofs.lemmas.List.{take-append-le, take-take, drop_at, length-take-le, get_or_append_left, get_or-take, append-nil, append_assoc, length-append, get_or_default}
-use Rattle.std.proofs.lemmas.Bool.{cond-true, cond-false}
 use Rattle.iova_range.specs.Frames.{Frames, meets}
 use Rattle.iova_model.specs.Next.{join, union}
 use Rattle.iova_tree.specs.Space.{clear_of}

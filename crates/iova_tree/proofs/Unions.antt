@@ -1,9 +1,9 @@
 -- The union of a window with those that it meets: where it lies, and what it is clear of.
-use Rattle.std.proofs.Common.{ℕ, ◌≡◌, ◌+◌, ◌<◌, ◌≤◌, ◌||◌, Bool, true, false, not, ◌⊎◌, inl, inr, List, [], ◌∷◌, length, slice_index_or, refl, sym, ap, ◌∙◌, arith}
+use Rattle.std.proofs.Common.{ℕ, ◌≡◌, ◌+◌, ◌<◌, ◌≤◌, true, false, not, ◌⊎◌, inl, inr, List, [], ◌∷◌, length, slice_index_or, refl, ◌∙◌, arith}
 use Rattle.std.specs.List.{AllByRecursion, list_any}
 use Rattle.std.proofs.lemmas.List.{get_or_default}
 use Rattle.std.proofs.lemmas.List.Elements.{recursion_from_All}
-use Rattle.std.proofs.lemmas.Bool.{and_parts, and_from, or_parts, cond_both, cases_order, not-true, not_from_false}
+use Rattle.std.proofs.lemmas.Bool.{and_parts, and_from, or_parts, cond_both, cases_order, not-true}
 use Rattle.std.proofs.lemmas.Bool.Decides.{nat_tests}
 use Rattle.iova_range.specs.Frames.{Frames, meets}
 use Rattle.iova_model.specs.Fit.{is_clear}
@@ -92,9 +92,9 @@ one_clear : (from until : ℕ) (r : Frames) (ws : List Frames) (k : ℕ) (d : Fr
 one_clear from until r ws k d rise lt apart =
     recursion_from_All (λ w. meets r w ≡ true → meets (slice_index_or ws k d) w ≡ false) ws
     (λ j e within met.
-      let same : slice_index_or ws j e ≡ slice_index_or ws j d = get_or_default ws j e d within in
-      let met_j : meets r (slice_index_or ws j d) ≡ true = rw same at met in
-      rw same (other_apart from until ws k j d rise lt within (λ (is : k ≡ j). let met_k : meets r (slice_index_or ws k d) ≡ true = rw is met_j in cc)))
+    let same : slice_index_or ws j e ≡ slice_index_or ws j d = get_or_default ws j e d within in
+    let met_j : meets r (slice_index_or ws j d) ≡ true = rw same at met in
+    rw same (other_apart from until ws k j d rise lt within (λ (is : k ≡ j). let met_k : meets r (slice_index_or ws k d) ≡ true = rw is met_j in cc)))
 
 clear_kept : (u r : Frames) (xs : List Frames) → AllByRecursion (λ x. not (meets r x) ≡ true → not (meets u x) ≡ true) xs → is_clear u (clear_of r xs) ≡ true
 clear_kept u r [] all = refl
@@ -109,8 +109,8 @@ pub union_clear_others : (from until : ℕ) (r : Frames) (ws : List Frames) → 
 union_clear_others from until r ws some rise =
     clear_kept (union r ws) r ws (recursion_from_All (λ x. not (meets r x) ≡ true → not (meets (union r ws) x) ≡ true) ws
     (λ k d lt apart.
-      let clear : meets r (slice_index_or ws k d) ≡ false = not-true _ apart in
-      union_apart r (slice_index_or ws k d) ws some (rise_within from until ws k d rise lt).some clear (one_clear from until r ws k d rise lt clear)))
+    let clear : meets r (slice_index_or ws k d) ≡ false = not-true _ apart in
+    union_apart r (slice_index_or ws k d) ws some (rise_within from until ws k d rise lt).some clear (one_clear from until r ws k d rise lt clear)))
 
 -- and of ranges of which r and all the windows are clear
 pub union_clear : (from until : ℕ) (r : Frames) (ws xs : List Frames) → 1 ≤ r.len → RiseApart from xs until → list_any (meets r) xs ≡ false → AllByRecursion (λ w. is_clear w xs ≡ true) ws → is_clear (union r ws) xs ≡ true
@@ -119,7 +119,7 @@ union_clear from until r ws (x ∷ xs) some rise none all =
     let parts = or_parts (meets r x) (list_any (meets r) xs) none in
     let here : IsClearOfMet x r ws
     = all_weaker (λ w. is_clear w (x ∷ xs) ≡ true) (λ w. meets r w ≡ true → meets x w ≡ false)
-      (λ w clear met. meets_swap x w ∙ not-true _ (and_parts (not (meets w x)) (is_clear w xs) clear).0) ws all in
+    (λ w clear met. meets_swap x w ∙ not-true _ (and_parts (not (meets w x)) (is_clear w xs) clear).0) ws all in
     let others : AllByRecursion (λ w. is_clear w xs ≡ true) ws
     = all_weaker (λ w. is_clear w (x ∷ xs) ≡ true) (λ w. is_clear w xs ≡ true) (λ w clear. (and_parts (not (meets w x)) (is_clear w xs) clear).1) ws all in
     and_from (not (meets (union r ws) x)) (is_clear (union r ws) xs) (union_apart r x ws some rise.1 parts.0 here) (union_clear (x.lo + x.len) until r ws xs some rise.2 parts.1 others)

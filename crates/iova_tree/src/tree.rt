@@ -148,3 +148,6 @@ impl Tree {
         Ok(window)
     }
 }
+
+#[cfg(test)]
+mod tests;

@@ -1,5 +1,4 @@
-use Rattle.std.proofs.Common.{◌≡◌, true, false, arith}
-use Rattle.iova_range.specs.Frames.{meets}
+use Rattle.std.proofs.Common.{arith}
 use Rattle.iova_tree.proofs.Absorbing.{absorbs_join, absorbs_keep}
 use Rattle.iova_tree.proofs.window.absorb.Goals as goal
 
