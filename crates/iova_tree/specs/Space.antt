@@ -1,9 +1,12 @@
 -- The ranges of a tree.
-use Rattle.std.specs.Prelude.{ℕ, ◌≡◌, ◌+◌, ◌-◌, ◌%◌, ◌<◌, ◌≤◌, ◌⊎◌, true, List, [], ◌∷◌, ◌++◌, length, Option, Some, None, slice_index_or}
-use Rattle.std.specs.List.{AllByRecursion}
-use Rattle.iova_range.specs.Frames.{Frames}
+use Rattle.std.specs.Prelude.{ℕ, ◌≡◌, ◌+◌, ◌-◌, ◌%◌, ◌<◌, ◌≤◌, ◌⊎◌, Bool, true, not, ◌||◌, nat_lt, List, [], ◌∷◌, ◌++◌, length, filter, Option, Some, None, slice_index_or}
+use Rattle.std.specs.List.{AllByRecursion, list_any}
+use Rattle.iova_range.specs.declared.refusal.Refusal.{Refusal}
+use Rattle.iova_range.specs.declared.refusal.Refusal.TheVariants as refusal
+use Rattle.iova_range.specs.Frames.{Frames, meets}
 use Rattle.iova_range.specs.Bounds.{Extent, IsExtent}
 use Rattle.iova_model.specs.Fit.{is_clear}
+use Rattle.iova_model.specs.Next.{first_refusal, from_to, windows_with}
 
 -- What a `Tree` is seen as: the bounds; the ranges that were inserted; the windows. Both rise by first frame.
 pub record Space : Type 0 where
@@ -55,3 +58,21 @@ pub record PicksSecond (xs ys : List Frames) (i j : ℕ) (picked : Frames × ℕ
 
 abbrev pub Picks : List Frames → List Frames → ℕ → ℕ → Frames × ℕ × ℕ → Type 0
 Picks xs ys i j picked = PicksFirst xs ys i j picked ⊎ PicksSecond xs ys i j picked
+
+-- Windows.
+
+-- what the window of the frames lo to hi may be refused for, in this order
+abbrev pub window_tests : Space → ℕ → ℕ → List (Bool × Refusal)
+window_tests s lo hi =
+    (nat_lt hi lo || nat_lt lo s.bounds.start || nat_lt s.bounds.last hi, refusal.BadWindow)
+    ∷ (list_any (meets (from_to lo hi)) s.inserted, refusal.Taken)
+    ∷ (nat_lt 64 (length (windows_with (from_to lo hi) s.windows)), refusal.WindowsFull)
+    ∷ []
+
+-- what it is refused for with ample memory, if it is
+abbrev pub reserve_refusal : Space → ℕ → ℕ → Option Refusal
+reserve_refusal s lo hi = first_refusal (window_tests s lo hi)
+
+-- the ranges that have no frame in common with r
+abbrev pub clear_of : Frames → List Frames → List Frames
+clear_of r ranges = filter (λ w. not (meets r w)) ranges

@@ -1,9 +1,11 @@
-ghost use Rattle.std.specs.Prelude.{◌≡◌, ◌+◌, ◌≤◌, ◌<◌, [], IfOk, OnOk, OnErr, IsTrue, ◌↔◌, IsSome, Some, find, false, true};
+ghost use Rattle.std.specs.Prelude.{◌≡◌, ◌+◌, ◌≤◌, ◌<◌, [], length, IfOk, OnOk, OnErr, IsOkUnless, IsTrue, ◌↔◌, IsSome, IfSome, IfNone, Some, find, false, true};
 ghost use Rattle.iova_model.specs.Fit.{IsBest, best, is_covered, is_clear};
 ghost use Rattle.iova_model.specs.Clients.{insert_rising, remove_at, begins_at};
-ghost use Rattle.iova_tree.specs.Space.{Space, ranges_of, IsInside, IsSpace};
+ghost use Rattle.iova_model.specs.Next.{from_to, union, windows_with};
+ghost use Rattle.iova_tree.specs.Space.{Space, ranges_of, IsInside, IsSpace, reserve_refusal};
 
 use crate::place::{has_frame, last_aligned, pick, place_of};
+use crate::window::{absorb, count_clear, meets_any};
 use iova_range::bounds::Bounds;
 use iova_range::range::Range;
 use iova_range::refusal::Refusal;
@@ -30,6 +32,9 @@ impl Model for Tree {
 }
 
 impl Tree {
+    /// The most windows.
+    pub const MAX_WINDOWS: usize = 64;
+
     /// A tree with nothing allocated.
     pub fn new(alloc: Global, bounds: Bounds) -> Result<Self, Refusal>
         ensures value { IfOk result (λ t. t ≡ record { bounds = bounds; inserted = []; windows = [] }) }
@@ -109,4 +114,49 @@ impl Tree {
             && !has_frame(&self.windows, frame)
             && !has_frame(&self.inserted, frame)
     }
+
+    /// The windows, rising by first frame and with no frame in common, at most 64.
+    #[inline]
+    pub fn windows(&self) -> &[Range]
+        ensures value { result.now ≡ self.now.windows }
+        ensures few { length result.now ≤ Self.MAX_WINDOWS }
+        ensures space { IsSpace self.now }
+    {
+        &self.windows
+    }
+
+    /// Makes one window of the frames `lo` to `hi`, both inside, and of all windows that have a frame in common with
+    /// them, and gives it. Windows that only touch stay apart. A refusal leaves the tree as it was. The first of these
+    /// that holds is the answer: `BadWindow` where `lo` is above `hi` or one of them isn't inside the bounds; `Taken`
+    /// where one of the frames is in an inserted range; `WindowsFull` where there would be 65 windows; `NoMemory` where
+    /// the list of windows cannot grow (Linux 5.15 `drivers/iommu/iova.c`: `reserve_iova`; the limit, and that one
+    /// window of all is left, are our own).
+    pub fn reserve(&mut self, lo: u64, hi: u64) -> Result<Range, Refusal>
+        ensures refused { IfSome (reserve_refusal self.old lo hi) (λ refusal. result ≡ Err refusal) }
+        ensures accepted { IfNone (reserve_refusal self.old lo hi) (IsOkUnless result Refusal.NoMemory) }
+        ensures window { IfOk result (λ w. w ≡ union (from_to lo hi) self.old.windows) }
+        ensures windows { OnOk result (self.new ≡ record self.old { windows = windows_with (from_to lo hi) self.old.windows }) }
+        ensures unchanged { OnErr result (self.new ≡ self.old) }
+    {
+        if lo > hi || lo < self.bounds.start() || hi > self.bounds.last() {
+            return Err(Refusal::BadWindow);
+        }
+        let asked = Range::new(lo, hi - lo + 1);
+        if meets_any(&self.inserted, asked) {
+            return Err(Refusal::Taken);
+        }
+        if count_clear(&self.windows, asked) >= Self::MAX_WINDOWS {
+            return Err(Refusal::WindowsFull);
+        }
+        let Ok(()) = self.windows.reserve(1) else {
+            return Err(Refusal::NoMemory);
+        };
+        let window = absorb(&mut self.windows, asked);
+        let at = place_of(&self.windows, window.lo());
+        self.windows.insert(at, window).unwrap();
+        Ok(window)
+    }
 }
+
+#[cfg(test)]
+mod tests;
