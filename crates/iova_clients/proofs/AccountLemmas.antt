@@ -5,5 +5,5 @@ use Rattle.iova_clients.specs.Accounts.{Account}
 
 pub same_account : (worker : ℕ) (sac closing : Bool) (hs gs : List Frames) (m n : ℕ) → hs ≡ gs → m ≡ n
     → ◌≡◌ {A = Account} (record { worker = worker; sac = sac; closing = closing; holdings = hs; spare = m })
-      (record { worker = worker; sac = sac; closing = closing; holdings = gs; spare = n })
+    (record { worker = worker; sac = sac; closing = closing; holdings = gs; spare = n })
 same_account worker sac closing hs gs m n e f = cc

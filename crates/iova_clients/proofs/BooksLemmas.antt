@@ -34,12 +34,12 @@ sums_moved change worker cs ds s t lt moved_all moved_shares all mine others h =
   where
     step : (w : ℕ) → w < 16 → (b : Bool) → (w == worker) ≡ b → share_at w (with_share worker change s.shares) ≡ share_of w ds
     step w w_lt true is =
-      let e : w ≡ worker = grind (arith, nat_tests) in
-      rw e (get_or-set_same s.shares worker (change (share_at worker s.shares)) no_totals (omega (arith, h.workers))
+        let e : w ≡ worker = grind (arith, nat_tests) in
+        rw e (get_or-set_same s.shares worker (change (share_at worker s.shares)) no_totals (omega (arith, h.workers))
         ∙ (ap change (h.shares worker lt ∙ share_of-by worker cs) ∙ (sym mine ∙ sym (share_of-by worker ds))))
     step w w_lt false is =
-      let ne : w ≢ worker = grind (arith, nat_tests) in
-      get_or-set_other s.shares worker w (change (share_at worker s.shares)) no_totals ne
+        let ne : w ≢ worker = grind (arith, nat_tests) in
+        get_or-set_other s.shares worker w (change (share_at worker s.shares)) no_totals ne
         ∙ (h.shares w w_lt ∙ (share_of-by w cs ∙ (sym (others w ne) ∙ sym (share_of-by w ds))))
 
 other_worker : (c : Client) (w : ℕ) → w ≢ c.worker → is_of w c ≡ false
@@ -58,10 +58,10 @@ pub sums_given : (id : ℕ) (r : Frames) (c : Client) (cs : List Client) (s t : 
     → AreSumsOf cs s → AreSumsOf (changed id (with_holding r) cs) t
 sums_given id r c cs s t q lt moved_all moved_shares h =
     sums_moved (with_one r) c.worker cs (changed id (with_holding r) cs) s t lt moved_all moved_shares
-      (totals_given everyone id r c cs q refl refl)
-      (totals_given (is_of c.worker) id r c cs q (same_worker c) (same_worker c))
-      (λ w ne. totals_passed_by (is_of w) id (with_holding r) c cs q (other_worker c w ne) (other_worker c w ne))
-      h
+    (totals_given everyone id r c cs q refl refl)
+    (totals_given (is_of c.worker) id r c cs q (same_worker c) (same_worker c))
+    (λ w ne. totals_passed_by (is_of w) id (with_holding r) c cs q (other_worker c w ne) (other_worker c w ne))
+    h
 
 pub sums_taken : (id lo : ℕ) (r : Frames) (c : Client) (cs : List Client) (s t : Sums) → client_with id cs ≡ Some c → c.worker < 16
     → find (begins_at lo) c.holdings ≡ Some r
@@ -69,10 +69,10 @@ pub sums_taken : (id lo : ℕ) (r : Frames) (c : Client) (cs : List Client) (s t
     → AreSumsOf cs s → AreSumsOf (changed id (without_holding lo) cs) t
 sums_taken id lo r c cs s t q lt held moved_all moved_shares h =
     sums_moved (without_one r) c.worker cs (changed id (without_holding lo) cs) s t lt moved_all moved_shares
-      (Leaves-without r _ _ (totals_taken everyone id lo r c cs q held refl refl))
-      (Leaves-without r _ _ (totals_taken (is_of c.worker) id lo r c cs q held (same_worker c) (same_worker c)))
-      (λ w ne. totals_passed_by (is_of w) id (without_holding lo) c cs q (other_worker c w ne) (other_worker c w ne))
-      h
+    (Leaves-without r _ _ (totals_taken everyone id lo r c cs q held refl refl))
+    (Leaves-without r _ _ (totals_taken (is_of c.worker) id lo r c cs q held (same_worker c) (same_worker c)))
+    (λ w ne. totals_passed_by (is_of w) id (without_holding lo) c cs q (other_worker c w ne) (other_worker c w ne))
+    h
 
 pub sums_forgotten : (id : ℕ) (c : Client) (cs : List Client) (s : Sums) → client_with id cs ≡ Some c → c.holdings ≡ [] → AreSumsOf cs s → AreSumsOf (forgotten id cs) s
 sums_forgotten id c cs s q none h =
@@ -99,4 +99,4 @@ pub share_includes : (id lo : ℕ) (r : Frames) (c : Client) (cs : List Client) 
     → c.worker < 16 → AreSumsOf cs s → Include r (share_at c.worker s.shares)
 share_includes id lo r c cs s q held lt sums =
     rw (sums.shares c.worker lt ∙ share_of-by c.worker cs)
-      (Leaves-include r _ (totals_by (is_of c.worker) (changed id (without_holding lo) cs)) (totals_taken (is_of c.worker) id lo r c cs q held (same_worker c) (same_worker c)))
+    (Leaves-include r _ (totals_by (is_of c.worker) (changed id (without_holding lo) cs)) (totals_taken (is_of c.worker) id lo r c cs q held (same_worker c) (same_worker c)))

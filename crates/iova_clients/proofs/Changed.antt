@@ -192,10 +192,10 @@ clients-set id a w (e ∷ es) q same = step (is_serial id e.0) refl q (λ later.
     step : (b : Bool) → is_serial id e.0 ≡ b → cond b (Some e.1) (lookup (is_serial id) es) ≡ Some a → (lookup (is_serial id) es ≡ Some a → clients_at (set_value (is_serial id) es w) ≡ clients_at es)
         → clients_at (cond b ((e.0, w) ∷ es) (e ∷ set_value (is_serial id) es w)) ≡ client_at e ∷ clients_at es
     step true this is ih =
-      let serial : e.0 ≡ id = grind (arith, nat_tests) in
-      let mine : a ≡ e.1 = cc in
-      let now : client_at (e.0, w) ≡ client_at e = ap (λ k. client_at (k, w)) serial ∙ (same ∙ (ap (λ x. client_at (id, x)) mine ∙ ap (λ k. client_at (k, e.1)) (sym serial))) in
-      ap (λ c. c ∷ clients_at es) now
+        let serial : e.0 ≡ id = grind (arith, nat_tests) in
+        let mine : a ≡ e.1 = cc in
+        let now : client_at (e.0, w) ≡ client_at e = ap (λ k. client_at (k, w)) serial ∙ (same ∙ (ap (λ x. client_at (id, x)) mine ∙ ap (λ k. client_at (k, e.1)) (sym serial))) in
+        ap (λ c. c ∷ clients_at es) now
     step false this is ih = ap (λ cs. client_at e ∷ cs) (ih is)
 
 pub lookup_none : (id : ℕ) (es : List (ℕ × Account)) → client_with id (clients_at es) ≡ None → lookup (is_serial id) es ≡ None

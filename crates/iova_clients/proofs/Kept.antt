@@ -82,9 +82,9 @@ SerialsRise-changed below id f c (x ∷ cs) last h q same = step (has_id id x) q
     step : (b : Bool) → cond b (Some x) (client_with id cs) ≡ Some c → (client_with id cs ≡ Some c → SerialsRise x.id (changed id f cs) last)
         → SerialsRise below (cond b (f x ∷ cs) (x ∷ changed id f cs)) last
     step true is ih =
-      let mine : x ≡ c = cc in
-      let kept : (f x).id ≡ x.id = rw mine same in
-      rw kept h
+        let mine : x ≡ c = cc in
+        let kept : (f x).id ≡ x.id = rw mine same in
+        rw kept h
     step false is ih = (h.0, ih is)
 
 pub SerialsRise-forgotten : (below id : ℕ) (cs : List Client) (last : ℕ) → SerialsRise below cs last → SerialsRise below (forgotten id cs) last
@@ -195,6 +195,7 @@ Rises-inserted from r (x ∷ hs) h le new = step (begins_at r.lo x) refl new (λ
         → Rises from (cond b (r ∷ x ∷ hs) (x ∷ insert_rising r hs))
     place true is ne none ih = let lt : r.lo < x.lo = grind (arith, nat_tests) in (le, (omega arith, h.1))
     place false is ne none ih = let at : x.lo ≤ r.lo = grind (arith, nat_tests) in (h.0, ih (omega (arith, ne)) none)
+
     step : (b : Bool) → begins_at r.lo x ≡ b → cond b (Some x) (find (begins_at r.lo) hs) ≡ None
         → (x.lo + 1 ≤ r.lo → find (begins_at r.lo) hs ≡ None → Rises (x.lo + 1) (insert_rising r hs))
         → Rises from (insert_rising r (x ∷ hs))

@@ -46,7 +46,7 @@ insert_at_point r (x ∷ rs) (suc i) le p =
     let below : nat_le x.lo r.lo ≡ true = p.0 0 r (omega arith) (omega arith) in
     let later : nat_lt r.lo x.lo ≡ false = grind (arith, nat_tests) in
     rw later (ap (λ l. x ∷ l)
-      (insert_at_point r rs i (omega arith) (λ k d low high. p.0 (suc k) d (omega arith) (omega arith), λ k d low high. p.1 (suc k) d (omega arith) (omega arith))))
+    (insert_at_point r rs i (omega arith) (λ k d low high. p.0 (suc k) d (omega arith) (omega arith), λ k d low high. p.1 (suc k) d (omega arith) (omega arith))))
 
 -- Taking out.
 
@@ -103,7 +103,7 @@ pub searched_none : (from lo : ℕ) (rs : List Frames) (r : Result ℕ ℕ) → 
 searched_none from lo rs (Ok j) rises h is = absurd (let bad : Some j ≡ None = is in cc)
 searched_none from lo rs (Err i) rises h is =
     let up : IsNonDecreasingBy (λ (x : Frames). ordering_index (nat_cmp x.lo lo)) rs =
-      λ a b d le lt. index_rises (get_or rs a d).lo (get_or rs b d).lo lo (Rises-non_decreasing from rs rises a b d le lt) in
+    λ a b d le lt. index_rises (get_or rs a d).lo (get_or rs b d).lo lo (Rises-non_decreasing from rs rises a b d le lt) in
     let point = h up in
     find_none lo rs (λ k d lt. split k d lt (nat_lt k i) refl point)
   where

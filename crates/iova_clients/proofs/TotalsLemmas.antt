@@ -85,11 +85,11 @@ sum_changed m id f c (x ∷ cs) q = step (has_id id x) q (λ later. sum_changed 
     step : (b : Bool) → cond b (Some x) (client_with id cs) ≡ Some c → (client_with id cs ≡ Some c → sum_by m (changed id f cs) + m c ≡ sum_by m cs + m (f c))
         → sum_by m (cond b (f x ∷ cs) (x ∷ changed id f cs)) + m c ≡ sum_by m (x ∷ cs) + m (f c)
     step true is ih =
-      let mine : x ≡ c = cc in
-      rw mine (let a = sum_by-cons m (f c) cs in let b = sum_by-cons m c cs in omega arith)
+        let mine : x ≡ c = cc in
+        rw mine (let a = sum_by-cons m (f c) cs in let b = sum_by-cons m c cs in omega arith)
     step false is ih =
-      let later = ih is in
-      let a = sum_by-cons m x (changed id f cs) in let b = sum_by-cons m x cs in omega arith
+        let later = ih is in
+        let a = sum_by-cons m x (changed id f cs) in let b = sum_by-cons m x cs in omega arith
 
 pub sum_forgotten : (m : Client → ℕ) (id : ℕ) (c : Client) (cs : List Client) → client_with id cs ≡ Some c
     → sum_by m (forgotten id cs) + m c ≡ sum_by m cs
@@ -99,11 +99,11 @@ sum_forgotten m id c (x ∷ cs) q = step (has_id id x) q (λ later. sum_forgotte
     step : (b : Bool) → cond b (Some x) (client_with id cs) ≡ Some c → (client_with id cs ≡ Some c → sum_by m (forgotten id cs) + m c ≡ sum_by m cs)
         → sum_by m (cond b cs (x ∷ forgotten id cs)) + m c ≡ sum_by m (x ∷ cs)
     step true is ih =
-      let mine : x ≡ c = cc in
-      rw mine (let b = sum_by-cons m c cs in omega arith)
+        let mine : x ≡ c = cc in
+        rw mine (let b = sum_by-cons m c cs in omega arith)
     step false is ih =
-      let later = ih is in
-      let a = sum_by-cons m x (forgotten id cs) in let b = sum_by-cons m x cs in omega arith
+        let later = ih is in
+        let a = sum_by-cons m x (forgotten id cs) in let b = sum_by-cons m x cs in omega arith
 
 -- no term changes
 pub sum_kept : (m : Client → ℕ) (id : ℕ) (f : Client → Client) (c : Client) (cs : List Client) → client_with id cs ≡ Some c → m (f c) ≡ m c
@@ -145,18 +145,18 @@ pub totals_kept : (p : Client → Bool) (id : ℕ) (f : Client → Client) (c : 
     → p (f c) ≡ p c → (f c).holdings ≡ c.holdings → totals_by p (changed id f cs) ≡ totals_by p cs
 totals_kept p id f c cs q tests holdings =
     same_totals _ _ _ _ _ _
-      (sum_kept (passing p count_of) id f c cs q (rw (tests, holdings) refl))
-      (sum_kept (passing p frames_of) id f c cs q (rw (tests, holdings) refl))
-      (sum_kept (passing p sum_lo_of) id f c cs q (rw (tests, holdings) refl))
+    (sum_kept (passing p count_of) id f c cs q (rw (tests, holdings) refl))
+    (sum_kept (passing p frames_of) id f c cs q (rw (tests, holdings) refl))
+    (sum_kept (passing p sum_lo_of) id f c cs q (rw (tests, holdings) refl))
 
 -- a client that doesn't pass changes nothing
 pub totals_passed_by : (p : Client → Bool) (id : ℕ) (f : Client → Client) (c : Client) (cs : List Client) → client_with id cs ≡ Some c
     → p (f c) ≡ false → p c ≡ false → totals_by p (changed id f cs) ≡ totals_by p cs
 totals_passed_by p id f c cs q after before =
     same_totals _ _ _ _ _ _
-      (sum_kept (passing p count_of) id f c cs q (rw (after, before) refl))
-      (sum_kept (passing p frames_of) id f c cs q (rw (after, before) refl))
-      (sum_kept (passing p sum_lo_of) id f c cs q (rw (after, before) refl))
+    (sum_kept (passing p count_of) id f c cs q (rw (after, before) refl))
+    (sum_kept (passing p frames_of) id f c cs q (rw (after, before) refl))
+    (sum_kept (passing p sum_lo_of) id f c cs q (rw (after, before) refl))
 
 passing_given : (p : Client → Bool) (m : Client → ℕ) (g : ℕ) (id : ℕ) (f : Client → Client) (c : Client) (cs : List Client) → client_with id cs ≡ Some c
     → p (f c) ≡ true → p c ≡ true → m (f c) ≡ m c + g → sum_by (passing p m) (changed id f cs) ≡ sum_by (passing p m) cs + g
@@ -176,9 +176,9 @@ pub totals_given : (p : Client → Bool) (id : ℕ) (r : Frames) (c : Client) (c
     → p (with_holding r c) ≡ true → p c ≡ true → totals_by p (changed id (with_holding r) cs) ≡ with_one r (totals_by p cs)
 totals_given p id r c cs q after before =
     same_totals _ _ _ _ _ _
-      (passing_given p count_of 1 id (with_holding r) c cs q after before (length-insert_rising r c.holdings))
-      (passing_given p frames_of r.len id (with_holding r) c cs q after before (sum_inserted (λ x. x.len) r c.holdings))
-      (passing_given p sum_lo_of r.lo id (with_holding r) c cs q after before (sum_inserted (λ x. x.lo) r c.holdings))
+    (passing_given p count_of 1 id (with_holding r) c cs q after before (length-insert_rising r c.holdings))
+    (passing_given p frames_of r.len id (with_holding r) c cs q after before (sum_inserted (λ x. x.len) r c.holdings))
+    (passing_given p sum_lo_of r.lo id (with_holding r) c cs q after before (sum_inserted (λ x. x.lo) r c.holdings))
 
 -- each of three sums has the holding that leaves
 pub record Leaves (r : Frames) (old new : Totals) : Type 0 where
@@ -212,9 +212,9 @@ pub totals_forgotten : (p : Client → Bool) (id : ℕ) (c : Client) (cs : List 
     → totals_by p (forgotten id cs) ≡ totals_by p cs
 totals_forgotten p id c cs q none =
     same_totals _ _ _ _ _ _
-      (passing_forgotten p count_of id c cs q (ap length none))
-      (passing_forgotten p frames_of id c cs q (ap (λ hs. sum_by (λ r. r.len) hs) none))
-      (passing_forgotten p sum_lo_of id c cs q (ap (λ hs. sum_by (λ r. r.lo) hs) none))
+    (passing_forgotten p count_of id c cs q (ap length none))
+    (passing_forgotten p frames_of id c cs q (ap (λ hs. sum_by (λ r. r.len) hs) none))
+    (passing_forgotten p sum_lo_of id c cs q (ap (λ hs. sum_by (λ r. r.lo) hs) none))
 
 passing_push : (p : Client → Bool) (m : Client → ℕ) (c : Client) (cs : List Client) → m c ≡ 0 → sum_by (passing p m) (cs ++ c ∷ []) ≡ sum_by (passing p m) cs
 passing_push p m c cs none =
@@ -230,9 +230,9 @@ passing_push p m c cs none =
 pub totals_push : (p : Client → Bool) (c : Client) (cs : List Client) → c.holdings ≡ [] → totals_by p (cs ++ c ∷ []) ≡ totals_by p cs
 totals_push p c cs none =
     same_totals _ _ _ _ _ _
-      (passing_push p count_of c cs (ap length none))
-      (passing_push p frames_of c cs (ap (λ hs. sum_by (λ r. r.len) hs) none))
-      (passing_push p sum_lo_of c cs (ap (λ hs. sum_by (λ r. r.lo) hs) none))
+    (passing_push p count_of c cs (ap length none))
+    (passing_push p frames_of c cs (ap (λ hs. sum_by (λ r. r.len) hs) none))
+    (passing_push p sum_lo_of c cs (ap (λ hs. sum_by (λ r. r.lo) hs) none))
 
 -- How large the sums can be.
 

@@ -9,6 +9,8 @@ ghost use Rattle.iova_clients.specs.Registry.{empty_registry, spare_of, IsRegist
 mod ledger;
 mod ledgers;
 mod sums;
+#[cfg(test)]
+mod tests;
 
 use crate::ledger::Ledger;
 use crate::ledgers::Ledgers;

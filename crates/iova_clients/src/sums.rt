@@ -4,9 +4,6 @@ ghost use Rattle.iova_clients.specs.Sums.{no_totals, with_one, without_one, shar
 use iova_model::totals::Totals;
 use iova_range::range::Range;
 
-/// How many workers a domain can have.
-pub(crate) const WORKERS: u64 = 16;
-
 const NO_TOTALS: Totals = Totals {
     count: 0,
     frames: 0,

@@ -61,10 +61,10 @@ invariant_of-self c =
     let low = client_is_low id es a _ refl c.self.invariant.registry found in
     let clients = changed-at id (with_holding r) a w es found (ap (λ x. client_at (id, x)) (sym c.add.ensures)) in
     let shares : c.add-2.new.self.shares ≡ with_share a.worker (with_one r) c.self.inside.sums.shares =
-      rw (c.worker-worker.ensures, c.add.ensures) at c.add-2.ensures.shares in
+    rw (c.worker-worker.ensures, c.add.ensures) at c.add-2.ensures.shares in
     record {
       registry = IsRegistry-changed id (with_holding r) (client_at (id, a)) _ _ c.self.invariant.registry client refl
-        (IsClient-given r (client_at (id, a)) is can.room can.new c.requires.sized) (all_inserted IsLow r a.holdings c.requires.low low) clients refl;
+          (IsClient-given r (client_at (id, a)) is can.room can.new c.requires.sized) (all_inserted IsLow r a.holdings c.requires.low low) clients refl;
       sums = rw clients (sums_given id r (client_at (id, a)) (clients_at es) c.self.inside.sums c.add-2.new.self client is.worker c.add-2.ensures.all shares c.self.invariant.sums);
     }
 

@@ -29,7 +29,7 @@ invariant_of-self-2 c =
     let clients = changed-at id marked a c.mark_closing.new.self es found (ap (λ x. client_at (id, x)) (sym c.mark_closing.ensures)) in
     record {
       registry = IsRegistry-changed id marked (client_at (id, a)) _ _ c.self.invariant.registry client refl
-        (record { worker = is.worker; room = is.room; rising = is.rising; sized = is.sized }) low clients refl;
+          (record { worker = is.worker; room = is.room; rising = is.rising; sized = is.sized }) low clients refl;
       sums = rw clients (sums_kept id marked (client_at (id, a)) (clients_at es) c.self.inside.sums client refl refl c.self.invariant.sums);
     }
 

@@ -19,7 +19,7 @@ invariant_of-self-2 c =
     let id = i.serial + 1 in
     let pushed : c.push.new.self ≡ i.ledgers ++ (id, c.new.result) ∷ [] = c.in_ok-push.ensures.ok in
     let clients : clients_at c.push.new.self ≡ clients_at i.ledgers ++ new_client id c.args.worker c.args.sac ∷ [] =
-      ap clients_at pushed ∙ (clients_at_push i.ledgers (id, c.new.result) ∙ ap (λ (a : Account). clients_at i.ledgers ++ client_at (id, a) ∷ []) c.new.ensures) in
+    ap clients_at pushed ∙ (clients_at_push i.ledgers (id, c.new.result) ∙ ap (λ (a : Account). clients_at i.ledgers ++ client_at (id, a) ∷ []) c.new.ensures) in
     let room : length (clients_at i.ledgers) < 1024 = (let same = length-map i.ledgers client_at in omega (arith, c.len.ensures, c.if-len-ge-MAX_CLIENTS.false)) in
     let fresh : i.serial < 2 ^ 63 - 1 = omega (arith, c.if-self-eq-LAST_SERIAL.false, inv.registry.clients.worn) in
     record {

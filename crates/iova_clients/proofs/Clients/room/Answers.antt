@@ -86,5 +86,5 @@ returns-clause-unchanged c =
     let a = c.in_ok-ledger.ledger.now in
     let found = found_mut c.get_mut.result c.in_ok-ledger.ledger _ c.get_mut.ensures.value (c.ok_or.ensures.ok_part ∙ ap (λ r. result_ok r) c.in_ok-ledger.was) in
     on_err_weaker c.room.result
-      (λ same. let kept = ap (λ x. set_value (is_serial c.args.id) es x) same ∙ set_value_same c.args.id a es found in rw kept c.self.view_is)
-      c.room.ensures.unchanged
+    (λ same. let kept = ap (λ x. set_value (is_serial c.args.id) es x) same ∙ set_value_same c.args.id a es found in rw kept c.self.view_is)
+    c.room.ensures.unchanged

@@ -107,10 +107,10 @@ invariant_of-self-2 c =
     let low = client_is_low id es a _ refl c.self.invariant.registry found in
     let clients = changed-at id (without_holding lo) a c.take.new.self es found (ap (λ x. client_at (id, x)) (sym now)) in
     let shares : c.remove.new.self.shares ≡ with_share a.worker (without_one r) c.self.inside.sums.shares =
-      rw (c.worker-worker.ensures, now) at c.remove.ensures.shares in
+    rw (c.worker-worker.ensures, now) at c.remove.ensures.shares in
     record {
       registry = IsRegistry-changed id (without_holding lo) (client_at (id, a)) _ _ c.self.invariant.registry client refl
-        (IsClient-taken lo (client_at (id, a)) is) (all_removed IsLow lo a.holdings low) clients refl;
+          (IsClient-taken lo (client_at (id, a)) is) (all_removed IsLow lo a.holdings low) clients refl;
       sums = rw clients (sums_taken id lo r (client_at (id, a)) (clients_at es) c.self.inside.sums c.remove.new.self client is.worker held c.remove.ensures.all shares c.self.invariant.sums);
     }
 

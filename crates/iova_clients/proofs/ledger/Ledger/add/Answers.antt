@@ -19,7 +19,7 @@ returns c =
     let placed = insert_at_point c.args.range c.as_slice.result.now c.partition_point-place.result c.partition_point-place.ensures.bound point in
     let room : vec_len l.holdings < vec_capacity l.holdings = (let spare = rw (← c.self.view_is) at c.requires.spare in omega arith) in
     let items : c.insert.new.self.items ≡ insert_rising c.args.range l.holdings.items =
-      rw c.unwrap.ensures at c.insert.ensures.items ∙ (rw same at placed) in
+    rw c.unwrap.ensures at c.insert.ensures.items ∙ (rw same at placed) in
     let len : vec_len c.insert.new.self ≡ vec_len l.holdings + 1 = rw c.unwrap.ensures at c.insert.ensures.len in
     let capacity : vec_capacity c.insert.new.self ≡ vec_capacity l.holdings = (c.insert.ensures.in_place room).1.0 in
     rw (← c.self.view_is) (same_account l.worker l.sac l.closing _ _ _ _ items (omega arith))

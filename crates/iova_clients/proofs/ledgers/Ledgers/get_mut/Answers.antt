@@ -23,7 +23,7 @@ invariant_of-self-lent c =
     λ w. let i = c.self.inside in
     let key = c.in_ok-key.key in
     let there = found_some (at_key i.slab) (is_serial c.args.id) key i.keys.entries c.self.invariant
-      (sym (lookup_at c.args.id i.keys.entries) ∙ (sym c.get.ensures.value ∙ (sym c.copied.ensures ∙ c.in_ok-key.was))) in
+    (sym (lookup_at c.args.id i.keys.entries) ∙ (sym c.get.ensures.value ∙ (sym c.copied.ensures ∙ c.in_ok-key.was))) in
     let updates = Updates-with_value i.slab key w there in
     keyed_set (at_key i.slab) (at_key (with_value i.slab key w)) key w i.keys.entries c.self.invariant updates.changed updates.others
 
@@ -35,8 +35,8 @@ returns c =
     let here = sym (lookup_at c.args.id i.keys.entries) ∙ was in
     let there = found_some (at_key i.slab) (is_serial c.args.id) key i.keys.entries c.self.invariant here in
     let written = λ (w : Account).
-      let updates = Updates-with_value i.slab key w there in
-      listed_set (at_key i.slab) (at_key (with_value i.slab key w)) (is_serial c.args.id) key w i.keys.entries c.self.invariant here updates.changed updates.others in
+    let updates = Updates-with_value i.slab key w there in
+    listed_set (at_key i.slab) (at_key (with_value i.slab key w)) (is_serial c.args.id) key w i.keys.entries c.self.invariant here updates.changed updates.others in
     let value = get_listed (at_key i.slab) c.args.id i.keys.entries (Some key) c.self.invariant was in
     rw (← c.self.view_is) (
       (λ i. inl (c.index_mut.result.ghost_name, λ w. written w i)),

@@ -10,4 +10,4 @@ invariant-loop-id l =
     (goal.iterator-loop-id).can_next l.id-iterator ×
     (goal.iterator-loop-id).is_finite l.id-iterator ×
     (find (λ e. is_covered l.frame e.1.holdings) (listed (at_key l.self-inside.slab) l.id-iterator)
-      ≡ find (λ e. is_covered l.frame e.1.holdings) (listed (at_key l.self-inside.slab) l.self-inside.keys.entries))
+    ≡ find (λ e. is_covered l.frame e.1.holdings) (listed (at_key l.self-inside.slab) l.self-inside.keys.entries))

@@ -1,0 +1,3 @@
+pub mod RingSteps
+pub mod Sound
+pub mod Taken

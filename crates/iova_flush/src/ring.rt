@@ -1,0 +1,244 @@
+ghost use Rattle.std.specs.Prelude.{◌≡◌, ◌≤◌, ◌<◌, ◌*◌, ◌↔◌, [], ◌∷◌, ◌++◌, length, IsTrue, IsErr, IsOkUnless, IfOk, IfErr, OnOk, OnErr, IfSome, IfNone, MatchOption};
+ghost use Rattle.std.specs.List.{list_any, AllByRecursion};
+ghost use Rattle.iova_range.specs.Frames.{covers};
+ghost use Rattle.iova_model.specs.Flushes.{entry_range, flushed, unflushed};
+ghost use Rattle.iova_model.specs.Valid.{IsRequestSizedEntry};
+ghost use Rattle.iova_flush.specs.Rings.{frame_count, OldestWaits};
+
+use crate::Entry;
+use circular_buffer::HeapCircularBuffer;
+use iova_range::refusal::Refusal;
+use iova_range::sizes::MAX_FRAMES;
+use std::alloc::Global;
+use std::marker::Model;
+
+/// How many entries a ring is full at.
+pub const MAX_ENTRIES: usize = 255;
+
+// One slot more than entries, as a ring that tells full from empty by its two ends needs
+// (`IOVA_FQ_SIZE` of Linux 5.15 `include/linux/iova.h`).
+const SLOTS: usize = 256;
+
+/// The ranges of one worker that wait for a flush, oldest first: at most 255 entries of 1 to 1,048,576 frames each
+/// (Linux 5.15 `include/linux/iova.h`: `iova_fq`). Contracts see it as the list of its entries.
+#[derive(Drop)]
+pub struct Ring {
+    entries: HeapCircularBuffer<Entry>,
+    frames: u64,
+}
+
+impl Model for Ring {
+    ghost use Rattle.std.specs.Prelude.{List};
+    ghost use Rattle.iova_model.specs.declared.entry.Entry.{Entry as E};
+    ghost use Rattle.iova_flush.specs.Rings.{IsKept};
+
+    ghost Value = { List E };
+
+    ghost view = { λ r. r.entries.items };
+
+    ghost invariant = { λ r. IsKept r.entries.capacity r.frames r.entries.items };
+}
+
+impl Ring {
+    /// A ring with no entry, and with the room for all that it will ever have: no other call of it takes memory.
+    /// Refused by `NoMemory` where there is no such room.
+    pub fn new(alloc: Global) -> Result<Self, Refusal>
+        ensures empty { IfOk result (λ ring. ring ≡ []) }
+        ensures refused { IsOkUnless result Refusal.NoMemory }
+    {
+        let Ok(entries) = HeapCircularBuffer::with_capacity(alloc, SLOTS) else {
+            return Err(Refusal::NoMemory);
+        };
+        Ok(Ring { entries, frames: 0 })
+    }
+
+    /// Puts the entry last; its length is 1 to 1,048,576 frames. Exactly where there are 255 entries, the ring stays as
+    /// it is and the entry comes back (Linux 5.15 `drivers/iommu/iova.c`: `queue_iova`, which flushes and drains a full
+    /// ring itself; that the entry comes back is our own).
+    pub fn add(&mut self, entry: Entry) -> Result<(), Entry>
+        requires some { 1 ≤ entry.len }
+        requires bounded { entry.len ≤ MAX_FRAMES }
+        ensures full { IsErr result ↔ (length self.old ≡ MAX_ENTRIES) }
+        ensures room { OnOk result (length self.old < MAX_ENTRIES) }
+        ensures added { OnOk result (self.new ≡ self.old ++ entry ∷ []) }
+        ensures returned { IfErr result (λ back. back ≡ entry) }
+        ensures unchanged { OnErr result (self.new ≡ self.old) }
+    {
+        if self.is_full() {
+            return Err(entry);
+        }
+        self.entries.push_back(entry);
+        self.frames += entry.len;
+        Ok(())
+    }
+
+    /// Takes the oldest entry, exactly where its count is below `finish`, the finish count of the flushes; else the ring
+    /// stays as it is. A caller drains a ring by calling this until it answers `None`
+    /// (Linux 5.15 `drivers/iommu/iova.c`: `fq_ring_free`).
+    pub fn take_flushed(&mut self, finish: u64) -> Option<Entry>
+        ensures oldest { IfSome result (λ entry. self.old ≡ entry ∷ self.new) }
+        ensures below { IfSome result (λ entry. entry.count < finish) }
+        ensures sized { IfSome result IsRequestSizedEntry }
+        ensures waits { IfNone result (OldestWaits finish self.old) }
+        ensures unchanged { IfNone result (self.new ≡ self.old) }
+
+        // What calls until `None` take out, and what they leave.
+        ensures next { MatchOption result (flushed finish self.old ≡ [])
+            (λ entry. flushed finish self.old ≡ entry ∷ flushed finish self.new) }
+        ensures rest { unflushed finish self.new ≡ unflushed finish self.old }
+        ensures left { IfNone result (unflushed finish self.new ≡ self.new) }
+    {
+        match self.entries.front() {
+            Some(entry) if entry.count < finish => {
+                self.frames -= entry.len;
+                self.entries.pop_front()
+            }
+            _ => None,
+        }
+    }
+
+    /// How many entries there are, at most 255.
+    #[inline]
+    pub fn len(&self) -> usize
+        ensures is { result ≡ length self.now }
+        ensures bounded { result ≤ MAX_ENTRIES }
+    {
+        self.entries.len()
+    }
+
+    /// Whether there is no entry.
+    #[inline]
+    pub fn is_empty(&self) -> bool
+        ensures empty { IsTrue result ↔ (self.now ≡ []) }
+    {
+        self.entries.is_empty()
+    }
+
+    /// Whether there are 255 entries, so that one more is refused.
+    #[inline]
+    pub fn is_full(&self) -> bool
+        ensures full { IsTrue result ↔ (length self.now ≡ MAX_ENTRIES) }
+        ensures bounded { length self.now ≤ MAX_ENTRIES }
+    {
+        self.len() == MAX_ENTRIES
+    }
+
+    /// How many frames the entries have together. The number is kept, so that this walks over nothing.
+    #[inline]
+    pub fn frames(&self) -> u64
+        ensures is { result ≡ frame_count self.now }
+        ensures bounded { result ≤ MAX_ENTRIES * MAX_FRAMES }
+        ensures sized { AllByRecursion IsRequestSizedEntry self.now }
+    {
+        self.frames
+    }
+
+    /// Whether an entry has the frame. It walks over the entries.
+    pub fn holds(&self, frame: u64) -> bool
+        ensures { result ≡ list_any (λ e. covers frame (entry_range e)) self.now }
+    {
+        self.entries.iter().any(|entry| has(entry, frame))
+    }
+}
+
+// Whether the frame is one of the entry's.
+fn has(entry: &Entry, frame: u64) -> bool
+    ensures { result ≡ covers frame (entry_range entry.now) }
+{
+    entry.lo <= frame && frame - entry.lo < entry.len
+}
+
+#[cfg(test)]
+mod tests {
+    use super::*;
+    use std::process::Abort;
+    use std::test::Fail;
+
+    // Two frames, 4 * number and the next one.
+    fn entry(number: u64) -> Entry
+        requires { number < 10000 }
+        ensures { result ≡ record { lo = 4 * number; len = 2; count = number } }
+    {
+        Entry {
+            lo: 4 * number,
+            len: 2,
+            count: number,
+        }
+    }
+
+    // Adds the entries of the numbers from `from` to below `end`.
+    fn fill(rt: &impl Abort, ring: &mut Ring, from: u64, end: u64)
+        requires { end < 10000 }
+    {
+        for number in from..end {
+            assert_eq!(rt; ring.add(entry(number)), Ok(()), "at {number}");
+        }
+    }
+
+    // Takes those entries out again, all that are below `end`.
+    fn drain(rt: &impl Abort, ring: &mut Ring, from: u64, end: u64)
+        requires { end < 10000 }
+    {
+        for number in from..end {
+            assert_eq!(rt; ring.take_flushed(end), Some(entry(number)), "at {number}");
+        }
+        assert_eq!(rt; ring.take_flushed(end), None);
+    }
+
+    #[test]
+    fn twice_around(rt: HostRuntime) -> Result<(), Fail> {
+        let mut ring = Ring::new(rt.alloc())?;
+        assert_eq!(rt; (ring.is_empty(), ring.len(), ring.frames()), (true, 0, 0));
+        assert_eq!(rt; ring.take_flushed(9), None);
+        assert_eq!(rt; ring.holds(0), false);
+
+        fill(&rt, &mut ring, 0, 254);
+        assert_eq!(rt;
+            (ring.is_full(), ring.len(), ring.frames()),
+            (false, 254, 508)
+        );
+        fill(&rt, &mut ring, 254, 255);
+        assert_eq!(rt;
+            (ring.is_full(), ring.len(), ring.frames()),
+            (true, 255, 510)
+        );
+        assert_eq!(rt; ring.add(entry(255)), Err(entry(255)));
+        assert_eq!(rt; (ring.len(), ring.frames()), (255, 510));
+        assert_eq!(rt;
+            (ring.holds(0), ring.holds(1), ring.holds(2)),
+            (true, true, false)
+        );
+        assert_eq!(rt; (ring.holds(1017), ring.holds(1020)), (true, false));
+
+        drain(&rt, &mut ring, 0, 100);
+        assert_eq!(rt;
+            (ring.is_empty(), ring.len(), ring.frames()),
+            (false, 155, 310)
+        );
+        assert_eq!(rt; (ring.holds(397), ring.holds(400)), (false, true));
+        fill(&rt, &mut ring, 255, 355);
+        assert_eq!(rt; (ring.is_full(), ring.holds(1417)), (true, true));
+        drain(&rt, &mut ring, 100, 355);
+        assert_eq!(rt;
+            (ring.is_empty(), ring.frames(), ring.holds(1417)),
+            (true, 0, false)
+        );
+
+        fill(&rt, &mut ring, 355, 610);
+        assert_eq!(rt; ring.add(entry(610)), Err(entry(610)));
+        drain(&rt, &mut ring, 355, 610);
+        assert_eq!(rt; (ring.is_empty(), ring.frames()), (true, 0));
+        Ok(())
+    }
+
+    #[test]
+    fn the_oldest_entry_waits_for_its_count(rt: HostRuntime) -> Result<(), Fail> {
+        let mut ring = Ring::new(rt.alloc())?;
+        fill(&rt, &mut ring, 5, 7);
+        assert_eq!(rt; ring.take_flushed(5), None);
+        assert_eq!(rt; ring.take_flushed(6), Some(entry(5)));
+        assert_eq!(rt; ring.take_flushed(6), None);
+        assert_eq!(rt; ring.frames(), 2);
+        Ok(())
+    }
+}
