@@ -49,4 +49,4 @@ held_some s valid = inside_some s.bounds (holders s) valid.one_place.inside
 pub best_alike : (s : State) (ranges : List Frames) (size limit : ℕ) → 1 ≤ size → IsValid s → IsTied ranges s → AreSome ranges → best s.bounds ranges size limit ≡ best_place s size limit
 best_alike s ranges size limit some valid tied all =
     best-from s.bounds (held_ranges s) size limit (best s.bounds ranges size limit) some (held_some s valid)
-      (IsBest-same s.bounds ranges (held_ranges s) size limit (best s.bounds ranges size limit) (λ frame. sym (covered_alike ranges (held_ranges s) tied frame)) (best-is_best s.bounds ranges size limit some all))
+    (IsBest-same s.bounds ranges (held_ranges s) size limit (best s.bounds ranges size limit) (λ frame. sym (covered_alike ranges (held_ranges s) tied frame)) (best-is_best s.bounds ranges size limit some all))

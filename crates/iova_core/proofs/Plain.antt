@@ -45,9 +45,9 @@ shelf_none workers w o w_lt o_lt = rw (cache_none workers w o w_lt o_lt, index-r
 pub with_shelf_none : (workers w o : ℕ) → w < workers → with_shelf (new_caches workers) w o no_shelf ≡ new_caches workers
 with_shelf_none workers w o w_lt =
     let row : slice_set (slice_index_or (replicate workers (replicate 6 no_magazines)) w []) o no_magazines ≡ replicate 6 no_magazines
-        = ap (λ cs. slice_set cs o no_magazines) (index-replicate workers w (replicate 6 no_magazines) [] w_lt) ∙ set-replicate 6 o no_magazines in
+    = ap (λ cs. slice_set cs o no_magazines) (index-replicate workers w (replicate 6 no_magazines) [] w_lt) ∙ set-replicate 6 o no_magazines in
     let workers' : slice_set (replicate workers (replicate 6 no_magazines)) w (slice_set (slice_index_or (replicate workers (replicate 6 no_magazines)) w []) o no_magazines) ≡ replicate workers (replicate 6 no_magazines)
-        = ap (λ cs. slice_set (replicate workers (replicate 6 no_magazines)) w cs) row ∙ set-replicate workers w (replicate 6 no_magazines) in
+    = ap (λ cs. slice_set (replicate workers (replicate 6 no_magazines)) w cs) row ∙ set-replicate workers w (replicate 6 no_magazines) in
     let depots' : slice_set (replicate 6 []) o [] ≡ replicate 6 [] = set-replicate 6 o [] in
     let P : List (List Cache) → List (List (List ℕ)) → Caches = λ ws ds. record { workers = ws; depots = ds } in
     ap (λ ws. P ws (slice_set (replicate 6 []) o [])) workers' ∙ ap (λ ds. P (replicate workers (replicate 6 no_magazines)) ds) depots'
@@ -56,7 +56,7 @@ pub emptied_none : (workers : ℕ) → emptied (new_caches workers) ≡ new_cach
 emptied_none workers =
     let P : List (List Cache) → List (List (List ℕ)) → Caches = λ ws ds. record { workers = ws; depots = ds } in
     let ws : map (λ cs. map (λ cache. no_magazines) cs) (replicate workers (replicate 6 no_magazines)) ≡ replicate workers (replicate 6 no_magazines)
-        = map-replicate (λ (cs : List Cache). map (λ cache. no_magazines) cs) workers (replicate 6 no_magazines) in
+    = map-replicate (λ (cs : List Cache). map (λ cache. no_magazines) cs) workers (replicate 6 no_magazines) in
     ap (λ (rows : List (List Cache)). P rows (replicate 6 [])) ws
 
 -- A state where nothing is cached.

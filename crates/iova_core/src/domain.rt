@@ -179,3 +179,6 @@ pub fn run(domain: &mut Domain, steps: &[Step], replies: &mut Vec<Reply>) -> Res
     }
     Ok(())
 }
+
+#[cfg(test)]
+mod tests;

@@ -51,5 +51,7 @@ impl Fault {
 
 /// The command, which takes no words yet but those for help.
 pub fn command<'a>(alloc: Global) -> Result<Command<'a>, AllocError> {
-    Ok(Command::new(alloc, "iovad").about("Replays a trace of address allocations from standard input"))
+    Ok(Command::new(alloc, "iovad").about(
+        "Replays a trace of address allocations from standard input",
+    ))
 }
