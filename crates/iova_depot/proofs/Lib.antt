@@ -1,0 +1,11 @@
+pub mod Counts
+pub mod Moves
+pub mod Changes
+pub mod Steps
+pub mod OfWorkers
+pub mod Found
+pub mod OfMagazines
+pub mod OfDepots
+pub mod Shelves
+pub mod Slots
+pub mod Fresh

@@ -1,0 +1,31 @@
+-- What a `Caches` keeps true inside.
+use Rattle.std.specs.Prelude.{◌≡◌, ◌≤◌, ◌<◌, ◌+◌, ◌*◌, ℕ, List, [], length, All, map, slice_index_or}
+use Rattle.iova_range.specs.Bounds.{Capacities, IsProfile}
+use Rattle.iova_model.specs.Caches.{Caches, cache_at}
+use Rattle.iova_model.specs.State.{magazine_holders, depot_holders}
+use Rattle.iova_model.specs.Valid.{AreCaches}
+use Rattle.iova_mag.specs.Workers.{WorkerCache, AreEmpty}
+use Rattle.iova_depot.specs.Stored.{Stored}
+use Rattle.iova_depot.specs.Cached.{frames_of}
+
+-- The entries stand in slots: six for each worker, one for each order, and then one for each depot. The slots below this one
+-- are empty.
+pub record AreEmptyBelow (slot workers : ℕ) (c : Caches) : Type 0 where
+  pub magazines : (w o : ℕ) → w < workers → o < 6 → w * 6 + o < slot → AreEmpty (cache_at c w o)
+  pub depots : (o : ℕ) → o < 6 → workers * 6 + o < slot → slice_index_or c.depots o [] ≡ []
+
+-- what is seen of the workers and the depots
+abbrev pub seen : List WorkerCache → List Stored → Caches
+seen workers depots = record { workers = map (λ w. w.caches) workers; depots = map (λ d. d.lists) depots }
+
+-- all have the profile, the two counts are those of the frames, and there is nothing below the first slot that may be filled
+pub record IsInside (profile : Capacities) (workers : List WorkerCache) (depots : List Stored) (in_magazines in_depot first_filled : ℕ) : Type 0 where
+  pub is_profile : IsProfile profile
+  pub some_worker : 1 ≤ length workers
+  pub few_workers : length workers ≤ 16
+  pub same_in_workers : All (λ w. w.profile ≡ profile) workers
+  pub same_in_depots : All (λ d. d.profile ≡ profile) depots
+  pub caches : AreCaches profile (length workers) (seen workers depots)
+  pub magazines : in_magazines ≡ frames_of (magazine_holders 0 (seen workers depots).workers)
+  pub depot : in_depot ≡ frames_of (depot_holders 0 (seen workers depots).depots)
+  pub empty : AreEmptyBelow first_filled (length workers) (seen workers depots)

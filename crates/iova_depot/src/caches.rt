@@ -1,0 +1,518 @@
+ghost use Rattle.std.specs.Prelude.{◌≡◌, ◌≢◌, ◌+◌, ◌*◌, ◌%◌, ◌-◌, ◌≤◌, ◌<◌, ◌^◌, ◌↔◌, ℕ, [], ◌∷◌, ◌++◌, length, replicate, Some, map, find, option_map, slice_index_or, IsTrue, IfOk, IsErr, IfNone, IfSome, OnOk};
+ghost use Rattle.std.specs.Bool.{OnTrue, OnFalse};
+ghost use Rattle.iova_range.specs.Bounds.{first_profile};
+ghost use Rattle.iova_range.specs.Frames.{covers};
+ghost use Rattle.iova_model.specs.Caches.{TakesAny, TakesEntry, emptied, cache_at, shelf_at, with_shelf, get, put, sent_out, last_or, front};
+ghost use Rattle.iova_model.specs.State.{magazine_holders, depot_holders, cached_holders};
+ghost use Rattle.iova_mag.specs.Workers.{AreEmpty, AreFull, HasRoom, shelf_of, pair_of, got, new_worker};
+ghost use Rattle.iova_depot.specs.Cached.{Cached, IsCached, new_cached, frames_of, place_at, with_cache, with_depot};
+
+use crate::depot::Depot;
+use crate::spot::Spot;
+use iova_mag::magazine::Magazine;
+use iova_mag::worker::{Got, WorkerCache};
+use iova_range::profile::Profile;
+use iova_range::refusal::Refusal;
+use iova_range::sizes::ORDERS;
+use std::alloc::{AllocError, Global};
+use std::marker::Model;
+
+/// The cached ranges of a domain, by their first frames: each worker's two magazines of each of the six orders, and for
+/// each order a depot of full magazines that all workers share. All memory is taken by `new`
+/// (Linux 5.15 `drivers/iommu/iova.c`: `init_iova_rcaches`).
+#[derive(Drop)]
+pub struct Caches {
+    profile: Profile,
+    workers: Vec<WorkerCache>,
+    depots: Vec<Depot>,
+    in_magazines: u64,
+    in_depot: u64,
+    first_filled: usize,
+}
+
+impl Model for Caches {
+    ghost use Rattle.std.specs.Prelude.{length};
+    ghost use Rattle.iova_depot.specs.Cached.{Cached};
+
+    ghost Value = { Cached };
+
+    ghost use Rattle.iova_depot.specs.Inside.{seen, IsInside};
+
+    ghost view = { λ c. record { profile = c.profile; workers = length c.workers.items; caches = seen c.workers.items c.depots.items } };
+
+    ghost invariant = { λ c. IsInside c.profile c.workers.items c.depots.items c.in_magazines c.in_depot c.first_filled };
+}
+
+impl Caches {
+    /// Empty caches of the first profile for 1 to 16 workers. `NoMemory` where a growth is refused.
+    pub fn new(alloc: Global, workers: usize) -> Result<Self, Refusal>
+        requires some { 1 ≤ workers }
+        requires few { workers ≤ 16 }
+        ensures value { IfOk result (λ c. c ≡ new_cached first_profile workers) }
+        ensures refused { IsErr result → result ≡ Err Refusal.NoMemory }
+    {
+        Caches::new_for(alloc, Profile::one(), workers)
+    }
+
+    /// Empty caches of this profile for 1 to 16 workers. `NoMemory` where a growth is refused.
+    pub fn new_for(alloc: Global, profile: Profile, workers: usize) -> Result<Self, Refusal>
+        requires some { 1 ≤ workers }
+        requires few { workers ≤ 16 }
+        ensures value { IfOk result (λ c. c ≡ new_cached profile workers) }
+        ensures refused { IsErr result → result ≡ Err Refusal.NoMemory }
+    {
+        let _mag = profile.mag();
+        let workers = new_workers(alloc, profile, workers)?;
+        let Ok(depots) = new_depots(alloc, profile) else {
+            return Err(Refusal::NoMemory);
+        };
+        Ok(Caches {
+            profile,
+            workers,
+            depots,
+            in_magazines: 0,
+            in_depot: 0,
+            first_filled: 0,
+        })
+    }
+
+    /// The profile.
+    #[inline]
+    pub fn profile(&self) -> Profile
+        ensures is { result ≡ self.now.profile }
+        ensures sound { IsCached self.now }
+    {
+        self.profile
+    }
+
+    /// How many workers there are, 1 to 16.
+    #[inline]
+    pub fn workers(&self) -> usize
+        ensures is { result ≡ self.now.workers }
+        ensures sound { IsCached self.now }
+    {
+        self.workers.len()
+    }
+
+    /// Gets a cached range of this order, 0 to 5, for worker `w` with no frame above `limit`, and gives its first frame.
+    /// Where the worker's loaded magazine is empty and previous isn't, they change places; where both are empty, the
+    /// depot's last magazine becomes loaded. None where no entry of loaded fits then; the moves stand
+    /// (Linux 5.15 `drivers/iommu/iova.c`: `__iova_rcache_get`).
+    #[inline]
+    pub fn get(&mut self, w: usize, order: u8, limit: u64) -> Option<u64>
+        requires worker { w < self.old.workers }
+        requires order { order < ORDERS }
+        ensures value { result ≡ (get (shelf_at self.old.caches w order) limit (2 ^ order)).0 }
+        ensures left { self.new ≡ record self.old { caches = with_shelf self.old.caches w order (get (shelf_at self.old.caches w order) limit (2 ^ order)).1 } }
+        ensures sound { IsCached self.new }
+    {
+        match self.try_get(w, order, limit) {
+            Got::Hit(lo) => Some(lo),
+            Got::Miss => None,
+            Got::Empty => self.reload_and_get(w, order, limit),
+        }
+    }
+
+    /// Puts the first frame of a range of this order, 0 to 5, into worker `w`'s loaded magazine; the range ends below
+    /// 2^40. Where loaded is full and previous isn't, they change places first; where both are full, loaded goes last
+    /// into the depot and an empty one stands in its place. Where the depot has as many as it takes, that magazine is
+    /// given to the caller, who frees its ranges; else None
+    /// (Linux 5.15 `drivers/iommu/iova.c`: `__iova_rcache_insert`).
+    #[inline]
+    pub fn put(&mut self, w: usize, order: u8, lo: u64) -> Option<Magazine>
+        requires worker { w < self.old.workers }
+        requires order { order < ORDERS }
+        requires small { lo + 2 ^ order ≤ 2 ^ 40 }
+        ensures left { self.new ≡ record self.old { caches = with_shelf self.old.caches w order (put self.old.profile (shelf_at self.old.caches w order) lo) } }
+        ensures none { IfNone result (sent_out self.old.profile (shelf_at self.old.caches w order) ≡ []) }
+        ensures sent { IfSome result (λ m. m ≡ record { profile = self.old.profile; entries = sent_out self.old.profile (shelf_at self.old.caches w order) }) }
+        ensures some { IfSome result (λ m. 1 ≤ length m.entries) }
+        ensures sound { IsCached self.new }
+    {
+        if self.try_put(w, order, lo) {
+            return None;
+        }
+        self.put_full(w, order, lo)
+    }
+
+    /// Takes some cached entry out, and gives its order and its first frame. None where nothing is cached. Taking all
+    /// entries out one by one goes over each place that is empty once: where the last one was found is remembered. An own
+    /// form of what Linux 5.15 `drivers/iommu/iova.c` does by magazines: `free_cpu_cached_iovas`, `free_global_cached_iovas`.
+    pub fn take_any(&mut self) -> Option<(u8, u64)>
+        ensures taken { TakesAny self.old.caches result self.new.caches }
+        ensures fewer { IfSome result (λ entry. frames_of (cached_holders self.new.caches) + 2 ^ entry.0 ≡ frames_of (cached_holders self.old.caches)) }
+        ensures emptied { emptied self.new.caches ≡ emptied self.old.caches }
+        ensures same { self.new ≡ record self.old { caches = self.new.caches } }
+        ensures order { IfSome result (λ entry. entry.0 < ORDERS) }
+        ensures sound { IsCached self.new }
+    {
+        let slots = (self.workers.len() + 1) * ORDERS;
+        for slot in self.first_filled..slots {
+            if let Some(lo) = self.take_from(slot) {
+                self.first_filled = slot;
+                return Some(((slot % ORDERS) as u8, lo));
+            }
+        }
+        self.first_filled = slots;
+        None
+    }
+
+    /// How many frames are in magazines of the workers, and how many in the depot. Both are kept, and nothing is counted.
+    /// Our own.
+    #[inline]
+    pub fn frames(&self) -> (u64, u64)
+        ensures magazines { result.0 ≡ frames_of (magazine_holders 0 self.now.caches.workers) }
+        ensures depot { result.1 ≡ frames_of (depot_holders 0 self.now.caches.depots) }
+    {
+        (self.in_magazines, self.in_depot)
+    }
+
+    /// Where a cached range has the frame: the first such place, the magazines by worker and then the depot. None exactly
+    /// where no cached range has it. All entries may be looked at. Our own.
+    pub fn find(&self, frame: u64) -> Option<Spot>
+        ensures { option_map place_at result ≡ option_map (λ h. h.place) (find (λ h. covers frame h.range) (cached_holders self.now.caches)) }
+    {
+        for w in 0..self.workers.len() {
+            if self.workers[w].has_frame(frame) {
+                return Some(Spot::Magazine(w as u64));
+            }
+        }
+        for order in 0..ORDERS {
+            if self.depots[order].has_frame(frame, order as u8) {
+                return Some(Spot::Depot);
+            }
+        }
+        None
+    }
+
+    /// What worker `w`'s own magazines give.
+    #[inline]
+    fn try_get(&mut self, w: usize, order: u8, limit: u64) -> Got
+        requires worker { w < self.old.workers }
+        requires order { order < ORDERS }
+        ensures value { result ≡ got (cache_at self.old.caches w order) limit (2 ^ order) }
+        ensures left { self.new ≡ record self.old { caches = with_cache self.old.caches w order (pair_of (get (shelf_of (cache_at self.old.caches w order)) limit (2 ^ order)).1) } }
+        ensures empty { result ≡ Got.Empty → AreEmpty (cache_at self.old.caches w order) }
+        ensures sound { IsCached self.new }
+    {
+        let worker = &mut self.workers[w];
+        let found = worker.try_get(order, limit);
+        if let Got::Hit(_) = found {
+            self.in_magazines -= 1 << order;
+        }
+        found
+    }
+
+    /// Where both of worker `w`'s magazines are empty: loads the depot's last one, and gets from that.
+    #[cold]
+    fn reload_and_get(&mut self, w: usize, order: u8, limit: u64) -> Option<u64>
+        requires worker { w < self.old.workers }
+        requires order { order < ORDERS }
+        requires empty { AreEmpty (cache_at self.old.caches w order) }
+        ensures value { result ≡ (get (shelf_at self.old.caches w order) limit (2 ^ order)).0 }
+        ensures left { self.new ≡ record self.old { caches = with_shelf self.old.caches w order (get (shelf_at self.old.caches w order) limit (2 ^ order)).1 } }
+        ensures sound { IsCached self.new }
+    {
+        if !self.reload(w, order) {
+            return None;
+        }
+        match self.try_get(w, order, limit) {
+            Got::Hit(lo) => Some(lo),
+            Got::Miss | Got::Empty => None,
+        }
+    }
+
+    /// Moves the depot's last magazine to worker `w`, whose magazines are both empty. False where there is none.
+    fn reload(&mut self, w: usize, order: u8) -> bool
+        requires worker { w < self.old.workers }
+        requires order { order < ORDERS }
+        requires empty { AreEmpty (cache_at self.old.caches w order) }
+        ensures none { OnFalse result ((slice_index_or self.old.caches.depots order [] ≡ []) × (self.new ≡ self.old)) }
+        ensures some { OnTrue result (slice_index_or self.old.caches.depots order [] ≢ []) }
+        ensures moved { OnTrue result (self.new ≡ record self.old { caches = with_shelf self.old.caches w order (record { loaded = last_or [] (slice_index_or self.old.caches.depots order []); previous = []; depot = front (slice_index_or self.old.caches.depots order []) }) }) }
+        ensures sound { IsCached self.new }
+    {
+        let depot = &mut self.depots[order as usize];
+        let Some(magazine) = depot.pop() else {
+            return false;
+        };
+        let frames = (magazine.len() as u64) << order;
+        self.in_depot -= frames;
+        self.in_magazines += frames;
+        self.first_filled = self.first_filled.min(w * ORDERS + order as usize);
+        let worker = &mut self.workers[w];
+        worker.load(order, magazine);
+        true
+    }
+
+    /// Puts into worker `w`'s own magazines. False where both are full.
+    #[inline]
+    fn try_put(&mut self, w: usize, order: u8, lo: u64) -> bool
+        requires worker { w < self.old.workers }
+        requires order { order < ORDERS }
+        requires small { lo < 2 ^ 40 }
+        ensures room { IsTrue result ↔ HasRoom self.old.profile (cache_at self.old.caches w order) }
+        ensures done { OnTrue result (self.new ≡ record self.old { caches = with_cache self.old.caches w order (pair_of (put self.old.profile (shelf_of (cache_at self.old.caches w order)) lo)) }) }
+        ensures refused { OnFalse result ((self.new ≡ self.old) × AreFull self.old.profile (cache_at self.old.caches w order)) }
+        ensures sound { IsCached self.new }
+    {
+        let worker = &mut self.workers[w];
+        if !worker.try_put(order, lo) {
+            return false;
+        }
+        self.in_magazines += 1 << order;
+        self.first_filled = self.first_filled.min(w * ORDERS + order as usize);
+        true
+    }
+
+    /// Where both of worker `w`'s magazines are full: stores loaded in the depot, or gives it to the caller, and puts
+    /// into the empty one.
+    #[cold]
+    fn put_full(&mut self, w: usize, order: u8, lo: u64) -> Option<Magazine>
+        requires worker { w < self.old.workers }
+        requires order { order < ORDERS }
+        requires small { lo < 2 ^ 40 }
+        requires full { AreFull self.old.profile (cache_at self.old.caches w order) }
+        ensures left { self.new ≡ record self.old { caches = with_shelf self.old.caches w order (put self.old.profile (shelf_at self.old.caches w order) lo) } }
+        ensures none { IfNone result (sent_out self.old.profile (shelf_at self.old.caches w order) ≡ []) }
+        ensures sent { IfSome result (λ m. m ≡ record { profile = self.old.profile; entries = sent_out self.old.profile (shelf_at self.old.caches w order) }) }
+        ensures some { IfSome result (λ m. 1 ≤ length m.entries) }
+        ensures sound { IsCached self.new }
+    {
+        let magazine = self.renew(w, order);
+        let sent = self.store(order, magazine);
+        self.try_put(w, order, lo);
+        sent
+    }
+
+    /// Takes worker `w`'s loaded magazine, which is full, and leaves an empty one in its place.
+    fn renew(&mut self, w: usize, order: u8) -> Magazine
+        requires worker { w < self.old.workers }
+        requires order { order < ORDERS }
+        requires full { length (cache_at self.old.caches w order).loaded ≡ self.old.profile.mag }
+        ensures value { result ≡ record { profile = self.old.profile; entries = (cache_at self.old.caches w order).loaded } }
+        ensures left { self.new ≡ record self.old { caches = with_cache self.old.caches w order (record { loaded = []; previous = (cache_at self.old.caches w order).previous }) } }
+        ensures sound { IsCached self.new }
+    {
+        let worker = &mut self.workers[w];
+        let magazine = worker.renew(order);
+        self.in_magazines -= (magazine.len() as u64) << order;
+        magazine
+    }
+
+    /// Stores a magazine that isn't empty in this order's depot, or gives it back where that has as many as it takes.
+    fn store(&mut self, order: u8, magazine: Magazine) -> Option<Magazine>
+        requires order { order < ORDERS }
+        requires profile { magazine.profile ≡ self.old.profile }
+        requires some { 1 ≤ length magazine.entries }
+        ensures full { IfSome result (λ m. (m ≡ magazine) × (self.new ≡ self.old) × (length (slice_index_or self.old.caches.depots order []) ≡ self.old.profile.depot)) }
+        ensures room { IfNone result (length (slice_index_or self.old.caches.depots order []) < self.old.profile.depot) }
+        ensures stored { IfNone result (self.new ≡ record self.old { caches = with_depot self.old.caches order (slice_index_or self.old.caches.depots order [] ++ magazine.entries ∷ []) }) }
+        ensures sound { IsCached self.new }
+    {
+        let depot = &mut self.depots[order as usize];
+        if depot.is_full() {
+            return Some(magazine);
+        }
+        self.in_depot += (magazine.len() as u64) << order;
+        self.first_filled = self
+            .first_filled
+            .min(self.workers.len() * ORDERS + order as usize);
+        depot.push(magazine);
+        None
+    }
+
+    /// Takes the newest entry of a slot: six for each worker, one for each order, and then one for each depot.
+    fn take_from(&mut self, slot: usize) -> Option<u64>
+        requires { slot < (self.old.workers + 1) * ORDERS }
+        ensures none { IfNone result (self.new ≡ self.old) }
+        ensures magazines { (w o : ℕ) → w < self.old.workers → o < ORDERS → w * ORDERS + o ≡ slot → IfNone result (AreEmpty (cache_at self.old.caches w o)) }
+        ensures depots { (o : ℕ) → o < ORDERS → self.old.workers * ORDERS + o ≡ slot → IfNone result (slice_index_or self.old.caches.depots o [] ≡ []) }
+        ensures taken { IfSome result (λ lo. TakesEntry (slot % ORDERS) lo self.old.caches self.new.caches) }
+        ensures fewer { IfSome result (λ _. frames_of (cached_holders self.new.caches) + 2 ^ (slot % ORDERS) ≡ frames_of (cached_holders self.old.caches)) }
+        ensures same { self.new ≡ record self.old { caches = self.new.caches } }
+        ensures sound { IsCached self.new }
+    {
+        let (w, order) = (slot / ORDERS, (slot % ORDERS) as u8);
+        if w < self.workers.len() {
+            self.take_from_worker(w, order)
+        } else {
+            self.take_from_depot(order)
+        }
+    }
+
+    fn take_from_worker(&mut self, w: usize, order: u8) -> Option<u64>
+        requires worker { w < self.old.workers }
+        requires order { order < ORDERS }
+        ensures none { IfNone result ((self.new ≡ self.old) × AreEmpty (cache_at self.old.caches w order)) }
+        ensures taken { IfSome result (λ lo. TakesEntry order lo self.old.caches self.new.caches) }
+        ensures fewer { IfSome result (λ _. frames_of (cached_holders self.new.caches) + 2 ^ order ≡ frames_of (cached_holders self.old.caches)) }
+        ensures same { self.new ≡ record self.old { caches = self.new.caches } }
+        ensures sound { IsCached self.new }
+    {
+        let worker = &mut self.workers[w];
+        let lo = worker.take_newest(order)?;
+        self.in_magazines -= 1 << order;
+        Some(lo)
+    }
+
+    fn take_from_depot(&mut self, order: u8) -> Option<u64>
+        requires { order < ORDERS }
+        ensures none { IfNone result ((self.new ≡ self.old) × (slice_index_or self.old.caches.depots order [] ≡ [])) }
+        ensures taken { IfSome result (λ lo. TakesEntry order lo self.old.caches self.new.caches) }
+        ensures fewer { IfSome result (λ _. frames_of (cached_holders self.new.caches) + 2 ^ order ≡ frames_of (cached_holders self.old.caches)) }
+        ensures same { self.new ≡ record self.old { caches = self.new.caches } }
+        ensures sound { IsCached self.new }
+    {
+        let depot = &mut self.depots[order as usize];
+        let lo = depot.take_newest()?;
+        self.in_depot -= 1 << order;
+        Some(lo)
+    }
+}
+
+fn new_workers(alloc: Global, profile: Profile, count: usize) -> Result<Vec<WorkerCache>, Refusal>
+    requires { count ≤ 16 }
+    ensures value { IfOk result (λ v. v.items ≡ replicate count (new_worker profile)) }
+    ensures refused { IsErr result → result ≡ Err Refusal.NoMemory }
+{
+    let Ok(mut workers) = Vec::with_capacity(alloc, count) else {
+        return Err(Refusal::NoMemory);
+    };
+    for _ in 0..count {
+        let Ok(()) = workers.push(WorkerCache::new_for(alloc, profile)?) else {
+            return Err(Refusal::NoMemory);
+        };
+    }
+    Ok(workers)
+}
+
+fn new_depots(alloc: Global, profile: Profile) -> Result<Vec<Depot>, AllocError>
+    ensures { IfOk result (λ v. v.items ≡ replicate ORDERS (record { profile = profile; lists = [] })) }
+{
+    let mut depots = Vec::with_capacity(alloc, ORDERS)?;
+    for _ in 0..ORDERS {
+        depots.push(Depot::new(alloc, profile)?)?;
+    }
+    Ok(depots)
+}
+
+#[cfg(test)]
+mod tests {
+    use super::*;
+
+    fn put_first(caches: &mut Caches, lo: u64) -> Option<Magazine>
+        requires { lo < 5000 }
+    {
+        let _workers = caches.workers();
+        caches.put(0, 0, lo)
+    }
+
+    fn get_first(caches: &mut Caches, limit: u64) -> Option<u64> {
+        let _workers = caches.workers();
+        caches.get(0, 0, limit)
+    }
+
+    fn take_all(caches: &mut Caches) -> u64 {
+        for count in 0..5000 {
+            let Some((order, _)) = caches.take_any() else {
+                return count;
+            };
+            if order != 0 {
+                return 5000;
+            }
+        }
+        5000
+    }
+
+    #[test]
+    fn a_full_depot_sends_loaded_out(rt: HostRuntime) {
+        let mut caches = Caches::new(rt.alloc(), 1).expect(&rt, "ample memory");
+        assert!(rt; caches.profile() == Profile::one());
+        for lo in 1..4353 {
+            assert!(rt; put_first(&mut caches, lo).is_none(), "at {lo}");
+        }
+        assert_eq!(rt; caches.frames(), (256, 4096));
+        let Some(sent) = put_first(&mut caches, 4353) else {
+            assert!(rt; false, "the depot is full");
+            return;
+        };
+        assert_eq!(rt; sent.len(), 128);
+        let mut want = 4225;
+        for &lo in sent.entries() {
+            assert_eq!(rt; lo, want);
+            want = lo.saturating_add(1);
+        }
+        assert_eq!(rt; caches.frames(), (129, 4096));
+        assert_eq!(rt; get_first(&mut caches, u64::MAX), Some(4353));
+    }
+
+    #[test]
+    fn gets_below_a_limit(rt: HostRuntime) {
+        let mut caches = Caches::new(rt.alloc(), 2).expect(&rt, "ample memory");
+        for lo in 1..130 {
+            assert!(rt; put_first(&mut caches, lo).is_none(), "at {lo}");
+        }
+        assert_eq!(rt; caches.find(129), Some(Spot::Magazine(0)));
+        assert_eq!(rt; get_first(&mut caches, 100), None);
+        assert_eq!(rt; get_first(&mut caches, 1000), Some(129));
+        assert_eq!(rt; get_first(&mut caches, 100), Some(100));
+        assert_eq!(rt; get_first(&mut caches, 100), Some(99));
+        assert_eq!(rt; caches.find(100), None);
+        assert_eq!(rt; caches.find(128), Some(Spot::Magazine(0)));
+        if caches.workers() == 2 {
+            assert_eq!(rt; caches.get(1, 0, 1000), None);
+        }
+        assert_eq!(rt; caches.workers(), 2);
+        assert_eq!(rt; caches.frames(), (126, 0));
+        assert_eq!(rt; take_all(&mut caches), 126);
+        assert_eq!(rt; caches.frames(), (0, 0));
+    }
+
+    #[test]
+    fn a_depot_that_takes_nothing(rt: HostRuntime) {
+        let profile = Profile::two(0).expect(&rt, "a depot of 0");
+        let mut caches = Caches::new_for(rt.alloc(), profile, 1).expect(&rt, "ample memory");
+        for lo in 1..255 {
+            assert!(rt; put_first(&mut caches, lo).is_none(), "at {lo}");
+        }
+        let Some(sent) = put_first(&mut caches, 255) else {
+            assert!(rt; false, "the depot takes none");
+            return;
+        };
+        assert_eq!(rt; sent.len(), 127);
+        assert_eq!(rt; sent.entries().first().copied(), Some(128));
+        assert_eq!(rt; sent.entries().last().copied(), Some(254));
+    }
+
+    #[test]
+    fn full_depots_are_emptied(rt: HostRuntime) {
+        let second = Profile::two(32).expect(&rt, "a depot of 32");
+        for (profile, full) in [(Profile::one(), 4352), (second, 4318)] {
+            let mut caches = Caches::new_for(rt.alloc(), profile, 1).expect(&rt, "ample memory");
+            for lo in 1..5000 {
+                if put_first(&mut caches, lo).is_some() {
+                    assert_eq!(rt; lo, full + 1);
+                    break;
+                }
+            }
+            assert_eq!(rt;
+                caches.find(1),
+                Some(Spot::Magazine(0)),
+                "it stayed in previous"
+            );
+            assert_eq!(rt; caches.find(200), Some(Spot::Depot));
+            assert_eq!(rt; caches.find(full), None);
+            assert_eq!(rt; caches.find(full + 1), Some(Spot::Magazine(0)));
+            assert_eq!(rt; take_all(&mut caches), full + 1 - profile.mag() as u64);
+            assert_eq!(rt; caches.frames(), (0, 0));
+        }
+    }
+
+    #[test]
+    fn memory_is_all_that_is_refused(rt: HostRuntime) {
+        if let Err(refusal) = Caches::new(rt.alloc(), 2) {
+            assert_eq!(rt; refusal, Refusal::NoMemory);
+        }
+    }
+}

@@ -1,0 +1,14 @@
+use Rattle.std.proofs.Common.{[], ap}
+use Rattle.iova_model.specs.Caches.{Cache}
+use Rattle.iova_mag.specs.Workers.{Pair}
+use Rattle.iova_mag.proofs.Pairs.{cache_in, seen-set, sound-set}
+use Rattle.iova_mag.proofs.worker.WorkerCache.renew.Goals as goal
+
+pub invariant_of-self : goal.invariant_of-self
+invariant_of-self c = sound-set _ _ _ _ _ c.self.invariant c.requires.order c.index_mut-pair.ensures.value (ap (λ (p : Pair). p.profile) c.renew.ensures.left) c.renew.ensures.sound
+
+pub returns-clause-left : goal.returns-clause-left
+returns-clause-left c = rw (← c.self.view_is) (seen-set (λ (cache : Cache). record { loaded = []; previous = cache.previous }) _ _ _ _ _ c.self.invariant c.requires.order c.index_mut-pair.ensures.value (ap cache_in c.renew.ensures.left))
+
+pub returns-clause-sound : goal.returns-clause-sound
+returns-clause-sound c = (sound-set _ _ _ _ _ c.self.invariant c.requires.order c.index_mut-pair.ensures.value (ap (λ (p : Pair). p.profile) c.renew.ensures.left) c.renew.ensures.sound).sound

@@ -1,0 +1,23 @@
+-- One magazine: a list of first frames, the newest last.
+use Rattle.std.specs.Prelude.{ℕ, ◌≤◌, ◌<◌, ◌^◌, List, [], length, Option, All}
+use Rattle.iova_range.specs.Bounds.{Capacities, IsProfile}
+use Rattle.iova_model.specs.Caches.{Shelf, fitting, popped}
+
+-- What a `Magazine` is seen as: its entries, and the profile that says how many of them it is full at
+pub record Magazine : Type 0 where
+  pub profile : Capacities
+  pub entries : List ℕ
+
+-- It has no more entries than it is full at, each below 2^40.
+pub record IsMagazine (m : Magazine) : Type 0 where
+  pub profile : IsProfile m.profile
+  pub room : length m.entries ≤ m.profile.mag
+  pub small : All (λ lo. lo < 2 ^ 40) m.entries
+
+-- a list of entries as a shelf that has nothing else
+abbrev pub only : List ℕ → Shelf
+only entries = record { loaded = entries; previous = []; depot = [] }
+
+-- what a pop gives, and what it leaves
+abbrev pub pop : List ℕ → ℕ → ℕ → Option ℕ × Shelf
+pop entries limit size = popped (only entries) (fitting entries limit size)

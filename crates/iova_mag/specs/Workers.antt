@@ -1,0 +1,71 @@
+-- One worker's magazines.
+use Rattle.std.specs.Prelude.{ℕ, ◌≡◌, ◌-◌, ◌<◌, ◌&&◌, List, [], length, replicate, Option, Some, None, if◌then◌else◌, slice_get, slice_index_or, slice_set, ◌⊎◌}
+use Rattle.iova_range.specs.Bounds.{Capacities, IsProfile}
+use Rattle.iova_model.specs.Caches.{Cache, Shelf, no_magazines, is_empty, front, get}
+use Rattle.iova_model.specs.Valid.{AreWorkerCaches}
+use Rattle.iova_mag.specs.declared.worker.Got.{Got}
+use Rattle.iova_mag.specs.declared.worker.Got.TheVariants.{Hit, Miss, Empty}
+
+-- What a `WorkerCache` is seen as: its profile, and the two magazines of each order
+pub record WorkerCache : Type 0 where
+  pub profile : Capacities
+  pub caches : List Cache
+
+-- What a `Pair` is seen as: the two magazines of one order
+pub record Pair : Type 0 where
+  pub profile : Capacities
+  pub cache : Cache
+
+abbrev pub new_pair : Capacities → Pair
+new_pair profile = record { profile = profile; cache = no_magazines }
+
+abbrev pub new_worker : Capacities → WorkerCache
+new_worker profile = record { profile = profile; caches = replicate 6 no_magazines }
+
+-- a cache for each of the six orders, none with more entries than the profile says
+pub record IsWorkerCache (w : WorkerCache) : Type 0 where
+  pub profile : IsProfile w.profile
+  pub caches : AreWorkerCaches w.profile w.caches
+
+-- the magazines of an order, and the same with others in their place
+abbrev pub cache_of : WorkerCache → ℕ → Cache
+cache_of w order = slice_index_or w.caches order no_magazines
+
+abbrev pub with_cache : WorkerCache → ℕ → Cache → WorkerCache
+with_cache w order cache = record w { caches = slice_set w.caches order cache }
+
+-- two magazines as a shelf with an empty depot, and the two of a shelf
+abbrev pub shelf_of : Cache → Shelf
+shelf_of c = record { loaded = c.loaded; previous = c.previous; depot = [] }
+
+abbrev pub pair_of : Shelf → Cache
+pair_of s = record { loaded = s.loaded; previous = s.previous }
+
+-- neither has an entry
+abbrev pub AreEmpty : Cache → Type 0
+AreEmpty c = (c.loaded ≡ []) × (c.previous ≡ [])
+
+-- both have as many entries as they take, or one has room
+abbrev pub AreFull : Capacities → Cache → Type 0
+AreFull p c = (length c.loaded ≡ p.mag) × (length c.previous ≡ p.mag)
+
+abbrev pub HasRoom : Capacities → Cache → Type 0
+HasRoom p c = (length c.loaded < p.mag) ⊎ (length c.previous < p.mag)
+
+-- what a get finds in the two
+abbrev pub found : Option ℕ → Got
+found None = Miss
+found (Some lo) = Hit lo
+
+abbrev pub got : Cache → ℕ → ℕ → Got
+got c limit size = if is_empty c.loaded && is_empty c.previous then Empty else found (get (shelf_of c) limit size).0
+
+-- the newest entry of loaded, or of previous where loaded is empty
+abbrev pub newest : Cache → Option ℕ
+newest c = if is_empty c.loaded then slice_get c.previous (length c.previous - 1) else slice_get c.loaded (length c.loaded - 1)
+
+-- the two without it
+abbrev pub without_newest : Cache → Cache
+without_newest c =
+    if is_empty c.loaded then record { loaded = c.loaded; previous = front c.previous } else
+    record { loaded = front c.loaded; previous = c.previous }

@@ -1,0 +1,202 @@
+ghost use Rattle.std.specs.Prelude.{◌≡◌, ◌+◌, ◌-◌, ◌≤◌, ◌<◌, ◌^◌, ◌↔◌, [], ◌∷◌, ◌++◌, length, slice_get, IsTrue, All, IfSome, ◌&&◌, nat_le, nat_lt};
+ghost use Rattle.std.specs.List.{list_any};
+ghost use Rattle.iova_range.specs.Bounds.{first_profile};
+ghost use Rattle.iova_range.specs.Frames.{covers};
+ghost use Rattle.iova_model.specs.Caches.{fitting, front, of_order};
+ghost use Rattle.iova_mag.specs.Magazines.{IsMagazine, pop};
+
+use arrayvec::ArrayVec;
+use iova_range::profile::Profile;
+use iova_range::sizes::MAX_FRAMES;
+use std::marker::Model;
+
+/// The entries that a magazine has room for, in both profiles
+/// (`IOVA_MAG_SIZE` of Linux 5.15 `drivers/iommu/iova.c`).
+pub const CAPACITY: usize = 128;
+
+/// First frames of cached ranges of one order, the newest last. Each is below 2^40. It is full at the profile's `mag()`
+/// entries (Linux 5.15 `drivers/iommu/iova.c`: `struct iova_magazine`).
+#[derive(Drop)]
+pub struct Magazine {
+    profile: Profile,
+    entries: ArrayVec<u64, CAPACITY>,
+}
+
+impl Model for Magazine {
+    ghost use Rattle.iova_mag.specs.Magazines.{Magazine as Seen, IsMagazine};
+
+    ghost Value = { Seen };
+
+    ghost view = { λ m. record { profile = m.profile; entries = m.entries.items } };
+
+    ghost invariant = { λ m. IsMagazine (record { profile = m.profile; entries = m.entries.items }) };
+}
+
+impl Magazine {
+    /// An empty magazine of the first profile, full at 128 entries.
+    pub fn new() -> Self
+        ensures { result ≡ record { profile = first_profile; entries = [] } }
+    {
+        Magazine::new_for(Profile::one())
+    }
+
+    /// An empty magazine of this profile.
+    pub fn new_for(profile: Profile) -> Self
+        ensures { result ≡ record { profile = profile; entries = [] } }
+    {
+        let _mag = profile.mag();
+        Magazine {
+            profile,
+            entries: ArrayVec::new(),
+        }
+    }
+
+    /// The first frames, the newest last.
+    #[inline]
+    pub fn entries(&self) -> &[u64]
+        ensures is { result.now ≡ self.now.entries }
+        ensures sound { IsMagazine self.now }
+    {
+        self.entries.as_slice()
+    }
+
+    /// How many entries it has, at most the profile's `mag()`.
+    #[inline]
+    pub fn len(&self) -> usize
+        ensures is { result ≡ length self.now.entries }
+        ensures sound { IsMagazine self.now }
+    {
+        self.entries().len()
+    }
+
+    /// The profile.
+    #[inline]
+    pub fn profile(&self) -> Profile
+        ensures { result ≡ self.now.profile }
+    {
+        self.profile
+    }
+
+    /// Whether it has none.
+    #[inline]
+    pub fn is_empty(&self) -> bool
+        ensures { IsTrue result ↔ (self.now.entries ≡ []) }
+    {
+        self.entries.is_empty()
+    }
+
+    /// Whether it has as many as it takes.
+    #[inline]
+    pub fn is_full(&self) -> bool
+        ensures is { IsTrue result ↔ (length self.now.entries ≡ self.now.profile.mag) }
+        ensures sound { IsMagazine self.now }
+    {
+        self.entries.len() == self.profile.mag()
+    }
+
+    /// Puts the first frame of a range behind the others. The magazine isn't full, and `lo` is below 2^40
+    /// (Linux 5.15 `drivers/iommu/iova.c`: `iova_magazine_push`).
+    #[inline]
+    pub fn push(&mut self, lo: u64)
+        requires room { length self.old.entries < self.old.profile.mag }
+        requires small { lo < 2 ^ 40 }
+        ensures pushed { self.new ≡ record self.old { entries = self.old.entries ++ lo ∷ [] } }
+        ensures sound { IsMagazine self.new }
+    {
+        self.entries.push(lo);
+    }
+
+    /// Gives the newest entry whose range of `size` frames, 1 to 1,048,576, has no frame above `limit`. The newest
+    /// entry of all is put in its place. None where no entry fits, and nothing changes
+    /// (Linux 5.15 `drivers/iommu/iova.c`: `iova_magazine_pop`).
+    #[inline]
+    pub fn pop(&mut self, limit: u64, size: u64) -> Option<u64>
+        requires some { 1 ≤ size }
+        requires bounded { size ≤ MAX_FRAMES }
+        ensures value { result ≡ (pop self.old.entries limit size).0 }
+        ensures left { self.new ≡ record self.old { entries = (pop self.old.entries limit size).1.loaded } }
+        ensures sound { IsMagazine self.new }
+    {
+        let place = fitting_place(self.entries.as_slice(), limit, size)?;
+        Some(self.entries.swap_remove(place))
+    }
+
+    /// Gives the newest entry, whatever its place. None where the magazine is empty. Our own.
+    #[inline]
+    pub fn take_newest(&mut self) -> Option<u64>
+        ensures value { result ≡ slice_get self.old.entries (length self.old.entries - 1) }
+        ensures left { self.new ≡ record self.old { entries = front self.old.entries } }
+        ensures sound { IsMagazine self.new }
+    {
+        self.entries.pop()
+    }
+
+    /// Whether a range of this order, which is below 6, that an entry begins has the frame. Our own.
+    pub fn has_frame(&self, frame: u64, order: u8) -> bool
+        requires { order < 6 }
+        ensures { result ≡ list_any (covers frame) (of_order order self.now.entries) }
+    {
+        begins_around(self.entries.as_slice(), frame, 1 << order)
+    }
+}
+
+/// The place of the last entry whose range of `size` frames has none above the limit.
+#[inline]
+fn fitting_place(entries: &[u64], limit: u64, size: u64) -> Option<usize>
+    requires small { All (λ lo. lo < 2 ^ 40) entries.now }
+    requires some { 1 ≤ size }
+    requires bounded { size ≤ MAX_FRAMES }
+    ensures is { result ≡ fitting entries.now limit size }
+    ensures within { IfSome result (λ place. place < length entries.now) }
+{
+    for place in (0..entries.len()).rev() {
+        if entries[place] + (size - 1) <= limit {
+            return Some(place);
+        }
+    }
+    None
+}
+
+/// Whether one of the ranges of `size` frames that the entries begin has the frame.
+fn begins_around(entries: &[u64], frame: u64, size: u64) -> bool
+    ensures { result ≡ list_any (λ lo. nat_le lo frame && nat_lt (frame - lo) size) entries.now }
+{
+    entries.iter().any(|&lo| lo <= frame && frame - lo < size)
+}
+
+#[cfg(test)]
+mod tests {
+    use super::*;
+
+    #[test]
+    fn full_at_the_capacity_of_the_profile(rt: HostRuntime) {
+        let profile = Profile::two(0).expect(&rt, "a depot of 0");
+        for (mut magazine, full_at) in [(Magazine::new(), 128), (Magazine::new_for(profile), 127)] {
+            assert!(rt; magazine.is_empty());
+            for lo in 1..full_at + 1 {
+                assert_eq!(rt; magazine.is_full(), false, "before entry {lo}");
+                if !magazine.is_full() {
+                    magazine.push(lo);
+                }
+            }
+            assert!(rt; magazine.is_full());
+            assert_eq!(rt; magazine.len() as u64, full_at);
+        }
+    }
+
+    #[test]
+    fn last_entry_that_fits(rt: HostRuntime) {
+        let mut magazine = Magazine::new();
+        for lo in [40, 8, 96, 16, 80] {
+            if !magazine.is_full() {
+                magazine.push(lo);
+            }
+        }
+        assert_eq!(rt; magazine.pop(18, 4), Some(8));
+        assert_eq!(rt; magazine.entries(), [40, 80, 96, 16].as_slice());
+        assert_eq!(rt; magazine.pop(18, 4), None);
+        assert!(rt; magazine.has_frame(99, 2) && !magazine.has_frame(100, 2));
+        assert_eq!(rt; magazine.take_newest(), Some(16));
+        assert_eq!(rt; magazine.entries(), [40, 80, 96].as_slice());
+    }
+}
