@@ -1,21 +1,34 @@
--- How many frames the holders have, and how that follows a change of one list.
+-- What the ranges of holders weigh, for any weight, and how many frames they have; how that follows a change of one list.
 use Rattle.std.proofs.Common.{ℕ, zero, suc, ◌≡◌, ◌+◌, ◌*◌, ◌^◌, ◌<◌, ◌≤◌, List, [], ◌∷◌, ◌++◌, length, refl, sym, ap, ◌∙◌, arith, append_assoc, inl, inr}
 use Rattle.std.specs.Prelude.{slice_index_or, slice_set, sum_by}
 use Rattle.std.specs.List.{AllByRecursion}
 use Rattle.std.proofs.lemmas.List.Sums.{sum_by-append, sum_by-cons, sum_by-le}
 use Rattle.std.proofs.lemmas.List.Elements.{All-from_recursion, All-weaker}
 use Rattle.std.proofs.Math.Nat.{mul-le-mul}
+use Rattle.iova_range.specs.Frames.{Frames}
 use Rattle.iova_range.specs.Bounds.{Capacities, IsProfile}
 use Rattle.iova_model.specs.declared.place.Place.{Place}
 use Rattle.iova_model.specs.declared.place.Place.TheVariants as place
 use Rattle.iova_model.specs.Caches.{Cache, Caches, no_magazines, cache_at, of_order}
 use Rattle.iova_model.specs.State.{Holder, at_place, cache_holders, magazine_holders, list_holders, depot_holders}
 use Rattle.iova_model.specs.Valid.{IsCache, AreWorkerCaches, IsDepotList, IsDepot, AreCaches}
-use Rattle.iova_depot.specs.Cached.{frames_of, with_cache, with_depot}
+use Rattle.iova_model.specs.Laws.{frames_of}
+use Rattle.iova_depot.specs.Cached.{with_cache, with_depot}
 
--- the frames of two lists of holders
+-- what the ranges of holders weigh
+abbrev pub weight_of : (Frames → ℕ) → List Holder → ℕ
+weight_of weigh hs = sum_by (λ (h : Holder). weigh h.range) hs
+
+-- of two lists of holders
+pub weight_of-append : (weigh : Frames → ℕ) (xs ys : List Holder) → weight_of weigh (xs ++ ys) ≡ weight_of weigh xs + weight_of weigh ys
+weight_of-append weigh xs ys = sum_by-append (λ (h : Holder). weigh h.range) xs ys
+
+-- a range weighs its frames
+abbrev pub frames_in : Frames → ℕ
+frames_in r = r.len
+
 pub frames_of-append : (xs ys : List Holder) → frames_of (xs ++ ys) ≡ frames_of xs + frames_of ys
-frames_of-append xs ys = sum_by-append (λ (h : Holder). h.range.len) xs ys
+frames_of-append xs ys = weight_of-append frames_in xs ys
 
 -- the entries of a cache, and of a depot
 abbrev pub entries_in : Cache → ℕ
@@ -66,19 +79,19 @@ carry : (x r s a b : ℕ) → r + a ≡ s + b → x + r + a ≡ x + s + b
 carry x r s a b e = omega arith
 
 -- one element is put in the place of another
-pub frames_of-set : {A : Type 0} (here : ℕ → A → List Holder) (all : ℕ → List A → List Holder) → IsByPlace here all → (k j : ℕ) (xs : List A) (d x y : A) → j < length xs → slice_index_or xs j d ≡ x
-    → frames_of (all k (slice_set xs j y)) + frames_of (here (k + j) x) ≡ frames_of (all k xs) + frames_of (here (k + j) y)
-frames_of-set here all by k j [] d x y lt is = absurd (omega arith)
-frames_of-set here all by k zero (z ∷ zs) d x y lt is =
+pub weight_of-set : (weigh : Frames → ℕ) {A : Type 0} (here : ℕ → A → List Holder) (all : ℕ → List A → List Holder) → IsByPlace here all → (k j : ℕ) (xs : List A) (d x y : A) → j < length xs → slice_index_or xs j d ≡ x
+    → weight_of weigh (all k (slice_set xs j y)) + weight_of weigh (here (k + j) x) ≡ weight_of weigh (all k xs) + weight_of weigh (here (k + j) y)
+weight_of-set weigh here all by k j [] d x y lt is = absurd (omega arith)
+weight_of-set weigh here all by k zero (z ∷ zs) d x y lt is =
     let e : k + 0 ≡ k = omega arith in
-    rw (e, by.more k y zs, by.more k z zs, frames_of-append (here k y) (all (k + 1) zs), frames_of-append (here k z) (all (k + 1) zs), ← is)
-    (swap_ends (frames_of (here k z)) (frames_of (here k y)) (frames_of (all (k + 1) zs)))
-frames_of-set here all by k (suc j) (z ∷ zs) d x y lt is =
+    rw (e, by.more k y zs, by.more k z zs, weight_of-append weigh (here k y) (all (k + 1) zs), weight_of-append weigh (here k z) (all (k + 1) zs), ← is)
+    (swap_ends (weight_of weigh (here k z)) (weight_of weigh (here k y)) (weight_of weigh (all (k + 1) zs)))
+weight_of-set weigh here all by k (suc j) (z ∷ zs) d x y lt is =
     let e : k + suc j ≡ k + 1 + j = omega arith in
     let rest = slice_set zs j y in
-    rw (e, by.more k z rest, by.more k z zs, frames_of-append (here k z) (all (k + 1) rest), frames_of-append (here k z) (all (k + 1) zs))
-    (carry (frames_of (here k z)) (frames_of (all (k + 1) rest)) (frames_of (all (k + 1) zs)) (frames_of (here (k + 1 + j) x)) (frames_of (here (k + 1 + j) y))
-    (frames_of-set here all by (k + 1) j zs d x y (omega arith) is))
+    rw (e, by.more k z rest, by.more k z zs, weight_of-append weigh (here k z) (all (k + 1) rest), weight_of-append weigh (here k z) (all (k + 1) zs))
+    (carry (weight_of weigh (here k z)) (weight_of weigh (all (k + 1) rest)) (weight_of weigh (all (k + 1) zs)) (weight_of weigh (here (k + 1 + j) x)) (weight_of weigh (here (k + 1 + j) y))
+    (weight_of-set weigh here all by (k + 1) j zs d x y (omega arith) is))
 
 one_more : (a b n m : ℕ) → a ≤ m → b ≤ n * m → a + b ≤ suc n * m
 one_more a b n m h g = let e : suc n * m ≡ m + n * m = grind arith in omega arith
@@ -113,8 +126,8 @@ pub frames_of-with_cache : (c : Caches) (w o : ℕ) (cache : Cache) → w < leng
 frames_of-with_cache c w o cache in_workers in_orders =
     let cs = slice_index_or c.workers w [] in
     let ds = slice_set cs o cache in
-    let outer = frames_of-set (λ w cs. cache_holders w 0 cs) magazine_holders by_workers 0 w c.workers [] cs ds in_workers refl in
-    let inner = frames_of-set (pair_holders (0 + w)) (cache_holders (0 + w)) (by_orders (0 + w)) 0 o cs no_magazines (cache_at c w o) cache in_orders refl in
+    let outer = weight_of-set frames_in (λ w cs. cache_holders w 0 cs) magazine_holders by_workers 0 w c.workers [] cs ds in_workers refl in
+    let inner = weight_of-set frames_in (pair_holders (0 + w)) (cache_holders (0 + w)) (by_orders (0 + w)) 0 o cs no_magazines (cache_at c w o) cache in_orders refl in
     let zero_first : 0 + o ≡ o = omega arith in
     let inner' = rw (zero_first, frames_of-pair (0 + w) o (cache_at c w o), frames_of-pair (0 + w) o cache) at inner in
     join (frames_of (magazine_holders 0 c.workers)) (frames_of (magazine_holders 0 (with_cache c w o cache).workers)) (frames_of (cache_holders (0 + w) 0 cs)) (frames_of (cache_holders (0 + w) 0 ds))
@@ -125,7 +138,7 @@ pub frames_of-with_depot : (c : Caches) (o : ℕ) (depot : List (List ℕ)) → 
     → frames_of (depot_holders 0 (with_depot c o depot).depots) + 2 ^ o * entries_of (slice_index_or c.depots o []) ≡ frames_of (depot_holders 0 c.depots) + 2 ^ o * entries_of depot
 frames_of-with_depot c o depot in_orders =
     let zero_first : 0 + o ≡ o = omega arith in
-    let all = frames_of-set list_holders depot_holders by_depots 0 o c.depots [] (slice_index_or c.depots o []) depot in_orders refl in
+    let all = weight_of-set frames_in list_holders depot_holders by_depots 0 o c.depots [] (slice_index_or c.depots o []) depot in_orders refl in
     rw (zero_first, frames_of-lists o (slice_index_or c.depots o []), frames_of-lists o depot) at all
 
 -- Both counts are small.

@@ -9,3 +9,4 @@ pub mod OfDepots
 pub mod Shelves
 pub mod Slots
 pub mod Fresh
+pub mod Leaving

@@ -11,10 +11,9 @@ use Rattle.iova_model.specs.Valid.{IsDepot}
 use Rattle.iova_mag.specs.Magazines.{Magazine, IsMagazine}
 use Rattle.iova_mag.specs.Workers.{WorkerCache, with_cache as with_cache_of}
 use Rattle.iova_depot.specs.Stored.{Stored}
-use Rattle.iova_model.specs.State.{magazine_holders, depot_holders, cached_holders}
-use Rattle.iova_depot.specs.Cached.{Cached, with_cache, frames_of}
+use Rattle.iova_depot.specs.Cached.{Cached, with_cache}
 use Rattle.iova_depot.specs.Inside.{seen, IsInside}
-use Rattle.iova_depot.proofs.Counts.{entries_of, pow_of_order, depots_bound, frames_of-append}
+use Rattle.iova_depot.proofs.Counts.{entries_of, pow_of_order, depots_bound}
 use Rattle.iova_depot.proofs.Changes.{all_seen, depot_at-seen, seen-set_depot, all_seen-set_worker}
 use Rattle.iova_depot.proofs.Steps.{shifted, magazine_small, LessInDepot, less-depot, MoreInDepot, more-depot}
 
@@ -89,20 +88,7 @@ pub of_take : (profile : Capacities) (ws : List WorkerCache) (ds : List Stored) 
 of_take profile ws ds m d n o lo p q s lt was keeps sound takes =
     less-depot profile ws ds m d n o p q 1 _ s lt was keeps sound (shifted 1 o (omega arith) lt) (entries_of-takes lo p.lists q.lists takes)
 
--- so many frames fewer are cached
-pub fewer_in_depot : (profile : Capacities) (ws : List WorkerCache) (ds : List Stored) (m d n o : ℕ) (q : Stored) → IsInside profile ws ds m d n → o < 6
-    → LessInDepot profile ws ds m d n o q (1 * 2 ^ o % 18446744073709551616) → frames_of (cached_holders (seen ws (slice_set ds o q))) + 2 ^ o ≡ frames_of (cached_holders (seen ws ds))
-fewer_in_depot profile ws ds m d n o q s lt l =
-    let after = seen ws (slice_set ds o q) in
-    let before = frames_of-append (magazine_holders 0 (seen ws ds).workers) (depot_holders 0 (seen ws ds).depots) in
-    let now = frames_of-append (magazine_holders 0 after.workers) (depot_holders 0 after.depots) in
-    let one = shifted 1 o (omega arith) lt in
-    let fits = l.fits in
-    let sums = l.inside.depot in
-    let all = s.depot in
-    omega arith
-
--- and was one of the shelf's
+-- it was one of the shelf's
 pub takes_from_depot : (profile : Capacities) (ws : List WorkerCache) (ds : List Stored) (m d n o lo : ℕ) (p q : Stored) → IsInside profile ws ds m d n
     → o < 6 → p ≡ slice_index_or ds o p → TakesOutOfDepot lo p.lists q.lists → TakesEntry o lo (seen ws ds) (seen ws (slice_set ds o q))
 takes_from_depot profile ws ds m d n o lo p q s lt was takes =

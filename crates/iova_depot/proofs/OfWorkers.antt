@@ -9,10 +9,9 @@ use Rattle.iova_mag.specs.declared.worker.Got.TheVariants.{Hit}
 use Rattle.iova_mag.specs.Magazines.{Magazine, IsMagazine}
 use Rattle.iova_mag.specs.Workers.{WorkerCache, IsWorkerCache, AreEmpty, HasRoom, cache_of, with_cache as with_cache_of, shelf_of, pair_of, got, newest, without_newest}
 use Rattle.iova_depot.specs.Stored.{Stored}
-use Rattle.iova_model.specs.State.{magazine_holders, depot_holders, cached_holders}
-use Rattle.iova_depot.specs.Cached.{with_cache, frames_of}
+use Rattle.iova_depot.specs.Cached.{with_cache}
 use Rattle.iova_depot.specs.Inside.{seen, IsInside}
-use Rattle.iova_depot.proofs.Counts.{pow_of_order, magazines_bound, frames_of-append}
+use Rattle.iova_depot.proofs.Counts.{pow_of_order, magazines_bound}
 use Rattle.iova_depot.proofs.Moves.{hits, entries_in-get, hits-no_hit, entries_in-put, entries_in-newest, takes_newest, without_newest-none}
 use Rattle.std.proofs.lemmas.List.{set-get_or}
 use Rattle.iova_depot.proofs.Changes.{all_seen, cache_at-seen, profile_at, seen-set_worker, all_seen-set_worker}
@@ -96,19 +95,6 @@ pub of_take : (profile : Capacities) (ws : List WorkerCache) (ds : List Stored) 
 of_take profile ws ds m d n w o lo p q b some =
     let counts = entries_in-newest (cache_of p o) lo some in
     less-worker profile ws ds m d n w o p q _ 1 _ b.inside b.in_workers b.in_orders b.was b.is b.sound (one_shifted o b.in_orders) (omega arith)
-
--- so many frames fewer are cached
-pub fewer_in_magazines : (profile : Capacities) (ws : List WorkerCache) (ds : List Stored) (m d n w o : ℕ) (q : WorkerCache) → IsInside profile ws ds m d n → o < 6
-    → LessInMagazines profile ws ds m d n w q (1 * 2 ^ o % 18446744073709551616) → frames_of (cached_holders (seen (slice_set ws w q) ds)) + 2 ^ o ≡ frames_of (cached_holders (seen ws ds))
-fewer_in_magazines profile ws ds m d n w o q s lt l =
-    let after = seen (slice_set ws w q) ds in
-    let before = frames_of-append (magazine_holders 0 (seen ws ds).workers) (depot_holders 0 (seen ws ds).depots) in
-    let now = frames_of-append (magazine_holders 0 after.workers) (depot_holders 0 after.depots) in
-    let one = one_shifted o lt in
-    let fits = l.fits in
-    let sums = l.inside.magazines in
-    let all = s.magazines in
-    omega arith
 
 -- where nothing was taken, the worker is as it was
 pub same_worker : (ws : List WorkerCache) (w o : ℕ) (p q : WorkerCache) → p ≡ slice_index_or ws w p → q ≡ with_cache_of p o (without_newest (cache_of p o)) → newest (cache_of p o) ≡ None → slice_set ws w q ≡ ws

@@ -1,11 +1,12 @@
 -- All that is cached: the workers' magazines, and the depot.
-use Rattle.std.specs.Prelude.{◌≤◌, ℕ, List, [], sum_by, slice_index_or, slice_set}
+use Rattle.std.specs.Prelude.{ℕ, ◌≡◌, ◌≤◌, ◌+◌, List, [], sum_by, slice_index_or, slice_set}
+use Rattle.iova_range.specs.Frames.{Frames}
 use Rattle.iova_range.specs.Bounds.{Capacities, IsProfile}
 use Rattle.iova_model.specs.declared.place.Place.{Place}
 use Rattle.iova_model.specs.declared.place.Place.TheVariants as place
 use Rattle.iova_model.specs.Caches.{Cache, Caches, new_caches}
-use Rattle.iova_model.specs.State.{Holder}
 use Rattle.iova_model.specs.Valid.{AreCaches}
+use Rattle.iova_model.specs.Laws.{cached_ranges}
 use Rattle.iova_depot.specs.declared.spot.Spot.{Spot}
 use Rattle.iova_depot.specs.declared.spot.Spot.TheVariants.{Magazine, Depot}
 
@@ -25,9 +26,9 @@ pub record IsCached (c : Cached) : Type 0 where
   pub few_workers : c.workers ≤ 16
   pub caches : AreCaches c.profile c.workers c.caches
 
--- how many frames the holders have
-abbrev pub frames_of : List Holder → ℕ
-frames_of holders = sum_by (λ h. h.range.len) holders
+-- A range has left, and all else that was cached is cached: whatever ranges weigh, that one is what they weigh less.
+abbrev pub LosesOnly : Frames → Caches → Caches → Type 0
+LosesOnly r old new = (weigh : Frames → ℕ) → sum_by weigh (cached_ranges new) + weigh r ≡ sum_by weigh (cached_ranges old)
 
 -- the place that a spot stands for
 abbrev pub place_at : Spot → Place

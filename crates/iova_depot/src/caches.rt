@@ -4,8 +4,9 @@ ghost use Rattle.iova_range.specs.Bounds.{first_profile};
 ghost use Rattle.iova_range.specs.Frames.{covers};
 ghost use Rattle.iova_model.specs.Caches.{TakesAny, TakesEntry, emptied, cache_at, shelf_at, with_shelf, get, put, sent_out, last_or, front};
 ghost use Rattle.iova_model.specs.State.{magazine_holders, depot_holders, cached_holders};
+ghost use Rattle.iova_model.specs.Laws.{frames_of};
 ghost use Rattle.iova_mag.specs.Workers.{AreEmpty, AreFull, HasRoom, shelf_of, pair_of, got, new_worker};
-ghost use Rattle.iova_depot.specs.Cached.{Cached, IsCached, new_cached, frames_of, place_at, with_cache, with_depot};
+ghost use Rattle.iova_depot.specs.Cached.{Cached, IsCached, LosesOnly, new_cached, place_at, with_cache, with_depot};
 
 use crate::depot::Depot;
 use crate::spot::Spot;
@@ -113,16 +114,16 @@ impl Caches {
         }
     }
 
-    /// Puts the first frame of a range of this order, 0 to 5, into worker `w`'s loaded magazine; the range ends below
-    /// 2^40. Where loaded is full and previous isn't, they change places first; where both are full, loaded goes last
-    /// into the depot and an empty one stands in its place. Where the depot has as many as it takes, that magazine is
-    /// given to the caller, who frees its ranges; else None
+    /// Puts the first frame of a range of this order, 0 to 5, into worker `w`'s loaded magazine; it is below 2^40. Where
+    /// loaded is full and previous isn't, they change places first; where both are full, loaded goes last into the depot
+    /// and an empty one stands in its place. Where the depot has as many as it takes, that magazine is given to the
+    /// caller, who frees its ranges; else None
     /// (Linux 5.15 `drivers/iommu/iova.c`: `__iova_rcache_insert`).
     #[inline]
     pub fn put(&mut self, w: usize, order: u8, lo: u64) -> Option<Magazine>
         requires worker { w < self.old.workers }
         requires order { order < ORDERS }
-        requires small { lo + 2 ^ order ≤ 2 ^ 40 }
+        requires small { lo < 2 ^ 40 }
         ensures left { self.new ≡ record self.old { caches = with_shelf self.old.caches w order (put self.old.profile (shelf_at self.old.caches w order) lo) } }
         ensures none { IfNone result (sent_out self.old.profile (shelf_at self.old.caches w order) ≡ []) }
         ensures sent { IfSome result (λ m. m ≡ record { profile = self.old.profile; entries = sent_out self.old.profile (shelf_at self.old.caches w order) }) }
@@ -140,6 +141,7 @@ impl Caches {
     /// form of what Linux 5.15 `drivers/iommu/iova.c` does by magazines: `free_cpu_cached_iovas`, `free_global_cached_iovas`.
     pub fn take_any(&mut self) -> Option<(u8, u64)>
         ensures taken { TakesAny self.old.caches result self.new.caches }
+        ensures loses { IfSome result (λ entry. LosesOnly (record { lo = entry.1; len = 2 ^ entry.0 }) self.old.caches self.new.caches) }
         ensures fewer { IfSome result (λ entry. frames_of (cached_holders self.new.caches) + 2 ^ entry.0 ≡ frames_of (cached_holders self.old.caches)) }
         ensures emptied { emptied self.new.caches ≡ emptied self.old.caches }
         ensures same { self.new ≡ record self.old { caches = self.new.caches } }
@@ -329,7 +331,6 @@ impl Caches {
         ensures magazines { (w o : ℕ) → w < self.old.workers → o < ORDERS → w * ORDERS + o ≡ slot → IfNone result (AreEmpty (cache_at self.old.caches w o)) }
         ensures depots { (o : ℕ) → o < ORDERS → self.old.workers * ORDERS + o ≡ slot → IfNone result (slice_index_or self.old.caches.depots o [] ≡ []) }
         ensures taken { IfSome result (λ lo. TakesEntry (slot % ORDERS) lo self.old.caches self.new.caches) }
-        ensures fewer { IfSome result (λ _. frames_of (cached_holders self.new.caches) + 2 ^ (slot % ORDERS) ≡ frames_of (cached_holders self.old.caches)) }
         ensures same { self.new ≡ record self.old { caches = self.new.caches } }
         ensures sound { IsCached self.new }
     {
@@ -346,7 +347,6 @@ impl Caches {
         requires order { order < ORDERS }
         ensures none { IfNone result ((self.new ≡ self.old) × AreEmpty (cache_at self.old.caches w order)) }
         ensures taken { IfSome result (λ lo. TakesEntry order lo self.old.caches self.new.caches) }
-        ensures fewer { IfSome result (λ _. frames_of (cached_holders self.new.caches) + 2 ^ order ≡ frames_of (cached_holders self.old.caches)) }
         ensures same { self.new ≡ record self.old { caches = self.new.caches } }
         ensures sound { IsCached self.new }
     {
@@ -360,7 +360,6 @@ impl Caches {
         requires { order < ORDERS }
         ensures none { IfNone result ((self.new ≡ self.old) × (slice_index_or self.old.caches.depots order [] ≡ [])) }
         ensures taken { IfSome result (λ lo. TakesEntry order lo self.old.caches self.new.caches) }
-        ensures fewer { IfSome result (λ _. frames_of (cached_holders self.new.caches) + 2 ^ order ≡ frames_of (cached_holders self.old.caches)) }
         ensures same { self.new ≡ record self.old { caches = self.new.caches } }
         ensures sound { IsCached self.new }
     {

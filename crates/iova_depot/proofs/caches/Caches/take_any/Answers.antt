@@ -1,6 +1,7 @@
 use Rattle.std.proofs.Common.{◌≡◌, ◌≤◌, ◌+◌, ◌*◌, length, vec_len, ap, ◌∙◌, arith}
 use Rattle.iova_model.specs.Caches.{emptied}
 use Rattle.iova_depot.specs.Cached.{Cached}
+use Rattle.iova_depot.proofs.Leaving.{takes_seen, loses_only, loses_frames}
 use Rattle.iova_depot.proofs.Slots.{with_first, first_kept, emptied-takes, nothing_left}
 use Rattle.iova_depot.proofs.caches.Caches.take_any.Goals as goal
 
@@ -21,3 +22,11 @@ returns-clause-taken c =
       nothing_left _ _ _ _ _ _ _ _ _ c.self.invariant c.self.view_is c.loop-slot.invariant.same c.loop-slot.invariant.empty all,
       ap (λ (seen : Cached). seen.caches) (c.self-2.view_is ∙ c.loop-slot.invariant.same),
     )
+
+pub returns-in-Some-clause-loses : goal.returns-in-Some-clause-loses
+returns-in-Some-clause-loses c =
+    loses_only _ _ _ _ (takes_seen _ _ _ _ _ _ _ _ c.self-in-loop-slot.view_is c.loop-slot.invariant.same c.in-Some.ensures.taken)
+
+pub returns-in-Some-clause-fewer : goal.returns-in-Some-clause-fewer
+returns-in-Some-clause-fewer c =
+    loses_frames _ _ _ _ (takes_seen _ _ _ _ _ _ _ _ c.self-in-loop-slot.view_is c.loop-slot.invariant.same c.in-Some.ensures.taken)

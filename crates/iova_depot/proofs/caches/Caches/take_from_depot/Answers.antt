@@ -1,5 +1,5 @@
 use Rattle.iova_depot.proofs.Changes.{cached}
-use Rattle.iova_depot.proofs.OfDepots.{fewer_in_depot, of_take, takes_from_depot}
+use Rattle.iova_depot.proofs.OfDepots.{of_take, takes_from_depot}
 use Rattle.iova_depot.proofs.caches.Caches.take_from_depot.Goals as goal
 
 pub overflow_sub-self : goal.overflow_sub-self
@@ -13,6 +13,3 @@ returns-clause-taken c = rw (← c.self.view_is) (takes_from_depot _ _ _ _ _ _ _
 
 pub returns-clause-sound : goal.returns-clause-sound
 returns-clause-sound c = cached _ _ _ _ _ _ (of_take _ _ _ _ _ _ _ _ _ _ c.self.invariant c.requires c.index_mut-depot.ensures.value c.in_ok-lo.ensures.same c.in_ok-lo.ensures.sound c.in_ok-lo.ensures.taken).inside
-
-pub returns-clause-fewer : goal.returns-clause-fewer
-returns-clause-fewer c = rw (← c.self.view_is) (fewer_in_depot _ _ _ _ _ _ _ _ c.self.invariant c.requires (of_take _ _ _ _ _ _ _ _ _ _ c.self.invariant c.requires c.index_mut-depot.ensures.value c.in_ok-lo.ensures.same c.in_ok-lo.ensures.sound c.in_ok-lo.ensures.taken))

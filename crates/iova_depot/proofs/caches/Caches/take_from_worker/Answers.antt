@@ -1,7 +1,7 @@
 use Rattle.std.proofs.Common.{◌<◌, length, sym, ap, ◌∙◌}
 use Rattle.iova_depot.proofs.Changes.{all_seen, cached}
 use Rattle.iova_depot.proofs.Moves.{on_none}
-use Rattle.iova_depot.proofs.OfWorkers.{becomes, fewer_in_magazines, of_take, of_no_take, same_worker, none_in_worker, takes_from_worker}
+use Rattle.iova_depot.proofs.OfWorkers.{becomes, of_take, of_no_take, same_worker, none_in_worker, takes_from_worker}
 use Rattle.iova_depot.proofs.caches.Caches.take_from_worker.Goals as goal
 
 pub invariant_of-self : goal.invariant_of-self
@@ -43,13 +43,6 @@ returns-clause-taken c =
     let worker : c.args.w < length c.self.inside.workers.items = rw (← c.self.view_is) at c.requires.worker in
     let some = sym c.take_newest.ensures.value ∙ c.in_ok-lo.was in
     rw (← c.self.view_is) (takes_from_worker _ _ _ _ _ _ _ worker c.index_mut-worker.ensures.value c.take_newest.ensures.left some)
-
-pub returns-clause-fewer : goal.returns-clause-fewer
-returns-clause-fewer c =
-    let worker : c.args.w < length c.self.inside.workers.items = rw (← c.self.view_is) at c.requires.worker in
-    let b = becomes _ _ _ _ _ _ _ _ _ _ _ c.self.invariant worker c.requires.order c.index_mut-worker.ensures.value c.take_newest.ensures.left c.take_newest.ensures.sound in
-    let some = sym c.take_newest.ensures.value ∙ c.in_ok-lo.was in
-    rw (← c.self.view_is) (fewer_in_magazines _ _ _ _ _ _ _ _ _ c.self.invariant c.requires.order (of_take _ _ _ _ _ _ _ _ _ _ _ b some))
 
 pub returns-clause-sound : goal.returns-clause-sound
 returns-clause-sound c =
