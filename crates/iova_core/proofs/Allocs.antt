@@ -1,59 +1,45 @@
 -- A request, from what its calls say to what the definitions say.
-use Rattle.std.proofs.Common.{ℕ, ◌≡◌, ◌==◌, ◌<◌, ◌≤◌, ◌⊎◌, inl, inr, Bool, true, false, List, Option, Some, None, refl, sym, ap, ◌∙◌, subst, arith, length}
-use Rattle.std.specs.Prelude.{nat_le, nat_lt, option_map, unwrap_or, if◌then◌else◌}
+use Rattle.std.proofs.Common.{ℕ, ◌≡◌, ◌≢◌, ◌+◌, ◌^◌, ◌==◌, ◌<◌, ◌≤◌, ◌⊎◌, inl, inr, Bool, true, false, cond, List, [], ◌∷◌, Option, Some, None, refl, sym, ap, ◌∙◌, subst, arith, length, find, sum_by}
+use Rattle.std.specs.Prelude.{nat_le, nat_lt, option_map, IsSomeAnd}
 use Rattle.std.proofs.lemmas.Bool.Decides.{nat_tests}
 use Rattle.iova_range.specs.Frames.{Frames}
+use Rattle.iova_range.specs.Bounds.{Extent}
 use Rattle.iova_range.specs.Sizes.{need}
 use Rattle.iova_range.specs.declared.refusal.Refusal.TheVariants as refusal
+use Rattle.iova_model.specs.declared.step.Step.TheVariants as step
 use Rattle.iova_model.specs.declared.step.Reply.TheVariants as reply
 use Rattle.iova_model.specs.declared.step.Point.{Point}
 use Rattle.iova_model.specs.declared.step.Point.TheVariants as point
-use Rattle.iova_model.specs.Clients.{Client, client_with, client_of, changed, with_holding, insert_rising}
-use Rattle.iova_model.specs.State.{State, held_ranges}
+use Rattle.iova_model.specs.Caches.{Caches}
+use Rattle.iova_model.specs.Clients.{Client, client_with, client_of, changed, with_holding, begins_at}
+use Rattle.iova_model.specs.Laws.{cached_ranges}
+use Rattle.iova_model.specs.State.{State}
 use Rattle.iova_model.specs.Valid.{IsValid}
-use Rattle.iova_model.specs.Next.{Next, Found, Nowhere, At, OutOfMemory, refused, given, given_by, first_refusal, alloc_tests, alloc, is_at, with_clients}
-use Rattle.iova_model.proofs.Placing.{AreSome}
-use Rattle.iova_tree.specs.Space.{Space}
-use Rattle.iova_clients.specs.Registry.{room_refusal}
+use Rattle.iova_model.specs.Next as next
+use Rattle.iova_tree.specs.Space.{Space, IsSpace, RiseApart, ranges_of}
+use Rattle.iova_clients.specs.Registry.{Registry, room_refusal, CanBeGiven}
+use Rattle.iova_depot.specs.Cached.{Cached}
+use Rattle.iova_core.specs.declared.walk.Found.{Found}
 use Rattle.iova_core.specs.declared.walk.Found.TheVariants as found
+use Rattle.iova_core.specs.Stock.{HasAll, Exchanges}
 use Rattle.iova_core.specs.Tied.{IsTied}
-use Rattle.iova_core.specs.Walk.{Sought, sought_among, Walks}
-use Rattle.iova_core.proofs.Covered.{held_some}
-use Rattle.iova_core.proofs.Given.{sought_alike, some_alike, not_never, at_itself, not_ledger, IsTreePoint}
+use Rattle.iova_core.specs.Domain.{Parts, state_of, IsDomain}
+use Rattle.iova_core.specs.Walk.{Stands, Comes, point_of, placed, found_as, IsPlacedOf}
 use Rattle.iova_core.proofs.Outcomes.{IsOwned, owner_is}
-use Rattle.iova_core.proofs.Plain.{IsPlain, found_of, walk_plain}
+use Rattle.iova_core.proofs.Queues.{inserted_load}
 use Rattle.iova_core.proofs.Reductions.{room_refusal_of, alloc_walks}
-
--- The walk's clause, by what was found.
-
-pub record IsPlaced (o : Option Sought) (size : ℕ) (old new : Space) (r : Frames) : Type 0 where
-  pub sought : Sought
-  pub is : o ≡ Some sought
-  pub range : r ≡ record { lo = sought.lo; len = size }
-  pub tree : new ≡ record old { inserted = insert_rising r old.inserted }
-
-pub walks_placed : (o : Option Sought) (size : ℕ) (old new : Space) (r : Frames) → Walks o size old new (found.Placed r) → IsPlaced o size old new r
-walks_placed None size old new r h = absurd h
-walks_placed (Some t) size old new r h = record { sought = t; is = refl; range = h.0; tree = h.1 }
-
-pub walks_nowhere : (o : Option Sought) (size : ℕ) (old new : Space) → Walks o size old new found.Nowhere → (o ≡ None) × (new ≡ old)
-walks_nowhere None size old new h = (refl, h)
-walks_nowhere (Some t) size old new h = absurd h
-
-pub record IsStarved (o : Option Sought) (old new : Space) (here : Point) : Type 0 where
-  pub sought : Sought
-  pub is : o ≡ Some sought
-  pub point : here ≡ sought.point
-  pub tree : new ≡ old
-
-pub walks_starved : (o : Option Sought) (size : ℕ) (old new : Space) (here : Point) → Walks o size old new (found.Starved here) → IsStarved o old new here
-walks_starved None size old new here h = absurd h
-walks_starved (Some t) size old new here h = record { sought = t; is = refl; point = h.0; tree = h.1 }
+use Rattle.iova_core.proofs.Stocks.{cached_sum, has_low}
+use Rattle.iova_core.proofs.Ties.{load_tied}
+use Rattle.iova_laws.proofs.Weight as weight
+use Rattle.iova_laws.proofs.WeightHolders.{load}
+use Rattle.iova_laws.proofs.ConserveSteps.{given_moved}
+use Rattle.iova_laws.proofs.Valid.{steps_keep_validity}
+use Rattle.iova_laws.proofs.Walks.{walk_walked}
 
 -- A request that has passed the tests before the walk.
 pub record IsAsked (s : State) (w id frames : ℕ) (c : Client) : Type 0 where
   pub known : w < s.workers
-  pub tests : first_refusal (alloc_tests s w frames) ≡ None
+  pub tests : next.first_refusal (next.alloc_tests s w frames) ≡ None
   pub found : client_with id s.clients ≡ Some c
   pub client : client_of w id s.clients ≡ Some c
   pub room : room_refusal_of s w id frames 0 c ≡ None
@@ -66,33 +52,144 @@ asked_from s w id frames known some few owner room =
     let many : nat_lt 1048576 frames ≡ false = grind (arith, nat_tests) in
     (own.0, record { known = known; tests = rw (worker, one, many) refl; found = own.1.found; client = own.1.owned; room = rw own.1.found at room })
 
--- What the definitions answer, where this is sought in the tree.
-pub alloc_found : (s : State) (ranges : List Frames) (w id frames limit : ℕ) (c : Client) (m : Point) → IsAsked s w id frames c → IsPlain s → IsValid s → IsTied ranges s → 1 ≤ need frames → is_at point.Ledger m ≡ false
-    → alloc s w id frames limit m ≡ given (found_of (sought_among s.bounds ranges c.sac (need frames) limit) m) s id (need frames)
-alloc_found s ranges w id frames limit c m asked plain valid tied some elsewhere =
-    alloc_walks s w id frames limit m c asked.tests asked.client asked.room elsewhere
-    ∙ (ap (λ t. given_by t id (need frames)) (walk_plain s w c.sac (need frames) limit m plain asked.known)
-    ∙ ap (λ o. given (found_of o m) s id (need frames)) (sym (sought_alike s ranges c.sac (need frames) limit some valid tied (some_alike ranges (held_ranges s) tied (held_some s valid)))))
+not_full : (closing : Bool) (held : ℕ) → next.first_refusal ((closing, refusal.Closing) ∷ (nat_le 4096 held, refusal.HoldingsFull) ∷ []) ≡ None → held < 4096
+not_full true held h = absurd cc
+not_full false held h = step (nat_le 4096 held) refl
+  where
+    step : (b : Bool) → nat_le 4096 held ≡ b → held < 4096
+    step true is = absurd (let e = rw is at h in cc)
+    step false is = grind (arith, nat_tests)
 
-module _ (s : State) (ranges : List Frames) (w id frames limit : ℕ) (c : Client) (asked : IsAsked s w id frames c) (plain : IsPlain s) (valid : IsValid s) (tied : IsTied ranges s) (some : 1 ≤ need frames) where
-  -- a place is given
-  pub alloc_placed : (t : Sought) (r : Frames) → IsTreePoint t.point → sought_among s.bounds ranges c.sac (need frames) limit ≡ Some t → r ≡ record { lo = t.lo; len = need frames }
-      → alloc s w id frames limit point.Never ≡ record { reply = reply.Given r; state = with_clients s (changed id (with_holding r) s.clients) }
-  alloc_placed t r tree is range =
-      alloc_found s ranges w id frames limit c point.Never asked plain valid tied some refl
-      ∙ (ap (λ o. given (found_of o point.Never) s id (need frames)) is
-      ∙ (ap (λ (b : Bool). given (if b then OutOfMemory else At t.lo) s id (need frames)) (not_never t.point tree)
-      ∙ ap (λ (x : Frames). let n : Next = record { reply = reply.Given x; state = with_clients s (changed id (with_holding x) s.clients) } in n) (sym range)))
+-- Where ranges begin.
 
-  -- nothing fits
-  pub alloc_nowhere : sought_among s.bounds ranges c.sac (need frames) limit ≡ None → alloc s w id frames limit point.Never ≡ refused refusal.NoSpace s
-  alloc_nowhere is =
-      alloc_found s ranges w id frames limit c point.Never asked plain valid tied some refl ∙ ap (λ o. given (found_of o point.Never) s id (need frames)) is
+abbrev pub begins : ℕ → Frames → ℕ
+begins lo r = cond (r.lo == lo) 1 0
 
-  -- the tree's growth is refused
-  pub alloc_starved : (t : Sought) (here : Point) → IsTreePoint t.point → sought_among s.bounds ranges c.sac (need frames) limit ≡ Some t → here ≡ t.point → alloc s w id frames limit here ≡ refused refusal.NoMemory s
-  alloc_starved t here tree is at =
-      ap (λ m. alloc s w id frames limit m) at
-      ∙ (alloc_found s ranges w id frames limit c t.point asked plain valid tied some (not_ledger t.point tree)
-      ∙ (ap (λ o. given (found_of o t.point) s id (need frames)) is
-      ∙ ap (λ (b : Bool). given (if b then OutOfMemory else At t.lo) s id (need frames)) (at_itself t.point tree)))
+begins_later : (from until lo : ℕ) (rs : List Frames) → RiseApart from rs until → lo < from → weight.ranges (begins lo) rs ≡ 0
+begins_later from until lo [] rise lt = refl
+begins_later from until lo (r ∷ rs) rise lt =
+    let other : (r.lo == lo) ≡ false = let le = rise.0 in grind (arith, nat_tests) in
+    let none = begins_later (r.lo + r.len) until lo rs rise.2 (omega (arith, rise.0, rise.1)) in
+    rw other (omega (arith, none))
+
+-- no two that rise apart begin at the same frame
+begins_once : (from until lo : ℕ) (rs : List Frames) → RiseApart from rs until → weight.ranges (begins lo) rs ≤ 1
+begins_once from until lo [] rise = omega arith
+begins_once from until lo (r ∷ rs) rise = step (begins_once (r.lo + r.len) until lo rs rise.2) (r.lo == lo) refl
+  where
+    step : weight.ranges (begins lo) rs ≤ 1 → (b : Bool) → (r.lo == lo) ≡ b → weight.ranges (begins lo) (r ∷ rs) ≤ 1
+    step more true is =
+        let at : r.lo ≡ lo = grind (arith, nat_tests) in
+        let none = begins_later (r.lo + r.len) until lo rs rise.2 (omega (arith, at, rise.1)) in
+        rw is (omega (arith, none))
+    step more false is = rw is (omega (arith, more))
+
+none_begins : (lo : ℕ) (rs : List Frames) → weight.ranges (begins lo) rs ≡ 0 → find (begins_at lo) rs ≡ None
+none_begins lo [] none = refl
+none_begins lo (r ∷ rs) none = step (λ h. none_begins lo rs h) (r.lo == lo) refl
+  where
+    step : (weight.ranges (begins lo) rs ≡ 0 → find (begins_at lo) rs ≡ None) → (b : Bool) → (r.lo == lo) ≡ b → find (begins_at lo) (r ∷ rs) ≡ None
+    step more true is = absurd (let e = rw is at none in omega (arith, e))
+    step more false is = let e = rw is at none in rw is (more (omega (arith, e)))
+
+begins_itself : (r : Frames) → begins r.lo r ≡ 1
+begins_itself r = let e : (r.lo == r.lo) ≡ true = grind (arith, nat_tests) in rw e refl
+
+-- The walk of a request that may be asked.
+module _ (p : Parts) (h : IsDomain p) (w id frames limit : ℕ) (c : Client) (asked : IsAsked (state_of p) w id frames c) (tree : Space) (cached : Cached) (f : Found)
+    (comes : (s : State) → Stands p.tree p.cached.caches s → Comes (next.walk s w c.sac (need frames) limit (point_of f)) f cached.caches) (elsewhere : point_of f ≢ point.Ledger) (ex : Exchanges p.tree tree p.cached cached (placed f) []) where
+  stands : Stands p.tree p.cached.caches (state_of p)
+  stands = record { bounds = refl; windows = refl; cached = refl; tied = h.tied }
+
+  not_ledger : (m : Point) → m ≢ point.Ledger → next.is_at point.Ledger m ≡ false
+  not_ledger point.Never other = refl
+  not_ledger point.Once other = refl
+  not_ledger point.Ledger other = absurd (other refl)
+  not_ledger point.First other = refl
+  not_ledger point.Second other = refl
+  not_ledger point.Last other = refl
+
+  -- what the definitions answer
+  pub alloc_is : next.alloc (state_of p) w id frames limit (point_of f) ≡ next.given (found_as f) (next.with_caches (state_of p) cached.caches) id (need frames)
+  alloc_is =
+      let s = state_of p in
+      let t = next.walk s w c.sac (need frames) limit (point_of f) in
+      let e = comes s stands in
+      let state : t.state ≡ next.with_caches s cached.caches = (walk_walked s w c.sac (need frames) limit (point_of f)).is ∙ ap (λ x. next.with_caches s x) e.left in
+      alloc_walks s w id frames limit (point_of f) c asked.tests asked.client asked.room (not_ledger (point_of f) elsewhere)
+      ∙ (ap (λ x. next.given x t.state id (need frames)) e.found ∙ ap (λ x. next.given (found_as f) x id (need frames)) state)
+
+  -- Caches that were moved or emptied, and no more.
+  abbrev pub walked_parts : Registry → Parts
+  walked_parts r = record p { tree = tree; cached = cached; clients = r }
+
+  pub walked_state : (r : Registry) → r.clients ≡ p.clients.clients → r.serial ≡ p.clients.serial → next.with_caches (state_of p) cached.caches ≡ state_of (walked_parts r)
+  walked_state r clients serial =
+      let made : Extent → ℕ → List Frames → List Client → ℕ → State = λ b n windows cs k. record { bounds = b; workers = n; windows = windows; clients = cs; serial = k; caches = cached.caches; rings = p.rings; flushes = p.flushes } in
+      ap (λ b. made b p.cached.workers p.tree.windows p.clients.clients p.clients.serial) (sym ex.bounds)
+      ∙ (ap (λ n. made tree.bounds n p.tree.windows p.clients.clients p.clients.serial) (sym ex.workers)
+      ∙ (ap (λ x. made tree.bounds cached.workers x p.clients.clients p.clients.serial) (sym ex.windows)
+      ∙ (ap (λ x. made tree.bounds cached.workers tree.windows x p.clients.serial) (sym clients)
+      ∙ ap (λ x. made tree.bounds cached.workers tree.windows r.clients x) (sym serial))))
+
+  -- what others have has grown by what was found
+  grown : (weigh : Frames → ℕ) → sum_by weigh tree.inserted + weight.cached weigh p.cached.caches ≡ load weigh (state_of p) + weight.cached weigh cached.caches + weight.ranges weigh (placed f)
+  grown weigh =
+      omega (arith, ex.balance weigh, inserted_load p weigh h, cached_sum weigh p.cached.caches, cached_sum weigh cached.caches, weight.ranges_are weigh (placed f), weight.ranges_are weigh [])
+
+  profile_kept : cached.profile ≡ tree.bounds.profile
+  profile_kept = ex.profile ∙ (h.profile ∙ sym (ap (λ (b : Extent). b.profile) ex.bounds))
+
+  pub domain_walked : (r : Registry) → r.clients ≡ p.clients.clients → r.serial ≡ p.clients.serial → placed f ≡ [] → (next.alloc (state_of p) w id frames limit (point_of f)).state ≡ state_of (walked_parts r) → IsDomain (walked_parts r)
+  domain_walked r clients serial nothing leaves =
+      let q = walked_parts r in
+      record {
+        valid = subst IsValid leaves (steps_keep_validity (state_of p) (step.Alloc w id frames limit) (point_of f) h.valid);
+        tied = load_tied tree.inserted (state_of q) (λ weigh.
+            omega (arith, grown weigh, ap (weight.ranges weigh) nothing, weight.ranges_are weigh tree.inserted, ap (weight.clients weigh) clients));
+        space = ex.space;
+        profile = profile_kept;
+        counted = h.counted ∙ sym (ap (sum_by (λ r. r.len)) ex.windows);
+      }
+
+  -- A range was found.
+  module _ (r : Frames) (is : placed f ≡ r ∷ []) where
+    weighs : (weigh : Frames → ℕ) → weight.ranges weigh (placed f) ≡ weigh r
+    weighs weigh = omega (arith, ap (weight.ranges weigh) is)
+
+    pub found_low : r.lo + r.len ≤ 2 ^ 40
+    found_low = has_low tree r ex.space (λ weigh. omega (arith, grown weigh, weighs weigh, weight.ranges_are weigh (r ∷ [])))
+
+    pub found_new : (r' : Registry) → r'.clients ≡ p.clients.clients → IsSomeAnd (client_with id r'.clients) (CanBeGiven r)
+    found_new r' clients =
+        let once = begins_once tree.bounds.start (tree.bounds.last + 1) r.lo tree.inserted ex.space.inserted in
+        let b = begins r.lo in
+        let none : weight.ranges b c.holdings ≡ 0 =
+        omega (arith, once, grown b, weighs b, begins_itself r, weight.ranges_are b tree.inserted, weight.holdings_le b id c p.clients.clients asked.found) in
+        let there : client_with id r'.clients ≡ Some c = ap (client_with id) clients ∙ asked.found in
+        rw there (record { room = not_full c.closing (length c.holdings) asked.room; new = none_begins r.lo c.holdings none })
+
+    -- and given
+    pub given_state : (r' : Registry) → r'.clients ≡ changed id (with_holding r) p.clients.clients → r'.serial ≡ p.clients.serial → r.len ≡ need frames → found_as f ≡ next.At r.lo → (next.alloc (state_of p) w id frames limit (point_of f)).state ≡ state_of (walked_parts r')
+    given_state r' clients serial size at =
+        let t = next.with_caches (state_of p) cached.caches in
+        let one : ℕ → Frames = λ n. record { lo = r.lo; len = n } in
+        let range : one (need frames) ≡ r = ap one (sym size) in
+        let made : List Client → State = λ cs. next.with_clients t cs in
+        let kept : Registry = record { clients = p.clients.clients; serial = r'.serial; spares = r'.spares } in
+        ap (λ (n : next.Next). n.state) alloc_is
+        ∙ (ap (λ x. (next.given x t id (need frames)).state) at
+        ∙ (ap (λ x. made (changed id (with_holding x) p.clients.clients)) range
+        ∙ (ap made (sym clients) ∙ ap (λ x. next.with_clients x r'.clients) (walked_state kept refl serial))))
+
+    pub domain_given : (r' : Registry) → r'.clients ≡ changed id (with_holding r) p.clients.clients → (next.alloc (state_of p) w id frames limit (point_of f)).state ≡ state_of (walked_parts r') → IsDomain (walked_parts r')
+    domain_given r' clients leaves =
+        let q = walked_parts r' in
+        record {
+          valid = subst IsValid leaves (steps_keep_validity (state_of p) (step.Alloc w id frames limit) (point_of f) h.valid);
+          tied = load_tied tree.inserted (state_of q) (λ weigh.
+              omega (arith, grown weigh, weighs weigh, weight.ranges_are weigh tree.inserted, ap (weight.clients weigh) clients, (given_moved (state_of p) id c r asked.found).balance weigh));
+          space = ex.space;
+          profile = profile_kept;
+          counted = h.counted ∙ sym (ap (sum_by (λ r. r.len)) ex.windows);
+        }

@@ -1,78 +1,133 @@
 -- What a domain keeps, step by step.
-use Rattle.std.proofs.Common.{ℕ, zero, suc, ◌≡◌, ◌+◌, ◌<◌, ◌≤◌, ◌++◌, Bool, true, false, List, [], ◌∷◌, Option, Some, None, refl, sym, ap, ◌∙◌, subst, arith}
-use Rattle.std.specs.Prelude.{nat_le, sum_by, replicate, Result, Ok, Err}
+use Rattle.std.proofs.Common.{ℕ, zero, suc, ◌≡◌, ◌+◌, ◌<◌, ◌≤◌, ◌++◌, Bool, true, false, List, [], ◌∷◌, Option, Some, None, refl, sym, ap, ◌∙◌, subst, arith, replicate, sum_by, map}
+use Rattle.std.specs.Prelude.{nat_le}
 use Rattle.std.proofs.lemmas.Bool.Decides.{nat_tests}
 use Rattle.iova_range.specs.Frames.{Frames}
 use Rattle.iova_range.specs.Bounds.{Extent, IsExtent}
-use Rattle.iova_range.specs.declared.refusal.Refusal.{Refusal}
-use Rattle.iova_model.specs.declared.step.Reply.TheVariants as reply
 use Rattle.iova_model.specs.declared.step.Step.{Step}
 use Rattle.iova_model.specs.declared.step.Step.TheVariants as step
 use Rattle.iova_model.specs.declared.step.Point.{Point}
 use Rattle.iova_model.specs.declared.step.Point.TheVariants as point
 use Rattle.iova_model.specs.Caches.{new_caches, emptied}
-use Rattle.iova_model.specs.Clients.{Client, new_client, client_with, changed, with_holding, insert_rising}
+use Rattle.iova_model.specs.Flushes.{Flushes, flushes_from}
 use Rattle.iova_model.specs.State.{State, new_domain}
 use Rattle.iova_model.specs.Valid.{IsValid}
-use Rattle.iova_model.specs.Next.{Next, next, no_worker, opened, open_client, with_clients}
-use Rattle.iova_tree.specs.Space.{Space, ranges_of}
-use Rattle.iova_clients.specs.Registry.{Registry, empty_registry, open_refusal}
-use Rattle.iova_core.specs.Tied.{IsTied}
-use Rattle.iova_core.specs.Domain.{state_from, IsDomain}
-use Rattle.iova_core.proofs.Ties.{load_tied, tied_same, tied_given}
-use Rattle.iova_core.proofs.Plain.{emptied_none}
+use Rattle.iova_model.specs.Next.{Next, next, no_worker, opened, with_flushes, with_clients}
+use Rattle.iova_tree.specs.Space.{Space, IsSpace, ranges_of}
+use Rattle.iova_clients.specs.Registry.{Registry, open_refusal}
+use Rattle.iova_model.specs.Clients.{Client, new_client, client_with, changed, marked, forgotten}
 use Rattle.iova_core.proofs.Reductions.{open_taken}
+use Rattle.iova_depot.specs.Cached.{Cached, new_cached}
+use Rattle.iova_core.specs.Tied.{IsTied}
+use Rattle.iova_core.specs.Domain.{Parts, state_of, IsDomain}
+use Rattle.iova_core.proofs.Ties.{tied_load, load_tied}
 use Rattle.iova_laws.proofs.Weight as weight
 use Rattle.iova_laws.proofs.WeightHolders.{load}
 use Rattle.iova_laws.proofs.WeightCaches.{cached-emptied}
-use Rattle.iova_laws.proofs.ConserveSteps.{opened_moved, given_moved}
-use Rattle.iova_laws.proofs.Valid.{new_domains_are_valid, steps_keep_validity}
+use Rattle.iova_laws.proofs.ConserveSteps.{IsMoved, flushes_moved, opened_moved, marked_moved, forgotten_moved}
+use Rattle.iova_laws.proofs.Valid.{new_domains_are_valid, steps_keep_validity, with_marked_valid, without_client_valid}
 
 -- A new domain.
+
+map-replicate : {A B : Type 0} (f : A → B) (n : ℕ) (x : A) → map f (replicate n x) ≡ replicate n (f x)
+map-replicate f zero x = refl
+map-replicate f (suc n) x = ap (λ ys. f x ∷ ys) (map-replicate f n x)
+
+magazines_none : (weigh : Frames → ℕ) (n : ℕ) → weight.magazines weigh (new_caches n).workers ≡ 0
+magazines_none weigh zero = refl
+magazines_none weigh (suc n) = omega (arith, magazines_none weigh n)
 
 rings_none : (weigh : Frames → ℕ) (n : ℕ) → weight.rings weigh (replicate n []) ≡ 0
 rings_none weigh zero = refl
 rings_none weigh (suc n) = omega (arith, rings_none weigh n)
 
-pub domain_new : (bounds : Extent) (workers : ℕ) → IsExtent bounds → 1 ≤ workers → workers ≤ 16 → IsDomain (record { bounds = bounds; inserted = []; windows = [] }) (empty_registry 0) workers
-domain_new bounds workers extent some few = record {
-  valid = new_domains_are_valid bounds workers extent some few;
-  tied = load_tied [] (new_domain bounds workers) (λ weigh. omega (arith, rings_none weigh workers, cached-emptied weigh (new_caches workers), ap (weight.cached weigh) (emptied_none workers)));
+pub domain_new : (p : Parts) (bounds : Extent) (workers : ℕ) → state_of p ≡ new_domain bounds workers → p.tree ≡ record { bounds = bounds; inserted = []; windows = [] } → p.cached ≡ new_cached bounds.profile workers → IsSpace p.tree → IsExtent bounds → 1 ≤ workers → workers ≤ 16 → p.reserved ≡ 0 → IsDomain p
+domain_new p bounds workers is tree cached space extent some few counted = record {
+  valid = subst IsValid (sym is) (new_domains_are_valid bounds workers extent some few);
+  tied =
+      let none : IsTied [] (new_domain bounds workers) = load_tied [] (new_domain bounds workers) (λ weigh. omega (arith, rings_none weigh workers, magazines_none weigh workers)) in
+      subst (λ t. IsTied (ranges_of t) (state_of p)) (sym tree) (subst (IsTied []) (sym is) none);
+  space = space;
+  profile = ap (λ (x : Cached). x.profile) cached ∙ sym (ap (λ (t : Space). t.bounds.profile) tree);
+  counted = counted ∙ sym (ap (λ (t : Space). sum_by (λ r. r.len) t.windows) tree);
 }
 
--- A step that leaves what the parts make.
-pub domain_step : (tree tree' : Space) (r r' : Registry) (workers : ℕ) (st : Step) (m : Point) (n : Next) → IsDomain tree r workers → next (state_from tree r workers) st m ≡ n → n.state ≡ state_from tree' r' workers
-    → IsTied (ranges_of tree') n.state → IsDomain tree' r' workers
-domain_step tree tree' r r' workers st m n h is leaves tied = record {
-  valid = subst IsValid (ap (λ (x : Next). x.state) is ∙ leaves) (steps_keep_validity (state_from tree r workers) st m h.valid);
-  tied = subst (λ s. IsTied (ranges_of tree') s) leaves tied;
+-- A step that leaves what other parts make.
+pub domain_step : (p q : Parts) (st : Step) (m : Point) → IsDomain p → (next (state_of p) st m).state ≡ state_of q → IsTied (ranges_of q.tree) (state_of q) → IsSpace q.tree → q.cached.profile ≡ q.tree.bounds.profile → q.reserved ≡ sum_by (λ r. r.len) q.tree.windows → IsDomain q
+domain_step p q st m h leaves tied space profile counted = record {
+  valid = subst IsValid leaves (steps_keep_validity (state_of p) st m h.valid);
+  tied = tied;
+  space = space;
+  profile = profile;
+  counted = counted;
 }
 
--- Nothing has changed.
-pub domain_same : (tree : Space) (r r' : Registry) (workers : ℕ) → IsDomain tree r workers → r' ≡ r → IsDomain tree r' workers
-domain_same tree r r' workers h same = subst (λ x. IsDomain tree x workers) (sym same) h
+-- Nothing has changed but the room that was made for more.
+pub domain_same : (p q : Parts) → IsDomain p → q.tree ≡ p.tree → q.clients.clients ≡ p.clients.clients → q.clients.serial ≡ p.clients.serial → q.cached ≡ p.cached → q.rings ≡ p.rings → q.flushes ≡ p.flushes → q.reserved ≡ p.reserved → IsDomain q
+domain_same p q h tree clients serial cached rings flushes reserved =
+    let state : state_of q ≡ state_of p = rw (tree, clients, serial, cached, rings, flushes) refl in
+    record {
+      valid = subst IsValid (sym state) h.valid;
+      tied = subst (λ s. IsTied (ranges_of q.tree) s) (sym state) (rw tree h.tied);
+      space = rw tree h.space;
+      profile = rw (tree, cached) h.profile;
+      counted = rw (tree, reserved) h.counted;
+    }
 
--- A client was opened.
-pub domain_opened : (tree : Space) (r r' : Registry) (workers w : ℕ) (sac : Bool) → IsDomain tree r workers → w < workers → open_refusal r ≡ None
-    → r'.clients ≡ r.clients ++ new_client (r.serial + 1) w sac ∷ [] → r'.serial ≡ r.serial + 1 → IsDomain tree r' workers
-domain_opened tree r r' workers w sac h known none clients serial =
-    let s = state_from tree r workers in
+-- What somebody gained is inserted, and what became free is not.
+pub tied_parts : (p q : Parts) (gained freed : List Frames) → IsDomain p → IsMoved (state_of p) (state_of q) gained freed → ((weigh : Frames → ℕ) → sum_by weigh q.tree.inserted + sum_by weigh freed ≡ sum_by weigh p.tree.inserted + sum_by weigh gained) → IsTied (ranges_of q.tree) (state_of q)
+tied_parts p q gained freed h moved changes =
+    load_tied q.tree.inserted (state_of q) (λ weigh.
+    omega (arith, tied_load p.tree.inserted (state_of p) h.tied weigh, moved.balance weigh, changes weigh, weight.ranges_are weigh q.tree.inserted, weight.ranges_are weigh p.tree.inserted, weight.ranges_are weigh freed, weight.ranges_are weigh gained))
+
+-- Clients, rings or flushes have changed alone.
+pub domain_moved : (p q : Parts) → IsDomain p → IsValid (state_of q) → IsMoved (state_of p) (state_of q) [] [] → q.tree ≡ p.tree → q.cached ≡ p.cached → q.reserved ≡ p.reserved → IsDomain q
+domain_moved p q h valid moved tree cached reserved = record {
+  valid = valid;
+  tied = tied_parts p q [] [] h moved (λ weigh. ap (λ (t : Space). sum_by weigh t.inserted + sum_by weigh []) tree);
+  space = rw tree h.space;
+  profile = rw (tree, cached) h.profile;
+  counted = rw (tree, reserved) h.counted;
+}
+
+-- Flushes.
+
+pub domain_flushes : (p : Parts) (f : Flushes) → IsDomain p → IsValid (with_flushes (state_of p) f) → IsDomain (record p { flushes = f })
+domain_flushes p f h valid = domain_moved p (record p { flushes = f }) h valid (flushes_moved (state_of p) f) refl refl refl
+
+-- Clients.
+
+pub domain_clients : (p : Parts) (r : Registry) → IsDomain p → IsValid (with_clients (state_of p) r.clients) → IsMoved (state_of p) (with_clients (state_of p) r.clients) [] [] → r.serial ≡ p.clients.serial → IsDomain (record p { clients = r })
+domain_clients p r h valid moved serial =
+    let q : Parts = record p { clients = r } in
+    let state : with_clients (state_of p) r.clients ≡ state_of q = ap (λ n. let s = with_clients (state_of p) r.clients in record s { serial = n }) (sym serial) in
+    domain_moved p q h (subst IsValid state valid) (subst (λ s. IsMoved (state_of p) s [] []) state moved) refl refl refl
+
+-- the same clients, with more room or less
+pub domain_room : (p : Parts) (r : Registry) → IsDomain p → r.clients ≡ p.clients.clients → r.serial ≡ p.clients.serial → IsDomain (record p { clients = r })
+domain_room p r h clients serial = domain_same p (record p { clients = r }) h refl clients serial refl refl refl refl
+
+pub domain_registry : (p : Parts) (r : Registry) → IsDomain p → r ≡ p.clients → IsDomain (record p { clients = r })
+domain_registry p r h same = subst (λ x. IsDomain (record p { clients = x })) (sym same) h
+
+-- a client was opened
+pub domain_opened : (p : Parts) (r : Registry) (w : ℕ) (sac : Bool) → IsDomain p → w < p.cached.workers → open_refusal p.clients ≡ None → r.clients ≡ p.clients.clients ++ new_client (p.clients.serial + 1) w sac ∷ [] → r.serial ≡ p.clients.serial + 1 → IsDomain (record p { clients = r })
+domain_opened p r w sac h known none clients serial =
+    let s = state_of p in
+    let q : Parts = record p { clients = r } in
     let test : no_worker s w ≡ false = grind (arith, nat_tests) in
-    let leaves : opened s w sac ≡ state_from tree r' workers = rw (clients, serial) refl in
-    domain_step tree tree r r' workers (step.Open w sac) point.Never _ h (open_taken s w sac test none) leaves (tied_same tree.inserted s (opened s w sac) h.tied (opened_moved s w sac))
+    let leaves : opened s w sac ≡ state_of q = rw (clients, serial) refl in
+    let taken : (next s (step.Open w sac) point.Never).state ≡ state_of q = ap (λ (n : Next). n.state) (open_taken s w sac test none) ∙ leaves in
+    domain_moved p q h (subst IsValid taken (steps_keep_validity s (step.Open w sac) point.Never h.valid)) (subst (λ t. IsMoved s t [] []) leaves (opened_moved s w sac)) refl refl refl
 
--- A range was given.
-pub domain_given : (tree tree' : Space) (r r' : Registry) (workers w id frames limit : ℕ) (c : Client) (given : Frames) → IsDomain tree r workers
-    → next (state_from tree r workers) (step.Alloc w id frames limit) point.Never ≡ record { reply = reply.Given given; state = with_clients (state_from tree r workers) (changed id (with_holding given) r.clients) }
-    → client_with id r.clients ≡ Some c → tree' ≡ record tree { inserted = insert_rising given tree.inserted } → r'.clients ≡ changed id (with_holding given) r.clients → r'.serial ≡ r.serial → IsDomain tree' r' workers
-domain_given tree tree' r r' workers w id frames limit c given h is found inserted clients serial =
-    let s = state_from tree r workers in
-    let t = with_clients s (changed id (with_holding given) r.clients) in
-    let leaves : t ≡ state_from tree' r' workers = rw (inserted, clients, serial) refl in
-    domain_step tree tree' r r' workers (step.Alloc w id frames limit) point.Never _ h is leaves (rw inserted (tied_given tree.inserted s t given h.tied (given_moved s id c given found)))
+-- a client was marked
+pub domain_marked : (p : Parts) (r : Registry) (id : ℕ) (c : Client) → IsDomain p → client_with id p.clients.clients ≡ Some c → r.clients ≡ changed id marked p.clients.clients → r.serial ≡ p.clients.serial → IsDomain (record p { clients = r })
+domain_marked p r id c h found clients serial =
+    let s = state_of p in
+    domain_clients p r h (subst (λ x. IsValid (with_clients s x)) (sym clients) (with_marked_valid s id c h.valid found)) (subst (λ x. IsMoved s (with_clients s x) [] []) (sym clients) (marked_moved s id)) serial
 
--- The tree and the clients hold what they did.
-pub domain_kept : (tree tree' : Space) (r r' : Registry) (workers : ℕ) → IsDomain tree r workers → tree' ≡ tree → r'.clients ≡ r.clients → r'.serial ≡ r.serial → IsDomain tree' r' workers
-domain_kept tree tree' r r' workers h same clients serial =
-    let state : state_from tree r workers ≡ state_from tree' r' workers = rw (same, clients, serial) refl in
-    record { valid = subst IsValid state h.valid; tied = subst (λ s. IsTied (ranges_of tree') s) state (rw same h.tied) }
+-- a client without holdings is gone
+pub domain_forgotten : (p : Parts) (r : Registry) (id : ℕ) (c : Client) → IsDomain p → client_with id p.clients.clients ≡ Some c → c.holdings ≡ [] → r.clients ≡ forgotten id p.clients.clients → r.serial ≡ p.clients.serial → IsDomain (record p { clients = r })
+domain_forgotten p r id c h found none clients serial =
+    let s = state_of p in
+    domain_clients p r h (subst (λ x. IsValid (with_clients s x)) (sym clients) (without_client_valid s id c h.valid found none)) (subst (λ x. IsMoved s (with_clients s x) [] []) (sym clients) (forgotten_moved s id c found none)) serial

@@ -1,35 +1,51 @@
 -- What a domain's fields stand for, and what they keep.
-use Rattle.std.specs.Prelude.{ℕ, Bool, true, false, List, [], replicate}
-use Rattle.iova_model.specs.declared.step.Step.{Step}
-use Rattle.iova_model.specs.declared.step.Step.TheVariants as step
-use Rattle.iova_model.specs.Caches.{new_caches}
-use Rattle.iova_model.specs.Flushes.{flushes_from}
-use Rattle.iova_model.specs.State.{State}
+use Rattle.std.specs.Prelude.{ℕ, ◌≡◌, ◌||◌, nat_lt, List, Option, None, Some, sum_by, if◌then◌else◌}
+use Rattle.iova_model.specs.declared.entry.Entry.{Entry}
+use Rattle.iova_model.specs.Flushes.{Flushes}
+use Rattle.iova_model.specs.State.{State, place_of}
+use Rattle.iova_model.specs.declared.place.Place.{Place}
 use Rattle.iova_model.specs.Valid.{IsValid}
-use Rattle.iova_tree.specs.Space.{Space, ranges_of}
+use Rattle.iova_tree.specs.Space.{Space, IsSpace, ranges_of}
 use Rattle.iova_clients.specs.Registry.{Registry}
+use Rattle.iova_flush.specs.Rings.{frame_count}
+use Rattle.iova_depot.specs.Cached.{Cached}
 use Rattle.iova_core.specs.Tied.{IsTied}
 
--- the state that its parts make; there are no caches, rings and flushes yet
-abbrev pub state_from : Space → Registry → ℕ → State
-state_from tree clients workers = record {
-  bounds = tree.bounds;
-  workers = workers;
-  windows = tree.windows;
-  clients = clients.clients;
-  serial = clients.serial;
-  caches = new_caches workers;
-  rings = replicate workers [];
-  flushes = flushes_from 0;
+-- the parts, and the frames of all windows
+pub record Parts : Type 0 where
+  pub tree : Space
+  pub clients : Registry
+  pub cached : Cached
+  pub rings : List (List Entry)
+  pub flushes : Flushes
+  pub reserved : ℕ
+
+-- the state that they make
+abbrev pub state_of : Parts → State
+state_of p = record {
+  bounds = p.tree.bounds;
+  workers = p.cached.workers;
+  windows = p.tree.windows;
+  clients = p.clients.clients;
+  serial = p.clients.serial;
+  caches = p.cached.caches;
+  rings = p.rings;
+  flushes = p.flushes;
 }
 
--- the state is valid, and the tree has what somebody has
-pub record IsDomain (tree : Space) (clients : Registry) (workers : ℕ) : Type 0 where
-  pub valid : IsValid (state_from tree clients workers)
-  pub tied : IsTied (ranges_of tree) (state_from tree clients workers)
+-- The state is valid, the tree has what somebody has, the caches are of the profile of the bounds, and the frames of the
+-- windows are counted.
+pub record IsDomain (p : Parts) : Type 0 where
+  pub valid : IsValid (state_of p)
+  pub tied : IsTied (ranges_of p.tree) (state_of p)
+  pub space : IsSpace p.tree
+  pub profile : p.cached.profile ≡ p.tree.bounds.profile
+  pub counted : p.reserved ≡ sum_by (λ r. r.len) p.tree.windows
 
--- the steps that there are so far
-abbrev pub is_served : Step → Bool
-is_served (step.Open w sac) = true
-is_served (step.Alloc w id frames limit) = true
-is_served st = false
+-- where a frame is, inside the bounds
+abbrev pub place_inside : State → ℕ → Option Place
+place_inside s frame = if nat_lt frame s.bounds.start || nat_lt s.bounds.last frame then None else Some (place_of s frame)
+
+-- how many frames wait in rings
+abbrev pub frames_in_rings : List (List Entry) → ℕ
+frames_in_rings rings = sum_by frame_count rings

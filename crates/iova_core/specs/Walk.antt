@@ -1,43 +1,69 @@
--- What a request finds in a tree.
-use Rattle.std.specs.Prelude.{ℕ, ◌≡◌, Bool, ◌&&◌, nat_lt, List, Option, Some, None, if◌then◌else◌}
+-- What the walk of a request finds, in the words of the definitions.
+use Rattle.std.specs.Prelude.{ℕ, ◌≡◌, ◌≤◌, ◌⊎◌, List, [], ◌∷◌, Option, None, Some}
 use Rattle.iova_range.specs.Frames.{Frames}
-use Rattle.iova_range.specs.Bounds.{Extent}
 use Rattle.iova_model.specs.declared.step.Point.{Point}
 use Rattle.iova_model.specs.declared.step.Point.TheVariants as point
-use Rattle.iova_model.specs.Fit.{best}
+use Rattle.iova_model.specs.Caches.{Caches, shelf_at, with_shelf, get}
 use Rattle.iova_model.specs.Clients.{insert_rising}
-use Rattle.iova_model.specs.Next.{low_limit}
-use Rattle.iova_tree.specs.Space.{Space, ranges_of}
+use Rattle.iova_model.specs.State.{State}
+use Rattle.iova_model.specs.Next as next
+use Rattle.iova_tree.specs.Space.{Space, IsSpace, ranges_of}
+use Rattle.iova_core.specs.Tied.{IsTied}
 use Rattle.iova_core.specs.declared.walk.Found.{Found}
 use Rattle.iova_core.specs.declared.walk.Found.TheVariants as found
 
--- a place, and the growth that takes it
-pub record Sought : Type 0 where
-  pub lo : ℕ
-  pub point : Point
+-- what a worker's caches give, by the order of the size if it has one, and what is left of all caches
+abbrev pub get_cached : Caches → ℕ → ℕ → ℕ → Option ℕ → Option ℕ × Caches
+get_cached c w size limit None = (None, c)
+get_cached c w size limit (Some o) = let got = get (shelf_at c w o) limit size in (got.0, with_shelf c w o got.1)
 
-abbrev pub sought_at : Point → Option ℕ → Option Sought
-sought_at here None = None
-sought_at here (Some lo) = Some (record { lo = lo; point = here })
+-- Of the tree alone: the range is inserted at the best place, or its growth was refused and nothing is; or nothing fits.
+abbrev pub Places : Option ℕ → Point → ℕ → Space → Space → Found → Type 0
+Places None here size old new found.Nowhere = new ≡ old
+Places (Some lo) here size old new (found.Placed r) =
+    (r ≡ record { lo = lo; len = size }) × (new ≡ record old { inserted = insert_rising r old.inserted })
+Places (Some lo) here size old new (found.Starved m) = (m ≡ here) × (new ≡ old)
+Places lo here size old new f = ⊥
 
-abbrev pub or_sought : Option Sought → Option Sought → Option Sought
-or_sought None other = other
-or_sought (Some s) other = Some s
+-- the tree and the caches are those of a state
+pub record Stands (tree : Space) (caches : Caches) (s : State) : Type 0 where
+  pub bounds : s.bounds ≡ tree.bounds
+  pub windows : s.windows ≡ tree.windows
+  pub cached : s.caches ≡ caches
+  pub tied : IsTied (ranges_of tree) s
 
--- the highest place below 4 GiB for a client that is `sac`, where the limit is above that; else the highest
-abbrev pub sought_among : Extent → List Frames → Bool → ℕ → ℕ → Option Sought
-sought_among bounds ranges sac size limit =
-    if sac && nat_lt low_limit limit
-    then or_sought (sought_at point.First (best bounds ranges size low_limit)) (sought_at point.Second (best bounds ranges size limit))
-    else sought_at point.Second (best bounds ranges size limit)
+-- the growth that was refused
+abbrev pub point_of : Found → Point
+point_of (found.Placed r) = point.Never
+point_of found.Nowhere = point.Never
+point_of (found.Starved m) = m
 
-abbrev pub sought : Space → Bool → ℕ → ℕ → Option Sought
-sought tree sac size limit = sought_among tree.bounds (ranges_of tree) sac size limit
+-- the ranges that were found
+abbrev pub placed : Found → List Frames
+placed (found.Placed r) = r ∷ []
+placed found.Nowhere = []
+placed (found.Starved m) = []
 
--- what was sought is inserted, or its growth was refused and nothing is; or nothing fits
-abbrev pub Walks : Option Sought → ℕ → Space → Space → Found → Type 0
-Walks None size old new found.Nowhere = new ≡ old
-Walks (Some s) size old new (found.Placed r) =
-    (r ≡ record { lo = s.lo; len = size }) × (new ≡ record old { inserted = insert_rising r old.inserted })
-Walks (Some s) size old new (found.Starved here) = (here ≡ s.point) × (new ≡ old)
-Walks s size old new f = ⊥
+-- the same in the words of the definitions
+abbrev pub found_as : Found → next.Found
+found_as (found.Placed r) = next.At r.lo
+found_as found.Nowhere = next.Nowhere
+found_as (found.Starved m) = next.OutOfMemory
+
+-- a range that was found has this length
+abbrev pub IsPlacedOf : ℕ → Found → Type 0
+IsPlacedOf size (found.Placed r) = r.len ≡ size
+IsPlacedOf size f = Unit {0}
+
+-- what was found, and the caches that are left, are those of a try or a walk of the definitions
+pub record Comes (t : next.Tried) (f : Found) (caches : Caches) : Type 0 where
+  pub found : t.found ≡ found_as f
+  pub left : t.state.caches ≡ caches
+
+-- the first growth of a try
+abbrev pub IsTryPoint : Point → Type 0
+IsTryPoint m = (m ≡ point.First) ⊎ (m ≡ point.Second)
+
+-- a growth of a try whose first one is `here`
+abbrev pub IsPointFrom : Point → Point → Type 0
+IsPointFrom here m = (m ≡ point.Never) ⊎ ((m ≡ here) ⊎ (m ≡ point.Last))

@@ -1,15 +1,27 @@
-ghost use Rattle.std.specs.Prelude.{◌≡◌, ◌≤◌, ◌⊎◌, ℕ, true, take, All, IfOk, OnOk, OnErr, IsErr, ◌↔◌, Err};
-ghost use Rattle.iova_model.specs.State.{new_domain};
+ghost use Rattle.std.specs.Prelude.{◌≡◌, ◌≢◌, ◌≤◌, ◌<◌, ◌⊎◌, ◌^◌, ℕ, [], take, replicate, sum_by, find, length, Some, IfOk, OnOk, OnErr, IsErr, ◌↔◌, Err, option_map, option_copied};
 ghost use Rattle.iova_model.specs.declared.step.Point.{Point as MemoryPoint};
+ghost use Rattle.iova_model.specs.Fit.{is_covered};
+ghost use Rattle.iova_model.specs.Clients.{Client, client_with, begins_at, totals};
+ghost use Rattle.iova_range.specs.Frames.{covers};
+ghost use Rattle.iova_model.specs.State.{new_domain, counts, ring_holders, place_in};
 ghost use Rattle.iova_model.specs.Valid.{IsValid};
 ghost use Rattle.iova_model.specs.Transcript.{IsRun};
-ghost use Rattle.iova_model.specs.Next.{next, open_client, alloc};
-ghost use Rattle.iova_core.specs.Domain.{is_served};
+ghost use Rattle.iova_model.specs.Next.{next, reserve, open_client, alloc, unmap, unmap_held, begin, end, drain, close, close_one};
+ghost use Rattle.iova_core.specs.Domain.{place_inside, frames_in_rings};
 
+use crate::stock::drain;
 use crate::walk::{Found, walk};
 use iova_clients::{ClientId, Clients};
+use iova_depot::caches::Caches;
+use iova_depot::spot::Spot;
+use iova_flush::Entry;
+use iova_flush::flights::Flights;
+use iova_flush::ring::Ring;
+use iova_model::place::{Counts, Place};
 use iova_model::step::{Point, Reply, Step};
+use iova_model::totals::Totals;
 use iova_range::bounds::Bounds;
+use iova_range::range::Range;
 use iova_range::refusal::Refusal;
 use iova_range::sizes::{MAX_FRAMES, need};
 use iova_tree::tree::Tree;
@@ -17,22 +29,29 @@ use std::alloc::Global;
 use std::marker::Model;
 
 /// The address space of one device: what is handed out, to whom, and what waits for a flush.
+///
+/// Contracts see it as a `State`, which is always valid: each frame of the bounds is in exactly one place, and no list is
+/// longer than its limit.
 #[derive(Drop)]
 pub struct Domain {
     tree: Tree,
     clients: Clients,
-    workers: u64,
+    caches: Caches,
+    rings: Vec<Ring>,
+    flights: Flights,
+    /// The frames of all windows.
+    reserved: u64,
 }
 
 impl Model for Domain {
     ghost use Rattle.iova_model.specs.State.{State};
-    ghost use Rattle.iova_core.specs.Domain.{state_from, IsDomain};
+    ghost use Rattle.iova_core.specs.Domain.{state_of, IsDomain};
 
     ghost Value = { State };
 
-    ghost view = { λ d. state_from d.tree d.clients d.workers };
+    ghost view = { λ d. state_of (record { tree = d.tree; clients = d.clients; cached = d.caches; rings = d.rings.items; flushes = d.flights; reserved = d.reserved }) };
 
-    ghost invariant = { λ d. IsDomain d.tree d.clients d.workers };
+    ghost invariant = { λ d. IsDomain (record { tree = d.tree; clients = d.clients; cached = d.caches; rings = d.rings.items; flushes = d.flights; reserved = d.reserved }) };
 }
 
 fn refused(refusal: Refusal) -> (Reply, Point)
@@ -40,6 +59,18 @@ fn refused(refusal: Refusal) -> (Reply, Point)
     ensures point { result.1 ≡ Point.Never }
 {
     (Reply::Refused(refusal), Point::Never)
+}
+
+/// Refused, for want of memory at the point `here`.
+fn refused_at(refusal: Refusal, here: Point) -> (Reply, Point)
+    ensures reply { result.0 ≡ Reply.Refused refusal }
+    ensures memory { refusal ≡ Refusal.NoMemory → result.1 ≡ here }
+    ensures other { refusal ≢ Refusal.NoMemory → result.1 ≡ Point.Never }
+{
+    match refusal {
+        Refusal::NoMemory => (Reply::Refused(refusal), here),
+        _ => refused(refusal),
+    }
 }
 
 impl Domain {
@@ -53,14 +84,60 @@ impl Domain {
         if workers == 0 || workers > 16 {
             return Err(Refusal::NoWorker);
         }
-        // says that the bounds are those of a profile
-        let _last = bounds.last();
-        let tree = Tree::new(alloc, bounds)?;
+        let profile = bounds.profile();
         Ok(Domain {
-            tree,
+            tree: Tree::new(alloc, bounds)?,
             clients: Clients::new(alloc),
-            workers,
+            caches: Caches::new_for(alloc, profile, workers as usize)?,
+            rings: new_rings(alloc, workers as usize)?,
+            flights: Flights::new(),
+            reserved: 0,
         })
+    }
+
+    /// Runs one step, and answers its reply and the growth in it that was refused memory, or `Never`.
+    pub fn step_at(&mut self, step: Step) -> (Reply, Point)
+        ensures reply { result.0 ≡ (next self.old step result.1).reply }
+        ensures state { self.new ≡ (next self.old step result.1).state }
+    {
+        match step {
+            Step::Reserve { lo, hi } => self.reserve(lo, hi),
+            Step::Open { worker, sac } => self.open(worker, sac),
+            Step::Alloc {
+                worker,
+                client,
+                frames,
+                limit,
+            } => self.alloc(worker, client, frames, limit),
+            Step::Unmap { worker, client, lo } => self.unmap(worker, client, lo),
+            Step::Begin => self.begin(),
+            Step::End { no, ok } => self.end(no, ok),
+            Step::Drain { ring, by } => self.drain(ring, by),
+            Step::Close { worker, client } => self.close(worker, client),
+            Step::CloseOne { worker, client } => self.close_one(worker, client),
+        }
+    }
+
+    /// Runs one step, and answers its reply.
+    pub fn step(&mut self, step: Step) -> Reply
+        ensures { (m : MemoryPoint) × (result ≡ (next self.old step m).reply) × (self.new ≡ (next self.old step m).state) }
+    {
+        self.step_at(step).0
+    }
+
+    /// One window of the frames `lo` to `hi` and of the windows that overlap them. `BadWindow`, `Taken`, `WindowsFull`,
+    /// `NoMemory`.
+    fn reserve(&mut self, lo: u64, hi: u64) -> (Reply, Point)
+        ensures reply { result.0 ≡ (reserve self.old lo hi result.1).reply }
+        ensures state { self.new ≡ (reserve self.old lo hi result.1).state }
+    {
+        match self.tree.reserve(lo, hi) {
+            Ok(window) => {
+                self.reserved = frames_of(self.tree.windows());
+                (Reply::Reserved(window), Point::Never)
+            }
+            Err(refusal) => refused_at(refusal, Point::Once),
+        }
     }
 
     /// A new client of the worker. `NoWorker`, `Worn`, `ClientsFull`, `NoMemory`.
@@ -68,13 +145,12 @@ impl Domain {
         ensures reply { result.0 ≡ (open_client self.old worker sac result.1).reply }
         ensures state { self.new ≡ (open_client self.old worker sac result.1).state }
     {
-        if worker >= self.workers {
+        if worker >= self.workers() {
             return refused(Refusal::NoWorker);
         }
         match self.clients.open(worker, sac) {
             Ok(id) => (Reply::Opened(id), Point::Never),
-            Err(Refusal::NoMemory) => (Reply::Refused(Refusal::NoMemory), Point::Once),
-            Err(refusal) => refused(refusal),
+            Err(refusal) => refused_at(refusal, Point::Once),
         }
     }
 
@@ -84,7 +160,7 @@ impl Domain {
         ensures reply { result.0 ≡ (alloc self.old worker client frames limit result.1).reply }
         ensures state { self.new ≡ (alloc self.old worker client frames limit result.1).state }
     {
-        if worker >= self.workers {
+        if worker >= self.workers() {
             return refused(Refusal::NoWorker);
         }
         if frames == 0 {
@@ -98,11 +174,17 @@ impl Domain {
         }
         match self.clients.room(client) {
             Ok(()) => {}
-            Err(Refusal::NoMemory) => return (Reply::Refused(Refusal::NoMemory), Point::Ledger),
-            Err(refusal) => return refused(refusal),
+            Err(refusal) => return refused_at(refusal, Point::Ledger),
         }
         let sac = self.clients.is_sac(client).unwrap_or(false);
-        match walk(&mut self.tree, sac, need(frames), limit) {
+        match walk(
+            &mut self.tree,
+            &mut self.caches,
+            worker as usize,
+            sac,
+            need(frames),
+            limit,
+        ) {
             Found::Placed(range) => {
                 self.clients.add(client, range);
                 (Reply::Given(range), Point::Never)
@@ -112,34 +194,224 @@ impl Domain {
         }
     }
 
-    /// Runs one step, and answers its reply and the growth in it that was refused memory, or `Never`. The step is one of
-    /// those that there are, `is_served`.
-    pub fn step_at(&mut self, step: Step) -> (Reply, Point)
-        requires { is_served step ≡ true }
-        ensures reply { result.0 ≡ (next self.old step result.1).reply }
-        ensures state { self.new ≡ (next self.old step result.1).state }
+    /// The client's holding that begins at `lo` goes into the worker's ring. `NoWorker`, `NoClient`, `Closing`,
+    /// `NotHeld`, `RingFull`.
+    fn unmap(&mut self, worker: u64, client: ClientId, lo: u64) -> (Reply, Point)
+        ensures reply { result.0 ≡ (unmap self.old worker client lo).reply }
+        ensures state { self.new ≡ (unmap self.old worker client lo).state }
     {
-        match step {
-            Step::Open { worker, sac } => self.open(worker, sac),
-            Step::Alloc {
-                worker,
-                client,
-                frames,
-                limit,
-            } => self.alloc(worker, client, frames, limit),
-            _ => unreachable!(),
+        if worker >= self.workers() {
+            return refused(Refusal::NoWorker);
+        }
+        if self.clients.owner(client) != Some(worker) {
+            return refused(Refusal::NoClient);
+        }
+        if self.clients.is_closing(client) == Some(true) {
+            return refused(Refusal::Closing);
+        }
+        self.queue(worker, client, lo)
+    }
+
+    /// Takes the client's holding that begins at `lo` and puts it into the worker's ring, which is drained first. Where
+    /// the ring is full all the same, nothing has changed. `NotHeld`, `RingFull`.
+    fn queue(&mut self, worker: u64, client: ClientId, lo: u64) -> (Reply, Point)
+        requires { worker < self.old.workers }
+        ensures reply { (c : Client) → client_with client self.old.clients ≡ Some c → result.0 ≡ (unmap_held (find (begins_at lo) c.holdings) self.old worker client).reply }
+        ensures state { (c : Client) → client_with client self.old.clients ≡ Some c → self.new ≡ (unmap_held (find (begins_at lo) c.holdings) self.old worker client).state }
+    {
+        let Ok(range) = self.clients.take(client, lo) else {
+            return refused(Refusal::NotHeld);
+        };
+        let finish = self.flights.finish();
+        let ring = &mut self.rings[worker as usize];
+        drain(
+            &mut self.tree,
+            &mut self.caches,
+            ring,
+            worker as usize,
+            finish,
+        );
+        let entry = Entry {
+            lo: range.lo(),
+            len: range.len(),
+            count: self.flights.start(),
+        };
+        match ring.add(entry) {
+            Ok(()) => (Reply::Queued(range), Point::Never),
+            Err(_) => {
+                self.clients.add(client, range);
+                refused(Refusal::RingFull)
+            }
         }
     }
 
-    /// Runs one step, and answers its reply. The step is one of those that there are, `is_served`.
-    pub fn step(&mut self, step: Step) -> Reply
-        requires { is_served step ≡ true }
-        ensures { (m : MemoryPoint) × (result ≡ (next self.old step m).reply) × (self.new ≡ (next self.old step m).state) }
+    /// Begins a flush. `FlightsFull`, `Worn`.
+    fn begin(&mut self) -> (Reply, Point)
+        ensures reply { result.0 ≡ (begin self.old).reply }
+        ensures state { self.new ≡ (begin self.old).state }
     {
-        self.step_at(step).0
+        match self.flights.begin() {
+            Ok(number) => (Reply::Begun(number), Point::Never),
+            Err(refusal) => refused(refusal),
+        }
+    }
+
+    /// Ends the flush of this number, well or not. `NoFlight`.
+    fn end(&mut self, no: u64, ok: bool) -> (Reply, Point)
+        ensures reply { result.0 ≡ (end self.old no ok).reply }
+        ensures state { self.new ≡ (end self.old no ok).state }
+    {
+        match self.flights.end(no, ok) {
+            Ok(()) => (Reply::Ended, Point::Never),
+            Err(refusal) => refused(refusal),
+        }
+    }
+
+    /// Drains a ring into the magazines of the worker `by`. `NoWorker`.
+    fn drain(&mut self, ring: u64, by: u64) -> (Reply, Point)
+        ensures reply { result.0 ≡ (drain self.old ring by).reply }
+        ensures state { self.new ≡ (drain self.old ring by).state }
+    {
+        if ring >= self.workers() || by >= self.workers() {
+            return refused(Refusal::NoWorker);
+        }
+        let finish = self.flights.finish();
+        let ring = &mut self.rings[ring as usize];
+        let count = drain(&mut self.tree, &mut self.caches, ring, by as usize, finish);
+        (Reply::Drained(count), Point::Never)
+    }
+
+    /// Marks the client closing. `NoWorker`, `NoClient`.
+    fn close(&mut self, worker: u64, client: ClientId) -> (Reply, Point)
+        ensures reply { result.0 ≡ (close self.old worker client).reply }
+        ensures state { self.new ≡ (close self.old worker client).state }
+    {
+        if worker >= self.workers() {
+            return refused(Refusal::NoWorker);
+        }
+        if self.clients.owner(client) != Some(worker) {
+            return refused(Refusal::NoClient);
+        }
+        match self.clients.mark_closing(client) {
+            Ok(left) => (Reply::Marked(left), Point::Never),
+            Err(refusal) => refused(refusal),
+        }
+    }
+
+    /// Marks the client closing, and puts its lowest holding into the worker's ring; without one the client is gone.
+    /// `NoWorker`, `NoClient`; `RingFull`, where the mark stays.
+    fn close_one(&mut self, worker: u64, client: ClientId) -> (Reply, Point)
+        ensures reply { result.0 ≡ (close_one self.old worker client).reply }
+        ensures state { self.new ≡ (close_one self.old worker client).state }
+    {
+        match self.close(worker, client) {
+            (Reply::Marked(_), _) => {}
+            refused => return refused,
+        }
+        match self.clients.first(client) {
+            Some(range) => self.queue(worker, client, range.lo()),
+            None => {
+                self.clients.forget(client);
+                (Reply::Empty, Point::Never)
+            }
+        }
+    }
+
+    /// Where the frame is, or None where it isn't inside the bounds. It looks through all holders.
+    pub fn place(&self, frame: u64) -> Option<Place>
+        ensures { result ≡ place_inside self.now frame }
+    {
+        let bounds = self.tree.bounds();
+        if frame < bounds.start() || frame > bounds.last() {
+            return None;
+        }
+        if has_frame(self.tree.windows(), frame) {
+            return Some(Place::Reserved);
+        }
+        if let Some(id) = self.clients.holder(frame) {
+            return Some(Place::Client(id));
+        }
+        match self.caches.find(frame) {
+            Some(Spot::Magazine(w)) => Some(Place::Magazine(w)),
+            Some(Spot::Depot) => Some(Place::Depot),
+            None => Some(place_in_rings(&self.rings, frame)),
+        }
+    }
+
+    /// How many frames of the bounds are at each kind of place. All six are kept as numbers: no holding, entry or range
+    /// is looked at.
+    pub fn counts(&self) -> Counts
+        ensures { result ≡ counts self.now }
+    {
+        let bounds = self.tree.bounds();
+        let client = self.clients.totals().frames;
+        let (magazine, depot) = self.caches.frames();
+        let ring = queued_frames(&self.rings);
+        Counts {
+            free: bounds.last() - bounds.start() + 1
+                - self.reserved
+                - client
+                - magazine
+                - depot
+                - ring,
+            reserved: self.reserved,
+            client,
+            magazine,
+            depot,
+            ring,
+        }
+    }
+
+    /// The totals over all holdings of all clients.
+    #[inline]
+    pub fn totals(&self) -> Totals
+        ensures { result ≡ totals self.now.clients }
+    {
+        self.clients.totals()
+    }
+
+    /// The windows, rising by first frame, at most 64.
+    #[inline]
+    pub fn windows(&self) -> &[Range]
+        ensures { result.now ≡ self.now.windows }
+    {
+        self.tree.windows()
+    }
+
+    /// The client's holdings, rising by first frame.
+    #[inline]
+    pub fn holdings_of(&self, client: ClientId) -> Option<&[Range]>
+        ensures { option_copied result ≡ option_map (λ c. c.holdings) (client_with client self.now.clients) }
+    {
+        self.clients.holdings(client)
+    }
+
+    /// How many clients there are, closing ones too, 0 to 1,024.
+    #[inline]
+    pub fn clients(&self) -> usize
+        ensures { result ≡ length self.now.clients }
+    {
+        self.clients.len()
+    }
+
+    /// The worker that opened the client.
+    #[inline]
+    pub fn owner(&self, client: ClientId) -> Option<u64>
+        ensures { result ≡ option_map (λ c. c.worker) (client_with client self.now.clients) }
+    {
+        self.clients.owner(client)
+    }
+
+    /// Whether the client is closing.
+    #[inline]
+    pub fn is_closing(&self, client: ClientId) -> Option<bool>
+        ensures { result ≡ option_map (λ c. c.closing) (client_with client self.now.clients) }
+    {
+        self.clients.is_closing(client)
     }
 
     /// The first and the last frame that it may hand out, and its profile.
+    #[inline]
     pub fn bounds(&self) -> Bounds
         ensures is { result ≡ self.now.bounds }
         ensures valid { IsValid self.now }
@@ -148,25 +420,66 @@ impl Domain {
     }
 
     /// How many workers it has, 1 to 16.
+    #[inline]
     pub fn workers(&self) -> u64
         ensures is { result ≡ self.now.workers }
         ensures valid { IsValid self.now }
     {
-        self.workers
+        self.caches.workers() as u64
     }
-}
 
-/// Whether there is such a step yet.
-pub fn is_served(step: &Step) -> bool
-    ensures { result ≡ is_served step.now }
-{
-    matches!(step, Step::Open { .. } | Step::Alloc { .. })
+    /// How many flushes have begun, which is the number of the last one.
+    #[inline]
+    pub fn start(&self) -> u64
+        ensures { result ≡ self.now.flushes.start }
+    {
+        self.flights.start()
+    }
+
+    /// How many flushes are accounted for.
+    #[inline]
+    pub fn finish(&self) -> u64
+        ensures { result ≡ self.now.flushes.finish }
+    {
+        self.flights.finish()
+    }
+
+    /// The credit of failed flushes that the next flush will take over.
+    #[inline]
+    pub fn owed(&self) -> u64
+        ensures { result ≡ self.now.flushes.owed }
+    {
+        self.flights.owed()
+    }
+
+    /// How many flushes are in flight, 0 to 32.
+    #[inline]
+    pub fn in_flight(&self) -> usize
+        ensures { result ≡ length self.now.flushes.in_flight }
+    {
+        self.flights.in_flight()
+    }
+
+    /// The greatest number of a flush that ended well, 0 at first.
+    #[inline]
+    pub fn newest_done(&self) -> u64
+        ensures { result ≡ self.now.flushes.newest }
+    {
+        self.flights.newest_done()
+    }
+
+    /// How many flushes ended well.
+    #[inline]
+    pub fn good(&self) -> u64
+        ensures { result ≡ self.now.flushes.good }
+    {
+        self.flights.good()
+    }
 }
 
 /// Runs the steps in order and appends their replies. Room for each reply is taken before its step, so that where that is
 /// refused, by `NoMemory`, the replies so far and the state that they leave stand.
 pub fn run(domain: &mut Domain, steps: &[Step], replies: &mut Vec<Reply>) -> Result<(), Refusal>
-    requires { All (λ step. is_served step ≡ true) steps.now }
     ensures ok { OnOk result (IsRun domain.old domain.new steps.now replies.old.items replies.new.items) }
     ensures err { OnErr result ((result ≡ Err Refusal.NoMemory) × ((n : ℕ) × IsRun domain.old domain.new (take n steps.now) replies.old.items replies.new.items)) }
 {
@@ -178,6 +491,64 @@ pub fn run(domain: &mut Domain, steps: &[Step], replies: &mut Vec<Reply>) -> Res
         replies.push(reply).unwrap();
     }
     Ok(())
+}
+
+/// A ring for each worker.
+fn new_rings(alloc: Global, workers: usize) -> Result<Vec<Ring>, Refusal>
+    requires { workers ≤ 16 }
+    ensures value { IfOk result (λ rings. rings.items ≡ replicate workers []) }
+    ensures refused { IsErr result → result ≡ Err Refusal.NoMemory }
+{
+    let Ok(mut rings) = Vec::with_capacity(alloc, workers) else {
+        return Err(Refusal::NoMemory);
+    };
+    for _ in 0..workers {
+        rings.push(Ring::new(alloc)?).unwrap();
+    }
+    Ok(rings)
+}
+
+/// How many frames windows have together.
+fn frames_of(windows: &[Range]) -> u64
+    requires { sum_by (λ r. r.len) windows.now ≤ 2 ^ 40 }
+    ensures { result ≡ sum_by (λ r. r.len) windows.now }
+{
+    let mut frames = 0;
+    for window in windows {
+        frames += window.len();
+    }
+    frames
+}
+
+/// Whether one of the windows has the frame.
+fn has_frame(windows: &[Range], frame: u64) -> bool
+    ensures { result ≡ is_covered frame windows.now }
+{
+    windows.iter().any(|window| window.covers(frame))
+}
+
+/// How many frames wait in rings.
+fn queued_frames(rings: &[Ring]) -> u64
+    requires { length rings.now ≤ 16 }
+    ensures { result ≡ frames_in_rings rings.now }
+{
+    let mut frames = 0;
+    for ring in rings {
+        frames += ring.frames();
+    }
+    frames
+}
+
+/// The first ring that has the frame, or that it is free.
+fn place_in_rings(rings: &[Ring], frame: u64) -> Place
+    ensures { result ≡ place_in (find (λ h. covers frame h.range) (ring_holders 0 rings.now)) }
+{
+    for w in 0..rings.len() {
+        if rings[w].holds(frame) {
+            return Place::Ring(w as u64);
+        }
+    }
+    Place::Free
 }
 
 #[cfg(test)]

@@ -2,6 +2,7 @@
 #![tactic(auto)]
 
 pub mod domain;
+mod stock;
 mod walk;
 
 pub use iova_clients::ClientId;

@@ -1,17 +1,27 @@
-ghost use Rattle.std.specs.Prelude.{◌≡◌, ◌≤◌};
-ghost use Rattle.iova_core.specs.Walk.{sought, sought_at, Walks};
-ghost use Rattle.iova_model.specs.Fit.{best};
-ghost use Rattle.iova_tree.specs.Space.{ranges_of};
+//! The walk of a request: the caches, the tree, and the tree again once the caches are emptied.
 
+ghost use Rattle.std.specs.Prelude.{◌≡◌, ◌≢◌, ◌≤◌, ◌<◌, []};
+ghost use Rattle.iova_model.specs.Fit.{best};
+ghost use Rattle.iova_model.specs.State.{State};
+ghost use Rattle.iova_model.specs.Next as next;
+ghost use Rattle.iova_model.specs.declared.step.Point.TheVariants.{First, Second};
+ghost use Rattle.iova_range.specs.Sizes.{order_of};
+ghost use Rattle.iova_tree.specs.Space.{IsSpace, ranges_of};
+ghost use Rattle.iova_depot.specs.Cached.{IsCached};
+ghost use Rattle.iova_core.specs.Stock.{IsStock, Exchanges};
+ghost use Rattle.iova_core.specs.Walk.{get_cached, Places, Stands, Comes, point_of, placed, IsPlacedOf, IsTryPoint, IsPointFrom};
+
+use crate::stock::empty;
+use iova_depot::caches::Caches;
 use iova_model::step::Point;
 use iova_range::range::Range;
-use iova_range::sizes::MAX_FRAMES;
+use iova_range::sizes::{MAX_FRAMES, order_of};
 use iova_tree::tree::Tree;
 
 /// What a walk of a request comes to.
 #[derive(Clone, Copy, Debug)]
 pub enum Found {
-    /// The range, which the tree has now.
+    /// The range, which the tree has and no cache.
     Placed(Range),
     /// Nothing fits.
     Nowhere,
@@ -22,11 +32,26 @@ pub enum Found {
 /// The last frame below 4 GiB.
 pub const LOW_LIMIT: u64 = 1_048_575;
 
-/// Takes the highest place for `size` frames, none above `limit`, in a growth that is the point `here`.
-fn take_highest(tree: &mut Tree, size: u64, limit: u64, here: Point) -> Found
+/// Asks the caches of worker `w`.
+#[inline]
+fn from_caches(caches: &mut Caches, w: usize, size: u64, limit: u64) -> Option<u64>
+    requires worker { w < caches.old.workers }
     requires some { 1 ≤ size }
     requires bounded { size ≤ MAX_FRAMES }
-    ensures { Walks (sought_at here (best tree.old.bounds (ranges_of tree.old) size limit)) size tree.old tree.new result }
+    ensures value { result ≡ (get_cached caches.old.caches w size limit (order_of size)).0 }
+    ensures left { caches.new ≡ record caches.old { caches = (get_cached caches.old.caches w size limit (order_of size)).1 } }
+    ensures cached { IsCached caches.old → IsCached caches.new }
+{
+    let order = order_of(size)?;
+    caches.get(w, order, limit)
+}
+
+/// Takes the highest place for `size` frames in the tree, none above `limit`, by a growth that is the point `here`.
+fn from_tree(tree: &mut Tree, size: u64, limit: u64, here: Point) -> Found
+    requires some { 1 ≤ size }
+    requires bounded { size ≤ MAX_FRAMES }
+    ensures places { Places (best tree.old.bounds (ranges_of tree.old) size limit) here size tree.old tree.new result }
+    ensures space { IsSpace tree.old → IsSpace tree.new }
 {
     let Some(lo) = tree.highest(size, limit) else {
         return Found::Nowhere;
@@ -38,17 +63,65 @@ fn take_highest(tree: &mut Tree, size: u64, limit: u64, here: Point) -> Found
     }
 }
 
-/// The walk of a request: for a client that is `sac`, below 4 GiB first; then with the limit that was asked for.
-pub fn walk(tree: &mut Tree, sac: bool, size: u64, limit: u64) -> Found
+/// One try for `size` frames, none above `limit`: the caches of worker `w`, then the tree, by a growth that is the point
+/// `here`, and, where `emptying` is allowed, the tree again with all caches emptied.
+fn try_once(
+    tree: &mut Tree,
+    caches: &mut Caches,
+    w: usize,
+    size: u64,
+    limit: u64,
+    emptying: bool,
+    here: Point,
+) -> Found
+    requires worker { w < caches.old.workers }
     requires some { 1 ≤ size }
     requires bounded { size ≤ MAX_FRAMES }
-    ensures { Walks (sought tree.old sac size limit) size tree.old tree.new result }
+    requires here { IsTryPoint here }
+    requires stock { IsStock tree.old caches.old [] }
+    ensures comes { (s : State) → Stands tree.old caches.old.caches s → Comes (next.try s w size limit emptying here (point_of result)) result caches.new.caches }
+    ensures size { IsPlacedOf size result }
+    ensures point { IsPointFrom here (point_of result) }
+    ensures stock { Exchanges tree.old tree.new caches.old caches.new (placed result) [] }
+{
+    if let Some(lo) = from_caches(caches, w, size, limit) {
+        return Found::Placed(Range::new(lo, size));
+    }
+    match from_tree(tree, size, limit, here) {
+        Found::Nowhere => {}
+        found => return found,
+    }
+    if !emptying {
+        return Found::Nowhere;
+    }
+    empty(tree, caches);
+    from_tree(tree, size, limit, Point::Last)
+}
+
+/// The walk of a request: for a client that is `sac`, one try below 4 GiB that empties nothing, where the limit is above
+/// that; then one with the limit that was asked for.
+pub fn walk(
+    tree: &mut Tree,
+    caches: &mut Caches,
+    w: usize,
+    sac: bool,
+    size: u64,
+    limit: u64,
+) -> Found
+    requires worker { w < caches.old.workers }
+    requires some { 1 ≤ size }
+    requires bounded { size ≤ MAX_FRAMES }
+    requires stock { IsStock tree.old caches.old [] }
+    ensures comes { (s : State) → Stands tree.old caches.old.caches s → Comes (next.walk s w sac size limit (point_of result)) result caches.new.caches }
+    ensures size { IsPlacedOf size result }
+    ensures point { point_of result ≢ Point.Ledger }
+    ensures stock { Exchanges tree.old tree.new caches.old caches.new (placed result) [] }
 {
     if sac && limit > LOW_LIMIT {
-        match take_highest(tree, size, LOW_LIMIT, Point::First) {
+        match try_once(tree, caches, w, size, LOW_LIMIT, false, Point::First) {
             Found::Nowhere => {}
             found => return found,
         }
     }
-    take_highest(tree, size, limit, Point::Second)
+    try_once(tree, caches, w, size, limit, true, Point::Second)
 }

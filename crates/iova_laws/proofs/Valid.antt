@@ -64,7 +64,7 @@ with_caches_valid s c h caches order = record {
 -- Windows.
 
 -- a reservation leaves few windows, which rise
-reserved_valid : (s : State) (lo hi : ℕ) → IsValid s → MayReserve s lo hi → IsValid (with_windows s (windows_with (from_to lo hi) s.windows))
+pub reserved_valid : (s : State) (lo hi : ℕ) → IsValid s → MayReserve s lo hi → IsValid (with_windows s (windows_with (from_to lo hi) s.windows))
 reserved_valid s lo hi h may =
     let r = from_to lo hi in
     let t = with_windows s (windows_with r s.windows) in
@@ -103,14 +103,14 @@ open_valid s w sac h may = record {
 }
 
 -- a client that is marked closing
-with_marked_valid : (s : State) (id : ℕ) (c : Client) → IsValid s → client_with id s.clients ≡ Some c → IsValid (with_marked s id)
+pub with_marked_valid : (s : State) (id : ℕ) (c : Client) → IsValid s → client_with id s.clients ≡ Some c → IsValid (with_marked s id)
 with_marked_valid s id c h found =
     let cs = changed id marked s.clients in
     let own = found_valid s.workers id c s.clients s.serial found h.clients in
     with_clients_valid s cs h (changed_valid id marked (λ x. refl) s.workers c s.clients s.serial found (marked_valid s.workers c own) h.clients) (moved_in_order s (with_marked s id) [] (marked_moved s id) (in_order s h.one_place))
 
 -- a client with nothing goes
-without_client_valid : (s : State) (id : ℕ) (c : Client) → IsValid s → client_with id s.clients ≡ Some c → c.holdings ≡ [] → IsValid (with_clients s (forgotten id s.clients))
+pub without_client_valid : (s : State) (id : ℕ) (c : Client) → IsValid s → client_with id s.clients ≡ Some c → c.holdings ≡ [] → IsValid (with_clients s (forgotten id s.clients))
 without_client_valid s id c h found none =
     let cs = forgotten id s.clients in
     with_clients_valid s cs h (forgotten_valid s.workers id s.clients s.serial h.clients) (moved_in_order s (with_clients s cs) [] (forgotten_moved s id c found none) (in_order s h.one_place))
@@ -156,7 +156,7 @@ answered_valid s id size limit x h some few room is (At lo) c own (inr fresh) =
 -- Rings.
 
 -- a ring is drained into the magazines of a worker
-drained_valid : (s : State) (q w : ℕ) → IsValid s → q < s.workers → w < s.workers → IsValid (drained s q w)
+pub drained_valid : (s : State) (q w : ℕ) → IsValid s → q < s.workers → w < s.workers → IsValid (drained s q w)
 drained_valid s q w h below-q below-w =
     let ring = ring_at s q in
     let here : q < length s.rings = omega (arith, h.each_ring) in
@@ -175,7 +175,7 @@ drained_valid s q w h below-q below-w =
     }
 
 -- a holding is inside
-held_inside : (s : State) (id : ℕ) (c : Client) (r : Frames) → IsValid s → client_with id s.clients ≡ Some c → find (begins_at r.lo) c.holdings ≡ Some r → is_inside s.bounds r ≡ true
+pub held_inside : (s : State) (id : ℕ) (c : Client) (r : Frames) → IsValid s → client_with id s.clients ≡ Some c → find (begins_at r.lo) c.holdings ≡ Some r → is_inside s.bounds r ≡ true
 held_inside s id c r h found held =
     let outside = lacks (is_inside s.bounds) in
     let order = in_order s h.one_place in
@@ -224,19 +224,19 @@ flushes_valid s f h rings sound = record {
 }
 
 -- a flush begins
-begun_valid : (s : State) → IsValid s → MayBegin s → IsValid (with_flushes s (begun s.flushes))
+pub begun_valid : (s : State) → IsValid s → MayBegin s → IsValid (with_flushes s (begun s.flushes))
 begun_valid s h may =
     flushes_valid s (begun s.flushes) h (all-weaker (IsRing s.flushes.start) (IsRing (s.flushes.start + 1)) s.rings (later_ring s.flushes.start) h.rings) (begins_keep_flushes_sound s.flushes h.flushes may.room may.worn)
 
 -- a flush ends
-ended_valid : (s : State) (n : ℕ) (ok : Bool) → IsValid s → is_in_flight n s.flushes.in_flight ≡ true → IsValid (with_flushes s (ended s.flushes n ok))
+pub ended_valid : (s : State) (n : ℕ) (ok : Bool) → IsValid s → is_in_flight n s.flushes.in_flight ≡ true → IsValid (with_flushes s (ended s.flushes n ok))
 ended_valid s n true h flies = flushes_valid s (ended s.flushes n true) h h.rings (ends_keep_flushes_sound s.flushes n true h.flushes flies)
 ended_valid s n false h flies = flushes_valid s (ended s.flushes n false) h h.rings (ends_keep_flushes_sound s.flushes n false h.flushes flies)
 
 -- The whole.
 
 -- a worker's ring is drained and takes a holding
-unmapped_valid : (s : State) (w id : ℕ) (c : Client) (r : Frames) → IsValid s → w < s.workers → client_with id s.clients ≡ Some c → find (begins_at r.lo) c.holdings ≡ Some r → HasRingRoom s w → IsValid (queued (drained s w w) w id r)
+pub unmapped_valid : (s : State) (w id : ℕ) (c : Client) (r : Frames) → IsValid s → w < s.workers → client_with id s.clients ≡ Some c → find (begins_at r.lo) c.holdings ≡ Some r → HasRingRoom s w → IsValid (queued (drained s w w) w id r)
 unmapped_valid s w id c r h below found held room =
     queued_valid (drained s w w) w id c r (drained_valid s w w h below below) below found held room
 

@@ -38,6 +38,7 @@ impl Tree {
     /// A tree with nothing allocated.
     pub fn new(alloc: Global, bounds: Bounds) -> Result<Self, Refusal>
         ensures value { IfOk result (λ t. t ≡ record { bounds = bounds; inserted = []; windows = [] }) }
+        ensures space { IfOk result IsSpace }
         ensures refused { OnErr result (result ≡ Err Refusal.NoMemory) }
     {
         let _start = bounds.start();
@@ -51,7 +52,8 @@ impl Tree {
     /// The bounds.
     #[inline]
     pub fn bounds(&self) -> Bounds
-        ensures { result ≡ self.now.bounds }
+        ensures is { result ≡ self.now.bounds }
+        ensures space { IsSpace self.now }
     {
         self.bounds
     }
@@ -87,6 +89,7 @@ impl Tree {
         requires free { is_clear range (ranges_of self.old) ≡ true }
         ensures ok { OnOk result (self.new ≡ record self.old { inserted = insert_rising range self.old.inserted }) }
         ensures err { OnErr result ((result ≡ Err Refusal.NoMemory) × (self.new ≡ self.old)) }
+        ensures space { IsSpace self.new }
     {
         let at = place_of(&self.inserted, range.lo());
         let Ok(()) = self.inserted.insert(at, range) else {
@@ -100,6 +103,7 @@ impl Tree {
         requires { IsSome (find (begins_at lo) self.old.inserted) }
         ensures value { find (begins_at lo) self.old.inserted ≡ Some result }
         ensures rest { self.new ≡ record self.old { inserted = remove_at lo self.old.inserted } }
+        ensures space { IsSpace self.new }
     {
         let at = place_of(&self.inserted, lo);
         self.inserted.remove(at)
@@ -136,6 +140,7 @@ impl Tree {
         ensures accepted { IfNone (reserve_refusal self.old lo hi) (IsOkUnless result Refusal.NoMemory) }
         ensures window { IfOk result (λ w. w ≡ union (from_to lo hi) self.old.windows) }
         ensures windows { OnOk result (self.new ≡ record self.old { windows = windows_with (from_to lo hi) self.old.windows }) }
+        ensures space { IsSpace self.new }
         ensures unchanged { OnErr result (self.new ≡ self.old) }
     {
         if lo > hi || lo < self.bounds.start() || hi > self.bounds.last() {

@@ -5,9 +5,6 @@ use std::test::Fail;
 
 // Runs a step. Where memory is refused, nothing has changed, and the same step then succeeds.
 fn step(domain: &mut Domain, step: Step) -> Reply {
-    if !is_served(&step) {
-        return Reply::Refused(Refusal::BadLine);
-    }
     match domain.step_at(step) {
         (Reply::Refused(Refusal::NoMemory), _) => domain.step(step),
         (reply, _) => reply,

@@ -1,188 +1,138 @@
-use Rattle.std.proofs.Common.{◌≡◌, false, refl, ap, arith, sym, ◌∙◌}
-use Rattle.std.specs.Prelude.{unwrap_or}
-use Rattle.iova_model.specs.Next.{Next}
-use Rattle.iova_core.proofs.Outcomes.{refuses_ok, same_owner}
-use Rattle.iova_core.proofs.AllocCalls.{IsOnItsWay, gives_placed, gives_nowhere, gives_starved}
+use Rattle.std.proofs.Common.{ℕ, ◌≡◌, ◌<◌, ◌≤◌, List, [], ◌∷◌, Option, Some, None, false, refl, sym, ap, ◌∙◌, arith}
+use Rattle.std.specs.Prelude.{unwrap_or, option_map}
+use Rattle.iova_range.specs.Frames.{Frames}
+use Rattle.iova_range.specs.Sizes.{need}
+use Rattle.iova_model.specs.Clients.{Client, client_with, changed, with_holding}
+use Rattle.iova_model.specs.State.{State}
+use Rattle.iova_model.specs.Next.{Next, given, with_caches}
+use Rattle.iova_core.specs.Domain.{Parts, state_of}
+use Rattle.iova_core.specs.declared.walk.Found.TheVariants as found
+use Rattle.iova_core.proofs.Outcomes.{refuses_ok, refuses_err, same_owner}
+use Rattle.iova_core.proofs.Queues.{domain_stock}
+use Rattle.iova_core.proofs.Allocs.{asked_from, alloc_is, walked_state, domain_walked, found_low, found_new, given_state, domain_given}
 use Rattle.iova_core.proofs.domain.Domain.alloc.Goals as goal
+
+pub walk-requires-clause-stock : goal.walk-requires-clause-stock
+walk-requires-clause-stock c =
+    let p : Parts = record { tree = c.self.inside.tree; clients = c.self.inside.clients; cached = c.self.inside.caches; rings = c.self.inside.rings.items; flushes = c.self.inside.flights; reserved = c.self.inside.reserved } in
+    domain_stock p c.self.invariant
 
 pub add-requires-clause-client : goal.add-requires-clause-client
 add-requires-clause-client c =
-    let way : IsOnItsWay c.self.inside.tree c.self.inside.clients c.room.new.self c.self.inside.workers c.args.worker c.args.client c.args.frames c.unwrap_or-sac.result c.need.result = record {
-      domain = c.self.invariant;
-      known = c.if-worker-self.false;
-      some = omega arith;
-      few = c.if-frames-gt-MAX_FRAMES.false;
-      owner = sym c.owner.ensures.is ∙ same_owner c.args.worker c.owner.result c.if-ne.ensures;
-      room = refuses_ok _ c.room.result c.in-Ok.field-0 (record { refused = c.room.ensures.refused; accepted = c.room.ensures.accepted }) c.in-Ok.is;
-      clients = c.room.ensures.clients;
-      serial = c.room.ensures.serial;
-      mark = c.unwrap_or-sac.ensures ∙ ap (λ o. unwrap_or o false) c.is_sac.ensures;
-      needs = c.need.ensures.computed;
-    } in
-    (gives_placed _ c.walk.new.tree _ _ _ _ _ _ c.args.limit _ _ way c.in-Placed.range c.in-Placed.ensures).can
+    let p : Parts = record { tree = c.self.inside.tree; clients = c.self.inside.clients; cached = c.self.inside.caches; rings = c.self.inside.rings.items; flushes = c.self.inside.flights; reserved = c.self.inside.reserved } in
+    let s = state_of p in
+    let count : c.workers.result ≡ p.cached.workers = rw (← c.self.view_is) at c.workers.ensures.is in
+    let known : c.args.worker < p.cached.workers = rw count at c.if-worker-workers.false in
+    let owner = sym c.owner.ensures.is ∙ same_owner c.args.worker c.owner.result c.if-ne.ensures in
+    let room = refuses_ok _ c.room.result c.in-Ok.field-0 (record { refused = c.room.ensures.refused; accepted = c.room.ensures.accepted }) c.in-Ok.is in
+    let asked = asked_from s c.args.worker c.args.client c.args.frames known (omega arith) c.if-frames-gt-MAX_FRAMES.false owner room in
+    let mark : c.unwrap_or-sac.result ≡ asked.0.sac =
+    c.unwrap_or-sac.ensures ∙ (ap (λ o. unwrap_or o false) c.is_sac.ensures ∙ (ap (λ cs. unwrap_or (option_map (λ (x : Client). x.sac) (client_with c.args.client cs)) false) c.room.ensures.clients ∙ ap (λ o. unwrap_or (option_map (λ (x : Client). x.sac) o) false) asked.1.found)) in
+    let comes = rw (mark, c.need.ensures.computed) at c.in-Placed.ensures.comes in
+    let size = rw c.need.ensures.computed at c.in-Placed.ensures.size in
+    found_new p c.self.invariant c.args.worker c.args.client c.args.frames c.args.limit asked.0 asked.1 c.walk.new.tree c.walk.new.caches (found.Placed c.in-Placed.range) comes c.in-Placed.ensures.point c.in-Placed.ensures.stock c.in-Placed.range refl c.room.new.self c.room.ensures.clients
 
 pub add-requires-clause-low : goal.add-requires-clause-low
 add-requires-clause-low c =
-    let way : IsOnItsWay c.self.inside.tree c.self.inside.clients c.room.new.self c.self.inside.workers c.args.worker c.args.client c.args.frames c.unwrap_or-sac.result c.need.result = record {
-      domain = c.self.invariant;
-      known = c.if-worker-self.false;
-      some = omega arith;
-      few = c.if-frames-gt-MAX_FRAMES.false;
-      owner = sym c.owner.ensures.is ∙ same_owner c.args.worker c.owner.result c.if-ne.ensures;
-      room = refuses_ok _ c.room.result c.in-Ok.field-0 (record { refused = c.room.ensures.refused; accepted = c.room.ensures.accepted }) c.in-Ok.is;
-      clients = c.room.ensures.clients;
-      serial = c.room.ensures.serial;
-      mark = c.unwrap_or-sac.ensures ∙ ap (λ o. unwrap_or o false) c.is_sac.ensures;
-      needs = c.need.ensures.computed;
-    } in
-    (gives_placed _ c.walk.new.tree _ _ _ _ _ _ c.args.limit _ _ way c.in-Placed.range c.in-Placed.ensures).low
+    let p : Parts = record { tree = c.self.inside.tree; clients = c.self.inside.clients; cached = c.self.inside.caches; rings = c.self.inside.rings.items; flushes = c.self.inside.flights; reserved = c.self.inside.reserved } in
+    let s = state_of p in
+    let count : c.workers.result ≡ p.cached.workers = rw (← c.self.view_is) at c.workers.ensures.is in
+    let known : c.args.worker < p.cached.workers = rw count at c.if-worker-workers.false in
+    let owner = sym c.owner.ensures.is ∙ same_owner c.args.worker c.owner.result c.if-ne.ensures in
+    let room = refuses_ok _ c.room.result c.in-Ok.field-0 (record { refused = c.room.ensures.refused; accepted = c.room.ensures.accepted }) c.in-Ok.is in
+    let asked = asked_from s c.args.worker c.args.client c.args.frames known (omega arith) c.if-frames-gt-MAX_FRAMES.false owner room in
+    let mark : c.unwrap_or-sac.result ≡ asked.0.sac =
+    c.unwrap_or-sac.ensures ∙ (ap (λ o. unwrap_or o false) c.is_sac.ensures ∙ (ap (λ cs. unwrap_or (option_map (λ (x : Client). x.sac) (client_with c.args.client cs)) false) c.room.ensures.clients ∙ ap (λ o. unwrap_or (option_map (λ (x : Client). x.sac) o) false) asked.1.found)) in
+    let comes = rw (mark, c.need.ensures.computed) at c.in-Placed.ensures.comes in
+    let size = rw c.need.ensures.computed at c.in-Placed.ensures.size in
+    found_low p c.self.invariant c.args.worker c.args.client c.args.frames c.args.limit asked.0 asked.1 c.walk.new.tree c.walk.new.caches (found.Placed c.in-Placed.range) comes c.in-Placed.ensures.point c.in-Placed.ensures.stock c.in-Placed.range refl
 
 pub invariant_of-self-in-Placed : goal.invariant_of-self-in-Placed
 invariant_of-self-in-Placed c =
-    let way : IsOnItsWay c.self.inside.tree c.self.inside.clients c.room.new.self c.self.inside.workers c.args.worker c.args.client c.args.frames c.unwrap_or-sac.result c.need.result = record {
-      domain = c.self.invariant;
-      known = c.if-worker-self.false;
-      some = omega arith;
-      few = c.if-frames-gt-MAX_FRAMES.false;
-      owner = sym c.owner.ensures.is ∙ same_owner c.args.worker c.owner.result c.if-ne.ensures;
-      room = refuses_ok _ c.room.result c.in-Ok.field-0 (record { refused = c.room.ensures.refused; accepted = c.room.ensures.accepted }) c.in-Ok.is;
-      clients = c.room.ensures.clients;
-      serial = c.room.ensures.serial;
-      mark = c.unwrap_or-sac.ensures ∙ ap (λ o. unwrap_or o false) c.is_sac.ensures;
-      needs = c.need.ensures.computed;
-    } in
-    (gives_placed _ c.walk.new.tree _ _ _ _ _ _ c.args.limit _ _ way c.in-Placed.range c.in-Placed.ensures).domain c.add.new.self c.add.ensures.clients c.add.ensures.serial
+    let p : Parts = record { tree = c.self.inside.tree; clients = c.self.inside.clients; cached = c.self.inside.caches; rings = c.self.inside.rings.items; flushes = c.self.inside.flights; reserved = c.self.inside.reserved } in
+    let s = state_of p in
+    let count : c.workers.result ≡ p.cached.workers = rw (← c.self.view_is) at c.workers.ensures.is in
+    let known : c.args.worker < p.cached.workers = rw count at c.if-worker-workers.false in
+    let owner = sym c.owner.ensures.is ∙ same_owner c.args.worker c.owner.result c.if-ne.ensures in
+    let room = refuses_ok _ c.room.result c.in-Ok.field-0 (record { refused = c.room.ensures.refused; accepted = c.room.ensures.accepted }) c.in-Ok.is in
+    let asked = asked_from s c.args.worker c.args.client c.args.frames known (omega arith) c.if-frames-gt-MAX_FRAMES.false owner room in
+    let mark : c.unwrap_or-sac.result ≡ asked.0.sac =
+    c.unwrap_or-sac.ensures ∙ (ap (λ o. unwrap_or o false) c.is_sac.ensures ∙ (ap (λ cs. unwrap_or (option_map (λ (x : Client). x.sac) (client_with c.args.client cs)) false) c.room.ensures.clients ∙ ap (λ o. unwrap_or (option_map (λ (x : Client). x.sac) o) false) asked.1.found)) in
+    let comes = rw (mark, c.need.ensures.computed) at c.in-Placed.ensures.comes in
+    let size = rw c.need.ensures.computed at c.in-Placed.ensures.size in
+    let clients = rw c.room.ensures.clients at c.add.ensures.clients in
+    let serial = c.add.ensures.serial ∙ c.room.ensures.serial in
+    domain_given p c.self.invariant c.args.worker c.args.client c.args.frames c.args.limit asked.0 asked.1 c.walk.new.tree c.walk.new.caches (found.Placed c.in-Placed.range) comes c.in-Placed.ensures.point c.in-Placed.ensures.stock c.in-Placed.range refl c.add.new.self clients (given_state p c.self.invariant c.args.worker c.args.client c.args.frames c.args.limit asked.0 asked.1 c.walk.new.tree c.walk.new.caches (found.Placed c.in-Placed.range) comes c.in-Placed.ensures.point c.in-Placed.ensures.stock c.in-Placed.range refl c.add.new.self clients serial size refl)
 
 pub invariant_of-self-in-Nowhere : goal.invariant_of-self-in-Nowhere
 invariant_of-self-in-Nowhere c =
-    let way : IsOnItsWay c.self.inside.tree c.self.inside.clients c.room.new.self c.self.inside.workers c.args.worker c.args.client c.args.frames c.unwrap_or-sac.result c.need.result = record {
-      domain = c.self.invariant;
-      known = c.if-worker-self.false;
-      some = omega arith;
-      few = c.if-frames-gt-MAX_FRAMES.false;
-      owner = sym c.owner.ensures.is ∙ same_owner c.args.worker c.owner.result c.if-ne.ensures;
-      room = refuses_ok _ c.room.result c.in-Ok.field-0 (record { refused = c.room.ensures.refused; accepted = c.room.ensures.accepted }) c.in-Ok.is;
-      clients = c.room.ensures.clients;
-      serial = c.room.ensures.serial;
-      mark = c.unwrap_or-sac.ensures ∙ ap (λ o. unwrap_or o false) c.is_sac.ensures;
-      needs = c.need.ensures.computed;
-    } in
-    (gives_nowhere _ c.walk.new.tree _ _ _ _ _ _ c.args.limit _ _ way c.in-Nowhere.ensures).domain
+    let p : Parts = record { tree = c.self.inside.tree; clients = c.self.inside.clients; cached = c.self.inside.caches; rings = c.self.inside.rings.items; flushes = c.self.inside.flights; reserved = c.self.inside.reserved } in
+    let s = state_of p in
+    let count : c.workers.result ≡ p.cached.workers = rw (← c.self.view_is) at c.workers.ensures.is in
+    let known : c.args.worker < p.cached.workers = rw count at c.if-worker-workers.false in
+    let owner = sym c.owner.ensures.is ∙ same_owner c.args.worker c.owner.result c.if-ne.ensures in
+    let room = refuses_ok _ c.room.result c.in-Ok.field-0 (record { refused = c.room.ensures.refused; accepted = c.room.ensures.accepted }) c.in-Ok.is in
+    let asked = asked_from s c.args.worker c.args.client c.args.frames known (omega arith) c.if-frames-gt-MAX_FRAMES.false owner room in
+    let mark : c.unwrap_or-sac.result ≡ asked.0.sac =
+    c.unwrap_or-sac.ensures ∙ (ap (λ o. unwrap_or o false) c.is_sac.ensures ∙ (ap (λ cs. unwrap_or (option_map (λ (x : Client). x.sac) (client_with c.args.client cs)) false) c.room.ensures.clients ∙ ap (λ o. unwrap_or (option_map (λ (x : Client). x.sac) o) false) asked.1.found)) in
+    let comes = rw (mark, c.need.ensures.computed) at c.in-Nowhere.ensures.comes in
+    domain_walked p c.self.invariant c.args.worker c.args.client c.args.frames c.args.limit asked.0 asked.1 c.walk.new.tree c.walk.new.caches found.Nowhere comes c.in-Nowhere.ensures.point c.in-Nowhere.ensures.stock c.room.new.self c.room.ensures.clients c.room.ensures.serial refl (ap (λ (n : Next). n.state) (alloc_is p c.self.invariant c.args.worker c.args.client c.args.frames c.args.limit asked.0 asked.1 c.walk.new.tree c.walk.new.caches found.Nowhere comes c.in-Nowhere.ensures.point c.in-Nowhere.ensures.stock) ∙ walked_state p c.self.invariant c.args.worker c.args.client c.args.frames c.args.limit asked.0 asked.1 c.walk.new.tree c.walk.new.caches found.Nowhere comes c.in-Nowhere.ensures.point c.in-Nowhere.ensures.stock c.room.new.self c.room.ensures.clients c.room.ensures.serial)
 
 pub invariant_of-self-in-Starved : goal.invariant_of-self-in-Starved
 invariant_of-self-in-Starved c =
-    let way : IsOnItsWay c.self.inside.tree c.self.inside.clients c.room.new.self c.self.inside.workers c.args.worker c.args.client c.args.frames c.unwrap_or-sac.result c.need.result = record {
-      domain = c.self.invariant;
-      known = c.if-worker-self.false;
-      some = omega arith;
-      few = c.if-frames-gt-MAX_FRAMES.false;
-      owner = sym c.owner.ensures.is ∙ same_owner c.args.worker c.owner.result c.if-ne.ensures;
-      room = refuses_ok _ c.room.result c.in-Ok.field-0 (record { refused = c.room.ensures.refused; accepted = c.room.ensures.accepted }) c.in-Ok.is;
-      clients = c.room.ensures.clients;
-      serial = c.room.ensures.serial;
-      mark = c.unwrap_or-sac.ensures ∙ ap (λ o. unwrap_or o false) c.is_sac.ensures;
-      needs = c.need.ensures.computed;
-    } in
-    (gives_starved _ c.walk.new.tree _ _ _ _ _ _ c.args.limit _ _ way c.in-Starved.point c.in-Starved.ensures).domain
-
-pub returns-in-Placed-clause-reply : goal.returns-in-Placed-clause-reply
-returns-in-Placed-clause-reply c =
-    let way : IsOnItsWay c.self.inside.tree c.self.inside.clients c.room.new.self c.self.inside.workers c.args.worker c.args.client c.args.frames c.unwrap_or-sac.result c.need.result = record {
-      domain = c.self.invariant;
-      known = c.if-worker-self.false;
-      some = omega arith;
-      few = c.if-frames-gt-MAX_FRAMES.false;
-      owner = sym c.owner.ensures.is ∙ same_owner c.args.worker c.owner.result c.if-ne.ensures;
-      room = refuses_ok _ c.room.result c.in-Ok.field-0 (record { refused = c.room.ensures.refused; accepted = c.room.ensures.accepted }) c.in-Ok.is;
-      clients = c.room.ensures.clients;
-      serial = c.room.ensures.serial;
-      mark = c.unwrap_or-sac.ensures ∙ ap (λ o. unwrap_or o false) c.is_sac.ensures;
-      needs = c.need.ensures.computed;
-    } in
-    let placed = (gives_placed _ c.walk.new.tree _ _ _ _ _ _ c.args.limit _ _ way c.in-Placed.range c.in-Placed.ensures) in
-    rw (← c.self.view_is) (sym (ap (λ (n : Next). n.reply) placed.next))
+    let p : Parts = record { tree = c.self.inside.tree; clients = c.self.inside.clients; cached = c.self.inside.caches; rings = c.self.inside.rings.items; flushes = c.self.inside.flights; reserved = c.self.inside.reserved } in
+    let s = state_of p in
+    let count : c.workers.result ≡ p.cached.workers = rw (← c.self.view_is) at c.workers.ensures.is in
+    let known : c.args.worker < p.cached.workers = rw count at c.if-worker-workers.false in
+    let owner = sym c.owner.ensures.is ∙ same_owner c.args.worker c.owner.result c.if-ne.ensures in
+    let room = refuses_ok _ c.room.result c.in-Ok.field-0 (record { refused = c.room.ensures.refused; accepted = c.room.ensures.accepted }) c.in-Ok.is in
+    let asked = asked_from s c.args.worker c.args.client c.args.frames known (omega arith) c.if-frames-gt-MAX_FRAMES.false owner room in
+    let mark : c.unwrap_or-sac.result ≡ asked.0.sac =
+    c.unwrap_or-sac.ensures ∙ (ap (λ o. unwrap_or o false) c.is_sac.ensures ∙ (ap (λ cs. unwrap_or (option_map (λ (x : Client). x.sac) (client_with c.args.client cs)) false) c.room.ensures.clients ∙ ap (λ o. unwrap_or (option_map (λ (x : Client). x.sac) o) false) asked.1.found)) in
+    let comes = rw (mark, c.need.ensures.computed) at c.in-Starved.ensures.comes in
+    domain_walked p c.self.invariant c.args.worker c.args.client c.args.frames c.args.limit asked.0 asked.1 c.walk.new.tree c.walk.new.caches (found.Starved c.in-Starved.point) comes c.in-Starved.ensures.point c.in-Starved.ensures.stock c.room.new.self c.room.ensures.clients c.room.ensures.serial refl (ap (λ (n : Next). n.state) (alloc_is p c.self.invariant c.args.worker c.args.client c.args.frames c.args.limit asked.0 asked.1 c.walk.new.tree c.walk.new.caches (found.Starved c.in-Starved.point) comes c.in-Starved.ensures.point c.in-Starved.ensures.stock) ∙ walked_state p c.self.invariant c.args.worker c.args.client c.args.frames c.args.limit asked.0 asked.1 c.walk.new.tree c.walk.new.caches (found.Starved c.in-Starved.point) comes c.in-Starved.ensures.point c.in-Starved.ensures.stock c.room.new.self c.room.ensures.clients c.room.ensures.serial)
 
 pub returns-in-Placed-clause-state : goal.returns-in-Placed-clause-state
 returns-in-Placed-clause-state c =
-    let way : IsOnItsWay c.self.inside.tree c.self.inside.clients c.room.new.self c.self.inside.workers c.args.worker c.args.client c.args.frames c.unwrap_or-sac.result c.need.result = record {
-      domain = c.self.invariant;
-      known = c.if-worker-self.false;
-      some = omega arith;
-      few = c.if-frames-gt-MAX_FRAMES.false;
-      owner = sym c.owner.ensures.is ∙ same_owner c.args.worker c.owner.result c.if-ne.ensures;
-      room = refuses_ok _ c.room.result c.in-Ok.field-0 (record { refused = c.room.ensures.refused; accepted = c.room.ensures.accepted }) c.in-Ok.is;
-      clients = c.room.ensures.clients;
-      serial = c.room.ensures.serial;
-      mark = c.unwrap_or-sac.ensures ∙ ap (λ o. unwrap_or o false) c.is_sac.ensures;
-      needs = c.need.ensures.computed;
-    } in
-    let placed = (gives_placed _ c.walk.new.tree _ _ _ _ _ _ c.args.limit _ _ way c.in-Placed.range c.in-Placed.ensures) in
-    rw (← c.self.view_is) (placed.state c.add.new.self c.add.ensures.clients c.add.ensures.serial ∙ sym (ap (λ (n : Next). n.state) placed.next))
-
-pub returns-in-Nowhere-clause-reply : goal.returns-in-Nowhere-clause-reply
-returns-in-Nowhere-clause-reply c =
-    let way : IsOnItsWay c.self.inside.tree c.self.inside.clients c.room.new.self c.self.inside.workers c.args.worker c.args.client c.args.frames c.unwrap_or-sac.result c.need.result = record {
-      domain = c.self.invariant;
-      known = c.if-worker-self.false;
-      some = omega arith;
-      few = c.if-frames-gt-MAX_FRAMES.false;
-      owner = sym c.owner.ensures.is ∙ same_owner c.args.worker c.owner.result c.if-ne.ensures;
-      room = refuses_ok _ c.room.result c.in-Ok.field-0 (record { refused = c.room.ensures.refused; accepted = c.room.ensures.accepted }) c.in-Ok.is;
-      clients = c.room.ensures.clients;
-      serial = c.room.ensures.serial;
-      mark = c.unwrap_or-sac.ensures ∙ ap (λ o. unwrap_or o false) c.is_sac.ensures;
-      needs = c.need.ensures.computed;
-    } in
-    let nowhere = (gives_nowhere _ c.walk.new.tree _ _ _ _ _ _ c.args.limit _ _ way c.in-Nowhere.ensures) in
-    rw (← c.self.view_is, c.refused-in-Nowhere.ensures.reply, c.refused-in-Nowhere.ensures.point) (sym (ap (λ (n : Next). n.reply) nowhere.next))
+    let p : Parts = record { tree = c.self.inside.tree; clients = c.self.inside.clients; cached = c.self.inside.caches; rings = c.self.inside.rings.items; flushes = c.self.inside.flights; reserved = c.self.inside.reserved } in
+    let s = state_of p in
+    let count : c.workers.result ≡ p.cached.workers = rw (← c.self.view_is) at c.workers.ensures.is in
+    let known : c.args.worker < p.cached.workers = rw count at c.if-worker-workers.false in
+    let owner = sym c.owner.ensures.is ∙ same_owner c.args.worker c.owner.result c.if-ne.ensures in
+    let room = refuses_ok _ c.room.result c.in-Ok.field-0 (record { refused = c.room.ensures.refused; accepted = c.room.ensures.accepted }) c.in-Ok.is in
+    let asked = asked_from s c.args.worker c.args.client c.args.frames known (omega arith) c.if-frames-gt-MAX_FRAMES.false owner room in
+    let mark : c.unwrap_or-sac.result ≡ asked.0.sac =
+    c.unwrap_or-sac.ensures ∙ (ap (λ o. unwrap_or o false) c.is_sac.ensures ∙ (ap (λ cs. unwrap_or (option_map (λ (x : Client). x.sac) (client_with c.args.client cs)) false) c.room.ensures.clients ∙ ap (λ o. unwrap_or (option_map (λ (x : Client). x.sac) o) false) asked.1.found)) in
+    let comes = rw (mark, c.need.ensures.computed) at c.in-Placed.ensures.comes in
+    let size = rw c.need.ensures.computed at c.in-Placed.ensures.size in
+    let clients = rw c.room.ensures.clients at c.add.ensures.clients in
+    let serial = c.add.ensures.serial ∙ c.room.ensures.serial in
+    rw (← c.self.view_is) (sym (given_state p c.self.invariant c.args.worker c.args.client c.args.frames c.args.limit asked.0 asked.1 c.walk.new.tree c.walk.new.caches (found.Placed c.in-Placed.range) comes c.in-Placed.ensures.point c.in-Placed.ensures.stock c.in-Placed.range refl c.add.new.self clients serial size refl))
 
 pub returns-in-Nowhere-clause-state : goal.returns-in-Nowhere-clause-state
 returns-in-Nowhere-clause-state c =
-    let way : IsOnItsWay c.self.inside.tree c.self.inside.clients c.room.new.self c.self.inside.workers c.args.worker c.args.client c.args.frames c.unwrap_or-sac.result c.need.result = record {
-      domain = c.self.invariant;
-      known = c.if-worker-self.false;
-      some = omega arith;
-      few = c.if-frames-gt-MAX_FRAMES.false;
-      owner = sym c.owner.ensures.is ∙ same_owner c.args.worker c.owner.result c.if-ne.ensures;
-      room = refuses_ok _ c.room.result c.in-Ok.field-0 (record { refused = c.room.ensures.refused; accepted = c.room.ensures.accepted }) c.in-Ok.is;
-      clients = c.room.ensures.clients;
-      serial = c.room.ensures.serial;
-      mark = c.unwrap_or-sac.ensures ∙ ap (λ o. unwrap_or o false) c.is_sac.ensures;
-      needs = c.need.ensures.computed;
-    } in
-    let nowhere = (gives_nowhere _ c.walk.new.tree _ _ _ _ _ _ c.args.limit _ _ way c.in-Nowhere.ensures) in
-    rw (← c.self.view_is, c.refused-in-Nowhere.ensures.point) (nowhere.state ∙ sym (ap (λ (n : Next). n.state) nowhere.next))
-
-pub returns-in-Starved-clause-reply : goal.returns-in-Starved-clause-reply
-returns-in-Starved-clause-reply c =
-    let way : IsOnItsWay c.self.inside.tree c.self.inside.clients c.room.new.self c.self.inside.workers c.args.worker c.args.client c.args.frames c.unwrap_or-sac.result c.need.result = record {
-      domain = c.self.invariant;
-      known = c.if-worker-self.false;
-      some = omega arith;
-      few = c.if-frames-gt-MAX_FRAMES.false;
-      owner = sym c.owner.ensures.is ∙ same_owner c.args.worker c.owner.result c.if-ne.ensures;
-      room = refuses_ok _ c.room.result c.in-Ok.field-0 (record { refused = c.room.ensures.refused; accepted = c.room.ensures.accepted }) c.in-Ok.is;
-      clients = c.room.ensures.clients;
-      serial = c.room.ensures.serial;
-      mark = c.unwrap_or-sac.ensures ∙ ap (λ o. unwrap_or o false) c.is_sac.ensures;
-      needs = c.need.ensures.computed;
-    } in
-    let starved = (gives_starved _ c.walk.new.tree _ _ _ _ _ _ c.args.limit _ _ way c.in-Starved.point c.in-Starved.ensures) in
-    rw (← c.self.view_is) (sym (ap (λ (n : Next). n.reply) starved.next))
+    let p : Parts = record { tree = c.self.inside.tree; clients = c.self.inside.clients; cached = c.self.inside.caches; rings = c.self.inside.rings.items; flushes = c.self.inside.flights; reserved = c.self.inside.reserved } in
+    let s = state_of p in
+    let count : c.workers.result ≡ p.cached.workers = rw (← c.self.view_is) at c.workers.ensures.is in
+    let known : c.args.worker < p.cached.workers = rw count at c.if-worker-workers.false in
+    let owner = sym c.owner.ensures.is ∙ same_owner c.args.worker c.owner.result c.if-ne.ensures in
+    let room = refuses_ok _ c.room.result c.in-Ok.field-0 (record { refused = c.room.ensures.refused; accepted = c.room.ensures.accepted }) c.in-Ok.is in
+    let asked = asked_from s c.args.worker c.args.client c.args.frames known (omega arith) c.if-frames-gt-MAX_FRAMES.false owner room in
+    let mark : c.unwrap_or-sac.result ≡ asked.0.sac =
+    c.unwrap_or-sac.ensures ∙ (ap (λ o. unwrap_or o false) c.is_sac.ensures ∙ (ap (λ cs. unwrap_or (option_map (λ (x : Client). x.sac) (client_with c.args.client cs)) false) c.room.ensures.clients ∙ ap (λ o. unwrap_or (option_map (λ (x : Client). x.sac) o) false) asked.1.found)) in
+    let comes = rw (mark, c.need.ensures.computed) at c.in-Nowhere.ensures.comes in
+    rw (← c.self.view_is, c.refused-in-Nowhere.ensures.point) (sym (ap (λ (n : Next). n.state) (alloc_is p c.self.invariant c.args.worker c.args.client c.args.frames c.args.limit asked.0 asked.1 c.walk.new.tree c.walk.new.caches found.Nowhere comes c.in-Nowhere.ensures.point c.in-Nowhere.ensures.stock) ∙ walked_state p c.self.invariant c.args.worker c.args.client c.args.frames c.args.limit asked.0 asked.1 c.walk.new.tree c.walk.new.caches found.Nowhere comes c.in-Nowhere.ensures.point c.in-Nowhere.ensures.stock c.room.new.self c.room.ensures.clients c.room.ensures.serial))
 
 pub returns-in-Starved-clause-state : goal.returns-in-Starved-clause-state
 returns-in-Starved-clause-state c =
-    let way : IsOnItsWay c.self.inside.tree c.self.inside.clients c.room.new.self c.self.inside.workers c.args.worker c.args.client c.args.frames c.unwrap_or-sac.result c.need.result = record {
-      domain = c.self.invariant;
-      known = c.if-worker-self.false;
-      some = omega arith;
-      few = c.if-frames-gt-MAX_FRAMES.false;
-      owner = sym c.owner.ensures.is ∙ same_owner c.args.worker c.owner.result c.if-ne.ensures;
-      room = refuses_ok _ c.room.result c.in-Ok.field-0 (record { refused = c.room.ensures.refused; accepted = c.room.ensures.accepted }) c.in-Ok.is;
-      clients = c.room.ensures.clients;
-      serial = c.room.ensures.serial;
-      mark = c.unwrap_or-sac.ensures ∙ ap (λ o. unwrap_or o false) c.is_sac.ensures;
-      needs = c.need.ensures.computed;
-    } in
-    let starved = (gives_starved _ c.walk.new.tree _ _ _ _ _ _ c.args.limit _ _ way c.in-Starved.point c.in-Starved.ensures) in
-    rw (← c.self.view_is) (starved.state ∙ sym (ap (λ (n : Next). n.state) starved.next))
+    let p : Parts = record { tree = c.self.inside.tree; clients = c.self.inside.clients; cached = c.self.inside.caches; rings = c.self.inside.rings.items; flushes = c.self.inside.flights; reserved = c.self.inside.reserved } in
+    let s = state_of p in
+    let count : c.workers.result ≡ p.cached.workers = rw (← c.self.view_is) at c.workers.ensures.is in
+    let known : c.args.worker < p.cached.workers = rw count at c.if-worker-workers.false in
+    let owner = sym c.owner.ensures.is ∙ same_owner c.args.worker c.owner.result c.if-ne.ensures in
+    let room = refuses_ok _ c.room.result c.in-Ok.field-0 (record { refused = c.room.ensures.refused; accepted = c.room.ensures.accepted }) c.in-Ok.is in
+    let asked = asked_from s c.args.worker c.args.client c.args.frames known (omega arith) c.if-frames-gt-MAX_FRAMES.false owner room in
+    let mark : c.unwrap_or-sac.result ≡ asked.0.sac =
+    c.unwrap_or-sac.ensures ∙ (ap (λ o. unwrap_or o false) c.is_sac.ensures ∙ (ap (λ cs. unwrap_or (option_map (λ (x : Client). x.sac) (client_with c.args.client cs)) false) c.room.ensures.clients ∙ ap (λ o. unwrap_or (option_map (λ (x : Client). x.sac) o) false) asked.1.found)) in
+    let comes = rw (mark, c.need.ensures.computed) at c.in-Starved.ensures.comes in
+    rw (← c.self.view_is) (sym (ap (λ (n : Next). n.state) (alloc_is p c.self.invariant c.args.worker c.args.client c.args.frames c.args.limit asked.0 asked.1 c.walk.new.tree c.walk.new.caches (found.Starved c.in-Starved.point) comes c.in-Starved.ensures.point c.in-Starved.ensures.stock) ∙ walked_state p c.self.invariant c.args.worker c.args.client c.args.frames c.args.limit asked.0 asked.1 c.walk.new.tree c.walk.new.caches (found.Starved c.in-Starved.point) comes c.in-Starved.ensures.point c.in-Starved.ensures.stock c.room.new.self c.room.ensures.clients c.room.ensures.serial))

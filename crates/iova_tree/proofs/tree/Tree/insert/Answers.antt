@@ -25,3 +25,6 @@ returns-clause-ok c =
     let p = c.place_of-at.ensures in
     let e = searched_insert _ _ c.args.range _ _ _ c.deref.ensures.value c.self.invariant.inserted inside.some parts.1 p.within (rw c.lo.ensures at p.below) (rw c.lo.ensures at p.above) in
     rw (← c.self.view_is) (rw (c.in-Ok.ensures.items, e) refl)
+
+pub returns-clause-space : goal.returns-clause-space
+returns-clause-space c = invariant_of-self-2 c

@@ -36,3 +36,6 @@ returns-clause-rest c =
     let p = c.place_of-at.ensures in
     let stands = searched_remove _ _ c.args.lo _ _ _ c.deref.ensures.value c.self.invariant.inserted p.within p.below p.above found in
     rw (← c.self.view_is) (rw (c.remove.ensures.items, stands.without) refl)
+
+pub returns-clause-space : goal.returns-clause-space
+returns-clause-space c = invariant_of-self c

@@ -55,3 +55,6 @@ returns-clause-windows c =
     let stands : insert (clear_of c.new-asked.result s.windows) c.place_of-at.result (union c.new-asked.result s.windows) ≡ windows_with c.new-asked.result s.windows = union_inserted s _ _ _ _ _ c.self.invariant asked (c.deref-3.ensures.value ∙ rest) p.within (rw (c.lo.ensures, window) at p.below) (rw (c.lo.ensures, window) at p.above) in
     let items : c.insert.new.self.items ≡ windows_with c.new-asked.result s.windows = rw (c.unwrap.ensures) at c.insert.ensures.items ∙ (rw (rest, window) stands) in
     rw (← c.self.view_is) (rw (items, asked.frames) refl)
+
+pub returns-clause-space : goal.returns-clause-space
+returns-clause-space c = invariant_of-self-2 c

@@ -1,0 +1,8 @@
+use Rattle.std.proofs.Common.{take}
+use Rattle.iova_model.specs.Caches.{of_order}
+use Rattle.iova_core.specs.Stock.{Frees}
+use Rattle.iova_core.proofs.stock.free_magazine.Given as goal
+
+-- the ranges so far are free
+abbrev pub invariant-loop-lo : goal.invariant-loop-lo
+invariant-loop-lo l = Frees l.fn.tree l.tree (of_order l.order (take l.lo-index l.magazine.entries))

@@ -1,0 +1,96 @@
+//! What goes back to a domain's tree and caches. The tree has all that is cached: a range that goes to a magazine stays in
+//! it, and is removed where it becomes free.
+
+ghost use Rattle.std.specs.Prelude.{◌≡◌, ◌≤◌, ◌<◌, ◌^◌, [], ◌∷◌, length, map};
+ghost use Rattle.iova_range.specs.Sizes.{order_of};
+ghost use Rattle.iova_model.specs.Caches.{of_order, put_range, put_all, emptied};
+ghost use Rattle.iova_model.specs.Flushes.{entry_range, flushed, unflushed};
+ghost use Rattle.iova_tree.specs.Space.{IsSpace};
+ghost use Rattle.iova_core.specs.Stock.{HasAll, Frees, IsStock, Exchanges};
+
+use iova_depot::caches::Caches;
+use iova_flush::ring::Ring;
+use iova_mag::magazine::Magazine;
+use iova_range::range::Range;
+use iova_range::sizes::{MAX_FRAMES, ORDERS, order_of};
+use iova_tree::tree::Tree;
+
+/// Frees a range of the tree.
+fn free(tree: &mut Tree, range: Range)
+    requires space { IsSpace tree.old }
+    requires held { HasAll tree.old (range ∷ []) }
+    ensures { Frees tree.old tree.new (range ∷ []) }
+{
+    tree.remove(range.lo());
+}
+
+/// The range of this order, 0 to 5, that begins at `lo`.
+fn range_of(order: u8, lo: u64) -> Range
+    requires order { order < ORDERS }
+    requires small { lo < 2 ^ 40 }
+    ensures { result ≡ record { lo = lo; len = 2 ^ order } }
+{
+    Range::new(lo, 1 << order)
+}
+
+/// Frees the ranges of a magazine of this order, 0 to 5.
+#[cold]
+fn free_magazine(tree: &mut Tree, magazine: &Magazine, order: u8)
+    requires order { order < ORDERS }
+    requires space { IsSpace tree.old }
+    requires held { HasAll tree.old (of_order order magazine.now.entries) }
+    ensures { Frees tree.old tree.new (of_order order magazine.now.entries) }
+{
+    for lo in magazine.entries() {
+        free(tree, range_of(order, *lo));
+    }
+}
+
+/// Puts a range that nobody has any more into the magazines of worker `w`, where its length has an order; what a full depot
+/// sends out becomes free. Another range becomes free itself.
+fn put_back(tree: &mut Tree, caches: &mut Caches, w: usize, range: Range)
+    requires worker { w < caches.old.workers }
+    requires sized { range.len ≤ MAX_FRAMES }
+    requires stock { IsStock tree.old caches.old (range ∷ []) }
+    ensures caches { caches.new ≡ record caches.old { caches = put_range caches.old.profile caches.old.caches w range (order_of range.len) } }
+    ensures stock { Exchanges tree.old tree.new caches.old caches.new [] (range ∷ []) }
+{
+    let Some(order) = order_of(range.len()) else {
+        return free(tree, range);
+    };
+    if let Some(magazine) = caches.put(w, order, range.lo()) {
+        free_magazine(tree, &magazine, order);
+    }
+}
+
+/// Takes the entries out of a ring whose counts are below `finish`, oldest first and up to the first that is not, and puts
+/// them into the magazines of worker `w`. It answers how many there were
+/// (Linux 5.15 `drivers/iommu/iova.c`: `fq_ring_free`).
+pub fn drain(tree: &mut Tree, caches: &mut Caches, ring: &mut Ring, w: usize, finish: u64) -> u64
+    requires worker { w < caches.old.workers }
+    requires room { length ring.old ≤ 255 }
+    requires stock { IsStock tree.old caches.old (map entry_range ring.old) }
+    ensures count { result ≡ length (flushed finish ring.old) }
+    ensures ring { ring.new ≡ unflushed finish ring.old }
+    ensures caches { caches.new ≡ record caches.old { caches = put_all caches.old.profile caches.old.caches w (map entry_range (flushed finish ring.old)) } }
+    ensures stock { Exchanges tree.old tree.new caches.old caches.new [] (map entry_range (flushed finish ring.old)) }
+{
+    let mut count = 0;
+    while let Some(entry) = ring.take_flushed(finish) {
+        put_back(tree, caches, w, Range::new(entry.lo, entry.len));
+        count += 1;
+    }
+    count
+}
+
+/// Frees all that is cached.
+#[cold]
+pub fn empty(tree: &mut Tree, caches: &mut Caches)
+    requires stock { IsStock tree.old caches.old [] }
+    ensures caches { caches.new ≡ record caches.old { caches = emptied caches.old.caches } }
+    ensures stock { Exchanges tree.old tree.new caches.old caches.new [] [] }
+{
+    while let Some((order, lo)) = caches.take_any() {
+        free(tree, range_of(order, lo));
+    }
+}
