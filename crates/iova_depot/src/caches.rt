@@ -136,6 +136,23 @@ impl Caches {
         self.put_full(w, order, lo)
     }
 
+    /// Puts as `put` does, where one of worker `w`'s two magazines of this order has room. False exactly where both are
+    /// full, and nothing changes: `put` then stores one of them. Our own: an answer of `put` is as large as a magazine,
+    /// and a caller's place for it is cleared at each call, which costs more than all else that a put does.
+    #[inline]
+    pub fn try_put(&mut self, w: usize, order: u8, lo: u64) -> bool
+        requires worker { w < self.old.workers }
+        requires order { order < ORDERS }
+        requires small { lo < 2 ^ 40 }
+        ensures room { IsTrue result ↔ HasRoom self.old.profile (cache_at self.old.caches w order) }
+        ensures done { OnTrue result (self.new ≡ record self.old { caches = with_shelf self.old.caches w order (put self.old.profile (shelf_at self.old.caches w order) lo) }) }
+        ensures none { OnTrue result (sent_out self.old.profile (shelf_at self.old.caches w order) ≡ []) }
+        ensures refused { OnFalse result ((self.new ≡ self.old) × AreFull self.old.profile (cache_at self.old.caches w order)) }
+        ensures sound { IsCached self.new }
+    {
+        self.put_in_worker(w, order, lo)
+    }
+
     /// Takes some cached entry out, and gives its order and its first frame. None where nothing is cached. Taking all
     /// entries out one by one goes over each place that is empty once: where the last one was found is remembered. An own
     /// form of what Linux 5.15 `drivers/iommu/iova.c` does by magazines: `free_cpu_cached_iovas`, `free_global_cached_iovas`.
@@ -249,7 +266,7 @@ impl Caches {
 
     /// Puts into worker `w`'s own magazines. False where both are full.
     #[inline]
-    fn try_put(&mut self, w: usize, order: u8, lo: u64) -> bool
+    fn put_in_worker(&mut self, w: usize, order: u8, lo: u64) -> bool
         requires worker { w < self.old.workers }
         requires order { order < ORDERS }
         requires small { lo < 2 ^ 40 }
@@ -283,7 +300,7 @@ impl Caches {
     {
         let magazine = self.renew(w, order);
         let sent = self.store(order, magazine);
-        self.try_put(w, order, lo);
+        self.put_in_worker(w, order, lo);
         sent
     }
 
