@@ -176,12 +176,13 @@ impl Caches {
         None
     }
 
-    /// How many frames are in magazines of the workers, and how many in the depot. Both are kept, and nothing is counted.
-    /// Our own.
+    /// How many frames are in magazines of the workers, and how many in the depot, together fewer than 2^21. Both are
+    /// kept, and nothing is counted. Our own.
     #[inline]
     pub fn frames(&self) -> (u64, u64)
         ensures magazines { result.0 ≡ frames_of (magazine_holders 0 self.now.caches.workers) }
         ensures depot { result.1 ≡ frames_of (depot_holders 0 self.now.caches.depots) }
+        ensures few { result.0 + result.1 < 2 ^ 21 }
     {
         (self.in_magazines, self.in_depot)
     }

@@ -13,6 +13,14 @@ fn put(caches: &mut Caches, lo: u64) -> Option<Magazine>
     caches.put(0, 0, lo)
 }
 
+fn try_put(caches: &mut Caches, lo: u64) -> bool
+    requires { lo < 2 ^ 40 }
+{
+    // there is a worker 0
+    let _workers = caches.workers();
+    caches.try_put(0, 0, lo)
+}
+
 // Puts the entries from `from` to below `end`, for which there is room.
 fn fill(rt: &impl Abort, caches: &mut Caches, from: u64, end: u64)
     requires { end < 2 ^ 40 }
@@ -97,7 +105,10 @@ fn gets_below_a_limit(rt: HostRuntime) -> Result<(), Fail> {
 #[test]
 fn a_depot_that_takes_nothing(rt: HostRuntime) -> Result<(), Fail> {
     let mut caches = Caches::new_for(rt.alloc(), Profile::two(0)?, 1)?;
-    fill(&rt, &mut caches, 1, 255);
+    fill(&rt, &mut caches, 1, 254);
+    assert!(rt; try_put(&mut caches, 254));
+    assert!(rt; !try_put(&mut caches, 255), "both are full");
+    assert_eq!(rt; caches.frames(), (254, 0));
     let Some(sent) = put(&mut caches, 255) else {
         assert!(rt; false, "the depot takes none");
         return Ok(());
