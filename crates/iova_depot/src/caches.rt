@@ -136,6 +136,23 @@ impl Caches {
         self.put_full(w, order, lo)
     }
 
+    /// Puts as `put` does, where one of worker `w`'s two magazines of this order has room. False exactly where both are
+    /// full, and nothing changes: `put` then stores one of them. Our own: an answer of `put` is as large as a magazine,
+    /// and a caller's place for it is cleared at each call, which costs more than all else that a put does.
+    #[inline]
+    pub fn try_put(&mut self, w: usize, order: u8, lo: u64) -> bool
+        requires worker { w < self.old.workers }
+        requires order { order < ORDERS }
+        requires small { lo < 2 ^ 40 }
+        ensures room { IsTrue result ↔ HasRoom self.old.profile (cache_at self.old.caches w order) }
+        ensures done { OnTrue result (self.new ≡ record self.old { caches = with_shelf self.old.caches w order (put self.old.profile (shelf_at self.old.caches w order) lo) }) }
+        ensures none { OnTrue result (sent_out self.old.profile (shelf_at self.old.caches w order) ≡ []) }
+        ensures refused { OnFalse result ((self.new ≡ self.old) × AreFull self.old.profile (cache_at self.old.caches w order)) }
+        ensures sound { IsCached self.new }
+    {
+        self.put_in_worker(w, order, lo)
+    }
+
     /// Takes some cached entry out, and gives its order and its first frame. None where nothing is cached. Taking all
     /// entries out one by one goes over each place that is empty once: where the last one was found is remembered. An own
     /// form of what Linux 5.15 `drivers/iommu/iova.c` does by magazines: `free_cpu_cached_iovas`, `free_global_cached_iovas`.
@@ -159,12 +176,13 @@ impl Caches {
         None
     }
 
-    /// How many frames are in magazines of the workers, and how many in the depot. Both are kept, and nothing is counted.
-    /// Our own.
+    /// How many frames are in magazines of the workers, and how many in the depot, together fewer than 2^21. Both are
+    /// kept, and nothing is counted. Our own.
     #[inline]
     pub fn frames(&self) -> (u64, u64)
         ensures magazines { result.0 ≡ frames_of (magazine_holders 0 self.now.caches.workers) }
         ensures depot { result.1 ≡ frames_of (depot_holders 0 self.now.caches.depots) }
+        ensures few { result.0 + result.1 < 2 ^ 21 }
     {
         (self.in_magazines, self.in_depot)
     }
@@ -249,7 +267,7 @@ impl Caches {
 
     /// Puts into worker `w`'s own magazines. False where both are full.
     #[inline]
-    fn try_put(&mut self, w: usize, order: u8, lo: u64) -> bool
+    fn put_in_worker(&mut self, w: usize, order: u8, lo: u64) -> bool
         requires worker { w < self.old.workers }
         requires order { order < ORDERS }
         requires small { lo < 2 ^ 40 }
@@ -283,7 +301,7 @@ impl Caches {
     {
         let magazine = self.renew(w, order);
         let sent = self.store(order, magazine);
-        self.try_put(w, order, lo);
+        self.put_in_worker(w, order, lo);
         sent
     }
 
@@ -397,121 +415,4 @@ fn new_depots(alloc: Global, profile: Profile) -> Result<Vec<Depot>, AllocError>
 }
 
 #[cfg(test)]
-mod tests {
-    use super::*;
-
-    fn put_first(caches: &mut Caches, lo: u64) -> Option<Magazine>
-        requires { lo < 5000 }
-    {
-        let _workers = caches.workers();
-        caches.put(0, 0, lo)
-    }
-
-    fn get_first(caches: &mut Caches, limit: u64) -> Option<u64> {
-        let _workers = caches.workers();
-        caches.get(0, 0, limit)
-    }
-
-    fn take_all(caches: &mut Caches) -> u64 {
-        for count in 0..5000 {
-            let Some((order, _)) = caches.take_any() else {
-                return count;
-            };
-            if order != 0 {
-                return 5000;
-            }
-        }
-        5000
-    }
-
-    #[test]
-    fn a_full_depot_sends_loaded_out(rt: HostRuntime) {
-        let mut caches = Caches::new(rt.alloc(), 1).expect(&rt, "ample memory");
-        assert!(rt; caches.profile() == Profile::one());
-        for lo in 1..4353 {
-            assert!(rt; put_first(&mut caches, lo).is_none(), "at {lo}");
-        }
-        assert_eq!(rt; caches.frames(), (256, 4096));
-        let Some(sent) = put_first(&mut caches, 4353) else {
-            assert!(rt; false, "the depot is full");
-            return;
-        };
-        assert_eq!(rt; sent.len(), 128);
-        let mut want = 4225;
-        for &lo in sent.entries() {
-            assert_eq!(rt; lo, want);
-            want = lo.saturating_add(1);
-        }
-        assert_eq!(rt; caches.frames(), (129, 4096));
-        assert_eq!(rt; get_first(&mut caches, u64::MAX), Some(4353));
-    }
-
-    #[test]
-    fn gets_below_a_limit(rt: HostRuntime) {
-        let mut caches = Caches::new(rt.alloc(), 2).expect(&rt, "ample memory");
-        for lo in 1..130 {
-            assert!(rt; put_first(&mut caches, lo).is_none(), "at {lo}");
-        }
-        assert_eq!(rt; caches.find(129), Some(Spot::Magazine(0)));
-        assert_eq!(rt; get_first(&mut caches, 100), None);
-        assert_eq!(rt; get_first(&mut caches, 1000), Some(129));
-        assert_eq!(rt; get_first(&mut caches, 100), Some(100));
-        assert_eq!(rt; get_first(&mut caches, 100), Some(99));
-        assert_eq!(rt; caches.find(100), None);
-        assert_eq!(rt; caches.find(128), Some(Spot::Magazine(0)));
-        if caches.workers() == 2 {
-            assert_eq!(rt; caches.get(1, 0, 1000), None);
-        }
-        assert_eq!(rt; caches.workers(), 2);
-        assert_eq!(rt; caches.frames(), (126, 0));
-        assert_eq!(rt; take_all(&mut caches), 126);
-        assert_eq!(rt; caches.frames(), (0, 0));
-    }
-
-    #[test]
-    fn a_depot_that_takes_nothing(rt: HostRuntime) {
-        let profile = Profile::two(0).expect(&rt, "a depot of 0");
-        let mut caches = Caches::new_for(rt.alloc(), profile, 1).expect(&rt, "ample memory");
-        for lo in 1..255 {
-            assert!(rt; put_first(&mut caches, lo).is_none(), "at {lo}");
-        }
-        let Some(sent) = put_first(&mut caches, 255) else {
-            assert!(rt; false, "the depot takes none");
-            return;
-        };
-        assert_eq!(rt; sent.len(), 127);
-        assert_eq!(rt; sent.entries().first().copied(), Some(128));
-        assert_eq!(rt; sent.entries().last().copied(), Some(254));
-    }
-
-    #[test]
-    fn full_depots_are_emptied(rt: HostRuntime) {
-        let second = Profile::two(32).expect(&rt, "a depot of 32");
-        for (profile, full) in [(Profile::one(), 4352), (second, 4318)] {
-            let mut caches = Caches::new_for(rt.alloc(), profile, 1).expect(&rt, "ample memory");
-            for lo in 1..5000 {
-                if put_first(&mut caches, lo).is_some() {
-                    assert_eq!(rt; lo, full + 1);
-                    break;
-                }
-            }
-            assert_eq!(rt;
-                caches.find(1),
-                Some(Spot::Magazine(0)),
-                "it stayed in previous"
-            );
-            assert_eq!(rt; caches.find(200), Some(Spot::Depot));
-            assert_eq!(rt; caches.find(full), None);
-            assert_eq!(rt; caches.find(full + 1), Some(Spot::Magazine(0)));
-            assert_eq!(rt; take_all(&mut caches), full + 1 - profile.mag() as u64);
-            assert_eq!(rt; caches.frames(), (0, 0));
-        }
-    }
-
-    #[test]
-    fn memory_is_all_that_is_refused(rt: HostRuntime) {
-        if let Err(refusal) = Caches::new(rt.alloc(), 2) {
-            assert_eq!(rt; refusal, Refusal::NoMemory);
-        }
-    }
-}
+mod tests;

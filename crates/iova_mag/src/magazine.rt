@@ -167,36 +167,58 @@ fn begins_around(entries: &[u64], frame: u64, size: u64) -> bool
 #[cfg(test)]
 mod tests {
     use super::*;
+    use std::test::Fail;
+
+    // Pushes the entries for which there is room, in order.
+    fn push_all(magazine: &mut Magazine, entries: &[u64]) {
+        for &lo in entries {
+            if lo <= LAST && !magazine.is_full() {
+                magazine.push(lo);
+            }
+        }
+    }
+
+    // The last frame of all.
+    const LAST: u64 = (1 << 40) - 1;
 
     #[test]
-    fn full_at_the_capacity_of_the_profile(rt: HostRuntime) {
-        let profile = Profile::two(0).expect(&rt, "a depot of 0");
-        for (mut magazine, full_at) in [(Magazine::new(), 128), (Magazine::new_for(profile), 127)] {
+    fn full_at_the_capacity_of_the_profile(rt: HostRuntime) -> Result<(), Fail> {
+        for (mut magazine, full_at) in [
+            (Magazine::new(), 128),
+            (Magazine::new_for(Profile::two(0)?), 127),
+        ] {
             assert!(rt; magazine.is_empty());
             for lo in 1..full_at + 1 {
                 assert_eq!(rt; magazine.is_full(), false, "before entry {lo}");
-                if !magazine.is_full() {
-                    magazine.push(lo);
-                }
+                push_all(&mut magazine, &[lo]);
             }
-            assert!(rt; magazine.is_full());
+            assert!(rt; magazine.is_full() && !magazine.is_empty());
             assert_eq!(rt; magazine.len() as u64, full_at);
+            assert_eq!(rt; magazine.profile().mag() as u64, full_at);
         }
+        Ok(())
     }
 
     #[test]
     fn last_entry_that_fits(rt: HostRuntime) {
         let mut magazine = Magazine::new();
-        for lo in [40, 8, 96, 16, 80] {
-            if !magazine.is_full() {
-                magazine.push(lo);
-            }
-        }
+        push_all(&mut magazine, &[40, 8, 96, 16, 80]);
         assert_eq!(rt; magazine.pop(18, 4), Some(8));
         assert_eq!(rt; magazine.entries(), [40, 80, 96, 16].as_slice());
         assert_eq!(rt; magazine.pop(18, 4), None);
-        assert!(rt; magazine.has_frame(99, 2) && !magazine.has_frame(100, 2));
-        assert_eq!(rt; magazine.take_newest(), Some(16));
+        assert_eq!(rt; magazine.pop(19, 4), Some(16));
         assert_eq!(rt; magazine.entries(), [40, 80, 96].as_slice());
+        assert!(rt; magazine.has_frame(99, 2) && !magazine.has_frame(100, 2));
+        assert_eq!(rt; magazine.take_newest(), Some(96));
+        assert_eq!(rt; magazine.entries(), [40, 80].as_slice());
+    }
+
+    #[test]
+    fn greatest_frame_and_size(rt: HostRuntime) {
+        let mut magazine = Magazine::new();
+        push_all(&mut magazine, &[LAST]);
+        assert_eq!(rt; magazine.pop(LAST, MAX_FRAMES), None);
+        assert_eq!(rt; magazine.pop(u64::MAX, MAX_FRAMES), Some(LAST));
+        assert_eq!(rt; magazine.pop(u64::MAX, 1), None);
     }
 }

@@ -284,34 +284,45 @@ fn new_pairs(alloc: Global, profile: Profile) -> Result<Vec<Pair>, AllocError>
 #[cfg(test)]
 mod tests {
     use super::*;
+    use std::process::Abort;
+    use std::test::Fail;
+
+    // Puts multiples of 8 into the magazines of order 3, from 8 * `from` to below 8 * `end`.
+    fn fill(rt: &impl Abort, cache: &mut WorkerCache, from: u64, end: u64)
+        requires { end < 10000 }
+    {
+        for number in from..end {
+            assert!(rt; cache.try_put(3, 8 * number), "at {number}");
+        }
+    }
 
     #[test]
-    fn magazines_change_places(rt: HostRuntime) {
-        let mut cache = WorkerCache::new(rt.alloc()).expect(&rt, "ample memory");
+    fn magazines_change_places(rt: HostRuntime) -> Result<(), Fail> {
+        let mut cache = WorkerCache::new(rt.alloc())?;
         assert!(rt; cache.profile() == Profile::one());
-        for lo in 1..257 {
-            assert!(rt; cache.try_put(3, lo * 8), "entry {lo}");
-        }
+        fill(&rt, &mut cache, 1, 257);
         assert!(rt; cache.has_frame(2055), "the last frame of the last range");
         assert!(rt; !cache.has_frame(2056), "the frame behind it");
         assert_eq!(rt; cache.try_get(3, 1030), Got::Miss);
         assert_eq!(rt; cache.try_get(3, 1039), Got::Hit(1032));
         assert_eq!(rt; cache.take_newest(3), Some(2040));
-        for lo in [2048, 2056] {
-            assert!(rt; cache.try_put(3, lo), "entry {lo}");
-        }
+        fill(&rt, &mut cache, 256, 258);
         if cache.try_put(3, 2064) {
             assert!(rt; false, "both are full");
         } else {
-            assert_eq!(rt; cache.renew(3).len(), 128);
+            let loaded = cache.renew(3);
+            assert_eq!(rt; loaded.len(), 128);
+            assert_eq!(rt; loaded.entries().last().copied(), Some(2056));
         }
         assert_eq!(rt; cache.try_get(3, u64::MAX), Got::Hit(1024));
+        assert_eq!(rt; cache.try_get(2, u64::MAX), Got::Empty);
+        Ok(())
     }
 
     #[test]
-    fn a_magazine_is_loaded(rt: HostRuntime) {
-        let profile = Profile::two(32).expect(&rt, "a depot of 32");
-        let mut cache = WorkerCache::new_for(rt.alloc(), profile).expect(&rt, "ample memory");
+    fn a_magazine_is_loaded(rt: HostRuntime) -> Result<(), Fail> {
+        let profile = Profile::two(32)?;
+        let mut cache = WorkerCache::new_for(rt.alloc(), profile)?;
         let mut magazine = Magazine::new_for(profile);
         if !magazine.is_full() {
             magazine.push(64);
@@ -323,5 +334,21 @@ mod tests {
         assert_eq!(rt; cache.try_get(5, 94), Got::Miss);
         assert_eq!(rt; cache.try_get(5, 95), Got::Hit(64));
         assert_eq!(rt; cache.try_get(5, 95), Got::Empty);
+        Ok(())
+    }
+
+    // Each growth in turn is refused by `rt try --test --fail-alloc N`. There are 13: all memory is taken by `new`.
+    #[test]
+    fn a_refused_growth_is_no_memory(rt: HostRuntime) -> Result<(), Fail> {
+        let mut cache = match WorkerCache::new(rt.alloc()) {
+            Ok(cache) => cache,
+            Err(refusal) => {
+                assert_eq!(rt; refusal, Refusal::NoMemory);
+                WorkerCache::new(rt.alloc())?
+            }
+        };
+        fill(&rt, &mut cache, 1, 257);
+        assert!(rt; !cache.try_put(3, 0), "both are full");
+        Ok(())
     }
 }

@@ -1,7 +1,7 @@
 use Rattle.std.proofs.Common.{◌<◌, length, refl, arith}
 use Rattle.iova_depot.proofs.Changes.{cached}
 use Rattle.iova_depot.proofs.OfWorkers.{becomes, of_put, all_seen-put}
-use Rattle.iova_depot.proofs.caches.Caches.try_put.Goals as goal
+use Rattle.iova_depot.proofs.caches.Caches.put_in_worker.Goals as goal
 
 pub overflow_add-self : goal.overflow_add-self
 overflow_add-self c =
