@@ -1,3 +1,5 @@
 pub mod Cuts
 pub mod Digits
 pub mod Headers
+pub mod LineSteps
+pub mod Streams
