@@ -278,3 +278,6 @@ fn bytes_written(written: io::Result<usize>) -> Result<usize, ReplayFault>
         _ => Err(ReplayFault::WriteFault),
     }
 }
+
+#[cfg(test)]
+mod tests;
