@@ -2,4 +2,5 @@ pub mod Cuts
 pub mod Digits
 pub mod Headers
 pub mod LineSteps
+pub mod Readings
 pub mod Streams

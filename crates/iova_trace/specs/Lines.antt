@@ -93,10 +93,11 @@ abbrev pub IsCut : Option Trace → List ℕ → Type 0
 IsCut None rest = HasNoLf rest
 IsCut (Some t) rest = HasNoLf rest × (rest ≢ [])
 
--- Bytes that end there are refused as a trace, and this is the number of the first bad line.
+-- As the whole text of a trace the bytes are refused, and this is the number of the first bad line. One that is too long is bad
+-- in one of these ways too, since no line of a trace has more than 128 bytes.
 pub record IsRefused (bytes : List ℕ) (number : ℕ) : Type 0 where
   pub lines : Option Trace
   pub rest : List ℕ
   pub begins : Begins bytes lines rest
   pub number_is : number ≡ next_number lines
-  pub bad : IsBad lines rest ⊎ IsCut lines rest
+  pub bad : IsOther lines rest ⊎ IsCut lines rest

@@ -8,4 +8,5 @@ pub mod number;
 pub mod replay;
 pub mod reply;
 pub mod trace;
+pub mod whole;
 mod words;

@@ -1,4 +1,4 @@
-ghost use Rattle.std.specs.Prelude.{◌≡◌, ◌≢◌, ◌<◌, IsNone, IfSome};
+ghost use Rattle.std.specs.Prelude.{◌≡◌, ◌≢◌, ◌<◌, Some, IsNone, IfSome};
 ghost use Rattle.iova_model.specs.declared.step.Step.{Step};
 ghost use Rattle.iova_trace.specs.Text.{step_text};
 ghost use Rattle.iova_trace.specs.LineSteps.{IsStep};
@@ -39,6 +39,12 @@ impl Model for Steps {
 }
 
 impl Steps {
+    pub(crate) fn new(items: Vec<Step>) -> Steps
+        ensures { result ≡ items.items }
+    {
+        Steps { items }
+    }
+
     /// The steps, the first one first.
     pub fn as_slice(&self) -> &[Step]
         ensures { result.now ≡ self.now }
@@ -52,6 +58,7 @@ impl Steps {
 pub(crate) fn next_step(line: &[u8], steps: u64) -> Option<Step>
     ensures room { IfSome result (λ _. steps < MAX_STEPS) }
     ensures spelled { IfSome result (λ s. IsStep s × (line.now ≡ step_text s)) }
+    ensures read { (s : Step) → steps < MAX_STEPS → IsStep s → line.now ≡ step_text s → result ≡ Some s }
     ensures all { IsNone result → (s : Step) → steps < MAX_STEPS → IsStep s → line.now ≢ step_text s }
 {
     if steps >= MAX_STEPS {
