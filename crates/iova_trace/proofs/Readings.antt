@@ -10,9 +10,9 @@ use Rattle.iova_model.specs.declared.step.Step.TheVariants as step
 use Rattle.iova_trace.specs.declared.line.Verb.{Verb}
 use Rattle.iova_trace.specs.declared.line.Verb.TheVariants as verb
 use Rattle.iova_trace.specs.declared.trace.Trace.{Trace}
-use Rattle.iova_trace.specs.Text.{spaced_words, line_text, verb_text, verb_of, kind_text, outcome_text, arguments_of, step_text, Fits, header_numbers, header_text, IsHeader}
+use Rattle.iova_trace.specs.Text.{spaced_words, verb_text, verb_of, kind_text, outcome_text, arguments_of, step_text, Fits, header_numbers, header_text, IsHeader}
 use Rattle.iova_trace.specs.LineSteps.{IsStep}
-use Rattle.iova_trace.specs.Lines.{is_not_lf, HasNoLf, whole_line, step_line, trace_text, lines_text, IsTrace, AreLines, Begins, IsOther, IsCut, MayFollow, IsRefused, next_number}
+use Rattle.iova_trace.specs.Lines.{is_not_lf, HasNoLf, whole_line, step_line, trace_text, IsTrace, Begins, IsOther, IsCut, MayFollow, IsRefused, next_number}
 use Rattle.iova_trace.proofs.Cuts.{list_all-append, list_all-right, run_once}
 use Rattle.iova_trace.proofs.Digits.{decimal-digits}
 use Rattle.iova_trace.proofs.LineSteps.{with_step, trace_text-more}
@@ -76,7 +76,7 @@ profile_fits : (p : Capacities) → IsProfile p → (p.top < 2 ^ 40) × (p.depot
 profile_fits p (inl e) = (omega (arith, ap (λ (q : Capacities). q.top) e), omega (arith, ap (λ (q : Capacities). q.depot) e))
 profile_fits p (inr e) = (omega (arith, ap (λ (q : Capacities). q.top) e.1), e.0)
 
-header_fits : (bounds : Extent) (workers : ℕ) → IsHeader bounds workers → AllByRecursion (λ n. n < 2 ^ 64) (header_numbers bounds workers)
+pub header_fits : (bounds : Extent) (workers : ℕ) → IsHeader bounds workers → AllByRecursion (λ n. n < 2 ^ 64) (header_numbers bounds workers)
 header_fits bounds workers is =
     let P : List ℕ → Type 0 = AllByRecursion (λ n. n < 2 ^ 64) in
     let sizes = profile_fits bounds.profile is.extent.profile in

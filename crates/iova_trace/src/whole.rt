@@ -1,5 +1,6 @@
-ghost use Rattle.std.specs.Prelude.{◌≡◌, ℕ, ◌++◌, Ok, Err, IfOk, IfErr, IfSome, IfNone};
+ghost use Rattle.std.specs.Prelude.{◌≡◌, ◌≢◌, ℕ, List, ◌++◌, Ok, Err, IfOk, IfErr, IfSome, IfNone};
 ghost use Rattle.iova_trace.specs.Lines.{HasNoLf, whole_line, IsTrace, trace_text, IsRefused};
+ghost use Rattle.iova_trace.specs.Replay.{StopsAtBad};
 ghost use Rattle.iova_trace.specs.Whole.{IsFaultOf, IsUnlessStarved};
 ghost use Rattle.iova_trace.specs.declared.trace.Trace.{Trace as T};
 
@@ -48,6 +49,14 @@ pub fn read_trace(alloc: Global, text: &[u8]) -> Result<Trace, ReplayFault>
         steps: Steps::new(steps),
     })
 }
+
+/// The first bad line of a text has one number, and a trace has none. Where a replay has stopped at a bad line, it is that of
+/// the whole input, whatever comes behind what was taken.
+pub fn first_bad_line()
+    ensures one_number { (text : List ℕ) (n m : ℕ) → IsRefused text n → IsRefused text m → n ≡ m }
+    ensures no_trace { (text : List ℕ) (n : ℕ) (trace : T) → IsRefused text n → IsTrace trace → text ≢ trace_text trace }
+    ensures stops { (taken written more : List ℕ) (n : ℕ) → StopsAtBad taken written n → IsRefused (taken ++ more) n }
+{}
 
 /// The bytes before the first LF, and those behind it. None where there is no LF.
 fn cut_line(text: &[u8]) -> Option<(&[u8], &[u8])>

@@ -1,4 +1,4 @@
-use Rattle.std.proofs.Common.{◌≡◌, ◌≤◌, List, ℕ, length, arith, subst}
+use Rattle.std.proofs.Common.{List, ℕ, length, arith, subst}
 use Rattle.std.proofs.lemmas.List.{take_all}
 use Rattle.iova_trace.specs.Lines.{HasNoLf}
 use Rattle.iova_trace.proofs.Streams.{no_lf_before}

@@ -1,13 +1,11 @@
 use Rattle.std.proofs.Common.{◌≡◌, ◌+◌, ◌<◌, ◌∙◌, ℕ, List, [], ◌∷◌, ◌++◌, Ok, Err, Some, inl, inr, refl, sym, ap, subst, length, arith}
 use Rattle.std.proofs.lemmas.Bool.{eqb-true, eqb-false}
 use Rattle.std.proofs.lemmas.Grind.{common_steps}
-use Rattle.iova_range.specs.Bounds.{Extent}
 use Rattle.iova_trace.specs.declared.fault.ReplayFault.TheVariants.{BadTrace}
 use Rattle.iova_trace.specs.declared.line.Header.{Header}
 use Rattle.iova_trace.specs.declared.trace.Trace.{Trace}
 use Rattle.iova_trace.specs.Text.{header_text, step_text}
-use Rattle.iova_trace.specs.Lines.{whole_line, IsTrace, trace_text}
-use Rattle.iova_trace.proofs.LineSteps.{with_step, IsTrace-more}
+use Rattle.iova_trace.proofs.LineSteps.{IsTrace-more}
 use Rattle.iova_trace.proofs.Readings.{trace_of, IsOnly, IsStuck, HasNoHeader, cut_once, no_line, only_header, only_step, only_whole, only_not_refused, stuck_whole, stuck_refused, no_header_whole, no_header_refused, whole_header, whole_step, nil_of, no_lf_header, no_lf_step}
 use Rattle.iova_trace.proofs.whole.read_trace.Goals as goal
 
