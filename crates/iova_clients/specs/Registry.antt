@@ -7,6 +7,7 @@ use Rattle.iova_range.specs.declared.refusal.Refusal.TheVariants as refusal
 use Rattle.iova_range.specs.Frames.{Frames}
 use Rattle.iova_model.specs.Fit.{is_covered}
 use Rattle.iova_model.specs.Clients.{Client, begins_at}
+use Rattle.iova_model.specs.Next.{first_refusal}
 use Rattle.iova_model.specs.Valid.{AreClients}
 
 -- The clients, rising by serial; the last serial given; and by the serial of each client how many more holdings it can be given
@@ -39,11 +40,7 @@ pub record IsRegistry (r : Registry) : Type 0 where
   pub clients : AreClients 16 r.clients r.serial
   pub low : AllByRecursion HoldsLow r.clients
 
--- Refusals. The first test that passes refuses.
-
-abbrev pub first_refusal : List (Bool × Refusal) → Option Refusal
-first_refusal [] = None
-first_refusal ((passes, r) ∷ tests) = if passes then Some r else first_refusal tests
+-- Refusals
 
 -- of `open`, where memory is left
 abbrev pub open_refusal : Registry → Option Refusal

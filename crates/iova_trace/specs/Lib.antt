@@ -1,2 +1,7 @@
 pub mod Text
 pub mod Reading
+pub mod LineSteps
+pub mod Lines
+pub mod Whole
+pub mod Replay
+pub mod Progress

@@ -1,43 +1,19 @@
-ghost use Rattle.std.specs.Prelude.{◌≡◌, ◌≤◌};
-ghost use Rattle.iova_trace.specs.declared.replay.ReplayFault.TheVariants.{NoMemory as WantsMemory};
+ghost use Rattle.std.specs.Prelude.{◌≡◌, ◌≤◌, ◌<◌, ℕ, take, length, IfOk, IfErr, OnOk, OnErr, IsErr};
+ghost use Rattle.std.specs.Io.KnownBytes.{Appends, Consumes, Keeps, IsAtEnd};
+ghost use Rattle.iova_trace.specs.Lines.{IsUnended};
+ghost use Rattle.iova_trace.specs.Replay.{Replays};
 
-use crate::line::{read_header, read_step};
+use crate::fault::ReplayFault;
+use crate::line::read_header;
 use crate::reply::write_reply;
+use crate::trace::next_step;
 use arrayvec::ArrayVec;
-use iova_core::domain::{Domain, is_served};
+use iova_core::domain::Domain;
 use iova_range::refusal::Refusal;
 use memchr::memchr;
-use std::alloc::{AllocError, Global};
+use std::alloc::Global;
+use std::io;
 use std::io::{Read, Write};
-use thiserror::Error;
-
-/// Why a replay ends before the end of its trace.
-#[derive(Clone, Copy, Debug, PartialEq, Eq, Error)]
-pub enum ReplayFault {
-    /// The line with this number, counted from 1, is no line of a trace, or one too many.
-    #[error("trace refused at line {0}")]
-    BadTrace(u64),
-    /// A growth was refused memory.
-    #[error("no memory")]
-    NoMemory,
-    /// A read failed, or there were too many.
-    #[error("the input cannot be read")]
-    ReadFault,
-    /// A write failed, or took nothing.
-    #[error("the output cannot be written")]
-    WriteFault,
-}
-
-impl From<AllocError> for ReplayFault {
-    ghost from_gives = { λ _ e. e ≡ WantsMemory };
-
-    fn from(_error: AllocError) -> ReplayFault {
-        ReplayFault::NoMemory
-    }
-}
-
-/// The most steps of one trace.
-pub const MAX_STEPS: u64 = 1_000_000;
 
 /// The most reads of one trace.
 pub const MAX_READS: u64 = 134_217_728;
@@ -51,19 +27,25 @@ const BUFFER: usize = 65_536;
 /// Replays a trace: reads its lines, runs its steps in a new domain, and writes a line for each reply. It gives the domain
 /// as the last step left it, and the number of steps. One line is kept at a time, and replies are written before each
 /// read, so that a peer that waits for a reply gets it.
-pub fn replay<R: Read + Drop, W: Write + Drop>(
+///
+/// The answer is the fault of the earliest line. `BadTrace` where a line is none of a trace's, where it is the line of step
+/// 1,000,001, or where the input ends in a line without LF; the replies to the lines before it are written. `ReadFault`
+/// where a read fails, an interruption too, or after 134,217,728 reads; the replies to all whole lines are written.
+/// `WriteFault` where a write fails or takes nothing, and `NoMemory`: some first bytes of the replies are written.
+/// Our own.
+pub fn replay<R: Read, W: Write>(
     alloc: Global,
-    mut reader: R,
-    mut writer: W,
-) -> Result<(Domain, u64), ReplayFault> {
+    reader: &mut R,
+    writer: &mut W,
+) -> Result<(Domain, u64), ReplayFault>
+    ensures { Replays (R.remaining reader.old) (R.remaining reader.new) (W.contents writer.old) (W.contents writer.new) result }
+{
     let mut input: Vec<u8> = vec![in alloc; 0u8; BUFFER]?;
     let mut progress = Progress::new(alloc)?;
     for _ in 0..MAX_READS {
-        progress.write_replies(&mut writer)?;
-        match reader.read(&mut input) {
-            Err(_) => return Err(ReplayFault::ReadFault),
-            Ok(0) => return progress.finish(),
-            Ok(n) => progress.take_piece(&input[..n], &mut writer)?,
+        match read_some(reader, &mut input)? {
+            0 => return progress.finish(),
+            len => progress.take_piece(&input[..len], writer)?,
         }
     }
     Err(ReplayFault::ReadFault)
@@ -82,10 +64,19 @@ struct Progress {
     /// Replies that have not been written.
     replies: Vec<u8>,
     ghost few: { steps ≤ 1000000 },
+    ghost unended: { IsUnended line.items },
 }
 
 impl Progress {
-    fn new(alloc: Global) -> Result<Self, ReplayFault> {
+    ghost use Rattle.std.specs.Prelude.{List, [], ◌++◌};
+    ghost use Rattle.iova_trace.specs.Lines.{HasNoLf, whole_line};
+    ghost use Rattle.iova_trace.specs.Progress.{Stands, number_at, Takes, Outcome, Closes};
+
+    fn new(alloc: Global) -> Result<Self, ReplayFault>
+        ensures ok { IfOk result (λ p. Stands [] [] p) }
+        ensures none { IfOk result (λ p. p.replies.items ≡ []) }
+        ensures err { OnErr result (result ≡ Err ReplayFault.NoMemory) }
+    {
         Ok(Progress {
             alloc,
             domain: None,
@@ -96,7 +87,9 @@ impl Progress {
     }
 
     /// The number of the line that comes next, the header being line 1.
-    fn number(&self) -> u64 {
+    fn number(&self) -> u64
+        ensures { result ≡ number_at self.now.domain self.now.steps }
+    {
         if self.domain.is_none() {
             1
         } else {
@@ -104,48 +97,43 @@ impl Progress {
         }
     }
 
-    /// Writes the replies that have been gathered.
-    fn write_replies<W: Write>(&mut self, writer: &mut W) -> Result<(), ReplayFault> {
-        write_all(writer, &self.replies)?;
-        self.replies.clear();
-        Ok(())
-    }
-
-    /// Takes the next bytes of the trace. Where a line is refused, the replies to those before it are written first.
-    fn take_piece<W: Write>(&mut self, piece: &[u8], writer: &mut W) -> Result<(), ReplayFault> {
+    /// Takes the next bytes of the trace, and writes the replies to the lines that they end.
+    fn take_piece<W: Write>(&mut self, piece: &[u8], writer: &mut W) -> Result<(), ReplayFault>
+        ensures outcome { (more : List ℕ) × Appends (W.contents writer.old) (W.contents writer.new) more
+            × Outcome self.old piece.now more self.new result }
+        ensures written { OnOk result (self.new.replies.items ≡ []) }
+    {
         let mut rest = piece;
         while let Some(end) = memchr(b'\n', rest) {
             let line = &rest[..end];
             rest = &rest[end + 1..];
-            if let Err(fault) = self.take_end_of_line(line) {
-                self.write_replies(writer)?;
-                return Err(fault);
-            }
-            if self.replies.len() > BUFFER - MAX_LINE {
-                self.write_replies(writer)?;
-            }
+            self.answer_line(line, writer)?;
         }
-        if let Err(fault) = self.keep(rest) {
-            self.write_replies(writer)?;
-            return Err(fault);
-        }
-        Ok(())
+        let kept = self.keep(rest);
+        self.write_replies(writer)?;
+        kept
     }
 
-    /// Keeps what has come of a line. One of 128 bytes without a line feed is refused.
-    fn keep(&mut self, bytes: &[u8]) -> Result<(), ReplayFault> {
-        if self.line.len() + bytes.len() >= MAX_LINE {
-            return Err(ReplayFault::BadTrace(self.number()));
+    /// Takes the rest of a line, without its line feed, and writes the replies where they are many. Where the line is
+    /// refused, the replies to those before it are written first.
+    fn answer_line<W: Write>(&mut self, end: &[u8], writer: &mut W) -> Result<(), ReplayFault>
+        requires { HasNoLf end.now }
+        ensures { (more : List ℕ) × Appends (W.contents writer.old) (W.contents writer.new) more
+            × Outcome self.old (whole_line end.now) more self.new result }
+    {
+        let ended = self.end_line(end);
+        if ended.is_err() || self.replies.len() > BUFFER - MAX_LINE {
+            self.write_replies(writer)?;
         }
-        match self.line.try_extend_from_slice(bytes) {
-            Ok(()) => Ok(()),
-            Err(_) => Err(ReplayFault::BadTrace(self.number())),
-        }
+        ended
     }
 
     /// Takes the rest of a line, without its line feed.
-    fn take_end_of_line(&mut self, end: &[u8]) -> Result<(), ReplayFault> {
-        if self.line.is_empty() && end.len() < MAX_LINE {
+    fn end_line(&mut self, end: &[u8]) -> Result<(), ReplayFault>
+        requires { HasNoLf end.now }
+        ensures { Takes self.old (whole_line end.now) self.new result }
+    {
+        if self.line.is_empty() {
             return self.take_line(end);
         }
         self.keep(end)?;
@@ -153,39 +141,32 @@ impl Progress {
         self.take_line(line.as_slice())
     }
 
+    /// Keeps what has come of a line. One of 128 bytes without a line feed is refused.
+    fn keep(&mut self, bytes: &[u8]) -> Result<(), ReplayFault>
+        requires { HasNoLf bytes.now }
+        ensures takes { Takes self.old bytes.now self.new result }
+        ensures replies { self.new.replies.items ≡ self.old.replies.items }
+    {
+        if self.line.len() + bytes.len() >= MAX_LINE {
+            return Err(ReplayFault::BadTrace(self.number()));
+        }
+        let _fits = self.line.try_extend_from_slice(bytes);
+        Ok(())
+    }
+
     /// Takes a whole line, the header first.
-    fn take_line(&mut self, line: &[u8]) -> Result<(), ReplayFault> {
-        if self.domain.is_none() {
-            return self.take_header(line);
-        }
-        self.take_step(line)
-    }
-
-    fn take_header(&mut self, line: &[u8]) -> Result<(), ReplayFault> {
-        let Some(header) = read_header(line) else {
-            return Err(ReplayFault::BadTrace(1));
-        };
-        match Domain::new(self.alloc, header.bounds, header.workers) {
-            Ok(domain) => {
-                self.domain = Some(domain);
-                Ok(())
-            }
-            Err(Refusal::NoMemory) => Err(ReplayFault::NoMemory),
-            Err(_) => Err(ReplayFault::BadTrace(1)),
-        }
-    }
-
-    fn take_step(&mut self, line: &[u8]) -> Result<(), ReplayFault> {
+    fn take_line(&mut self, line: &[u8]) -> Result<(), ReplayFault>
+        requires one { HasNoLf line.now }
+        requires fresh { self.old.line.items ≡ [] }
+        ensures { Takes self.old (whole_line line.now) self.new result }
+    {
         let number = self.number();
-        let Some(step) = read_step(line) else {
-            return Err(ReplayFault::BadTrace(number));
-        };
         let Some(domain) = &mut self.domain else {
+            return self.take_header(line);
+        };
+        let Some(step) = next_step(line, self.steps) else {
             return Err(ReplayFault::BadTrace(number));
         };
-        if self.steps >= MAX_STEPS || !is_served(&step) {
-            return Err(ReplayFault::BadTrace(number));
-        }
         let reply = domain.step(step);
         self.steps += 1;
         match write_reply(&reply, &mut self.replies) {
@@ -194,8 +175,45 @@ impl Progress {
         }
     }
 
+    fn take_header(&mut self, line: &[u8]) -> Result<(), ReplayFault>
+        requires one { HasNoLf line.now }
+        requires fresh { self.old.line.items ≡ [] }
+        requires first { self.old.domain ≡ None }
+        ensures { Takes self.old (whole_line line.now) self.new result }
+    {
+        let Some(header) = read_header(line) else {
+            return Err(ReplayFault::BadTrace(1));
+        };
+        match Domain::new(self.alloc, header.bounds, header.workers) {
+            Ok(domain) => {
+                self.domain = Some(domain);
+                Ok(())
+            }
+            Err(_) => Err(ReplayFault::NoMemory),
+        }
+    }
+
+    /// Writes the replies that have been gathered.
+    fn write_replies<W: Write>(&mut self, writer: &mut W) -> Result<(), ReplayFault>
+        ensures ok { OnOk result (Appends (W.contents writer.old) (W.contents writer.new) self.old.replies.items) }
+        ensures none { OnOk result (self.new.replies.items ≡ []) }
+        ensures same { self.new ≡ record self.old { replies = self.new.replies } }
+        ensures err { IfErr result (λ e. (e ≡ ReplayFault.WriteFault)
+            × ((n : ℕ) × Appends (W.contents writer.old) (W.contents writer.new) (take n self.old.replies.items))) }
+    {
+        if self.replies.is_empty() {
+            return Ok(());
+        }
+        write_all(writer, &self.replies)?;
+        self.replies.clear();
+        Ok(())
+    }
+
     /// What the replay comes to where the trace ends here.
-    fn finish(self) -> Result<(Domain, u64), ReplayFault> {
+    fn finish(self) -> Result<(Domain, u64), ReplayFault>
+        requires { self.replies.items ≡ [] }
+        ensures { (taken written : List ℕ) → Stands taken written self → Closes taken written result }
+    {
         let number = self.number();
         let Progress {
             alloc: _,
@@ -212,16 +230,54 @@ impl Progress {
 }
 
 /// Writes all bytes. Any error, an interruption too, and a write of nothing are faults.
-fn write_all<W: Write>(writer: &mut W, bytes: &[u8]) -> Result<(), ReplayFault> {
-    let mut rest = bytes;
-    while !rest.is_empty() {
-        match writer.write(rest) {
-            Ok(n) if n > 0 => rest = &rest[n..],
-            _ => return Err(ReplayFault::WriteFault),
-        }
+fn write_all<W: Write>(writer: &mut W, bytes: &[u8]) -> Result<(), ReplayFault>
+    ensures ok { OnOk result (Appends (W.contents writer.old) (W.contents writer.new) bytes.now) }
+    ensures err { IfErr result (λ e. (e ≡ ReplayFault.WriteFault)
+        × ((n : ℕ) × Appends (W.contents writer.old) (W.contents writer.new) (take n bytes.now))) }
+{
+    let mut done = 0;
+    while done < bytes.len() {
+        done += bytes_written(writer.write(&bytes[done..]))?;
     }
     match writer.flush() {
         Ok(()) => Ok(()),
         Err(_) => Err(ReplayFault::WriteFault),
     }
 }
+
+/// Reads once, and gives how many bytes came, none only at the end. Any error is a fault, an interruption too.
+fn read_some<R: Read>(reader: &mut R, buffer: &mut [u8]) -> Result<usize, ReplayFault>
+    requires { 0 < length buffer.old }
+    ensures ok { IfOk result (λ len. Consumes (R.remaining reader.old) (R.remaining reader.new) (take len buffer.new)) }
+    ensures bound { IfOk result (λ len. len ≤ length buffer.new) }
+    ensures end { IfOk result (λ len. len ≡ 0 → IsAtEnd (R.remaining reader.new)) }
+    ensures err { OnErr result ((result ≡ Err ReplayFault.ReadFault) × Keeps (R.remaining reader.old) (R.remaining reader.new)) }
+{
+    let read = reader.read(buffer);
+    bytes_read(read)
+}
+
+/// How many bytes a read gave. Any error is a fault, an interruption too.
+fn bytes_read(read: io::Result<usize>) -> Result<usize, ReplayFault>
+    ensures ok { IfOk result (λ len. read ≡ Ok len) }
+    ensures err { OnErr result (IsErr read × (result ≡ Err ReplayFault.ReadFault)) }
+{
+    match read {
+        Ok(len) => Ok(len),
+        Err(_) => Err(ReplayFault::ReadFault),
+    }
+}
+
+/// How many bytes a write took. Any error is a fault, an interruption too, and so is none.
+fn bytes_written(written: io::Result<usize>) -> Result<usize, ReplayFault>
+    ensures ok { IfOk result (λ len. (written ≡ Ok len) × (0 < len)) }
+    ensures err { OnErr result (IfOk written (λ len. len ≡ 0) × (result ≡ Err ReplayFault.WriteFault)) }
+{
+    match written {
+        Ok(len) if len > 0 => Ok(len),
+        _ => Err(ReplayFault::WriteFault),
+    }
+}
+
+#[cfg(test)]
+mod tests;

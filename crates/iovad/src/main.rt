@@ -3,7 +3,8 @@
 
 mod words;
 
-use iova_trace::replay::{ReplayFault, replay};
+use iova_trace::fault::ReplayFault;
+use iova_trace::replay::replay;
 use std::env;
 use std::process::ExitCode;
 use words::{Fault, command};
@@ -21,7 +22,7 @@ fn run(rt: &HostRuntime) -> Result<(), Fault> {
     if let Err(error) = command(alloc)?.try_get_matches_from(given.as_slice()) {
         return Err(Fault::Usage(error));
     }
-    match replay(alloc, rt.stdin(), rt.stdout()) {
+    match replay(alloc, &mut rt.stdin(), &mut rt.stdout()) {
         Ok(_) => Ok(()),
         Err(fault) => Err(Fault::Replay(fault)),
     }

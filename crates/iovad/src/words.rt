@@ -1,6 +1,6 @@
 //! The words of the command line, and what a fault says.
 use clap::Command;
-use iova_trace::replay::ReplayFault;
+use iova_trace::fault::ReplayFault;
 use std::alloc::{AllocError, Global};
 use std::process::ExitCode;
 

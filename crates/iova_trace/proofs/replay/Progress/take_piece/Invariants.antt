@@ -1,9 +1,14 @@
-use Rattle.std.proofs.Common.{◌≤◌, length}
+use Rattle.std.proofs.Common.{ℕ, ◌≡◌, List, ◌++◌, length}
+use Rattle.std.specs.Io.KnownBytes.{Appends}
+use Rattle.iova_trace.specs.Progress.{Goes}
 use Rattle.iova_trace.proofs.replay.Progress.take_piece.Given as goal
 
--- what is left is of the piece
+-- the bytes before the rest have been taken
 abbrev pub invariant-loop-end : goal.invariant-loop-end
-invariant-loop-end g l = length l.rest ≤ length l.piece
+invariant-loop-end g l = (first : List ℕ) × (more : List ℕ)
+    × (l.piece ≡ first ++ l.rest)
+    × Appends (g.W.Write.contents l.initial.writer) (g.W.Write.contents l.writer) more
+    × Goes l.initial.self first more l.self
 
 -- the bytes that are left
 abbrev pub decreases-loop-end : goal.decreases-loop-end

@@ -1,0 +1,164 @@
+-- What one line more does to what stands in a trace.
+use Rattle.std.proofs.Common.{ℕ, ◌≡◌, ◌+◌, ◌<◌, ◌≤◌, inl, inr, List, [], ◌∷◌, ◌++◌, Option, Some, None, length, take, refl, sym, ap, ◌∙◌, subst, arith, true, append_assoc, append-nil, length-append}
+use Rattle.std.specs.Prelude.{flat_map}
+use Rattle.std.specs.List.{list_all, AllByRecursion}
+use Rattle.std.proofs.lemmas.List.{length_push, take-append-drop}
+use Rattle.std.proofs.lemmas.List.Concat.{flat_map-append}
+use Rattle.std.proofs.lemmas.Bool.{and_parts, and_from}
+use Rattle.iova_model.specs.declared.step.Step.{Step}
+use Rattle.iova_model.specs.declared.step.Point.{Point}
+use Rattle.iova_model.specs.State.{State, new_domain}
+use Rattle.iova_model.specs.Next.{next}
+use Rattle.iova_core.proofs.Runs.{run_none, run_more}
+use Rattle.iova_trace.specs.declared.line.Header.{Header}
+use Rattle.iova_trace.specs.declared.trace.Trace.{Trace}
+use Rattle.iova_trace.specs.declared.fault.ReplayFault.TheVariants as fault
+use Rattle.iova_trace.specs.declared.replay.Progress.{Progress}
+use Rattle.iova_trace.specs.Text.{IsHeader, header_text, step_text, reply_text}
+use Rattle.iova_trace.specs.LineSteps.{IsStep}
+use Rattle.iova_trace.specs.Lines.{is_not_lf, HasNoLf, IsTrace, step_line, trace_text, lines_text, count_steps, next_number, whole_line, Begins, AreLines}
+use Rattle.iova_trace.specs.Replay.{IsReplayed}
+use Rattle.iova_trace.specs.Progress.{number_at, Goes, Stops}
+use Rattle.iova_trace.proofs.Cuts.{list_all-append}
+
+pub All-push : (P : Step → Type 0) (xs : List Step) (x : Step) → AllByRecursion P xs → P x → AllByRecursion P (xs ++ x ∷ [])
+All-push P [] x a p = (p, tt)
+All-push P (y ∷ xs) x a p = (a.0, All-push P xs x a.1 p)
+
+-- a trace with a step more
+abbrev pub with_step : Trace → Step → Trace
+with_step t s = record t { steps = t.steps ++ s ∷ [] }
+
+pub IsTrace-more : (t : Trace) (s : Step) → IsTrace t → IsStep s → length t.steps < 1000000 → IsTrace (with_step t s)
+IsTrace-more t s good step lt = record {
+  header = good.header;
+  steps = All-push IsStep t.steps s good.steps step;
+  few = omega (arith, length_push t.steps s);
+}
+
+pub trace_text-more : (t : Trace) (s : Step) → trace_text (with_step t s) ≡ trace_text t ++ step_line s
+trace_text-more t s =
+    let front = whole_line (header_text t.bounds t.workers) in
+    ap (λ (x : List ℕ). front ++ x) (flat_map-append step_line t.steps (s ∷ []))
+    ∙ (ap (λ (x : List ℕ). front ++ (flat_map step_line t.steps ++ x)) (append-nil (step_line s))
+    ∙ sym (append_assoc front (flat_map step_line t.steps) (step_line s)))
+
+-- the state so far is that of the lines so far
+pub number_at-is : (lines : Option Trace) (d : Option State) (steps : ℕ) (text : List ℕ) → IsReplayed lines d text → steps ≡ count_steps lines
+    → number_at d steps ≡ next_number lines
+number_at-is None None steps text r e = refl
+number_at-is None (Some d) steps text r e = absurd r
+number_at-is (Some t) None steps text r e = absurd r
+number_at-is (Some t) (Some d) steps text r e = ap (λ (n : ℕ). n + 2) e
+
+no_lines : (lines : Option Trace) (d : Option State) (text : List ℕ) → d ≡ None → IsReplayed lines d text → (lines ≡ None) × (text ≡ [])
+no_lines None d text e r = (refl, (let P : Option State → Type 0 = λ x. IsReplayed None x text in subst P e r))
+no_lines (Some t) d text e r = absurd (let P : Option State → Type 0 = λ x. IsReplayed (Some t) x text in subst P e r)
+
+-- the header
+abbrev header_trace : Header → Trace
+header_trace h = record { bounds = h.bounds; workers = h.workers; steps = [] }
+
+pub header_taken : (p q : Progress) (line : List ℕ) (h : Header) → p.line.items ≡ [] → p.domain ≡ None
+    → IsHeader h.bounds h.workers → line ≡ header_text h.bounds h.workers
+    → q.line.items ≡ p.line.items → q.steps ≡ p.steps → q.replies.items ≡ p.replies.items → q.domain ≡ Some (new_domain h.bounds h.workers)
+    → Goes p (whole_line line) [] q
+header_taken p q line h empty none good is kept steps replies domain taken written st =
+    let first = no_lines st.lines p.domain st.text none st.replayed in
+    let t = header_trace h in
+    let whole : taken ≡ [] = st.begins.whole ∙ (ap (λ (x : Option Trace). lines_text x ++ p.line.items) first.0 ∙ empty) in
+    let text : whole_line line ≡ trace_text t = ap whole_line is ∙ sym (append-nil (whole_line (header_text h.bounds h.workers))) in
+    record {
+      lines = Some t;
+      text = st.text;
+      begins = record {
+        good = record { header = good; steps = tt; few = omega arith };
+        whole = ap (λ (x : List ℕ). x ++ whole_line line) whole ∙ (text ∙ (sym (append-nil (trace_text t)) ∙ ap (λ (x : List ℕ). trace_text t ++ x) (sym (kept ∙ empty))));
+      };
+      replayed = (let P : Option State → Type 0 = λ d. IsReplayed (Some t) d st.text in
+          subst P (sym domain) ([], run_none (new_domain h.bounds h.workers) [], first.1));
+      steps = steps ∙ (st.steps ∙ ap count_steps first.0);
+      gathered = st.gathered ∙ (ap (λ (x : List ℕ). written ++ x) (sym replies) ∙ ap (λ (x : List ℕ). x ++ q.replies.items) (sym (append-nil written)));
+    }
+
+-- a step: the lines, the replies and the text with it
+pub record OneMore (lines : Option Trace) (d : State) (text : List ℕ) (s : Step) (m : Point) : Type 0 where
+  pub trace : Trace
+  pub is : lines ≡ Some trace
+  pub replayed : IsReplayed (Some (with_step trace s)) (Some (next d s m).state) (text ++ reply_text (next d s m).reply)
+
+one_more : (lines : Option Trace) (domain : Option State) (d : State) (text : List ℕ) (s : Step) (m : Point) → domain ≡ Some d → IsReplayed lines domain text → OneMore lines d text s m
+one_more None domain d text s m e r = absurd (let P : Option State → Type 0 = λ x. IsReplayed None x text in subst P e r)
+one_more (Some t) domain d text s m e r =
+    let P : Option State → Type 0 = λ x. IsReplayed (Some t) x text in
+    let run = subst P e r in
+    let reply = (next d s m).reply in
+    record {
+      trace = t;
+      is = refl;
+      replayed = (
+        run.0 ++ reply ∷ [],
+        run_more (new_domain t.bounds t.workers) d (next d s m).state t.steps [] run.0 s m reply run.1 refl refl,
+        ap (λ (x : List ℕ). x ++ reply_text reply) run.2 ∙ (ap (λ (x : List ℕ). flat_map reply_text run.0 ++ x) (sym (append-nil (reply_text reply)))
+            ∙ sym (flat_map-append reply_text run.0 (reply ∷ []))),
+      );
+    }
+
+-- the lines with it
+begins_one_more : (taken line : List ℕ) (lines : Option Trace) (t : Trace) (kept : List ℕ) (s : Step) → Begins taken lines kept → lines ≡ Some t → kept ≡ []
+    → length t.steps < 1000000 → IsStep s → line ≡ step_text s → Begins (taken ++ whole_line line) (Some (with_step t s)) []
+begins_one_more taken line lines t kept s b is none lt step spelled =
+    let P : Option Trace → Type 0 = AreLines in
+    let whole : taken ≡ trace_text t = b.whole ∙ (ap (λ (x : Option Trace). lines_text x ++ kept) is ∙ (ap (λ (x : List ℕ). trace_text t ++ x) none ∙ append-nil (trace_text t))) in
+    record {
+      good = IsTrace-more t s (subst P is b.good) step lt;
+      whole = ap (λ (x : List ℕ). x ++ whole_line line) whole ∙ (ap (λ (x : List ℕ). trace_text t ++ whole_line x) spelled
+          ∙ (sym (trace_text-more t s) ∙ sym (append-nil (trace_text (with_step t s)))));
+    }
+
+pub step_taken : (p q : Progress) (line : List ℕ) (d : State) (s : Step) (m : Point) → p.line.items ≡ [] → p.domain ≡ Some d
+    → p.steps < 1000000 → IsStep s → line ≡ step_text s
+    → q.line.items ≡ p.line.items → q.steps ≡ p.steps + 1 → q.domain ≡ Some (next d s m).state
+    → q.replies.items ≡ p.replies.items ++ reply_text (next d s m).reply
+    → Goes p (whole_line line) [] q
+step_taken p q line d s m empty domain lt step spelled kept steps after replies taken written st =
+    let more = one_more st.lines p.domain d st.text s m domain st.replayed in
+    let t = more.trace in
+    let count : p.steps ≡ length t.steps = st.steps ∙ ap count_steps more.is in
+    let reply = reply_text (next d s m).reply in
+    let begins = begins_one_more taken line st.lines t p.line.items s st.begins more.is empty (omega (arith, count, lt)) step spelled in
+    record {
+      lines = Some (with_step t s);
+      text = st.text ++ reply;
+      begins = record { good = begins.good; whole = begins.whole ∙ ap (λ (x : List ℕ). trace_text (with_step t s) ++ x) (sym (kept ∙ empty)) };
+      replayed = (let P : Option State → Type 0 = λ x. IsReplayed (Some (with_step t s)) x (st.text ++ reply) in subst P (sym after) more.replayed);
+      steps = omega (arith, steps, count, length_push t.steps s);
+      gathered = ap (λ (x : List ℕ). x ++ reply) st.gathered ∙ (append_assoc written p.replies.items reply
+          ∙ (ap (λ (x : List ℕ). written ++ x) (sym replies) ∙ ap (λ (x : List ℕ). x ++ q.replies.items) (sym (append-nil written))));
+    }
+
+-- too many bytes that end no line
+HasNoLf-take : (n : ℕ) (bytes : List ℕ) → HasNoLf bytes → HasNoLf (take n bytes)
+HasNoLf-take n bytes all =
+    let both = take-append-drop n bytes in
+    left (take n bytes) (Rattle.std.proofs.Common.drop n bytes) (ap (list_all is_not_lf) both ∙ all)
+  where
+    left : (xs ys : List ℕ) → list_all is_not_lf (xs ++ ys) ≡ true → list_all is_not_lf xs ≡ true
+    left [] ys a = refl
+    left (x ∷ xs) ys a = let parts = and_parts (is_not_lf x) (list_all is_not_lf (xs ++ ys)) a in and_from (is_not_lf x) (list_all is_not_lf xs) parts.0 (left xs ys parts.1)
+
+pub overlong : (p : Progress) (bytes : List ℕ) (number : ℕ) → HasNoLf p.line.items → HasNoLf bytes → 128 ≤ length p.line.items + length bytes
+    → number ≡ number_at p.domain p.steps → Stops p bytes p.replies.items (fault.BadTrace number)
+overlong p bytes number one more long is taken written st =
+    let rest = p.line.items ++ bytes in
+    let whole : HasNoLf rest = list_all-append is_not_lf p.line.items bytes one more in
+    let P : List ℕ → Type 0 = IsReplayed st.lines p.domain in
+    record {
+      lines = st.lines;
+      rest = rest;
+      state = p.domain;
+      begins = record { good = st.begins.good; whole = ap (λ (x : List ℕ). x ++ bytes) st.begins.whole ∙ append_assoc (lines_text st.lines) p.line.items bytes };
+      replayed = subst P st.gathered st.replayed;
+      number_is = is ∙ number_at-is st.lines p.domain p.steps st.text st.replayed st.steps;
+      bad = inr (record { one = HasNoLf-take 128 rest whole; long = omega (arith, length-append p.line.items bytes, long) });
+    }

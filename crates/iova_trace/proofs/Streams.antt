@@ -1,0 +1,360 @@
+-- One piece of a trace after another.
+use Rattle.std.proofs.Common.{ℕ, zero, suc, ◌≡◌, ◌+◌, ◌-◌, ◌<◌, ◌≤◌, ◌==◌, inl, inr, List, [], ◌∷◌, ◌++◌, Option, None, Result, Ok, Err, length, take, drop, get_or, refl, sym, ap, ◌∙◌, subst, arith, true, append_assoc, append-nil, take-append-drop, length-append, add-one}
+use Rattle.std.specs.List.{list_all}
+use Rattle.std.proofs.lemmas.Bool.{eqb-true, not_from_false, false_from_ne_true}
+use Rattle.std.proofs.lemmas.List.{take-take, take-append-le, take_at, take_more, drop-take}
+use Rattle.std.proofs.KnownBytes.{Appends-trans, Appends-nil, Consumes-trans, Consumes-nil, Consumes-kept}
+use Rattle.std.specs.Io.KnownBytes.{Appends, Consumes, Keeps, IsAtEnd}
+use Rattle.iova_model.specs.State.{State}
+use Rattle.iova_trace.specs.declared.trace.Trace.{Trace}
+use Rattle.iova_trace.specs.declared.fault.ReplayFault.{ReplayFault}
+use Rattle.iova_trace.specs.declared.fault.ReplayFault.TheVariants as fault
+use Rattle.iova_trace.specs.declared.replay.Progress.{Progress}
+use Rattle.iova_trace.specs.Lines.{is_not_lf, HasNoLf, whole_line, IsUnended, Begins, IsBad, lines_text}
+use Rattle.iova_trace.specs.Replay.{BreaksOff, IsReplayed, StopsInLine, Tells, Replays}
+use Rattle.iova_trace.specs.Progress.{Stands, Goes, Ends, Stops, Outcome, Takes, Closes}
+use Rattle.iova_trace.proofs.Cuts.{rest_from, cut_at, list_all-more}
+
+pub take_plus : (bs : List ℕ) (i n : ℕ) → take (i + n) bs ≡ take i bs ++ take n (drop i bs)
+take_plus bs i n =
+    let front : take i (take (i + n) bs) ≡ take i bs = take-take i (i + n) bs (omega arith) in
+    let back : drop i (take (i + n) bs) ≡ take n (drop i bs) = drop-take i n bs in
+    sym (take-append-drop i (take (i + n) bs)) ∙ (ap (λ (x : List ℕ). x ++ drop i (take (i + n) bs)) front ∙ ap (λ (x : List ℕ). take i bs ++ x) back)
+
+-- a write goes on where the last one stopped
+pub Appends-more : (a b c : Option (List ℕ)) (bs : List ℕ) (i n : ℕ) → Appends a b (take i bs)
+    → Appends b c (take n (take (length bs - i) (drop i bs))) → Appends a c (take (i + n) bs)
+Appends-more a b c bs i n p q =
+    let P : List ℕ → Type 0 = λ x. Appends a c x in
+    let R : List ℕ → Type 0 = λ x. Appends b c (take n x) in
+    subst P (sym (take_plus bs i n)) (Appends-trans a b c (take i bs) (take n (drop i bs)) p (subst R (rest_from bs i) q))
+
+-- Outcomes
+
+pub Goes-then : (a b c : Progress) (p q v w : List ℕ) → Goes a p v b → Goes b q w c → Goes a (p ++ q) (v ++ w) c
+Goes-then a b c p q v w first second taken written st =
+    let P : List ℕ → Type 0 = λ x. Stands x ((written ++ v) ++ w) c in
+    let Q : List ℕ → Type 0 = λ x. Stands (taken ++ (p ++ q)) x c in
+    subst Q (append_assoc written v w) (subst P (append_assoc taken p q) (second (taken ++ p) (written ++ v) (first taken written st)))
+
+pub Stops-then : (a b : Progress) (p q v w : List ℕ) (e : ReplayFault) → Goes a p v b → Stops b q w e → Stops a (p ++ q) (v ++ w) e
+Stops-then a b p q v w e first second taken written st =
+    let P : List ℕ → Type 0 = λ x. Ends x ((written ++ v) ++ w) e in
+    let Q : List ℕ → Type 0 = λ x. Ends (taken ++ (p ++ q)) x e in
+    subst Q (append_assoc written v w) (subst P (append_assoc taken p q) (second (taken ++ p) (written ++ v) (first taken written st)))
+
+Begins-more : (taken more rest : List ℕ) (lines : Option Trace) → Begins taken lines rest → Begins (taken ++ more) lines (rest ++ more)
+Begins-more taken more rest lines b = record {
+  good = b.good;
+  whole = ap (λ (x : List ℕ). x ++ more) b.whole ∙ append_assoc (lines_text lines) rest more;
+}
+
+take_front : (n : ℕ) (rest more : List ℕ) → n ≤ length rest → take n (rest ++ more) ≡ take n rest
+take_front n rest more le = take-append-le n rest more le
+
+IsBad-more : (lines : Option Trace) (rest more : List ℕ) → IsBad lines rest → IsBad lines (rest ++ more)
+IsBad-more lines rest more (inl b) = inl (record {
+  line = b.line;
+  more = b.more ++ more;
+  whole = ap (λ (x : List ℕ). x ++ more) b.whole ∙ append_assoc (b.line ++ 10 ∷ []) b.more more;
+  one = b.one;
+  bad = b.bad;
+})
+IsBad-more lines rest more (inr b) = inr (record {
+  one = ap (list_all is_not_lf) (take_front 128 rest more b.long) ∙ b.one;
+  long = omega (arith, length-append rest more, b.long);
+})
+
+-- what is not read any more changes nothing
+Ends-more : (taken more written : List ℕ) (e : ReplayFault) → Ends taken written e → Ends (taken ++ more) written e
+Ends-more taken more written (fault.BadTrace number) s = record {
+  lines = s.lines;
+  rest = s.rest ++ more;
+  state = s.state;
+  begins = Begins-more taken more s.rest s.lines s.begins;
+  replayed = s.replayed;
+  number_is = s.number_is;
+  bad = IsBad-more s.lines s.rest more s.bad;
+}
+Ends-more taken more written fault.NoMemory s = record {
+  lines = s.lines;
+  rest = s.rest ++ more;
+  state = s.state;
+  text = s.text;
+  begins = Begins-more taken more s.rest s.lines s.begins;
+  replayed = s.replayed;
+  unwritten = s.unwritten;
+  begun = s.begun;
+}
+Ends-more taken more written fault.ReadFault s = absurd s
+Ends-more taken more written fault.WriteFault s = record {
+  lines = s.lines;
+  rest = s.rest ++ more;
+  state = s.state;
+  text = s.text;
+  begins = Begins-more taken more s.rest s.lines s.begins;
+  replayed = s.replayed;
+  unwritten = s.unwritten;
+  begun = s.begun;
+}
+
+pub Stops-more : (p : Progress) (bytes more written : List ℕ) (e : ReplayFault) → Stops p bytes written e → Stops p (bytes ++ more) written e
+Stops-more p bytes more written e s taken before st =
+    let P : List ℕ → Type 0 = λ x. Ends x (before ++ written) e in
+    subst P (append_assoc taken bytes more) (Ends-more (taken ++ bytes) more (before ++ written) e (s taken before st))
+
+-- a write that breaks off
+broken : (before more : List ℕ) (n : ℕ) (text unwritten : List ℕ) → text ≡ (before ++ more) ++ unwritten
+    → text ≡ (before ++ take n more) ++ (drop n more ++ unwritten)
+broken before more n text unwritten e =
+    e ∙ (ap (λ (x : List ℕ). (before ++ x) ++ unwritten) (sym (take-append-drop n more)) ∙ simp append_assoc)
+
+Ends-broken : (taken before more : List ℕ) (n : ℕ) (e : ReplayFault) → Ends taken (before ++ more) e → BreaksOff taken (before ++ take n more)
+Ends-broken taken before more n (fault.BadTrace number) s = record {
+  lines = s.lines;
+  rest = s.rest;
+  state = s.state;
+  text = before ++ more;
+  begins = s.begins;
+  replayed = s.replayed;
+  unwritten = drop n more ++ [];
+  begun = broken before more n (before ++ more) [] (sym (append-nil (before ++ more)));
+}
+Ends-broken taken before more n fault.NoMemory s = record {
+  lines = s.lines;
+  rest = s.rest;
+  state = s.state;
+  text = s.text;
+  begins = s.begins;
+  replayed = s.replayed;
+  unwritten = drop n more ++ s.unwritten;
+  begun = broken before more n s.text s.unwritten s.begun;
+}
+Ends-broken taken before more n fault.ReadFault s = absurd s
+Ends-broken taken before more n fault.WriteFault s = record {
+  lines = s.lines;
+  rest = s.rest;
+  state = s.state;
+  text = s.text;
+  begins = s.begins;
+  replayed = s.replayed;
+  unwritten = drop n more ++ s.unwritten;
+  begun = broken before more n s.text s.unwritten s.begun;
+}
+
+-- the fault is that of the write, where the kept replies are not all written
+pub Stops-broken : (p : Progress) (bytes more : List ℕ) (n : ℕ) (e : ReplayFault) → Stops p bytes more e → Stops p bytes (take n more) fault.WriteFault
+Stops-broken p bytes more n e s taken before st = Ends-broken (taken ++ bytes) before more n e (s taken before st)
+
+-- after bytes that were taken the kept replies are not all written
+pub Goes-broken : (p q : Progress) (bytes : List ℕ) (n : ℕ) → Goes p bytes [] q → Stops p bytes (take n q.replies.items) fault.WriteFault
+Goes-broken p q bytes n goes taken before st =
+    let at = goes taken before st in
+    record {
+      lines = at.lines;
+      rest = q.line.items;
+      state = q.domain;
+      text = at.text;
+      begins = at.begins;
+      replayed = at.replayed;
+      unwritten = drop n q.replies.items;
+      begun = at.gathered ∙ (ap (λ (x : List ℕ). x ++ q.replies.items) (append-nil before)
+          ∙ (ap (λ (x : List ℕ). before ++ x) (sym (take-append-drop n q.replies.items)) ∙ sym (append_assoc before (take n q.replies.items) (drop n q.replies.items))));
+    }
+
+-- after bytes that were taken the kept replies are written
+pub Goes-written : (p q r : Progress) (bytes : List ℕ) → Goes p bytes [] q → r.line.items ≡ q.line.items → r.domain ≡ q.domain → r.steps ≡ q.steps
+    → r.replies.items ≡ [] → Goes p bytes q.replies.items r
+Goes-written p q r bytes goes line domain steps none taken before st =
+    let at = goes taken before st in
+    record {
+      lines = at.lines;
+      text = at.text;
+      begins = record { good = at.begins.good; whole = at.begins.whole ∙ ap (λ (x : List ℕ). lines_text at.lines ++ x) (sym line) };
+      replayed = (let P : Option State → Type 0 = λ d. IsReplayed at.lines d at.text in subst P (sym domain) at.replayed);
+      steps = steps ∙ at.steps;
+      gathered = at.gathered ∙ (ap (λ (x : List ℕ). x ++ q.replies.items) (append-nil before)
+          ∙ (sym (append-nil (before ++ q.replies.items)) ∙ ap (λ (x : List ℕ). (before ++ q.replies.items) ++ x) (sym none)));
+    }
+
+pub Takes-broken : (p q : Progress) (bytes : List ℕ) (n : ℕ) (r : Result Unit ReplayFault) → Takes p bytes q r → Stops p bytes (take n q.replies.items) fault.WriteFault
+Takes-broken p q bytes n (Ok u) t = Goes-broken p q bytes n t
+Takes-broken p q bytes n (Err e) t =
+    let P : List ℕ → Type 0 = λ x. Stops p bytes (take n x) fault.WriteFault in
+    subst P (sym t.1) (Stops-broken p bytes p.replies.items n e t.0)
+
+pub Takes-written : (p q r : Progress) (bytes : List ℕ) (result : Result Unit ReplayFault) → Takes p bytes q result
+    → r ≡ record q { replies = r.replies } → r.replies.items ≡ [] → Outcome p bytes q.replies.items r result
+Takes-written p q r bytes (Ok u) t same none =
+    Goes-written p q r bytes t (ap (λ (x : Progress). x.line.items) same) (ap (λ (x : Progress). x.domain) same) (ap (λ (x : Progress). x.steps) same) none
+Takes-written p q r bytes (Err e) t same none =
+    let P : List ℕ → Type 0 = λ x. Stops p bytes x e in
+    subst P (sym t.1) t.0
+
+pub Outcome-then : (a b c : Progress) (p q v w : List ℕ) (r : Result Unit ReplayFault) → Goes a p v b → Outcome b q w c r → Outcome a (p ++ q) (v ++ w) c r
+Outcome-then a b c p q v w (Ok u) first second = Goes-then a b c p q v w first second
+Outcome-then a b c p q v w (Err e) first second = Stops-then a b p q v w e first second
+
+-- The line that was kept is whole once its last bytes have come.
+
+fresh_line : (taken written : List ℕ) (q mid : Progress) (st : Stands taken written q) → mid.line.items ≡ [] → mid.domain ≡ q.domain → mid.steps ≡ q.steps
+    → mid.replies.items ≡ q.replies.items → Stands (lines_text st.lines) written mid
+fresh_line taken written q mid st empty domain steps replies = record {
+  lines = st.lines;
+  text = st.text;
+  begins = record {
+    good = st.begins.good;
+    whole = sym (append-nil (lines_text st.lines)) ∙ ap (λ (x : List ℕ). lines_text st.lines ++ x) (sym empty);
+  };
+  replayed = (let P : Option State → Type 0 = λ d. IsReplayed st.lines d st.text in subst P (sym domain) st.replayed);
+  steps = steps ∙ st.steps;
+  gathered = st.gathered ∙ ap (λ (x : List ℕ). written ++ x) (sym replies);
+}
+
+-- the lines, and then the kept line with its LF
+line_whole : (taken bytes kept : List ℕ) (lines : Option Trace) → taken ++ bytes ≡ lines_text lines ++ kept
+    → lines_text lines ++ whole_line kept ≡ taken ++ whole_line bytes
+line_whole taken bytes kept lines e =
+    sym (append_assoc (lines_text lines) kept (10 ∷ [])) ∙ (ap (λ (x : List ℕ). x ++ 10 ∷ []) (sym e) ∙ append_assoc taken bytes (10 ∷ []))
+
+ended_text : (taken bytes line kept : List ℕ) (lines : Option Trace) → line ≡ kept → taken ++ bytes ≡ lines_text lines ++ kept
+    → lines_text lines ++ whole_line line ≡ taken ++ whole_line bytes
+ended_text taken bytes line kept lines is e = ap (λ (x : List ℕ). lines_text lines ++ whole_line x) is ∙ line_whole taken bytes kept lines e
+
+pub Takes-ended : (p q mid new : Progress) (bytes line : List ℕ) (r : Result Unit ReplayFault) → Goes p bytes [] q → q.replies.items ≡ p.replies.items
+    → mid.line.items ≡ [] → mid.domain ≡ q.domain → mid.steps ≡ q.steps → mid.replies.items ≡ q.replies.items
+    → line ≡ q.line.items → Takes mid (whole_line line) new r → Takes p (whole_line bytes) new r
+Takes-ended p q mid new bytes line (Ok u) goes same empty domain steps replies kept t = λ taken written st.
+    let at = goes taken written st in
+    let after = t (lines_text at.lines) (written ++ []) (fresh_line (taken ++ bytes) (written ++ []) q mid at empty domain steps replies) in
+    let P : List ℕ → Type 0 = λ x. Stands x ((written ++ []) ++ []) new in
+    let Q : List ℕ → Type 0 = λ x. Stands (taken ++ whole_line bytes) x new in
+    subst Q (append-nil (written ++ [])) (subst P (ended_text taken bytes line q.line.items at.lines kept at.begins.whole) after)
+Takes-ended p q mid new bytes line (Err e) goes same empty domain steps replies kept t = (
+  (λ taken written st.
+      let at = goes taken written st in
+      let after = t.0 (lines_text at.lines) (written ++ []) (fresh_line (taken ++ bytes) (written ++ []) q mid at empty domain steps replies) in
+      let P : List ℕ → Type 0 = λ x. Ends x ((written ++ []) ++ mid.replies.items) e in
+      let Q : List ℕ → Type 0 = λ x. Ends (taken ++ whole_line bytes) x e in
+      let text : (written ++ []) ++ mid.replies.items ≡ written ++ p.replies.items =
+      ap (λ (x : List ℕ). x ++ mid.replies.items) (append-nil written) ∙ ap (λ (x : List ℕ). written ++ x) (replies ∙ same) in
+      subst Q text (subst P (ended_text taken bytes line q.line.items at.lines kept at.begins.whole) after)),
+  t.1 ∙ (replies ∙ same),
+)
+
+-- Whole replays
+
+pub nothing_told : (input output : Option (List ℕ)) → Replays input input output output (Err fault.NoMemory)
+nothing_told input output = record {
+  taken = [];
+  written = [];
+  takes = Consumes-nil input;
+  writes = Appends-nil output;
+  tells = record { lines = None; rest = []; state = None; text = []; begins = record { good = tt; whole = refl }; replayed = refl; unwritten = []; begun = refl };
+}
+
+-- all replies to what was taken are written
+pub Stands-stops : (taken written : List ℕ) (p : Progress) → Stands taken written p → p.replies.items ≡ [] → IsUnended p.line.items → StopsInLine taken written
+Stands-stops taken written p st none unended = record {
+  lines = st.lines;
+  rest = p.line.items;
+  state = p.domain;
+  begins = st.begins;
+  replayed = (let P : List ℕ → Type 0 = IsReplayed st.lines p.domain in
+      subst P (st.gathered ∙ (ap (λ (x : List ℕ). written ++ x) none ∙ append-nil written)) st.replayed);
+  unended = unended;
+}
+
+pub Ends-tells : (taken written : List ℕ) (left : Option (List ℕ)) (e : ReplayFault) → Ends taken written e → Tells taken written left (Err e)
+Ends-tells taken written left (fault.BadTrace number) s = inl s
+Ends-tells taken written left fault.NoMemory s = s
+Ends-tells taken written left fault.ReadFault s = absurd s
+Ends-tells taken written left fault.WriteFault s = s
+
+pub Closes-tells : (taken written : List ℕ) (left : Option (List ℕ)) (r : Result (State × ℕ) ReplayFault) → Closes taken written r → IsAtEnd left → Tells taken written left r
+Closes-tells taken written left (Ok done) s end = (s, end)
+Closes-tells taken written left (Err (fault.BadTrace number)) s end = inr (s, end)
+Closes-tells taken written left (Err fault.NoMemory) s end = absurd s
+Closes-tells taken written left (Err fault.ReadFault) s end = absurd s
+Closes-tells taken written left (Err fault.WriteFault) s end = absurd s
+
+-- The first LF
+
+pub no_lf_before : (bytes : List ℕ) (n : ℕ) → n ≤ length bytes → ((k : ℕ) → 0 ≤ k → k < n → (get_or bytes k 0 == 10) ≡ true → ⊥) → HasNoLf (take n bytes)
+no_lf_before bytes zero within none = refl
+no_lf_before bytes (suc n) within none =
+    let before = no_lf_before bytes n (omega arith) (λ k low lt. none k low (omega arith)) in
+    let here : is_not_lf (get_or bytes n 0) ≡ true = not_from_false (get_or bytes n 0 == 10) (false_from_ne_true (get_or bytes n 0 == 10) (none n (omega arith) (omega arith))) in
+    rw (← add-one n) (list_all-more is_not_lf bytes n (omega arith) before here)
+
+pub cut_at_lf : (bytes : List ℕ) (n : ℕ) → n < length bytes → (get_or bytes n 0 == 10) ≡ true
+    → bytes ≡ whole_line (take n bytes) ++ take (length bytes - (n + 1)) (drop (n + 1) bytes)
+cut_at_lf bytes n lt is =
+    let byte : get_or bytes n 0 ≡ 10 = eqb-true (get_or bytes n 0) 10 is in
+    cut_at bytes (n + 1) ∙ ap (λ (x : List ℕ). x ++ take (length bytes - (n + 1)) (drop (n + 1) bytes))
+    (take_more bytes n 0 lt ∙ ap (λ (b : ℕ). take n bytes ++ b ∷ []) byte)
+
+-- a reader and a writer before and now, between two reads: all replies to what was taken are written
+pub record SoFar (input left output filled : Option (List ℕ)) (p : Progress) : Type 0 where
+  pub taken : List ℕ
+  pub written : List ℕ
+  pub takes : Consumes input left taken
+  pub writes : Appends output filled written
+  pub stands : Stands taken written p
+  pub none : p.replies.items ≡ []
+
+pub read_fails : (input mid left output filled : Option (List ℕ)) (p : Progress) → SoFar input mid output filled p → IsUnended p.line.items → Keeps mid left
+    → Replays input left output filled (Err fault.ReadFault)
+read_fails input mid left output filled p s unended keeps = record {
+  taken = s.taken;
+  written = s.written;
+  takes = Consumes-kept input mid left s.taken s.takes keeps;
+  writes = s.writes;
+  tells = Stands-stops s.taken s.written p s.stands s.none unended;
+}
+
+pub read_ends : (input mid left output filled : Option (List ℕ)) (p : Progress) (n : ℕ) (buffer : List ℕ) (r : Result (State × ℕ) ReplayFault)
+    → SoFar input mid output filled p → Consumes mid left (take n buffer) → n ≡ 0 → IsAtEnd left
+    → ((taken written : List ℕ) → Stands taken written p → Closes taken written r) → Replays input left output filled r
+read_ends input mid left output filled p n buffer r s consumes no_bytes end closes =
+    let P : List ℕ → Type 0 = Consumes input left in
+    let nothing : s.taken ++ take n buffer ≡ s.taken = ap (λ (k : ℕ). s.taken ++ take k buffer) no_bytes ∙ append-nil s.taken in
+    record {
+      taken = s.taken;
+      written = s.written;
+      takes = subst P nothing (Consumes-trans input mid left s.taken (take n buffer) s.takes consumes);
+      writes = s.writes;
+      tells = Closes-tells s.taken s.written left r (closes s.taken s.written s.stands) end;
+    }
+
+pub piece_stops : (input mid left output filled full : Option (List ℕ)) (p : Progress) (piece more : List ℕ) (e : ReplayFault)
+    → SoFar input mid output filled p → Consumes mid left piece → Appends filled full more → Stops p piece more e
+    → Replays input left output full (Err e)
+piece_stops input mid left output filled full p piece more e s consumes appends stops = record {
+  taken = s.taken ++ piece;
+  written = s.written ++ more;
+  takes = Consumes-trans input mid left s.taken piece s.takes consumes;
+  writes = Appends-trans output filled full s.written more s.writes appends;
+  tells = Ends-tells (s.taken ++ piece) (s.written ++ more) left e (stops s.taken s.written s.stands);
+}
+
+pub piece_goes : (input mid left output filled full : Option (List ℕ)) (p q : Progress) (piece more : List ℕ)
+    → SoFar input mid output filled p → Consumes mid left piece → Appends filled full more → Goes p piece more q → q.replies.items ≡ []
+    → SoFar input left output full q
+piece_goes input mid left output filled full p q piece more s consumes appends goes none = record {
+  taken = s.taken ++ piece;
+  written = s.written ++ more;
+  takes = Consumes-trans input mid left s.taken piece s.takes consumes;
+  writes = Appends-trans output filled full s.written more s.writes appends;
+  stands = goes s.taken s.written s.stands;
+  none = none;
+}
+
+-- two faults that are returned alike
+pub err_is : {A : Type 0} (e f : ReplayFault) → ◌≡◌ {A = Result A ReplayFault} (Err e) (Err f) → e ≡ f
+err_is e f same = cc
+
+-- what a vector has after bytes were read into its slice
+pub read_back : (len : ℕ) (new old slice : List ℕ) → length new ≡ length slice → slice ≡ old → len ≡ length old
+    → take len (new ++ drop (length new) old) ≡ new
+read_back len new old slice same is all = take_at new (drop (length new) old) len (same ∙ (ap length is ∙ sym all))

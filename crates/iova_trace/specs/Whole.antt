@@ -1,0 +1,17 @@
+-- What the reading of a whole trace answers.
+use Rattle.std.specs.Prelude.{ℕ, ◌≡◌, ◌⊎◌, List, Result, Err}
+use Rattle.iova_trace.specs.declared.trace.Trace.{Trace}
+use Rattle.iova_trace.specs.declared.fault.ReplayFault.{ReplayFault}
+use Rattle.iova_trace.specs.declared.fault.ReplayFault.TheVariants as fault
+use Rattle.iova_trace.specs.Lines.{IsRefused}
+
+-- what each fault says of the text
+abbrev pub IsFaultOf : List ℕ → ReplayFault → Type 0
+IsFaultOf text (fault.BadTrace number) = IsRefused text number
+IsFaultOf text fault.NoMemory = Unit {0}
+IsFaultOf text fault.ReadFault = ⊥
+IsFaultOf text fault.WriteFault = ⊥
+
+-- this is the answer, unless memory was refused
+abbrev pub IsUnlessStarved : Result Trace ReplayFault → Result Trace ReplayFault → Type 0
+IsUnlessStarved answer result = (result ≡ answer) ⊎ (result ≡ Err fault.NoMemory)

@@ -1,0 +1,30 @@
+ghost use Rattle.std.specs.Prelude.{◌≡◌};
+ghost use Rattle.iova_trace.specs.declared.fault.ReplayFault.TheVariants.{NoMemory as WantsMemory};
+
+use std::alloc::AllocError;
+use thiserror::Error;
+
+/// Why the bytes of a trace are not read or replayed to their end. Our own.
+#[derive(Clone, Copy, Debug, PartialEq, Eq, Error)]
+pub enum ReplayFault {
+    /// The line with this number, counted from 1, is no line of a trace, or one too many.
+    #[error("trace refused at line {0}")]
+    BadTrace(u64),
+    /// A growth was refused memory.
+    #[error("no memory")]
+    NoMemory,
+    /// A read failed, or there were too many.
+    #[error("the input cannot be read")]
+    ReadFault,
+    /// A write failed, or took nothing.
+    #[error("the output cannot be written")]
+    WriteFault,
+}
+
+impl From<AllocError> for ReplayFault {
+    ghost from_gives = { λ _ e. e ≡ WantsMemory };
+
+    fn from(_error: AllocError) -> ReplayFault {
+        ReplayFault::NoMemory
+    }
+}
