@@ -16,5 +16,6 @@ pub mod Windows
 pub mod Spaces
 pub mod Taking
 pub mod Kept
+pub mod Comparing
 pub mod Gaps
 pub mod Picked

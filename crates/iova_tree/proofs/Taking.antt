@@ -25,7 +25,7 @@ pub takes_first : (old : List Span) (before : List Frames) → before ≡ window
 takes_first old before same = record { windows_same = same; inserted = refl; kept = λ from until h. h; single = tt; none = refl }
 
 -- a range of some that rise apart is the one that is found where it begins
-stands_own : (from until : ℕ) (xs : List Frames) (p : ℕ) (d : Frames) → RiseApart from xs until → p < length xs → StandsAt (slice_index_or xs p d).lo xs p
+pub stands_own : (from until : ℕ) (xs : List Frames) (p : ℕ) (d : Frames) → RiseApart from xs until → p < length xs → StandsAt (slice_index_or xs p d).lo xs p
 stands_own from until [] p d h lt = absurd (omega arith)
 stands_own from until (x ∷ xs) zero d h lt =
     let test : begins_at x.lo x ≡ true = grind (arith, nat_tests) in

@@ -130,6 +130,14 @@ impl SortedList {
         &self.windows
     }
 
+    // The inserted ranges, rising by first frame.
+    fn inserted(&self) -> &[Range]
+        ensures value { result.now ≡ self.now.inserted }
+        ensures space { IsSpace self.now }
+    {
+        &self.inserted
+    }
+
     /// Makes one window of the frames `lo` to `hi`, both inside, and of all windows that have a frame in common with
     /// them, and gives it. Windows that only touch stay apart. A refusal leaves the tree as it was. The first of these
     /// that holds is the answer: `BadWindow` where `lo` is above `hi` or one of them isn't inside the bounds; `Taken`
@@ -226,3 +234,5 @@ fn absorb(windows: &mut Vec<Range>, window: Range) -> Range
     }
     all
 }
+
+mod tests;
