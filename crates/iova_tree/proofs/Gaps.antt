@@ -9,7 +9,8 @@ use Rattle.iova_range.specs.Frames.{Frames, covers, meets}
 use Rattle.iova_range.specs.Sizes.{align_of}
 use Rattle.iova_range.specs.Bounds.{Extent}
 use Rattle.iova_model.specs.Fit.{is_covered, Fits, IsBest, is_clear}
-use Rattle.iova_tree.specs.Space.{Space, ranges_of, IsLastAligned}
+use Rattle.iova_tree.specs.Space.{Space, ranges_of}
+use Rattle.iova_tree.specs.Sorted.{IsLastAligned}
 
 -- Gaps.
 

@@ -6,7 +6,8 @@ use Rattle.std.proofs.lemmas.Bool.{cases_lt}
 use Rattle.iova_range.specs.Frames.{Frames, covers, meets}
 use Rattle.iova_range.specs.Sizes.{align_of}
 use Rattle.iova_model.specs.Fit.{is_covered, IsBest}
-use Rattle.iova_tree.specs.Space.{Space, ranges_of, IsSpace, IsLastAligned, RiseApart, Picks, PicksFirst, PicksSecond}
+use Rattle.iova_tree.specs.Space.{Space, ranges_of, IsSpace, RiseApart}
+use Rattle.iova_tree.specs.Sorted.{IsLastAligned, Picks, PicksFirst, PicksSecond}
 use Rattle.iova_tree.proofs.Apart.{LiesWithin, rise_within, rise_apart, rise_sorted, clear_above, meets_swap}
 use Rattle.iova_tree.proofs.Gaps.{IsGap, gap-append, beside_all, apart_at, EndsBy, Reaches, best_in_gap, ends_below, none_in_gap}
 

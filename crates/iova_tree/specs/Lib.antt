@@ -1,1 +1,6 @@
+pub mod Room
+pub mod Spans
+pub mod Node
+pub mod Fit
 pub mod Space
+pub mod Sorted

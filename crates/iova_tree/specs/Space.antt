@@ -1,5 +1,5 @@
 -- The ranges of a tree.
-use Rattle.std.specs.Prelude.{ℕ, ◌≡◌, ◌+◌, ◌-◌, ◌%◌, ◌<◌, ◌≤◌, ◌⊎◌, Bool, true, not, ◌||◌, nat_lt, List, [], ◌∷◌, ◌++◌, length, filter, Option, Some, None, slice_index_or}
+use Rattle.std.specs.Prelude.{ℕ, ◌≡◌, ◌+◌, ◌≤◌, Bool, true, not, ◌||◌, nat_lt, List, [], ◌∷◌, ◌++◌, length, filter, Option}
 use Rattle.std.specs.List.{AllByRecursion, list_any}
 use Rattle.iova_range.specs.declared.refusal.Refusal.{Refusal}
 use Rattle.iova_range.specs.declared.refusal.Refusal.TheVariants as refusal
@@ -7,6 +7,7 @@ use Rattle.iova_range.specs.Frames.{Frames, meets}
 use Rattle.iova_range.specs.Bounds.{Extent, IsExtent}
 use Rattle.iova_model.specs.Fit.{is_clear}
 use Rattle.iova_model.specs.Next.{first_refusal, from_to, windows_with}
+use Rattle.iova_tree.specs.Spans.{Span, IsRisingFrom, end_after, inserted_of, windows_of}
 
 -- What a `Tree` is seen as: the bounds; the ranges that were inserted; the windows. Both rise by first frame.
 pub record Space : Type 0 where
@@ -37,27 +38,20 @@ pub record IsSpace (s : Space) : Type 0 where
   pub few : length s.windows ≤ 64
   pub apart : AllByRecursion (λ w. is_clear w s.inserted ≡ true) s.windows
 
--- the greatest multiple of `align` from which `size` frames lie from `from` on and below `until`, or there is none
-abbrev pub IsLastAligned : ℕ → ℕ → ℕ → ℕ → Option ℕ → Type 0
-IsLastAligned from until size align None = (lo : ℕ) → lo % align ≡ 0 → from ≤ lo → lo + size ≤ until → ⊥
-IsLastAligned from until size align (Some best) =
-    (best % align ≡ 0) × (from ≤ best) × (best + size ≤ until) × ((lo : ℕ) → lo % align ≡ 0 → lo + size ≤ until → lo ≤ best)
+-- the ranges rise apart, from `from` on and below `until`
+abbrev pub LieWithin : ℕ → List Span → ℕ → Type 0
+LieWithin from spans until = IsRisingFrom from spans × (end_after from spans ≤ until)
 
--- Of the first i of one list and the first j of another, the range of the one that begins higher, and how many are left.
-pub record PicksFirst (xs ys : List Frames) (i j : ℕ) (picked : Frames × ℕ × ℕ) : Type 0 where
-  pub range : (d : Frames) → slice_index_or xs picked.1 d ≡ picked.0
-  pub left : picked.1 + 1 ≡ i
-  pub others : picked.2 ≡ j
-  pub highest : (d : Frames) → 0 < j → (slice_index_or ys (j - 1) d).lo ≤ picked.0.lo
+-- what a tree's fields keep: all ranges lie in the bounds, apart, and the list of windows has those that are windows
+pub record IsKept (b : Extent) (spans : List Span) (ws : List Frames) : Type 0 where
+  pub bounds : IsExtent b
+  pub within : LieWithin b.start spans (b.last + 1)
+  pub windows : ws ≡ windows_of spans
+  pub few : length ws ≤ 64
 
-pub record PicksSecond (xs ys : List Frames) (i j : ℕ) (picked : Frames × ℕ × ℕ) : Type 0 where
-  pub range : (d : Frames) → slice_index_or ys picked.2 d ≡ picked.0
-  pub left : picked.2 + 1 ≡ j
-  pub others : picked.1 ≡ i
-  pub highest : (d : Frames) → 0 < i → (slice_index_or xs (i - 1) d).lo ≤ picked.0.lo
-
-abbrev pub Picks : List Frames → List Frames → ℕ → ℕ → Frames × ℕ × ℕ → Type 0
-Picks xs ys i j picked = PicksFirst xs ys i j picked ⊎ PicksSecond xs ys i j picked
+-- what these fields are seen as
+abbrev pub space_of : Extent → List Span → List Frames → Space
+space_of bounds spans windows = record { bounds = bounds; inserted = inserted_of spans; windows = windows }
 
 -- Windows.
 

@@ -1,6 +1,11 @@
 //! The allocated ranges of a domain, its windows among them, and the highest place where a request fits between them.
 #![tactic(auto)]
 
-pub mod place;
+mod place;
+mod room;
+mod search;
+#[cfg(test)]
+mod sorted_list;
+mod subtree;
 pub mod tree;
 mod window;

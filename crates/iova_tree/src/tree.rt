@@ -1,11 +1,14 @@
 ghost use Rattle.std.specs.Prelude.{◌≡◌, ◌+◌, ◌≤◌, ◌<◌, [], length, IfOk, OnOk, OnErr, IsOkUnless, IsTrue, ◌↔◌, IsSome, IfSome, IfNone, Some, find, false, true};
+ghost use Rattle.std.specs.List.{list_any};
+ghost use Rattle.iova_range.specs.Frames.{meets};
 ghost use Rattle.iova_model.specs.Fit.{IsBest, best, is_covered, is_clear};
 ghost use Rattle.iova_model.specs.Clients.{insert_rising, remove_at, begins_at};
 ghost use Rattle.iova_model.specs.Next.{from_to, union, windows_with};
-ghost use Rattle.iova_tree.specs.Space.{Space, ranges_of, IsInside, IsSpace, reserve_refusal};
+ghost use Rattle.iova_tree.specs.Space.{Space, ranges_of, IsInside, IsSpace, reserve_refusal, clear_of};
 
-use crate::place::{has_frame, last_aligned, pick, place_of};
-use crate::window::{absorb, count_clear, meets_any};
+use crate::search::Wanted;
+use crate::subtree::{Node, Subtree, stretch};
+use crate::window::{absorb, count_clear, insert_window};
 use iova_range::bounds::Bounds;
 use iova_range::range::Range;
 use iova_range::refusal::Refusal;
@@ -16,19 +19,20 @@ use std::marker::Model;
 /// The allocated ranges of a domain.
 #[derive(Drop)]
 pub struct Tree {
+    alloc: Global,
     bounds: Bounds,
-    inserted: Vec<Range>,
+    ranges: Subtree,
     windows: Vec<Range>,
 }
 
 impl Model for Tree {
-    ghost use Rattle.iova_tree.specs.Space.{Space, IsSpace};
+    ghost use Rattle.iova_tree.specs.Space.{Space, IsKept, space_of};
 
     ghost Value = { Space };
 
-    ghost view = { λ t. record { bounds = t.bounds; inserted = t.inserted.items; windows = t.windows.items } };
+    ghost view = { λ t. space_of t.bounds t.ranges.0 t.windows.items };
 
-    ghost invariant = { λ t. IsSpace (record { bounds = t.bounds; inserted = t.inserted.items; windows = t.windows.items }) };
+    ghost invariant = { λ t. IsKept t.bounds t.ranges.0 t.windows.items };
 }
 
 impl Tree {
@@ -43,8 +47,9 @@ impl Tree {
     {
         let _start = bounds.start();
         Ok(Tree {
+            alloc,
             bounds,
-            inserted: Vec::new(alloc),
+            ranges: Subtree::new(),
             windows: Vec::new(alloc),
         })
     }
@@ -53,14 +58,13 @@ impl Tree {
     #[inline]
     pub fn bounds(&self) -> Bounds
         ensures is { result ≡ self.now.bounds }
-        ensures space { IsSpace self.now }
     {
         self.bounds
     }
 
     /// The greatest first frame from which `size` frames fit, `size` being 1 to 1,048,576: aligned to `align_of(size)`,
-    /// inside the bounds, none above `limit`, and all free. None where nothing fits. The ranges are walked once, from
-    /// the limit down, and the walk stops at the first fit (own: the kernel begins where it remembers, Linux 5.15
+    /// inside the bounds, none above `limit`, and all free. None where nothing fits. The search enters no part of the
+    /// tree in which nothing fits or that lies above the limit (own: the kernel walks from where it remembers, Linux 5.15
     /// `drivers/iommu/iova.c`: `__alloc_and_insert_iova_range`).
     pub fn highest(&self, size: u64, limit: u64) -> Option<u64>
         requires some { 1 ≤ size }
@@ -68,19 +72,12 @@ impl Tree {
         ensures greatest { IsBest self.now.bounds (ranges_of self.now) size limit result }
         ensures computed { result ≡ best self.now.bounds (ranges_of self.now) size limit }
     {
-        let align = align_of(size);
-        let mut until = limit.min(self.bounds.last()) + 1;
-        let mut i = self.inserted.len();
-        let mut j = self.windows.len();
-        while i > 0 || j > 0 {
-            let (range, left, others) = pick(&self.inserted, &self.windows, i, j);
-            (i, j) = (left, others);
-            if let Some(lo) = last_aligned(range.hi() + 1, until, size, align) {
-                return Some(lo);
-            }
-            until = until.min(range.lo());
-        }
-        last_aligned(self.bounds.start(), until, size, align)
+        let wanted = Wanted {
+            size,
+            align: align_of(size),
+            cap: limit.min(self.bounds.last()) + 1,
+        };
+        self.ranges.highest(self.bounds.start(), &wanted)
     }
 
     /// Allocates a range whose frames are free. `NoMemory` leaves the tree as it was.
@@ -91,10 +88,11 @@ impl Tree {
         ensures err { OnErr result ((result ≡ Err Refusal.NoMemory) × (self.new ≡ self.old)) }
         ensures space { IsSpace self.new }
     {
-        let at = place_of(&self.inserted, range.lo());
-        let Ok(()) = self.inserted.insert(at, range) else {
+        let _last = self.bounds.last();
+        let Ok(node) = Node::single(self.alloc, range.lo(), range.hi() + 1, false) else {
             return Err(Refusal::NoMemory);
         };
+        self.ranges.insert(node);
         Ok(())
     }
 
@@ -105,18 +103,19 @@ impl Tree {
         ensures rest { self.new ≡ record self.old { inserted = remove_at lo self.old.inserted } }
         ensures space { IsSpace self.new }
     {
-        let at = place_of(&self.inserted, lo);
-        self.inserted.remove(at)
+        let _last = self.bounds.last();
+        let node = self.ranges.remove(lo);
+        node.range()
     }
 
     /// Whether the frame is inside the bounds and in no allocated range.
     pub fn is_free(&self, frame: u64) -> bool
         ensures { IsTrue result ↔ ((self.now.bounds.start ≤ frame) × (frame ≤ self.now.bounds.last) × (is_covered frame (ranges_of self.now) ≡ false)) }
     {
-        self.bounds.start() <= frame
-            && frame <= self.bounds.last()
-            && !has_frame(&self.windows, frame)
-            && !has_frame(&self.inserted, frame)
+        if frame < self.bounds.start() || frame > self.bounds.last() {
+            return false;
+        }
+        !self.ranges.covers(frame)
     }
 
     /// The windows, rising by first frame and with no frame in common, at most 64.
@@ -133,33 +132,72 @@ impl Tree {
     /// them, and gives it. Windows that only touch stay apart. A refusal leaves the tree as it was. The first of these
     /// that holds is the answer: `BadWindow` where `lo` is above `hi` or one of them isn't inside the bounds; `Taken`
     /// where one of the frames is in an inserted range; `WindowsFull` where there would be 65 windows; `NoMemory` where
-    /// the list of windows cannot grow (Linux 5.15 `drivers/iommu/iova.c`: `reserve_iova`; the limit, and that one
-    /// window of all is left, are our own).
+    /// the window joins none and there is no memory for it (Linux 5.15 `drivers/iommu/iova.c`: `reserve_iova`; the
+    /// limit, and that one window of all is left, are our own).
     pub fn reserve(&mut self, lo: u64, hi: u64) -> Result<Range, Refusal>
         ensures refused { IfSome (reserve_refusal self.old lo hi) (λ refusal. result ≡ Err refusal) }
         ensures accepted { IfNone (reserve_refusal self.old lo hi) (IsOkUnless result Refusal.NoMemory) }
         ensures window { IfOk result (λ w. w ≡ union (from_to lo hi) self.old.windows) }
         ensures windows { OnOk result (self.new ≡ record self.old { windows = windows_with (from_to lo hi) self.old.windows }) }
-        ensures space { IsSpace self.new }
         ensures unchanged { OnErr result (self.new ≡ self.old) }
     {
         if lo > hi || lo < self.bounds.start() || hi > self.bounds.last() {
             return Err(Refusal::BadWindow);
         }
         let asked = Range::new(lo, hi - lo + 1);
-        if meets_any(&self.inserted, asked) {
+        if self.ranges.meets_inserted(lo, hi + 1) {
             return Err(Refusal::Taken);
         }
-        if count_clear(&self.windows, asked) >= Self::MAX_WINDOWS {
+        let apart = count_clear(&self.windows, asked);
+        if apart >= Self::MAX_WINDOWS {
             return Err(Refusal::WindowsFull);
         }
+        if apart < self.windows.len() {
+            return Ok(self.join_windows(asked));
+        }
+        self.add_window(asked)?;
+        Ok(asked)
+    }
+
+    // Makes a window of frames that are free. It takes its node and its place in the list before it changes anything.
+    fn add_window(&mut self, window: Range) -> Result<(), Refusal>
+        requires inside { IsInside self.old.bounds window }
+        requires free { is_clear window (ranges_of self.old) ≡ true }
+        requires few { length self.old.windows < Self.MAX_WINDOWS }
+        ensures ok { OnOk result (self.new ≡ record self.old { windows = insert_rising window self.old.windows }) }
+        ensures err { OnErr result ((result ≡ Err Refusal.NoMemory) × (self.new ≡ self.old)) }
+    {
+        let _last = self.bounds.last();
         let Ok(()) = self.windows.reserve(1) else {
             return Err(Refusal::NoMemory);
         };
-        let window = absorb(&mut self.windows, asked);
-        let at = place_of(&self.windows, window.lo());
-        self.windows.insert(at, window).unwrap();
-        Ok(window)
+        let Ok(node) = Node::single(self.alloc, window.lo(), window.hi() + 1, true) else {
+            return Err(Refusal::NoMemory);
+        };
+        insert_window(&mut self.windows, window);
+        self.ranges.insert(node);
+        Ok(())
+    }
+
+    // Makes one window of `asked` and of the windows that have a frame in common with it, and gives it. It takes no
+    // memory: the node and the place of one of these are the new one's.
+    fn join_windows(&mut self, asked: Range) -> Range
+        requires inside { IsInside self.old.bounds asked }
+        requires clear { list_any (meets asked) self.old.inserted ≡ false }
+        requires few { length (clear_of asked self.old.windows) < Self.MAX_WINDOWS }
+        requires joins { length (clear_of asked self.old.windows) < length self.old.windows }
+        ensures value { result ≡ union asked self.old.windows }
+        ensures windows { self.new ≡ record self.old { windows = windows_with asked self.old.windows } }
+    {
+        let _last = self.bounds.last();
+        let (window, spare) = absorb(&mut self.ranges, &mut self.windows, asked);
+        let Some(mut node) = spare else {
+            unreachable!()
+        };
+        stretch(&mut node, window.lo(), window.hi() + 1);
+        insert_window(&mut self.windows, window);
+        self.ranges.insert(node);
+        window
     }
 }
 

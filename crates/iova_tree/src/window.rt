@@ -1,9 +1,14 @@
-ghost use Rattle.std.specs.Prelude.{◌≡◌, ◌+◌, ◌≤◌, length, All, vec_len, vec_capacity};
-ghost use Rattle.std.specs.List.{list_any};
-ghost use Rattle.iova_range.specs.Frames.{Frames, meets};
+ghost use Rattle.std.specs.Prelude.{◌≡◌, ◌+◌, ◌^◌, ◌≤◌, ◌<◌, ℕ, true, length, vec_len, vec_capacity, IfSome, IfNone};
+ghost use Rattle.iova_range.specs.Frames.{meets};
+ghost use Rattle.iova_model.specs.Fit.{is_clear};
+ghost use Rattle.iova_model.specs.Clients.{insert_rising};
 ghost use Rattle.iova_model.specs.Next.{join, union};
-ghost use Rattle.iova_tree.specs.Space.{clear_of};
+ghost use Rattle.iova_tree.specs.Spans.{windows_of, inserted_of};
+ghost use Rattle.iova_tree.specs.Space.{RiseApart, LieWithin, clear_of};
+ghost use Rattle.iova_tree.specs.Node.{IsSingle};
 
+use crate::place::place_of;
+use crate::subtree::{Node, Subtree};
 use iova_range::range::Range;
 
 /// Whether the two have a frame in common.
@@ -25,13 +30,6 @@ pub fn join(a: Range, b: Range) -> Range
     Range::new(lo, hi - lo + 1)
 }
 
-/// Whether one of the ranges has a frame in common with `range`.
-pub fn meets_any(ranges: &[Range], range: Range) -> bool
-    ensures { result ≡ list_any (meets range) ranges.now }
-{
-    ranges.iter().any(|other| meets(range, *other))
-}
-
 /// How many of the ranges have no frame in common with `range`.
 pub fn count_clear(ranges: &[Range], range: Range) -> usize
     ensures { result ≡ length (clear_of range ranges.now) }
@@ -39,23 +37,47 @@ pub fn count_clear(ranges: &[Range], range: Range) -> usize
     ranges.iter().filter(|other| !meets(range, **other)).count()
 }
 
-/// Takes out the windows that have a frame in common with `window`, and gives one window of all these and `window`
-/// itself. None has frame 0. It takes no memory.
-pub fn absorb(windows: &mut Vec<Range>, window: Range) -> Range
+/// Puts a window that is clear of the others in its place. There is room for it.
+pub fn insert_window(windows: &mut Vec<Range>, window: Range)
+    requires some { 1 ≤ window.len }
+    requires rise { (from : ℕ) × (until : ℕ) × RiseApart from windows.old.items until }
+    requires clear { is_clear window windows.old.items ≡ true }
+    requires room { vec_len windows.old < vec_capacity windows.old }
+    ensures { windows.new.items ≡ insert_rising window windows.old.items }
+{
+    let at = place_of(windows, window.lo());
+    windows.insert(at, window).unwrap();
+}
+
+/// Takes out the windows that have a frame in common with `window`, from the tree too, and gives one window of all these
+/// and `window` itself, with the node of one of them. None has frame 0. It takes no memory.
+pub fn absorb(
+    ranges: &mut Subtree,
+    windows: &mut Vec<Range>,
+    window: Range,
+) -> (Range, Option<Box<Node>>)
     requires own { 1 ≤ window.lo }
-    requires others { All (λ (w : Frames). 1 ≤ w.lo) windows.old.items }
-    ensures value { result ≡ union window windows.old.items }
+    requires within { (until : ℕ) × (until ≤ 2 ^ 40) × LieWithin 1 ranges.old.0 until }
+    requires same { windows.old.items ≡ windows_of ranges.old.0 }
+    ensures value { result.0 ≡ union window windows.old.items }
     ensures rest { windows.new.items ≡ clear_of window windows.old.items }
-    ensures shorter { vec_len windows.new ≤ vec_len windows.old }
     ensures room { vec_capacity windows.new ≡ vec_capacity windows.old }
+    ensures windows { windows.new.items ≡ windows_of ranges.new.0 }
+    ensures inserted { inserted_of ranges.new.0 ≡ inserted_of ranges.old.0 }
+    ensures kept { (from until : ℕ) → LieWithin from ranges.old.0 until → LieWithin from ranges.new.0 until }
+    ensures spare { IfSome result.1 (λ node. IsSingle node.value × (node.value.window ≡ true)) }
+    ensures none { IfNone result.1 (windows.new.items ≡ windows.old.items) }
 {
     let mut all = window;
+    let mut spare = None;
     let mut i = windows.len();
     while i > 0 {
         i -= 1;
         if meets(window, windows[i]) {
-            all = join(all, windows.remove(i));
+            let other = windows.remove(i);
+            spare = Some(ranges.remove(other.lo()));
+            all = join(all, other);
         }
     }
-    all
+    (all, spare)
 }

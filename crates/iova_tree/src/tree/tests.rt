@@ -142,3 +142,20 @@ fn refused_growth_changes_nothing(rt: HostRuntime) -> Result<(), Fail> {
     assert!(rt; !tree.is_free(100) && !tree.is_free(501) && tree.is_free(502));
     Ok(())
 }
+
+#[test]
+fn gaps_too_small_or_misaligned(rt: HostRuntime) -> Result<(), Fail> {
+    let mut tree = Tree::new(rt.alloc(), Bounds::new(1, 1023)?)?;
+    tree.insert(Range::new(512, 1))?;
+    tree.insert(Range::new(256, 1))?;
+    tree.insert(Range::new(768, 1))?;
+    assert_eq!(rt; tree.highest(256, 1023), None);
+    assert_eq!(rt; tree.highest(128, 1023), Some(896));
+    assert_eq!(rt; tree.remove(768), Range::new(768, 1));
+    assert_eq!(rt; tree.highest(256, 1023), Some(768));
+    let mut tree = Tree::new(rt.alloc(), Bounds::new(1, 1023)?)?;
+    tree.insert(Range::new(700, 1))?;
+    assert_eq!(rt; tree.highest(256, 1023), Some(768));
+    assert_eq!(rt; tree.highest(256, 1000), Some(256));
+    Ok(())
+}

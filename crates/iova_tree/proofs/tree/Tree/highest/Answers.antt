@@ -1,40 +1,27 @@
-use Rattle.std.proofs.Common.{◌≡◌, ◌+◌, ◌≤◌, Some, None, arith}
-use Rattle.iova_range.specs.Sizes.{align_of}
-use Rattle.iova_tree.specs.Space.{Picks, IsLastAligned}
+use Rattle.std.proofs.Common.{◌≡◌, ◌+◌, min, refl}
+use Rattle.iova_tree.specs.Fit.{IsWanted}
+use Rattle.iova_tree.specs.declared.search.Wanted.{Wanted}
 use Rattle.iova_model.proofs.Placing.{best-from}
-use Rattle.iova_tree.proofs.Gaps.{Reaches}
-use Rattle.iova_tree.proofs.Picked.{next_picked, best_picked, reaches_below, best_at_last}
+use Rattle.iova_tree.proofs.Allocated.{kept_space}
+use Rattle.iova_tree.proofs.Fits.{highest_free-best}
+use Rattle.iova_tree.proofs.Kept.{best_kept}
 use Rattle.iova_tree.proofs.Spaces.{space_some}
 use Rattle.iova_tree.proofs.tree.Tree.highest.Goals as goal
 
-pub overflow_add-hi : goal.overflow_add-hi
-overflow_add-hi c =
-    let picks : Picks c.self.inside.inserted.items c.self.inside.windows.items c.loop-i.i c.loop-i.j c.pick-range.result = rw (c.deref.ensures.value, c.deref-in-loop-i.ensures.value) at c.pick-range.ensures in
-    let n = next_picked _ _ _ _ _ _ c.self.invariant c.loop-i.invariant.reaches c.pick-range.result.0 c.pick-range.result.1 c.pick-range.result.2 picks in
-    let end : c.pick-range.result.0.lo + c.pick-range.result.0.len ≤ c.self.inside.bounds.last + 1 = n.within.end in
-    omega arith
+pub highest-requires : goal.highest-requires
+highest-requires c = record { some = c.requires.some; bounded = c.requires.bounded; align = c.align_of.ensures.computed }
 
-pub returns-in-Some : goal.returns-in-Some
-returns-in-Some c =
-    let picks : Picks c.self.inside.inserted.items c.self.inside.windows.items c.loop-i.i c.loop-i.j c.pick-range.result = rw (c.deref.ensures.value, c.deref-in-loop-i.ensures.value) at c.pick-range.ensures in
-    let found : IsLastAligned (c.pick-range.result.0.lo + c.pick-range.result.0.len) c.loop-i.until c.args.size (align_of c.args.size) (Some c.in-Some.lo) = rw (c.in-Some.is, c.hi.ensures, c.loop-i.invariant.align) at c.last_aligned.ensures in
-    let highest = best_picked _ _ _ _ _ _ c.self.invariant c.loop-i.invariant.reaches c.pick-range.result.0 c.pick-range.result.1 c.pick-range.result.2 c.in-Some.lo c.requires.some picks found in
-    rw (← c.self.view_is) (record { greatest = highest; computed = best-from _ _ c.args.size c.args.limit _ c.requires.some (space_some _ c.self.invariant) highest })
+pub returns-clause-greatest : goal.returns-clause-greatest
+returns-clause-greatest c =
+    let i = c.self.inside in
+    let w : Wanted = record { size = c.args.size; align = c.align_of.result; cap = c.min.result + 1 } in
+    let wanted : IsWanted w = record { some = c.requires.some; bounded = c.requires.bounded; align = c.align_of.ensures.computed } in
+    let cap : w.cap ≡ min c.args.limit i.bounds.last + 1 = rw (c.min.ensures, c.last.ensures.is) refl in
+    let best = highest_free-best i.bounds w c.args.limit i.ranges.0 wanted cap c.self.invariant.within.0 in
+    rw (← c.self.view_is, c.highest.ensures, c.start.ensures.is) (best_kept i.bounds i.ranges.0 i.windows.items c.args.size c.args.limit _ c.self.invariant best)
 
-pub loop-i-preserved : goal.loop-i-preserved
-loop-i-preserved c =
-    let picks : Picks c.self.inside.inserted.items c.self.inside.windows.items c.loop-i.i c.loop-i.j c.pick-range.result = rw (c.deref.ensures.value, c.deref-in-loop-i.ensures.value) at c.pick-range.ensures in
-    let none : IsLastAligned (c.pick-range.result.0.lo + c.pick-range.result.0.len) c.loop-i.until c.args.size (align_of c.args.size) None = rw (c.in_default.is, c.hi.ensures, c.loop-i.invariant.align) at c.last_aligned.ensures in
-    record {
-      reaches = rw (c.min-until-in-loop-i.ensures, c.lo.ensures) (reaches_below _ _ _ _ _ _ c.self.invariant c.loop-i.invariant.reaches c.pick-range.result.0 c.pick-range.result.1 c.pick-range.result.2 c.requires.some picks none);
-      align = c.loop-i.invariant.align;
-    }
-
-pub returns : goal.returns
-returns c =
-    let i : c.loop-i.i ≡ 0 = omega arith in
-    let j : c.loop-i.j ≡ 0 = omega arith in
-    let reaches : Reaches (record { bounds = c.self.inside.bounds; inserted = c.self.inside.inserted.items; windows = c.self.inside.windows.items }) c.args.size c.args.limit c.loop-i.until 0 0 = rw (i, j) at c.loop-i.invariant.reaches in
-    let found = rw (c.start.ensures.is, c.loop-i.invariant.align) at c.last_aligned-2.ensures in
-    let highest = best_at_last _ c.args.size c.args.limit c.loop-i.until _ c.requires.some reaches found in
-    rw (← c.self.view_is) (record { greatest = highest; computed = best-from _ _ c.args.size c.args.limit _ c.requires.some (space_some _ c.self.invariant) highest })
+pub returns-clause-computed : goal.returns-clause-computed
+returns-clause-computed c =
+    let i = c.self.inside in
+    let greatest = rw (← c.self.view_is) at (returns-clause-greatest c) in
+    rw (← c.self.view_is) (best-from _ _ c.args.size c.args.limit _ c.requires.some (space_some _ (kept_space i.bounds i.ranges.0 i.windows.items c.self.invariant)) greatest)

@@ -1,30 +1,39 @@
-use Rattle.std.proofs.Common.{◌≡◌, true, refl}
+use Rattle.std.proofs.Common.{◌≡◌, ◌++◌, true, false, refl}
 use Rattle.iova_model.specs.Fit.{is_clear}
-use Rattle.iova_tree.specs.Space.{ranges_of, IsInside}
-use Rattle.iova_tree.proofs.Apart.{rise_sorted, is_clear-append, searched_insert}
-use Rattle.iova_tree.proofs.Spaces.{space_insert}
+use Rattle.iova_tree.specs.Node.{own_span}
+use Rattle.iova_tree.specs.Spans.{inserted_of}
+use Rattle.iova_tree.specs.Space.{IsInside}
+use Rattle.iova_tree.proofs.Kept.{span_of, few_kept, with_rises, rises_from_zero, kept_insert, inserted_with}
+use Rattle.iova_tree.proofs.Allocated.{kept_space}
 use Rattle.iova_tree.proofs.tree.Tree.insert.Goals as goal
 
-pub place_of-at-requires : goal.place_of-at-requires
-place_of-at-requires c = rw c.deref.ensures.value (rise_sorted _ _ _ c.self.invariant.inserted)
+pub insert-requires-clause-free : goal.insert-requires-clause-free
+insert-requires-clause-free c =
+    let i = c.self.inside in
+    let free : is_clear c.args.range (i.windows.items ++ inserted_of i.ranges.0) ≡ true = rw (← c.self.view_is) at c.requires.free in
+    let inside : IsInside i.bounds c.args.range = rw (← c.self.view_is) at c.requires.inside in
+    let own : own_span c.in-Ok.node.value ≡ span_of c.args.range false = rw (c.lo.ensures, c.hi.ensures) at c.in-Ok.ensures.own in
+    rw own (rises_from_zero i.bounds _ (with_rises _ _ _ c.args.range false c.self.invariant inside free))
 
-pub invariant_of-self-2 : goal.invariant_of-self-2
-invariant_of-self-2 c =
-    let free : is_clear c.args.range (ranges_of (record { bounds = c.self.inside.bounds; inserted = c.self.inside.inserted.items; windows = c.self.inside.windows.items })) ≡ true = rw (← c.self.view_is) at c.requires.free in
-    let inside : IsInside c.self.inside.bounds c.args.range = rw (← c.self.view_is) at c.requires.inside in
-    let parts = is_clear-append c.args.range c.self.inside.windows.items c.self.inside.inserted.items free in
-    let p = c.place_of-at.ensures in
-    let e = searched_insert _ _ c.args.range _ _ _ c.deref.ensures.value c.self.invariant.inserted inside.some parts.1 p.within (rw c.lo.ensures at p.below) (rw c.lo.ensures at p.above) in
-    rw (c.in-Ok.ensures.items, e) (space_insert _ c.args.range c.self.invariant inside free)
+pub insert-requires-clause-few : goal.insert-requires-clause-few
+insert-requires-clause-few c = few_kept _ _ _ c.self.invariant (rw c.last-last.ensures.is at c.last-last.ensures.small)
+
+pub invariant_of-self : goal.invariant_of-self
+invariant_of-self c =
+    let i = c.self.inside in
+    let free : is_clear c.args.range (i.windows.items ++ inserted_of i.ranges.0) ≡ true = rw (← c.self.view_is) at c.requires.free in
+    let inside : IsInside i.bounds c.args.range = rw (← c.self.view_is) at c.requires.inside in
+    let own : own_span c.in-Ok.node.value ≡ span_of c.args.range false = rw (c.lo.ensures, c.hi.ensures) at c.in-Ok.ensures.own in
+    rw (c.insert.ensures, own) (kept_insert _ _ _ c.args.range c.self.invariant inside free)
 
 pub returns-clause-ok : goal.returns-clause-ok
 returns-clause-ok c =
-    let free : is_clear c.args.range (ranges_of (record { bounds = c.self.inside.bounds; inserted = c.self.inside.inserted.items; windows = c.self.inside.windows.items })) ≡ true = rw (← c.self.view_is) at c.requires.free in
-    let inside : IsInside c.self.inside.bounds c.args.range = rw (← c.self.view_is) at c.requires.inside in
-    let parts = is_clear-append c.args.range c.self.inside.windows.items c.self.inside.inserted.items free in
-    let p = c.place_of-at.ensures in
-    let e = searched_insert _ _ c.args.range _ _ _ c.deref.ensures.value c.self.invariant.inserted inside.some parts.1 p.within (rw c.lo.ensures at p.below) (rw c.lo.ensures at p.above) in
-    rw (← c.self.view_is) (rw (c.in-Ok.ensures.items, e) refl)
+    let own : own_span c.in-Ok.node.value ≡ span_of c.args.range false = rw (c.lo.ensures, c.hi.ensures) at c.in-Ok.ensures.own in
+    let e = inserted_with _ _ _ c.args.range c.self.invariant in
+    rw (← c.self.view_is) (rw (c.insert.ensures, own, e) refl)
+
+pub returns-in_default-clause-space : goal.returns-in_default-clause-space
+returns-in_default-clause-space c = rw (← c.self.view_is) (kept_space _ _ _ c.self.invariant)
 
 pub returns-clause-space : goal.returns-clause-space
-returns-clause-space c = invariant_of-self-2 c
+returns-clause-space c = kept_space _ _ _ (invariant_of-self c)

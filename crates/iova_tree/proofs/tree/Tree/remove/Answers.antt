@@ -1,41 +1,42 @@
-use Rattle.std.proofs.Common.{◌≡◌, length, refl, ap, arith}
+use Rattle.std.proofs.Common.{refl}
 use Rattle.std.specs.Prelude.{find, IsSome}
 use Rattle.iova_model.specs.Clients.{begins_at}
-use Rattle.iova_tree.proofs.Apart.{rise_sorted, searched_remove}
-use Rattle.iova_tree.proofs.Spaces.{space_remove}
+use Rattle.iova_tree.specs.Node.{own_span}
+use Rattle.iova_tree.specs.Spans.{inserted_of}
+use Rattle.iova_tree.proofs.Kept.{few_kept, inserted_held, taken_out}
+use Rattle.iova_tree.proofs.Allocated.{kept_space}
 use Rattle.iova_tree.proofs.tree.Tree.remove.Goals as goal
 
-pub place_of-at-requires : goal.place_of-at-requires
-place_of-at-requires c = rw c.deref.ensures.value (rise_sorted _ _ _ c.self.invariant.inserted)
+pub remove-node-requires-clause-held : goal.remove-node-requires-clause-held
+remove-node-requires-clause-held c =
+    let found : IsSome (find (begins_at c.args.lo) (inserted_of c.self.inside.ranges.0)) = rw (← c.self.view_is) at c.requires in
+    inserted_held c.args.lo _ found
 
-pub remove-requires : goal.remove-requires
-remove-requires c =
-    let found : IsSome (find (begins_at c.args.lo) c.self.inside.inserted.items) = rw (← c.self.view_is) at c.requires in
-    let p = c.place_of-at.ensures in
-    let stands = searched_remove _ _ c.args.lo _ _ _ c.deref.ensures.value c.self.invariant.inserted p.within p.below p.above found in
-    let len : length c.deref.result.now ≡ length c.self.inside.inserted.items = ap length c.deref.ensures.value in
-    omega (arith, stands.within, c.deref.ensures.len)
+pub remove-node-requires-clause-few : goal.remove-node-requires-clause-few
+remove-node-requires-clause-few c = few_kept _ _ _ c.self.invariant (rw c.last-last.ensures.is at c.last-last.ensures.small)
+
+pub range-requires : goal.range-requires
+range-requires c =
+    let found : IsSome (find (begins_at c.args.lo) (inserted_of c.self.inside.ranges.0)) = rw (← c.self.view_is) at c.requires in
+    let t = taken_out c.self.inside.bounds c.args.lo (own_span c.remove-node.result.value) c.self.inside.ranges.0 c.remove-node.new.self.0 c.self.inside.windows.items c.self.invariant c.remove-node.ensures.taken c.remove-node.ensures.begins found in
+    rw c.deref.ensures t.some
 
 pub invariant_of-self : goal.invariant_of-self
 invariant_of-self c =
-    let found : IsSome (find (begins_at c.args.lo) c.self.inside.inserted.items) = rw (← c.self.view_is) at c.requires in
-    let p = c.place_of-at.ensures in
-    let stands = searched_remove _ _ c.args.lo _ _ _ c.deref.ensures.value c.self.invariant.inserted p.within p.below p.above found in
-    rw (c.remove.ensures.items, stands.without) (space_remove _ c.args.lo c.self.invariant)
+    let found : IsSome (find (begins_at c.args.lo) (inserted_of c.self.inside.ranges.0)) = rw (← c.self.view_is) at c.requires in
+    (taken_out c.self.inside.bounds c.args.lo (own_span c.remove-node.result.value) c.self.inside.ranges.0 c.remove-node.new.self.0 c.self.inside.windows.items c.self.invariant c.remove-node.ensures.taken c.remove-node.ensures.begins found).kept
 
 pub returns-clause-value : goal.returns-clause-value
 returns-clause-value c =
-    let found : IsSome (find (begins_at c.args.lo) c.self.inside.inserted.items) = rw (← c.self.view_is) at c.requires in
-    let p = c.place_of-at.ensures in
-    let stands = searched_remove _ _ c.args.lo _ _ _ c.deref.ensures.value c.self.invariant.inserted p.within p.below p.above found in
-    rw (← c.self.view_is) (rw c.remove.ensures.value (stands.found c.remove.result))
+    let found : IsSome (find (begins_at c.args.lo) (inserted_of c.self.inside.ranges.0)) = rw (← c.self.view_is) at c.requires in
+    let t = taken_out c.self.inside.bounds c.args.lo (own_span c.remove-node.result.value) c.self.inside.ranges.0 c.remove-node.new.self.0 c.self.inside.windows.items c.self.invariant c.remove-node.ensures.taken c.remove-node.ensures.begins found in
+    rw (← c.self.view_is, c.range.ensures, c.deref.ensures) t.found
 
 pub returns-clause-rest : goal.returns-clause-rest
 returns-clause-rest c =
-    let found : IsSome (find (begins_at c.args.lo) c.self.inside.inserted.items) = rw (← c.self.view_is) at c.requires in
-    let p = c.place_of-at.ensures in
-    let stands = searched_remove _ _ c.args.lo _ _ _ c.deref.ensures.value c.self.invariant.inserted p.within p.below p.above found in
-    rw (← c.self.view_is) (rw (c.remove.ensures.items, stands.without) refl)
+    let found : IsSome (find (begins_at c.args.lo) (inserted_of c.self.inside.ranges.0)) = rw (← c.self.view_is) at c.requires in
+    let t = taken_out c.self.inside.bounds c.args.lo (own_span c.remove-node.result.value) c.self.inside.ranges.0 c.remove-node.new.self.0 c.self.inside.windows.items c.self.invariant c.remove-node.ensures.taken c.remove-node.ensures.begins found in
+    let e = t.without in rw (← c.self.view_is) (rw e refl)
 
 pub returns-clause-space : goal.returns-clause-space
-returns-clause-space c = invariant_of-self c
+returns-clause-space c = kept_space _ _ _ (invariant_of-self c)

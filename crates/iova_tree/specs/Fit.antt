@@ -1,0 +1,44 @@
+-- The highest place that a request finds between ranges.
+use Rattle.std.specs.Prelude.{◌≡◌, ℕ, ◌-◌, ◌*◌, ◌/◌, ◌≤◌, min, List, [], ◌∷◌, nat_lt, Option, Some, None, if◌then◌else◌}
+use Rattle.iova_range.specs.Sizes.{align_of}
+use Rattle.iova_tree.specs.Spans.{Span, end_after}
+use Rattle.iova_tree.specs.declared.search.Wanted.{Wanted}
+
+-- a request of some frames, at most those that `room` speaks of, with the alignment of its size
+pub record IsWanted (w : Wanted) : Type 0 where
+  pub some : 1 ≤ w.size
+  pub bounded : w.size ≤ 1048576
+  pub align : w.align ≡ align_of w.size
+
+-- the first that is there
+abbrev pub higher : Option ℕ → Option ℕ → Option ℕ
+higher (Some s) o = Some s
+higher None o = o
+
+-- the greatest multiple of the alignment from which the frames end by until, if it is not below from
+abbrev pub place : ℕ → ℕ → Wanted → Option ℕ
+place from until w = if nat_lt until w.size then None else (let s = (until - w.size) / w.align * w.align in if nat_lt s from then None else Some s)
+
+-- the highest place in a gap below one of the ranges and above e
+abbrev pub highest_after : Wanted → ℕ → List Span → Option ℕ
+highest_after w e [] = None
+highest_after w e (x ∷ t) = higher (highest_after w x.end t) (place e (min x.lo w.cap) w)
+
+-- the highest place in a gap between two neighbours of the ranges
+abbrev pub highest_between : Wanted → List Span → Option ℕ
+highest_between w [] = None
+highest_between w (x ∷ t) = highest_after w x.end t
+
+-- the place below the first of the ranges, above e
+abbrev pub place_before : Wanted → ℕ → List Span → Option ℕ
+place_before w e [] = None
+place_before w e (x ∷ t) = place e (min x.lo w.cap) w
+
+-- the place behind the last of the ranges, below lo
+abbrev pub place_behind : Wanted → List Span → ℕ → Option ℕ
+place_behind w [] lo = None
+place_behind w (x ∷ t) lo = place (end_after x.end t) (min lo w.cap) w
+
+-- the highest place at or above start that no range meets
+abbrev pub highest_free : Wanted → ℕ → List Span → Option ℕ
+highest_free w start l = higher (place (end_after start l) w.cap w) (highest_after w start l)

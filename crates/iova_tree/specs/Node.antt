@@ -1,0 +1,87 @@
+-- What a node and a subtree are seen as.
+use Rattle.std.specs.Prelude.{◌≡◌, ℕ, ◌+◌, ◌≤◌, max, List, [], ◌∷◌, ◌++◌, Option, Some, None}
+use Rattle.std.proofs.Common.{Box}
+use Rattle.std.specs.declared.alloc.Global.{Global}
+use Rattle.iova_tree.specs.Spans.{Span, IsRisingFrom, end_after, first_lo, room_between, with_span, IsLow}
+use Rattle.iova_tree.specs.declared.subtree.Node.{Node}
+use Rattle.iova_tree.specs.declared.subtree.Summary.{Summary}
+
+-- the range that the node holds itself
+abbrev pub own_span : Node → Span
+own_span n = record { lo = n.lo; end = n.end; window = n.window }
+
+abbrev pub node_spans : Node → List Span
+node_spans n = n.left.0 ++ own_span n ∷ n.right.0
+
+abbrev pub node_height : Node → ℕ
+node_height n = max n.left.1 n.right.1 + 1
+
+-- the ranges of a subtree in order
+abbrev pub root_spans : Option (Box Node Global) → List Span
+root_spans None = []
+root_spans (Some b) = node_spans b.value
+
+-- neither height is more than this above the other
+abbrev pub DifferByAtMost : ℕ → ℕ → ℕ → Type 0
+DifferByAtMost by l r = (l ≤ r + by) × (r ≤ l + by)
+
+-- the ranges rise apart and the heights of the sides differ by at most `by`
+pub record IsBalanced (by : ℕ) (n : Node) : Type 0 where
+  pub rising : IsRisingFrom 0 (node_spans n)
+  pub level : DifferByAtMost by n.left.1 n.right.1
+
+-- the summary of a subtree with these ranges and this height
+abbrev pub summary_of_spans : List Span → ℕ → Summary
+summary_of_spans s h = record { first = first_lo s; end = end_after 0 s; room = room_between s; height = h }
+
+abbrev pub node_summary : Node → Summary
+node_summary n = summary_of_spans (node_spans n) (node_height n)
+
+-- the node is balanced, and the summary tells what lies below it
+pub record IsSummedUp (s : Summary) (n : Node) : Type 0 where
+  pub balanced : IsBalanced 1 n
+  pub summary : s ≡ node_summary n
+  pub low : IsLow (node_spans n) (node_height n)
+
+abbrev pub IsSubtree : Summary → Option (Box Node Global) → Type 0
+IsSubtree s None = s ≡ summary_of_spans [] 0
+IsSubtree s (Some b) = IsSummedUp s b.value
+
+-- the height h of what a node with sides l and r settles to
+abbrev pub IsHeightAfterRebalance : ℕ → ℕ → ℕ → Type 0
+IsHeightAfterRebalance l r h = (max l r ≤ h) × (h ≤ max l r + 1) × (DifferByAtMost 1 l r → h ≡ max l r + 1)
+
+-- the new node is balanced, has the same ranges, and has a height that its old sides allow
+pub record Rebalances (n m : Node) : Type 0 where
+  pub balanced : IsBalanced 1 m
+  pub spans : node_spans m ≡ node_spans n
+  pub height : IsHeightAfterRebalance n.left.1 n.right.1 (node_height m)
+
+-- a node without sides
+abbrev pub IsSingle : Node → Type 0
+IsSingle n = (n.left ≡ ([], 0)) × (n.right ≡ ([], 0))
+
+-- a subtree's ranges and height, as the node at its root gives them
+abbrev pub IsRootOf : List Span × ℕ → Option (Box Node Global) → Type 0
+IsRootOf v None = v ≡ ([], 0)
+IsRootOf v (Some b) = (v ≡ (node_spans b.value, node_height b.value)) × IsBalanced 1 b.value
+
+-- the node m has the ranges of n and x, and one level more at most
+pub record PlacesBelow (x : Span) (n m : Node) : Type 0 where
+  pub spans : node_spans m ≡ with_span x (node_spans n)
+  pub balanced : IsBalanced 2 m
+  pub not_lower : node_height n ≤ node_height m
+  pub at_most_one_higher : node_height m ≤ node_height n + 1
+  pub settles : (h : ℕ) → IsHeightAfterRebalance m.left.1 m.right.1 h → node_height n ≤ h
+
+-- the node m has the height and the room of n, and is balanced
+pub record HasSameSummary (n m : Node) : Type 0 where
+  pub height : node_height m ≡ node_height n
+  pub room : room_between (node_spans m) ≡ room_between (node_spans n)
+  pub balanced : IsBalanced 1 m
+
+-- the node m has the ranges of n but x, and one level less at most
+pub record TakesBelow (x : Span) (n m : Node) : Type 0 where
+  pub spans : node_spans n ≡ with_span x (node_spans m)
+  pub balanced : IsBalanced 2 m
+  pub settles : (h : ℕ) → IsHeightAfterRebalance m.left.1 m.right.1 h → (h ≤ node_height n) × (node_height n ≤ h + 1)

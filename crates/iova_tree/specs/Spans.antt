@@ -1,0 +1,81 @@
+-- Allocated ranges in a row: where they end, whether they rise apart, the room between them.
+use Rattle.std.specs.Prelude.{◌≡◌, ℕ, ◌+◌, ◌-◌, ◌/◌, ◌^◌, ◌<◌, ◌≤◌, ◌⊎◌, max, Bool, true, false, not, nat_lt, List, [], ◌∷◌, length, if◌then◌else◌}
+use Rattle.iova_range.specs.Frames.{Frames}
+use Rattle.iova_tree.specs.Room.{room}
+
+-- the frames from lo on, below end, which are a window or were inserted
+pub record Span : Type 0 where
+  pub lo : ℕ
+  pub end : ℕ
+  pub window : Bool
+
+abbrev pub frames_of : Span → Frames
+frames_of x = record { lo = x.lo; len = x.end - x.lo }
+
+abbrev pub all_of : List Span → List Frames
+all_of [] = []
+all_of (x ∷ t) = frames_of x ∷ all_of t
+
+-- it is a window, or it was inserted
+abbrev pub is_kind : Bool → Span → Bool
+is_kind true x = x.window
+is_kind false x = not x.window
+
+abbrev pub of_kind : Bool → List Span → List Frames
+of_kind kind [] = []
+of_kind kind (x ∷ t) = if is_kind kind x then frames_of x ∷ of_kind kind t else of_kind kind t
+
+abbrev pub windows_of : List Span → List Frames
+windows_of spans = of_kind true spans
+
+abbrev pub inserted_of : List Span → List Frames
+inserted_of spans = of_kind false spans
+
+-- where the last of the ranges ends, or e where there is none
+abbrev pub end_after : ℕ → List Span → ℕ
+end_after e [] = e
+end_after e (x ∷ t) = end_after x.end t
+
+-- where the first of the ranges begins, or 0
+abbrev pub first_lo : List Span → ℕ
+first_lo [] = 0
+first_lo (x ∷ t) = x.lo
+
+-- where the first of the ranges begins, or `lo` where there is none
+abbrev pub first_or : ℕ → List Span → ℕ
+first_or lo [] = lo
+first_or lo (x ∷ t) = x.lo
+
+-- the ranges begin at e or above, have a frame each, and rise apart
+abbrev pub IsRisingFrom : ℕ → List Span → Type 0
+IsRisingFrom e [] = Unit {0}
+IsRisingFrom e (x ∷ t) = (e ≤ x.lo) × (x.lo < x.end) × IsRisingFrom x.end t
+
+-- the most room in a gap below one of the ranges and above e
+abbrev pub room_after : ℕ → List Span → ℕ
+room_after e [] = 0
+room_after e (x ∷ t) = max (room e x.lo) (room_after x.end t)
+
+-- the most room in a gap between two neighbours of the ranges
+abbrev pub room_between : List Span → ℕ
+room_between [] = 0
+room_between (x ∷ t) = room_after x.end t
+
+-- the most room between two neighbours or above them, below `lo`
+abbrev pub room_below : ℕ → List Span → ℕ
+room_below lo [] = 0
+room_below lo (x ∷ t) = max (room_after x.end t) (room (end_after x.end t) lo)
+
+-- the ranges with x in its place
+abbrev pub with_span : Span → List Span → List Span
+with_span x [] = x ∷ []
+with_span x (y ∷ t) = if nat_lt x.lo y.lo then x ∷ y ∷ t else y ∷ with_span x t
+
+-- one of the ranges begins at lo
+abbrev pub Holds : ℕ → List Span → Type 0
+Holds lo [] = ⊥
+Holds lo (x ∷ t) = (x.lo ≡ lo) ⊎ Holds lo t
+
+-- a balanced tree of so many ranges is not higher
+abbrev pub IsLow : List Span → ℕ → Type 0
+IsLow l h = 2 ^ (h / 2) ≤ length l + 1

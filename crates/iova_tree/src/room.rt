@@ -1,0 +1,42 @@
+ghost use Rattle.std.specs.Prelude.{◌≡◌, ◌+◌, ◌^◌, ◌≤◌, ◌<◌, ℕ};
+ghost use Rattle.iova_tree.specs.Room.{room, FitsBetween};
+
+use iova_range::sizes::MAX_FRAMES;
+
+/// The greatest size of a request, 1 to 1,048,576, that fits aligned into the frames from `from` on and below `until`;
+/// 0 where none does.
+///
+/// Of these frames one has the most factors of two. From it on every size fits that ends by `until`, and below it
+/// powers of two alone.
+#[inline]
+pub fn room_of(from: u64, until: u64) -> u32
+    requires { 1 ≤ from }
+    ensures greatest { result ≡ room from until }
+    ensures prunes_no_fit { (size : ℕ) → 1 ≤ size → size ≤ MAX_FRAMES → FitsBetween from until size → size ≤ result }
+    ensures fits { 1 ≤ result → FitsBetween from until result }
+{
+    if from >= until {
+        return 0;
+    }
+    let shift = last_place((from - 1) ^ (until - 1));
+    let split = ((until - 1) >> shift) << shift;
+    let above = until - split;
+    let below = split - from;
+    let best = if below == 0 {
+        above
+    } else {
+        above.max(1 << last_place(below))
+    };
+    best.min(MAX_FRAMES) as u32
+}
+
+/// The place of the highest binary digit that is set.
+#[inline]
+fn last_place(n: u64) -> u32
+    requires { 0 < n }
+    ensures below { 2 ^ result ≤ n }
+    ensures above { n < 2 ^ (result + 1) }
+    ensures small { result < 64 }
+{
+    63 - n.leading_zeros()
+}
