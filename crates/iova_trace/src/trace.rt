@@ -4,7 +4,6 @@ ghost use Rattle.iova_trace.specs.Text.{step_text};
 ghost use Rattle.iova_trace.specs.LineSteps.{IsStep};
 
 use crate::line::read_step;
-use iova_core::domain::is_served;
 use iova_model::step::Step;
 use iova_range::bounds::Bounds;
 use std::marker::Model;
@@ -64,6 +63,5 @@ pub(crate) fn next_step(line: &[u8], steps: u64) -> Option<Step>
     if steps >= MAX_STEPS {
         return None;
     }
-    let step = read_step(line)?;
-    if is_served(&step) { Some(step) } else { None }
+    read_step(line)
 }
