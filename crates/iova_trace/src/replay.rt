@@ -9,7 +9,6 @@ use crate::reply::write_reply;
 use crate::trace::next_step;
 use arrayvec::ArrayVec;
 use iova_core::domain::Domain;
-use iova_range::refusal::Refusal;
 use memchr::memchr;
 use std::alloc::Global;
 use std::io;

@@ -1,7 +1,9 @@
 //! Replays over readers and writers that give and take few bytes at a call, and fail at one.
 use super::*;
+use memchr::memmem;
 use std::cell::Cell;
 use std::io::ErrorKind;
+use std::process::Abort;
 
 /// A reader of bytes, at most `most` of them a call. Its call of number `fail_at` is interrupted.
 #[derive(Drop)]
@@ -10,6 +12,17 @@ struct Pieces<'a> {
     most: usize,
     calls: u64,
     fail_at: u64,
+}
+
+impl<'a> Pieces<'a> {
+    fn whole(text: &'a str) -> Pieces<'a> {
+        Pieces {
+            left: text.as_bytes(),
+            most: 65_536,
+            calls: 0,
+            fail_at: 0,
+        }
+    }
 }
 
 impl Read for Pieces<'_> {
@@ -111,8 +124,34 @@ fn replayed<R: Read, W: Write>(
     Ok(steps)
 }
 
+/// A replay in which one growth may be refused, wherever that is: it ends, or the step is answered so. No answer changes in
+/// place of that, and the next replay is whole.
+fn settled(rt: &impl Abort, alloc: Global) {
+    let mut reader = Pieces::whole(TRACE);
+    let mut writer = Page::new(4096, 0, Failure::Interrupted);
+    match replayed(alloc, &mut reader, &mut writer) {
+        Ok(steps) => {
+            assert_eq!(rt; steps, 5);
+            if writer.text.as_slice() == REPLIES.as_bytes() {
+                return;
+            }
+            let refused = memmem::find(writer.text.as_slice(), b"no 17 NoMemory\n");
+            assert!(rt; refused.is_some());
+        }
+        Err(fault) => {
+            assert_eq!(rt; fault, ReplayFault::NoMemory);
+            assert!(rt; writer.text.is_empty());
+        }
+    }
+    let mut reader = Pieces::whole(TRACE);
+    let mut writer = Page::new(4096, 0, Failure::Interrupted);
+    assert_eq!(rt; replayed(alloc, &mut reader, &mut writer), Ok(5));
+    assert_eq!(rt; writer.text.as_slice(), REPLIES.as_bytes());
+}
+
 #[test]
 fn the_same_in_pieces_of_any_length(rt: HostRuntime) {
+    settled(&rt, rt.alloc());
     for most in [1, 2, 127, 65_536] {
         for taken in [1, 2, 127, 65_536] {
             let mut reader = Pieces {
@@ -131,6 +170,7 @@ fn the_same_in_pieces_of_any_length(rt: HostRuntime) {
 
 #[test]
 fn each_read_fails_in_turn(rt: HostRuntime) {
+    settled(&rt, rt.alloc());
     for most in [1, 2, 7, 127] {
         for fail_at in 1..=TRACE.len() as u64 + 2 {
             let mut reader = Pieces {
@@ -158,6 +198,7 @@ fn each_read_fails_in_turn(rt: HostRuntime) {
 
 #[test]
 fn each_write_fails_in_turn(rt: HostRuntime) {
+    settled(&rt, rt.alloc());
     for failure in [Failure::Interrupted, Failure::TakesNone] {
         for fail_at in 1..=REPLIES.len() as u64 {
             for most in [1, 2, 127] {
@@ -216,6 +257,7 @@ fn header_and(xs: usize, end: &str) -> ArrayVec<u8, 4096> {
 
 #[test]
 fn the_fault_of_the_earliest_line(rt: HostRuntime) {
+    settled(&rt, rt.alloc());
     for most in [1, 2, 127, 65_536] {
         for (xs, end, want) in [
             (0, "", ReplayFault::ReadFault),
@@ -252,6 +294,7 @@ fn the_fault_of_the_earliest_line(rt: HostRuntime) {
 
 #[test]
 fn where_the_input_ends(rt: HostRuntime) {
+    settled(&rt, rt.alloc());
     for (text, want, replies) in [
         ("", Err(ReplayFault::BadTrace(1)), ""),
         ("iovatrace 1 1 1023 1", Err(ReplayFault::BadTrace(1)), ""),
@@ -350,6 +393,7 @@ impl Write for Replies<'_> {
 
 #[test]
 fn a_reply_reaches_the_writer_before_the_next_read(rt: HostRuntime) {
+    settled(&rt, rt.alloc());
     let flushed = Cell::new(0);
     let mut reader = Peer {
         next: 0,
@@ -408,6 +452,7 @@ impl Write for Count {
 
 #[test]
 fn many_steps_take_few_calls(rt: HostRuntime) {
+    settled(&rt, rt.alloc());
     let mut reader = Long {
         lines: 20_000,
         began: false,
