@@ -214,16 +214,19 @@ impl Progress {
         ensures { (taken written : List ℕ) → Stands taken written self → Closes taken written result }
     {
         let number = self.number();
+        if !self.line.is_empty() {
+            return Err(ReplayFault::BadTrace(number));
+        }
         let Progress {
             alloc: _,
             domain,
             steps,
-            line,
+            line: _,
             replies: _,
         } = self;
         match domain {
-            Some(domain) if line.is_empty() => Ok((domain, steps)),
-            _ => Err(ReplayFault::BadTrace(number)),
+            Some(domain) => Ok((domain, steps)),
+            None => Err(ReplayFault::BadTrace(number)),
         }
     }
 }
