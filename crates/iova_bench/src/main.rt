@@ -1,0 +1,31 @@
+//! Benchmarks. With no word it prints the names of its cases; with names it runs these and prints a line for each size:
+//! the name, how many ranges are live, how many operations were run, and how many nanoseconds one took, the best of three.
+#![tactic(auto)]
+
+mod random;
+mod tree;
+
+use std::env;
+use std::process::ExitCode;
+use std::rt::Runtime;
+
+fn main(rt: HostRuntime) -> ExitCode {
+    match run(&rt) {
+        Ok(()) => ExitCode::SUCCESS,
+        Err(_) => ExitCode::FAILURE,
+    }
+}
+
+fn run(rt: &HostRuntime) -> anyhow::Result<()> {
+    let alloc = rt.alloc();
+    let words: Vec<String> = env::args(rt)?.collect(alloc)?;
+    for case in tree::CASES {
+        if words.len() <= 1 {
+            println!(rt; "{case}")?;
+        }
+    }
+    for word in words.iter().skip(1) {
+        tree::run(rt, alloc, word.as_str())?;
+    }
+    Ok(())
+}
