@@ -7,6 +7,7 @@ pub mod Drains
 pub mod Given
 pub mod Holdings
 pub mod Outcomes
+pub mod Promises
 pub mod Queues
 pub mod Readers
 pub mod Reductions

@@ -5,7 +5,7 @@ ghost use Rattle.iova_model.specs.Clients.{Client, client_with, begins_at, total
 ghost use Rattle.iova_range.specs.Frames.{covers};
 ghost use Rattle.iova_model.specs.State.{new_domain, counts, ring_holders, place_in};
 ghost use Rattle.iova_model.specs.Valid.{IsValid};
-ghost use Rattle.iova_model.specs.Transcript.{IsRun};
+ghost use Rattle.iova_core.specs.Promises.{Runs};
 ghost use Rattle.iova_model.specs.Next.{next, reserve, open_client, alloc, unmap, unmap_held, begin, end, drain, close, close_one};
 ghost use Rattle.iova_core.specs.Domain.{place_inside, frames_in_rings};
 
@@ -479,10 +479,17 @@ impl Domain {
 
 /// Runs the steps in order and appends their replies. Room for each reply is taken before its step, so that where that is
 /// refused, by `NoMemory`, the replies so far and the state that they leave stand.
+///
+/// The contract is the headline of the product. After every list of steps, whatever they are and wherever memory is
+/// refused: each frame is in exactly one place; the totals are the sums of all workers' shares; no frame was lost or made;
+/// a frame that was unmapped has left the rings, and is given again, only where a flush that began after its unmap has
+/// ended well; and clients that close give up their holdings lowest first.
 pub fn run(domain: &mut Domain, steps: &[Step], replies: &mut Vec<Reply>) -> Result<(), Refusal>
-    ensures ok { OnOk result (IsRun domain.old domain.new steps.now replies.old.items replies.new.items) }
-    ensures err { OnErr result ((result ≡ Err Refusal.NoMemory) × ((n : ℕ) × IsRun domain.old domain.new (take n steps.now) replies.old.items replies.new.items)) }
+    ensures ok { OnOk result (Runs domain.old domain.new steps.now replies.old.items replies.new.items) }
+    ensures err { OnErr result ((result ≡ Err Refusal.NoMemory) × ((n : ℕ) × Runs domain.old domain.new (take n steps.now) replies.old.items replies.new.items)) }
 {
+    // says that the state is valid
+    let _workers = domain.workers();
     for step in steps {
         let Ok(()) = replies.reserve(1) else {
             return Err(Refusal::NoMemory);
