@@ -1,7 +1,7 @@
 //! What goes back to a domain's tree and caches. The tree has all that is cached: a range that goes to a magazine stays in
 //! it, and is removed where it becomes free.
 
-ghost use Rattle.std.specs.Prelude.{◌≡◌, ◌≤◌, ◌<◌, ◌^◌, [], ◌∷◌, length, map};
+ghost use Rattle.std.specs.Prelude.{◌≡◌, ◌≤◌, ◌<◌, ◌^◌, [], ◌∷◌, length, map, Some};
 ghost use Rattle.iova_range.specs.Sizes.{order_of};
 ghost use Rattle.iova_model.specs.Caches.{of_order, put_range, put_all, emptied};
 ghost use Rattle.iova_model.specs.Flushes.{entry_range, flushed, unflushed};
@@ -58,6 +58,21 @@ fn put_back(tree: &mut Tree, caches: &mut Caches, w: usize, range: Range)
     let Some(order) = order_of(range.len()) else {
         return free(tree, range);
     };
+    if !caches.try_put(w, order, range.lo()) {
+        put_full(tree, caches, w, order, range);
+    }
+}
+
+/// Puts a range of this order back, 0 to 5, where a full magazine has to go to the depot first.
+#[cold]
+fn put_full(tree: &mut Tree, caches: &mut Caches, w: usize, order: u8, range: Range)
+    requires worker { w < caches.old.workers }
+    requires order { order < ORDERS }
+    requires length { order_of range.len ≡ Some order }
+    requires stock { IsStock tree.old caches.old (range ∷ []) }
+    ensures caches { caches.new ≡ record caches.old { caches = put_range caches.old.profile caches.old.caches w range (order_of range.len) } }
+    ensures stock { Exchanges tree.old tree.new caches.old caches.new [] (range ∷ []) }
+{
     if let Some(magazine) = caches.put(w, order, range.lo()) {
         free_magazine(tree, &magazine, order);
     }

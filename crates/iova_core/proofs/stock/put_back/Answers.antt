@@ -1,44 +1,24 @@
-use Rattle.std.proofs.Common.{◌≡◌, ◌≤◌, ◌<◌, [], ◌∷◌, List, Some, None, refl, ap, sym, ◌∙◌, arith}
-use Rattle.iova_range.specs.Frames.{Frames}
+use Rattle.std.proofs.Common.{◌≡◌, ◌≤◌, ◌<◌, [], ◌∷◌, List, Some, refl, ap, sym, ◌∙◌, arith}
 use Rattle.iova_range.specs.Sizes.{order_of}
-use Rattle.iova_model.specs.Caches.{of_order, shelf_at, with_shelf, sent_out, put, put_range, freed_by_put}
-use Rattle.iova_depot.specs.Cached.{Cached}
-use Rattle.iova_mag.specs.Magazines.{Magazine}
-use Rattle.iova_core.proofs.Stocks.{has_low, has_sent, exchanges_put, frees_none, stock_has}
+use Rattle.iova_model.specs.Caches.{of_order, put_range, freed_by_put}
+use Rattle.iova_core.proofs.Stocks.{has_inside, has_low, exchanges_put, frees_none, stock_has}
 use Rattle.iova_core.proofs.stock.put_back.Goals as goal
 
-pub put-requires-clause-small : goal.put-requires-clause-small
-put-requires-clause-small c =
-    rw c.lo.ensures (let low = has_low c.args.tree.now c.args.range c.requires.stock.space (stock_has _ _ _ c.requires.stock) in omega (arith, low, c.len.ensures.some, c.len.ensures.is))
+pub try_put-requires-clause-small : goal.try_put-requires-clause-small
+try_put-requires-clause-small c =
+    let has = stock_has _ _ _ c.requires.stock in
+    let low = has_low c.args.tree.now c.args.range c.requires.stock.space has in
+    let inside = has_inside c.args.tree.now c.args.range c.requires.stock.space has in
+    rw c.lo.ensures (omega (arith, low, inside.some))
 
-pub free_magazine-requires-clause-held : goal.free_magazine-requires-clause-held
-free_magazine-requires-clause-held c =
+pub returns-else-not-try_put-clause-stock : goal.returns-else-not-try_put-clause-stock
+returns-else-not-try_put-clause-stock c =
     let old = c.args.caches.now in
     let r = c.args.range in
     let o = c.in-Some.order in
     let order : order_of r.len ≡ Some o = ap order_of (sym c.len.ensures.is) ∙ (sym c.order_of.ensures.computed ∙ c.in-Some.is) in
-    let sent : of_order o c.in-Some-put.magazine.entries ≡ freed_by_put old.profile old.caches c.args.w r (order_of r.len) =
-    ap (λ (m : Magazine). of_order o m.entries) c.in-Some-put.ensures.sent ∙ sym (ap (freed_by_put old.profile old.caches c.args.w r) order) in
-    has_sent c.args.tree.now old c.args.w r _ c.requires.stock c.requires.worker sent
-
-pub returns-in-Some-put-clause-stock : goal.returns-in-Some-put-clause-stock
-returns-in-Some-put-clause-stock c =
-    let old = c.args.caches.now in
-    let r = c.args.range in
-    let o = c.in-Some.order in
-    let order : order_of r.len ≡ Some o = ap order_of (sym c.len.ensures.is) ∙ (sym c.order_of.ensures.computed ∙ c.in-Some.is) in
-    let sent : of_order o c.in-Some-put.magazine.entries ≡ freed_by_put old.profile old.caches c.args.w r (order_of r.len) =
-    ap (λ (m : Magazine). of_order o m.entries) c.in-Some-put.ensures.sent ∙ sym (ap (freed_by_put old.profile old.caches c.args.w r) order) in
-    let now : c.put.new.self ≡ record old { caches = put_range old.profile old.caches c.args.w r (order_of r.len) } = rw order (rw c.lo.ensures at c.put.ensures.left) in
-    exchanges_put c.args.tree.now c.free_magazine.new.tree old c.put.new.self c.args.w r _ c.requires.stock c.requires.worker sent now c.put.ensures.sound c.free_magazine.ensures
-
-pub returns-in_default-put-clause-stock : goal.returns-in_default-put-clause-stock
-returns-in_default-put-clause-stock c =
-    let old = c.args.caches.now in
-    let r = c.args.range in
-    let o = c.in-Some.order in
-    let order : order_of r.len ≡ Some o = ap order_of (sym c.len.ensures.is) ∙ (sym c.order_of.ensures.computed ∙ c.in-Some.is) in
+    let done = c.if-not-try_put.ensures in
     let sent : [] ≡ freed_by_put old.profile old.caches c.args.w r (order_of r.len) =
-    ap (of_order o) (sym c.in_default-put.ensures.none) ∙ sym (ap (freed_by_put old.profile old.caches c.args.w r) order) in
-    let now : c.put.new.self ≡ record old { caches = put_range old.profile old.caches c.args.w r (order_of r.len) } = rw order (rw c.lo.ensures at c.put.ensures.left) in
-    exchanges_put c.args.tree.now c.args.tree.now old c.put.new.self c.args.w r [] c.requires.stock c.requires.worker sent now c.put.ensures.sound (frees_none c.args.tree.now c.requires.stock.space)
+    ap (of_order o) (sym done.none) ∙ sym (ap (freed_by_put old.profile old.caches c.args.w r) order) in
+    let now : c.try_put.new.self ≡ record old { caches = put_range old.profile old.caches c.args.w r (order_of r.len) } = rw order (rw c.lo.ensures at done.done) in
+    exchanges_put c.args.tree.now c.args.tree.now old c.try_put.new.self c.args.w r [] c.requires.stock c.requires.worker sent now c.try_put.ensures.sound (frees_none c.args.tree.now c.requires.stock.space)
