@@ -2,6 +2,7 @@
 //! the name, how many ranges are live, how many operations were run, and how many nanoseconds one took, the best of three.
 #![tactic(auto)]
 
+mod machine;
 mod random;
 mod tree;
 
@@ -19,12 +20,16 @@ fn main(rt: HostRuntime) -> ExitCode {
 fn run(rt: &HostRuntime) -> anyhow::Result<()> {
     let alloc = rt.alloc();
     let words: Vec<String> = env::args(rt)?.collect(alloc)?;
-    for case in tree::CASES {
-        if words.len() <= 1 {
+    if words.len() <= 1 {
+        for case in machine::CASES {
+            println!(rt; "{case}")?;
+        }
+        for case in tree::CASES {
             println!(rt; "{case}")?;
         }
     }
     for word in words.iter().skip(1) {
+        machine::run(rt, alloc, word.as_str())?;
         tree::run(rt, alloc, word.as_str())?;
     }
     Ok(())
