@@ -1,14 +1,94 @@
+//! What domains answer to lists of steps.
+ghost use Rattle.std.specs.Prelude.{◌≤◌, ◌<◌, ◌+◌, ◌^◌};
+
 use super::*;
-use iova_range::range::Range;
+use iova_range::profile::Profile;
 use std::process::Abort;
 use std::test::Fail;
 
-// Runs a step. Where memory is refused, nothing has changed, and the same step then succeeds.
-fn step(domain: &mut Domain, step: Step) -> Reply {
-    match domain.step_at(step) {
-        (Reply::Refused(Refusal::NoMemory), _) => domain.step(step),
-        (reply, _) => reply,
+// A domain. Where memory is refused once, the same call then succeeds.
+fn domain_in(alloc: Global, bounds: Bounds, workers: u64) -> Result<Domain, Refusal> {
+    match Domain::new(alloc, bounds, workers) {
+        Err(Refusal::NoMemory) => Domain::new(alloc, bounds, workers),
+        answer => answer,
     }
+}
+
+// A domain of the first profile, from frame 1 on.
+fn domain(alloc: Global, last: u64, workers: u64) -> Result<Domain, Refusal> {
+    domain_in(alloc, Bounds::new(1, last)?, workers)
+}
+
+// Runs a step. Where memory is refused, nobody has anything new, and the same step then succeeds.
+fn step(rt: &impl Abort, domain: &mut Domain, asked: Step) -> Reply {
+    let old = (domain.totals(), domain.clients(), domain.windows().len());
+    let (reply, point) = domain.step_at(asked);
+    if reply != Reply::Refused(Refusal::NoMemory) {
+        assert_eq!(rt; point, Point::Never);
+        return reply;
+    }
+    assert_ne!(rt; point, Point::Never);
+    let new = (domain.totals(), domain.clients(), domain.windows().len());
+    assert_eq!(rt; new, old);
+    domain.step(asked)
+}
+
+// Runs the steps, each of which is answered what stands beside it.
+fn answers(rt: &impl Abort, domain: &mut Domain, rows: &[(Step, Reply)]) {
+    for (asked, want) in rows {
+        assert_eq!(rt; step(rt, domain, *asked), *want, "{asked:?}");
+    }
+}
+
+// Gives client 1 of worker 0 single frames, `count` of them from `highest` down.
+fn hold(rt: &impl Abort, domain: &mut Domain, highest: u64, count: u64)
+    requires some { count ≤ highest }
+    requires small { highest < 2 ^ 40 }
+{
+    for n in 0..count {
+        let reply = step(rt, domain, alloc(0, 1, 1, highest));
+        assert_eq!(rt; reply, given(highest - n, 1));
+    }
+}
+
+// Unmaps single frames of client 1 of worker 0, `count` of them from `highest` down.
+fn unmap_all(rt: &impl Abort, domain: &mut Domain, highest: u64, count: u64)
+    requires some { count ≤ highest }
+    requires small { highest < 2 ^ 40 }
+{
+    for n in 0..count {
+        let reply = step(rt, domain, unmap(0, 1, highest - n));
+        assert_eq!(rt; reply, queued(highest - n, 1));
+    }
+}
+
+// The counts, which add up to the length of the bounds.
+fn counts(rt: &impl Abort, domain: &Domain) -> Counts {
+    let counts = domain.counts();
+    let bounds = domain.bounds();
+    let sum = counts
+        .free
+        .saturating_add(counts.reserved)
+        .saturating_add(counts.client)
+        .saturating_add(counts.magazine)
+        .saturating_add(counts.depot)
+        .saturating_add(counts.ring);
+    assert_eq!(rt; sum, bounds.last() - bounds.start() + 1);
+    counts
+}
+
+// Begun, finished, owed and in flight.
+fn flushes(domain: &Domain) -> (u64, u64, u64, usize) {
+    (
+        domain.start(),
+        domain.finish(),
+        domain.owed(),
+        domain.in_flight(),
+    )
+}
+
+fn reserve(lo: u64, hi: u64) -> Step {
+    Step::Reserve { lo, hi }
 }
 
 fn open(worker: u64, sac: bool) -> Step {
@@ -24,107 +104,53 @@ fn alloc(worker: u64, client: ClientId, frames: u64, limit: u64) -> Step {
     }
 }
 
-#[test]
-fn highest_aligned_fit(rt: HostRuntime) -> Result<(), Fail> {
-    let mut domain = Domain::new(rt.alloc(), Bounds::new(1, 1023)?, 1)?;
-    assert_eq!(rt; step(&mut domain, open(0, false)), Reply::Opened(1));
-    for (frames, limit, want) in [
-        (1, 1023, Range::new(1023, 1)),
-        (3, 1023, Range::new(1016, 4)),
-        (33, 1023, Range::new(960, 33)),
-        (1, 15, Range::new(15, 1)),
-    ] {
-        let reply = step(&mut domain, alloc(0, 1, frames, limit));
-        assert_eq!(rt; reply, Reply::Given(want));
-    }
-    Ok(())
+fn unmap(worker: u64, client: ClientId, lo: u64) -> Step {
+    Step::Unmap { worker, client, lo }
 }
 
-#[test]
-fn frame_zero_is_out(rt: HostRuntime) -> Result<(), Fail> {
-    let mut domain = Domain::new(rt.alloc(), Bounds::new(1, 1023)?, 1)?;
-    assert_eq!(rt; step(&mut domain, open(0, false)), Reply::Opened(1));
-    let reply = step(&mut domain, alloc(0, 1, 1023, 1023));
-    assert_eq!(rt;
-        reply,
-        Reply::Refused(Refusal::NoSpace),
-        "aligned to 1,024 frames"
-    );
-    Ok(())
+fn end(no: u64, ok: bool) -> Step {
+    Step::End { no, ok }
 }
 
-#[test]
-fn aligned_to_its_size(rt: HostRuntime) -> Result<(), Fail> {
-    let mut domain = Domain::new(rt.alloc(), Bounds::new(1, 2047)?, 1)?;
-    assert_eq!(rt; step(&mut domain, open(0, false)), Reply::Opened(1));
-    let reply = step(&mut domain, alloc(0, 1, 1024, 2047));
-    assert_eq!(rt; reply, Reply::Given(Range::new(1024, 1024)));
-    Ok(())
+fn drain(ring: u64, by: u64) -> Step {
+    Step::Drain { ring, by }
 }
 
-#[test]
-fn requests_are_refused_in_order(rt: HostRuntime) -> Result<(), Fail> {
-    let mut domain = Domain::new(rt.alloc(), Bounds::new(1, 1023)?, 1)?;
-    assert_eq!(rt; step(&mut domain, open(0, false)), Reply::Opened(1));
-    for (asked, refusal) in [
-        (alloc(0, 1, 0, 5), Refusal::Zero),
-        (alloc(0, 1, 1_048_577, 5), Refusal::TooBig),
-        (alloc(0, 2, 1, 5), Refusal::NoClient),
-        (alloc(1, 1, 0, 5), Refusal::NoWorker),
-        (alloc(0, 2, 0, 5), Refusal::Zero),
-        (alloc(0, 2, 1_048_577, 5), Refusal::TooBig),
-        (alloc(0, 1, 1, 0), Refusal::NoSpace),
-        (open(1, true), Refusal::NoWorker),
-    ] {
-        assert_eq!(rt; step(&mut domain, asked), Reply::Refused(refusal));
-    }
-    assert_eq!(rt;
-        step(&mut domain, open(0, false)),
-        Reply::Opened(2),
-        "refusals change nothing"
-    );
-    Ok(())
+fn close(worker: u64, client: ClientId) -> Step {
+    Step::Close { worker, client }
 }
 
-#[test]
-fn below_4_gib_first_for_a_sac_client(rt: HostRuntime) -> Result<(), Fail> {
-    let mut domain = Domain::new(rt.alloc(), Bounds::new(1, 1_048_675)?, 2)?;
-    assert_eq!(rt; step(&mut domain, open(0, true)), Reply::Opened(1));
-    assert_eq!(rt; step(&mut domain, open(1, false)), Reply::Opened(2));
-    let low = step(&mut domain, alloc(0, 1, 1, 1_048_675));
-    assert_eq!(rt; low, Reply::Given(Range::new(1_048_575, 1)));
-    let high = step(&mut domain, alloc(1, 2, 1, 1_048_675));
-    assert_eq!(rt; high, Reply::Given(Range::new(1_048_675, 1)));
-    let other = step(&mut domain, alloc(0, 2, 1, 1_048_675));
-    assert_eq!(rt;
-        other,
-        Reply::Refused(Refusal::NoClient),
-        "of another worker"
-    );
-    Ok(())
+fn close_one(worker: u64, client: ClientId) -> Step {
+    Step::CloseOne { worker, client }
 }
 
-#[test]
-fn one_to_sixteen_workers(rt: HostRuntime) -> Result<(), Fail> {
-    let bounds = Bounds::new(1, 1023)?;
-    for workers in [0, 17, u64::MAX] {
-        let refusal = Domain::new(rt.alloc(), bounds, workers).err();
-        assert_eq!(rt; refusal, Some(Refusal::NoWorker));
-    }
-    let domain = Domain::new(rt.alloc(), bounds, 16)?;
-    assert_eq!(rt; (domain.workers(), domain.bounds()), (16, bounds));
-    Ok(())
+fn reserved(lo: u64, len: u64) -> Reply
+    requires some { 1 ≤ len }
+    requires fits { lo + len ≤ 2 ^ 64 }
+{
+    Reply::Reserved(Range::new(lo, len))
 }
 
-#[test]
-fn runs_of_steps(rt: HostRuntime) -> Result<(), Fail> {
-    let mut domain = Domain::new(rt.alloc(), Bounds::new(1, 1023)?, 1)?;
-    let mut replies = Vec::new(rt.alloc());
-    run(&mut domain, &[], &mut replies)?;
-    assert!(rt; replies.is_empty(), "no step, no reply");
-    let steps = [open(0, false), alloc(0, 1, 3, 1023)];
-    run(&mut domain, &steps, &mut replies)?;
-    let want = [Reply::Opened(1), Reply::Given(Range::new(1020, 4))];
-    assert_eq!(rt; replies.as_slice(), want.as_slice());
-    Ok(())
+fn given(lo: u64, len: u64) -> Reply
+    requires some { 1 ≤ len }
+    requires fits { lo + len ≤ 2 ^ 64 }
+{
+    Reply::Given(Range::new(lo, len))
 }
+
+fn queued(lo: u64, len: u64) -> Reply
+    requires some { 1 ≤ len }
+    requires fits { lo + len ≤ 2 ^ 64 }
+{
+    Reply::Queued(Range::new(lo, len))
+}
+
+fn no(refusal: Refusal) -> Reply {
+    Reply::Refused(refusal)
+}
+
+mod flushing;
+mod ledgers;
+mod memory;
+mod readers;
+mod requests;
