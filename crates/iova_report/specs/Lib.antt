@@ -1,0 +1,2 @@
+pub use Rattle.iova_model.specs.State
+pub mod Report
