@@ -17,7 +17,7 @@ padded_left places text = replicate (places - length text) 32 ++ text
 abbrev pub name_text : List ℕ → List ℕ
 name_text name = padded_right 10 name
 
-abbrev pub number_text : ℕ → List ℕ
+unfoldable pub number_text : ℕ → List ℕ
 number_text n = padded_left 20 (decimal n)
 
 -- a name, its number, and LF

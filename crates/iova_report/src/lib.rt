@@ -1,7 +1,7 @@
 //! The report of a domain: what it holds, as text.
 #![tactic(auto)]
 
-ghost use Rattle.std.specs.Prelude.{◌≡◌, ◌+◌, ◌*◌, ◌<◌, ◌≤◌, [], ◌∷◌, ◌++◌, length, replicate, OnOk, OnErr, vec_len, vec_capacity};
+ghost use Rattle.std.specs.Prelude.{◌≡◌, ◌+◌, ◌*◌, ◌<◌, ◌≤◌, ◌++◌, length, OnOk, OnErr, vec_len, vec_capacity};
 ghost use Rattle.std.specs.List.{flat_map};
 ghost use Rattle.iova_report.specs.Report.{name_text, number_text, field_text, counts_text, window_text, report_text};
 
@@ -14,19 +14,24 @@ use iova_range::range::Range;
 use iova_range::refusal::Refusal;
 use itoa::Buffer;
 
+/// How many places a name has.
+const NAME: usize = 10;
+
+/// How many places a number has, enough for each of 64 bits.
+const NUMBER: usize = 20;
+
 /// The bytes of a line with one number, with its LF.
-const FIELD: usize = 31;
+const FIELD: usize = NAME + NUMBER + 1;
 
 /// The bytes of a window's line, with its LF.
-const WINDOW: usize = 51;
+const WINDOW: usize = NAME + 2 * NUMBER + 1;
 
-const SPACES: [u8; 20] = [b' '; 20];
+const SPACES: [u8; NUMBER] = [b' '; NUMBER];
 
-/// Appends what the domain holds, as text: a line for each of twelve numbers (the frames at each kind of place, the clients,
-/// their holdings, the start and the finish count, what is owed, the flushes in flight), with the name left in 10 places
-/// and the number right in 20; then a line for each window, rising, with its first and its last frame, each right in 20
-/// places. Room for all of it is taken first. Refused by `NoMemory`, which appends nothing and comes only where `out` has
-/// to grow. Our own form.
+/// Appends the domain's report: twelve lines of a name and a number (the frames at each kind of place, the clients, their
+/// holdings, and the start count, the finish count, what is owed and the flights of the flushes), then a line for each
+/// window, rising, with its first and its last frame. Names are left in 10 places, numbers right in 20. Refused by
+/// `NoMemory`, which appends nothing and comes only where `out` has to grow. Our own form.
 pub fn report(domain: &Domain, out: &mut Vec<u8>) -> Result<(), Refusal>
     ensures ok { OnOk result (out.new.items ≡ out.old.items ++ report_text domain.now) }
     ensures err { OnErr result ((result ≡ Err Refusal.NoMemory) × (out.new.items ≡ out.old.items)) }
@@ -48,6 +53,8 @@ pub fn report(domain: &Domain, out: &mut Vec<u8>) -> Result<(), Refusal>
     put_windows(out, windows);
     Ok(())
 }
+
+// Each of these appends to `out`, which has room for it.
 
 fn put_counts(out: &mut Vec<u8>, counts: Counts)
     requires { vec_len out.old + 6 * FIELD ≤ vec_capacity out.old }
@@ -85,7 +92,7 @@ fn put_window(out: &mut Vec<u8>, window: Range)
 }
 
 fn put_field(out: &mut Vec<u8>, name: &[u8], number: u64)
-    requires name { length name.now ≤ 10 }
+    requires name { length name.now ≤ NAME }
     requires fits { vec_len out.old + FIELD ≤ vec_capacity out.old }
     ensures items { out.new.items ≡ out.old.items ++ field_text name.now number }
     ensures len { vec_len out.new ≡ vec_len out.old + FIELD }
@@ -97,29 +104,28 @@ fn put_field(out: &mut Vec<u8>, name: &[u8], number: u64)
 }
 
 fn put_name(out: &mut Vec<u8>, name: &[u8])
-    requires name { length name.now ≤ 10 }
-    requires fits { vec_len out.old + 10 ≤ vec_capacity out.old }
+    requires name { length name.now ≤ NAME }
+    requires fits { vec_len out.old + NAME ≤ vec_capacity out.old }
     ensures items { out.new.items ≡ out.old.items ++ name_text name.now }
-    ensures len { vec_len out.new ≡ vec_len out.old + 10 }
+    ensures len { vec_len out.new ≡ vec_len out.old + NAME }
     ensures room { vec_capacity out.old ≤ vec_capacity out.new }
 {
     put(out, name);
-    put(out, &SPACES[..10 - name.len()]);
+    put(out, &SPACES[..NAME - name.len()]);
 }
 
 fn put_number(out: &mut Vec<u8>, number: u64)
-    requires { vec_len out.old + 20 ≤ vec_capacity out.old }
+    requires { vec_len out.old + NUMBER ≤ vec_capacity out.old }
     ensures items { out.new.items ≡ out.old.items ++ number_text number }
-    ensures len { vec_len out.new ≡ vec_len out.old + 20 }
+    ensures len { vec_len out.new ≡ vec_len out.old + NUMBER }
     ensures room { vec_capacity out.old ≤ vec_capacity out.new }
 {
     let mut buffer = Buffer::new();
     let digits = buffer.format(number).as_bytes();
-    put(out, &SPACES[..20 - digits.len()]);
+    put(out, &SPACES[..NUMBER - digits.len()]);
     put(out, digits);
 }
 
-/// Appends the bytes, for which there is room.
 fn put(out: &mut Vec<u8>, bytes: &[u8])
     requires { vec_len out.old + length bytes.now ≤ vec_capacity out.old }
     ensures items { out.new.items ≡ out.old.items ++ bytes.now }
