@@ -38,7 +38,7 @@ counts_text c =
 abbrev pub window_text : Frames → List ℕ
 window_text r = name_text (codes "window") ++ number_text r.lo ++ number_text (r.lo + r.len - 1) ++ 10 ∷ []
 
-abbrev pub report_text : State → List ℕ
+unfoldable pub report_text : State → List ℕ
 report_text s =
     counts_text (counts s)
     ++ field_text (codes "clients") (length s.clients)
