@@ -15,4 +15,5 @@ length-windows [] = omega arith
 length-windows (w ∷ ws) = simp length-append (omega (arith, length-number_text, length-windows ws))
 
 pub length-report_text : (s : State) → 12 * 31 + length s.windows * 51 ≤ length (report_text s)
+unfolding report_text
 length-report_text s = simp length-append (omega (arith, length-number_text, length-windows s.windows))

@@ -1,2 +1,1 @@
-pub use Rattle.iova_model.specs.State
 pub mod Report
