@@ -13,15 +13,16 @@ use Rattle.iova_model.specs.declared.entry.Entry.{Entry}
 use Rattle.iova_model.specs.Fit.{is_covered}
 use Rattle.iova_model.specs.Flushes.{Flushes, entry_range, flushes_from}
 use Rattle.iova_model.specs.Clients.{Client, totals}
-use Rattle.iova_model.specs.State.{State, new_domain, counts, magazine_holders, depot_holders, Holder, at_place, window_holders, client_holders, cached_holders, ring_holders, owners, holders, place_in, place_of}
+use Rattle.iova_model.specs.State.{State, new_domain, counts, magazine_holders, depot_holders, Holder, at_place, window_holders, client_holders, cached_holders, ring_holders, owners, holders, place_in, place_of, held_ranges}
 use Rattle.iova_model.specs.Valid.{IsValid}
 use Rattle.iova_model.specs.Laws.{frames_of, PlacesAddUp}
 use Rattle.iova_model.specs.declared.place.Counts.{Counts}
-use Rattle.iova_tree.specs.Space.{Space}
+use Rattle.iova_tree.specs.Space.{Space, ranges_of}
 use Rattle.iova_flush.specs.Rings.{frame_count}
 use Rattle.iova_clients.specs.Registry.{Registry, empty_registry}
 use Rattle.iova_depot.specs.Cached.{Cached, new_cached}
 use Rattle.iova_core.specs.Domain.{Parts, state_of, IsDomain, place_inside, frames_in_rings}
+use Rattle.iova_core.proofs.Covered.{covered_alike}
 
 -- the parts of a domain
 abbrev pub parts_of : Space → Registry → Cached → List (List Entry) → Flushes → ℕ → Parts
@@ -160,6 +161,21 @@ module _ (s : State) (frame : ℕ) where
   pub place_ringed : is_covered frame s.windows ≡ false → None ≡ option_map (λ c. c.id) client_in → placed_in frame (cached_holders s.caches) ≡ None → place_of s frame ≡ place_in (holder_in frame (ring_holders 0 s.rings))
   place_ringed none lost missed =
       ap place_in (beside_clients none lost ∙ placed_later frame (cached_holders s.caches) (ring_holders 0 s.rings) missed)
+
+-- A frame that the tree has not.
+
+no_holder : (frame : ℕ) (hs : List Holder) → is_covered frame (map (λ h. h.range) hs) ≡ false → holder_in frame hs ≡ None
+no_holder frame [] none = refl
+no_holder frame (h ∷ hs) none = holder_step (no_holder frame hs) (covers frame h.range) refl
+  where
+    holder_step : (is_covered frame (map (λ x. x.range) hs) ≡ false → holder_in frame hs ≡ None) → (b : Bool) → covers frame h.range ≡ b → holder_in frame (h ∷ hs) ≡ None
+    holder_step more true is = let e = rw is at none in absurd cc
+    holder_step more false is = let e = rw is at none in rw is (more e)
+
+pub place_free : (p : Parts) (frame : ℕ) → IsDomain p → is_covered frame (ranges_of p.tree) ≡ false → place_of (state_of p) frame ≡ place.Free
+place_free p frame h none =
+    let s = state_of p in
+    ap place_in (no_holder frame (holders s) (sym (covered_alike (ranges_of p.tree) (held_ranges s) h.tied frame) ∙ none))
 
 -- the frame is inside the bounds
 pub record IsInBounds (frame : ℕ) (b : Extent) : Type 0 where

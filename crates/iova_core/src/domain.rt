@@ -326,13 +326,17 @@ impl Domain {
         }
     }
 
-    /// Where the frame is, or None where it isn't inside the bounds. It looks through all holders.
+    /// Where the frame is, or None where it isn't inside the bounds. The tree says whether it is free; only for a frame that
+    /// somebody has are the holders looked through.
     pub fn place(&self, frame: u64) -> Option<Place>
         ensures { result ≡ place_inside self.now frame }
     {
         let bounds = self.tree.bounds();
         if frame < bounds.start() || frame > bounds.last() {
             return None;
+        }
+        if self.tree.is_free(frame) {
+            return Some(Place::Free);
         }
         if has_frame(self.tree.windows(), frame) {
             return Some(Place::Reserved);
