@@ -223,6 +223,7 @@ impl Domain {
 
     /// Takes the client's holding that begins at `lo` and puts it into the worker's ring, which is drained first. Where
     /// the ring is full all the same, nothing has changed. `NotHeld`, `RingFull`.
+    #[inline(always)]
     fn queue(&mut self, worker: u64, client: ClientId, lo: u64) -> (Reply, Point)
         requires { worker < self.old.workers }
         ensures reply { (c : Client) → client_with client self.old.clients ≡ Some c → result.0 ≡ (unmap_held (find (begins_at lo) c.holdings) self.old worker client).reply }
