@@ -1,1 +1,1 @@
-pub mod Lengths
+mod Lengths
