@@ -1,5 +1,5 @@
 -- A request, from what its calls say to what the definitions say.
-use Rattle.std.proofs.Common.{ℕ, ◌≡◌, ◌≢◌, ◌+◌, ◌^◌, ◌==◌, ◌<◌, ◌≤◌, ◌⊎◌, inl, inr, Bool, true, false, cond, List, [], ◌∷◌, Option, Some, None, refl, sym, ap, ◌∙◌, subst, arith, length, find, sum_by}
+use Rattle.std.proofs.Common.{ℕ, ◌≡◌, ◌≢◌, ◌+◌, ◌^◌, ◌==◌, ◌<◌, ◌≤◌, Bool, true, false, cond, List, [], ◌∷◌, Some, None, refl, sym, ap, ◌∙◌, subst, arith, length, find, sum_by}
 use Rattle.std.specs.Prelude.{nat_le, nat_lt, option_map, IsSomeAnd}
 use Rattle.std.proofs.lemmas.Bool.Decides.{nat_tests}
 use Rattle.iova_range.specs.Frames.{Frames}
@@ -7,25 +7,21 @@ use Rattle.iova_range.specs.Bounds.{Extent}
 use Rattle.iova_range.specs.Sizes.{need}
 use Rattle.iova_range.specs.declared.refusal.Refusal.TheVariants as refusal
 use Rattle.iova_model.specs.declared.step.Step.TheVariants as step
-use Rattle.iova_model.specs.declared.step.Reply.TheVariants as reply
 use Rattle.iova_model.specs.declared.step.Point.{Point}
 use Rattle.iova_model.specs.declared.step.Point.TheVariants as point
-use Rattle.iova_model.specs.Caches.{Caches}
 use Rattle.iova_model.specs.Clients.{Client, client_with, client_of, changed, with_holding, begins_at}
-use Rattle.iova_model.specs.Laws.{cached_ranges, StepsKeepValidity}
+use Rattle.iova_model.specs.Laws.{StepsKeepValidity}
 use Rattle.iova_model.specs.State.{State}
 use Rattle.iova_model.specs.Valid.{IsValid}
 use Rattle.iova_model.specs.Next as next
-use Rattle.iova_tree.specs.Space.{Space, IsSpace, RiseApart, ranges_of}
+use Rattle.iova_tree.specs.Space.{Space, RiseApart}
 use Rattle.iova_clients.specs.Registry.{Registry, room_refusal, CanBeGiven}
 use Rattle.iova_depot.specs.Cached.{Cached}
 use Rattle.iova_core.specs.declared.walk.Found.{Found}
-use Rattle.iova_core.specs.declared.walk.Found.TheVariants as found
-use Rattle.iova_core.specs.Stock.{HasAll, Exchanges}
-use Rattle.iova_core.specs.Tied.{IsTied}
+use Rattle.iova_core.specs.Stock.{Exchanges}
 use Rattle.iova_core.specs.Domain.{Parts, state_of, IsDomain}
-use Rattle.iova_core.specs.Walk.{Stands, Comes, point_of, placed, found_as, IsPlacedOf}
-use Rattle.iova_core.proofs.Outcomes.{IsOwned, owner_is}
+use Rattle.iova_core.specs.Walk.{Stands, Comes, point_of, placed, found_as}
+use Rattle.iova_core.proofs.Outcomes.{owner_is}
 use Rattle.iova_core.proofs.Queues.{inserted_load}
 use Rattle.iova_core.proofs.Reductions.{room_refusal_of, alloc_walks}
 use Rattle.iova_core.proofs.Stocks.{cached_sum, has_low}

@@ -1,13 +1,12 @@
 -- A client that closes.
-use Rattle.std.proofs.Common.{ℕ, ◌≡◌, ◌+◌, ◌<◌, ◌≤◌, ◌==◌, Bool, true, false, List, [], ◌∷◌, length, find, Option, Some, None, refl, sym, ap, ◌∙◌, subst, arith}
-use Rattle.std.specs.Prelude.{nat_le, slice_get, option_and_then, IsSomeAnd}
-use Rattle.std.proofs.lemmas.Bool.Decides.{nat_tests}
+use Rattle.std.proofs.Common.{ℕ, ◌≡◌, ◌==◌, Bool, true, false, List, [], ◌∷◌, find, Option, Some, None, refl, sym, ap, ◌∙◌, subst}
+use Rattle.std.specs.Prelude.{slice_get, option_and_then}
 use Rattle.iova_range.specs.Frames.{Frames}
 use Rattle.iova_model.specs.declared.step.Reply.TheVariants as reply
 use Rattle.iova_model.specs.Clients.{Client, client_with, client_of, begins_at, changed, forgotten, marked}
 use Rattle.iova_model.specs.State.{State}
-use Rattle.iova_model.specs.Next.{Next, no_worker, unless, worker_tests, close, close_of, close_one, close_one_of, close_lowest, queue, unmap_held, with_clients}
-use Rattle.iova_clients.specs.Registry.{lowest, IsDone}
+use Rattle.iova_model.specs.Next.{Next, no_worker, close, close_one, close_lowest, unmap_held, with_clients}
+use Rattle.iova_clients.specs.Registry.{lowest}
 use Rattle.iova_laws.proofs.Finds.{owned, changed_found, first_held}
 use Rattle.iova_laws.proofs.Kept.{with_marked}
 

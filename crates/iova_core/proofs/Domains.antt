@@ -1,6 +1,5 @@
 -- What a domain keeps, step by step.
-use Rattle.std.proofs.Common.{ℕ, zero, suc, ◌≡◌, ◌+◌, ◌<◌, ◌≤◌, ◌++◌, Bool, true, false, List, [], ◌∷◌, Option, Some, None, refl, sym, ap, ◌∙◌, subst, arith, replicate, sum_by, map}
-use Rattle.std.specs.Prelude.{nat_le}
+use Rattle.std.proofs.Common.{ℕ, zero, suc, ◌≡◌, ◌+◌, ◌<◌, ◌≤◌, ◌++◌, Bool, false, List, [], ◌∷◌, Some, None, refl, sym, ap, ◌∙◌, subst, arith, replicate, sum_by, map}
 use Rattle.std.proofs.lemmas.Bool.Decides.{nat_tests}
 use Rattle.iova_range.specs.Frames.{Frames}
 use Rattle.iova_range.specs.Bounds.{Extent, IsExtent}
@@ -8,9 +7,9 @@ use Rattle.iova_model.specs.declared.step.Step.{Step}
 use Rattle.iova_model.specs.declared.step.Step.TheVariants as step
 use Rattle.iova_model.specs.declared.step.Point.{Point}
 use Rattle.iova_model.specs.declared.step.Point.TheVariants as point
-use Rattle.iova_model.specs.Caches.{new_caches, emptied}
-use Rattle.iova_model.specs.Flushes.{Flushes, flushes_from}
-use Rattle.iova_model.specs.State.{State, new_domain}
+use Rattle.iova_model.specs.Caches.{new_caches}
+use Rattle.iova_model.specs.Flushes.{Flushes}
+use Rattle.iova_model.specs.State.{new_domain}
 use Rattle.iova_model.specs.Valid.{IsValid}
 use Rattle.iova_model.specs.Laws.{NewDomainsAreValid, StepsKeepValidity}
 use Rattle.iova_model.specs.Next.{Next, next, no_worker, opened, with_flushes, with_clients}

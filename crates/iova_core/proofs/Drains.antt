@@ -1,5 +1,5 @@
 -- A ring that is drained, entry by entry, and caches that are emptied.
-use Rattle.std.proofs.Common.{ℕ, ◌≡◌, ◌+◌, ◌^◌, ◌<◌, ◌≤◌, List, [], ◌∷◌, ◌++◌, length, Option, Some, None, refl, sym, ap, ◌∙◌, subst, arith, map, sum_by, append_assoc}
+use Rattle.std.proofs.Common.{ℕ, ◌≡◌, ◌+◌, ◌≤◌, List, [], ◌∷◌, ◌++◌, length, refl, sym, ap, ◌∙◌, arith, map, sum_by, append_assoc}
 use Rattle.std.proofs.lemmas.List.{append-nil, length-append, map-append}
 use Rattle.iova_range.specs.Frames.{Frames}
 use Rattle.iova_range.specs.Sizes.{order_of}
@@ -7,11 +7,9 @@ use Rattle.iova_range.specs.Bounds.{Capacities}
 use Rattle.iova_model.specs.declared.entry.Entry.{Entry}
 use Rattle.iova_model.specs.Caches.{Caches, put_range, put_all, emptied}
 use Rattle.iova_model.specs.Flushes.{entry_range, flushed, unflushed}
-use Rattle.iova_model.specs.Laws.{cached_ranges}
 use Rattle.iova_depot.specs.Cached.{Cached, IsCached, LosesOnly}
 use Rattle.iova_tree.specs.Space.{Space, IsSpace}
 use Rattle.iova_core.specs.Stock.{HasAll, Frees, IsStock, Exchanges}
-use Rattle.iova_core.proofs.Stocks.{cached_sum}
 use Rattle.iova_laws.proofs.Weights as weight
 use Rattle.iova_laws.proofs.Weights.{cached-emptied}
 

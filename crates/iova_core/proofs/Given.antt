@@ -1,21 +1,12 @@
 -- A range that a tree gives: nobody has it, and it is what the definitions find.
-use Rattle.std.proofs.Common.{ℕ, ◌≡◌, ◌+◌, ◌-◌, ◌^◌, ◌<◌, ◌≤◌, ◌&&◌, Bool, true, false, cond, List, [], ◌∷◌, ◌++◌, Option, Some, None, refl, sym, ap, ◌∙◌, ◌⊎◌, inl, inr, arith}
+use Rattle.std.proofs.Common.{ℕ, ◌≡◌, ◌≤◌, Bool, true, false, cond, List, [], ◌∷◌, Some, None, refl, arith}
 use Rattle.std.specs.Prelude.{nat_lt, nat_le, find, sum_by}
 use Rattle.std.proofs.lemmas.Bool.Decides.{nat_tests}
-use Rattle.std.proofs.lemmas.Bool.{cond_both}
 use Rattle.iova_range.specs.Frames.{Frames, covers}
-use Rattle.iova_range.specs.Bounds.{Extent, Capacities, IsProfile, IsExtent}
-use Rattle.iova_model.specs.declared.step.Point.{Point}
-use Rattle.iova_model.specs.declared.step.Point.TheVariants as point
-use Rattle.iova_model.specs.Fit.{is_covered, is_clear, best}
-use Rattle.iova_model.specs.Clients.{Client, client_with, forgotten, begins_at}
+use Rattle.iova_model.specs.Clients.{Client, client_with, begins_at}
 use Rattle.iova_model.specs.State.{State, held_ranges}
-use Rattle.iova_model.specs.Valid.{IsValid}
-use Rattle.iova_model.specs.Next.{is_at, low_limit, best_place}
-use Rattle.iova_model.proofs.Placing.{AreSome, clear-uncovered}
-use Rattle.iova_tree.specs.Space.{IsInside}
-use Rattle.iova_core.specs.Tied.{IsTied}
-use Rattle.iova_core.proofs.Covered.{has, covered_weighs, covered_alike, best_alike, held_some}
+use Rattle.iova_model.proofs.Placing.{AreSome}
+use Rattle.iova_core.proofs.Covered.{has}
 use Rattle.iova_laws.proofs.Weights as weight
 use Rattle.iova_laws.proofs.Weights.{load, held_are}
 

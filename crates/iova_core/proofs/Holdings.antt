@@ -1,10 +1,10 @@
 -- A holding that is taken, and one that is put back.
-use Rattle.std.proofs.Common.{ℕ, ◌≡◌, ◌+◌, ◌<◌, ◌≤◌, ◌==◌, Bool, true, false, List, [], ◌∷◌, length, find, Option, Some, None, Result, Ok, Err, refl, sym, ap, ◌∙◌, arith}
+use Rattle.std.proofs.Common.{ℕ, ◌≡◌, ◌+◌, ◌<◌, ◌≤◌, ◌==◌, Bool, true, false, List, [], ◌∷◌, length, find, Option, Some, None, Ok, refl, sym, ap, ◌∙◌, arith}
 use Rattle.std.specs.Prelude.{nat_lt, ok_or}
 use Rattle.std.proofs.lemmas.Bool.Decides.{nat_tests}
 use Rattle.iova_range.specs.declared.refusal.Refusal.{Refusal}
 use Rattle.iova_range.specs.Frames.{Frames}
-use Rattle.iova_model.specs.Clients.{Client, has_id, client_with, changed, insert_rising, begins_at, remove_at, with_holding, without_holding}
+use Rattle.iova_model.specs.Clients.{Client, client_with, changed, insert_rising, begins_at, remove_at}
 use Rattle.iova_model.specs.Valid.{Rises}
 use Rattle.iova_clients.specs.Registry.{held_at}
 

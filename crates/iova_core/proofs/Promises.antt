@@ -1,14 +1,12 @@
 -- The promises of a run, by the laws.
-use Rattle.std.proofs.Common.{ℕ, zero, suc, ◌≡◌, ◌<◌, List, [], ◌∷◌, ◌++◌, ◌⊎◌, take, Some, refl, sym, ap, subst, ◌∙◌, arith}
-use Rattle.std.specs.Prelude.{slice_get}
+use Rattle.std.proofs.Common.{◌≡◌, List, [], ◌∷◌, ◌++◌, ◌⊎◌, take, refl, sym, ap, subst, ◌∙◌}
 use Rattle.iova_model.specs.declared.step.Step.{Step}
 use Rattle.iova_model.specs.declared.step.Reply.{Reply}
-use Rattle.iova_model.specs.Clients.{Client, client_with}
-use Rattle.iova_model.specs.State.{State, place_of}
+use Rattle.iova_model.specs.State.{State}
 use Rattle.iova_model.specs.Valid.{IsValid}
 use Rattle.iova_model.specs.Next.{next}
 use Rattle.iova_model.specs.Transcript.{Pair, IsTranscript, after, IsRun}
-use Rattle.iova_model.specs.Laws.{Marks, IsClosing, IsGone}
+use Rattle.iova_model.specs.Laws.{IsClosing, IsGone}
 use Rattle.iova_core.specs.Promises.{AreLaws, AreKept, ClosingLaw, Runs}
 
 -- a transcript from its middle on

@@ -1,11 +1,11 @@
 -- Rings that are drained, and holdings that go into them.
-use Rattle.std.proofs.Common.{ℕ, zero, suc, ◌≡◌, ◌+◌, ◌-◌, ◌^◌, ◌<◌, ◌≤◌, ◌⊎◌, inl, inr, Bool, true, false, List, [], ◌∷◌, ◌++◌, length, map, find, Option, Some, None, refl, sym, ap, ◌∙◌, subst, arith, sum_by, length-set}
+use Rattle.std.proofs.Common.{ℕ, zero, suc, ◌≡◌, ◌+◌, ◌^◌, ◌<◌, ◌≤◌, Bool, true, false, List, [], ◌∷◌, ◌++◌, length, map, find, Some, None, refl, sym, ap, ◌∙◌, subst, arith, sum_by}
 use Rattle.std.specs.Prelude.{slice_index_or, slice_set, nat_le, nat_lt, IsSomeAnd, ◌&&◌}
 use Rattle.std.proofs.lemmas.Bool.{and_parts}
 use Rattle.std.proofs.lemmas.List.{set-set, get_or-set_same, set-get_or}
 use Rattle.std.proofs.lemmas.Bool.Decides.{nat_tests}
 use Rattle.iova_range.specs.Frames.{Frames}
-use Rattle.iova_range.specs.Bounds.{Capacities, Extent}
+use Rattle.iova_range.specs.Bounds.{Extent}
 use Rattle.iova_model.specs.declared.entry.Entry.{Entry}
 use Rattle.iova_model.specs.Caches.{Caches, put_all}
 use Rattle.iova_model.specs.Flushes.{entry_range, flushed, unflushed}
@@ -16,10 +16,9 @@ use Rattle.iova_model.specs.Valid.{IsValid, IsRing, IsRequestSized, is_inside}
 use Rattle.iova_model.specs.Next.{Next, refused, ring_at, drained, queued, queue, unmap_held}
 use Rattle.iova_model.specs.declared.step.Reply.TheVariants as reply
 use Rattle.iova_range.specs.declared.refusal.Refusal.TheVariants as refusal
-use Rattle.iova_tree.specs.Space.{Space, IsSpace, ranges_of}
+use Rattle.iova_tree.specs.Space.{Space}
 use Rattle.iova_clients.specs.Registry.{Registry, CanBeGiven}
 use Rattle.iova_depot.specs.Cached.{Cached, IsCached}
-use Rattle.iova_core.specs.Tied.{IsTied}
 use Rattle.iova_core.specs.Stock.{IsStock, Exchanges}
 use Rattle.iova_core.specs.Domain.{Parts, state_of, IsDomain}
 use Rattle.iova_core.proofs.Domains.{tied_parts}

@@ -1,5 +1,5 @@
 -- What a step comes to, refusal by refusal.
-use Rattle.std.proofs.Common.{ℕ, ◌≡◌, ◌-◌, ◌+◌, ◌^◌, Bool, true, false, List, [], ◌∷◌, length, Option, Some, None, refl, ap, ◌∙◌}
+use Rattle.std.proofs.Common.{ℕ, ◌≡◌, ◌-◌, ◌+◌, ◌^◌, Bool, true, false, [], ◌∷◌, length, Option, Some, None, refl, ap, ◌∙◌}
 use Rattle.std.specs.Prelude.{nat_le}
 use Rattle.iova_range.specs.declared.refusal.Refusal.{Refusal}
 use Rattle.iova_range.specs.declared.refusal.Refusal.TheVariants as refusal
@@ -9,7 +9,7 @@ use Rattle.iova_model.specs.declared.step.Point.{Point}
 use Rattle.iova_model.specs.declared.step.Point.TheVariants as point
 use Rattle.iova_model.specs.Clients.{Client, client_of}
 use Rattle.iova_model.specs.State.{State}
-use Rattle.iova_model.specs.Next.{Next, refused, unless, first_refusal, no_worker, is_at, open_tests, open_client, opened, alloc_tests, alloc, alloc_to, ledger_tests, given_by, walk}
+use Rattle.iova_model.specs.Next.{Next, refused, unless, first_refusal, no_worker, is_at, open_client, opened, alloc_tests, alloc, alloc_to, given_by, walk}
 use Rattle.iova_model.proofs.Unless.{unless_refused, unless_taken, unless-append}
 
 -- `Open`: refused before memory is asked for

@@ -1,15 +1,15 @@
 -- What a tree has, and how ranges move between it, the caches and others.
-use Rattle.std.proofs.Common.{ℕ, zero, suc, ◌≡◌, ◌+◌, ◌^◌, ◌<◌, ◌≤◌, ◌==◌, Bool, true, false, cond, List, [], ◌∷◌, ◌++◌, length, take, Option, Some, None, refl, sym, ap, ◌∙◌, subst, arith, find, sum_by, map, inl, inr}
-use Rattle.std.specs.Prelude.{IsSome, slice_index_or, ◌-◌, ◌⊎◌}
+use Rattle.std.proofs.Common.{ℕ, zero, suc, ◌≡◌, ◌+◌, ◌^◌, ◌<◌, ◌≤◌, ◌==◌, Bool, true, false, cond, List, [], ◌∷◌, length, take, Some, refl, ap, ◌∙◌, subst, arith, find, sum_by, inl, inr}
+use Rattle.std.specs.Prelude.{IsSome, slice_index_or, ◌-◌}
 use Rattle.std.proofs.lemmas.Bool.Decides.{nat_tests}
 use Rattle.iova_range.specs.Frames.{Frames}
 use Rattle.iova_range.specs.Sizes.{order_of}
-use Rattle.iova_range.specs.Bounds.{Extent, Capacities, IsProfile, IsExtent}
-use Rattle.iova_model.specs.Caches.{Caches, of_order, put_range, put_all, freed_by_put, emptied}
+use Rattle.iova_range.specs.Bounds.{Capacities, IsProfile}
+use Rattle.iova_model.specs.Caches.{Caches, of_order, put_range, freed_by_put}
 use Rattle.iova_model.specs.Laws.{cached_ranges}
 use Rattle.iova_depot.specs.Cached.{Cached, IsCached}
 use Rattle.iova_model.specs.Clients.{begins_at, remove_at}
-use Rattle.iova_tree.specs.Space.{Space, IsSpace, IsInside, RiseApart}
+use Rattle.iova_tree.specs.Space.{Space, IsSpace, RiseApart}
 use Rattle.iova_core.specs.Stock.{HasAll, Frees, IsStock, Exchanges}
 use Rattle.iova_laws.proofs.Weights as weight
 use Rattle.iova_laws.proofs.Weights.{cached-put_all, cached-emptied, cached_weigh}

@@ -1,9 +1,8 @@
 -- What a step does to the tree, and what it does to the holders, is the same.
-use Rattle.std.proofs.Common.{ℕ, ◌≡◌, ◌+◌, List, [], ◌∷◌, ◌++◌, refl, sym, ap, ◌∙◌, arith}
-use Rattle.std.specs.Prelude.{sum_by}
+use Rattle.std.proofs.Common.{ℕ, ◌≡◌, ◌+◌, List, [], ◌∷◌, ◌++◌, refl, arith}
 use Rattle.iova_range.specs.Frames.{Frames}
 use Rattle.iova_model.specs.Clients.{insert_rising}
-use Rattle.iova_model.specs.State.{State, held_ranges}
+use Rattle.iova_model.specs.State.{State}
 use Rattle.iova_core.specs.Tied.{IsTied}
 use Rattle.iova_laws.proofs.Weights as weight
 use Rattle.iova_laws.proofs.Weights.{load, held_weigh}

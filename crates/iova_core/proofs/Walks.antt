@@ -1,6 +1,6 @@
 -- The walk of a request: one try or two.
-use Rattle.std.proofs.Common.{ℕ, ◌≡◌, ◌≢◌, ◌+◌, ◌≤◌, ◌<◌, ◌⊎◌, inl, inr, Bool, true, false, cond, ◌&&◌, List, [], Option, Some, None, refl, sym, ap, ◌∙◌, arith, sum_by}
-use Rattle.std.specs.Prelude.{nat_lt, if◌then◌else◌}
+use Rattle.std.proofs.Common.{ℕ, ◌≡◌, ◌≢◌, inl, inr, Bool, true, false, ◌&&◌, [], Option, Some, None, refl, sym, ap, ◌∙◌, arith}
+use Rattle.std.specs.Prelude.{nat_lt}
 use Rattle.iova_model.specs.declared.step.Point.{Point}
 use Rattle.iova_model.specs.declared.step.Point.TheVariants as point
 use Rattle.iova_model.specs.Caches.{Caches, emptied}
@@ -12,7 +12,7 @@ use Rattle.iova_depot.specs.Cached.{Cached}
 use Rattle.iova_core.specs.declared.walk.Found.{Found}
 use Rattle.iova_core.specs.declared.walk.Found.TheVariants as found
 use Rattle.iova_core.specs.Stock.{Exchanges}
-use Rattle.iova_core.specs.Walk.{get_cached, Stands, Comes, point_of, found_as, IsPointFrom}
+use Rattle.iova_core.specs.Walk.{Stands, Comes, point_of, IsPointFrom}
 use Rattle.iova_core.proofs.Stocks.{cached_sum}
 use Rattle.iova_core.proofs.Tries.{as_nowhere, stands_with}
 use Rattle.iova_laws.proofs.Weights as weight

@@ -1,5 +1,5 @@
 -- A window that is reserved: what it is refused for, what it leaves, and how many frames windows have.
-use Rattle.std.proofs.Common.{ℕ, ◌≡◌, ◌+◌, ◌-◌, ◌<◌, ◌≤◌, ◌^◌, ◌||◌, ◌⊎◌, inl, inr, Bool, true, false, cond, not, List, [], ◌∷◌, ◌++◌, length, Option, Some, None, refl, sym, ap, ◌∙◌, subst, arith, filter}
+use Rattle.std.proofs.Common.{ℕ, ◌≡◌, ◌+◌, ◌<◌, ◌≤◌, ◌^◌, ◌||◌, ◌⊎◌, inl, inr, Bool, true, false, cond, List, [], ◌∷◌, ◌++◌, length, Some, None, refl, sym, ap, ◌∙◌, subst, arith}
 use Rattle.std.specs.Prelude.{nat_lt, sum_by, Result, Ok, Err}
 use Rattle.std.specs.List.{list_any}
 use Rattle.std.proofs.lemmas.List.Sums.{sum_by-cons}
@@ -7,7 +7,7 @@ use Rattle.std.proofs.lemmas.Bool.Decides.{nat_tests}
 use Rattle.iova_range.specs.declared.refusal.Refusal.{Refusal}
 use Rattle.iova_range.specs.declared.refusal.Refusal.TheVariants as refusal
 use Rattle.iova_range.specs.Frames.{Frames, meets}
-use Rattle.iova_range.specs.Bounds.{Extent, Capacities, IsExtent, IsProfile}
+use Rattle.iova_range.specs.Bounds.{Extent, Capacities, IsProfile}
 use Rattle.iova_model.specs.declared.step.Step.TheVariants as step
 use Rattle.iova_model.specs.declared.step.Point.{Point}
 use Rattle.iova_model.specs.declared.step.Point.TheVariants as point

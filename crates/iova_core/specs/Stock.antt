@@ -1,5 +1,5 @@
 -- What a tree and the caches have together, and what a call moves between them and others.
-use Rattle.std.specs.Prelude.{ℕ, ◌≡◌, ◌+◌, ◌≤◌, List, [], ◌∷◌, ◌++◌, length, map, sum_by}
+use Rattle.std.specs.Prelude.{ℕ, ◌≡◌, ◌+◌, ◌≤◌, List, sum_by}
 use Rattle.iova_range.specs.Frames.{Frames}
 use Rattle.iova_model.specs.Laws.{cached_ranges}
 use Rattle.iova_tree.specs.Space.{Space, IsSpace}

@@ -1,5 +1,5 @@
 -- What the walk of a request finds, in the words of the definitions.
-use Rattle.std.specs.Prelude.{ℕ, ◌≡◌, ◌≤◌, ◌⊎◌, List, [], ◌∷◌, Option, None, Some}
+use Rattle.std.specs.Prelude.{ℕ, ◌≡◌, ◌⊎◌, List, [], ◌∷◌, Option, None, Some}
 use Rattle.iova_range.specs.Frames.{Frames}
 use Rattle.iova_model.specs.declared.step.Point.{Point}
 use Rattle.iova_model.specs.declared.step.Point.TheVariants as point
@@ -7,7 +7,7 @@ use Rattle.iova_model.specs.Caches.{Caches, shelf_at, with_shelf, get}
 use Rattle.iova_model.specs.Clients.{insert_rising}
 use Rattle.iova_model.specs.State.{State}
 use Rattle.iova_model.specs.Next as next
-use Rattle.iova_tree.specs.Space.{Space, IsSpace, ranges_of}
+use Rattle.iova_tree.specs.Space.{Space, ranges_of}
 use Rattle.iova_core.specs.Tied.{IsTied}
 use Rattle.iova_core.specs.declared.walk.Found.{Found}
 use Rattle.iova_core.specs.declared.walk.Found.TheVariants as found

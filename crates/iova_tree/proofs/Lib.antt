@@ -1,21 +1,21 @@
-pub mod Rooms
-pub mod Multiples
-pub mod Spans
-pub mod Low
-pub mod Turns
-pub mod Root
-pub mod Placed
-pub mod Taken
-pub mod Fits
-pub mod Searches
-pub mod Apart
-pub mod Allocated
-pub mod Absorbing
-pub mod Unions
-pub mod Windows
-pub mod Spaces
-pub mod Taking
-pub mod Kept
-pub mod Comparing
-pub mod Gaps
-pub mod Picked
+mod Rooms
+mod Multiples
+mod Spans
+mod Low
+mod Turns
+mod Root
+mod Placed
+mod Taken
+mod Fits
+mod Searches
+mod Apart
+mod Allocated
+mod Absorbing
+mod Unions
+mod Windows
+mod Spaces
+mod Taking
+mod Kept
+mod Comparing
+mod Gaps
+mod Picked

@@ -1,6 +1,4 @@
-use Rattle.std.proofs.Common.{◌≡◌, ◌≤◌, ◌<◌, ◌+◌, [], ◌∷◌, List, map, length, refl, ap, sym, ◌∙◌, arith}
-use Rattle.iova_range.specs.Frames.{Frames}
-use Rattle.iova_model.specs.declared.entry.Entry.{Entry}
+use Rattle.std.proofs.Common.{[], ◌∷◌, map, length, ap, sym, ◌∙◌, arith}
 use Rattle.iova_model.specs.Flushes.{entry_range}
 use Rattle.iova_core.specs.Stock.{IsStock}
 use Rattle.iova_core.proofs.Stocks.{has_low, stock_has, stock_first}

@@ -1,6 +1,5 @@
-use Rattle.std.proofs.Common.{◌≡◌, ◌≤◌, ◌<◌, ◌+◌, ◌^◌, [], ◌∷◌, refl, ap, sym, ◌∙◌, arith}
+use Rattle.std.proofs.Common.{◌^◌, ◌∙◌, arith}
 use Rattle.iova_range.specs.Frames.{Frames}
-use Rattle.iova_core.specs.Stock.{HasAll}
 use Rattle.iova_core.proofs.Stocks.{has_low, has_inside}
 use Rattle.iova_core.proofs.Drains.{emptying_none, emptying_has, emptying_next, emptying_done}
 use Rattle.iova_core.proofs.stock.empty.Goals as goal

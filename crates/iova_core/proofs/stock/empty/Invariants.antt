@@ -1,4 +1,3 @@
-use Rattle.iova_depot.specs.Cached.{Cached}
 use Rattle.iova_model.specs.Laws.{frames_of}
 use Rattle.iova_model.specs.State.{cached_holders}
 use Rattle.iova_core.proofs.Drains.{IsEmptying}

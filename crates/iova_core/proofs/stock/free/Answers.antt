@@ -1,4 +1,3 @@
-use Rattle.std.proofs.Common.{◌≡◌, [], ◌∷◌, sym, ap}
 use Rattle.iova_core.proofs.Stocks.{has_some, frees_one}
 use Rattle.iova_core.proofs.stock.free.Goals as goal
 

@@ -1,6 +1,5 @@
-use Rattle.std.proofs.Common.{◌≡◌, ◌≤◌, ◌<◌, length, take, ap, sym, ◌∙◌, arith}
+use Rattle.std.proofs.Common.{◌≡◌, take}
 use Rattle.std.proofs.lemmas.List.{take_all}
-use Rattle.iova_model.specs.Caches.{of_order}
 use Rattle.iova_core.proofs.Stocks.{frees_none, frees_next, has_next}
 use Rattle.iova_core.proofs.stock.free_magazine.Goals as goal
 

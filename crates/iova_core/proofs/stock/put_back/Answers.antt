@@ -1,4 +1,4 @@
-use Rattle.std.proofs.Common.{◌≡◌, ◌≤◌, ◌<◌, [], ◌∷◌, List, Some, refl, ap, sym, ◌∙◌, arith}
+use Rattle.std.proofs.Common.{◌≡◌, [], Some, ap, sym, ◌∙◌, arith}
 use Rattle.iova_range.specs.Sizes.{order_of}
 use Rattle.iova_model.specs.Caches.{of_order, put_range, freed_by_put}
 use Rattle.iova_core.proofs.Stocks.{has_inside, has_low, exchanges_put, frees_none, stock_has}

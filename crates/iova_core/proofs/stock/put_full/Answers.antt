@@ -1,5 +1,4 @@
-use Rattle.std.proofs.Common.{◌≡◌, ◌≤◌, ◌<◌, [], ◌∷◌, List, Some, None, refl, ap, sym, ◌∙◌, arith}
-use Rattle.iova_range.specs.Frames.{Frames}
+use Rattle.std.proofs.Common.{◌≡◌, [], ap, sym, ◌∙◌, arith}
 use Rattle.iova_range.specs.Sizes.{order_of}
 use Rattle.iova_model.specs.Caches.{of_order, put_range, freed_by_put}
 use Rattle.iova_mag.specs.Magazines.{Magazine}

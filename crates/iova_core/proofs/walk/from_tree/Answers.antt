@@ -1,5 +1,3 @@
-use Rattle.std.proofs.Common.{◌≡◌, ◌≤◌, Some, None, refl, sym, arith}
-use Rattle.iova_model.specs.Fit.{best, is_clear}
 use Rattle.iova_model.proofs.Placing.{best-place}
 use Rattle.iova_tree.specs.Space.{ranges_of}
 use Rattle.iova_core.proofs.walk.from_tree.Goals as goal

@@ -1,16 +1,14 @@
-use Rattle.std.proofs.Common.{◌≡◌, ◌≤◌, ◌<◌, ◌+◌, [], ◌∷◌, None, Some, true, false, refl, ap, sym, ◌∙◌, arith, subst}
+use Rattle.std.proofs.Common.{[], Some, refl, ap, sym, ◌∙◌, arith}
 use Rattle.iova_range.specs.Frames.{Frames}
 use Rattle.iova_model.specs.Caches.{Caches}
 use Rattle.iova_model.specs.Fit.{best}
-use Rattle.iova_tree.specs.Space.{Space, ranges_of}
+use Rattle.iova_tree.specs.Space.{ranges_of}
 use Rattle.iova_depot.specs.Cached.{Cached}
-use Rattle.iova_core.specs.Stock.{IsStock, HasAll}
 use Rattle.iova_core.specs.declared.walk.Found.TheVariants.{Nowhere}
-use Rattle.iova_core.specs.Walk.{get_cached, Places}
 use Rattle.iova_model.specs.declared.step.Point.TheVariants.{Last}
 use Rattle.iova_core.proofs.Stocks.{has_low}
 use Rattle.iova_core.proofs.Drains.{stock_left}
-use Rattle.iova_core.proofs.Tries.{gets, gets_has, exchanges_got, exchanges_placed, exchanges_later, comes_cached, comes_tree, comes_emptied, places_none, places_size, places_point, point_here, point_last, as_nowhere, missed_exchange, missed_stands, emptied_stands, emptied_left}
+use Rattle.iova_core.proofs.Tries.{gets, gets_has, exchanges_got, exchanges_placed, exchanges_later, comes_tree, comes_emptied, places_none, places_size, places_point, point_here, as_nowhere, missed_exchange, missed_stands, emptied_stands, emptied_left}
 use Rattle.iova_core.proofs.walk.try_once.Goals as goal
 
 pub new-requires-clause-fits : goal.new-requires-clause-fits

@@ -1,5 +1,6 @@
 //! Each growth refused in turn, by `rt try --test --fail-alloc N`, which prints the points that it came to. With N = 27
-//! these are `Once`, `First` and `Second`, and with N = 28 `Once`, `Ledger` and `Last`.
+//! these are `Once`, `First` and `Second`, with N = 28 `Once`, `Ledger` and `Last`, and with N = 302 `Second` where the walk
+//! has moved a magazine.
 use super::*;
 use std::io::Print;
 
@@ -135,6 +136,41 @@ fn second_with_the_limit_asked_for(rt: HostRuntime) -> Result<(), Fail> {
         let reply = step_twice(&rt, &mut domain, alloc(0, 1, 1, limit), &refused);
         assert_eq!(rt; reply, given(lo, 1));
     }
+    Ok(())
+}
+
+// Worker 0 has nothing cached, so that the walk moves the depot's magazine to it; no entry fits, and the tree is asked.
+#[test]
+fn second_after_the_depot_gave_a_magazine(rt: HostRuntime) -> Result<(), Fail> {
+    let bounds = Bounds::new_in(Profile::two(1)?, 1, 300)?;
+    let mut domain = domain_in(rt.alloc(), bounds, 2)?;
+    answers(&rt, &mut domain, &[(open(0, false), Reply::Opened(1))]);
+    hold(&rt, &mut domain, 300, 255);
+    unmap_all(&rt, &mut domain, 300, 255);
+    answers(
+        &rt,
+        &mut domain,
+        &[
+            (Step::Begin, Reply::Begun(1)),
+            (end(1, true), Reply::Ended),
+            (drain(0, 1), Reply::Drained(255)),
+        ],
+    );
+    let drained = Counts {
+        free: 45,
+        magazine: 128,
+        depot: 127,
+        ..Counts::default()
+    };
+    assert_eq!(rt; counts(&rt, &domain), drained);
+    let moved = Counts {
+        free: 45,
+        magazine: 255,
+        ..Counts::default()
+    };
+    let refused = [(Point::Second, moved)];
+    let reply = step_twice(&rt, &mut domain, alloc(0, 1, 1, 45), &refused);
+    assert_eq!(rt; reply, given(45, 1));
     Ok(())
 }
 

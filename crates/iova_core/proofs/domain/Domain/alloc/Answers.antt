@@ -1,13 +1,10 @@
-use Rattle.std.proofs.Common.{ℕ, ◌≡◌, ◌<◌, ◌≤◌, List, [], ◌∷◌, Option, Some, None, false, refl, sym, ap, ◌∙◌, arith}
+use Rattle.std.proofs.Common.{◌≡◌, ◌<◌, false, refl, sym, ap, ◌∙◌, arith}
 use Rattle.std.specs.Prelude.{unwrap_or, option_map}
-use Rattle.iova_range.specs.Frames.{Frames}
-use Rattle.iova_range.specs.Sizes.{need}
-use Rattle.iova_model.specs.Clients.{Client, client_with, changed, with_holding}
-use Rattle.iova_model.specs.State.{State}
-use Rattle.iova_model.specs.Next.{Next, given, with_caches}
+use Rattle.iova_model.specs.Clients.{Client, client_with}
+use Rattle.iova_model.specs.Next.{Next}
 use Rattle.iova_core.specs.Domain.{Parts, state_of}
 use Rattle.iova_core.specs.declared.walk.Found.TheVariants as found
-use Rattle.iova_core.proofs.Outcomes.{refuses_ok, refuses_err, same_owner}
+use Rattle.iova_core.proofs.Outcomes.{refuses_ok, same_owner}
 use Rattle.iova_core.proofs.Queues.{domain_stock}
 use Rattle.iova_core.proofs.Allocs.{asked_from, alloc_is, walked_state, domain_walked, found_low, found_new, given_state, domain_given}
 use Rattle.iova_core.proofs.domain.Domain.alloc.Goals as goal

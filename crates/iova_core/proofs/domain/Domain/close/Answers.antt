@@ -1,4 +1,4 @@
-use Rattle.std.proofs.Common.{◌≡◌, refl, sym, ◌∙◌}
+use Rattle.std.proofs.Common.{sym, ◌∙◌}
 use Rattle.iova_core.proofs.Outcomes.{same_owner, owner_is}
 use Rattle.iova_core.proofs.Domains.{domain_marked, domain_registry}
 use Rattle.iova_core.specs.Domain.{Parts}

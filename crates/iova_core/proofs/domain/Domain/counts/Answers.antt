@@ -1,4 +1,4 @@
-use Rattle.std.proofs.Common.{◌≡◌, ◌≤◌, ◌-◌, ◌+◌, ap, ◌∙◌, arith}
+use Rattle.std.proofs.Common.{ap, ◌∙◌, arith}
 use Rattle.iova_model.specs.declared.totals.Totals.{Totals}
 use Rattle.iova_core.specs.Domain.{frames_in_rings}
 use Rattle.iova_core.proofs.Readers.{parts_of, AreCounts, counts_are}

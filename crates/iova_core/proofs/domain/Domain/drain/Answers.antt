@@ -1,5 +1,4 @@
-use Rattle.std.proofs.Common.{◌≡◌, ◌<◌, refl, ◌∙◌, sym, ap}
-use Rattle.iova_model.specs.declared.entry.Entry.{Entry}
+use Rattle.std.proofs.Common.{◌≡◌, ◌<◌}
 use Rattle.iova_core.specs.Domain.{Parts}
 use Rattle.iova_core.proofs.Queues.{ring_is, ring_stock, domain_drained}
 use Rattle.iova_core.proofs.domain.Domain.drain.Goals as goal

@@ -1,4 +1,4 @@
-use Rattle.std.proofs.Common.{◌≡◌, ◌≤◌, refl, ap, ◌∙◌, arith}
+use Rattle.std.proofs.Common.{refl, ap, ◌∙◌, arith}
 use Rattle.iova_depot.specs.Cached.{new_cached}
 use Rattle.iova_core.proofs.Domains.{domain_new}
 use Rattle.iova_core.proofs.Readers.{parts_of, new_state}

@@ -1,5 +1,5 @@
-use Rattle.std.proofs.Common.{◌≡◌, ◌<◌, refl}
-use Rattle.iova_core.proofs.Outcomes.{Refuses, refuses_ok}
+use Rattle.std.proofs.Common.{◌≡◌, ◌<◌}
+use Rattle.iova_core.proofs.Outcomes.{refuses_ok}
 use Rattle.iova_core.specs.Domain.{Parts}
 use Rattle.iova_core.proofs.Domains.{domain_registry, domain_opened}
 use Rattle.iova_core.proofs.domain.Domain.open.Goals as goal

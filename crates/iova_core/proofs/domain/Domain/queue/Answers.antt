@@ -1,8 +1,8 @@
-use Rattle.std.proofs.Common.{◌≡◌, ◌≢◌, ◌<◌, ◌≤◌, refl, sym, ap, ◌∙◌, arith}
+use Rattle.std.proofs.Common.{◌≡◌, ◌<◌, refl, sym, ap, ◌∙◌, arith}
 use Rattle.iova_model.specs.declared.entry.Entry.{Entry}
 use Rattle.iova_model.specs.Clients.{client_with}
 use Rattle.iova_model.specs.Next.{Next}
-use Rattle.iova_core.specs.Domain.{Parts, state_of}
+use Rattle.iova_core.specs.Domain.{Parts}
 use Rattle.iova_core.proofs.Holdings.{taken_from}
 use Rattle.iova_core.proofs.Queues.{ring_is, ring_stock, held_few, held_low, held_back, queue_taken, domain_queued, kept_state, queue_full, domain_kept}
 use Rattle.iova_core.proofs.domain.Domain.queue.Goals as goal

@@ -1,11 +1,10 @@
-use Rattle.std.proofs.Common.{◌≡◌, ◌≤◌, refl, sym, ap, ◌∙◌, arith}
+use Rattle.std.proofs.Common.{refl, ap, ◌∙◌}
 use Rattle.std.specs.Prelude.{sum_by}
 use Rattle.iova_range.specs.Frames.{Frames}
 use Rattle.iova_model.specs.declared.step.Point.TheVariants as point
 use Rattle.iova_model.specs.declared.step.Reply.TheVariants as reply
 use Rattle.iova_core.specs.Domain.{state_of}
 use Rattle.iova_core.proofs.Readers.{parts_of}
-use Rattle.iova_core.proofs.Outcomes.{Refuses}
 use Rattle.iova_core.proofs.Windows.{IsReserve, windows_few, is_reserved, is_refused, domain_reserved}
 use Rattle.iova_core.proofs.domain.Domain.reserve.Goals as goal
 
