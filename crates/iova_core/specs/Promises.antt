@@ -1,13 +1,14 @@
 -- What is promised of steps that were run, and of the state that they leave.
-use Rattle.std.specs.Prelude.{ℕ, ◌≡◌, ◌<◌, ◌⊎◌, List, ◌∷◌, ◌++◌, take, Some, slice_get}
+use Rattle.std.specs.Prelude.{ℕ, ◌≡◌, ◌<◌, ◌≤◌, ◌⊎◌, List, [], ◌∷◌, ◌++◌, take, Some, None, slice_get}
 use Rattle.iova_model.specs.declared.step.Step.{Step}
 use Rattle.iova_model.specs.declared.step.Reply.{Reply}
+use Rattle.iova_model.specs.declared.step.Reply.TheVariants as reply
 use Rattle.iova_model.specs.Clients.{Client, client_with, totals}
 use Rattle.iova_model.specs.State.{State, place_of}
 use Rattle.iova_model.specs.Valid.{IsValid}
 use Rattle.iova_model.specs.Next.{next}
 use Rattle.iova_model.specs.Transcript.{Pair, after, IsRun, IsUnmappedAt, IsFlushedBetween, FlushLaw}
-use Rattle.iova_model.specs.Laws.{IsOnlyAt, CountsAddUp, shares_below, Conserves, IsGivenAt, Marks, IsClosing, IsGone, TranscriptsAreFlushed, ReuseIsFlushed, ClientsCloseInOrder, StepsConserve, TranscriptsKeepValidity, EachFrameIsInOnePlace, PlacesAddUp, TotalsAreShares}
+use Rattle.iova_model.specs.Laws.{IsOnlyAt, CountsAddUp, shares_below, Conserves, IsGivenAt, Marks, IsClosing, IsGone, client_named, unknown_refusal, TranscriptsAreFlushed, ReuseIsFlushed, ClientsCloseInOrder, GoneClientsStayGone, StepsConserve, TranscriptsKeepValidity, EachFrameIsInOnePlace, PlacesAddUp, TotalsAreShares}
 
 -- An unmapped frame is given again only after a flush that began after its unmap has ended well.
 abbrev pub ReuseLaw : List Pair → Type 0
@@ -19,6 +20,14 @@ ClosingLaw s ps =
     (before : List Pair) (p : Pair) (later : List Pair) (id : ℕ) (c : Client) → ps ≡ before ++ p ∷ later
     → client_with id (after s before).clients ≡ Some c → Marks id p.step p.reply
     → IsClosing id c.holdings (p ∷ later) (after s ps) ⊎ IsGone id c.holdings (p ∷ later) (after s ps)
+
+-- A client whose serial was given and that is gone after some of the pairs stays gone, and each later step that names it is
+-- refused.
+abbrev pub GoneLaw : State → List Pair → Type 0
+GoneLaw s ps =
+    (before later : List Pair) (id : ℕ) → ps ≡ before ++ later → id ≤ (after s before).serial → client_with id (after s before).clients ≡ None
+    → (client_with id (after s ps).clients ≡ None)
+    × ((i : ℕ) (p : Pair) → slice_get later i ≡ Some p → client_named p.step ≡ Some id → p.reply ≡ reply.Refused (unknown_refusal (after s before) p.step))
 
 -- No step loses a frame, and none makes one.
 abbrev pub ConservationLaw : State → List Pair → Type 0
@@ -33,6 +42,7 @@ pub record AreLaws : Type 0 where
   pub flushed : TranscriptsAreFlushed
   pub reuse : ReuseIsFlushed
   pub closing : ClientsCloseInOrder
+  pub gone : GoneClientsStayGone
   pub conserved : StepsConserve
   pub valid : TranscriptsKeepValidity
   pub one_place : EachFrameIsInOnePlace
@@ -45,6 +55,7 @@ pub record AreKept (s : State) (ps : List Pair) : Type 0 where
   pub flushed : FlushLaw s ps
   pub reuse : ReuseLaw ps
   pub closing : ClosingLaw s ps
+  pub gone : GoneLaw s ps
   pub conserved : ConservationLaw s ps
   pub valid : IsValid (after s ps)
   pub one_place : OnePlace (after s ps)

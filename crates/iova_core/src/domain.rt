@@ -17,10 +17,11 @@ use iova_depot::spot::Spot;
 use iova_flush::Entry;
 use iova_flush::flights::Flights;
 use iova_flush::ring::Ring;
-use iova_laws::closing::clients_close_in_order;
+use iova_laws::closing::{clients_close_in_order, gone_clients_stay_gone};
 use iova_laws::flushing::{reuse_is_flushed, transcripts_are_flushed};
 use iova_laws::ledgers::totals_are_shares;
 use iova_laws::places::{each_frame_is_in_one_place, places_add_up, steps_conserve};
+use iova_laws::refusals::no_memory_is_refused;
 use iova_laws::validity::{new_domains_are_valid, steps_keep_validity, transcripts_keep_validity};
 use iova_model::place::{Counts, Place};
 use iova_model::step::{Point, Reply, Step};
@@ -71,6 +72,7 @@ fn refused_at(refusal: Refusal, here: Point) -> (Reply, Point)
     ensures reply { result.0 ≡ Reply.Refused refusal }
     ensures memory { refusal ≡ Refusal.NoMemory → result.1 ≡ here }
     ensures other { refusal ≢ Refusal.NoMemory → result.1 ≡ Point.Never }
+    ensures point { result.1 ≢ Point.Never → result.0 ≡ Reply.Refused Refusal.NoMemory }
 {
     match refusal {
         Refusal::NoMemory => (Reply::Refused(refusal), here),
@@ -105,7 +107,10 @@ impl Domain {
     pub fn step_at(&mut self, step: Step) -> (Reply, Point)
         ensures reply { result.0 ≡ (next self.old step result.1).reply }
         ensures state { self.new ≡ (next self.old step result.1).state }
+        ensures point { result.1 ≢ Point.Never → result.0 ≡ Reply.Refused Refusal.NoMemory }
+        ensures memory { result.0 ≡ Reply.Refused Refusal.NoMemory → result.1 ≢ Point.Never }
     {
+        no_memory_is_refused();
         match step {
             Step::Reserve { lo, hi } => self.reserve(lo, hi),
             Step::Open { worker, sac } => self.open(worker, sac),
@@ -136,6 +141,7 @@ impl Domain {
     fn reserve(&mut self, lo: u64, hi: u64) -> (Reply, Point)
         ensures reply { result.0 ≡ (reserve self.old lo hi result.1).reply }
         ensures state { self.new ≡ (reserve self.old lo hi result.1).state }
+        ensures point { result.1 ≢ Point.Never → result.0 ≡ Reply.Refused Refusal.NoMemory }
     {
         steps_keep_validity();
         match self.tree.reserve(lo, hi) {
@@ -151,6 +157,7 @@ impl Domain {
     fn open(&mut self, worker: u64, sac: bool) -> (Reply, Point)
         ensures reply { result.0 ≡ (open_client self.old worker sac result.1).reply }
         ensures state { self.new ≡ (open_client self.old worker sac result.1).state }
+        ensures point { result.1 ≢ Point.Never → result.0 ≡ Reply.Refused Refusal.NoMemory }
     {
         if worker >= self.workers() {
             return refused(Refusal::NoWorker);
@@ -167,6 +174,7 @@ impl Domain {
     fn alloc(&mut self, worker: u64, client: ClientId, frames: u64, limit: u64) -> (Reply, Point)
         ensures reply { result.0 ≡ (alloc self.old worker client frames limit result.1).reply }
         ensures state { self.new ≡ (alloc self.old worker client frames limit result.1).state }
+        ensures point { result.1 ≢ Point.Never → result.0 ≡ Reply.Refused Refusal.NoMemory }
     {
         if worker >= self.workers() {
             return refused(Refusal::NoWorker);
@@ -208,6 +216,7 @@ impl Domain {
     fn unmap(&mut self, worker: u64, client: ClientId, lo: u64) -> (Reply, Point)
         ensures reply { result.0 ≡ (unmap self.old worker client lo).reply }
         ensures state { self.new ≡ (unmap self.old worker client lo).state }
+        ensures point { result.1 ≡ Point.Never }
     {
         if worker >= self.workers() {
             return refused(Refusal::NoWorker);
@@ -228,6 +237,7 @@ impl Domain {
         requires { worker < self.old.workers }
         ensures reply { (c : Client) → client_with client self.old.clients ≡ Some c → result.0 ≡ (unmap_held (find (begins_at lo) c.holdings) self.old worker client).reply }
         ensures state { (c : Client) → client_with client self.old.clients ≡ Some c → self.new ≡ (unmap_held (find (begins_at lo) c.holdings) self.old worker client).state }
+        ensures point { result.1 ≡ Point.Never }
     {
         let Ok(range) = self.clients.take(client, lo) else {
             return refused(Refusal::NotHeld);
@@ -259,6 +269,7 @@ impl Domain {
     fn begin(&mut self) -> (Reply, Point)
         ensures reply { result.0 ≡ (begin self.old).reply }
         ensures state { self.new ≡ (begin self.old).state }
+        ensures point { result.1 ≡ Point.Never }
     {
         match self.flights.begin() {
             Ok(number) => (Reply::Begun(number), Point::Never),
@@ -270,6 +281,7 @@ impl Domain {
     fn end(&mut self, no: u64, ok: bool) -> (Reply, Point)
         ensures reply { result.0 ≡ (end self.old no ok).reply }
         ensures state { self.new ≡ (end self.old no ok).state }
+        ensures point { result.1 ≡ Point.Never }
     {
         match self.flights.end(no, ok) {
             Ok(()) => (Reply::Ended, Point::Never),
@@ -281,6 +293,7 @@ impl Domain {
     fn drain(&mut self, ring: u64, by: u64) -> (Reply, Point)
         ensures reply { result.0 ≡ (drain self.old ring by).reply }
         ensures state { self.new ≡ (drain self.old ring by).state }
+        ensures point { result.1 ≡ Point.Never }
     {
         if ring >= self.workers() || by >= self.workers() {
             return refused(Refusal::NoWorker);
@@ -295,6 +308,7 @@ impl Domain {
     fn close(&mut self, worker: u64, client: ClientId) -> (Reply, Point)
         ensures reply { result.0 ≡ (close self.old worker client).reply }
         ensures state { self.new ≡ (close self.old worker client).state }
+        ensures point { result.1 ≡ Point.Never }
     {
         if worker >= self.workers() {
             return refused(Refusal::NoWorker);
@@ -313,6 +327,7 @@ impl Domain {
     fn close_one(&mut self, worker: u64, client: ClientId) -> (Reply, Point)
         ensures reply { result.0 ≡ (close_one self.old worker client).reply }
         ensures state { self.new ≡ (close_one self.old worker client).state }
+        ensures point { result.1 ≡ Point.Never }
     {
         match self.close(worker, client) {
             (Reply::Marked(_), _) => {}
@@ -498,7 +513,7 @@ impl Domain {
 /// The contract is the headline of the product. After every list of steps, whatever they are and wherever memory is
 /// refused: each frame is in exactly one place; the totals are the sums of all workers' shares; no frame was lost or made;
 /// a frame that was unmapped has left the rings, and is given again, only where a flush that began after its unmap has
-/// ended well; and clients that close give up their holdings lowest first.
+/// ended well; clients that close give up their holdings lowest first; and a client that is gone stays gone.
 pub fn run(domain: &mut Domain, steps: &[Step], replies: &mut Vec<Reply>) -> Result<(), Refusal>
     ensures ok { OnOk result (Runs domain.old domain.new steps.now replies.old.items replies.new.items) }
     ensures err { OnErr result ((result ≡ Err Refusal.NoMemory) × ((n : ℕ) × Runs domain.old domain.new (take n steps.now) replies.old.items replies.new.items)) }
@@ -523,6 +538,7 @@ fn laws()
     transcripts_are_flushed();
     reuse_is_flushed();
     clients_close_in_order();
+    gone_clients_stay_gone();
     steps_conserve();
     transcripts_keep_validity();
     each_frame_is_in_one_place();

@@ -37,4 +37,4 @@ returns-in-Err c =
     let q = parts_of c.reserve.new.self c.self.inside.clients c.self.inside.caches c.self.inside.rings.items c.self.inside.flights c.self.inside.reserved in
     let is = is_refused p q c.args.self.now c.args.lo c.args.hi c.self.view_is c.self.invariant (record { clients = refl; cached = refl; rings = refl; flushes = refl })
     c.reserve.result c.in-Err.refusal c.refused_at.result.1 (record { refused = c.reserve.ensures.refused; accepted = c.reserve.ensures.accepted }) c.in-Err.is c.refused_at.ensures.memory c.in-Err.ensures.unchanged in
-    record { reply = c.refused_at.ensures.reply ∙ is.reply; state = is.state }
+    record { reply = c.refused_at.ensures.reply ∙ is.reply; state = is.state; point = c.refused_at.ensures.point }
