@@ -16,6 +16,7 @@ pub mod Windows
 pub mod Spaces
 pub mod Taking
 pub mod Kept
+pub mod Newest
 pub mod Comparing
 pub mod Gaps
 pub mod Picked

@@ -5,7 +5,7 @@ ghost use Rattle.std.specs.Prelude.{◌≡◌, ◌+◌, ◌^◌, ◌<◌, ◌≤
 ghost use Rattle.std.specs.Prelude.{Bool, true, false, ◌&&◌, length, IfOk, Some};
 ghost use Rattle.std.specs.Int.{IsPowerOfTwo};
 ghost use Rattle.std.specs.List.{list_any};
-ghost use Rattle.iova_range.specs.Frames.{meets};
+ghost use Rattle.iova_range.specs.Frames.{covers, meets};
 ghost use Rattle.iova_model.specs.Fit.{is_covered};
 ghost use Rattle.iova_tree.specs.Spans.{frames_of, all_of, is_kind, inserted_of, first_or, end_after, room_after, room_below, room_between, with_span, IsRisingFrom, Holds, IsLow};
 ghost use Rattle.iova_tree.specs.Fit.{IsWanted, place_before, place_behind, highest_between, highest_free};
@@ -413,9 +413,34 @@ impl Node {
         Range::new(self.lo, self.end - self.lo)
     }
 
-    // Whether it is no window, and has one of the frames from `lo` on, below `end`.
+    /// Its first frame.
     #[inline]
-    fn is_taken(&self, lo: u64, end: u64) -> bool
+    pub fn lo(&self) -> u64
+        ensures { result ≡ self.now.lo }
+    {
+        self.lo
+    }
+
+    /// The frame behind its last.
+    #[inline]
+    pub fn end(&self) -> u64
+        ensures { result ≡ self.now.end }
+    {
+        self.end
+    }
+
+    /// Whether it has the frame.
+    #[inline]
+    pub fn has(&self, frame: u64) -> bool
+        requires { self.now.lo < self.now.end }
+        ensures { result ≡ covers frame (frames_of (own_span self.now)) }
+    {
+        self.lo <= frame && frame < self.end
+    }
+
+    /// Whether it is no window, and has one of the frames from `lo` on, below `end`.
+    #[inline]
+    pub fn is_taken(&self, lo: u64, end: u64) -> bool
         requires own { self.now.lo < self.now.end }
         requires asked { lo < end }
         ensures { result ≡ (is_kind false (own_span self.now) && meets (record { lo = lo; len = end - lo }) (frames_of (own_span self.now))) }
