@@ -1,7 +1,7 @@
-use Rattle.std.proofs.Common.{◌≡◌, ◌+◌, ◌<◌, ◌≤◌, inl, inr, refl, arith}
+use Rattle.std.proofs.Common.{◌+◌, ◌<◌, ◌≤◌, inl, inr, refl, arith}
 use Rattle.iova_tree.specs.Node.{own_span}
 use Rattle.iova_tree.specs.Spans.{IsRisingFrom, with_span}
-use Rattle.iova_tree.proofs.Newest.{beside, nothing_beside, found_below, highest_with-apart, highest_with-below, highest_newest-none}
+use Rattle.iova_tree.proofs.Newest.{beside, found_below, highest_with-apart, highest_with-below, highest_newest-none}
 use Rattle.iova_tree.proofs.ranges.Ranges.highest.Goals as goal
 
 pub returns-in_default : goal.returns-in_default
