@@ -1,30 +1,11 @@
 -- What a place that was found, a range that was inserted and one that was removed leave held.
 use Rattle.std.proofs.Common.{ℕ, suc, ◌≡◌, ◌+◌, ◌-◌, ◌%◌, ◌<◌, ◌≤◌, ◌==◌, ◌&&◌, min, Bool, true, false, cond, List, [], ◌∷◌, ◌++◌, length, Some, slice_index_or, refl, sym, ap, ◌∙◌, arith}
 use Rattle.std.specs.Prelude.{nat_le, nat_lt, find, IsSome, slice_set, sum_by}
-use Rattle.std.proofs.lemmas.Bool.{and_parts}
 use Rattle.std.proofs.lemmas.Bool.Decides.{nat_tests}
 use Rattle.std.proofs.lemmas.List.Sums.{sum_by-set, sum_by-append, sum_by-cons}
 use Rattle.iova_range.specs.Frames.{Frames}
-use Rattle.iova_range.specs.Sizes.{align_of}
-use Rattle.iova_range.specs.Bounds.{Extent}
 use Rattle.iova_model.specs.Clients.{insert_rising, remove_at, begins_at}
-use Rattle.iova_model.specs.Fit.{fits, is_clear, best}
-use Rattle.iova_model.proofs.Placing.{greatest_some, fits-Fits}
-use Rattle.iova_tree.specs.Space.{IsInside}
 use Rattle.iova_bench.specs.Held.{AreHeld, one_at}
-
-pub record IsPlace (b : Extent) (ranges : List Frames) (size lo : ℕ) : Type 0 where
-  pub clear : is_clear (record { lo = lo; len = size }) ranges ≡ true
-  pub inside : IsInside b (record { lo = lo; len = size })
-
-pub best_place_is : (b : Extent) (ranges : List Frames) (size limit lo : ℕ) → 1 ≤ size → Some lo ≡ best b ranges size limit → IsPlace b ranges size lo
-best_place_is b ranges size limit lo some is =
-    let g = greatest_some (fits b ranges size limit) (min limit b.last + 1) lo (sym is) in
-    let f = fits-Fits b ranges size limit lo g.passes in
-    record {
-      clear = (and_parts ((lo % align_of size == 0) && nat_le b.start lo && nat_le (lo + size - 1) (min limit b.last)) _ g.passes).1;
-      inside = record { some = some; start = f.start; last = let l = f.last in omega arith };
-    }
 
 -- what was inserted is found
 pub found_inserted : (r : Frames) (xs : List Frames) → IsSome (find (begins_at r.lo) (insert_rising r xs))

@@ -15,7 +15,7 @@ use std::rt::Runtime;
 use std::time::Instant;
 
 /// The names of the cases.
-pub const CASES: [&str; 5] = ["b1", "b2", "c1", "c3", "c4"];
+pub const CASES: [&str; 6] = ["b1", "b2", "b3", "c1", "c3", "c4"];
 
 const TOP: u64 = 68_719_476_735;
 
@@ -104,6 +104,33 @@ fn renew_often(tree: &mut Tree, held: &mut Vec<u64>, random: &mut Random) -> any
         if live > 0 {
             let k = random.below(live) as usize;
             renew(tree, held, k, some_size(random))?;
+        }
+    }
+    Ok(())
+}
+
+fn b3<R: Runtime>(rt: &R, alloc: Global, live: u64) -> anyhow::Result<()> {
+    let mut tree = Tree::new(alloc, Bounds::new(1, TOP)?)?;
+    let mut random = Random::new(42);
+    let mut held = fill(alloc, &mut tree, live, &mut random)?;
+    let mut best = u64::MAX;
+    for _ in 0..3 {
+        let since = Instant::now(rt)?;
+        take_turns(&mut tree, &mut held, &mut random)?;
+        best = best.min(nanos_each(rt, &since)?);
+    }
+    report(rt, "b3", live, best)
+}
+
+// Of the last two ranges the older goes and another comes, again and again.
+fn take_turns(tree: &mut Tree, held: &mut Vec<u64>, random: &mut Random) -> anyhow::Result<()>
+    requires { AreHeld tree.old.inserted held.old.items }
+    ensures { OnOk result (AreHeld tree.new.inserted held.new.items) }
+{
+    for turn in 0..COUNT as usize {
+        let live = held.len();
+        if live > 1 {
+            renew(tree, held, live - 1 - turn % 2, some_size(random))?;
         }
     }
     Ok(())
@@ -200,6 +227,7 @@ pub fn run<R: Runtime>(rt: &R, alloc: Global, case: &str) -> anyhow::Result<()> 
         match case {
             "b1" => b1(rt, alloc, live)?,
             "b2" => b2(rt, alloc, live)?,
+            "b3" => b3(rt, alloc, live)?,
             "c1" => search(rt, case, &holes(alloc, live, 1)?, live, 100, true)?,
             "c3" => search(
                 rt,

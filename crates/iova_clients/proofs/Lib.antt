@@ -1,8 +1,8 @@
-pub mod Listed
-pub mod Rising
-pub mod AccountLemmas
-pub mod Changed
-pub mod Kept
-pub mod TotalsLemmas
-pub mod BooksLemmas
-pub mod Holding
+mod Listed
+mod Rising
+mod AccountLemmas
+mod Changed
+mod Kept
+mod TotalsLemmas
+mod BooksLemmas
+mod Holding

@@ -12,7 +12,7 @@ use Rattle.iova_model.specs.declared.step.Point.{Point}
 use Rattle.iova_model.specs.declared.step.Point.TheVariants as point
 use Rattle.iova_model.specs.Caches.{Caches}
 use Rattle.iova_model.specs.Clients.{Client, client_with, client_of, changed, with_holding, begins_at}
-use Rattle.iova_model.specs.Laws.{cached_ranges}
+use Rattle.iova_model.specs.Laws.{cached_ranges, StepsKeepValidity}
 use Rattle.iova_model.specs.State.{State}
 use Rattle.iova_model.specs.Valid.{IsValid}
 use Rattle.iova_model.specs.Next as next
@@ -30,11 +30,10 @@ use Rattle.iova_core.proofs.Queues.{inserted_load}
 use Rattle.iova_core.proofs.Reductions.{room_refusal_of, alloc_walks}
 use Rattle.iova_core.proofs.Stocks.{cached_sum, has_low}
 use Rattle.iova_core.proofs.Ties.{load_tied}
-use Rattle.iova_laws.proofs.Weight as weight
-use Rattle.iova_laws.proofs.WeightHolders.{load}
-use Rattle.iova_laws.proofs.ConserveSteps.{given_moved}
-use Rattle.iova_laws.proofs.Valid.{steps_keep_validity}
-use Rattle.iova_laws.proofs.Walks.{walk_walked}
+use Rattle.iova_laws.proofs.Weights as weight
+use Rattle.iova_laws.proofs.Weights.{load}
+use Rattle.iova_laws.proofs.Moves.{given_moved}
+use Rattle.iova_laws.proofs.Finds.{walk_walked}
 
 -- A request that has passed the tests before the walk.
 pub record IsAsked (s : State) (w id frames : ℕ) (c : Client) : Type 0 where
@@ -140,11 +139,11 @@ module _ (p : Parts) (h : IsDomain p) (w id frames limit : ℕ) (c : Client) (as
   profile_kept : cached.profile ≡ tree.bounds.profile
   profile_kept = ex.profile ∙ (h.profile ∙ sym (ap (λ (b : Extent). b.profile) ex.bounds))
 
-  pub domain_walked : (r : Registry) → r.clients ≡ p.clients.clients → r.serial ≡ p.clients.serial → placed f ≡ [] → (next.alloc (state_of p) w id frames limit (point_of f)).state ≡ state_of (walked_parts r) → IsDomain (walked_parts r)
-  domain_walked r clients serial nothing leaves =
+  pub domain_walked : StepsKeepValidity → (r : Registry) → r.clients ≡ p.clients.clients → r.serial ≡ p.clients.serial → placed f ≡ [] → (next.alloc (state_of p) w id frames limit (point_of f)).state ≡ state_of (walked_parts r) → IsDomain (walked_parts r)
+  domain_walked law r clients serial nothing leaves =
       let q = walked_parts r in
       record {
-        valid = subst IsValid leaves (steps_keep_validity (state_of p) (step.Alloc w id frames limit) (point_of f) h.valid);
+        valid = subst IsValid leaves (law (state_of p) (step.Alloc w id frames limit) (point_of f) h.valid);
         tied = load_tied tree.inserted (state_of q) (λ weigh.
             omega (arith, grown weigh, ap (weight.ranges weigh) nothing, weight.ranges_are weigh tree.inserted, ap (weight.clients weigh) clients));
         space = ex.space;
@@ -182,11 +181,11 @@ module _ (p : Parts) (h : IsDomain p) (w id frames limit : ℕ) (c : Client) (as
         ∙ (ap (λ x. made (changed id (with_holding x) p.clients.clients)) range
         ∙ (ap made (sym clients) ∙ ap (λ x. next.with_clients x r'.clients) (walked_state kept refl serial))))
 
-    pub domain_given : (r' : Registry) → r'.clients ≡ changed id (with_holding r) p.clients.clients → (next.alloc (state_of p) w id frames limit (point_of f)).state ≡ state_of (walked_parts r') → IsDomain (walked_parts r')
-    domain_given r' clients leaves =
+    pub domain_given : StepsKeepValidity → (r' : Registry) → r'.clients ≡ changed id (with_holding r) p.clients.clients → (next.alloc (state_of p) w id frames limit (point_of f)).state ≡ state_of (walked_parts r') → IsDomain (walked_parts r')
+    domain_given law r' clients leaves =
         let q = walked_parts r' in
         record {
-          valid = subst IsValid leaves (steps_keep_validity (state_of p) (step.Alloc w id frames limit) (point_of f) h.valid);
+          valid = subst IsValid leaves (law (state_of p) (step.Alloc w id frames limit) (point_of f) h.valid);
           tied = load_tied tree.inserted (state_of q) (λ weigh.
               omega (arith, grown weigh, weighs weigh, weight.ranges_are weigh tree.inserted, ap (weight.clients weigh) clients, (given_moved (state_of p) id c r asked.found).balance weigh));
           space = ex.space;

@@ -8,9 +8,8 @@ use Rattle.iova_model.specs.Clients.{Client, client_with, client_of, begins_at, 
 use Rattle.iova_model.specs.State.{State}
 use Rattle.iova_model.specs.Next.{Next, no_worker, unless, worker_tests, close, close_of, close_one, close_one_of, close_lowest, queue, unmap_held, with_clients}
 use Rattle.iova_clients.specs.Registry.{lowest, IsDone}
-use Rattle.iova_laws.proofs.Outcomes.{owned}
-use Rattle.iova_laws.proofs.ValidCases.{with_marked}
-use Rattle.iova_laws.proofs.ValidFound.{changed_found, first_held}
+use Rattle.iova_laws.proofs.Finds.{owned, changed_found, first_held}
+use Rattle.iova_laws.proofs.Kept.{with_marked}
 
 -- a client that was marked
 pub record IsMarked (s : State) (w id : ℕ) : Type 0 where

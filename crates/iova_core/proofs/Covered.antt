@@ -13,7 +13,7 @@ use Rattle.iova_model.specs.Valid.{IsValid, is_inside}
 use Rattle.iova_model.specs.Next.{best_place}
 use Rattle.iova_model.proofs.Placing.{AreSome, best-is_best, best-from, IsBest-same}
 use Rattle.iova_core.specs.Tied.{IsTied}
-use Rattle.iova_laws.proofs.Weight as weight
+use Rattle.iova_laws.proofs.Weights as weight
 
 -- one where the range has the frame
 abbrev pub has : ℕ → Frames → ℕ

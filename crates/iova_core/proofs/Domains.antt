@@ -12,6 +12,7 @@ use Rattle.iova_model.specs.Caches.{new_caches, emptied}
 use Rattle.iova_model.specs.Flushes.{Flushes, flushes_from}
 use Rattle.iova_model.specs.State.{State, new_domain}
 use Rattle.iova_model.specs.Valid.{IsValid}
+use Rattle.iova_model.specs.Laws.{NewDomainsAreValid, StepsKeepValidity}
 use Rattle.iova_model.specs.Next.{Next, next, no_worker, opened, with_flushes, with_clients}
 use Rattle.iova_tree.specs.Space.{Space, IsSpace, ranges_of}
 use Rattle.iova_clients.specs.Registry.{Registry, open_refusal}
@@ -21,11 +22,10 @@ use Rattle.iova_depot.specs.Cached.{Cached, new_cached}
 use Rattle.iova_core.specs.Tied.{IsTied}
 use Rattle.iova_core.specs.Domain.{Parts, state_of, IsDomain}
 use Rattle.iova_core.proofs.Ties.{tied_load, load_tied}
-use Rattle.iova_laws.proofs.Weight as weight
-use Rattle.iova_laws.proofs.WeightHolders.{load}
-use Rattle.iova_laws.proofs.WeightCaches.{cached-emptied}
-use Rattle.iova_laws.proofs.ConserveSteps.{IsMoved, flushes_moved, opened_moved, marked_moved, forgotten_moved}
-use Rattle.iova_laws.proofs.Valid.{new_domains_are_valid, steps_keep_validity, with_marked_valid, without_client_valid}
+use Rattle.iova_laws.proofs.Weights as weight
+use Rattle.iova_laws.proofs.Weights.{load, cached-emptied}
+use Rattle.iova_laws.proofs.Moves.{IsMoved, flushes_moved, opened_moved, marked_moved, forgotten_moved}
+use Rattle.iova_laws.proofs.Kept.{with_marked_valid, without_client_valid}
 
 -- A new domain.
 
@@ -41,9 +41,9 @@ rings_none : (weigh : Frames → ℕ) (n : ℕ) → weight.rings weigh (replicat
 rings_none weigh zero = refl
 rings_none weigh (suc n) = omega (arith, rings_none weigh n)
 
-pub domain_new : (p : Parts) (bounds : Extent) (workers : ℕ) → state_of p ≡ new_domain bounds workers → p.tree ≡ record { bounds = bounds; inserted = []; windows = [] } → p.cached ≡ new_cached bounds.profile workers → IsSpace p.tree → IsExtent bounds → 1 ≤ workers → workers ≤ 16 → p.reserved ≡ 0 → IsDomain p
-domain_new p bounds workers is tree cached space extent some few counted = record {
-  valid = subst IsValid (sym is) (new_domains_are_valid bounds workers extent some few);
+pub domain_new : NewDomainsAreValid → (p : Parts) (bounds : Extent) (workers : ℕ) → state_of p ≡ new_domain bounds workers → p.tree ≡ record { bounds = bounds; inserted = []; windows = [] } → p.cached ≡ new_cached bounds.profile workers → IsSpace p.tree → IsExtent bounds → 1 ≤ workers → workers ≤ 16 → p.reserved ≡ 0 → IsDomain p
+domain_new law p bounds workers is tree cached space extent some few counted = record {
+  valid = subst IsValid (sym is) (law bounds workers extent some few);
   tied =
       let none : IsTied [] (new_domain bounds workers) = load_tied [] (new_domain bounds workers) (λ weigh. omega (arith, rings_none weigh workers, magazines_none weigh workers)) in
       subst (λ t. IsTied (ranges_of t) (state_of p)) (sym tree) (subst (IsTied []) (sym is) none);
@@ -53,9 +53,9 @@ domain_new p bounds workers is tree cached space extent some few counted = recor
 }
 
 -- A step that leaves what other parts make.
-pub domain_step : (p q : Parts) (st : Step) (m : Point) → IsDomain p → (next (state_of p) st m).state ≡ state_of q → IsTied (ranges_of q.tree) (state_of q) → IsSpace q.tree → q.cached.profile ≡ q.tree.bounds.profile → q.reserved ≡ sum_by (λ r. r.len) q.tree.windows → IsDomain q
-domain_step p q st m h leaves tied space profile counted = record {
-  valid = subst IsValid leaves (steps_keep_validity (state_of p) st m h.valid);
+pub domain_step : StepsKeepValidity → (p q : Parts) (st : Step) (m : Point) → IsDomain p → (next (state_of p) st m).state ≡ state_of q → IsTied (ranges_of q.tree) (state_of q) → IsSpace q.tree → q.cached.profile ≡ q.tree.bounds.profile → q.reserved ≡ sum_by (λ r. r.len) q.tree.windows → IsDomain q
+domain_step law p q st m h leaves tied space profile counted = record {
+  valid = subst IsValid leaves (law (state_of p) st m h.valid);
   tied = tied;
   space = space;
   profile = profile;
@@ -111,14 +111,14 @@ pub domain_registry : (p : Parts) (r : Registry) → IsDomain p → r ≡ p.clie
 domain_registry p r h same = subst (λ x. IsDomain (record p { clients = x })) (sym same) h
 
 -- a client was opened
-pub domain_opened : (p : Parts) (r : Registry) (w : ℕ) (sac : Bool) → IsDomain p → w < p.cached.workers → open_refusal p.clients ≡ None → r.clients ≡ p.clients.clients ++ new_client (p.clients.serial + 1) w sac ∷ [] → r.serial ≡ p.clients.serial + 1 → IsDomain (record p { clients = r })
-domain_opened p r w sac h known none clients serial =
+pub domain_opened : StepsKeepValidity → (p : Parts) (r : Registry) (w : ℕ) (sac : Bool) → IsDomain p → w < p.cached.workers → open_refusal p.clients ≡ None → r.clients ≡ p.clients.clients ++ new_client (p.clients.serial + 1) w sac ∷ [] → r.serial ≡ p.clients.serial + 1 → IsDomain (record p { clients = r })
+domain_opened law p r w sac h known none clients serial =
     let s = state_of p in
     let q : Parts = record p { clients = r } in
     let test : no_worker s w ≡ false = grind (arith, nat_tests) in
     let leaves : opened s w sac ≡ state_of q = rw (clients, serial) refl in
     let taken : (next s (step.Open w sac) point.Never).state ≡ state_of q = ap (λ (n : Next). n.state) (open_taken s w sac test none) ∙ leaves in
-    domain_moved p q h (subst IsValid taken (steps_keep_validity s (step.Open w sac) point.Never h.valid)) (subst (λ t. IsMoved s t [] []) leaves (opened_moved s w sac)) refl refl refl
+    domain_moved p q h (subst IsValid taken (law s (step.Open w sac) point.Never h.valid)) (subst (λ t. IsMoved s t [] []) leaves (opened_moved s w sac)) refl refl refl
 
 -- a client was marked
 pub domain_marked : (p : Parts) (r : Registry) (id : ℕ) (c : Client) → IsDomain p → client_with id p.clients.clients ≡ Some c → r.clients ≡ changed id marked p.clients.clients → r.serial ≡ p.clients.serial → IsDomain (record p { clients = r })

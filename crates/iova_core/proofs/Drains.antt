@@ -12,8 +12,8 @@ use Rattle.iova_depot.specs.Cached.{Cached, IsCached, LosesOnly}
 use Rattle.iova_tree.specs.Space.{Space, IsSpace}
 use Rattle.iova_core.specs.Stock.{HasAll, Frees, IsStock, Exchanges}
 use Rattle.iova_core.proofs.Stocks.{cached_sum}
-use Rattle.iova_laws.proofs.Weight as weight
-use Rattle.iova_laws.proofs.WeightCaches.{cached-emptied}
+use Rattle.iova_laws.proofs.Weights as weight
+use Rattle.iova_laws.proofs.Weights.{cached-emptied}
 
 -- nothing has moved
 pub exchanges_none : (tree : Space) (c : Cached) → IsSpace tree → IsCached c → Exchanges tree tree c c [] []

@@ -16,8 +16,8 @@ use Rattle.iova_model.proofs.Placing.{AreSome, clear-uncovered}
 use Rattle.iova_tree.specs.Space.{IsInside}
 use Rattle.iova_core.specs.Tied.{IsTied}
 use Rattle.iova_core.proofs.Covered.{has, covered_weighs, covered_alike, best_alike, held_some}
-use Rattle.iova_laws.proofs.Weight as weight
-use Rattle.iova_laws.proofs.WeightHolders.{load, held_are}
+use Rattle.iova_laws.proofs.Weights as weight
+use Rattle.iova_laws.proofs.Weights.{load, held_are}
 
 -- Ranges of a frame at least.
 

@@ -1,19 +1,17 @@
-pub mod Allocs
-pub mod Closes
-pub mod Covered
-pub mod Placed
-pub mod Domains
-pub mod Drains
-pub mod Given
-pub mod Holdings
-pub mod Outcomes
-pub mod Promises
-pub mod Queues
-pub mod Readers
-pub mod Reductions
-pub mod Stocks
-pub mod Ties
-pub mod Tries
-pub mod Walks
-pub mod Windows
-pub mod Runs
+mod Allocs
+mod Closes
+mod Covered
+mod Domains
+mod Drains
+mod Given
+mod Holdings
+mod Outcomes
+mod Promises
+mod Queues
+mod Readers
+mod Reductions
+mod Stocks
+mod Ties
+mod Tries
+mod Walks
+mod Windows

@@ -9,15 +9,7 @@ use Rattle.iova_model.specs.Valid.{IsValid}
 use Rattle.iova_model.specs.Next.{next}
 use Rattle.iova_model.specs.Transcript.{Pair, IsTranscript, after, IsRun}
 use Rattle.iova_model.specs.Laws.{Marks, IsClosing, IsGone}
-use Rattle.iova_core.specs.Promises.{AreKept, ClosingLaw, Runs}
-use Rattle.iova_laws.proofs.ClosingTranscripts.{clients_close_in_order}
-use Rattle.iova_laws.proofs.Conserve.{steps_conserve}
-use Rattle.iova_laws.proofs.CountPlaces.{places_add_up}
-use Rattle.iova_laws.proofs.FlushReuse.{reuse_is_flushed}
-use Rattle.iova_laws.proofs.FlushTranscripts.{transcripts_are_flushed}
-use Rattle.iova_laws.proofs.LedgerTotals.{totals_are_shares}
-use Rattle.iova_laws.proofs.PlaceKinds.{each_frame_is_in_one_place}
-use Rattle.iova_laws.proofs.Valid.{transcripts_keep_validity}
+use Rattle.iova_core.specs.Promises.{AreLaws, AreKept, ClosingLaw, Runs}
 
 -- a transcript from its middle on
 later_transcript : (s : State) (before later : List Pair) → IsTranscript s (before ++ later) → IsTranscript (after s before) later
@@ -28,25 +20,25 @@ after_append : (s : State) (before later : List Pair) → after s (before ++ lat
 after_append s [] later = refl
 after_append s (p ∷ before) later = after_append (next s p.step p.point).state before later
 
-closes_in_order : (s : State) (ps : List Pair) → IsValid s → IsTranscript s ps → ClosingLaw s ps
-closes_in_order s ps valid transcript before p later id c is found marks =
+closes_in_order : AreLaws → (s : State) (ps : List Pair) → IsValid s → IsTranscript s ps → ClosingLaw s ps
+closes_in_order laws s ps valid transcript before p later id c is found marks =
     let rest = p ∷ later in
-    let here = clients_close_in_order (after s before) p later id c (transcripts_keep_validity s before valid) (later_transcript s before rest (subst (IsTranscript s) is transcript)) found marks in
+    let here = laws.closing (after s before) p later id c (laws.valid s before valid) (later_transcript s before rest (subst (IsTranscript s) is transcript)) found marks in
     subst (λ t. IsClosing id c.holdings rest t ⊎ IsGone id c.holdings rest t) (sym (ap (after s) is ∙ after_append s before rest)) here
 
-pub promises_kept : (s : State) (ps : List Pair) → IsValid s → IsTranscript s ps → AreKept s ps
-promises_kept s ps valid transcript =
-    let left = transcripts_keep_validity s ps valid in
+pub promises_kept : AreLaws → (s : State) (ps : List Pair) → IsValid s → IsTranscript s ps → AreKept s ps
+promises_kept laws s ps valid transcript =
+    let left = laws.valid s ps valid in
     record {
-      flushed = transcripts_are_flushed s ps valid transcript;
-      reuse = λ i n frame. reuse_is_flushed s ps i n frame valid transcript;
-      closing = closes_in_order s ps valid transcript;
-      conserved = λ n p is. steps_conserve (after s (take n ps)) p.step p.point (transcripts_keep_validity s (take n ps) valid);
+      flushed = laws.flushed s ps valid transcript;
+      reuse = λ i n frame. laws.reuse s ps i n frame valid transcript;
+      closing = closes_in_order laws s ps valid transcript;
+      conserved = λ n p is. laws.conserved (after s (take n ps)) p.step p.point (laws.valid s (take n ps) valid);
       valid = left;
-      one_place = λ frame. each_frame_is_in_one_place (after s ps) frame left;
-      counted = places_add_up (after s ps) left;
-      totals = totals_are_shares (after s ps) left;
+      one_place = λ frame. laws.one_place (after s ps) frame left;
+      counted = laws.counted (after s ps) left;
+      totals = laws.totals (after s ps) left;
     }
 
-pub run_keeps : (old new : State) (taken : List Step) (before now : List Reply) → IsValid old → IsRun old new taken before now → Runs old new taken before now
-run_keeps old new taken before now valid run = record { run = run; kept = promises_kept old run.pairs valid run.transcript }
+pub run_keeps : AreLaws → (old new : State) (taken : List Step) (before now : List Reply) → IsValid old → IsRun old new taken before now → Runs old new taken before now
+run_keeps laws old new taken before now valid run = record { run = run; kept = promises_kept laws old run.pairs valid run.transcript }

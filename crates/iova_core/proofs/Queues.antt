@@ -26,17 +26,11 @@ use Rattle.iova_core.proofs.Domains.{tied_parts}
 use Rattle.iova_core.proofs.Holdings.{found_lo, removed_length, taken_none, put_back, changed_back}
 use Rattle.iova_core.proofs.Stocks.{cached_sum, profile_low}
 use Rattle.iova_core.proofs.Ties.{tied_load}
-use Rattle.iova_laws.proofs.Weight as weight
-use Rattle.iova_laws.proofs.WeightCaches.{cached-put_all}
-use Rattle.iova_laws.proofs.WeightHolders.{load}
-use Rattle.iova_laws.proofs.ValidCaches.{magazine_takes}
-use Rattle.iova_laws.proofs.ValidCases.{HasRingRoom}
-use Rattle.iova_laws.proofs.Conserve.{drained_queued_moved}
-use Rattle.iova_laws.proofs.ConserveSteps.{IsMoved, moved_none, shape_of, drained_moved}
-use Rattle.iova_laws.proofs.Valid.{drained_valid, unmapped_valid, held_inside}
-use Rattle.iova_laws.proofs.ValidLists.{all-at, all_found}
-use Rattle.iova_laws.proofs.ValidClients.{found_valid}
-use Rattle.iova_laws.proofs.ValidFound.{changed_found, held_at as held_again}
+use Rattle.iova_laws.proofs.Weights as weight
+use Rattle.iova_laws.proofs.Weights.{cached-put_all, load}
+use Rattle.iova_laws.proofs.Kept.{magazine_takes, HasRingRoom, drained_valid, unmapped_valid, held_inside, all-at, all_found, found_valid}
+use Rattle.iova_laws.proofs.Moves.{drained_queued_moved, IsMoved, moved_none, shape_of, drained_moved}
+use Rattle.iova_laws.proofs.Finds.{changed_found, held_at as held_again}
 
 -- Inside a list, what stands there by default is of no matter.
 pub index_default : {A : Type 0} (xs : List A) (i : ℕ) (d e : A) → i < length xs → slice_index_or xs i d ≡ slice_index_or xs i e

@@ -13,16 +13,16 @@ use Rattle.iova_model.specs.declared.entry.Entry.{Entry}
 use Rattle.iova_model.specs.Fit.{is_covered}
 use Rattle.iova_model.specs.Flushes.{Flushes, entry_range, flushes_from}
 use Rattle.iova_model.specs.Clients.{Client, totals}
-use Rattle.iova_model.specs.State.{State, new_domain, counts, magazine_holders, depot_holders, Holder, at_place, window_holders, client_holders, cached_holders, ring_holders, owners, holders, place_in, place_of}
+use Rattle.iova_model.specs.State.{State, new_domain, counts, magazine_holders, depot_holders, Holder, at_place, window_holders, client_holders, cached_holders, ring_holders, owners, holders, place_in, place_of, held_ranges}
 use Rattle.iova_model.specs.Valid.{IsValid}
-use Rattle.iova_model.specs.Laws.{frames_of}
+use Rattle.iova_model.specs.Laws.{frames_of, PlacesAddUp}
 use Rattle.iova_model.specs.declared.place.Counts.{Counts}
-use Rattle.iova_tree.specs.Space.{Space}
+use Rattle.iova_tree.specs.Space.{Space, ranges_of}
 use Rattle.iova_flush.specs.Rings.{frame_count}
 use Rattle.iova_clients.specs.Registry.{Registry, empty_registry}
 use Rattle.iova_depot.specs.Cached.{Cached, new_cached}
 use Rattle.iova_core.specs.Domain.{Parts, state_of, IsDomain, place_inside, frames_in_rings}
-use Rattle.iova_laws.proofs.CountPlaces.{places_add_up}
+use Rattle.iova_core.proofs.Covered.{covered_alike}
 
 -- the parts of a domain
 abbrev pub parts_of : Space → Registry → Cached → List (List Entry) → Flushes → ℕ → Parts
@@ -162,6 +162,21 @@ module _ (s : State) (frame : ℕ) where
   place_ringed none lost missed =
       ap place_in (beside_clients none lost ∙ placed_later frame (cached_holders s.caches) (ring_holders 0 s.rings) missed)
 
+-- A frame that the tree has not.
+
+no_holder : (frame : ℕ) (hs : List Holder) → is_covered frame (map (λ h. h.range) hs) ≡ false → holder_in frame hs ≡ None
+no_holder frame [] none = refl
+no_holder frame (h ∷ hs) none = holder_step (no_holder frame hs) (covers frame h.range) refl
+  where
+    holder_step : (is_covered frame (map (λ x. x.range) hs) ≡ false → holder_in frame hs ≡ None) → (b : Bool) → covers frame h.range ≡ b → holder_in frame (h ∷ hs) ≡ None
+    holder_step more true is = let e = rw is at none in absurd cc
+    holder_step more false is = let e = rw is at none in rw is (more e)
+
+pub place_free : (p : Parts) (frame : ℕ) → IsDomain p → is_covered frame (ranges_of p.tree) ≡ false → place_of (state_of p) frame ≡ place.Free
+place_free p frame h none =
+    let s = state_of p in
+    ap place_in (no_holder frame (holders s) (sym (covered_alike (ranges_of p.tree) (held_ranges s) h.tied frame) ∙ none))
+
 -- the frame is inside the bounds
 pub record IsInBounds (frame : ℕ) (b : Extent) : Type 0 where
   pub start : b.start ≤ frame
@@ -216,10 +231,10 @@ pub record AreCounts (s : State) (first last reserved client magazine depot ring
   pub total : (counts s).free + reserved + client + magazine + depot + ring ≡ last - first + 1
   pub are : ◌≡◌ {A = Counts} (record { free = last - first + 1 - reserved - client - magazine - depot - ring; reserved = reserved; client = client; magazine = magazine; depot = depot; ring = ring }) (counts s)
 
-are_counts : (s : State) (reserved client magazine depot ring : ℕ) → IsValid s → reserved ≡ sum_by (λ r. r.len) s.windows → client ≡ (totals s.clients).frames → magazine ≡ frames_of (magazine_holders 0 s.caches.workers) → depot ≡ frames_of (depot_holders 0 s.caches.depots) → ring ≡ frames_in_rings s.rings
+are_counts : PlacesAddUp → (s : State) (reserved client magazine depot ring : ℕ) → IsValid s → reserved ≡ sum_by (λ r. r.len) s.windows → client ≡ (totals s.clients).frames → magazine ≡ frames_of (magazine_holders 0 s.caches.workers) → depot ≡ frames_of (depot_holders 0 s.caches.depots) → ring ≡ frames_in_rings s.rings
     → AreCounts s s.bounds.start s.bounds.last reserved client magazine depot ring
-are_counts s reserved client magazine depot ring valid a b d e f =
-    let up = places_add_up s valid in
+are_counts law s reserved client magazine depot ring valid a b d e f =
+    let up = law s valid in
     let order = valid.bounds.bounds.in_order in
     let reserved_is : reserved ≡ (counts s).reserved = a ∙ (sym (frames_at_place place.Reserved s.windows) ∙ sym up.reserved) in
     let client_is : client ≡ (counts s).client = b ∙ sym up.client in
@@ -233,10 +248,10 @@ are_counts s reserved client magazine depot ring valid a b d e f =
     }
 
 -- the same of what the parts answer
-pub counts_are : (p : Parts) (t : State) (first last client magazine depot ring : ℕ) (own : Extent) → state_of p ≡ t → IsDomain p → own ≡ p.tree.bounds → first ≡ own.start → last ≡ own.last → client ≡ (totals p.clients.clients).frames
+pub counts_are : PlacesAddUp → (p : Parts) (t : State) (first last client magazine depot ring : ℕ) (own : Extent) → state_of p ≡ t → IsDomain p → own ≡ p.tree.bounds → first ≡ own.start → last ≡ own.last → client ≡ (totals p.clients.clients).frames
     → magazine ≡ frames_of (magazine_holders 0 p.cached.caches.workers) → depot ≡ frames_of (depot_holders 0 p.cached.caches.depots) → ring ≡ frames_in_rings p.rings → AreCounts t first last p.reserved client magazine depot ring
-counts_are p t first last client magazine depot ring own same h is is_first is_last a b d e =
-    let here = are_counts (state_of p) p.reserved client magazine depot ring h.valid h.counted a b d e in
+counts_are law p t first last client magazine depot ring own same h is is_first is_last a b d e =
+    let here = are_counts law (state_of p) p.reserved client magazine depot ring h.valid h.counted a b d e in
     let start : first ≡ p.tree.bounds.start = is_first ∙ ap (λ (x : Extent). x.start) is in
     let end : last ≡ p.tree.bounds.last = is_last ∙ ap (λ (x : Extent). x.last) is in
     subst (λ (x : State). AreCounts x first last p.reserved client magazine depot ring) same

@@ -11,10 +11,9 @@ use Rattle.iova_depot.specs.Cached.{Cached, IsCached}
 use Rattle.iova_model.specs.Clients.{begins_at, remove_at}
 use Rattle.iova_tree.specs.Space.{Space, IsSpace, IsInside, RiseApart}
 use Rattle.iova_core.specs.Stock.{HasAll, Frees, IsStock, Exchanges}
-use Rattle.iova_laws.proofs.Weight as weight
-use Rattle.iova_laws.proofs.WeightCaches.{cached-put_all, cached-emptied}
-use Rattle.iova_laws.proofs.WeightHolders.{cached_weigh}
-use Rattle.iova_laws.proofs.ValidCaches.{magazine_takes}
+use Rattle.iova_laws.proofs.Weights as weight
+use Rattle.iova_laws.proofs.Weights.{cached-put_all, cached-emptied, cached_weigh}
+use Rattle.iova_laws.proofs.Kept.{magazine_takes}
 
 -- one where two ranges are the same
 abbrev pub same_as : Frames → Frames → ℕ

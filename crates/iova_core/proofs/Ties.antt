@@ -5,9 +5,9 @@ use Rattle.iova_range.specs.Frames.{Frames}
 use Rattle.iova_model.specs.Clients.{insert_rising}
 use Rattle.iova_model.specs.State.{State, held_ranges}
 use Rattle.iova_core.specs.Tied.{IsTied}
-use Rattle.iova_laws.proofs.Weight as weight
-use Rattle.iova_laws.proofs.WeightHolders.{load, held_weigh}
-use Rattle.iova_laws.proofs.ConserveSteps.{IsMoved}
+use Rattle.iova_laws.proofs.Weights as weight
+use Rattle.iova_laws.proofs.Weights.{load, held_weigh}
+use Rattle.iova_laws.proofs.Moves.{IsMoved}
 
 -- beside the windows, the tree has what the others have
 pub tied_load : (inserted : List Frames) (s : State) → IsTied (s.windows ++ inserted) s → (weigh : Frames → ℕ) → weight.ranges weigh inserted ≡ load weigh s

@@ -15,7 +15,7 @@ use Rattle.iova_core.specs.Stock.{Exchanges}
 use Rattle.iova_core.specs.Walk.{get_cached, Stands, Comes, point_of, found_as, IsPointFrom}
 use Rattle.iova_core.proofs.Stocks.{cached_sum}
 use Rattle.iova_core.proofs.Tries.{as_nowhere, stands_with}
-use Rattle.iova_laws.proofs.Weight as weight
+use Rattle.iova_laws.proofs.Weights as weight
 
 -- A try changes caches alone.
 

@@ -14,6 +14,7 @@ use Rattle.iova_model.specs.declared.step.Point.TheVariants as point
 use Rattle.iova_model.specs.declared.step.Reply.{Reply}
 use Rattle.iova_model.specs.declared.step.Reply.TheVariants as reply
 use Rattle.iova_model.specs.State.{State, Holder, owners}
+use Rattle.iova_model.specs.Laws.{StepsKeepValidity}
 use Rattle.iova_model.specs.Next.{Next, refused, unless, is_at, is_taken, from_to, union, windows_with, reserve_tests, reserved, reserve}
 use Rattle.iova_model.proofs.Unless.{unless_refused, unless_taken, unless-append}
 use Rattle.iova_tree.specs.Space.{Space, IsSpace, RiseApart, ranges_of, window_tests, reserve_refusal}
@@ -23,8 +24,8 @@ use Rattle.iova_core.specs.Domain.{Parts, state_of, IsDomain}
 use Rattle.iova_core.proofs.Domains.{domain_step}
 use Rattle.iova_core.proofs.Outcomes.{Refuses, refuses_ok, refuses_err}
 use Rattle.iova_core.proofs.Ties.{tied_load, load_tied}
-use Rattle.iova_laws.proofs.Weight as weight
-use Rattle.iova_laws.proofs.WeightHolders.{load, holder_ranges, owners_hold}
+use Rattle.iova_laws.proofs.Weights as weight
+use Rattle.iova_laws.proofs.Weights.{load, holder_ranges, owners_hold}
 
 -- What is taken.
 
@@ -121,13 +122,13 @@ module _ (p q : Parts) (t : State) (lo hi : ℕ) (same : state_of p ≡ t) (h : 
       subst (λ x. IsReserve x (state_of q) lo hi point.Never (reply.Reserved w)) same here
 
   -- what is kept
-  pub domain_reserved : (result : Result Frames Refusal) (w : Frames) → Refuses (reserve_refusal p.tree lo hi) result → result ≡ Ok w → q.tree ≡ record p.tree { windows = windows_with (from_to lo hi) p.tree.windows } → IsSpace q.tree → q.reserved ≡ sum_by (λ r. r.len) q.tree.windows → IsDomain q
-  domain_reserved result w refuses ok tree space counted =
+  pub domain_reserved : StepsKeepValidity → (result : Result Frames Refusal) (w : Frames) → Refuses (reserve_refusal p.tree lo hi) result → result ≡ Ok w → q.tree ≡ record p.tree { windows = windows_with (from_to lo hi) p.tree.windows } → IsSpace q.tree → q.reserved ≡ sum_by (λ r. r.len) q.tree.windows → IsDomain q
+  domain_reserved law result w refuses ok tree space counted =
       let is = reserve_taken p h lo hi (refuses_ok (reserve_refusal p.tree lo hi) result w refuses ok) in
       let s : State = (reserved (state_of p) (from_to lo hi)).state in
       let tied : IsTied (s.windows ++ p.tree.inserted) s = load_tied p.tree.inserted s (λ weigh. tied_load p.tree.inserted (state_of p) h.tied weigh) in
       let bounds : q.tree.bounds ≡ p.tree.bounds = ap (λ (x : Space). x.bounds) tree in
-      domain_step p q (step.Reserve lo hi) point.Never h (ap (λ (n : Next). n.state) is ∙ sym (new_windows tree))
+      domain_step law p q (step.Reserve lo hi) point.Never h (ap (λ (n : Next). n.state) is ∙ sym (new_windows tree))
       (subst (λ x. IsTied (ranges_of x) (state_of q)) (sym tree) (subst (IsTied (s.windows ++ p.tree.inserted)) (sym (new_windows tree)) tied))
       space
       (ap (λ (x : Cached). x.profile) keeps.cached ∙ (h.profile ∙ sym (ap (λ (b : Extent). b.profile) bounds)))

@@ -7,7 +7,7 @@ use Rattle.iova_model.specs.State.{State, place_of}
 use Rattle.iova_model.specs.Valid.{IsValid}
 use Rattle.iova_model.specs.Next.{next}
 use Rattle.iova_model.specs.Transcript.{Pair, after, IsRun, IsUnmappedAt, IsFlushedBetween, FlushLaw}
-use Rattle.iova_model.specs.Laws.{IsOnlyAt, CountsAddUp, shares_below, Conserves, IsGivenAt, Marks, IsClosing, IsGone}
+use Rattle.iova_model.specs.Laws.{IsOnlyAt, CountsAddUp, shares_below, Conserves, IsGivenAt, Marks, IsClosing, IsGone, TranscriptsAreFlushed, ReuseIsFlushed, ClientsCloseInOrder, StepsConserve, TranscriptsKeepValidity, EachFrameIsInOnePlace, PlacesAddUp, TotalsAreShares}
 
 -- An unmapped frame is given again only after a flush that began after its unmap has ended well.
 abbrev pub ReuseLaw : List Pair → Type 0
@@ -27,6 +27,17 @@ ConservationLaw s ps = (n : ℕ) (p : Pair) → slice_get ps n ≡ Some p → Co
 -- Each frame is in exactly one place.
 abbrev pub OnePlace : State → Type 0
 OnePlace t = (frame : ℕ) → IsOnlyAt t frame (place_of t frame)
+
+-- the laws that promise this of every transcript
+pub record AreLaws : Type 0 where
+  pub flushed : TranscriptsAreFlushed
+  pub reuse : ReuseIsFlushed
+  pub closing : ClientsCloseInOrder
+  pub conserved : StepsConserve
+  pub valid : TranscriptsKeepValidity
+  pub one_place : EachFrameIsInOnePlace
+  pub counted : PlacesAddUp
+  pub totals : TotalsAreShares
 
 -- The steps from s on, with their replies, keep the laws, and each frame of the state that they leave is in one place; the
 -- counts add up to the bounds, and the totals are the sums of the shares of all workers.

@@ -5,7 +5,7 @@ ghost use Rattle.iova_model.specs.Clients.{Client, client_with, begins_at, total
 ghost use Rattle.iova_range.specs.Frames.{covers};
 ghost use Rattle.iova_model.specs.State.{new_domain, counts, ring_holders, place_in};
 ghost use Rattle.iova_model.specs.Valid.{IsValid};
-ghost use Rattle.iova_core.specs.Promises.{Runs};
+ghost use Rattle.iova_core.specs.Promises.{AreLaws, Runs};
 ghost use Rattle.iova_model.specs.Next.{next, reserve, open_client, alloc, unmap, unmap_held, begin, end, drain, close, close_one};
 ghost use Rattle.iova_core.specs.Domain.{place_inside, frames_in_rings};
 
@@ -17,6 +17,11 @@ use iova_depot::spot::Spot;
 use iova_flush::Entry;
 use iova_flush::flights::Flights;
 use iova_flush::ring::Ring;
+use iova_laws::closing::clients_close_in_order;
+use iova_laws::flushing::{reuse_is_flushed, transcripts_are_flushed};
+use iova_laws::ledgers::totals_are_shares;
+use iova_laws::places::{each_frame_is_in_one_place, places_add_up, steps_conserve};
+use iova_laws::validity::{new_domains_are_valid, steps_keep_validity, transcripts_keep_validity};
 use iova_model::place::{Counts, Place};
 use iova_model::step::{Point, Reply, Step};
 use iova_model::totals::Totals;
@@ -84,6 +89,7 @@ impl Domain {
         if workers == 0 || workers > 16 {
             return Err(Refusal::NoWorker);
         }
+        new_domains_are_valid();
         let profile = bounds.profile();
         Ok(Domain {
             tree: Tree::new(alloc, bounds)?,
@@ -131,6 +137,7 @@ impl Domain {
         ensures reply { result.0 ≡ (reserve self.old lo hi result.1).reply }
         ensures state { self.new ≡ (reserve self.old lo hi result.1).state }
     {
+        steps_keep_validity();
         match self.tree.reserve(lo, hi) {
             Ok(window) => {
                 self.reserved = frames_of(self.tree.windows());
@@ -148,6 +155,7 @@ impl Domain {
         if worker >= self.workers() {
             return refused(Refusal::NoWorker);
         }
+        steps_keep_validity();
         match self.clients.open(worker, sac) {
             Ok(id) => (Reply::Opened(id), Point::Never),
             Err(refusal) => refused_at(refusal, Point::Once),
@@ -176,6 +184,7 @@ impl Domain {
             Ok(()) => {}
             Err(refusal) => return refused_at(refusal, Point::Ledger),
         }
+        steps_keep_validity();
         let sac = self.clients.is_sac(client).unwrap_or(false);
         match walk(
             &mut self.tree,
@@ -214,6 +223,7 @@ impl Domain {
 
     /// Takes the client's holding that begins at `lo` and puts it into the worker's ring, which is drained first. Where
     /// the ring is full all the same, nothing has changed. `NotHeld`, `RingFull`.
+    #[inline(always)]
     fn queue(&mut self, worker: u64, client: ClientId, lo: u64) -> (Reply, Point)
         requires { worker < self.old.workers }
         ensures reply { (c : Client) → client_with client self.old.clients ≡ Some c → result.0 ≡ (unmap_held (find (begins_at lo) c.holdings) self.old worker client).reply }
@@ -317,13 +327,17 @@ impl Domain {
         }
     }
 
-    /// Where the frame is, or None where it isn't inside the bounds. It looks through all holders.
+    /// Where the frame is, or None where it isn't inside the bounds. The tree says whether it is free; only for a frame that
+    /// somebody has are the holders looked through.
     pub fn place(&self, frame: u64) -> Option<Place>
         ensures { result ≡ place_inside self.now frame }
     {
         let bounds = self.tree.bounds();
         if frame < bounds.start() || frame > bounds.last() {
             return None;
+        }
+        if self.tree.is_free(frame) {
+            return Some(Place::Free);
         }
         if has_frame(self.tree.windows(), frame) {
             return Some(Place::Reserved);
@@ -343,6 +357,7 @@ impl Domain {
     pub fn counts(&self) -> Counts
         ensures { result ≡ counts self.now }
     {
+        places_add_up();
         let bounds = self.tree.bounds();
         let client = self.clients.totals().frames;
         let (magazine, depot) = self.caches.frames();
@@ -488,6 +503,7 @@ pub fn run(domain: &mut Domain, steps: &[Step], replies: &mut Vec<Reply>) -> Res
     ensures ok { OnOk result (Runs domain.old domain.new steps.now replies.old.items replies.new.items) }
     ensures err { OnErr result ((result ≡ Err Refusal.NoMemory) × ((n : ℕ) × Runs domain.old domain.new (take n steps.now) replies.old.items replies.new.items)) }
 {
+    laws();
     // says that the state is valid
     let _workers = domain.workers();
     for step in steps {
@@ -498,6 +514,20 @@ pub fn run(domain: &mut Domain, steps: &[Step], replies: &mut Vec<Reply>) -> Res
         replies.push(reply).unwrap();
     }
     Ok(())
+}
+
+/// The laws of the definitions that the promises of a run follow from.
+fn laws()
+    ensures { AreLaws }
+{
+    transcripts_are_flushed();
+    reuse_is_flushed();
+    clients_close_in_order();
+    steps_conserve();
+    transcripts_keep_validity();
+    each_frame_is_in_one_place();
+    places_add_up();
+    totals_are_shares();
 }
 
 /// A ring for each worker.

@@ -65,6 +65,7 @@ fn from_tree(tree: &mut Tree, size: u64, limit: u64, here: Point) -> Found
 
 /// One try for `size` frames, none above `limit`: the caches of worker `w`, then the tree, by a growth that is the point
 /// `here`, and, where `emptying` is allowed, the tree again with all caches emptied.
+#[inline(always)]
 fn try_once(
     tree: &mut Tree,
     caches: &mut Caches,

@@ -1,12 +1,12 @@
-pub mod Counts
-pub mod Moves
-pub mod Changes
-pub mod Steps
-pub mod OfWorkers
-pub mod Found
-pub mod OfMagazines
-pub mod OfDepots
-pub mod Shelves
-pub mod Slots
-pub mod Fresh
-pub mod Leaving
+mod Counts
+mod Moves
+mod Changes
+mod Steps
+mod OfWorkers
+mod Found
+mod OfMagazines
+mod OfDepots
+mod Shelves
+mod Slots
+mod Fresh
+mod Leaving

@@ -1,3 +1,3 @@
-pub mod RingSteps
-pub mod Sound
-pub mod Taken
+mod RingSteps
+mod Sound
+mod Taken

@@ -1,40 +1,44 @@
-pub mod ClosingSerials
-pub mod ClosingSteps
-pub mod ClosingTranscripts
-pub mod Conserve
-pub mod ConserveSteps
-pub mod ConserveWalk
-pub mod CountPlaces
-pub mod FlushReuse
-pub mod FlushRings
-pub mod FlushSteps
-pub mod FlushTranscripts
-pub mod LedgerClients
-pub mod LedgerSteps
-pub mod LedgerTotals
-pub mod NumberCredits
-pub mod NumberSound
-pub mod Outcomes
-pub mod PlaceGiven
-pub mod PlaceKinds
-pub mod PlaceOnce
-pub mod PlaceWindows
-pub mod RefusalMemory
-pub mod RefusalPoints
-pub mod RefusalState
-pub mod RequestAnswers
-pub mod Serials
-pub mod Tests
-pub mod Valid
-pub mod ValidCaches
-pub mod ValidCases
-pub mod ValidClients
-pub mod ValidFound
-pub mod ValidLists
-pub mod ValidRings
-pub mod ValidRising
-pub mod ValidSizes
-pub mod Walks
-pub mod Weight
-pub mod WeightCaches
-pub mod WeightHolders
+pub mod Finds
+pub mod Kept
+pub mod Moves
+pub mod Weights
+mod ClosingSerials
+mod ClosingSteps
+mod ClosingTranscripts
+mod Conserve
+mod ConserveSteps
+mod ConserveWalk
+mod CountPlaces
+mod FlushReuse
+mod FlushRings
+mod FlushSteps
+mod FlushTranscripts
+mod LedgerClients
+mod LedgerSteps
+mod LedgerTotals
+mod NumberCredits
+mod NumberSound
+mod Outcomes
+mod PlaceGiven
+mod PlaceKinds
+mod PlaceOnce
+mod PlaceWindows
+mod RefusalMemory
+mod RefusalPoints
+mod RefusalState
+mod RequestAnswers
+mod Serials
+mod Tests
+mod Valid
+mod ValidCaches
+mod ValidCases
+mod ValidClients
+mod ValidFound
+mod ValidLists
+mod ValidRings
+mod ValidRising
+mod ValidSizes
+mod Walks
+mod Weight
+mod WeightCaches
+mod WeightHolders

@@ -1,2 +1,2 @@
-pub mod Pairs
-pub mod Found
+mod Pairs
+mod Found

@@ -1,15 +1,16 @@
 -- Worked examples: what the definitions compute, against replies worked out by hand.
 use Rattle.std.proofs.Common.{ℕ, zero, suc, ◌≡◌, ◌-◌, ◌+◌, true, false, List, [], ◌∷◌, refl}
-use Rattle.std.specs.Prelude.{◌^◌}
-use Rattle.iova_range.specs.declared.refusal.Refusal.TheVariants.{Zero, TooBig, NoSpace, Closing, NoClient, Taken, BadWindow, WindowsFull, NoWorker, FlightsFull, NoFlight, NoMemory}
+use Rattle.std.specs.Prelude.{◌^◌, Some, replicate}
+use Rattle.iova_range.specs.declared.refusal.Refusal.TheVariants.{Zero, TooBig, NoSpace, Closing, NoClient, Taken, BadWindow, WindowsFull, NoWorker, FlightsFull, NoFlight, NoMemory, RingFull, NotHeld}
 use Rattle.iova_range.specs.Frames.{Frames}
-use Rattle.iova_range.specs.Bounds.{first_profile, second_profile}
+use Rattle.iova_range.specs.Bounds.{Capacities, first_profile, second_profile}
 use Rattle.iova_model.specs.declared.step.Step.{Step}
 use Rattle.iova_model.specs.declared.step.Step.TheVariants.{Reserve, Open, Alloc, Unmap, Begin, End, Drain, Close, CloseOne}
 use Rattle.iova_model.specs.declared.step.Reply.{Reply}
 use Rattle.iova_model.specs.declared.step.Reply.TheVariants.{Opened, Given, Queued, Begun, Ended, Drained, Marked, Reserved, Empty, Refused}
 use Rattle.iova_model.specs.declared.step.Point.TheVariants.{Never, Ledger, First, Last}
 use Rattle.iova_model.specs.declared.place.Place.TheVariants as place
+use Rattle.iova_model.specs.Caches.{Shelf, get, put, sent_out}
 use Rattle.iova_model.specs.Flushes.{Flushes, flushes_from, begun, ended}
 use Rattle.iova_model.specs.State.{State, new_domain, place_of}
 use Rattle.iova_model.specs.Next.{next}
@@ -130,6 +131,58 @@ closing = refl
 
 no_such_ring_or_worker : replies small (Drain 0 1 ∷ Drain 1 0 ∷ []) ≡ Refused NoWorker ∷ Refused NoWorker ∷ []
 no_such_ring_or_worker = refl
+
+closing_client_unmaps_nothing : replies held (Close 0 1 ∷ Unmap 0 1 1023 ∷ []) ≡ Marked 1 ∷ Refused Closing ∷ []
+closing_client_unmaps_nothing = refl
+
+windows_that_touch_stay_apart : replies small (Reserve 21 30 ∷ Reserve 10 20 ∷ Reserve 31 40 ∷ [])
+    ≡ Reserved (at 21 10) ∷ Reserved (at 10 11) ∷ Reserved (at 31 10) ∷ []
+windows_that_touch_stay_apart = refl
+
+-- frames 1021, 1022 and 1023 are in a magazine, in this order
+abbrev three_cached : State
+three_cached = after small (Open 0 false ∷ Alloc 0 1 1 1021 ∷ Alloc 0 1 1 1022 ∷ Alloc 0 1 1 1023 ∷ Unmap 0 1 1021 ∷ Unmap 0 1 1022 ∷ Unmap 0 1 1023 ∷ Begin ∷ End 1 true ∷ Drain 0 0 ∷ [])
+
+newest_takes_the_place : replies three_cached (Alloc 0 1 1 1021 ∷ Alloc 0 1 1 1023 ∷ Alloc 0 1 1 1023 ∷ [])
+    ≡ Given (at 1021 1) ∷ Given (at 1022 1) ∷ Given (at 1023 1) ∷ []
+newest_takes_the_place = refl
+
+last_frame_above_the_limit :
+    replies small (Open 0 false ∷ Alloc 0 1 2 1023 ∷ Unmap 0 1 1022 ∷ Begin ∷ End 1 true ∷ Drain 0 0 ∷ Alloc 0 1 2 1022 ∷ Alloc 0 1 2 1023 ∷ [])
+    ≡ Opened 1 ∷ Given (at 1022 2) ∷ Queued (at 1022 2) ∷ Begun 1 ∷ Ended ∷ Drained 1 ∷ Given (at 1020 2) ∷ Given (at 1022 2) ∷ []
+last_frame_above_the_limit = refl
+
+-- a shelf with magazines of one entry, and a depot of two
+abbrev tiny : Capacities
+tiny = record { mag = 1; depot = 2; top = 1023 }
+
+abbrev shelf : List ℕ → List ℕ → List (List ℕ) → Shelf
+shelf loaded previous depot = record { loaded = loaded; previous = previous; depot = depot }
+
+put_changes_places : put tiny (shelf (1 ∷ []) [] []) 2 ≡ shelf (2 ∷ []) (1 ∷ []) []
+put_changes_places = refl
+
+put_fills_the_depot : put tiny (shelf (3 ∷ []) (1 ∷ []) ((2 ∷ []) ∷ [])) 4 ≡ shelf (4 ∷ []) (1 ∷ []) ((2 ∷ []) ∷ (3 ∷ []) ∷ [])
+put_fills_the_depot = refl
+
+full_depot_sends_out : sent_out tiny (shelf (4 ∷ []) (1 ∷ []) ((2 ∷ []) ∷ (3 ∷ []) ∷ [])) ≡ 4 ∷ []
+full_depot_sends_out = refl
+
+put_leaves_a_full_depot : put tiny (shelf (4 ∷ []) (1 ∷ []) ((2 ∷ []) ∷ (3 ∷ []) ∷ [])) 5 ≡ shelf (5 ∷ []) (1 ∷ []) ((2 ∷ []) ∷ (3 ∷ []) ∷ [])
+put_leaves_a_full_depot = refl
+
+get_takes_the_newest_of_the_depot : get (shelf [] [] ((2 ∷ []) ∷ (3 ∷ []) ∷ [])) 1023 1 ≡ (Some 3, shelf [] [] ((2 ∷ []) ∷ []))
+get_takes_the_newest_of_the_depot = refl
+
+-- a ring of 255 entries that no flush has covered
+abbrev ring_of : ℕ → State
+ring_of n = record held { rings = replicate n (record { lo = 1; len = 1; count = 0 }) ∷ [] }
+
+ring_full : replies (ring_of 255) (Unmap 0 1 1023 ∷ Unmap 0 1 9 ∷ []) ≡ Refused RingFull ∷ Refused NotHeld ∷ []
+ring_full = refl
+
+ring_with_room : replies (ring_of 254) (Unmap 0 1 1023 ∷ []) ≡ Queued (at 1023 1) ∷ []
+ring_with_room = refl
 
 -- n times the same step
 abbrev repeated : ℕ → Step → List Step

@@ -1,3 +1,4 @@
 mod Examples
 pub mod Placing
+pub mod Runs
 pub mod Unless

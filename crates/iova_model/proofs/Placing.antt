@@ -172,3 +172,19 @@ pub IsBest-same : (b : Extent) (xs ys : List Frames) (size limit : ℕ) (o : Opt
 IsBest-same b xs ys size limit None same h = λ lo f. h lo (Fits-same b ys xs size limit lo (λ frame. sym (same frame)) f)
 IsBest-same b xs ys size limit (Some i) same h =
     (Fits-same b xs ys size limit i same h.0, λ lo f. h.1 lo (Fits-same b ys xs size limit lo (λ frame. sym (same frame)) f))
+
+-- The best place is clear of the ranges, and inside the bounds.
+pub record IsPlace (b : Extent) (ranges : List Frames) (size lo : ℕ) : Type 0 where
+  pub clear : is_clear (record { lo = lo; len = size }) ranges ≡ true
+  pub start : b.start ≤ lo
+  pub last : lo + size ≤ b.last + 1
+
+pub best-place : (b : Extent) (ranges : List Frames) (size limit lo : ℕ) → 1 ≤ size → Some lo ≡ best b ranges size limit → IsPlace b ranges size lo
+best-place b ranges size limit lo some is =
+    let g = greatest_some (fits b ranges size limit) (min limit b.last + 1) lo (sym is) in
+    let f = fits-Fits b ranges size limit lo g.passes in
+    record {
+      clear = (and_parts ((lo % align_of size == 0) && nat_le b.start lo && nat_le (lo + size - 1) (min limit b.last)) _ g.passes).1;
+      start = f.start;
+      last = let l = f.last in omega arith;
+    }

@@ -1,7 +1,7 @@
-pub mod Cuts
-pub mod Digits
-pub mod FirstBad
-pub mod Headers
-pub mod LineSteps
-pub mod Readings
-pub mod Streams
+mod Cuts
+mod Digits
+mod FirstBad
+mod Headers
+mod LineSteps
+mod Readings
+mod Streams

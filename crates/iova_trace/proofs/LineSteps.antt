@@ -9,7 +9,7 @@ use Rattle.iova_model.specs.declared.step.Step.{Step}
 use Rattle.iova_model.specs.declared.step.Point.{Point}
 use Rattle.iova_model.specs.State.{State, new_domain}
 use Rattle.iova_model.specs.Next.{next}
-use Rattle.iova_core.proofs.Runs.{run_none, run_more}
+use Rattle.iova_model.proofs.Runs.{run_none, run_more}
 use Rattle.iova_trace.specs.declared.line.Header.{Header}
 use Rattle.iova_trace.specs.declared.trace.Trace.{Trace}
 use Rattle.iova_trace.specs.declared.fault.ReplayFault.TheVariants as fault

@@ -231,8 +231,9 @@ impl Progress {
     }
 }
 
-/// Writes all bytes. Any error, an interruption too, and a write of nothing are faults.
-fn write_all<W: Write>(writer: &mut W, bytes: &[u8]) -> Result<(), ReplayFault>
+/// Writes all bytes and flushes. `WriteFault` where a call fails, an interruption too, or a write takes nothing; some first
+/// bytes are written then. Our own.
+pub fn write_all<W: Write>(writer: &mut W, bytes: &[u8]) -> Result<(), ReplayFault>
     ensures ok { OnOk result (Appends (W.contents writer.old) (W.contents writer.new) bytes.now) }
     ensures err { IfErr result (λ e. (e ≡ ReplayFault.WriteFault)
         × ((n : ℕ) × Appends (W.contents writer.old) (W.contents writer.new) (take n bytes.now))) }

@@ -1,10 +1,12 @@
-//! Each growth refused in turn, by `rt try --test --fail-alloc N`.
+//! Each growth refused in turn, by `rt try --test --fail-alloc N`, which prints the points that it came to. With N = 27
+//! these are `Once`, `First` and `Second`, and with N = 28 `Once`, `Ledger` and `Last`.
 use super::*;
+use std::io::Print;
 
 // Runs a step. Where a growth is refused, at one of these points, it leaves the counts beside the point; with memory the
 // same step then comes to none.
 fn step_twice(
-    rt: &impl Abort,
+    rt: &(impl Abort + Print),
     domain: &mut Domain,
     asked: Step,
     refused: &[(Point, Counts)],
@@ -15,6 +17,7 @@ fn step_twice(
         assert_eq!(rt; point, Point::Never);
         return reply;
     }
+    let _ = println!(rt; "refused at {point:?}");
     let left = counts(rt, domain);
     assert!(rt; refused.contains(&(point, left)), "{point:?}, {left:?}");
     let new = (domain.totals(), domain.clients(), domain.windows().len());

@@ -62,7 +62,7 @@ invariant_of-self-in-Placed c =
     let size = rw c.need.ensures.computed at c.in-Placed.ensures.size in
     let clients = rw c.room.ensures.clients at c.add.ensures.clients in
     let serial = c.add.ensures.serial ∙ c.room.ensures.serial in
-    domain_given p c.self.invariant c.args.worker c.args.client c.args.frames c.args.limit asked.0 asked.1 c.walk.new.tree c.walk.new.caches (found.Placed c.in-Placed.range) comes c.in-Placed.ensures.point c.in-Placed.ensures.stock c.in-Placed.range refl c.add.new.self clients (given_state p c.self.invariant c.args.worker c.args.client c.args.frames c.args.limit asked.0 asked.1 c.walk.new.tree c.walk.new.caches (found.Placed c.in-Placed.range) comes c.in-Placed.ensures.point c.in-Placed.ensures.stock c.in-Placed.range refl c.add.new.self clients serial size refl)
+    domain_given p c.self.invariant c.args.worker c.args.client c.args.frames c.args.limit asked.0 asked.1 c.walk.new.tree c.walk.new.caches (found.Placed c.in-Placed.range) comes c.in-Placed.ensures.point c.in-Placed.ensures.stock c.in-Placed.range refl c.steps_keep_validity.ensures c.add.new.self clients (given_state p c.self.invariant c.args.worker c.args.client c.args.frames c.args.limit asked.0 asked.1 c.walk.new.tree c.walk.new.caches (found.Placed c.in-Placed.range) comes c.in-Placed.ensures.point c.in-Placed.ensures.stock c.in-Placed.range refl c.add.new.self clients serial size refl)
 
 pub invariant_of-self-in-Nowhere : goal.invariant_of-self-in-Nowhere
 invariant_of-self-in-Nowhere c =
@@ -76,7 +76,7 @@ invariant_of-self-in-Nowhere c =
     let mark : c.unwrap_or-sac.result ≡ asked.0.sac =
     c.unwrap_or-sac.ensures ∙ (ap (λ o. unwrap_or o false) c.is_sac.ensures ∙ (ap (λ cs. unwrap_or (option_map (λ (x : Client). x.sac) (client_with c.args.client cs)) false) c.room.ensures.clients ∙ ap (λ o. unwrap_or (option_map (λ (x : Client). x.sac) o) false) asked.1.found)) in
     let comes = rw (mark, c.need.ensures.computed) at c.in-Nowhere.ensures.comes in
-    domain_walked p c.self.invariant c.args.worker c.args.client c.args.frames c.args.limit asked.0 asked.1 c.walk.new.tree c.walk.new.caches found.Nowhere comes c.in-Nowhere.ensures.point c.in-Nowhere.ensures.stock c.room.new.self c.room.ensures.clients c.room.ensures.serial refl (ap (λ (n : Next). n.state) (alloc_is p c.self.invariant c.args.worker c.args.client c.args.frames c.args.limit asked.0 asked.1 c.walk.new.tree c.walk.new.caches found.Nowhere comes c.in-Nowhere.ensures.point c.in-Nowhere.ensures.stock) ∙ walked_state p c.self.invariant c.args.worker c.args.client c.args.frames c.args.limit asked.0 asked.1 c.walk.new.tree c.walk.new.caches found.Nowhere comes c.in-Nowhere.ensures.point c.in-Nowhere.ensures.stock c.room.new.self c.room.ensures.clients c.room.ensures.serial)
+    domain_walked p c.self.invariant c.args.worker c.args.client c.args.frames c.args.limit asked.0 asked.1 c.walk.new.tree c.walk.new.caches found.Nowhere comes c.in-Nowhere.ensures.point c.in-Nowhere.ensures.stock c.steps_keep_validity.ensures c.room.new.self c.room.ensures.clients c.room.ensures.serial refl (ap (λ (n : Next). n.state) (alloc_is p c.self.invariant c.args.worker c.args.client c.args.frames c.args.limit asked.0 asked.1 c.walk.new.tree c.walk.new.caches found.Nowhere comes c.in-Nowhere.ensures.point c.in-Nowhere.ensures.stock) ∙ walked_state p c.self.invariant c.args.worker c.args.client c.args.frames c.args.limit asked.0 asked.1 c.walk.new.tree c.walk.new.caches found.Nowhere comes c.in-Nowhere.ensures.point c.in-Nowhere.ensures.stock c.room.new.self c.room.ensures.clients c.room.ensures.serial)
 
 pub invariant_of-self-in-Starved : goal.invariant_of-self-in-Starved
 invariant_of-self-in-Starved c =
@@ -90,7 +90,7 @@ invariant_of-self-in-Starved c =
     let mark : c.unwrap_or-sac.result ≡ asked.0.sac =
     c.unwrap_or-sac.ensures ∙ (ap (λ o. unwrap_or o false) c.is_sac.ensures ∙ (ap (λ cs. unwrap_or (option_map (λ (x : Client). x.sac) (client_with c.args.client cs)) false) c.room.ensures.clients ∙ ap (λ o. unwrap_or (option_map (λ (x : Client). x.sac) o) false) asked.1.found)) in
     let comes = rw (mark, c.need.ensures.computed) at c.in-Starved.ensures.comes in
-    domain_walked p c.self.invariant c.args.worker c.args.client c.args.frames c.args.limit asked.0 asked.1 c.walk.new.tree c.walk.new.caches (found.Starved c.in-Starved.point) comes c.in-Starved.ensures.point c.in-Starved.ensures.stock c.room.new.self c.room.ensures.clients c.room.ensures.serial refl (ap (λ (n : Next). n.state) (alloc_is p c.self.invariant c.args.worker c.args.client c.args.frames c.args.limit asked.0 asked.1 c.walk.new.tree c.walk.new.caches (found.Starved c.in-Starved.point) comes c.in-Starved.ensures.point c.in-Starved.ensures.stock) ∙ walked_state p c.self.invariant c.args.worker c.args.client c.args.frames c.args.limit asked.0 asked.1 c.walk.new.tree c.walk.new.caches (found.Starved c.in-Starved.point) comes c.in-Starved.ensures.point c.in-Starved.ensures.stock c.room.new.self c.room.ensures.clients c.room.ensures.serial)
+    domain_walked p c.self.invariant c.args.worker c.args.client c.args.frames c.args.limit asked.0 asked.1 c.walk.new.tree c.walk.new.caches (found.Starved c.in-Starved.point) comes c.in-Starved.ensures.point c.in-Starved.ensures.stock c.steps_keep_validity.ensures c.room.new.self c.room.ensures.clients c.room.ensures.serial refl (ap (λ (n : Next). n.state) (alloc_is p c.self.invariant c.args.worker c.args.client c.args.frames c.args.limit asked.0 asked.1 c.walk.new.tree c.walk.new.caches (found.Starved c.in-Starved.point) comes c.in-Starved.ensures.point c.in-Starved.ensures.stock) ∙ walked_state p c.self.invariant c.args.worker c.args.client c.args.frames c.args.limit asked.0 asked.1 c.walk.new.tree c.walk.new.caches (found.Starved c.in-Starved.point) comes c.in-Starved.ensures.point c.in-Starved.ensures.stock c.room.new.self c.room.ensures.clients c.room.ensures.serial)
 
 pub returns-in-Placed-clause-state : goal.returns-in-Placed-clause-state
 returns-in-Placed-clause-state c =

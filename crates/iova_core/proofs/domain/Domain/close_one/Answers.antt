@@ -2,7 +2,7 @@ use Rattle.std.proofs.Common.{ℕ, ◌≡◌, List, Some, refl, sym, ap, ◌∙�
 use Rattle.iova_model.specs.Clients.{Client, client_with, forgotten, marked}
 use Rattle.iova_model.specs.State.{State}
 use Rattle.iova_model.specs.Next.{Next, with_clients, unmap_held}
-use Rattle.iova_laws.proofs.ValidCases.{with_marked}
+use Rattle.iova_laws.proofs.Kept.{with_marked}
 use Rattle.iova_core.specs.Domain.{Parts, state_of}
 use Rattle.iova_core.proofs.Domains.{domain_forgotten}
 use Rattle.iova_core.proofs.Closes.{marked_from, marked_found, marked_empty, closes_lowest, closes_last}

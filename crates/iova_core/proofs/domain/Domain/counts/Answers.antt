@@ -9,7 +9,7 @@ counted c =
     let p = parts_of c.self.inside.tree c.self.inside.clients c.self.inside.caches c.self.inside.rings.items c.self.inside.flights c.self.inside.reserved in
     let client = ap (λ (t : Totals). t.frames) c.totals-client.ensures in
     let ring = c.queued_frames-ring.ensures ∙ ap frames_in_rings c.deref.ensures.value in
-    counts_are p c.args.self.now c.start.result c.last.result c.totals-client.result.frames c.frames-magazine.result.0 c.frames-magazine.result.1 c.queued_frames-ring.result c.bounds-bounds.result c.self.view_is c.self.invariant
+    counts_are c.places_add_up.ensures p c.args.self.now c.start.result c.last.result c.totals-client.result.frames c.frames-magazine.result.0 c.frames-magazine.result.1 c.queued_frames-ring.result c.bounds-bounds.result c.self.view_is c.self.invariant
     c.bounds-bounds.ensures.is c.start.ensures.is c.last.ensures.is client c.frames-magazine.ensures.magazines c.frames-magazine.ensures.depot ring
 
 pub overflow_sub-result-2 : goal.overflow_sub-result-2

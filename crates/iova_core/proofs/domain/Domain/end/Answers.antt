@@ -2,7 +2,7 @@ use Rattle.std.proofs.Common.{◌≡◌, ◌<◌, refl, sym, ap, subst}
 use Rattle.iova_core.specs.Domain.{Parts, state_of}
 use Rattle.iova_model.specs.Valid.{IsValid}
 use Rattle.iova_model.specs.Next.{with_flushes}
-use Rattle.iova_laws.proofs.Valid.{ended_valid}
+use Rattle.iova_laws.proofs.Kept.{ended_valid}
 use Rattle.iova_core.proofs.Domains.{domain_flushes}
 use Rattle.iova_core.proofs.domain.Domain.end.Goals as goal
 use Rattle.iova_core.proofs.domain.Domain.end.Goals.{in-Ok, in-Err}

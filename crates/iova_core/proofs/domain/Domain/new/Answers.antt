@@ -10,4 +10,4 @@ invariant_of-result c =
     let cached = c.in_ok-new_for.ensures.value ∙ ap (λ p. new_cached p c.args.workers) c.profile-profile.ensures.is in
     let p = parts_of c.in_ok-new.field-0 c.new-2.result c.in_ok-new_for.field-0 c.in_ok-new_rings.field-0.items c.new-3.result 0 in
     let is = new_state p c.args.bounds c.args.workers tree c.new-2.ensures cached c.in_ok-new_rings.ensures.value c.new-3.ensures in
-    domain_new p c.args.bounds c.args.workers is tree cached c.in_ok-new.ensures.space c.profile-profile.ensures.extent (omega arith) (omega arith) refl
+    domain_new c.new_domains_are_valid.ensures p c.args.bounds c.args.workers is tree cached c.in_ok-new.ensures.space c.profile-profile.ensures.extent (omega arith) (omega arith) refl

@@ -13,6 +13,6 @@ invariant_of-self c =
     elim c.match-open.branch [
       | in-Ok w ↦
           let none = refuses_ok _ c.open.result w.in-Ok.id (record { refused = c.open.ensures.refused; accepted = c.open.ensures.accepted }) w.in-Ok.is in
-          domain_opened p c.open.new.self c.args.worker c.args.sac c.self.invariant known none w.in-Ok.ensures.clients w.in-Ok.ensures.serial
+          domain_opened c.steps_keep_validity.ensures p c.open.new.self c.args.worker c.args.sac c.self.invariant known none w.in-Ok.ensures.clients w.in-Ok.ensures.serial
       | in-Err w ↦ domain_registry p c.open.new.self c.self.invariant w.in-Err.ensures.unchanged
     ]

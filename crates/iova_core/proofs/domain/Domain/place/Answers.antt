@@ -5,8 +5,15 @@ use Rattle.iova_model.specs.declared.place.Place.TheVariants as place
 use Rattle.iova_model.specs.State.{ring_holders, place_in}
 use Rattle.iova_depot.specs.Cached.{place_at}
 use Rattle.iova_core.specs.Domain.{state_of}
-use Rattle.iova_core.proofs.Readers.{parts_of, holder_in, in_bounds, inside_is, place_reserved, place_client, place_cached, place_ringed}
+use Rattle.iova_core.proofs.Readers.{parts_of, holder_in, in_bounds, inside_is, place_free, place_reserved, place_client, place_cached, place_ringed}
 use Rattle.iova_core.proofs.domain.Domain.place.Goals as goal
+
+pub returns-then-is_free : goal.returns-then-is_free
+returns-then-is_free c =
+    let inside = in_bounds c.args.frame c.start.result c.last.result c.bounds-bounds.result c.self.inside.tree.bounds c.bounds-bounds.ensures.is c.start.ensures.is c.if-frame-start.false c.last.ensures.is c.if-frame-last.false in
+    let p = parts_of c.self.inside.tree c.self.inside.clients c.self.inside.caches c.self.inside.rings.items c.self.inside.flights c.self.inside.reserved in
+    let free = c.is_free.ensures.0 c.if-is_free.true in
+    inside_is (state_of p) c.args.self.now c.args.frame place.Free c.self.view_is inside (place_free p c.args.frame c.self.invariant free.2)
 
 pub returns-then-has_frame : goal.returns-then-has_frame
 returns-then-has_frame c =

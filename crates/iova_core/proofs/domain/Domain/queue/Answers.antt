@@ -24,7 +24,8 @@ add-requires-clause-bounded c =
     let left = rw (finish, ring) at c.drain.ensures.ring in
     let now = rw (finish, ring) at c.drain.ensures.caches in
     let ex = rw (finish, ring) at c.drain.ensures.stock in
-    rw c.len.ensures.is (held_few p c.drain.new.tree c.drain.new.caches c.drain.new.ring c.args.worker c.args.client c.args.lo c.self.invariant below take.client c.in-Ok.range take.found take.held left now ex)
+    let few = held_few p c.drain.new.tree c.drain.new.caches c.drain.new.ring c.args.worker c.args.client c.args.lo c.self.invariant below take.client c.in-Ok.range take.found take.held left now ex in
+    omega (arith, c.len.ensures.is, few)
 
 pub add-requires-in-Err-clause-client : goal.add-requires-in-Err-clause-client
 add-requires-in-Err-clause-client c =

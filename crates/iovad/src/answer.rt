@@ -1,0 +1,54 @@
+//! A replay, and the report behind it.
+ghost use Rattle.iovad.specs.Answers.{Answers, Follows, Reports};
+
+use iova_core::domain::Domain;
+use iova_report::report;
+use iova_trace::fault::ReplayFault;
+use iova_trace::replay::{replay, write_all};
+use std::alloc::Global;
+use std::io::{Read, Write};
+
+/// Replays a trace, and writes the report of the domain behind the replies where it is wanted. Refused as the replay is;
+/// then by `NoMemory`, with no byte of the report written, and by `WriteFault`.
+pub fn answer<R: Read, W: Write>(
+    alloc: Global,
+    reader: &mut R,
+    writer: &mut W,
+    has_report: bool,
+) -> Result<(), ReplayFault>
+    ensures { Answers has_report (R.remaining reader.old) (R.remaining reader.new) (W.contents writer.old) (W.contents writer.new) result }
+{
+    let replayed = replay(alloc, reader, writer);
+    follow(alloc, replayed, writer, has_report)
+}
+
+/// Writes what comes behind the replies of this replay.
+fn follow<W: Write>(
+    alloc: Global,
+    replayed: Result<(Domain, u64), ReplayFault>,
+    writer: &mut W,
+    has_report: bool,
+) -> Result<(), ReplayFault>
+    ensures { Follows has_report (W.contents writer.old) (W.contents writer.new) replayed result }
+{
+    match replayed {
+        Ok((domain, _steps)) => {
+            if has_report {
+                write_report(alloc, &domain, writer)
+            } else {
+                Ok(())
+            }
+        }
+        Err(fault) => Err(fault),
+    }
+}
+
+fn write_report<W: Write>(alloc: Global, domain: &Domain, writer: &mut W) -> Result<(), ReplayFault>
+    ensures { Reports (W.contents writer.old) (W.contents writer.new) domain.now result }
+{
+    let mut text = Vec::new(alloc);
+    match report(domain, &mut text) {
+        Ok(()) => write_all(writer, &text),
+        Err(_) => Err(ReplayFault::NoMemory),
+    }
+}

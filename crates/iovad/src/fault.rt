@@ -1,0 +1,108 @@
+//! What keeps a run from its end, the line that it says then, and the status.
+ghost use Rattle.std.specs.Prelude.{◌≡◌, ◌≢◌, ℕ};
+ghost use Rattle.std.specs.Process.{exit_status};
+ghost use Rattle.iovad.specs.Faults.{fault_text, fault_status};
+ghost use Rattle.iovad.specs.declared.fault.Fault.TheVariants.{Words, NoMemory as WantsMemory};
+ghost use Rattle.clap.specs.Values.{kind_of};
+ghost use Rattle.clap.specs.declared.error.kind.ErrorKind.TheVariants.{OutOfMemory};
+
+use clap::Error;
+use clap::error::ErrorKind;
+use iova_trace::fault::ReplayFault;
+use std::alloc::AllocError;
+use std::fmt;
+use std::process::ExitCode;
+
+/// Why a run ends with another status than 0, or has printed its help.
+#[derive(Drop)]
+pub enum Fault<'a> {
+    /// The words are not understood, or ask for help.
+    Words(Error),
+    /// The line with this number, counted from 1, is no line of a trace, or one too many.
+    TraceRefused(u64),
+    /// The file of this name cannot be opened or read; `-` is standard input.
+    CannotRead(&'a str),
+    /// Standard output cannot be written.
+    CannotWrite,
+    /// A growth was refused memory.
+    NoMemory,
+}
+
+impl<'a> Fault<'a> {
+    /// The fault of a replay of the trace of this name.
+    pub fn of_replay(fault: ReplayFault, path: &'a str) -> Fault<'a>
+        ensures refused { (line : ℕ) → fault ≡ ReplayFault.BadTrace line → result ≡ Fault.TraceRefused line }
+        ensures unread { fault ≡ ReplayFault.ReadFault → result ≡ Fault.CannotRead path.entry }
+        ensures unwritten { fault ≡ ReplayFault.WriteFault → result ≡ Fault.CannotWrite }
+        ensures memory { fault ≡ ReplayFault.NoMemory → result ≡ Fault.NoMemory }
+    {
+        match fault {
+            ReplayFault::BadTrace(line) => Fault::TraceRefused(line),
+            ReplayFault::ReadFault => Fault::CannotRead(path),
+            ReplayFault::WriteFault => Fault::CannotWrite,
+            ReplayFault::NoMemory => Fault::NoMemory,
+        }
+    }
+
+    /// The status that the process ends with: 0 where help was asked for, 2 where the words are not understood, 3 for a trace
+    /// that is refused, 4 for a file that cannot be read or written, 5 for memory.
+    pub fn status(&self) -> u8
+        ensures { result ≡ fault_status self.now }
+    {
+        match self {
+            Fault::Words(error) if !error.use_stderr() => 0,
+            Fault::Words(_) => 2,
+            Fault::TraceRefused(_) => 3,
+            Fault::CannotRead(_) | Fault::CannotWrite => 4,
+            Fault::NoMemory => 5,
+        }
+    }
+
+    /// Prints the fault's line on standard error, or help on standard output, and gives the status. Where that can't be
+    /// printed, nobody is left to tell.
+    pub fn tell<R: Print + Eprint>(&self, rt: &R) -> ExitCode
+        ensures { exit_status result ≡ fault_status self.now }
+    {
+        let _ = match self {
+            Fault::Words(error) => error.print(rt),
+            fault => eprintln!(rt; "{fault}"),
+        };
+        ExitCode::from(self.status())
+    }
+}
+
+/// Words that could not be read for want of memory are told as such.
+impl<'a> From<Error> for Fault<'a> {
+    ghost from_gives = { λ error fault. (kind_of error ≡ OutOfMemory → fault ≡ WantsMemory) × (kind_of error ≢ OutOfMemory → fault ≡ Words error) };
+
+    fn from(error: Error) -> Fault<'a> {
+        if error.kind() == ErrorKind::OutOfMemory {
+            Fault::NoMemory
+        } else {
+            Fault::Words(error)
+        }
+    }
+}
+
+impl<'a> From<AllocError> for Fault<'a> {
+    ghost from_gives = { λ _ fault. fault ≡ WantsMemory };
+
+    fn from(_error: AllocError) -> Fault<'a> {
+        Fault::NoMemory
+    }
+}
+
+/// The fault's line, without its LF.
+impl<'a> fmt::Display for Fault<'a> {
+    ghost output = { fault_text };
+
+    fn fmt<W: fmt::Write>(&self, f: &mut fmt::Formatter<W>) -> fmt::Result {
+        match self {
+            Fault::Words(error) => write!(f, "{error}"),
+            Fault::TraceRefused(line) => write!(f, "iovad: trace refused at line {line}"),
+            Fault::CannotRead(path) => write!(f, "iovad: cannot read {path}"),
+            Fault::CannotWrite => f.write_str("iovad: cannot write the output"),
+            Fault::NoMemory => f.write_str("iovad: no memory"),
+        }
+    }
+}
