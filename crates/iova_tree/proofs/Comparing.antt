@@ -1,5 +1,5 @@
 -- What the comparison of the tree with its plain form needs of a place that was found, and of a range that is there.
-use Rattle.std.proofs.Common.{ℕ, ◌≡◌, ◌+◌, ◌-◌, ◌%◌, ◌<◌, ◌≤◌, ◌==◌, ◌&&◌, min, true, List, length, Some, slice_index_or, refl, sym, ◌∙◌, subst, arith}
+use Rattle.std.proofs.Common.{ℕ, ◌≡◌, ◌+◌, ◌-◌, ◌%◌, ◌<◌, ◌==◌, ◌&&◌, min, true, List, length, Some, slice_index_or, refl, sym, subst}
 use Rattle.std.specs.Prelude.{nat_le, find, IsSome}
 use Rattle.std.proofs.lemmas.Bool.{and_parts}
 use Rattle.iova_range.specs.Frames.{Frames}

@@ -140,7 +140,7 @@ highest_free-greatest w start (x ∷ t) z a r =
 
 -- What is skipped.
 
-wanted_align : (w : Wanted) → IsWanted w → 0 < w.align
+pub wanted_align : (w : Wanted) → IsWanted w → 0 < w.align
 wanted_align w h = rw h.align (align_of_pos w.size)
 
 pub wanted_power : (w : Wanted) → IsWanted w → IsPowerOfTwo w.align

@@ -16,6 +16,7 @@ mod Windows
 mod Spaces
 mod Taking
 mod Kept
+mod Newest
 mod Comparing
 mod Gaps
 mod Picked

@@ -102,6 +102,18 @@ room-below : (from until : ℕ) → room from until < 1048577
 unfolding room
 room-below from until = room_for-below 1048577 from until (omega arith)
 
+-- it is at most the number of the frames
+pub room-short : (from until : ℕ) → room from until ≤ until - from
+room-short from until = split (nat_le 1 (room from until)) refl
+  where
+    split : (b : Bool) → nat_le 1 (room from until) ≡ b → room from until ≤ until - from
+    split true e =
+        let f = room-fits from until (grind (arith, nat_tests)) in
+        let start : from ≤ f.0 = f.2 in
+        let end : f.0 + room from until ≤ until = f.3 in
+        omega arith
+    split false e = let none : room from until < 1 = grind (arith, nat_tests) in omega arith
+
 -- nothing fits into nothing
 pub room-nothing : (from until : ℕ) → until ≤ from → room from until ≡ 0
 room-nothing from until le = split (room from until) refl

@@ -85,3 +85,13 @@ pub record TakesBelow (x : Span) (n m : Node) : Type 0 where
   pub spans : node_spans n ≡ with_span x (node_spans m)
   pub balanced : IsBalanced 2 m
   pub settles : (h : ℕ) → IsHeightAfterRebalance m.left.1 m.right.1 h → (h ≤ node_height n) × (node_height n ≤ h + 1)
+
+-- the ranges with that of the newest node, where there is one
+abbrev pub with_newest : Option (Box Node Global) → List Span → List Span
+with_newest None l = l
+with_newest (Some b) l = with_span (own_span b.value) l
+
+-- the newest node has no sides, and its range lies apart from the others
+abbrev pub StandsBeside : Option (Box Node Global) → List Span → Type 0
+StandsBeside None l = Unit {0}
+StandsBeside (Some b) l = IsSingle b.value × IsRisingFrom 0 (with_span (own_span b.value) l)

@@ -2,6 +2,7 @@
 #![tactic(auto)]
 
 mod place;
+mod ranges;
 mod room;
 mod search;
 #[cfg(test)]

@@ -1,4 +1,4 @@
-ghost use Rattle.std.specs.Prelude.{◌≡◌, ◌+◌, ◌^◌, ◌≤◌, ◌<◌, ℕ};
+ghost use Rattle.std.specs.Prelude.{◌≡◌, ◌+◌, ◌^◌, ◌≤◌, ◌<◌, max, ℕ};
 ghost use Rattle.iova_tree.specs.Room.{room, FitsBetween};
 
 use iova_range::sizes::MAX_FRAMES;
@@ -28,6 +28,20 @@ pub fn room_of(from: u64, until: u64) -> u32
         above.max(1 << last_place(below))
     };
     best.min(MAX_FRAMES) as u32
+}
+
+/// The greater of `known` and of the room of the frames from `from` on and below `until`. Where these frames are not
+/// more than `known`, their room isn't computed.
+#[inline]
+pub fn room_with(known: u32, from: u64, until: u64) -> u32
+    requires { 1 ≤ from }
+    ensures { result ≡ max known (room from until) }
+{
+    if until.saturating_sub(from) <= known as u64 {
+        known
+    } else {
+        known.max(room_of(from, until))
+    }
 }
 
 /// The place of the highest binary digit that is set.

@@ -5,13 +5,13 @@ ghost use Rattle.std.specs.Prelude.{◌≡◌, ◌+◌, ◌^◌, ◌<◌, ◌≤
 ghost use Rattle.std.specs.Prelude.{Bool, true, false, ◌&&◌, length, IfOk, Some};
 ghost use Rattle.std.specs.Int.{IsPowerOfTwo};
 ghost use Rattle.std.specs.List.{list_any};
-ghost use Rattle.iova_range.specs.Frames.{meets};
+ghost use Rattle.iova_range.specs.Frames.{covers, meets};
 ghost use Rattle.iova_model.specs.Fit.{is_covered};
 ghost use Rattle.iova_tree.specs.Spans.{frames_of, all_of, is_kind, inserted_of, first_or, end_after, room_after, room_below, room_between, with_span, IsRisingFrom, Holds, IsLow};
 ghost use Rattle.iova_tree.specs.Fit.{IsWanted, place_before, place_behind, highest_between, highest_free};
 ghost use Rattle.iova_tree.specs.Node.{node_summary, node_height, node_spans, own_span, IsSingle, IsBalanced, Rebalances, IsRootOf, PlacesBelow, HasSameSummary, TakesBelow, DifferByAtMost};
 
-use crate::room::room_of;
+use crate::room::room_with;
 use crate::search::{Wanted, place_in};
 use iova_range::range::Range;
 use std::alloc::{AllocError, Global};
@@ -131,7 +131,7 @@ impl Subtree {
         if self.summary.height == 0 {
             0
         } else {
-            room_of(end, self.summary.first).max(self.summary.room)
+            room_with(self.summary.room, end, self.summary.first)
         }
     }
 
@@ -143,7 +143,7 @@ impl Subtree {
         if self.summary.height == 0 {
             0
         } else {
-            self.summary.room.max(room_of(self.summary.end, lo))
+            room_with(self.summary.room, self.summary.end, lo)
         }
     }
 
@@ -193,11 +193,7 @@ impl Subtree {
             self.summary = summary_with(node, self.summary.room);
             return false;
         }
-        rebalance(node);
-        let summary = summary_of(node);
-        let changed = summary.room != self.summary.room || summary.height != self.summary.height;
-        self.summary = summary;
-        changed
+        renew(node, &mut self.summary)
     }
 
     // Takes the lowest range's node out.
@@ -240,12 +236,11 @@ impl Subtree {
             unreachable!()
         };
         if node.lo == lo {
-            let left = take_left(node);
-            let right = take_right(node);
-            let Some(own) = mem::replace(&mut self.root, None) else {
+            let Subtree { summary, root } = take_sides(node);
+            self.summary = summary;
+            let Some(own) = mem::replace(&mut self.root, root) else {
                 unreachable!()
             };
-            *self = join(left, right);
             return (own, true);
         }
         let (own, deep) = take_below(node, lo);
@@ -253,10 +248,7 @@ impl Subtree {
             self.summary = summary_with(node, self.summary.room);
             return (own, false);
         }
-        rebalance(node);
-        let summary = summary_of(node);
-        let changed = summary.room != self.summary.room || summary.height != self.summary.height;
-        self.summary = summary;
+        let changed = renew(node, &mut self.summary);
         (own, changed)
     }
 
@@ -413,9 +405,34 @@ impl Node {
         Range::new(self.lo, self.end - self.lo)
     }
 
-    // Whether it is no window, and has one of the frames from `lo` on, below `end`.
+    /// Its first frame.
     #[inline]
-    fn is_taken(&self, lo: u64, end: u64) -> bool
+    pub fn lo(&self) -> u64
+        ensures { result ≡ self.now.lo }
+    {
+        self.lo
+    }
+
+    /// The frame behind its last.
+    #[inline]
+    pub fn end(&self) -> u64
+        ensures { result ≡ self.now.end }
+    {
+        self.end
+    }
+
+    /// Whether it has the frame.
+    #[inline]
+    pub fn has(&self, frame: u64) -> bool
+        requires { self.now.lo < self.now.end }
+        ensures { result ≡ covers frame (frames_of (own_span self.now)) }
+    {
+        self.lo <= frame && frame < self.end
+    }
+
+    /// Whether it is no window, and has one of the frames from `lo` on, below `end`.
+    #[inline]
+    pub fn is_taken(&self, lo: u64, end: u64) -> bool
         requires own { self.now.lo < self.now.end }
         requires asked { lo < end }
         ensures { result ≡ (is_kind false (own_span self.now) && meets (record { lo = lo; len = end - lo }) (frames_of (own_span self.now))) }
@@ -504,8 +521,21 @@ fn take_below(node: &mut Node, lo: u64) -> (Box<Node>, bool)
     }
 }
 
-// One subtree of two sides.
+// Takes both sides from a node, and makes one subtree of them.
 #[inline(never)]
+fn take_sides(node: &mut Box<Node>) -> Subtree
+    requires balanced { IsBalanced 1 node.old.value }
+    requires height_fits { node_height node.old.value < 2 ^ 31 }
+    ensures rest { node.new.value ≡ record node.old.value { left = ([], 0); right = ([], 0) } }
+    ensures spans { result.0 ≡ node.old.value.left.0 ++ node.old.value.right.0 }
+    ensures height { (max node.old.value.left.1 node.old.value.right.1 ≤ result.1) × (result.1 ≤ max node.old.value.left.1 node.old.value.right.1 + 1) }
+{
+    let left = take_left(node);
+    let right = take_right(node);
+    join(left, right)
+}
+
+// One subtree of two sides.
 fn join(left: Subtree, mut right: Subtree) -> Subtree
     requires rising { IsRisingFrom 0 (left.0 ++ right.0) }
     requires level { DifferByAtMost 1 left.1 right.1 }
@@ -521,6 +551,23 @@ fn join(left: Subtree, mut right: Subtree) -> Subtree
     put_right(&mut next, right);
     rebalance(&mut next);
     Subtree::of(next)
+}
+
+// Balances a node, and renews what its link knows of it; tells whether room or height are others.
+#[inline(never)]
+fn renew(node: &mut Box<Node>, summary: &mut Summary) -> bool
+    requires balanced { IsBalanced 2 node.old.value }
+    requires height_fits { node_height node.old.value < 2 ^ 31 + 2 }
+    ensures rebalances { Rebalances node.old.value node.new.value }
+    ensures is { summary.new ≡ node_summary node.new.value }
+    ensures low { IsLow (node_spans node.new.value) (node_height node.new.value) }
+    ensures same { result ≡ false → (summary.new.height ≡ summary.old.height) × (summary.new.room ≡ summary.old.room) }
+{
+    rebalance(node);
+    let new = summary_of(node);
+    let changed = new.room != summary.room || new.height != summary.height;
+    *summary = new;
+    changed
 }
 
 // Makes the heights of the sides differ by at most one.

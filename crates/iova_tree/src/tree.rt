@@ -6,8 +6,9 @@ ghost use Rattle.iova_model.specs.Clients.{insert_rising, remove_at, begins_at};
 ghost use Rattle.iova_model.specs.Next.{from_to, union, windows_with};
 ghost use Rattle.iova_tree.specs.Space.{Space, ranges_of, IsInside, IsSpace, reserve_refusal, clear_of};
 
+use crate::ranges::Ranges;
 use crate::search::Wanted;
-use crate::subtree::{Node, Subtree, stretch};
+use crate::subtree::{Node, stretch};
 use crate::window::{absorb, count_clear, insert_window};
 use iova_range::bounds::Bounds;
 use iova_range::range::Range;
@@ -21,7 +22,7 @@ use std::marker::Model;
 pub struct Tree {
     alloc: Global,
     bounds: Bounds,
-    ranges: Subtree,
+    ranges: Ranges,
     windows: Vec<Range>,
 }
 
@@ -30,9 +31,9 @@ impl Model for Tree {
 
     ghost Value = { Space };
 
-    ghost view = { λ t. space_of t.bounds t.ranges.0 t.windows.items };
+    ghost view = { λ t. space_of t.bounds t.ranges t.windows.items };
 
-    ghost invariant = { λ t. IsKept t.bounds t.ranges.0 t.windows.items };
+    ghost invariant = { λ t. IsKept t.bounds t.ranges t.windows.items };
 }
 
 impl Tree {
@@ -49,7 +50,7 @@ impl Tree {
         Ok(Tree {
             alloc,
             bounds,
-            ranges: Subtree::new(),
+            ranges: Ranges::new(),
             windows: Vec::new(alloc),
         })
     }

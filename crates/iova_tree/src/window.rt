@@ -8,7 +8,8 @@ ghost use Rattle.iova_tree.specs.Space.{RiseApart, LieWithin, clear_of};
 ghost use Rattle.iova_tree.specs.Node.{IsSingle};
 
 use crate::place::place_of;
-use crate::subtree::{Node, Subtree};
+use crate::ranges::Ranges;
+use crate::subtree::Node;
 use iova_range::range::Range;
 
 /// Whether the two have a frame in common.
@@ -52,19 +53,19 @@ pub fn insert_window(windows: &mut Vec<Range>, window: Range)
 /// Takes out the windows that have a frame in common with `window`, from the tree too, and gives one window of all these
 /// and `window` itself, with the node of one of them. None has frame 0. It takes no memory.
 pub fn absorb(
-    ranges: &mut Subtree,
+    ranges: &mut Ranges,
     windows: &mut Vec<Range>,
     window: Range,
 ) -> (Range, Option<Box<Node>>)
     requires own { 1 ≤ window.lo }
-    requires within { (until : ℕ) × (until ≤ 2 ^ 40) × LieWithin 1 ranges.old.0 until }
-    requires same { windows.old.items ≡ windows_of ranges.old.0 }
+    requires within { (until : ℕ) × (until ≤ 2 ^ 40) × LieWithin 1 ranges.old until }
+    requires same { windows.old.items ≡ windows_of ranges.old }
     ensures value { result.0 ≡ union window windows.old.items }
     ensures rest { windows.new.items ≡ clear_of window windows.old.items }
     ensures room { vec_capacity windows.new ≡ vec_capacity windows.old }
-    ensures windows { windows.new.items ≡ windows_of ranges.new.0 }
-    ensures inserted { inserted_of ranges.new.0 ≡ inserted_of ranges.old.0 }
-    ensures kept { (from until : ℕ) → LieWithin from ranges.old.0 until → LieWithin from ranges.new.0 until }
+    ensures windows { windows.new.items ≡ windows_of ranges.new }
+    ensures inserted { inserted_of ranges.new ≡ inserted_of ranges.old }
+    ensures kept { (from until : ℕ) → LieWithin from ranges.old until → LieWithin from ranges.new until }
     ensures spare { IfSome result.1 (λ node. IsSingle node.value × (node.value.window ≡ true)) }
     ensures none { IfNone result.1 (windows.new.items ≡ windows.old.items) }
 {

@@ -26,8 +26,8 @@ Subtree::place-summary_with-self-inside-requires t c =
 pub Subtree::place-returns-clause-not_lower : goal.Subtree::place-returns-clause-not_lower
 Subtree::place-returns-clause-not_lower t c =
     let f = at_root c.self.view_is c.self.invariant c.in-Some.is in
-    let s = c.place_below.ensures.placed.settles _ c.rebalance.ensures.height in
-    grind (arith, s, f.height, c.summary_of-summary.ensures)
+    let s = c.place_below.ensures.placed.settles _ c.renew.ensures.rebalances.height in
+    grind (arith, s, f.height, c.renew.ensures.is)
 
 pub place_below-place-requires : goal.place_below-place-requires
 place_below-place-requires t c = (grind arith, (c.requires.single, (free_left _ c.args.node.now (grind arith) c.requires.free, grind arith)))

@@ -3,7 +3,7 @@ use Rattle.std.proofs.lemmas.Bool.Decides.{nat_tests}
 use Rattle.iova_tree.specs.Node.{own_span, node_spans, root_spans}
 use Rattle.iova_tree.specs.Spans.{room_between}
 use Rattle.iova_tree.proofs.Root.{at_root}
-use Rattle.iova_tree.proofs.Taken.{held_left, held_right, rising-less, takes_left, takes_right, kept_left, kept_right, with_middle, rising-around}
+use Rattle.iova_tree.proofs.Taken.{held_left, held_right, rising-less, takes_left, takes_right, kept_left, kept_right, with_middle}
 use Rattle.iova_tree.proofs.subtree.+take.Goals.{take_below-then-deep, take_below-else-deep, take_below-then-deep-2, take_below-else-deep-2}
 use Rattle.iova_tree.proofs.subtree.+take.Goals as goal
 
@@ -66,19 +66,12 @@ take_below-returns-after-deep-2-clause-same t c = λ h.
           kept_right _ c.args.node.now c.take-gone-else-lo-node.new.self p c.requires.balanced q.0 q.1 (grind (arith, nat_tests, h))
     ]
 
-pub Subtree::take-join-requires-clause-rising : goal.Subtree::take-join-requires-clause-rising
-Subtree::take-join-requires-clause-rising t c =
-    let f = at_root c.self.view_is c.self.invariant c.in-Some.is in
-    let n = c.in-Some.node.value in
-    rw (c.take_right-right.ensures.taken, c.take_left-left.ensures.rest, c.take_left-left.ensures.taken) (rising-around n.left.0 (own_span n) n.right.0 f.balanced.rising)
-
 pub Subtree::take-returns-then-deref-lo-clause-taken : goal.Subtree::take-returns-then-deref-lo-clause-taken
 Subtree::take-returns-then-deref-lo-clause-taken t c =
     let f = at_root c.self.view_is c.self.invariant c.in-Some.is in
     let n = c.in-Some.node.value in
-    let j = rw (c.take_right-right.ensures.taken, c.take_left-left.ensures.rest, c.take_left-left.ensures.taken) at c.join.ensures.spans in
-    let v = ap (λ d. d.0) c.join-then-deref-lo.view_is in
     let m = with_middle 0 n.left.0 (own_span n) n.right.0 f.balanced.rising in
-    let vj : root_spans c.join-then-deref-lo.inside.root ≡ n.left.0 ++ n.right.0 = v ∙ j in
-    let o : c.in-Some-replace.own ≡ c.take_right-right.new.node = cc (c.replace.ensures.value, c.in-Some-replace.is) in
-    rw (f.spans, vj, o, c.take_right-right.ensures.rest, c.take_left-left.ensures.rest) (sym m)
+    let e = c.take_sides.ensures in
+    let sides : root_spans c.replace.new.dest ≡ n.left.0 ++ n.right.0 = rw c.replace.ensures.after (ap (λ d. d.0) c.root.view_is ∙ e.spans) in
+    let own : c.in-Some-replace.own ≡ c.take_sides.new.node = cc (c.replace.ensures.value, c.in-Some-replace.is) in
+    rw (f.spans, sides, own, e.rest) (sym m)

@@ -1,5 +1,5 @@
 use Rattle.iova_tree.proofs.Searches.{end_tree}
 use Rattle.iova_tree.proofs.subtree.Subtree.room_below.Goals as goal
 
-pub room_of-requires : goal.room_of-requires
-room_of-requires c = end_tree _ _ c.self.invariant c.if-self-eq0.false
+pub room_with-requires : goal.room_with-requires
+room_with-requires c = end_tree _ _ c.self.invariant c.if-self-eq0.false

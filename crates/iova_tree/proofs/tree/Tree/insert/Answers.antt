@@ -10,7 +10,7 @@ use Rattle.iova_tree.proofs.tree.Tree.insert.Goals as goal
 pub insert-requires-clause-free : goal.insert-requires-clause-free
 insert-requires-clause-free c =
     let i = c.self.inside in
-    let free : is_clear c.args.range (i.windows.items ++ inserted_of i.ranges.0) ≡ true = rw (← c.self.view_is) at c.requires.free in
+    let free : is_clear c.args.range (i.windows.items ++ inserted_of i.ranges) ≡ true = rw (← c.self.view_is) at c.requires.free in
     let inside : IsInside i.bounds c.args.range = rw (← c.self.view_is) at c.requires.inside in
     let own : own_span c.in-Ok.node.value ≡ span_of c.args.range false = rw (c.lo.ensures, c.hi.ensures) at c.in-Ok.ensures.own in
     rw own (rises_from_zero i.bounds _ (with_rises _ _ _ c.args.range false c.self.invariant inside free))
@@ -21,7 +21,7 @@ insert-requires-clause-few c = few_kept _ _ _ c.self.invariant (rw c.last-last.e
 pub invariant_of-self : goal.invariant_of-self
 invariant_of-self c =
     let i = c.self.inside in
-    let free : is_clear c.args.range (i.windows.items ++ inserted_of i.ranges.0) ≡ true = rw (← c.self.view_is) at c.requires.free in
+    let free : is_clear c.args.range (i.windows.items ++ inserted_of i.ranges) ≡ true = rw (← c.self.view_is) at c.requires.free in
     let inside : IsInside i.bounds c.args.range = rw (← c.self.view_is) at c.requires.inside in
     let own : own_span c.in-Ok.node.value ≡ span_of c.args.range false = rw (c.lo.ensures, c.hi.ensures) at c.in-Ok.ensures.own in
     rw (c.insert.ensures, own) (kept_insert _ _ _ c.args.range c.self.invariant inside free)

@@ -9,7 +9,7 @@ use Rattle.iova_tree.proofs.tree.Tree.remove.Goals as goal
 
 pub remove-node-requires-clause-held : goal.remove-node-requires-clause-held
 remove-node-requires-clause-held c =
-    let found : IsSome (find (begins_at c.args.lo) (inserted_of c.self.inside.ranges.0)) = rw (← c.self.view_is) at c.requires in
+    let found : IsSome (find (begins_at c.args.lo) (inserted_of c.self.inside.ranges)) = rw (← c.self.view_is) at c.requires in
     inserted_held c.args.lo _ found
 
 pub remove-node-requires-clause-few : goal.remove-node-requires-clause-few
@@ -17,25 +17,25 @@ remove-node-requires-clause-few c = few_kept _ _ _ c.self.invariant (rw c.last-l
 
 pub range-requires : goal.range-requires
 range-requires c =
-    let found : IsSome (find (begins_at c.args.lo) (inserted_of c.self.inside.ranges.0)) = rw (← c.self.view_is) at c.requires in
-    let t = taken_out c.self.inside.bounds c.args.lo (own_span c.remove-node.result.value) c.self.inside.ranges.0 c.remove-node.new.self.0 c.self.inside.windows.items c.self.invariant c.remove-node.ensures.taken c.remove-node.ensures.begins found in
+    let found : IsSome (find (begins_at c.args.lo) (inserted_of c.self.inside.ranges)) = rw (← c.self.view_is) at c.requires in
+    let t = taken_out c.self.inside.bounds c.args.lo (own_span c.remove-node.result.value) c.self.inside.ranges c.remove-node.new.self c.self.inside.windows.items c.self.invariant c.remove-node.ensures.taken c.remove-node.ensures.begins found in
     rw c.deref.ensures t.some
 
 pub invariant_of-self : goal.invariant_of-self
 invariant_of-self c =
-    let found : IsSome (find (begins_at c.args.lo) (inserted_of c.self.inside.ranges.0)) = rw (← c.self.view_is) at c.requires in
-    (taken_out c.self.inside.bounds c.args.lo (own_span c.remove-node.result.value) c.self.inside.ranges.0 c.remove-node.new.self.0 c.self.inside.windows.items c.self.invariant c.remove-node.ensures.taken c.remove-node.ensures.begins found).kept
+    let found : IsSome (find (begins_at c.args.lo) (inserted_of c.self.inside.ranges)) = rw (← c.self.view_is) at c.requires in
+    (taken_out c.self.inside.bounds c.args.lo (own_span c.remove-node.result.value) c.self.inside.ranges c.remove-node.new.self c.self.inside.windows.items c.self.invariant c.remove-node.ensures.taken c.remove-node.ensures.begins found).kept
 
 pub returns-clause-value : goal.returns-clause-value
 returns-clause-value c =
-    let found : IsSome (find (begins_at c.args.lo) (inserted_of c.self.inside.ranges.0)) = rw (← c.self.view_is) at c.requires in
-    let t = taken_out c.self.inside.bounds c.args.lo (own_span c.remove-node.result.value) c.self.inside.ranges.0 c.remove-node.new.self.0 c.self.inside.windows.items c.self.invariant c.remove-node.ensures.taken c.remove-node.ensures.begins found in
+    let found : IsSome (find (begins_at c.args.lo) (inserted_of c.self.inside.ranges)) = rw (← c.self.view_is) at c.requires in
+    let t = taken_out c.self.inside.bounds c.args.lo (own_span c.remove-node.result.value) c.self.inside.ranges c.remove-node.new.self c.self.inside.windows.items c.self.invariant c.remove-node.ensures.taken c.remove-node.ensures.begins found in
     rw (← c.self.view_is, c.range.ensures, c.deref.ensures) t.found
 
 pub returns-clause-rest : goal.returns-clause-rest
 returns-clause-rest c =
-    let found : IsSome (find (begins_at c.args.lo) (inserted_of c.self.inside.ranges.0)) = rw (← c.self.view_is) at c.requires in
-    let t = taken_out c.self.inside.bounds c.args.lo (own_span c.remove-node.result.value) c.self.inside.ranges.0 c.remove-node.new.self.0 c.self.inside.windows.items c.self.invariant c.remove-node.ensures.taken c.remove-node.ensures.begins found in
+    let found : IsSome (find (begins_at c.args.lo) (inserted_of c.self.inside.ranges)) = rw (← c.self.view_is) at c.requires in
+    let t = taken_out c.self.inside.bounds c.args.lo (own_span c.remove-node.result.value) c.self.inside.ranges c.remove-node.new.self c.self.inside.windows.items c.self.invariant c.remove-node.ensures.taken c.remove-node.ensures.begins found in
     let e = t.without in rw (← c.self.view_is) (rw e refl)
 
 pub returns-clause-space : goal.returns-clause-space
