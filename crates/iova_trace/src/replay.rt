@@ -1,4 +1,4 @@
-ghost use Rattle.std.specs.Prelude.{◌≡◌, ◌≤◌, ◌<◌, ℕ, take, length, IfOk, IfErr, OnOk, OnErr, IsErr};
+ghost use Rattle.std.specs.Prelude.{◌≡◌, ◌≤◌, ◌<◌, ℕ, take, length, IfOk, IfErr, OnOk, OnErr, IsOk, IsErr};
 ghost use Rattle.std.specs.Io.KnownBytes.{Appends, Consumes, Keeps, IsAtEnd};
 ghost use Rattle.iova_trace.specs.Lines.{IsUnended};
 ghost use Rattle.iova_trace.specs.Replay.{Replays};
@@ -242,10 +242,7 @@ pub fn write_all<W: Write>(writer: &mut W, bytes: &[u8]) -> Result<(), ReplayFau
     while done < bytes.len() {
         done += bytes_written(writer.write(&bytes[done..]))?;
     }
-    match writer.flush() {
-        Ok(()) => Ok(()),
-        Err(_) => Err(ReplayFault::WriteFault),
-    }
+    flushed(writer.flush())
 }
 
 /// Reads once, and gives how many bytes came, none only at the end. Any error is a fault, an interruption too.
@@ -279,6 +276,17 @@ fn bytes_written(written: io::Result<usize>) -> Result<usize, ReplayFault>
     match written {
         Ok(len) if len > 0 => Ok(len),
         _ => Err(ReplayFault::WriteFault),
+    }
+}
+
+/// What a flush came to. Any error is a fault, an interruption too.
+fn flushed(flushed: io::Result<()>) -> Result<(), ReplayFault>
+    ensures ok { OnOk result (IsOk flushed) }
+    ensures err { OnErr result (IsErr flushed × (result ≡ Err ReplayFault.WriteFault)) }
+{
+    match flushed {
+        Ok(()) => Ok(()),
+        Err(_) => Err(ReplayFault::WriteFault),
     }
 }
 

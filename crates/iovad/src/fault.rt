@@ -1,5 +1,5 @@
 //! What keeps a run from its end, the line that it says then, and the status.
-ghost use Rattle.std.specs.Prelude.{◌≡◌, ◌≢◌, ℕ};
+ghost use Rattle.std.specs.Prelude.{◌≡◌, ◌≢◌, ◌⊎◌, ℕ};
 ghost use Rattle.std.specs.Process.{exit_status};
 ghost use Rattle.iovad.specs.Faults.{fault_text, fault_status};
 ghost use Rattle.iovad.specs.declared.fault.Fault.TheVariants.{Words, NoMemory as WantsMemory};
@@ -58,15 +58,20 @@ impl<'a> Fault<'a> {
         }
     }
 
-    /// Prints the fault's line on standard error, or help on standard output, and gives the status. Where that can't be
-    /// printed, nobody is left to tell.
+    /// Prints the fault's line on standard error, or help on standard output, and gives the status. Help that can't be
+    /// written is the fault `CannotWrite`; where a fault's line can't be, nobody is left to tell.
     pub fn tell<R: Print + Eprint>(&self, rt: &R) -> ExitCode
-        ensures { exit_status result ≡ fault_status self.now }
+        ensures { (exit_status result ≡ fault_status self.now) ⊎ ((fault_status self.now ≡ 0) × (exit_status result ≡ fault_status Fault.CannotWrite)) }
     {
-        let _ = match self {
+        let told = match self {
             Fault::Words(error) => error.print(rt),
             fault => eprintln!(rt; "{fault}"),
         };
+        if told.is_err() && self.status() == 0 {
+            let unwritten = Fault::CannotWrite;
+            let _ = eprintln!(rt; "{unwritten}");
+            return ExitCode::from(unwritten.status());
+        }
         ExitCode::from(self.status())
     }
 }

@@ -43,7 +43,8 @@ enum Failure {
     TakesNone,
 }
 
-/// A writer into 4,096 bytes, at most `most` of them a call. Its call of number `fail_at` fails.
+/// A writer into 4,096 bytes, at most `most` of them a call. Its write of number `fail_at` fails, and its flush of number
+/// `fail_flush_at`.
 #[derive(Drop)]
 struct Page {
     text: ArrayVec<u8, 4096>,
@@ -51,6 +52,8 @@ struct Page {
     calls: u64,
     fail_at: u64,
     failure: Failure,
+    flushes: u64,
+    fail_flush_at: u64,
 }
 
 impl Page {
@@ -61,6 +64,8 @@ impl Page {
             calls: 0,
             fail_at,
             failure,
+            flushes: 0,
+            fail_flush_at: 0,
         }
     }
 }
@@ -80,6 +85,10 @@ impl Write for Page {
     }
 
     fn flush(&mut self) -> io::Result<()> {
+        self.flushes = self.flushes.saturating_add(1);
+        if self.flushes == self.fail_flush_at {
+            return Err(io::Error::from(ErrorKind::Interrupted));
+        }
         Ok(())
     }
 }
@@ -219,6 +228,30 @@ fn each_write_fails_in_turn(rt: HostRuntime) {
     }
 }
 
+#[test]
+fn each_flush_fails_in_turn(rt: HostRuntime) {
+    settled(&rt, rt.alloc());
+    let mut replies = 0;
+    for fail_flush_at in 1..=5 {
+        let mut reader = Pieces::whole(TRACE);
+        reader.most = 1;
+        let mut writer = Page::new(127, 0, Failure::Interrupted);
+        writer.fail_flush_at = fail_flush_at;
+        let outcome = replayed(rt.alloc(), &mut reader, &mut writer);
+        assert_eq!(rt;
+            outcome,
+            Err(ReplayFault::WriteFault),
+            "flush {fail_flush_at}"
+        );
+        assert_eq!(rt; writer.flushes, fail_flush_at);
+        let Some((_, reply)) = LINES.get(fail_flush_at as usize) else {
+            return;
+        };
+        replies += reply.len();
+        assert_eq!(rt; writer.text.as_slice(), &REPLIES.as_bytes()[..replies]);
+    }
+}
+
 /// What a replay of this text answers and writes, read `most` bytes at a time and interrupted where there is no more.
 fn interrupted(
     alloc: Global,
@@ -288,6 +321,25 @@ fn the_fault_of_the_earliest_line(rt: HostRuntime) {
             let outcome = interrupted(rt.alloc(), text.as_slice(), most, &mut writer);
             assert_eq!(rt; outcome, Err(ReplayFault::WriteFault));
             assert_eq!(rt; writer.text.as_slice(), b"opene".as_slice());
+        }
+    }
+}
+
+#[test]
+fn a_fault_in_the_line_behind_a_flush(rt: HostRuntime) {
+    settled(&rt, rt.alloc());
+    for most in [1, 2, 127] {
+        for (text, want) in [
+            ("iovatrace 1 1 1023 1\nbegin\nbeg", ReplayFault::ReadFault),
+            (
+                "iovatrace 1 1 1023 1\nbegin\nbeg\n",
+                ReplayFault::BadTrace(3),
+            ),
+        ] {
+            let mut writer = Page::new(127, 0, Failure::Interrupted);
+            let outcome = interrupted(rt.alloc(), text.as_bytes(), most, &mut writer);
+            assert_eq!(rt; outcome, Err(want), "{text:?}");
+            assert_eq!(rt; writer.text.as_slice(), b"begun 1\n".as_slice());
         }
     }
 }
