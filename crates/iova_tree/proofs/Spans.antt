@@ -23,6 +23,14 @@ pub room_between-middle : (l : List Span) (k : Span) (r : List Span) → room_be
 room_between-middle [] k r = omega arith
 room_between-middle (x ∷ l) k r = room_after-middle x.end l k r
 
+pub room_between-below : (lo : ℕ) (l : List Span) → room_between l ≤ room_below lo l
+room_between-below lo [] = omega arith
+room_between-below lo (x ∷ l) = omega arith
+
+pub room_between-after : (e : ℕ) (l : List Span) → room_between l ≤ room_after e l
+room_between-after e [] = omega arith
+room_between-after e (x ∷ l) = omega arith
+
 pub rising-weaken : (d e : ℕ) (l : List Span) → d ≤ e → IsRisingFrom e l → IsRisingFrom d l
 rising-weaken d e [] p s = tt
 rising-weaken d e (x ∷ l) p s = (omega arith, s.1, s.2)

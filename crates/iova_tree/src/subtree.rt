@@ -122,28 +122,40 @@ impl Subtree {
         }
     }
 
-    // The most room between two neighbours, or between `end` and the lowest range.
+    // The most room between two neighbours.
     #[inline]
-    fn room_after(&self, end: u64) -> u32
-        requires { 1 ≤ end }
-        ensures { result ≡ room_after end self.now.0 }
+    fn room(&self) -> u32
+        ensures { result ≡ room_between self.now.0 }
+    {
+        self.summary.room
+    }
+
+    // The greater of `known`, which is no less than the room between two neighbours, and of the room between `end` and
+    // the lowest range.
+    #[inline]
+    fn room_after(&self, end: u64, known: u32) -> u32
+        requires some { 1 ≤ end }
+        requires between { room_between self.now.0 ≤ known }
+        ensures { result ≡ max known (room_after end self.now.0) }
     {
         if self.summary.height == 0 {
-            0
+            known
         } else {
-            room_with(self.summary.room, end, self.summary.first)
+            room_with(known, end, self.summary.first)
         }
     }
 
-    // The most room between two neighbours, or between the highest range and `lo`.
+    // The greater of `known`, which is no less than the room between two neighbours, and of the room between the highest
+    // range and `lo`.
     #[inline]
-    fn room_below(&self, lo: u64) -> u32
-        ensures { result ≡ room_below lo self.now.0 }
+    fn room_below(&self, lo: u64, known: u32) -> u32
+        requires { room_between self.now.0 ≤ known }
+        ensures { result ≡ max known (room_below lo self.now.0) }
     {
         if self.summary.height == 0 {
-            0
+            known
         } else {
-            room_with(self.summary.room, self.summary.end, lo)
+            room_with(known, self.summary.end, lo)
         }
     }
 
@@ -449,15 +461,17 @@ pub fn stretch(node: &mut Box<Node>, lo: u64, end: u64)
     node.end = end;
 }
 
+#[inline]
 fn summary_of(node: &Node) -> Summary
     requires balanced { IsBalanced 1 node.now }
     requires height_fits { node_height node.now < 2 ^ 32 }
     ensures is { result ≡ node_summary node.now }
     ensures low { IsLow (node_spans node.now) (node_height node.now) }
 {
-    let below = node.left.room_below(node.lo);
-    let above = node.right.room_after(node.end);
-    summary_with(node, below.max(above))
+    let between = node.left.room().max(node.right.room());
+    let below = node.left.room_below(node.lo, between);
+    let room = node.right.room_after(node.end, below);
+    summary_with(node, room)
 }
 
 // The summary of a node whose room is known.
