@@ -3,6 +3,7 @@
 #![tactic(auto)]
 
 pub mod bounds;
+pub mod limits;
 pub mod profile;
 pub mod range;
 pub mod refusal;

@@ -1,0 +1,78 @@
+//! Every limit of the repository, each with its unit and where it comes from. Code and definitions cite these names.
+
+/// The most workers of a domain, 1 at least. Own.
+pub const MAX_WORKERS: u64 = 16;
+
+/// The most clients of a domain, closing ones too. Own.
+pub const MAX_CLIENTS: usize = 1024;
+
+/// The most holdings of a client, in ranges. Own.
+pub const MAX_HOLDINGS: usize = 4096;
+
+/// The most windows of a domain. Own.
+pub const MAX_WINDOWS: usize = 64;
+
+/// The most frames of one request. Own.
+pub const MAX_FRAMES: u64 = 1_048_576;
+
+/// How many orders have magazines: sizes 1, 2, 4, 8, 16 and 32
+/// (`IOVA_RANGE_CACHE_MAX_SIZE` of Linux 5.15 `include/linux/iova.h`).
+pub const ORDERS: usize = 6;
+
+/// How many slots a flush ring has (`IOVA_FQ_SIZE` of Linux 5.15 `include/linux/iova.h`).
+pub const RING_SLOTS: usize = 256;
+
+/// The most entries of a flush ring: one slot stays empty (Linux 5.15 `drivers/iommu/iova.c`: `fq_full`).
+pub const MAX_ENTRIES: usize = 255;
+
+/// The most flushes in flight at a time. Own.
+pub const MAX_FLIGHTS: usize = 32;
+
+/// The last serial of a client, and the last start count: behind it a step is refused by `Worn`. Own.
+pub const MAX_SERIAL: u64 = 9_223_372_036_854_775_807;
+
+/// The entries of a magazine in the first profile (`IOVA_MAG_SIZE` of Linux 5.15 `drivers/iommu/iova.c`).
+pub const MAGAZINE: usize = 128;
+
+/// The entries of a magazine in the second profile. Own.
+pub const SMALL_MAGAZINE: usize = 127;
+
+/// The most magazines of an order in the depot (`MAX_GLOBAL_MAGS` of Linux 5.15 `include/linux/iova.h`).
+pub const MAX_DEPOT: u64 = 32;
+
+/// The last frame that bounds of the first profile may have: 2^36 - 1. Own.
+pub const TOP: u64 = 0xf_ffff_ffff;
+
+/// The last frame that bounds of the second profile may have: 2^40 - 1. Own.
+pub const WIDE_TOP: u64 = 0xff_ffff_ffff;
+
+/// The last frame below 4 GiB: a client that is `sac` is first sought a place up to it
+/// (Linux 5.15 `drivers/iommu/dma-iommu.c`: `iommu_dma_alloc_iova`, `DMA_BIT_MASK(32)`).
+pub const SAC_LIMIT: u64 = 1_048_575;
+
+/// The most bytes of a line of the protocol or of a trace, its LF among them. Own.
+pub const MAX_LINE: usize = 128;
+
+/// The most steps of one trace. Own.
+pub const MAX_STEPS: u64 = 1_000_000;
+
+/// The most reads of one trace, or of one input of `ask`. Own.
+pub const MAX_READS: u64 = 134_217_728;
+
+/// The most domain numbers: a daemon's domain is 0 to 7. Own.
+pub const MAX_DOMAINS: u64 = 8;
+
+/// The most requests of one session. Own.
+pub const MAX_REQUESTS: u64 = 65_536;
+
+/// The most reads of one session. Own.
+pub const MAX_SESSION_READS: u64 = 1_048_576;
+
+/// The most ranges that one session is told in answers to `list`. Own.
+pub const MAX_LISTED: u64 = 1_048_576;
+
+/// The most requests that are run in one hold of the lock. Own.
+pub const MAX_RUN: usize = 16;
+
+/// The most sessions that a daemon serves. Own.
+pub const MAX_SESSIONS: u64 = 65_536;
