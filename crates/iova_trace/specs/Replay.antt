@@ -3,7 +3,7 @@ use Rattle.std.specs.Prelude.{ℕ, ◌≡◌, ◌⊎◌, List, [], ◌++◌, len
 use Rattle.std.specs.Io.KnownBytes.{Consumes, Appends, IsAtEnd}
 use Rattle.iova_model.specs.declared.step.Reply.{Reply}
 use Rattle.iova_model.specs.State.{State, new_domain}
-use Rattle.iova_model.specs.Transcript.{IsRun}
+use Rattle.iova_model.specs.Promises.{Runs}
 use Rattle.iova_trace.specs.declared.trace.Trace.{Trace}
 use Rattle.iova_trace.specs.declared.fault.ReplayFault.{ReplayFault}
 use Rattle.iova_trace.specs.declared.fault.ReplayFault.TheVariants as fault
@@ -11,10 +11,11 @@ use Rattle.iova_trace.specs.Text.{reply_text}
 use Rattle.iova_trace.specs.Lines.{IsTrace, trace_text, next_number, Begins, IsUnended, IsBad, IsCut}
 
 -- Lines were replayed: in a new domain, once there is a header, their steps leave this state and are answered by this text.
+-- The transcript of these steps keeps the promises.
 abbrev pub IsReplayed : Option Trace → Option State → List ℕ → Type 0
 IsReplayed None None text = text ≡ []
 IsReplayed (Some t) (Some s) text =
-    (replies : List Reply) × IsRun (new_domain t.bounds t.workers) s t.steps [] replies × (text ≡ flat_map reply_text replies)
+    (replies : List Reply) × Runs (new_domain t.bounds t.workers) s t.steps [] replies × (text ≡ flat_map reply_text replies)
 IsReplayed lines state text = ⊥
 
 -- all that was taken is a trace, each reply is written, and this is the last state and the number of steps

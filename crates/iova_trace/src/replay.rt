@@ -9,6 +9,8 @@ use crate::reply::write_reply;
 use crate::trace::next_step;
 use arrayvec::ArrayVec;
 use iova_core::domain::Domain;
+use iova_laws::promises::promises_are_kept;
+use iova_laws::validity::new_domains_are_valid;
 use memchr::memchr;
 use std::alloc::Global;
 use std::io;
@@ -159,6 +161,9 @@ impl Progress {
         requires fresh { self.old.line.items ≡ [] }
         ensures { Takes self.old (whole_line line.now) self.new result }
     {
+        // for the proof: the steps so far keep the promises
+        promises_are_kept();
+        new_domains_are_valid();
         let number = self.number();
         let Some(domain) = &mut self.domain else {
             return self.take_header(line);
@@ -180,6 +185,9 @@ impl Progress {
         requires first { self.old.domain ≡ None }
         ensures { Takes self.old (whole_line line.now) self.new result }
     {
+        // for the proof: so does a new domain
+        promises_are_kept();
+        new_domains_are_valid();
         let Some(header) = read_header(line) else {
             return Err(ReplayFault::BadTrace(1));
         };
