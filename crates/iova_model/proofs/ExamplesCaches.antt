@@ -2,7 +2,7 @@
 use Rattle.std.proofs.Common.{ℕ, ◌≡◌, ◌++◌, List, [], ◌∷◌, Some, None, refl, arith}
 use Rattle.std.specs.Prelude.{replicate}
 use Rattle.iova_range.specs.Bounds.{Capacities, first_profile, second_profile}
-use Rattle.iova_model.specs.Caches.{Cache, Caches, no_magazines, new_caches, get, put, sent_out, put_range, put_all, freed_by_puts, emptied, TakesOut, TakesOutOfDepot, TakesAny}
+use Rattle.iova_model.specs.Caches.{Cache, no_magazines, new_caches, get, put, sent_out, put_range, put_all, freed_by_puts, emptied, TakesOut, TakesOutOfDepot, TakesAny}
 use Rattle.iova_model.proofs.ExampleWords.{at, shelf}
 
 -- Get and pop.

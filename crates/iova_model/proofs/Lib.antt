@@ -2,6 +2,10 @@ mod ExampleWords
 mod Examples
 mod ExamplesCaches
 mod ExamplesFlushes
+mod ExamplesRefusals
+mod ExamplesMemory
+mod ExamplesLimits
+mod ExamplesSteps
 pub mod Placing
 pub mod Runs
 pub mod Unless
