@@ -1,8 +1,8 @@
 -- Worked examples of magazines and the depot.
-use Rattle.std.proofs.Common.{ℕ, ◌≡◌, ◌++◌, List, [], ◌∷◌, Some, None, refl, arith}
-use Rattle.std.specs.Prelude.{replicate}
+use Rattle.std.proofs.Common.{ℕ, zero, suc, ap, ◌≡◌, ◌++◌, List, [], ◌∷◌, Some, None, refl, arith}
+use Rattle.std.specs.Prelude.{replicate, slice_get}
 use Rattle.iova_range.specs.Bounds.{Capacities, first_profile, second_profile}
-use Rattle.iova_model.specs.Caches.{Cache, no_magazines, new_caches, get, put, sent_out, put_range, put_all, freed_by_puts, emptied, TakesOut, TakesOutOfDepot, TakesAny}
+use Rattle.iova_model.specs.Caches.{Cache, no_magazines, new_caches, get, put, sent_out, put_range, put_all, freed_by_puts, emptied, TakesOut, TakesOutOfDepot, TakesAny, Caches, cache_at, with_shelf}
 use Rattle.iova_model.proofs.ExampleWords.{at, shelf}
 
 -- Get and pop.
@@ -166,3 +166,17 @@ emptied_list_goes = record { place = 1; left = []; inside = omega arith; takes =
 
 takes_none_of_none : TakesAny (new_caches 2) None (new_caches 2)
 takes_none_of_none = (refl, refl)
+
+takes_no_other : TakesOut 4 (1 ∷ []) [] → ⊥
+takes_no_other t = nowhere t.place t.here
+  where
+    nowhere : (i : ℕ) → slice_get {X = ℕ} (1 ∷ []) i ≡ Some 4 → ⊥
+    nowhere zero e = cc e
+    nowhere (suc i) e = cc e
+
+-- what is cached isn't left
+takes_none_of_some : TakesAny (with_shelf (new_caches 1) 0 0 (shelf (3 ∷ []) [] [])) None (with_shelf (new_caches 1) 0 0 (shelf (3 ∷ []) [] [])) → ⊥
+takes_none_of_some t = nothing (ap (λ (c : Caches). (cache_at c 0 0).loaded) t.0)
+  where
+    nothing : ◌≡◌ {A = List ℕ} [] (3 ∷ []) → ⊥
+    nothing e = cc e

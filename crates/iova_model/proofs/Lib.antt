@@ -6,6 +6,7 @@ mod ExamplesRefusals
 mod ExamplesMemory
 mod ExamplesLimits
 mod ExamplesSteps
+mod ExamplesValid
 pub mod Placing
 pub mod Runs
 pub mod Unless
