@@ -138,6 +138,7 @@ impl Tree {
     pub fn reserve(&mut self, lo: u64, hi: u64) -> Result<Range, Refusal>
         ensures refused { IfSome (reserve_refusal self.old lo hi) (λ refusal. result ≡ Err refusal) }
         ensures accepted { IfNone (reserve_refusal self.old lo hi) (IsOkUnless result Refusal.NoMemory) }
+        ensures memory { result ≡ Err Refusal.NoMemory → is_clear (from_to lo hi) self.old.windows ≡ true }
         ensures window { IfOk result (λ w. w ≡ union (from_to lo hi) self.old.windows) }
         ensures windows { OnOk result (self.new ≡ record self.old { windows = windows_with (from_to lo hi) self.old.windows }) }
         ensures unchanged { OnErr result (self.new ≡ self.old) }
