@@ -1,4 +1,5 @@
--- What is promised of steps that were run, and of the state that they leave.
+-- The promises of the product: what holds of every list of steps that are run from a valid state, and of the state that they
+-- leave. Whatever runs steps states these.
 use Rattle.std.specs.Prelude.{ℕ, ◌≡◌, ◌<◌, ◌≤◌, ◌⊎◌, List, [], ◌∷◌, ◌++◌, take, Some, None, slice_get}
 use Rattle.iova_model.specs.declared.step.Step.{Step}
 use Rattle.iova_model.specs.declared.step.Reply.{Reply}
@@ -7,8 +8,8 @@ use Rattle.iova_model.specs.Clients.{Client, client_with, totals}
 use Rattle.iova_model.specs.State.{State, place_of}
 use Rattle.iova_model.specs.Valid.{IsValid}
 use Rattle.iova_model.specs.Next.{next}
-use Rattle.iova_model.specs.Transcript.{Pair, after, IsRun, IsUnmappedAt, IsFlushedBetween, FlushLaw}
-use Rattle.iova_model.specs.Laws.{IsOnlyAt, CountsAddUp, shares_below, Conserves, IsGivenAt, Marks, IsClosing, IsGone, client_named, unknown_refusal, TranscriptsAreFlushed, ReuseIsFlushed, ClientsCloseInOrder, GoneClientsStayGone, StepsConserve, TranscriptsKeepValidity, EachFrameIsInOnePlace, PlacesAddUp, TotalsAreShares}
+use Rattle.iova_model.specs.Transcript.{Pair, IsTranscript, after, IsRun, IsUnmappedAt, IsFlushedBetween, FlushLaw}
+use Rattle.iova_model.specs.Laws.{IsOnlyAt, CountsAddUp, shares_below, Conserves, IsGivenAt, Marks, IsClosing, IsGone, client_named, unknown_refusal}
 
 -- An unmapped frame is given again only after a flush that began after its unmap has ended well.
 abbrev pub ReuseLaw : List Pair → Type 0
@@ -37,18 +38,6 @@ ConservationLaw s ps = (n : ℕ) (p : Pair) → slice_get ps n ≡ Some p → Co
 abbrev pub OnePlace : State → Type 0
 OnePlace t = (frame : ℕ) → IsOnlyAt t frame (place_of t frame)
 
--- the laws that promise this of every transcript
-pub record AreLaws : Type 0 where
-  pub flushed : TranscriptsAreFlushed
-  pub reuse : ReuseIsFlushed
-  pub closing : ClientsCloseInOrder
-  pub gone : GoneClientsStayGone
-  pub conserved : StepsConserve
-  pub valid : TranscriptsKeepValidity
-  pub one_place : EachFrameIsInOnePlace
-  pub counted : PlacesAddUp
-  pub totals : TotalsAreShares
-
 -- The steps from s on, with their replies, keep the laws, and each frame of the state that they leave is in one place; the
 -- counts add up to the bounds, and the totals are the sums of the shares of all workers.
 pub record AreKept (s : State) (ps : List Pair) : Type 0 where
@@ -66,3 +55,7 @@ pub record AreKept (s : State) (ps : List Pair) : Type 0 where
 pub record Runs (old new : State) (taken : List Step) (before now : List Reply) : Type 0 where
   pub run : IsRun old new taken before now
   pub kept : AreKept old run.pairs
+
+-- Every transcript from a valid state keeps them.
+abbrev pub PromisesAreKept : Type 0
+PromisesAreKept = (s : State) (ps : List Pair) → IsValid s → IsTranscript s ps → AreKept s ps
