@@ -1,16 +1,14 @@
 -- The promises of a transcript, by the laws.
-use Rattle.std.proofs.Common.{ℕ, zero, suc, ◌≡◌, ◌<◌, ◌≤◌, ◌+◌, List, [], ◌∷◌, ◌++◌, ◌⊎◌, take, Some, None, refl, sym, ap, subst, ◌∙◌, arith}
+use Rattle.std.proofs.Common.{ℕ, zero, suc, ◌≡◌, ◌+◌, List, [], ◌∷◌, ◌++◌, ◌⊎◌, take, Some, None, refl, sym, ap, subst, ◌∙◌, arith}
 use Rattle.std.specs.Prelude.{slice_get, nat_le, ◌&&◌, Bool, true}
 use Rattle.std.specs.List.{list_all}
 use Rattle.std.proofs.lemmas.Bool.{and_parts, leb-true, eqb-true}
-use Rattle.iova_model.specs.declared.step.Step.{Step}
-use Rattle.iova_model.specs.declared.step.Reply.{Reply}
 use Rattle.iova_model.specs.Clients.{client_with}
 use Rattle.iova_model.specs.State.{State, Holder, holders, owners}
 use Rattle.iova_model.specs.Valid.{IsValid, is_inside, is_aligned}
 use Rattle.iova_model.specs.Next.{next}
-use Rattle.iova_model.specs.Transcript.{Pair, IsTranscript, after, IsRun}
-use Rattle.iova_model.specs.Laws.{Marks, IsClosing, IsGone}
+use Rattle.iova_model.specs.Transcript.{Pair, IsTranscript, after}
+use Rattle.iova_model.specs.Laws.{IsClosing, IsGone}
 use Rattle.iova_model.specs.Promises.{ClosingLaw, GoneLaw, HoldersAreWithin, OwnersAreAligned, PromisesAreKept}
 use Rattle.iova_laws.proofs.Valid.{transcripts_keep_validity}
 use Rattle.iova_laws.proofs.PlaceKinds.{each_frame_is_in_one_place}
