@@ -26,9 +26,10 @@ use iova_model::place::{Counts, Place};
 use iova_model::step::{Point, Reply, Step};
 use iova_model::totals::Totals;
 use iova_range::bounds::Bounds;
+use iova_range::limits::{MAX_FRAMES, MAX_WORKERS};
 use iova_range::range::Range;
 use iova_range::refusal::Refusal;
-use iova_range::sizes::{MAX_FRAMES, need};
+use iova_range::sizes::need;
 use iova_tree::tree::Tree;
 use std::alloc::Global;
 use std::marker::Model;
@@ -84,10 +85,10 @@ impl Domain {
     /// by `NoMemory`, in this order.
     pub fn new(alloc: Global, bounds: Bounds, workers: u64) -> Result<Self, Refusal>
         ensures value { IfOk result (λ d. d ≡ new_domain bounds workers) }
-        ensures workers { (result ≡ Err Refusal.NoWorker) ↔ ((workers ≡ 0) ⊎ (17 ≤ workers)) }
+        ensures workers { (result ≡ Err Refusal.NoWorker) ↔ ((workers ≡ 0) ⊎ (MAX_WORKERS < workers)) }
         ensures memory { IsErr result → (result ≡ Err Refusal.NoWorker) ⊎ (result ≡ Err Refusal.NoMemory) }
     {
-        if workers == 0 || workers > 16 {
+        if workers == 0 || workers > MAX_WORKERS {
             return Err(Refusal::NoWorker);
         }
         new_domains_are_valid();
@@ -573,7 +574,7 @@ pub fn run(domain: &mut Domain, steps: &[Step], replies: &mut Vec<Reply>) -> Res
 
 /// A ring for each worker.
 fn new_rings(alloc: Global, workers: usize) -> Result<Vec<Ring>, Refusal>
-    requires { workers ≤ 16 }
+    requires { workers ≤ MAX_WORKERS }
     ensures value { IfOk result (λ rings. rings.items ≡ replicate workers []) }
     ensures refused { IsErr result → result ≡ Err Refusal.NoMemory }
 {
@@ -607,7 +608,7 @@ fn has_frame(windows: &[Range], frame: u64) -> bool
 
 /// How many frames wait in rings.
 fn queued_frames(rings: &[Ring]) -> u64
-    requires { length rings.now ≤ 16 }
+    requires { length rings.now ≤ MAX_WORKERS }
     ensures { result ≡ frames_in_rings rings.now }
 {
     let mut frames = 0;

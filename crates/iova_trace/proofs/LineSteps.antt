@@ -20,10 +20,11 @@ use Rattle.iova_trace.specs.declared.fault.ReplayFault.TheVariants as fault
 use Rattle.iova_trace.specs.declared.replay.Progress.{Progress}
 use Rattle.iova_trace.specs.Text.{IsHeader, header_text, step_text, reply_text}
 use Rattle.iova_trace.specs.LineSteps.{IsStep}
-use Rattle.iova_trace.specs.Lines.{is_not_lf, HasNoLf, IsTrace, step_line, trace_text, lines_text, count_steps, next_number, whole_line, Begins, AreLines}
+use Rattle.iova_text.specs.Lines.{is_not_lf, HasNoLf, whole_line}
+use Rattle.iova_trace.specs.Lines.{IsTrace, step_line, trace_text, lines_text, count_steps, next_line_number, Begins, AreLines}
 use Rattle.iova_trace.specs.Replay.{IsReplayed}
 use Rattle.iova_trace.specs.Progress.{number_at, Goes, Stops}
-use Rattle.iova_trace.proofs.Cuts.{list_all-append}
+use Rattle.iova_text.proofs.Cuts.{list_all-append}
 
 pub All-push : (P : Step → Type 0) (xs : List Step) (x : Step) → AllByRecursion P xs → P x → AllByRecursion P (xs ++ x ∷ [])
 All-push P [] x a p = (p, tt)
@@ -49,7 +50,7 @@ trace_text-more t s =
 
 -- the state so far is that of the lines so far
 pub number_at-is : (lines : Option Trace) (d : Option State) (steps : ℕ) (text : List ℕ) → IsReplayed lines d text → steps ≡ count_steps lines
-    → number_at d steps ≡ next_number lines
+    → number_at d steps ≡ next_line_number lines
 number_at-is None None steps text r e = refl
 number_at-is None (Some d) steps text r e = absurd r
 number_at-is (Some t) None steps text r e = absurd r

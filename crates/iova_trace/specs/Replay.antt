@@ -8,7 +8,8 @@ use Rattle.iova_trace.specs.declared.trace.Trace.{Trace}
 use Rattle.iova_trace.specs.declared.fault.ReplayFault.{ReplayFault}
 use Rattle.iova_trace.specs.declared.fault.ReplayFault.TheVariants as fault
 use Rattle.iova_trace.specs.Text.{reply_text}
-use Rattle.iova_trace.specs.Lines.{IsTrace, trace_text, next_number, Begins, IsUnended, IsBad, IsCut}
+use Rattle.iova_text.specs.Lines.{IsUnended}
+use Rattle.iova_trace.specs.Lines.{IsTrace, trace_text, next_line_number, Begins, IsBad, IsCut}
 
 -- Lines were replayed: in a new domain, once there is a header, their steps leave this state and are answered by this text.
 -- The transcript of these steps keeps the promises.
@@ -33,7 +34,7 @@ pub record StopsAtBad (taken written : List ℕ) (number : ℕ) : Type 0 where
   pub state : Option State
   pub begins : Begins taken lines rest
   pub replayed : IsReplayed lines state written
-  pub number_is : number ≡ next_number lines
+  pub number_is : number ≡ next_line_number lines
   pub bad : IsBad lines rest
 
 -- the same where the input ends in the line
@@ -43,7 +44,7 @@ pub record StopsAtCut (taken written : List ℕ) (number : ℕ) : Type 0 where
   pub state : Option State
   pub begins : Begins taken lines rest
   pub replayed : IsReplayed lines state written
-  pub number_is : number ≡ next_number lines
+  pub number_is : number ≡ next_line_number lines
   pub cut : IsCut lines rest
 
 -- the replies to all whole lines are written, and no bad line has been taken
