@@ -1,8 +1,9 @@
--- Worked examples: the numbers and names of all refusals, the sizes of requests, and the bounds of both profiles.
+-- Worked examples: the numbers and names of all refusals, the sizes of requests, all limits, and the bounds of both profiles.
 use Rattle.std.proofs.Common.{◌≡◌, ◌≤◌, List, [], ◌∷◌, Some, None, true, false, inl, inr, refl, ap, arith, map}
 use Rattle.std.specs.Prelude.{codes}
 use Rattle.iova_range.specs.declared.refusal.Refusal.{Refusal}
 use Rattle.iova_range.specs.declared.refusal.Refusal.TheVariants.{Zero, TooBig, NoClient, Closing, HoldingsFull, NoSpace, RingFull, NotHeld, Taken, BadWindow, WindowsFull, NoWorker, FlightsFull, NoFlight, Worn, ClientsFull, NoMemory, SinkFault, LinkFault, BadLine, TooMany, BadTrace, NoDomain, Twice, BadProfile}
+use Rattle.iova_range.specs.declared.limits.TheConstants.{MAX_WORKERS, MAX_CLIENTS, MAX_HOLDINGS, MAX_WINDOWS, MAX_FRAMES, MAX_FLIGHTS, MAX_SERIAL, SAC_LIMIT, ORDERS, MAGAZINE, SMALL_MAGAZINE, MAX_DEPOT, RING_SLOTS, MAX_ENTRIES, MAX_LINE, MAX_STEPS, MAX_READS, MAX_DOMAINS, MAX_REQUESTS, MAX_SESSION_READS, MAX_LISTED, MAX_RUN, MAX_SESSIONS}
 use Rattle.iova_range.specs.Frames.{Frames, covers, meets}
 use Rattle.iova_range.specs.Sizes.{need, align_of, order_of}
 use Rattle.iova_range.specs.Bounds.{Capacities, first_profile, second_profile, IsProfile, AreBounds}
@@ -58,6 +59,20 @@ meets_at_its_ends = refl
 
 meets_what_it_is_inside : meets (record { lo = 15; len = 1 }) eleven ≡ true
 meets_what_it_is_inside = refl
+
+-- Limits.
+
+limits_of_a_domain : MAX_WORKERS ∷ MAX_CLIENTS ∷ MAX_HOLDINGS ∷ MAX_WINDOWS ∷ MAX_FRAMES ∷ MAX_FLIGHTS ∷ MAX_SERIAL ∷ SAC_LIMIT ∷ []
+    ≡ 16 ∷ 1024 ∷ 4096 ∷ 64 ∷ 1048576 ∷ 32 ∷ 9223372036854775807 ∷ 1048575 ∷ []
+limits_of_a_domain = refl
+
+limits_of_caches_and_rings : ORDERS ∷ MAGAZINE ∷ SMALL_MAGAZINE ∷ MAX_DEPOT ∷ RING_SLOTS ∷ MAX_ENTRIES ∷ [] ≡ 6 ∷ 128 ∷ 127 ∷ 32 ∷ 256 ∷ 255 ∷ []
+limits_of_caches_and_rings = refl
+
+limits_of_traces_and_sessions :
+    MAX_LINE ∷ MAX_STEPS ∷ MAX_READS ∷ MAX_DOMAINS ∷ MAX_REQUESTS ∷ MAX_SESSION_READS ∷ MAX_LISTED ∷ MAX_RUN ∷ MAX_SESSIONS ∷ []
+    ≡ 128 ∷ 1000000 ∷ 134217728 ∷ 8 ∷ 65536 ∷ 1048576 ∷ 1048576 ∷ 16 ∷ 65536 ∷ []
+limits_of_traces_and_sessions = refl
 
 -- Profiles and bounds.
 
