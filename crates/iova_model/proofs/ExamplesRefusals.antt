@@ -41,9 +41,6 @@ windows_full_and_no_memory = refl
 taken_and_no_memory : reply_at held (Reserve 1023 1023) Once ≡ Refused Taken
 taken_and_no_memory = refl
 
-windows_without_memory : reply_at all_windows (Reserve 128 129) Once ≡ Refused NoMemory
-windows_without_memory = refl
-
 -- the first and the last frame of the bounds, and those outside
 windows_at_the_ends : replies (domain 5 1023 1) (Reserve 4 5 ∷ Reserve 5 5 ∷ Reserve 1023 1024 ∷ Reserve 1023 1023 ∷ Reserve 7 6 ∷ [])
     ≡ Refused BadWindow ∷ Reserved (at 5 1) ∷ Refused BadWindow ∷ Reserved (at 1023 1) ∷ Refused BadWindow ∷ []

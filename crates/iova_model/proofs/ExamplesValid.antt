@@ -73,6 +73,9 @@ no_list_in_a_depot_of_0 d = let h : 1 ≤ 0 = d.room in absurd (omega arith)
 no_caches_without_a_worker : AreCaches first_profile 1 (new_caches 2) → ⊥
 no_caches_without_a_worker c = absurd (omega (arith, c.each_worker))
 
+no_5_depots : AreCaches first_profile 1 (record (new_caches 1) { depots = replicate 5 [] }) → ⊥
+no_5_depots c = absurd (omega (arith, c.orders))
+
 -- Rings and flushes.
 
 no_256_entries : IsRing 0 (replicate 256 (entry 1 1 0)) → ⊥
@@ -102,6 +105,13 @@ no_flights_out_of_order f = let h : 2 < 1 = f.rising.1.0 in absurd (omega arith)
 -- were flush 1 to end well, the finish count would pass it
 no_credit_of_a_newer_flush : AreSound (record { start = 2; finish = 0; owed = 0; newest = 0; good = 0; in_flight = record { number = 1; credit = 2 } ∷ [] }) → ⊥
 no_credit_of_a_newer_flush f = let h : 2 ≤ 1 = f.reach.1 in absurd (omega arith)
+
+-- were flush 2 to end well, the finish count would stay below it
+no_credit_that_falls_short : AreSound (record { start = 2; finish = 0; owed = 1; newest = 0; good = 0; in_flight = record { number = 2; credit = 1 } ∷ [] }) → ⊥
+no_credit_that_falls_short f = let h : 2 ≤ 1 = f.reach.0 in absurd (omega arith)
+
+no_33_flights : AreSound (record { start = 33; finish = 0; owed = 0; newest = 0; good = 0; in_flight = replicate 33 (record { number = 1; credit = 1 }) }) → ⊥
+no_33_flights f = let h : 33 ≤ 32 = f.room in absurd (omega arith)
 
 no_finish_above_the_newest : AreSound (record { start = 2; finish = 2; owed = 0; newest = 1; good = 1; in_flight = [] }) → ⊥
 no_finish_above_the_newest f = let h : 2 ≤ 1 = f.finish in absurd (omega arith)
