@@ -23,13 +23,13 @@ pub struct Ring {
 impl Model for Ring {
     ghost use Rattle.std.specs.Prelude.{List};
     ghost use Rattle.iova_model.specs.declared.entry.Entry.{Entry as E};
-    ghost use Rattle.iova_flush.specs.Rings.{IsKept};
+    ghost use Rattle.iova_flush.specs.Rings.{IsRingKept};
 
     ghost Value = { List E };
 
     ghost view = { λ r. r.entries.items };
 
-    ghost invariant = { λ r. IsKept r.entries.capacity r.frames r.entries.items };
+    ghost invariant = { λ r. IsRingKept r.entries.capacity r.frames r.entries.items };
 }
 
 impl Ring {
