@@ -1,3 +1,4 @@
+//! A domain: its steps, one at a time and in runs, and its readers.
 ghost use Rattle.std.specs.Prelude.{◌≡◌, ◌≢◌, ◌≤◌, ◌<◌, ◌⊎◌, ◌^◌, ℕ, [], take, replicate, sum_by, find, length, Some, IfOk, OnOk, OnErr, IsErr, ◌↔◌, Err, option_map, option_copied};
 ghost use Rattle.iova_model.specs.declared.step.Point.{Point as MemoryPoint};
 ghost use Rattle.iova_model.specs.Fit.{is_covered};

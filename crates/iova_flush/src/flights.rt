@@ -1,3 +1,4 @@
+//! The flushes in flight, with their credits.
 ghost use Rattle.std.specs.Prelude.{◌≡◌, ◌≤◌, ◌<◌, ◌-◌, ◌^◌, ◌↔◌, ◌⊎◌, ◌==◌, position, length, IsTrue, is_ok, IsOk, IsOkUnless, IfOk, IfErr, OnOk, OnErr};
 ghost use Rattle.iova_model.specs.Flushes.{flushes_from, begun, ended, is_in_flight, NumbersRise, AreSound};
 

@@ -1,3 +1,4 @@
+//! Where a range goes in a rising list.
 ghost use Rattle.std.specs.Prelude.{◌≤◌, ◌<◌, ℕ, length, slice_index_or};
 ghost use Rattle.std.specs.List.Sorted.{IsNonDecreasingBy};
 ghost use Rattle.iova_range.specs.Frames.{Frames};

@@ -1,3 +1,4 @@
+//! Windows that join.
 ghost use Rattle.std.specs.Prelude.{◌≡◌, ◌+◌, ◌^◌, ◌≤◌, ◌<◌, ℕ, true, length, vec_len, vec_capacity, IfSome, IfNone};
 ghost use Rattle.iova_range.specs.Frames.{meets};
 ghost use Rattle.iova_model.specs.Fit.{is_clear};
