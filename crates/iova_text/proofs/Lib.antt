@@ -1,4 +1,5 @@
 pub mod Cuts
 pub mod Digits
 pub mod LineEnds
+pub mod WordTexts
 mod Writes

@@ -1,9 +1,12 @@
 -- The first LF of some bytes.
-use Rattle.std.proofs.Common.{ℕ, zero, suc, ◌≡◌, ◌+◌, ◌-◌, ◌<◌, ◌≤◌, ◌==◌, List, [], ◌∷◌, ◌++◌, length, take, drop, get_or, refl, ap, ◌∙◌, arith, true, add-one}
-use Rattle.std.proofs.lemmas.Bool.{eqb-true, not_from_false, false_from_ne_true}
+use Rattle.std.proofs.Common.{ℕ, zero, suc, ◌≡◌, ◌+◌, ◌-◌, ◌<◌, ◌≤◌, ◌==◌, ◌⊎◌, inl, inr, List, [], ◌∷◌, ◌++◌, length, take, drop, get_or, refl, sym, ap, ◌∙◌, arith, true, add-one, append_assoc}
+use Rattle.std.specs.List.{list_all}
+use Rattle.std.proofs.Math.Seq.{take-append-add}
+use Rattle.std.proofs.lemmas.Bool.{and_from, cases_eq, eqb-true, false≢true, ne_eqb, not_from_false, false_from_ne_true}
 use Rattle.std.proofs.lemmas.List.{take_more}
+use Rattle.iova_range.specs.declared.limits.TheConstants.{MAX_LINE}
 use Rattle.iova_text.specs.Lines.{is_not_lf, HasNoLf, whole_line}
-use Rattle.iova_text.proofs.Cuts.{cut_at, list_all-more}
+use Rattle.iova_text.proofs.Cuts.{cut_at, list_all-more, list_all-right, run_once}
 
 pub no_lf_before : (bytes : List ℕ) (n : ℕ) → n ≤ length bytes → ((k : ℕ) → 0 ≤ k → k < n → (get_or bytes k 0 == 10) ≡ true → ⊥) → HasNoLf (take n bytes)
 no_lf_before bytes zero within none = refl
@@ -18,3 +21,40 @@ cut_at_lf bytes n lt is =
     let byte : get_or bytes n 0 ≡ 10 = eqb-true (get_or bytes n 0) 10 is in
     cut_at bytes (n + 1) ∙ ap (λ (x : List ℕ). x ++ take (length bytes - (n + 1)) (drop (n + 1) bytes))
     (take_more bytes n 0 lt ∙ ap (λ (b : ℕ). take n bytes ++ b ∷ []) byte)
+
+-- Bytes are cut at their first LF in one way.
+pub cut_once : (a b c d : List ℕ) → HasNoLf a → HasNoLf c → whole_line a ++ b ≡ whole_line c ++ d → (a ≡ c) × (b ≡ d)
+cut_once a b c d one other e =
+    let left : a ++ 10 ∷ b ≡ c ++ 10 ∷ d = sym (append_assoc a (10 ∷ []) b) ∙ (e ∙ append_assoc c (10 ∷ []) d) in
+    let r = run_once is_not_lf a (10 ∷ b) c (10 ∷ d) one refl other refl left in
+    (r.0, (let both : 10 ∷ b ≡ 10 ∷ d = r.1 in cc))
+
+-- what has no LF is no line and more
+pub no_line : (bytes line more : List ℕ) → HasNoLf bytes → bytes ≡ whole_line line ++ more → ⊥
+no_line bytes line more none e =
+    let all : list_all is_not_lf (line ++ 10 ∷ more) ≡ true = ap (list_all is_not_lf) (sym (e ∙ append_assoc line (10 ∷ []) more)) ∙ none in
+    false≢true (list_all-right is_not_lf line (10 ∷ more) all)
+
+-- a short line ends within the bytes of the longest
+pub lf_within : (bytes line more : List ℕ) → length line < MAX_LINE → bytes ≡ whole_line line ++ more → HasNoLf (take MAX_LINE bytes) → ⊥
+lf_within bytes line more lt e none =
+    let left = 127 - length line in
+    let at : take (length line + (left + 1)) (line ++ 10 ∷ more) ≡ line ++ take (left + 1) (10 ∷ more) = take-append-add line (10 ∷ more) (left + 1) in
+    let all : length line + (left + 1) ≡ 128 = omega arith in
+    let front : take (left + 1) (10 ∷ more) ≡ 10 ∷ take left more = rw add-one refl in
+    let cut : take 128 bytes ≡ line ++ 10 ∷ take left more =
+    ap (λ (x : List ℕ). take 128 x) (e ∙ append_assoc line (10 ∷ []) more)
+    ∙ (ap (λ (n : ℕ). take n (line ++ 10 ∷ more)) (sym all) ∙ (at ∙ ap (λ (x : List ℕ). line ++ x) front)) in
+    false≢true (list_all-right is_not_lf line (10 ∷ take left more) (ap (list_all is_not_lf) (sym cut) ∙ none))
+
+-- bytes have no LF, or a first one
+pub first_lf : (bytes : List ℕ) → HasNoLf bytes ⊎ ((line : List ℕ) × (more : List ℕ) × (bytes ≡ whole_line line ++ more) × HasNoLf line)
+first_lf [] = inl refl
+first_lf (b ∷ bytes) = split (cases_eq b 10) (first_lf bytes)
+  where
+    split : (b ≡ 10) ⊎ (b ≡ 10 → ⊥) → HasNoLf bytes ⊎ ((line : List ℕ) × (more : List ℕ) × (bytes ≡ whole_line line ++ more) × HasNoLf line)
+        → HasNoLf (b ∷ bytes) ⊎ ((line : List ℕ) × (more : List ℕ) × ((b ∷ bytes) ≡ whole_line line ++ more) × HasNoLf line)
+    split (inl e) rest = inr ([], bytes, ap (λ (x : ℕ). x ∷ bytes) e, refl)
+    split (inr ne) (inl none) = inl (and_from (is_not_lf b) (list_all is_not_lf bytes) (not_from_false (b == 10) (ne_eqb b 10 ne)) none)
+    split (inr ne) (inr (line, more, e, one)) =
+        inr (b ∷ line, more, ap (λ (x : List ℕ). b ∷ x) e, and_from (is_not_lf b) (list_all is_not_lf line) (not_from_false (b == 10) (ne_eqb b 10 ne)) one)

@@ -1,5 +1,5 @@
 -- A line of words: one space stands before each but the first. Own.
-use Rattle.std.specs.Prelude.{ℕ, List, [], ◌∷◌, ◌++◌, map, decimal}
+use Rattle.std.specs.Prelude.{ℕ, Bool, true, false, List, [], ◌∷◌, ◌++◌, map, decimal, codes}
 
 -- each word with a space before it
 abbrev pub spaced_words : List (List ℕ) → List ℕ
@@ -13,3 +13,8 @@ line_text word arguments = word ++ spaced_words arguments
 -- a word and numbers
 abbrev pub numbers_line : List ℕ → List ℕ → List ℕ
 numbers_line word ns = line_text word (map decimal ns)
+
+-- the word for a client that asks below 4 GiB first, and for another
+abbrev pub kind_text : Bool → List ℕ
+kind_text true = codes "sac"
+kind_text false = codes "dac"

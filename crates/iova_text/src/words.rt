@@ -1,9 +1,9 @@
 //! A line cut into words at single spaces, and the numbers behind them.
-ghost use Rattle.std.specs.Prelude.{◌≡◌, ℕ, ◌^◌, ◌<◌, List, [], ◌∷◌, ◌++◌, Some, IfSome, IsSomeAnd, IsTrue, decimal};
+ghost use Rattle.std.specs.Prelude.{◌≡◌, ℕ, ◌^◌, ◌<◌, Bool, List, [], ◌∷◌, ◌++◌, Some, IfSome, IsSomeAnd, IsTrue, decimal};
 ghost use Rattle.std.specs.Char.{is_ascii_digit};
 ghost use Rattle.std.specs.List.{list_all};
 ghost use Rattle.iova_text.specs.Reading.{stops, is_not_space};
-ghost use Rattle.iova_text.specs.Words.{spaced_words};
+ghost use Rattle.iova_text.specs.Words.{spaced_words, kind_text};
 
 use crate::number::leading_number;
 
@@ -18,6 +18,21 @@ pub fn first_word(line: &[u8]) -> (&[u8], &[u8])
         len += 1;
     }
     line.split_at(len)
+}
+
+/// A space and the word behind it, which may be empty, and the text from the next space on. None where no space is at the
+/// front. Own.
+pub fn next_word(text: &[u8]) -> Option<(&[u8], &[u8])>
+    ensures spelled { IfSome result (λ p. text.now ≡ 32 ∷ (p.0.now ++ p.1.now)) }
+    ensures read { (word rest : List ℕ) → IsTrue (list_all is_not_space word) → IsTrue (stops is_not_space rest)
+        → text.now ≡ 32 ∷ (word ++ rest) → IsSomeAnd result (λ p. (p.0.now ≡ word) × (p.1.now ≡ rest)) }
+{
+    let (first, words) = text.split_first()?;
+    if *first == b' ' {
+        Some(first_word(words))
+    } else {
+        None
+    }
 }
 
 /// A space and a number, and the text behind them.
@@ -65,6 +80,20 @@ pub fn three_numbers(text: &[u8]) -> Option<(u64, u64, u64)>
     Some((a, b, c))
 }
 
+/// A space and the kind of a client, and nothing behind it: true for `sac`, false for `dac`. Own.
+pub fn kind_of(text: &[u8]) -> Option<bool>
+    ensures spelled { IfSome result (λ sac. text.now ≡ spaced_words (kind_text sac ∷ [])) }
+    ensures read { (sac : Bool) → text.now ≡ spaced_words (kind_text sac ∷ []) → result ≡ Some sac }
+{
+    if text == b" sac".as_slice() {
+        Some(true)
+    } else if text == b" dac".as_slice() {
+        Some(false)
+    } else {
+        None
+    }
+}
+
 #[cfg(test)]
 mod tests {
     use super::*;
@@ -85,6 +114,33 @@ mod tests {
                 rest.as_bytes(),
                 "behind the first word of {line:?}"
             );
+        }
+    }
+
+    #[test]
+    fn words_stand_behind_one_space_each(rt: HostRuntime) {
+        for (text, want) in [
+            (" iova1 0 dac", Some(("iova1", " 0 dac"))),
+            (" iova1", Some(("iova1", ""))),
+            ("  iova1", Some(("", " iova1"))),
+            ("iova1", None),
+            ("", None),
+        ] {
+            let found = next_word(text.as_bytes());
+            assert_eq!(rt;
+                found,
+                want.map(|(w, r)| (w.as_bytes(), r.as_bytes())),
+                "next word of {text:?}"
+            );
+        }
+        for (text, want) in [
+            (" sac", Some(true)),
+            (" dac", Some(false)),
+            ("sac", None),
+            (" sac ", None),
+            (" Sac", None),
+        ] {
+            assert_eq!(rt; kind_of(text.as_bytes()), want, "kind of {text:?}");
         }
     }
 

@@ -1,10 +1,8 @@
 -- The first bad line of a text has one number, and what comes behind it does not change it.
-use Rattle.std.proofs.Common.{ℕ, zero, suc, ◌≡◌, ◌+◌, ◌-◌, ◌*◌, ◌<◌, ◌≤◌, ◌^◌, ◌==◌, ◌⊎◌, inl, inr, Bool, true, false, List, [], ◌∷◌, ◌++◌, Option, Some, None, length, length-append, take, map, decimal, codes, refl, sym, ap, ◌∙◌, subst, arith, append_assoc, append-nil}
+use Rattle.std.proofs.Common.{ℕ, suc, ◌≡◌, ◌+◌, ◌<◌, ◌≤◌, ◌^◌, ◌==◌, ◌⊎◌, inl, inr, Bool, true, false, List, [], ◌∷◌, ◌++◌, Option, Some, None, length, length-append, take, map, decimal, codes, refl, sym, ap, ◌∙◌, subst, arith, append_assoc, append-nil}
 use Rattle.std.specs.Prelude.{flat_map}
 use Rattle.std.specs.List.{list_all, AllByRecursion}
-use Rattle.std.proofs.Math.Seq.{take-append-add}
-use Rattle.std.proofs.lemmas.Bool.{and_from, not_from_false, ne_eqb, false≢true, cases_eq, cond_both}
-use Rattle.std.proofs.lemmas.Fmt.{length-decimal-le}
+use Rattle.std.proofs.lemmas.Bool.{cond_both}
 use Rattle.std.proofs.lemmas.List.{take-append-le}
 use Rattle.iova_range.specs.Bounds.{Extent, first_profile}
 use Rattle.iova_model.specs.declared.step.Step.{Step}
@@ -12,14 +10,15 @@ use Rattle.iova_model.specs.declared.step.Step.TheVariants as step
 use Rattle.iova_trace.specs.declared.line.Verb.{Verb}
 use Rattle.iova_trace.specs.declared.line.Verb.TheVariants as verb
 use Rattle.iova_trace.specs.declared.trace.Trace.{Trace}
-use Rattle.iova_text.specs.Words.{spaced_words}
-use Rattle.iova_trace.specs.Text.{verb_text, verb_of, kind_text, outcome_text, arguments_of, step_text, Fits, header_numbers, header_text, IsHeader}
+use Rattle.iova_text.specs.Words.{spaced_words, kind_text}
+use Rattle.iova_trace.specs.Text.{verb_text, verb_of, outcome_text, arguments_of, step_text, Fits, header_numbers, header_text, IsHeader}
 use Rattle.iova_trace.specs.LineSteps.{IsStep}
 use Rattle.iova_text.specs.Lines.{is_not_lf, HasNoLf, whole_line, IsOverlong}
 use Rattle.iova_trace.specs.Lines.{step_line, trace_text, lines_text, IsTrace, Begins, IsOther, IsBad, IsCut, MayFollow, IsRefused, next_line_number}
 use Rattle.iova_trace.specs.Replay.{StopsAtBad}
-use Rattle.iova_text.proofs.Cuts.{list_all-right}
-use Rattle.iova_trace.proofs.Readings.{IsEnd, end_at, cut_once, no_line, no_lf_step, no_lf_header, header_fits}
+use Rattle.iova_text.proofs.LineEnds.{cut_once, no_line, lf_within, first_lf}
+use Rattle.iova_text.proofs.WordTexts.{IsShort, short_decimal, short_words}
+use Rattle.iova_trace.proofs.Readings.{IsEnd, end_at, no_lf_step, no_lf_header, header_fits}
 
 -- no step that may be the one behind so many begins the bytes
 abbrev IsStuckAt : ℕ → List ℕ → Type 0
@@ -92,16 +91,6 @@ refused_none text n t a is whole = go a.lines a.begins a.bad
 
 -- A line that is too long is none of a trace's.
 
-abbrev IsShort : List ℕ → Type 0
-IsShort w = length w ≤ 20
-
-short_decimal : (n : ℕ) → n < 2 ^ 64 → IsShort (decimal n)
-short_decimal n fits = length-decimal-le 20 n (omega arith) (omega arith) fits
-
-short_words : (ws : List (List ℕ)) → AllByRecursion IsShort ws → length (spaced_words ws) ≤ 21 * length ws
-short_words [] a = omega arith
-short_words (w ∷ ws) a = omega (arith, length-append w (spaced_words ws), short_words ws a.1, a.0)
-
 short_kind : (b : Bool) → IsShort (kind_text b)
 short_kind true = omega arith
 short_kind false = omega arith
@@ -161,30 +150,6 @@ short_header bounds workers is =
 short_line : (lines : Option Trace) (line : List ℕ) → MayFollow lines line → length line < 128
 short_line None line may = omega (arith, short_header may.0 may.1 may.2, ap length may.3)
 short_line (Some t) line may = omega (arith, short_step may.1 may.2.fits, ap length may.3)
-
--- a short line ends within 128 bytes
-lf_within : (bytes line more : List ℕ) → length line < 128 → bytes ≡ whole_line line ++ more → HasNoLf (take 128 bytes) → ⊥
-lf_within bytes line more lt e none =
-    let left = 127 - length line in
-    let at : take (length line + (left + 1)) (line ++ 10 ∷ more) ≡ line ++ take (left + 1) (10 ∷ more) = take-append-add line (10 ∷ more) (left + 1) in
-    let all : length line + (left + 1) ≡ 128 = omega arith in
-    let front : take (left + 1) (10 ∷ more) ≡ 10 ∷ take left more = rw Rattle.std.proofs.Common.add-one refl in
-    let cut : take 128 bytes ≡ line ++ 10 ∷ take left more =
-    ap (λ (x : List ℕ). take 128 x) (e ∙ append_assoc line (10 ∷ []) more)
-    ∙ (ap (λ (n : ℕ). take n (line ++ 10 ∷ more)) (sym all) ∙ (at ∙ ap (λ (x : List ℕ). line ++ x) front)) in
-    false≢true (list_all-right is_not_lf line (10 ∷ take left more) (ap (list_all is_not_lf) (sym cut) ∙ none))
-
--- bytes have no LF, or a first one
-first_lf : (bytes : List ℕ) → HasNoLf bytes ⊎ ((line : List ℕ) × (more : List ℕ) × (bytes ≡ whole_line line ++ more) × HasNoLf line)
-first_lf [] = inl refl
-first_lf (b ∷ bytes) = split (cases_eq b 10) (first_lf bytes)
-  where
-    split : (b ≡ 10) ⊎ (b ≡ 10 → ⊥) → HasNoLf bytes ⊎ ((line : List ℕ) × (more : List ℕ) × (bytes ≡ whole_line line ++ more) × HasNoLf line)
-        → HasNoLf (b ∷ bytes) ⊎ ((line : List ℕ) × (more : List ℕ) × ((b ∷ bytes) ≡ whole_line line ++ more) × HasNoLf line)
-    split (inl e) rest = inr ([], bytes, ap (λ (x : ℕ). x ∷ bytes) e, refl)
-    split (inr ne) (inl none) = inl (and_from (is_not_lf b) (list_all is_not_lf bytes) (not_from_false (b == 10) (ne_eqb b 10 ne)) none)
-    split (inr ne) (inr (line, more, e, one)) =
-        inr (b ∷ line, more, ap (λ (x : List ℕ). b ∷ x) e, and_from (is_not_lf b) (list_all is_not_lf line) (not_from_false (b == 10) (ne_eqb b 10 ne)) one)
 
 overlong_is_bad : (lines : Option Trace) (rest more : List ℕ) → IsOverlong rest → IsOther lines (rest ++ more) ⊎ IsCut lines (rest ++ more)
 overlong_is_bad lines rest more long = go lines (first_lf (rest ++ more))

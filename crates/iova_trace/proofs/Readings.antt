@@ -1,41 +1,25 @@
 -- The text of a trace is read in one way.
 use Rattle.std.proofs.Common.{ℕ, ◌≡◌, ◌+◌, ◌<◌, ◌≤◌, ◌^◌, ◌==◌, ◌⊎◌, inl, inr, Bool, true, false, List, [], ◌∷◌, ◌++◌, Option, Some, None, length, length-append, map, decimal, codes, refl, sym, ap, ◌∙◌, subst, arith, append_assoc, append-nil}
 use Rattle.std.specs.Prelude.{flat_map}
-use Rattle.std.specs.Char.{is_ascii_digit}
-use Rattle.std.specs.List.{list_all, AllByRecursion}
-use Rattle.std.proofs.lemmas.Bool.{and_parts, and_from, not_from_false, ne_eqb, false≢true, cond_both}
+use Rattle.std.specs.List.{AllByRecursion}
+use Rattle.std.proofs.lemmas.Bool.{cond_both}
 use Rattle.iova_range.specs.Bounds.{Extent, Capacities, IsProfile, first_profile}
 use Rattle.iova_model.specs.declared.step.Step.{Step}
 use Rattle.iova_model.specs.declared.step.Step.TheVariants as step
 use Rattle.iova_trace.specs.declared.line.Verb.{Verb}
 use Rattle.iova_trace.specs.declared.line.Verb.TheVariants as verb
 use Rattle.iova_trace.specs.declared.trace.Trace.{Trace}
-use Rattle.iova_text.specs.Words.{spaced_words}
-use Rattle.iova_trace.specs.Text.{verb_text, verb_of, kind_text, outcome_text, arguments_of, step_text, Fits, header_numbers, header_text, IsHeader}
+use Rattle.iova_text.specs.Words.{spaced_words, kind_text}
+use Rattle.iova_trace.specs.Text.{verb_text, verb_of, outcome_text, arguments_of, step_text, Fits, header_numbers, header_text, IsHeader}
 use Rattle.iova_trace.specs.LineSteps.{IsStep}
 use Rattle.iova_text.specs.Lines.{is_not_lf, HasNoLf, whole_line}
 use Rattle.iova_trace.specs.Lines.{step_line, trace_text, IsTrace, Begins, IsOther, IsCut, MayFollow, IsRefused, next_line_number}
-use Rattle.iova_text.proofs.Cuts.{list_all-append, list_all-right, run_once}
-use Rattle.iova_text.proofs.Digits.{decimal-digits}
+use Rattle.iova_text.proofs.LineEnds.{cut_once, no_line}
+use Rattle.iova_text.proofs.WordTexts.{no_lf_decimal, no_lf_words}
+use Rattle.iova_text.proofs.Cuts.{list_all-append}
 use Rattle.iova_trace.proofs.LineSteps.{with_step, trace_text-more}
 
 -- No line of a trace has an LF.
-
-not_lf_digit : (b : ℕ) → is_ascii_digit b ≡ true → is_not_lf b ≡ true
-not_lf_digit b d = not_from_false (b == 10) (ne_eqb b 10 (λ e. false≢true (ap is_ascii_digit (sym e) ∙ d)))
-
-no_lf_digits : (ds : List ℕ) → list_all is_ascii_digit ds ≡ true → HasNoLf ds
-no_lf_digits [] a = refl
-no_lf_digits (d ∷ ds) a =
-    let parts = and_parts (is_ascii_digit d) (list_all is_ascii_digit ds) a in
-    and_from (is_not_lf d) (list_all is_not_lf ds) (not_lf_digit d parts.0) (no_lf_digits ds parts.1)
-
-no_lf_decimal : (n : ℕ) → n < 2 ^ 64 → HasNoLf (decimal n)
-no_lf_decimal n fits = no_lf_digits (decimal n) (decimal-digits n fits)
-
-no_lf_words : (ws : List (List ℕ)) → AllByRecursion HasNoLf ws → HasNoLf (spaced_words ws)
-no_lf_words [] a = refl
-no_lf_words (w ∷ ws) a = list_all-append is_not_lf w (spaced_words ws) a.0 (no_lf_words ws a.1)
 
 no_lf_verb : (v : Verb) → HasNoLf (verb_text v)
 no_lf_verb verb.Reserve = refl
@@ -95,19 +79,6 @@ pub no_lf_header : (bounds : Extent) (workers : ℕ) → IsHeader bounds workers
 no_lf_header bounds workers is =
     list_all-append is_not_lf (codes "iovatrace") (spaced_words (map decimal (header_numbers bounds workers))) refl
     (no_lf_words (map decimal (header_numbers bounds workers)) (no_lf_numbers (header_numbers bounds workers) (header_fits bounds workers is)))
-
--- Bytes are cut at their first LF in one way.
-pub cut_once : (a b c d : List ℕ) → HasNoLf a → HasNoLf c → whole_line a ++ b ≡ whole_line c ++ d → (a ≡ c) × (b ≡ d)
-cut_once a b c d one other e =
-    let left : a ++ 10 ∷ b ≡ c ++ 10 ∷ d = sym (append_assoc a (10 ∷ []) b) ∙ (e ∙ append_assoc c (10 ∷ []) d) in
-    let r = run_once is_not_lf a (10 ∷ b) c (10 ∷ d) one refl other refl left in
-    (r.0, (let both : 10 ∷ b ≡ 10 ∷ d = r.1 in cc))
-
--- what has no LF is no line and more
-pub no_line : (bytes line more : List ℕ) → HasNoLf bytes → bytes ≡ whole_line line ++ more → ⊥
-no_line bytes line more none e =
-    let all : list_all is_not_lf (line ++ 10 ∷ more) ≡ true = ap (list_all is_not_lf) (sym (e ∙ append_assoc line (10 ∷ []) more)) ∙ none in
-    false≢true (list_all-right is_not_lf line (10 ∷ more) all)
 
 -- what ends a reading: a bad line, the end in a line, or the end behind a trace
 abbrev pub IsEnd : Option Trace → List ℕ → Type 0

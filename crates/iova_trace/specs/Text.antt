@@ -3,7 +3,7 @@
 use Rattle.std.specs.Prelude.{ℕ, ◌+◌, ◌-◌, ◌<◌, ◌≤◌, ◌^◌, ◌==◌, Bool, true, false, List, [], ◌∷◌, ◌++◌, codes, decimal, if◌then◌else◌}
 use Rattle.iova_range.specs.Bounds.{Extent, IsExtent, first_profile}
 use Rattle.iova_range.specs.Refusals.{refusal_number, refusal_name}
-use Rattle.iova_text.specs.Words.{line_text, numbers_line}
+use Rattle.iova_text.specs.Words.{line_text, numbers_line, kind_text}
 use Rattle.iova_range.specs.declared.limits.TheConstants.{MAX_WORKERS}
 use Rattle.iova_model.specs.declared.step.Step.{Step}
 use Rattle.iova_model.specs.declared.step.Step.TheVariants as step
@@ -35,10 +35,6 @@ verb_of (step.End number ok) = verb.End
 verb_of (step.Drain ring by) = verb.Drain
 verb_of (step.Close worker client) = verb.Close
 verb_of (step.CloseOne worker client) = verb.CloseOne
-
-abbrev pub kind_text : Bool → List ℕ
-kind_text true = codes "sac"
-kind_text false = codes "dac"
 
 abbrev pub outcome_text : Bool → List ℕ
 outcome_text true = codes "ok"

@@ -3,7 +3,7 @@ ghost use Rattle.std.specs.Prelude.{◌≡◌, ◌≢◌, ℕ, ◌+◌, ◌^◌,
 ghost use Rattle.iova_range.specs.Bounds.{Extent, AreBounds, first_profile, second_profile};
 ghost use Rattle.iova_model.specs.declared.step.Step.{Step};
 ghost use Rattle.iova_text.specs.Words.{spaced_words};
-ghost use Rattle.iova_trace.specs.Text.{verb_text, verb_of, kind_text, outcome_text, arguments_of, step_text, Fits, header_text, IsHeader};
+ghost use Rattle.iova_trace.specs.Text.{verb_text, verb_of, outcome_text, arguments_of, step_text, Fits, header_text, IsHeader};
 ghost use Rattle.iova_trace.specs.declared.line.Verb.{Verb};
 
 use iova_model::step::Step;
@@ -12,7 +12,7 @@ use iova_range::limits::MAX_WORKERS;
 use iova_range::profile::Profile;
 use iova_range::refusal::Refusal;
 use iova_text::buffer::{LineBuffer, append, put, put_numbers};
-use iova_text::words::{first_word, next_number, three_numbers, two_numbers};
+use iova_text::words::{first_word, kind_of, next_number, three_numbers, two_numbers};
 
 /// The first word of a step's line. Our own.
 #[derive(Clone, Copy, Debug, PartialEq, Eq)]
@@ -185,19 +185,6 @@ fn begin_of(arguments: &[u8]) -> Option<Step>
 {
     if arguments.is_empty() {
         Some(Step::Begin)
-    } else {
-        None
-    }
-}
-
-fn kind_of(text: &[u8]) -> Option<bool>
-    ensures spelled { IfSome result (λ sac. text.now ≡ spaced_words (kind_text sac ∷ [])) }
-    ensures read { (sac : Bool) → text.now ≡ spaced_words (kind_text sac ∷ []) → result ≡ Some sac }
-{
-    if text == b" sac".as_slice() {
-        Some(true)
-    } else if text == b" dac".as_slice() {
-        Some(false)
     } else {
         None
     }

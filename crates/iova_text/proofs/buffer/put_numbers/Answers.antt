@@ -3,7 +3,7 @@ use Rattle.iova_text.proofs.Cuts.{spaced_words-more}
 use Rattle.iova_text.proofs.buffer.put_numbers.Goals as goal
 
 pub loop-n-preserved : goal.loop-n-preserved
-loop-n-preserved c =
+loop-n-preserved g c =
     let space = c.put-in-loop-n.ensures.items in
     let number = c.put_number.ensures in
     record {

@@ -6,7 +6,8 @@ use Rattle.iova_trace.specs.declared.line.Header.{Header}
 use Rattle.iova_trace.specs.declared.trace.Trace.{Trace}
 use Rattle.iova_trace.specs.Text.{header_text, step_text}
 use Rattle.iova_trace.proofs.LineSteps.{IsTrace-more}
-use Rattle.iova_trace.proofs.Readings.{trace_of, IsOnly, IsStuck, HasNoHeader, cut_once, no_line, only_header, only_step, only_whole, only_not_refused, stuck_whole, stuck_refused, no_header_whole, no_header_refused, whole_header, whole_step, nil_of, no_lf_header, no_lf_step}
+use Rattle.iova_text.proofs.LineEnds.{cut_once, no_line}
+use Rattle.iova_trace.proofs.Readings.{trace_of, IsOnly, IsStuck, HasNoHeader, only_header, only_step, only_whole, only_not_refused, stuck_whole, stuck_refused, no_header_whole, no_header_refused, whole_header, whole_step, nil_of, no_lf_header, no_lf_step}
 use Rattle.iova_trace.proofs.whole.read_trace.Goals as goal
 
 pub returns-in_default-read_header-clause-whole : goal.returns-in_default-read_header-clause-whole

@@ -1,0 +1,34 @@
+-- What one piece of a stream gives behind what was kept. Own.
+use Rattle.std.specs.Prelude.{ℕ, ◌≡◌, ◌≤◌, ◌⊎◌, if◌then◌else◌, Bool, true, false, List, [], ◌++◌, length, take, Option, Some, None}
+use Rattle.iova_text.specs.Lines.{HasNoLf, whole_line, IsUnended, IsOverlong}
+use Rattle.iova_proto.specs.declared.request.Request.{Request}
+use Rattle.iova_proto.specs.declared.fed.Fed.{Fed}
+use Rattle.iova_proto.specs.declared.fed.Fed.TheVariants as fed
+use Rattle.iova_proto.specs.Requests.{Spells}
+
+-- the bytes begin with a whole line that is no request's
+pub record BeginsOdd (bytes : List ℕ) : Type 0 where
+  pub line : List ℕ
+  pub more : List ℕ
+  pub whole : bytes ≡ whole_line line ++ more
+  pub one : HasNoLf line
+  pub none : (r : Request) → Spells (whole_line line) r → ⊥
+
+-- or with as many bytes as the longest line has, and no LF among them
+abbrev pub BeginsBad : List ℕ → Type 0
+BeginsBad bytes = BeginsOdd bytes ⊎ IsOverlong bytes
+
+-- What a piece gives behind these bytes of a line that has not ended, and what is kept then: nothing more behind a bad line.
+abbrev pub Feeds : List ℕ → List ℕ → Fed → Option (List ℕ) → Type 0
+Feeds kept piece (fed.Request r used) next = (used ≤ length piece) × Spells (kept ++ take used piece) r × (next ≡ Some [])
+Feeds kept piece fed.More next = IsUnended (kept ++ piece) × (next ≡ Some (kept ++ piece))
+Feeds kept piece fed.Bad next = BeginsBad (kept ++ piece) × (next ≡ None)
+
+abbrev pub is_bad : Fed → Bool
+is_bad (fed.Request r used) = false
+is_bad fed.More = false
+is_bad fed.Bad = true
+
+-- what is kept behind what a piece gave, where the buffer has these bytes
+abbrev pub state_behind : Fed → List ℕ → Option (List ℕ)
+state_behind f kept = if is_bad f then None else Some kept
