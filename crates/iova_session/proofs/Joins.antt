@@ -1,0 +1,136 @@
+-- What one piece gives, and then the next.
+use Rattle.std.proofs.Common.{◌≡◌, ℕ, ◌+◌, ◌≤◌, ◌⊎◌, inl, inr, List, [], ◌∷◌, ◌++◌, length, take, sym, ap, ◌∙◌, subst, append_assoc, append-nil, arith, length-append, refl}
+use Rattle.std.specs.List.{AllByRecursion}
+use Rattle.std.proofs.Math.Seq.{take-append-add, take-length}
+use Rattle.iova_range.specs.declared.limits.TheConstants.{MAX_SESSION_READS}
+use Rattle.iova_text.specs.Lines.{IsUnended}
+use Rattle.iova_proto.specs.Requests.{IsRequest}
+use Rattle.iova_proto.specs.declared.request.Request.{Request}
+use Rattle.iova_session.specs.Pairs.{Pair, asked, told, requests_text, answers_text}
+use Rattle.iova_session.specs.Sessions.{bad_line, too_many, HasNoBye, StopsAtBye, EndsInBye, BeginsRequest, BeginsWith, IsPastLimit, IsLastLine, EndsSo, Serves}
+use Rattle.iova_session.specs.Rounds.{IsLines, GoesOn}
+use Rattle.iova_session.specs.declared.end.End.{End}
+use Rattle.iova_session.specs.declared.end.End.TheVariants as ends
+use Rattle.iova_session.proofs.Texts.{requests_text-append, requests_text-nil, asked-append, told-append, asked_both, told_both, length-asked, asked-nil, none_told}
+use Rattle.iova_session.proofs.Byes.{All-append, HasNoBye-nil, HasNoBye-append, StopsAtBye-none, StopsAtBye-behind, EndsInBye-behind}
+
+-- a piece behind what is kept
+behind : (bytes piece next first later more : List ℕ) → bytes ≡ first ++ next → next ++ piece ≡ later ++ more
+    → bytes ++ piece ≡ (first ++ later) ++ more
+behind bytes piece next first later more e f =
+    ap (λ x. x ++ piece) e ∙ append_assoc first next piece ∙ ap (λ x. first ++ x) f ∙ sym (append_assoc first later more)
+
+behind_pairs : (bytes piece next more : List ℕ) (ps qs : List Pair) → bytes ≡ requests_text (asked ps) ++ next
+    → next ++ piece ≡ requests_text (asked qs) ++ more → bytes ++ piece ≡ requests_text (asked (ps ++ qs)) ++ more
+behind_pairs bytes piece next more ps qs e f =
+    behind bytes piece next (requests_text (asked ps)) (requests_text (asked qs)) more e f ∙ ap (λ x. x ++ more) (sym (asked_both ps qs))
+
+good_both : (ps qs : List Pair) → AllByRecursion IsRequest (asked ps) → AllByRecursion IsRequest (asked qs) → AllByRecursion IsRequest (asked (ps ++ qs))
+good_both ps qs h k =
+    let P : List Request → Type 0 = λ x. AllByRecursion IsRequest x in
+    subst P (sym (asked-append ps qs)) (All-append IsRequest (asked ps) (asked qs) h k)
+
+no_bye_both : (ps qs : List Pair) → HasNoBye (asked ps) → HasNoBye (asked qs) → HasNoBye (asked (ps ++ qs))
+no_bye_both ps qs h k = subst HasNoBye (sym (asked-append ps qs)) (HasNoBye-append (asked ps) (asked qs) h k)
+
+last_bye_both : (ps qs : List Pair) → HasNoBye (asked ps) → EndsInBye (asked qs) → EndsInBye (asked (ps ++ qs))
+last_bye_both ps qs h k = subst EndsInBye (sym (asked-append ps qs)) (EndsInBye-behind (asked ps) (asked qs) h k)
+
+text_both : (ps qs : List Pair) (w v : List ℕ) → w ≡ answers_text (told ps) → v ≡ answers_text (told qs) → w ++ v ≡ answers_text (told (ps ++ qs))
+text_both ps qs w v e f = ap (λ x. x ++ v) e ∙ ap (λ x. answers_text (told ps) ++ x) f ∙ sym (told_both ps qs)
+
+line_both : (ps qs : List Pair) (w v line : List ℕ) → w ≡ answers_text (told ps) → v ≡ answers_text (told qs) ++ line
+    → w ++ v ≡ answers_text (told (ps ++ qs)) ++ line
+line_both ps qs w v line e f =
+    ap (λ x. x ++ v) e ∙ ap (λ x. answers_text (told ps) ++ x) f
+    ∙ sym (append_assoc (answers_text (told ps)) (answers_text (told qs)) line) ∙ ap (λ x. x ++ line) (sym (told_both ps qs))
+
+cut_both : (ps qs : List Pair) (w v line : List ℕ) (n : ℕ) → w ≡ answers_text (told ps) → v ≡ take n (answers_text (told qs) ++ line)
+    → w ++ v ≡ take (length w + n) (answers_text (told (ps ++ qs)) ++ line)
+cut_both ps qs w v line n e f =
+    ap (λ x. w ++ x) f ∙ sym (take-append-add w (answers_text (told qs) ++ line) n)
+    ∙ ap (take (length w + n)) (line_both ps qs w (answers_text (told qs) ++ line) line e refl)
+
+pub GoesOn-none : GoesOn [] [] [] []
+GoesOn-none = record {
+  lines = record {
+    good = let P : List Request → Type 0 = λ x. AllByRecursion IsRequest x in subst P (sym asked-nil) tt;
+    whole = sym (append-nil (requests_text (asked [])) ∙ ap requests_text asked-nil ∙ requests_text-nil);
+  };
+  byes = subst HasNoBye (sym asked-nil) HasNoBye-nil;
+  answered = none_told;
+}
+
+pub GoesOn-kept : (kept : List ℕ) → GoesOn kept [] kept []
+GoesOn-kept kept = record {
+  lines = record {
+    good = let P : List Request → Type 0 = λ x. AllByRecursion IsRequest x in subst P (sym asked-nil) tt;
+    whole = ap (λ x. x ++ kept) (sym (ap requests_text asked-nil ∙ requests_text-nil));
+  };
+  byes = subst HasNoBye (sym asked-nil) HasNoBye-nil;
+  answered = none_told;
+}
+
+pub GoesOn-then : (bytes piece next more w v : List ℕ) (ps qs : List Pair) → GoesOn bytes ps next w → GoesOn (next ++ piece) qs more v
+    → GoesOn (bytes ++ piece) (ps ++ qs) more (w ++ v)
+GoesOn-then bytes piece next more w v ps qs a b = record {
+  lines = record {
+    good = good_both ps qs a.lines.good b.lines.good;
+    whole = behind_pairs bytes piece next more ps qs a.lines.whole b.lines.whole;
+  };
+  byes = no_bye_both ps qs a.byes b.byes;
+  answered = text_both ps qs w v a.answered b.answered;
+}
+
+limit_both : (most here reads : ℕ) (ps qs : List Pair) (rest : List ℕ) → length ps + here ≡ most → IsPastLimit here (asked qs) rest 0
+    → IsPastLimit most (asked (ps ++ qs)) rest reads
+limit_both most here reads ps qs rest l (inl a) =
+    inl (omega (arith, length-asked (ps ++ qs), length-asked qs, length-append {A = Pair} ps qs, a.0, l), a.1)
+limit_both most here reads ps qs rest l (inr b) = absurd (omega (arith, b.0))
+
+last_line_both : (most here reads : ℕ) (ps qs : List Pair) (rest line : List ℕ) → length ps + here ≡ most → HasNoBye (asked ps)
+    → IsLastLine here (asked qs) rest 0 line → IsLastLine most (asked (ps ++ qs)) rest reads line
+last_line_both most here reads ps qs rest line l h (inl a) = inl a
+last_line_both most here reads ps qs rest line l h (inr (inl b)) = inr (inl (b.0, no_bye_both ps qs h b.1, b.2))
+last_line_both most here reads ps qs rest line l h (inr (inr d)) =
+    inr (inr (d.0, no_bye_both ps qs h d.1, limit_both most here reads ps qs rest l d.2))
+
+says_both : (most here reads : ℕ) (w v rest : List ℕ) (ps qs : List Pair) (end : End) → length ps + here ≡ most
+    → w ≡ answers_text (told ps) → HasNoBye (asked ps) → EndsSo here (asked qs) rest 0 (answers_text (told qs)) v end
+    → EndsSo most (asked (ps ++ qs)) rest reads (answers_text (told (ps ++ qs))) (w ++ v) end
+says_both most here reads w v rest ps qs ends.Bye l e h b = (last_bye_both ps qs h b.0, text_both ps qs w v e b.1)
+says_both most here reads w v rest ps qs ends.Closed l e h b = (no_bye_both ps qs h b.0, b.1, text_both ps qs w v e b.2)
+says_both most here reads w v rest ps qs ends.LinkFault l e h b =
+    (b.0, length w + b.1, last_line_both most here reads ps qs rest b.0 l h b.2, cut_both ps qs w v b.0 b.1 e b.3)
+says_both most here reads w v rest ps qs ends.BadLine l e h b = (no_bye_both ps qs h b.0, b.1, line_both ps qs w v bad_line e b.2)
+says_both most here reads w v rest ps qs ends.TooMany l e h b =
+    (no_bye_both ps qs h b.0, limit_both most here reads ps qs rest l b.1, line_both ps qs w v too_many e b.2)
+says_both most here reads w v rest ps qs ends.NoMemory l e h b =
+    (length w + b.0, ap (λ x. w ++ x) b.1 ∙ sym (take-append-add w (answers_text (told qs)) b.0)
+        ∙ ap (take (length w + b.0)) (text_both ps qs w (answers_text (told qs)) e refl))
+
+-- a session goes on, and ends at the next piece
+pub Serves-then : (most here reads : ℕ) (bytes piece next w v : List ℕ) (ps qs : List Pair) (end : End) → length ps + here ≡ most
+    → reads ≤ MAX_SESSION_READS → GoesOn bytes ps next w → Serves here (next ++ piece) qs v 0 end
+    → Serves most (bytes ++ piece) (ps ++ qs) (w ++ v) reads end
+Serves-then most here reads bytes piece next w v ps qs end l few a b = record {
+  rest = b.rest;
+  requests = record {
+    good = good_both ps qs a.lines.good b.requests.good;
+    whole = behind_pairs bytes piece next b.rest ps qs a.lines.whole b.requests.whole;
+    byes = subst StopsAtBye (sym (asked-append ps qs)) (StopsAtBye-behind (asked ps) (asked qs) a.byes b.requests.byes);
+    few = omega (arith, length-asked (ps ++ qs), length-asked qs, length-append {A = Pair} ps qs, b.requests.few, l);
+  };
+  few = few;
+  says = says_both most here reads w v b.rest ps qs end l a.answered a.byes b.says;
+}
+
+-- what stands in the bytes where a session goes on
+pub begins : (most here : ℕ) (bytes next w : List ℕ) (ps : List Pair) → length ps + here ≡ most → GoesOn bytes ps next w
+    → BeginsWith most bytes (asked ps) next
+begins most here bytes next w ps l a = record {
+  good = a.lines.good;
+  whole = a.lines.whole;
+  byes = StopsAtBye-none (asked ps) a.byes;
+  few = omega (arith, length-asked ps, l);
+}

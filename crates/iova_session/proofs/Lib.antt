@@ -1,0 +1,6 @@
+mod Texts
+mod Byes
+mod Joins
+mod Gathered
+mod Runs
+mod Taken

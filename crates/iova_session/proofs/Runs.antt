@@ -1,0 +1,55 @@
+-- A run of requests is asked front by front.
+use Rattle.std.proofs.Common.{◌≡◌, ℕ, ◌+◌, ◌-◌, ◌≤◌, ◌⊎◌, inl, inr, List, [], ◌∷◌, ◌++◌, length, take, drop, sym, ap, ◌∙◌, subst, append-nil, take-append-drop, Result, Ok, Err}
+use Rattle.std.proofs.Math.Seq.{take-append-add, take-length}
+use Rattle.std.proofs.KnownBytes.{Appends-trans}
+use Rattle.std.specs.Io.KnownBytes.{Appends}
+use Rattle.std.specs.Prelude.{Option, IsErrAnd}
+use Rattle.iova_proto.specs.declared.answer.Answer.{Answer}
+use Rattle.iova_proto.specs.declared.request.Request.{Request}
+use Rattle.iova_session.specs.Pairs.{Pair, asked, told, answers_text}
+use Rattle.iova_session.specs.Rounds.{Asks, IsCut}
+use Rattle.iova_session.specs.declared.end.End.{End}
+use Rattle.iova_session.proofs.Texts.{take_plus, all_after, asked-append, told_both}
+
+-- one more front of the run was asked
+pub asked_more : (run : List Request) (ps qs : List Pair) (i n : ℕ) → i ≤ length run → asked ps ≡ take i run
+    → asked qs ≡ take n (take (length run - i) (drop i run)) → asked (ps ++ qs) ≡ take (i + n) run
+asked_more run ps qs i n h e f =
+    asked-append ps qs ∙ ap (λ x. x ++ asked qs) e ∙ ap (λ x. take i run ++ x) (f ∙ ap (take n) (all_after run i)) ∙ sym (take_plus run i n h)
+
+pub asked_rest : (run : List Request) (ps : List Pair) (i : ℕ) → asked ps ≡ take i run → run ≡ asked ps ++ drop i run
+asked_rest run ps i e = sym (take-append-drop i run) ∙ ap (λ x. x ++ drop i run) (sym e)
+
+-- the answers to one more front are written
+pub told_more : (a b d : Option (List ℕ)) (ps qs : List Pair) (text : List Answer) → Appends a b (answers_text (told ps)) → text ≡ [] ++ told qs
+    → Appends b d (answers_text text) → Appends a d (answers_text (told (ps ++ qs)))
+told_more a b d ps qs text p e q =
+    let P : List ℕ → Type 0 = λ x. Appends a d x in
+    let Q : List Answer → Type 0 = λ x. Appends b d (answers_text x) in
+    subst P (sym (told_both ps qs)) (Appends-trans a b d (answers_text (told ps)) (answers_text (told qs)) p (subst Q e q))
+
+-- or a front of them
+pub told_part : (a b d : Option (List ℕ)) (ps qs : List Pair) (text : List Answer) (n : ℕ) → Appends a b (answers_text (told ps)) → text ≡ [] ++ told qs
+    → Appends b d (take n (answers_text text)) → Appends a d (take (length (answers_text (told ps)) + n) (answers_text (told (ps ++ qs))))
+told_part a b d ps qs text n p e q =
+    let P : List ℕ → Type 0 = λ x. Appends a d x in
+    let Q : List Answer → Type 0 = λ x. Appends b d (take n (answers_text x)) in
+    let cut : answers_text (told ps) ++ take n (answers_text (told qs)) ≡ take (length (answers_text (told ps)) + n) (answers_text (told (ps ++ qs))) =
+    sym (take-append-add (answers_text (told ps)) (answers_text (told qs)) n)
+    ∙ ap (take (length (answers_text (told ps)) + n)) (sym (told_both ps qs)) in
+    subst P cut (Appends-trans a b d (answers_text (told ps)) (take n (answers_text (told qs))) p (subst Q e q))
+
+pub all_taken : (text : List ℕ) → text ≡ take (length text) text
+all_taken text = sym (take-length text)
+
+-- what a `?` hands on
+pub handed_on : (r : Result Unit End) (e : End) → IsErrAnd r (λ v. v ≡ e) → r ≡ Err e
+handed_on (Ok u) e h = absurd (h)
+handed_on (Err v) e h = ap (λ x. Err x) h
+
+-- asking stopped at a front of the run
+pub Asks-cut : (r : Result Unit End) (e : End) (rs more : List Request) (ps : List Pair) (written : List ℕ) (n : ℕ) → r ≡ Err e
+    → IsCut e → rs ≡ asked ps ++ more → written ≡ take n (answers_text (told ps)) → Asks rs ps written r
+Asks-cut r e rs more ps written n i h f w =
+    let P : Result Unit End → Type 0 = λ x. Asks rs ps written x in
+    subst P (sym i) (h, (more, f), (n, w))

@@ -1,0 +1,220 @@
+-- What a piece gives, of what is gathered from it, asked and written.
+use Rattle.std.proofs.Common.{◌≡◌, ℕ, ◌+◌, ◌-◌, ◌≤◌, ◌⊎◌, inl, inr, List, [], ◌∷◌, ◌++◌, length, take, drop, sym, ap, ◌∙◌, subst, append_assoc, append-nil, arith, length-append, refl, take-append-drop, Ok, Err}
+use Rattle.std.specs.List.{AllByRecursion}
+use Rattle.std.specs.Prelude.{Option, Some}
+use Rattle.std.specs.Io.KnownBytes.{Appends}
+use Rattle.std.proofs.Math.Seq.{take-append-add, take-length}
+use Rattle.iova_range.specs.declared.limits.TheConstants.{MAX_SESSION_READS}
+use Rattle.iova_text.specs.Lines.{IsUnended}
+use Rattle.iova_proto.specs.Feeds.{BeginsBad}
+use Rattle.iova_proto.specs.Requests.{IsRequest}
+use Rattle.iova_proto.specs.declared.request.Request.{Request}
+use Rattle.iova_session.specs.Pairs.{Pair, asked, told, requests_text, answers_text}
+use Rattle.iova_session.specs.Sessions.{bad_line, too_many, HasNoBye, StopsAtBye, EndsInBye, BeginsRequest, BeginsWith, IsLastLine, EndsSo, Serves, ends_at}
+use Rattle.iova_session.specs.Rounds.{IsLines, GoesOn, Gathers, IsCut, Asks}
+use Rattle.iova_session.specs.declared.end.End.{End}
+use Rattle.iova_session.specs.declared.end.End.TheVariants as ends
+use Rattle.iova_session.specs.declared.gathering.Stop.{Stop}
+use Rattle.iova_session.specs.declared.gathering.Stop.TheVariants as stops
+use Rattle.iova_session.proofs.Texts.{take_plus, all_after, requests_text-append, length-asked}
+use Rattle.iova_session.proofs.Byes.{All-front, StopsAtBye-none, StopsAtBye-last, StopsAtBye-front}
+use Rattle.iova_session.proofs.Joins.{GoesOn-none, GoesOn-then, Serves-then, begins}
+
+-- the lines end within the piece, and the rest of it follows
+IsLines-cut : (next piece : List ℕ) (rs : List Request) (used : ℕ) → IsLines (next ++ take used piece) rs [] → IsLines (next ++ piece) rs (drop used piece)
+IsLines-cut next piece rs used e = record {
+  good = e.good;
+  whole = ap (λ x. next ++ x) (sym (take-append-drop used piece)) ∙ sym (append_assoc next (take used piece) (drop used piece))
+      ∙ ap (λ x. x ++ drop used piece) (e.whole ∙ append-nil (requests_text rs));
+}
+
+-- the first requests, where not all of them were asked
+begins_front : (here : ℕ) (bytes rest : List ℕ) (rs qs more : List Request) → rs ≡ qs ++ more → length rs ≤ here → StopsAtBye rs → IsLines bytes rs rest
+    → BeginsWith here bytes qs (requests_text more ++ rest)
+begins_front here bytes rest rs qs more e l b i =
+    let P : List Request → Type 0 = λ x. AllByRecursion IsRequest x in record {
+      good = All-front IsRequest qs more (subst P e i.good);
+      whole = i.whole ∙ ap (λ x. requests_text x ++ rest) e ∙ ap (λ x. x ++ rest) (requests_text-append qs more)
+          ∙ append_assoc (requests_text qs) (requests_text more) rest;
+      byes = StopsAtBye-front qs more (subst StopsAtBye e b);
+      few = omega (arith, ap length e, length-append {A = Request} qs more, l);
+    }
+
+begins_all : (here : ℕ) (bytes rest : List ℕ) (rs qs : List Request) → qs ≡ rs → length rs ≤ here → StopsAtBye rs → IsLines bytes rs rest
+    → BeginsWith here bytes qs rest
+begins_all here bytes rest rs qs e l b i =
+    let P : List Request → Type 0 = λ x. BeginsWith here bytes x rest in
+    subst P (sym e) (record { good = i.good; whole = i.whole; byes = b; few = l })
+
+-- whatever was gathered, the bytes are those requests and a rest
+gathered : (left used : ℕ) (next piece : List ℕ) (rs : List Request) (stop : Stop) (new : Option (List ℕ)) → Gathers left next piece rs used stop new
+    → (rest : List ℕ) × IsLines (next ++ piece) rs rest × StopsAtBye rs
+gathered left used next piece rs stops.More new h = (h.1.0, h.1.1, StopsAtBye-none rs h.0)
+gathered left used next piece rs stops.Full new h = (drop used piece, IsLines-cut next piece rs used h.1, StopsAtBye-none rs h.0)
+gathered left used next piece rs stops.Bye new h = (drop used piece, IsLines-cut next piece rs used h.1, StopsAtBye-last rs h.0)
+gathered left used next piece rs stops.Bad new h = (h.1.0, h.1.1, StopsAtBye-none rs h.0)
+gathered left used next piece rs stops.Limit new h = (h.2.0, h.2.1, StopsAtBye-none rs h.0)
+
+-- an ask that stopped ends the session
+pub Serves-cut : (here used : ℕ) (next piece w : List ℕ) (rs : List Request) (stop : Stop) (new : Option (List ℕ)) (qs : List Pair) (end : End)
+    → length rs ≤ here → Gathers here next piece rs used stop new → Asks rs qs w (Err end) → Serves here (next ++ piece) qs w 0 end
+Serves-cut here used next piece w rs stop new qs end l h b =
+    let t = gathered here used next piece rs stop new h in
+    let n = b.2.0 in
+    let rest = requests_text b.1.0 ++ t.0 in
+    let text = answers_text (told qs) in
+    let start = begins_front here (next ++ piece) t.0 rs (asked qs) b.1.0 b.1.1 l t.2 t.1 in
+    let P : End → Type 0 = λ x. Serves here (next ++ piece) qs w 0 x in
+    elim b.0 [
+        inl a ↦ subst P (sym a) (record {
+            rest = rest;
+            requests = start;
+            few = omega arith;
+            says = ([], n, inl refl, b.2.1 ∙ ap (take n) (sym (append-nil text)));
+        })
+        | inr d ↦ subst P (sym d) (record { rest = rest; requests = start; few = omega arith; says = b.2 })
+    ]
+
+pub GoesOn-more : (here used : ℕ) (next piece w : List ℕ) (rs : List Request) (new : Option (List ℕ)) (qs : List Pair)
+    → Gathers here next piece rs used stops.More new → asked qs ≡ rs → w ≡ answers_text (told qs)
+    → (n : List ℕ) × GoesOn (next ++ piece) qs n w × IsUnended n × (new ≡ Some n)
+GoesOn-more here used next piece w rs new qs h e f =
+    let P : List Request → Type 0 = λ x. IsLines (next ++ piece) x h.1.0 in
+    (h.1.0, record { lines = subst P (sym e) h.1.1; byes = subst HasNoBye (sym e) h.0; answered = f }, h.1.2, h.1.3)
+
+pub GoesOn-full : (here used : ℕ) (next piece w : List ℕ) (rs : List Request) (new : Option (List ℕ)) (qs : List Pair)
+    → Gathers here next piece rs used stops.Full new → asked qs ≡ rs → w ≡ answers_text (told qs)
+    → GoesOn (next ++ take used piece) qs [] w
+GoesOn-full here used next piece w rs new qs h e f =
+    let P : List Request → Type 0 = λ x. IsLines (next ++ take used piece) x [] in
+    record { lines = subst P (sym e) h.1; byes = subst HasNoBye (sym e) h.0; answered = f }
+
+pub Serves-bye : (here used : ℕ) (next piece w : List ℕ) (rs : List Request) (new : Option (List ℕ)) (qs : List Pair) → length rs ≤ here
+    → Gathers here next piece rs used stops.Bye new → asked qs ≡ rs → w ≡ answers_text (told qs)
+    → Serves here (next ++ piece) qs w 0 ends.Bye
+Serves-bye here used next piece w rs new qs l h e f = record {
+  rest = drop used piece;
+  requests = begins_all here (next ++ piece) (drop used piece) rs (asked qs) e l (StopsAtBye-last rs h.0) (IsLines-cut next piece rs used h.1);
+  few = omega arith;
+  says = (subst EndsInBye (sym e) h.0, f);
+}
+
+-- a line of its own ends a session, or the link fails in it
+pub Serves-refused : (most reads : ℕ) (bytes rest v line : List ℕ) (qs : List Pair) (a b : Option (List ℕ)) (end result : End) → reads ≤ MAX_SESSION_READS
+    → BeginsWith most bytes (asked qs) rest → v ≡ answers_text (told qs) → IsLastLine most (asked qs) rest reads line
+    → EndsSo most (asked qs) rest reads (answers_text (told qs)) (v ++ line) end
+    → ((result ≡ end) × Appends a b line) ⊎ ((result ≡ ends.LinkFault) × ((n : ℕ) × Appends a b (take n line)))
+    → (w : List ℕ) × Appends a b w × Serves most bytes qs (v ++ w) reads result
+Serves-refused most reads bytes rest v line qs a b end result few start e last says (inl t) =
+    let P : End → Type 0 = λ x. Serves most bytes qs (v ++ line) reads x in
+    (line, t.1, subst P (sym t.0) (record { rest = rest; requests = start; few = few; says = says }))
+Serves-refused most reads bytes rest v line qs a b end result few start e last says (inr t) =
+    let n = t.1.0 in
+    let P : End → Type 0 = λ x. Serves most bytes qs (v ++ take n line) reads x in
+    (take n line, t.1.1, subst P (sym t.0) (record {
+      rest = rest;
+      requests = start;
+      few = few;
+      says = (line, length v + n, last, sym (take-append-add v line n) ∙ ap (λ x. take (length v + n) (x ++ line)) e);
+    }))
+
+pub Serves-bad : (here used : ℕ) (next piece w : List ℕ) (rs : List Request) (new : Option (List ℕ)) (qs : List Pair) (a b : Option (List ℕ)) (end : End)
+    → length rs ≤ here → Gathers here next piece rs used stops.Bad new → asked qs ≡ rs → w ≡ answers_text (told qs)
+    → ((end ≡ ends.BadLine) × Appends a b bad_line) ⊎ ((end ≡ ends.LinkFault) × ((n : ℕ) × Appends a b (take n bad_line)))
+    → (v : List ℕ) × Appends a b v × Serves here (next ++ piece) qs (w ++ v) 0 end
+Serves-bad here used next piece w rs new qs a b end l h e f t =
+    let none = subst HasNoBye (sym e) h.0 in
+    Serves-refused here 0 (next ++ piece) h.1.0 w bad_line qs a b ends.BadLine end (omega arith)
+    (begins_all here (next ++ piece) h.1.0 rs (asked qs) e l (StopsAtBye-none rs h.0) h.1.1) f
+    (inr (inl (refl, none, h.1.2))) (none, h.1.2, ap (λ x. x ++ bad_line) f) t
+
+pub Serves-limit : (here used : ℕ) (next piece w : List ℕ) (rs : List Request) (new : Option (List ℕ)) (qs : List Pair) (a b : Option (List ℕ)) (end : End)
+    → length rs ≤ here → Gathers here next piece rs used stops.Limit new → asked qs ≡ rs → w ≡ answers_text (told qs)
+    → ((end ≡ ends.TooMany) × Appends a b too_many) ⊎ ((end ≡ ends.LinkFault) × ((n : ℕ) × Appends a b (take n too_many)))
+    → (v : List ℕ) × Appends a b v × Serves here (next ++ piece) qs (w ++ v) 0 end
+Serves-limit here used next piece w rs new qs a b end l h e f t =
+    let none = subst HasNoBye (sym e) h.0 in
+    let all : length (asked qs) ≡ here = ap length e ∙ h.1 in
+    Serves-refused here 0 (next ++ piece) h.2.0 w too_many qs a b ends.TooMany end (omega arith)
+    (begins_all here (next ++ piece) h.2.0 rs (asked qs) e l (StopsAtBye-none rs h.0) h.2.1) f
+    (inr (inr (refl, none, inl (all, h.2.2)))) (none, inl (all, h.2.2), ap (λ x. x ++ too_many) f) t
+
+-- the part that is used, and the rest
+parts : (kept piece : List ℕ) (at : ℕ) → (kept ++ take at piece) ++ take (length piece - at) (drop at piece) ≡ kept ++ piece
+parts kept piece at =
+    append_assoc kept (take at piece) (take (length piece - at) (drop at piece))
+    ∙ ap (λ x. kept ++ x) (ap (λ x. take at piece ++ x) (all_after piece at) ∙ take-append-drop at piece)
+
+pub Serves-whole : (most here at : ℕ) (kept piece next w v : List ℕ) (ps qs : List Pair) (end : End) → length ps + here ≡ most
+    → GoesOn (kept ++ take at piece) ps next w → Serves here (next ++ take (length piece - at) (drop at piece)) qs v 0 end
+    → Serves most (kept ++ piece) (ps ++ qs) (w ++ v) 0 end
+Serves-whole most here at kept piece next w v ps qs end l a b =
+    let P : List ℕ → Type 0 = λ x. Serves most x (ps ++ qs) (w ++ v) 0 end in
+    subst P (parts kept piece at)
+    (Serves-then most here 0 (kept ++ take at piece) (take (length piece - at) (drop at piece)) next w v ps qs end l (omega arith) a b)
+
+pub GoesOn-whole : (at : ℕ) (kept piece next n w v : List ℕ) (ps qs : List Pair)
+    → GoesOn (kept ++ take at piece) ps next w → GoesOn (next ++ take (length piece - at) (drop at piece)) qs n v
+    → GoesOn (kept ++ piece) (ps ++ qs) n (w ++ v)
+GoesOn-whole at kept piece next n w v ps qs a b =
+    let P : List ℕ → Type 0 = λ x. GoesOn x (ps ++ qs) n (w ++ v) in
+    subst P (parts kept piece at) (GoesOn-then (kept ++ take at piece) (take (length piece - at) (drop at piece)) next n w v ps qs a b)
+
+pub GoesOn-further : (at used : ℕ) (kept piece next n w v : List ℕ) (ps qs : List Pair) → at ≤ length piece
+    → GoesOn (kept ++ take at piece) ps next w → GoesOn (next ++ take used (take (length piece - at) (drop at piece))) qs n v
+    → GoesOn (kept ++ take (at + used) piece) (ps ++ qs) n (w ++ v)
+GoesOn-further at used kept piece next n w v ps qs h a b =
+    let P : List ℕ → Type 0 = λ x. GoesOn x (ps ++ qs) n (w ++ v) in
+    let same : (kept ++ take at piece) ++ take used (take (length piece - at) (drop at piece)) ≡ kept ++ take (at + used) piece =
+    append_assoc kept (take at piece) (take used (take (length piece - at) (drop at piece)))
+    ∙ ap (λ x. kept ++ x) (ap (λ x. take at piece ++ take used x) (all_after piece at) ∙ sym (take_plus piece at used h)) in
+    subst P same (GoesOn-then (kept ++ take at piece) (take used (take (length piece - at) (drop at piece))) next n w v ps qs a b)
+
+pub lengths : (ps qs : List Pair) (rs : List Request) (left here : ℕ) → length ps + here ≡ left → asked qs ≡ rs → length rs ≤ here
+    → length (ps ++ qs) + (here - length rs) ≡ left
+lengths ps qs rs left here e f h = omega (arith, length-append {A = Pair} ps qs, length-asked qs, ap length f, e, h)
+
+pub ends_at-cut : (end : End) → IsCut end → ends_at end ≡ 0
+ends_at-cut end (inl a) = ap ends_at a
+ends_at-cut end (inr b) = ap ends_at b
+
+-- where a session goes on, it may as well end: as the link fails, as it comes to its end, and at the most reads
+pub Serves-fault : (most here reads : ℕ) (taken next written : List ℕ) (ps : List Pair) → length ps + here ≡ most → reads ≤ MAX_SESSION_READS
+    → GoesOn taken ps next written → Serves most taken ps written reads ends.LinkFault
+Serves-fault most here reads taken next written ps l few a = record {
+  rest = next;
+  requests = begins most here taken next written ps l a;
+  few = few;
+  says = ([], length written, inl refl, a.answered ∙ sym (take-length (answers_text (told ps))) ∙ ap (λ x. take (length x) (answers_text (told ps))) (sym a.answered)
+      ∙ ap (take (length written)) (sym (append-nil (answers_text (told ps)))));
+}
+
+pub Serves-closed : (most here reads : ℕ) (taken next written : List ℕ) (ps : List Pair) → length ps + here ≡ most → reads ≤ MAX_SESSION_READS
+    → IsUnended next → GoesOn taken ps next written → Serves most taken ps written reads ends.Closed
+Serves-closed most here reads taken next written ps l few u a = record {
+  rest = next;
+  requests = begins most here taken next written ps l a;
+  few = few;
+  says = (a.byes, u, a.answered);
+}
+
+pub Serves-worn : (most here reads : ℕ) (taken next written : List ℕ) (ps : List Pair) (a b : Option (List ℕ)) (end : End) → length ps + here ≡ most
+    → reads ≡ MAX_SESSION_READS → IsUnended next → GoesOn taken ps next written
+    → ((end ≡ ends.TooMany) × Appends a b too_many) ⊎ ((end ≡ ends.LinkFault) × ((n : ℕ) × Appends a b (take n too_many)))
+    → (v : List ℕ) × Appends a b v × Serves most taken ps (written ++ v) reads end
+Serves-worn most here reads taken next written ps a b end l r u h t =
+    Serves-refused most reads taken next written too_many ps a b ends.TooMany end (omega arith)
+    (begins most here taken next written ps l h) h.answered
+    (inr (inr (refl, h.byes, inr (r, u)))) (h.byes, inr (r, u), ap (λ x. x ++ too_many) h.answered) t
+
+pub IsUnended-none : IsUnended []
+IsUnended-none = record { one = refl; short = omega arith }
+
+-- no room at the start
+pub Serves-no_room : (most : ℕ) → Serves most [] [] [] 0 ends.NoMemory
+Serves-no_room most = record {
+  rest = [];
+  requests = begins most most [] [] [] [] (omega arith) GoesOn-none;
+  few = omega arith;
+  says = (0, refl);
+}

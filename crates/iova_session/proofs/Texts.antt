@@ -1,0 +1,99 @@
+-- Lines and texts, one after another.
+use Rattle.std.proofs.Common.{suc, ◌≡◌, ℕ, ◌+◌, ◌-◌, ◌≤◌, ◌<◌, get_or, refl, append-nil, List, [], ◌∷◌, ◌++◌, length, take, drop, sym, ap, ◌∙◌, subst, append_assoc, arith, take-append-drop, length-take, length-drop}
+use Rattle.std.specs.Prelude.{Option}
+use Rattle.std.proofs.Math.Seq.{take-append-add, take-length}
+use Rattle.std.proofs.lemmas.List.{take_more}
+use Rattle.std.proofs.lemmas.Grind.{flat_map-append}
+use Rattle.std.proofs.KnownBytes.{Appends-trans}
+use Rattle.std.specs.Io.KnownBytes.{Appends}
+use Rattle.iova_proto.specs.Requests.{request_text}
+use Rattle.iova_proto.specs.Answers.{answer_text}
+use Rattle.iova_proto.specs.declared.answer.Answer.{Answer}
+use Rattle.iova_proto.specs.declared.request.Request.{Request}
+use Rattle.iova_session.specs.Pairs.{Pair, asked, told, requests_text, answers_text}
+
+pub take_plus : {A : Type 0} (xs : List A) (i n : ℕ) → i ≤ length xs → take (i + n) xs ≡ take i xs ++ take n (drop i xs)
+take_plus {A} xs i n h =
+    let whole : take i xs ++ drop i xs ≡ xs = take-append-drop i xs in
+    let long : length (take i xs) ≡ i = omega (arith, length-take i xs) in
+    let P : List A → Type 0 = λ x. take (i + n) x ≡ take i xs ++ take n (drop i xs) in
+    let Q : ℕ → Type 0 = λ k. take (k + n) (take i xs ++ drop i xs) ≡ take i xs ++ take n (drop i xs) in
+    subst P whole (subst Q long (take-append-add (take i xs) (drop i xs) n))
+
+-- `&xs[i..]`
+pub all_after : {A : Type 0} (xs : List A) (i : ℕ) → take (length xs - i) (drop i xs) ≡ drop i xs
+all_after {A} xs i =
+    let P : ℕ → Type 0 = λ k. take k (drop i xs) ≡ drop i xs in
+    subst P (length-drop i xs) (take-length (drop i xs))
+
+-- a write goes on where the last one stopped
+pub Appends_more : (a b c : Option (List ℕ)) (bs : List ℕ) (i n : ℕ) → i ≤ length bs → Appends a b (take i bs)
+    → Appends b c (take n (take (length bs - i) (drop i bs))) → Appends a c (take (i + n) bs)
+Appends_more a b c bs i n h p q =
+    let P : List ℕ → Type 0 = λ x. Appends a c x in
+    let R : List ℕ → Type 0 = λ x. Appends b c (take n x) in
+    subst P (sym (take_plus bs i n h))
+    (Appends-trans a b c (take i bs) (take n (drop i bs)) p (subst R (all_after bs i) q))
+
+pub requests_text-append : (rs qs : List Request) → requests_text (rs ++ qs) ≡ requests_text rs ++ requests_text qs
+unfolding requests_text
+requests_text-append rs qs = flat_map-append request_text rs qs
+
+pub requests_text-one : (r : Request) → requests_text (r ∷ []) ≡ request_text r
+unfolding requests_text
+requests_text-one r = append-nil (request_text r)
+
+pub requests_text-nil : requests_text [] ≡ []
+unfolding requests_text
+requests_text-nil = refl
+
+pub answers_text-append : (xs ys : List Answer) → answers_text (xs ++ ys) ≡ answers_text xs ++ answers_text ys
+unfolding answers_text
+answers_text-append xs ys = flat_map-append answer_text xs ys
+
+pub answers_text-one : (a : Answer) → answers_text (a ∷ []) ≡ answer_text a
+unfolding answers_text
+answers_text-one a = append-nil (answer_text a)
+
+pub answers_text-nil : answers_text [] ≡ []
+unfolding answers_text
+answers_text-nil = refl
+
+-- the text of one answer more
+pub answers_text-more : (xs : List Answer) (i : ℕ) (a : Answer) → i < length xs → a ≡ get_or xs i a
+    → answers_text (take (i + 1) xs) ≡ answers_text (take i xs) ++ answer_text a
+answers_text-more xs i a h e =
+    ap answers_text (take_more xs i a h ∙ ap (λ x. take i xs ++ x ∷ []) (sym e))
+    ∙ answers_text-append (take i xs) (a ∷ []) ∙ ap (λ x. answers_text (take i xs) ++ x) (answers_text-one a)
+
+pub asked-append : (ps qs : List Pair) → asked (ps ++ qs) ≡ asked ps ++ asked qs
+unfolding asked
+asked-append [] qs = refl
+asked-append (p ∷ ps) qs = ap (λ x. p.request ∷ x) (asked-append ps qs)
+
+pub told-append : (ps qs : List Pair) → told (ps ++ qs) ≡ told ps ++ told qs
+unfolding told
+told-append [] qs = refl
+told-append (p ∷ ps) qs = ap (λ x. p.answer ∷ x) (told-append ps qs)
+
+pub length-asked : (ps : List Pair) → length (asked ps) ≡ length ps
+unfolding asked
+length-asked [] = refl
+length-asked (p ∷ ps) = ap (λ n. suc n) (length-asked ps)
+
+pub asked-nil : asked [] ≡ []
+unfolding asked
+asked-nil = refl
+
+pub told-nil : told [] ≡ []
+unfolding told
+told-nil = refl
+
+pub none_told : [] ≡ answers_text (told [])
+none_told = sym (ap answers_text told-nil ∙ answers_text-nil)
+
+pub asked_both : (ps qs : List Pair) → requests_text (asked (ps ++ qs)) ≡ requests_text (asked ps) ++ requests_text (asked qs)
+asked_both ps qs = ap requests_text (asked-append ps qs) ∙ requests_text-append (asked ps) (asked qs)
+
+pub told_both : (ps qs : List Pair) → answers_text (told (ps ++ qs)) ≡ answers_text (told ps) ++ answers_text (told qs)
+told_both ps qs = ap answers_text (told-append ps qs) ∙ answers_text-append (told ps) (told qs)

@@ -1,0 +1,4 @@
+pub mod Links
+pub mod Pairs
+pub mod Sessions
+pub mod Rounds

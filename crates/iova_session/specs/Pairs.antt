@@ -1,0 +1,33 @@
+-- Requests and their answers. Own.
+use Rattle.std.specs.Prelude.{ℕ, List, [], ◌∷◌, ◌++◌, Option, Some, None, map, flat_map}
+use Rattle.std.specs.declared.snapshot.Snapshot.{Snapshot}
+use Rattle.iova_proto.specs.declared.answer.Answer.{Answer}
+use Rattle.iova_proto.specs.declared.request.Request.{Request}
+use Rattle.iova_proto.specs.Answers.{answer_text}
+use Rattle.iova_proto.specs.Requests.{request_text}
+
+-- a request and its answer
+pub record Pair : Type 0 where
+  pub request : Request
+  pub answer : Answer
+
+-- one pair more
+abbrev pub after_one : Option (Snapshot (List Pair)) → Request → Snapshot Answer → List Pair
+after_one None request answer = []
+after_one (Some before) request answer = before.value ++ record { request = request; answer = answer.value } ∷ []
+
+-- the requests, in their order
+unfoldable pub asked : List Pair → List Request
+asked ps = map (λ p. p.request) ps
+
+-- the answers, in their order
+unfoldable pub told : List Pair → List Answer
+told ps = map (λ p. p.answer) ps
+
+-- the lines of these requests
+unfoldable pub requests_text : List Request → List ℕ
+requests_text rs = flat_map request_text rs
+
+-- the texts of these answers
+unfoldable pub answers_text : List Answer → List ℕ
+answers_text as_told = flat_map answer_text as_told

@@ -1,0 +1,99 @@
+-- What a session takes, asks, writes and ends by. Own.
+use Rattle.std.specs.Prelude.{ℕ, ◌≡◌, ◌≢◌, ◌≤◌, ◌⊎◌, List, [], ◌∷◌, ◌++◌, length, take, codes}
+use Rattle.std.specs.List.{AllByRecursion}
+use Rattle.iova_range.specs.declared.limits.TheConstants.{MAX_SESSION_READS}
+use Rattle.iova_text.specs.Lines.{IsUnended}
+use Rattle.iova_proto.specs.Feeds.{BeginsBad}
+use Rattle.iova_proto.specs.Requests.{request_text, IsRequest}
+use Rattle.iova_proto.specs.declared.request.Request.{Request}
+use Rattle.iova_proto.specs.declared.request.Request.TheVariants as request
+use Rattle.iova_session.specs.Pairs.{Pair, asked, told, requests_text, answers_text}
+use Rattle.iova_session.specs.declared.end.End.{End}
+use Rattle.iova_session.specs.declared.end.End.TheVariants as ends
+
+-- what is written for a line that is no request's
+abbrev pub bad_line : List ℕ
+bad_line = codes "no 20 BadLine\n"
+
+-- what is written at a limit
+abbrev pub too_many : List ℕ
+too_many = codes "no 21 TooMany\n"
+
+-- none of the requests is bye
+unfoldable pub HasNoBye : List Request → Type 0
+HasNoBye rs = AllByRecursion (λ r. r ≢ request.Bye) rs
+
+-- no request stands behind a bye
+unfoldable pub StopsAtBye : List Request → Type 0
+StopsAtBye [] = Unit {0}
+StopsAtBye (r ∷ rs) = (r ≡ request.Bye → rs ≡ []) × StopsAtBye rs
+
+-- the last of the requests is bye, and it is the only one
+pub record EndsInBye (rs : List Request) : Type 0 where
+  pub others : List Request
+  pub whole : rs ≡ others ++ request.Bye ∷ []
+  pub none : HasNoBye others
+
+-- the bytes begin with the line of one more request
+pub record BeginsRequest (bytes : List ℕ) : Type 0 where
+  pub request : Request
+  pub more : List ℕ
+  pub good : IsRequest request
+  pub whole : bytes ≡ request_text request ++ more
+
+-- The bytes begin with the lines of these requests, each a line of the protocol, and the rest follows. They are no more than the
+-- most that may be asked, and none of them stands behind a bye.
+pub record BeginsWith (most : ℕ) (bytes : List ℕ) (rs : List Request) (rest : List ℕ) : Type 0 where
+  pub good : AllByRecursion IsRequest rs
+  pub whole : bytes ≡ requests_text rs ++ rest
+  pub byes : StopsAtBye rs
+  pub few : length rs ≤ most
+
+-- a request follows the most that may be asked, or no whole line follows and the most reads were made
+abbrev pub IsPastLimit : ℕ → List Request → List ℕ → ℕ → Type 0
+IsPastLimit most rs rest reads =
+    ((length rs ≡ most) × BeginsRequest rest) ⊎ ((reads ≡ MAX_SESSION_READS) × IsUnended rest)
+
+-- Which line of its own a session may write at last: none; that a line is bad, where a bad one follows; that a limit is passed.
+abbrev pub IsLastLine : ℕ → List Request → List ℕ → ℕ → List ℕ → Type 0
+IsLastLine most rs rest reads line = (line ≡ [])
+    ⊎ ((line ≡ bad_line) × HasNoBye rs × BeginsBad rest)
+    ⊎ ((line ≡ too_many) × HasNoBye rs × IsPastLimit most rs rest reads)
+
+-- What each end says, of the most that may be asked, the requests that were asked, what follows them in the bytes that were
+-- taken, the number of reads, the text of the answers, and what was written.
+abbrev pub EndsSo : ℕ → List Request → List ℕ → ℕ → List ℕ → List ℕ → End → Type 0
+EndsSo most rs rest reads text written ends.Bye = EndsInBye rs × (written ≡ text)
+EndsSo most rs rest reads text written ends.Closed = HasNoBye rs × IsUnended rest × (written ≡ text)
+EndsSo most rs rest reads text written ends.BadLine = HasNoBye rs × BeginsBad rest × (written ≡ text ++ bad_line)
+EndsSo most rs rest reads text written ends.TooMany =
+    HasNoBye rs × IsPastLimit most rs rest reads × (written ≡ text ++ too_many)
+EndsSo most rs rest reads text written ends.LinkFault =
+    (line : List ℕ) × (n : ℕ) × IsLastLine most rs rest reads line × (written ≡ take n (text ++ line))
+EndsSo most rs rest reads text written ends.NoMemory = (n : ℕ) × (written ≡ take n text)
+
+-- A session: the bytes that it took, the requests that it asked with their answers, the bytes that it wrote, the number of its
+-- reads, and its end. The requests are the first ones that stand in the bytes, and all of them but at LinkFault and NoMemory.
+pub record Serves (most : ℕ) (taken : List ℕ) (ps : List Pair) (written : List ℕ) (reads : ℕ) (end : End) : Type 0 where
+  pub rest : List ℕ
+  pub requests : BeginsWith most taken (asked ps) rest
+  pub few : reads ≤ MAX_SESSION_READS
+  pub says : EndsSo most (asked ps) rest reads (answers_text (told ps)) written end
+
+-- how many calls of the link failed in a session that ended so
+abbrev pub failures_at : End → ℕ
+failures_at ends.Bye = 0
+failures_at ends.Closed = 0
+failures_at ends.LinkFault = 1
+failures_at ends.BadLine = 0
+failures_at ends.TooMany = 0
+failures_at ends.NoMemory = 0
+
+-- how many reads found the end of the link in it
+abbrev pub ends_at : End → ℕ
+ends_at ends.Bye = 0
+ends_at ends.Closed = 1
+ends_at ends.LinkFault = 0
+ends_at ends.BadLine = 0
+ends_at ends.TooMany = 0
+ends_at ends.NoMemory = 0

@@ -1,0 +1,100 @@
+//! A session, from its first byte to its end.
+ghost use Rattle.std.specs.Prelude.{◌≡◌, ℕ, ◌+◌, ◌++◌, List, MatchResult, IfErr, IsSome};
+ghost use Rattle.std.specs.Io.KnownBytes.{Appends, Consumes};
+ghost use Rattle.iova_session.specs.Pairs.{Pair};
+ghost use Rattle.iova_session.specs.Sessions.{Serves, failures_at, ends_at};
+ghost use Rattle.iova_session.specs.Rounds.{Takes};
+
+use crate::answering::{ask_all, refuse};
+use crate::desk::Desk;
+use crate::end::End;
+use crate::gathering::{Stop, gather};
+use crate::link::Link;
+use arrayvec::ArrayVec;
+use iova_proto::answer::Answer;
+use iova_proto::lines::Lines;
+use iova_proto::request::Request;
+use iova_range::limits::{MAX_REQUESTS, MAX_RUN, MAX_SESSION_READS};
+use std::alloc::Global;
+
+/// How many bytes one read asks for at most.
+const PIECE: usize = 4096;
+
+/// How many bytes of answers have room from the start: those of 16 answers, but for `held`.
+const TEXT: usize = 4096;
+
+/// Serves the peer at the other end of the link until the session ends: reads lines, asks the desk in runs of 1 to 16
+/// requests, and writes the answers to each run before the next. It reads no more while a whole request that was read is
+/// not answered. A bad line is answered `no 20 BadLine`, the 65,537th request and the read behind 1,048,576 ones
+/// `no 21 TooMany`, and each of them ends the session; what stands at the end of the link without an LF is dropped. `NoMemory`
+/// comes where a growth was refused, the desk's too: the requests of that run are not asked, or not answered. Own.
+pub fn serve<L: Link, D: Desk>(alloc: Global, link: &mut L, desk: &mut D) -> End
+    ensures session { (taken : List ℕ) × (ps : List Pair) × (written : List ℕ) × (reads : ℕ)
+        × Consumes (L.left link.old) (L.left link.new) taken
+        × (D.pairs desk.new ≡ D.pairs desk.old ++ ps)
+        × Appends (L.sent link.old) (L.sent link.new) written
+        × (L.reads link.new ≡ L.reads link.old + reads)
+        × Serves MAX_REQUESTS taken ps written reads result }
+    ensures failures { L.failures link.new ≡ L.failures link.old + failures_at result }
+    ensures ends { L.ends link.new ≡ L.ends link.old + ends_at result }
+{
+    let Ok(mut answers) = Vec::with_capacity(alloc, MAX_RUN) else {
+        return End::NoMemory;
+    };
+    let Ok(mut out) = Vec::with_capacity(alloc, TEXT) else {
+        return End::NoMemory;
+    };
+    let mut lines = Lines::new();
+    let mut left = MAX_REQUESTS;
+    let mut buf = [0; PIECE];
+    'reading: for _ in 0..MAX_SESSION_READS {
+        let Ok(n) = link.read(&mut buf) else {
+            return End::LinkFault;
+        };
+        if n == 0 {
+            return End::Closed;
+        }
+        let piece = &buf[..n];
+        if let Err(end) = take_piece(link, desk, &mut lines, piece, &mut left, &mut answers, &mut out) {
+            return end;
+        }
+    }
+    refuse(link, b"no 21 TooMany\n", End::TooMany)
+}
+
+/// Takes the next piece of the stream: gathers, asks and answers until it is used or the session ends.
+fn take_piece<L: Link, D: Desk>(
+    link: &mut L,
+    desk: &mut D,
+    lines: &mut Lines,
+    piece: &[u8],
+    left: &mut u64,
+    answers: &mut Vec<Answer>,
+    out: &mut Vec<u8>,
+) -> Result<(), End>
+    requires { IsSome lines.old }
+    ensures left { L.left link.new ≡ L.left link.old }
+    ensures reads { L.reads link.new ≡ L.reads link.old }
+    ensures ends { L.ends link.new ≡ L.ends link.old }
+    ensures failures { MatchResult result (λ u. L.failures link.new ≡ L.failures link.old) (λ e. L.failures link.new ≡ L.failures link.old + failures_at e) }
+    ensures open { IfErr result (λ e. ends_at e ≡ 0) }
+    ensures taken { (kept : List ℕ) × (ps : List Pair) × (written : List ℕ) × (lines.old ≡ Some kept)
+        × (D.pairs desk.new ≡ D.pairs desk.old ++ ps) × Appends (L.sent link.old) (L.sent link.new) written
+        × Takes left.old (kept ++ piece.now) ps written left.new lines.new result }
+{
+    let mut at = 0;
+    'rounds: loop {
+        let mut run: ArrayVec<Request, MAX_RUN> = ArrayVec::new();
+        let (used, stop) = gather(lines, &piece[at..], *left, &mut run);
+        at += used;
+        *left -= run.len() as u64;
+        ask_all(link, desk, run.as_slice(), answers, out)?;
+        match stop {
+            Stop::Full => {}
+            Stop::More => return Ok(()),
+            Stop::Bye => return Err(End::Bye),
+            Stop::Bad => return Err(refuse(link, b"no 20 BadLine\n", End::BadLine)),
+            Stop::Limit => return Err(refuse(link, b"no 21 TooMany\n", End::TooMany)),
+        }
+    }
+}
