@@ -1,7 +1,6 @@
 -- Where bye stands among requests.
 use Rattle.std.proofs.Common.{◌≡◌, List, [], ◌∷◌, ◌++◌, sym, ap, ◌∙◌, subst, append_assoc, refl, append-nil}
 use Rattle.std.specs.List.{AllByRecursion}
-use Rattle.iova_proto.specs.Requests.{IsRequest}
 use Rattle.iova_proto.specs.declared.request.Request.{Request}
 use Rattle.iova_proto.specs.declared.request.Request.TheVariants as request
 use Rattle.iova_session.specs.Sessions.{HasNoBye, StopsAtBye, EndsInBye}

@@ -1,17 +1,16 @@
 -- What one piece gives, and then the next.
-use Rattle.std.proofs.Common.{◌≡◌, ℕ, ◌+◌, ◌≤◌, ◌⊎◌, inl, inr, List, [], ◌∷◌, ◌++◌, length, take, sym, ap, ◌∙◌, subst, append_assoc, append-nil, arith, length-append, refl}
+use Rattle.std.proofs.Common.{◌≡◌, ℕ, ◌+◌, ◌≤◌, inl, inr, List, [], ◌++◌, length, take, sym, ap, ◌∙◌, subst, append_assoc, append-nil, arith, length-append, refl}
 use Rattle.std.specs.List.{AllByRecursion}
-use Rattle.std.proofs.Math.Seq.{take-append-add, take-length}
+use Rattle.std.proofs.Math.Seq.{take-append-add}
 use Rattle.iova_range.specs.declared.limits.TheConstants.{MAX_SESSION_READS}
-use Rattle.iova_text.specs.Lines.{IsUnended}
 use Rattle.iova_proto.specs.Requests.{IsRequest}
 use Rattle.iova_proto.specs.declared.request.Request.{Request}
 use Rattle.iova_session.specs.Pairs.{Pair, asked, told, requests_text, answers_text}
-use Rattle.iova_session.specs.Sessions.{bad_line, too_many, HasNoBye, StopsAtBye, EndsInBye, BeginsRequest, BeginsWith, IsPastLimit, IsLastLine, EndsSo, Serves}
-use Rattle.iova_session.specs.Rounds.{IsLines, GoesOn}
+use Rattle.iova_session.specs.Sessions.{bad_line, too_many, HasNoBye, StopsAtBye, EndsInBye, BeginsWith, IsPastLimit, IsLastLine, EndsSo, Serves}
+use Rattle.iova_session.specs.Rounds.{GoesOn}
 use Rattle.iova_session.specs.declared.end.End.{End}
 use Rattle.iova_session.specs.declared.end.End.TheVariants as ends
-use Rattle.iova_session.proofs.Texts.{requests_text-append, requests_text-nil, asked-append, told-append, asked_both, told_both, length-asked, asked-nil, none_told}
+use Rattle.iova_session.proofs.Texts.{requests_text-nil, asked-append, asked_both, told_both, length-asked, asked-nil, none_told}
 use Rattle.iova_session.proofs.Byes.{All-append, HasNoBye-nil, HasNoBye-append, StopsAtBye-none, StopsAtBye-behind, EndsInBye-behind}
 
 -- a piece behind what is kept
@@ -105,9 +104,11 @@ says_both most here reads w v rest ps qs ends.LinkFault l e h b =
 says_both most here reads w v rest ps qs ends.BadLine l e h b = (no_bye_both ps qs h b.0, b.1, line_both ps qs w v bad_line e b.2)
 says_both most here reads w v rest ps qs ends.TooMany l e h b =
     (no_bye_both ps qs h b.0, limit_both most here reads ps qs rest l b.1, line_both ps qs w v too_many e b.2)
-says_both most here reads w v rest ps qs ends.NoMemory l e h b =
-    (length w + b.0, ap (λ x. w ++ x) b.1 ∙ sym (take-append-add w (answers_text (told qs)) b.0)
-        ∙ ap (take (length w + b.0)) (text_both ps qs w (answers_text (told qs)) e refl))
+says_both most here reads w v rest ps qs ends.NoMemory l e h b = (
+  length w + b.0,
+  ap (λ x. w ++ x) b.1 ∙ sym (take-append-add w (answers_text (told qs)) b.0)
+      ∙ ap (take (length w + b.0)) (text_both ps qs w (answers_text (told qs)) e refl),
+)
 
 -- a session goes on, and ends at the next piece
 pub Serves-then : (most here reads : ℕ) (bytes piece next w v : List ℕ) (ps qs : List Pair) (end : End) → length ps + here ≡ most

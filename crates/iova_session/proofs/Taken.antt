@@ -1,16 +1,15 @@
 -- What a piece gives, of what is gathered from it, asked and written.
-use Rattle.std.proofs.Common.{◌≡◌, ℕ, ◌+◌, ◌-◌, ◌≤◌, ◌⊎◌, inl, inr, List, [], ◌∷◌, ◌++◌, length, take, drop, sym, ap, ◌∙◌, subst, append_assoc, append-nil, arith, length-append, refl, take-append-drop, Ok, Err}
+use Rattle.std.proofs.Common.{◌≡◌, ℕ, ◌+◌, ◌-◌, ◌≤◌, ◌⊎◌, inl, inr, List, [], ◌++◌, length, take, drop, sym, ap, ◌∙◌, subst, append_assoc, append-nil, arith, length-append, refl, take-append-drop, Err}
 use Rattle.std.specs.List.{AllByRecursion}
 use Rattle.std.specs.Prelude.{Option, Some}
 use Rattle.std.specs.Io.KnownBytes.{Appends}
 use Rattle.std.proofs.Math.Seq.{take-append-add, take-length}
 use Rattle.iova_range.specs.declared.limits.TheConstants.{MAX_SESSION_READS}
 use Rattle.iova_text.specs.Lines.{IsUnended}
-use Rattle.iova_proto.specs.Feeds.{BeginsBad}
 use Rattle.iova_proto.specs.Requests.{IsRequest}
 use Rattle.iova_proto.specs.declared.request.Request.{Request}
 use Rattle.iova_session.specs.Pairs.{Pair, asked, told, requests_text, answers_text}
-use Rattle.iova_session.specs.Sessions.{bad_line, too_many, HasNoBye, StopsAtBye, EndsInBye, BeginsRequest, BeginsWith, IsLastLine, EndsSo, Serves, ends_at}
+use Rattle.iova_session.specs.Sessions.{bad_line, too_many, HasNoBye, StopsAtBye, EndsInBye, BeginsWith, IsLastLine, EndsSo, Serves, ends_at}
 use Rattle.iova_session.specs.Rounds.{IsLines, GoesOn, Gathers, IsCut, Asks}
 use Rattle.iova_session.specs.declared.end.End.{End}
 use Rattle.iova_session.specs.declared.end.End.TheVariants as ends
@@ -66,13 +65,13 @@ Serves-cut here used next piece w rs stop new qs end l h b =
     let start = begins_front here (next ++ piece) t.0 rs (asked qs) b.1.0 b.1.1 l t.2 t.1 in
     let P : End → Type 0 = λ x. Serves here (next ++ piece) qs w 0 x in
     elim b.0 [
-        inl a ↦ subst P (sym a) (record {
-            rest = rest;
-            requests = start;
-            few = omega arith;
-            says = ([], n, inl refl, b.2.1 ∙ ap (take n) (sym (append-nil text)));
-        })
-        | inr d ↦ subst P (sym d) (record { rest = rest; requests = start; few = omega arith; says = b.2 })
+      | inl a ↦ subst P (sym a) (record {
+        rest = rest;
+        requests = start;
+        few = omega arith;
+        says = ([], n, inl refl, b.2.1 ∙ ap (take n) (sym (append-nil text)));
+      })
+      | inr d ↦ subst P (sym d) (record { rest = rest; requests = start; few = omega arith; says = b.2 })
     ]
 
 pub GoesOn-more : (here used : ℕ) (next piece w : List ℕ) (rs : List Request) (new : Option (List ℕ)) (qs : List Pair)
@@ -110,13 +109,16 @@ Serves-refused most reads bytes rest v line qs a b end result few start e last s
     (line, t.1, subst P (sym t.0) (record { rest = rest; requests = start; few = few; says = says }))
 Serves-refused most reads bytes rest v line qs a b end result few start e last says (inr t) =
     let n = t.1.0 in
-    let P : End → Type 0 = λ x. Serves most bytes qs (v ++ take n line) reads x in
-    (take n line, t.1.1, subst P (sym t.0) (record {
-      rest = rest;
-      requests = start;
-      few = few;
-      says = (line, length v + n, last, sym (take-append-add v line n) ∙ ap (λ x. take (length v + n) (x ++ line)) e);
-    }))
+    let P : End → Type 0 = λ x. Serves most bytes qs (v ++ take n line) reads x in (
+      take n line,
+      t.1.1,
+      subst P (sym t.0) (record {
+        rest = rest;
+        requests = start;
+        few = few;
+        says = (line, length v + n, last, sym (take-append-add v line n) ∙ ap (λ x. take (length v + n) (x ++ line)) e);
+      }),
+    )
 
 pub Serves-bad : (here used : ℕ) (next piece w : List ℕ) (rs : List Request) (new : Option (List ℕ)) (qs : List Pair) (a b : Option (List ℕ)) (end : End)
     → length rs ≤ here → Gathers here next piece rs used stops.Bad new → asked qs ≡ rs → w ≡ answers_text (told qs)
@@ -185,8 +187,13 @@ Serves-fault most here reads taken next written ps l few a = record {
   rest = next;
   requests = begins most here taken next written ps l a;
   few = few;
-  says = ([], length written, inl refl, a.answered ∙ sym (take-length (answers_text (told ps))) ∙ ap (λ x. take (length x) (answers_text (told ps))) (sym a.answered)
-      ∙ ap (take (length written)) (sym (append-nil (answers_text (told ps)))));
+  says = (
+    [],
+    length written,
+    inl refl,
+    a.answered ∙ sym (take-length (answers_text (told ps))) ∙ ap (λ x. take (length x) (answers_text (told ps))) (sym a.answered)
+        ∙ ap (take (length written)) (sym (append-nil (answers_text (told ps)))),
+  );
 }
 
 pub Serves-closed : (most here reads : ℕ) (taken next written : List ℕ) (ps : List Pair) → length ps + here ≡ most → reads ≤ MAX_SESSION_READS

@@ -1,5 +1,5 @@
 -- Lines and texts, one after another.
-use Rattle.std.proofs.Common.{suc, ◌≡◌, ℕ, ◌+◌, ◌-◌, ◌≤◌, ◌<◌, get_or, refl, append-nil, List, [], ◌∷◌, ◌++◌, length, take, drop, sym, ap, ◌∙◌, subst, append_assoc, arith, take-append-drop, length-take, length-drop}
+use Rattle.std.proofs.Common.{suc, ◌≡◌, ℕ, ◌+◌, ◌-◌, ◌≤◌, ◌<◌, get_or, refl, append-nil, List, [], ◌∷◌, ◌++◌, length, take, drop, sym, ap, ◌∙◌, subst, arith, take-append-drop, length-take, length-drop}
 use Rattle.std.specs.Prelude.{Option}
 use Rattle.std.proofs.Math.Seq.{take-append-add, take-length}
 use Rattle.std.proofs.lemmas.List.{take_more}
@@ -88,6 +88,14 @@ asked-nil = refl
 pub told-nil : told [] ≡ []
 unfolding told
 told-nil = refl
+
+pub asked-one : (p : Pair) → asked (p ∷ []) ≡ p.request ∷ []
+unfolding asked
+asked-one p = refl
+
+pub told-one : (p : Pair) → told (p ∷ []) ≡ p.answer ∷ []
+unfolding told
+told-one p = refl
 
 pub none_told : [] ≡ answers_text (told [])
 none_told = sym (ap answers_text told-nil ∙ answers_text-nil)

@@ -1,5 +1,5 @@
 -- How a session goes on, from piece to piece of what it takes. Own.
-use Rattle.std.specs.Prelude.{ℕ, ◌≡◌, ◌+◌, List, [], ◌++◌, take, Option, Some, None, Result, Ok, Err, length, ◌⊎◌}
+use Rattle.std.specs.Prelude.{ℕ, ◌≡◌, ◌+◌, List, [], ◌++◌, take, Option, Some, Result, Ok, Err, length, ◌⊎◌}
 use Rattle.std.specs.List.{AllByRecursion}
 use Rattle.iova_text.specs.Lines.{IsUnended}
 use Rattle.iova_proto.specs.Feeds.{BeginsBad}

@@ -25,7 +25,12 @@ pub(crate) enum Stop {
 
 /// The requests whose lines stand at the front of the piece, at most 16 and at most `left`. Gives how many bytes of the piece
 /// they take, and why there are no more. Copies no line that lies whole in the piece.
-pub(crate) fn gather(lines: &mut Lines, piece: &[u8], left: u64, run: &mut ArrayVec<Request, MAX_RUN>) -> (usize, Stop)
+pub(crate) fn gather(
+    lines: &mut Lines,
+    piece: &[u8],
+    left: u64,
+    run: &mut ArrayVec<Request, MAX_RUN>,
+) -> (usize, Stop)
     requires empty { run.old.items ≡ [] }
     requires open { IsSome lines.old }
     ensures used { result.0 ≤ length piece.now }

@@ -9,3 +9,5 @@ pub mod link;
 pub mod memory_link;
 pub mod pairs;
 pub mod serve;
+#[cfg(test)]
+mod tests;

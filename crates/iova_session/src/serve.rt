@@ -55,7 +55,15 @@ pub fn serve<L: Link, D: Desk>(alloc: Global, link: &mut L, desk: &mut D) -> End
             return End::Closed;
         }
         let piece = &buf[..n];
-        if let Err(end) = take_piece(link, desk, &mut lines, piece, &mut left, &mut answers, &mut out) {
+        if let Err(end) = take_piece(
+            link,
+            desk,
+            &mut lines,
+            piece,
+            &mut left,
+            &mut answers,
+            &mut out,
+        ) {
             return end;
         }
     }

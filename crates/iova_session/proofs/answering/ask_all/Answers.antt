@@ -1,9 +1,8 @@
 use Rattle.std.proofs.Common.{◌≡◌, ◌∙◌, ◌+◌, ◌-◌, ◌≤◌, ◌++◌, [], ℕ, List, sym, ap, subst, take, drop, length, arith, refl, length-take, length-drop, append_assoc, append-nil, inr}
 use Rattle.std.proofs.KnownBytes.{Appends-nil}
 use Rattle.std.specs.Io.KnownBytes.{Appends}
-use Rattle.iova_proto.specs.declared.answer.Answer.{Answer}
 use Rattle.iova_proto.specs.declared.request.Request.{Request}
-use Rattle.iova_session.specs.Pairs.{asked, told, answers_text}
+use Rattle.iova_session.specs.Pairs.{told, answers_text}
 use Rattle.iova_session.proofs.Texts.{asked-nil, none_told}
 use Rattle.iova_session.proofs.Runs.{asked_rest, asked_more, told_more, told_part, all_taken, handed_on, Asks-cut}
 use Rattle.iova_session.proofs.answering.ask_all.Goals as goal
@@ -25,9 +24,13 @@ asking-init g c =
 pub returns-in-Err-clause-asked : goal.returns-in-Err-clause-asked
 returns-in-Err-clause-asked g c =
     let inv = c.asking.invariant in
-    let text = answers_text (told inv.ps) in
-    (inv.ps, text, c.in-Err.ensures.err.1 ∙ inv.pairs, inv.sent,
-      (inr refl, (drop c.asking.asked c.args.run.now, asked_rest c.args.run.now inv.ps c.asking.asked inv.front), (length text, all_taken text)))
+    let text = answers_text (told inv.ps) in (
+      inv.ps,
+      text,
+      c.in-Err.ensures.err.1 ∙ inv.pairs,
+      inv.sent,
+      (inr refl, (drop c.asking.asked c.args.run.now, asked_rest c.args.run.now inv.ps c.asking.asked inv.front), (length text, all_taken text)),
+    )
 
 pub asking-preserved : goal.asking-preserved
 asking-preserved g c =
@@ -56,11 +59,13 @@ returns-in_err-tell-clause-asked g c =
     let same : c.as_slice.result.now ≡ [] ++ told ok.0 = c.as_slice.ensures.value ∙ ok.3 ∙ ap (λ x. x ++ told ok.0) c.clear.ensures.items in
     let more = drop (c.asking.asked + c.in-Ok.n) c.args.run.now in
     let front = asked_more c.args.run.now inv.ps ok.0 c.asking.asked c.in-Ok.n inv.fits inv.front ok.2 in
-    let count = length (answers_text (told inv.ps)) + n in
-    (inv.ps ++ ok.0, take count (answers_text (told (inv.ps ++ ok.0))),
+    let count = length (answers_text (told inv.ps)) + n in (
+      inv.ps ++ ok.0,
+      take count (answers_text (told (inv.ps ++ ok.0))),
       ok.1 ∙ ap (λ x. x ++ ok.0) inv.pairs ∙ append_assoc (g.D.Desk.pairs c.args.desk.now) inv.ps ok.0,
       told_part (g.L.Link.sent c.args.link.now) (g.L.Link.sent c.asking.link) (g.L.Link.sent c.tell.new.link) inv.ps ok.0 c.as_slice.result.now n
           inv.sent same cut.1.1,
       Asks-cut c.from_residual.result c.in_err-tell.field-0.0 c.args.run.now more (inv.ps ++ ok.0) (take count (answers_text (told (inv.ps ++ ok.0)))) count
           (handed_on c.from_residual.result c.in_err-tell.field-0.0 c.from_residual.ensures.1)
-          cut.0 (asked_rest c.args.run.now (inv.ps ++ ok.0) (c.asking.asked + c.in-Ok.n) front) refl)
+          cut.0 (asked_rest c.args.run.now (inv.ps ++ ok.0) (c.asking.asked + c.in-Ok.n) front) refl,
+    )

@@ -1,4 +1,4 @@
-use Rattle.std.proofs.Common.{◌≡◌, length, ◌-◌, ◌≤◌, ◌++◌, take, List, ℕ}
+use Rattle.std.proofs.Common.{◌≡◌, length, ◌-◌, ◌≤◌, ◌++◌, take, List}
 use Rattle.std.specs.Io.KnownBytes.{Appends}
 use Rattle.iova_session.specs.Pairs.{Pair, asked, told, answers_text}
 use Rattle.iova_session.proofs.answering.ask_all.Given as goal

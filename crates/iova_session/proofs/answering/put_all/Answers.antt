@@ -1,4 +1,4 @@
-use Rattle.std.proofs.Common.{◌≡◌, ◌∙◌, ℕ, ◌-◌, ◌≤◌, length, take, drop, arith, length-take, length-drop}
+use Rattle.std.proofs.Common.{◌∙◌, ℕ, ◌-◌, ◌≤◌, length, take, drop, arith, length-take, length-drop}
 use Rattle.iova_session.proofs.Texts.{Appends_more}
 use Rattle.iova_session.proofs.answering.put_all.Goals as goal
 

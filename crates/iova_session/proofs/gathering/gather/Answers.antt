@@ -1,4 +1,4 @@
-use Rattle.std.proofs.Common.{◌≡◌, ◌+◌, ◌-◌, ◌≤◌, ◌++◌, ◌∷◌, [], ℕ, List, refl, sym, ap, ◌∙◌, subst, take, drop, length, arith, length-append, length-take, length-drop, Some, IfSome, IsSome}
+use Rattle.std.proofs.Common.{◌≡◌, ◌+◌, ◌-◌, ◌≤◌, ◌++◌, [], ℕ, List, refl, sym, ap, ◌∙◌, subst, take, drop, length, arith, length-append, length-take, length-drop, Some, IfSome, IsSome}
 use Rattle.std.specs.Prelude.{Option, None}
 use Rattle.iova_proto.specs.Feeds.{Feeds}
 use Rattle.iova_proto.specs.declared.fed.Fed.TheVariants as fed
@@ -36,10 +36,15 @@ returns-then-len-left-clause-gathered c =
     let rest = take (length c.args.piece.now - c.gathering.used) (drop c.gathering.used c.args.piece.now) in
     let f : Feeds inv.next rest (fed.Request c.in-Request.request c.in-Request.more) c.feed.new.self = rw inv.now at c.in-Request.ensures.fed in
     let P : List ℕ → Type 0 = λ kept. Gathers c.args.left kept c.args.piece.now c.gathering.run.items c.gathering.used stops.Limit c.feed.new.self in
-    if_kept c.args.lines.now inv.kept P inv.began
-    (inv.none, omega arith,
-      (inv.next ++ rest, IsLines-rest inv.kept c.args.piece.now inv.next c.gathering.run.items c.gathering.used inv.lines,
-        begins_request inv.next rest c.in-Request.request c.in-Request.more f.1))
+    if_kept c.args.lines.now inv.kept P inv.began (
+      inv.none,
+      omega arith,
+      (
+        inv.next ++ rest,
+        IsLines-rest inv.kept c.args.piece.now inv.next c.gathering.run.items c.gathering.used inv.lines,
+        begins_request inv.next rest c.in-Request.request c.in-Request.more f.1,
+      ),
+    )
 
 pub returns-then-is_bye-clause-gathered : goal.returns-then-is_bye-clause-gathered
 returns-then-is_bye-clause-gathered c =
@@ -49,10 +54,11 @@ returns-then-is_bye-clause-gathered c =
     let f : Feeds inv.next rest (fed.Request c.in-Request.request c.in-Request.more) c.feed.new.self = rw inv.now at c.in-Request.ensures.fed in
     let P : List ℕ → Type 0 = λ kept. Gathers c.args.left kept c.args.piece.now after (c.gathering.used + c.in-Request.more) stops.Bye c.feed.new.self in
     let one = EndsInBye-one c.gathering.run.items c.in-Request.request inv.none (c.is_bye.ensures.0 c.if-is_bye.true) in
-    if_kept c.args.lines.now inv.kept P inv.began
-    (rw c.push.ensures.items one,
+    if_kept c.args.lines.now inv.kept P inv.began (
+      rw c.push.ensures.items one,
       IsLines-one inv.kept c.args.piece.now inv.next c.gathering.run.items after c.in-Request.request c.gathering.used c.in-Request.more
-          inv.used inv.lines f.1 c.push.ensures.items)
+          inv.used inv.lines f.1 c.push.ensures.items,
+    )
 
 pub returns-then-len-eq-MAX_RUN-clause-gathered : goal.returns-then-len-eq-MAX_RUN-clause-gathered
 returns-then-len-eq-MAX_RUN-clause-gathered c =
@@ -61,11 +67,12 @@ returns-then-len-eq-MAX_RUN-clause-gathered c =
     let after = c.push.new.self.items in
     let f : Feeds inv.next rest (fed.Request c.in-Request.request c.in-Request.more) c.feed.new.self = rw inv.now at c.in-Request.ensures.fed in
     let P : List ℕ → Type 0 = λ kept. Gathers c.args.left kept c.args.piece.now after (c.gathering.used + c.in-Request.more) stops.Full c.feed.new.self in
-    if_kept c.args.lines.now inv.kept P inv.began
-    (no_bye_more c.gathering.run.items after c.in-Request.request inv.none (λ e. let t = c.is_bye.ensures.1 e in cc) c.push.ensures.items,
+    if_kept c.args.lines.now inv.kept P inv.began (
+      no_bye_more c.gathering.run.items after c.in-Request.request inv.none (λ e. let t = c.is_bye.ensures.1 e in cc) c.push.ensures.items,
       IsLines-one inv.kept c.args.piece.now inv.next c.gathering.run.items after c.in-Request.request c.gathering.used c.in-Request.more
           inv.used inv.lines f.1 c.push.ensures.items,
-      f.2)
+      f.2,
+    )
 
 pub gathering-preserved : goal.gathering-preserved
 gathering-preserved c =

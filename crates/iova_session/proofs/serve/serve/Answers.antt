@@ -1,4 +1,4 @@
-use Rattle.std.proofs.Common.{Ok, Err, ◌≡◌, ◌∙◌, ◌+◌, ◌≤◌, ◌++◌, [], ℕ, List, refl, sym, ap, subst, take, length, arith, append_assoc, append-nil, length-append, Some}
+use Rattle.std.proofs.Common.{Ok, Err, ◌≡◌, ◌∙◌, ◌+◌, ◌++◌, [], ℕ, List, refl, sym, ap, subst, take, arith, append_assoc, append-nil, length-append}
 use Rattle.std.specs.Prelude.{Option}
 use Rattle.std.proofs.KnownBytes.{Appends-trans, Appends-nil, Consumes-trans, Consumes-nil, Consumes-kept}
 use Rattle.std.specs.Io.KnownBytes.{Consumes, Appends}
@@ -27,23 +27,45 @@ reading-init g c = record {
 }
 
 pub returns-in_default-clause-session : goal.returns-in_default-clause-session
-returns-in_default-clause-session g c =
-    ([], [], [], 0, Consumes-nil (g.L.Link.left c.args.link.now), sym (append-nil (g.D.Desk.pairs c.args.desk.now)),
-      Appends-nil (g.L.Link.sent c.args.link.now), omega arith, Serves-no_room MAX_REQUESTS)
+returns-in_default-clause-session g c = (
+  [],
+  [],
+  [],
+  0,
+  Consumes-nil (g.L.Link.left c.args.link.now),
+  sym (append-nil (g.D.Desk.pairs c.args.desk.now)),
+  Appends-nil (g.L.Link.sent c.args.link.now),
+  omega arith,
+  Serves-no_room MAX_REQUESTS,
+)
 
 pub returns-in_default-with_capacity-clause-session : goal.returns-in_default-with_capacity-clause-session
-returns-in_default-with_capacity-clause-session g c =
-    ([], [], [], 0, Consumes-nil (g.L.Link.left c.args.link.now), sym (append-nil (g.D.Desk.pairs c.args.desk.now)),
-      Appends-nil (g.L.Link.sent c.args.link.now), omega arith, Serves-no_room MAX_REQUESTS)
+returns-in_default-with_capacity-clause-session g c = (
+  [],
+  [],
+  [],
+  0,
+  Consumes-nil (g.L.Link.left c.args.link.now),
+  sym (append-nil (g.D.Desk.pairs c.args.desk.now)),
+  Appends-nil (g.L.Link.sent c.args.link.now),
+  omega arith,
+  Serves-no_room MAX_REQUESTS,
+)
 
 pub returns-in_default-read-clause-session : goal.returns-in_default-read-clause-session
 returns-in_default-read-clause-session g c =
     let inv = c.reading.invariant in
-    let P : Option (List ℕ) → Type 0 = λ x. Appends (g.L.Link.sent c.args.link.now) x inv.written in
-    (inv.taken, inv.ps, inv.written, c.reading.counter + 1,
+    let P : Option (List ℕ) → Type 0 = λ x. Appends (g.L.Link.sent c.args.link.now) x inv.written in (
+      inv.taken,
+      inv.ps,
+      inv.written,
+      c.reading.counter + 1,
       Consumes-kept (g.L.Link.left c.args.link.now) (g.L.Link.left c.reading.link) (g.L.Link.left c.read.new.self) inv.taken inv.consumed c.in_default-read.ensures.bytes,
-      inv.pairs, subst P (sym c.read.ensures.sent) inv.sent, omega (arith, c.read.ensures.reads, inv.reads),
-      Serves-fault MAX_REQUESTS c.reading.left (c.reading.counter + 1) inv.taken inv.next inv.written inv.ps inv.count (omega arith) inv.goes)
+      inv.pairs,
+      subst P (sym c.read.ensures.sent) inv.sent,
+      omega (arith, c.read.ensures.reads, inv.reads),
+      Serves-fault MAX_REQUESTS c.reading.left (c.reading.counter + 1) inv.taken inv.next inv.written inv.ps inv.count (omega arith) inv.goes,
+    )
 
 pub returns-then-n-eq0-clause-session : goal.returns-then-n-eq0-clause-session
 returns-then-n-eq0-clause-session g c =
@@ -52,12 +74,18 @@ returns-then-n-eq0-clause-session g c =
     let none : take n c.read.new.buf ≡ [] = ap (λ k. take k c.read.new.buf) c.if-n-eq0.true in
     let Q : List ℕ → Type 0 = λ x. Consumes (g.L.Link.left c.args.link.now) (g.L.Link.left c.read.new.self) x in
     let both = Consumes-trans (g.L.Link.left c.args.link.now) (g.L.Link.left c.reading.link) (g.L.Link.left c.read.new.self) inv.taken (take n c.read.new.buf)
-        inv.consumed c.in-Ok-read.ensures.bytes.0 in
-    let P : Option (List ℕ) → Type 0 = λ x. Appends (g.L.Link.sent c.args.link.now) x inv.written in
-    (inv.taken, inv.ps, inv.written, c.reading.counter + 1,
+    inv.consumed c.in-Ok-read.ensures.bytes.0 in
+    let P : Option (List ℕ) → Type 0 = λ x. Appends (g.L.Link.sent c.args.link.now) x inv.written in (
+      inv.taken,
+      inv.ps,
+      inv.written,
+      c.reading.counter + 1,
       subst Q (ap (λ x. inv.taken ++ x) none ∙ append-nil inv.taken) both,
-      inv.pairs, subst P (sym c.read.ensures.sent) inv.sent, omega (arith, c.read.ensures.reads, inv.reads),
-      Serves-closed MAX_REQUESTS c.reading.left (c.reading.counter + 1) inv.taken inv.next inv.written inv.ps inv.count (omega arith) inv.unended inv.goes)
+      inv.pairs,
+      subst P (sym c.read.ensures.sent) inv.sent,
+      omega (arith, c.read.ensures.reads, inv.reads),
+      Serves-closed MAX_REQUESTS c.reading.left (c.reading.counter + 1) inv.taken inv.next inv.written inv.ps inv.count (omega arith) inv.unended inv.goes,
+    )
 
 pub returns-in-Err-clause-session : goal.returns-in-Err-clause-session
 returns-in-Err-clause-session g c =
@@ -69,14 +97,21 @@ returns-in-Err-clause-session g c =
     let sent = subst P (sym c.read.ensures.sent) inv.sent in
     let R : Option (List ℕ) → Type 0 = λ x. Consumes (g.L.Link.left c.args.link.now) x (inv.taken ++ piece) in
     let consumed = subst R (sym c.take_piece.ensures.left)
-      (Consumes-trans (g.L.Link.left c.args.link.now) (g.L.Link.left c.reading.link) (g.L.Link.left c.read.new.self) inv.taken piece inv.consumed c.in-Ok-read.ensures.bytes.0) in
+    (Consumes-trans (g.L.Link.left c.args.link.now) (g.L.Link.left c.reading.link) (g.L.Link.left c.read.new.self) inv.taken piece inv.consumed c.in-Ok-read.ensures.bytes.0) in
     let pairs = got.4 ∙ ap (λ x. x ++ got.1) inv.pairs ∙ append_assoc (g.D.Desk.pairs c.args.desk.now) inv.ps got.1 in
     let wrote = Appends-trans (g.L.Link.sent c.args.link.now) (g.L.Link.sent c.read.new.self) (g.L.Link.sent c.take_piece.new.link) inv.written got.2 sent got.5 in
-    let T : Takes c.reading.left (inv.next ++ piece) got.1 got.2 c.take_piece.new.left c.take_piece.new.lines (Err c.in-Err.end) = rw start at got.6 in
-    (inv.taken ++ piece, inv.ps ++ got.1, inv.written ++ got.2, c.reading.counter + 1, consumed, pairs, wrote,
+    let T : Takes c.reading.left (inv.next ++ piece) got.1 got.2 c.take_piece.new.left c.take_piece.new.lines (Err c.in-Err.end) = rw start at got.6 in (
+      inv.taken ++ piece,
+      inv.ps ++ got.1,
+      inv.written ++ got.2,
+      c.reading.counter + 1,
+      consumed,
+      pairs,
+      wrote,
       omega (arith, c.take_piece.ensures.reads, c.read.ensures.reads, inv.reads),
       Serves-then MAX_REQUESTS c.reading.left (c.reading.counter + 1) inv.taken piece inv.next inv.written got.2 inv.ps got.1 c.in-Err.end
-      inv.count (omega arith) inv.goes T)
+          inv.count (omega arith) inv.goes T,
+    )
 
 pub reading-preserved : goal.reading-preserved
 reading-preserved g c =
@@ -88,7 +123,7 @@ reading-preserved g c =
     let sent = subst P (sym c.read.ensures.sent) inv.sent in
     let R : Option (List ℕ) → Type 0 = λ x. Consumes (g.L.Link.left c.args.link.now) x (inv.taken ++ piece) in
     let consumed = subst R (sym c.take_piece.ensures.left)
-      (Consumes-trans (g.L.Link.left c.args.link.now) (g.L.Link.left c.reading.link) (g.L.Link.left c.read.new.self) inv.taken piece inv.consumed c.in-Ok-read.ensures.bytes.0) in
+    (Consumes-trans (g.L.Link.left c.args.link.now) (g.L.Link.left c.reading.link) (g.L.Link.left c.read.new.self) inv.taken piece inv.consumed c.in-Ok-read.ensures.bytes.0) in
     let pairs = got.4 ∙ ap (λ x. x ++ got.1) inv.pairs ∙ append_assoc (g.D.Desk.pairs c.args.desk.now) inv.ps got.1 in
     let wrote = Appends-trans (g.L.Link.sent c.args.link.now) (g.L.Link.sent c.read.new.self) (g.L.Link.sent c.take_piece.new.link) inv.written got.2 sent got.5 in
     let T : Takes c.reading.left (inv.next ++ piece) got.1 got.2 c.take_piece.new.left c.take_piece.new.lines (Ok c.in_default-take_piece.field-0) = rw start at got.6 in
@@ -114,8 +149,15 @@ returns-clause-session g c =
     let inv = c.reading.invariant in
     let worn : c.reading.counter ≡ 1048576 = omega arith in
     let W = Serves-worn MAX_REQUESTS c.reading.left c.reading.counter inv.taken inv.next inv.written inv.ps (g.L.Link.sent c.reading.link) (g.L.Link.sent c.refuse.new.link)
-        c.refuse.result inv.count worn inv.unended inv.goes c.refuse.ensures.told in
-    let R : Option (List ℕ) → Type 0 = λ x. Consumes (g.L.Link.left c.args.link.now) x inv.taken in
-    (inv.taken, inv.ps, inv.written ++ W.0, c.reading.counter, subst R (sym c.refuse.ensures.left) inv.consumed, inv.pairs,
+    c.refuse.result inv.count worn inv.unended inv.goes c.refuse.ensures.told in
+    let R : Option (List ℕ) → Type 0 = λ x. Consumes (g.L.Link.left c.args.link.now) x inv.taken in (
+      inv.taken,
+      inv.ps,
+      inv.written ++ W.0,
+      c.reading.counter,
+      subst R (sym c.refuse.ensures.left) inv.consumed,
+      inv.pairs,
       Appends-trans (g.L.Link.sent c.args.link.now) (g.L.Link.sent c.reading.link) (g.L.Link.sent c.refuse.new.link) inv.written W.0 inv.sent W.1,
-      c.refuse.ensures.reads ∙ inv.reads, W.2)
+      c.refuse.ensures.reads ∙ inv.reads,
+      W.2,
+    )

@@ -1,12 +1,10 @@
-use Rattle.std.proofs.Common.{Ok, Err, ◌≡◌, ◌∙◌, ◌+◌, ◌-◌, ◌≤◌, ◌++◌, [], ℕ, List, refl, sym, ap, subst, take, drop, length, arith, length-take, length-drop, append_assoc, append-nil, Some, IsSome, Result}
+use Rattle.std.proofs.Common.{Ok, Err, ◌≡◌, ◌∙◌, ◌-◌, ◌≤◌, ◌++◌, [], ℕ, List, refl, sym, ap, subst, take, drop, length, arith, length-take, length-drop, append_assoc, append-nil, Some, IsSome, Result}
 use Rattle.std.specs.Prelude.{Option, None}
 use Rattle.std.proofs.KnownBytes.{Appends-trans, Appends-nil}
-use Rattle.iova_proto.specs.declared.request.Request.{Request}
 use Rattle.iova_session.specs.declared.gathering.Stop.TheVariants as stops
 use Rattle.iova_session.specs.declared.end.End.{End}
 use Rattle.iova_session.specs.declared.end.End.TheVariants as ends
 use Rattle.iova_session.specs.Rounds.{Gathers, Asks, Takes}
-use Rattle.iova_session.specs.Sessions.{Serves}
 use Rattle.iova_session.proofs.Joins.{GoesOn-kept}
 use Rattle.iova_session.proofs.Runs.{handed_on}
 use Rattle.iova_session.proofs.Taken.{Serves-cut, GoesOn-more, GoesOn-full, Serves-bye, Serves-bad, Serves-limit, Serves-whole, GoesOn-whole, GoesOn-further, lengths}
@@ -51,10 +49,16 @@ returns-in_err-ask_all-clause-taken g c =
     let end = c.in_err-ask_all.field-0.0 in
     let A : Asks run got.0 got.1 (Err end) = rw c.as_slice.ensures.value at got.4 in
     let E = Serves-cut c.rounds.left used inv.next rest got.1 run c.gather-used.result.1 new got.0 end c.gather-used.ensures.within G A in
-    let P : Result Unit End → Type 0 = λ x. Takes c.args.left.now (inv.kept ++ c.args.piece.now) (inv.ps ++ got.0) (inv.written ++ got.1) (c.rounds.left - c.len.result) new x in
-    (inv.kept, inv.ps ++ got.0, inv.written ++ got.1, inv.began, pairs, sent,
+    let P : Result Unit End → Type 0 = λ x. Takes c.args.left.now (inv.kept ++ c.args.piece.now) (inv.ps ++ got.0) (inv.written ++ got.1) (c.rounds.left - c.len.result) new x in (
+      inv.kept,
+      inv.ps ++ got.0,
+      inv.written ++ got.1,
+      inv.began,
+      pairs,
+      sent,
       subst P (sym (handed_on c.from_residual.result end c.from_residual.ensures.1))
-      (Serves-whole c.args.left.now c.rounds.left c.rounds.at inv.kept c.args.piece.now inv.next inv.written got.1 inv.ps got.0 end inv.count inv.goes E))
+          (Serves-whole c.args.left.now c.rounds.left c.rounds.at inv.kept c.args.piece.now inv.next inv.written got.1 inv.ps got.0 end inv.count inv.goes E),
+    )
 
 pub rounds-preserved : goal.rounds-preserved
 rounds-preserved g c =
@@ -102,10 +106,21 @@ returns-in-More-clause-taken g c =
     let G : Gathers c.rounds.left inv.next rest run used stops.More new = rw (inv.now, c.in-More.is) at c.gather-used.ensures.gathered in
     let A : Asks run got.0 got.1 (Ok c.in_ok-ask_all.field-0) = rw c.as_slice.ensures.value at got.4 in
     let M = GoesOn-more c.rounds.left used inv.next rest got.1 run new got.0 G A.0 A.1 in
-    let within : length run ≤ c.rounds.left = c.gather-used.ensures.within in
-    (inv.kept, inv.ps ++ got.0, inv.written ++ got.1, inv.began, pairs, sent,
-      (M.0, GoesOn-whole c.rounds.at inv.kept c.args.piece.now inv.next M.0 inv.written got.1 inv.ps got.0 inv.goes M.1, M.2, M.3,
-        rw c.len.ensures.value (lengths inv.ps got.0 run c.args.left.now c.rounds.left inv.count A.0 within)))
+    let within : length run ≤ c.rounds.left = c.gather-used.ensures.within in (
+      inv.kept,
+      inv.ps ++ got.0,
+      inv.written ++ got.1,
+      inv.began,
+      pairs,
+      sent,
+      (
+        M.0,
+        GoesOn-whole c.rounds.at inv.kept c.args.piece.now inv.next M.0 inv.written got.1 inv.ps got.0 inv.goes M.1,
+        M.2,
+        M.3,
+        rw c.len.ensures.value (lengths inv.ps got.0 run c.args.left.now c.rounds.left inv.count A.0 within),
+      ),
+    )
 
 pub returns-in-Bye-clause-taken : goal.returns-in-Bye-clause-taken
 returns-in-Bye-clause-taken g c =
@@ -119,9 +134,15 @@ returns-in-Bye-clause-taken g c =
     let sent = Appends-trans (g.L.Link.sent c.args.link.now) (g.L.Link.sent c.rounds.link) (g.L.Link.sent c.ask_all.new.link) inv.written got.1 inv.sent got.3 in
     let G : Gathers c.rounds.left inv.next rest run used stops.Bye new = rw (inv.now, c.in-Bye.is) at c.gather-used.ensures.gathered in
     let A : Asks run got.0 got.1 (Ok c.in_ok-ask_all.field-0) = rw c.as_slice.ensures.value at got.4 in
-    let E = Serves-bye c.rounds.left used inv.next rest got.1 run new got.0 c.gather-used.ensures.within G A.0 A.1 in
-    (inv.kept, inv.ps ++ got.0, inv.written ++ got.1, inv.began, pairs, sent,
-      Serves-whole c.args.left.now c.rounds.left c.rounds.at inv.kept c.args.piece.now inv.next inv.written got.1 inv.ps got.0 ends.Bye inv.count inv.goes E)
+    let E = Serves-bye c.rounds.left used inv.next rest got.1 run new got.0 c.gather-used.ensures.within G A.0 A.1 in (
+      inv.kept,
+      inv.ps ++ got.0,
+      inv.written ++ got.1,
+      inv.began,
+      pairs,
+      sent,
+      Serves-whole c.args.left.now c.rounds.left c.rounds.at inv.kept c.args.piece.now inv.next inv.written got.1 inv.ps got.0 ends.Bye inv.count inv.goes E,
+    )
 
 pub returns-in-Bad-clause-taken : goal.returns-in-Bad-clause-taken
 returns-in-Bad-clause-taken g c =
@@ -136,11 +157,16 @@ returns-in-Bad-clause-taken g c =
     let G : Gathers c.rounds.left inv.next rest run used stops.Bad new = rw (inv.now, c.in-Bad.is) at c.gather-used.ensures.gathered in
     let A : Asks run got.0 got.1 (Ok c.in_ok-ask_all.field-0) = rw c.as_slice.ensures.value at got.4 in
     let R = Serves-bad c.rounds.left used inv.next rest got.1 run new got.0 (g.L.Link.sent c.ask_all.new.link) (g.L.Link.sent c.refuse.new.link) c.refuse.result
-        c.gather-used.ensures.within G A.0 A.1 c.refuse.ensures.told in
-    (inv.kept, inv.ps ++ got.0, inv.written ++ (got.1 ++ R.0), inv.began, pairs,
+    c.gather-used.ensures.within G A.0 A.1 c.refuse.ensures.told in (
+      inv.kept,
+      inv.ps ++ got.0,
+      inv.written ++ (got.1 ++ R.0),
+      inv.began,
+      pairs,
       Appends-trans (g.L.Link.sent c.args.link.now) (g.L.Link.sent c.rounds.link) (g.L.Link.sent c.refuse.new.link) inv.written (got.1 ++ R.0) inv.sent
-      (Appends-trans (g.L.Link.sent c.rounds.link) (g.L.Link.sent c.ask_all.new.link) (g.L.Link.sent c.refuse.new.link) got.1 R.0 got.3 R.1),
-      Serves-whole c.args.left.now c.rounds.left c.rounds.at inv.kept c.args.piece.now inv.next inv.written (got.1 ++ R.0) inv.ps got.0 c.refuse.result inv.count inv.goes R.2)
+          (Appends-trans (g.L.Link.sent c.rounds.link) (g.L.Link.sent c.ask_all.new.link) (g.L.Link.sent c.refuse.new.link) got.1 R.0 got.3 R.1),
+      Serves-whole c.args.left.now c.rounds.left c.rounds.at inv.kept c.args.piece.now inv.next inv.written (got.1 ++ R.0) inv.ps got.0 c.refuse.result inv.count inv.goes R.2,
+    )
 
 pub returns-in-Limit-clause-taken : goal.returns-in-Limit-clause-taken
 returns-in-Limit-clause-taken g c =
@@ -155,8 +181,13 @@ returns-in-Limit-clause-taken g c =
     let G : Gathers c.rounds.left inv.next rest run used stops.Limit new = rw (inv.now, c.in-Limit.is) at c.gather-used.ensures.gathered in
     let A : Asks run got.0 got.1 (Ok c.in_ok-ask_all.field-0) = rw c.as_slice.ensures.value at got.4 in
     let R = Serves-limit c.rounds.left used inv.next rest got.1 run new got.0 (g.L.Link.sent c.ask_all.new.link) (g.L.Link.sent c.refuse-in-Limit.new.link) c.refuse-in-Limit.result
-        c.gather-used.ensures.within G A.0 A.1 c.refuse-in-Limit.ensures.told in
-    (inv.kept, inv.ps ++ got.0, inv.written ++ (got.1 ++ R.0), inv.began, pairs,
+    c.gather-used.ensures.within G A.0 A.1 c.refuse-in-Limit.ensures.told in (
+      inv.kept,
+      inv.ps ++ got.0,
+      inv.written ++ (got.1 ++ R.0),
+      inv.began,
+      pairs,
       Appends-trans (g.L.Link.sent c.args.link.now) (g.L.Link.sent c.rounds.link) (g.L.Link.sent c.refuse-in-Limit.new.link) inv.written (got.1 ++ R.0) inv.sent
-      (Appends-trans (g.L.Link.sent c.rounds.link) (g.L.Link.sent c.ask_all.new.link) (g.L.Link.sent c.refuse-in-Limit.new.link) got.1 R.0 got.3 R.1),
-      Serves-whole c.args.left.now c.rounds.left c.rounds.at inv.kept c.args.piece.now inv.next inv.written (got.1 ++ R.0) inv.ps got.0 c.refuse-in-Limit.result inv.count inv.goes R.2)
+          (Appends-trans (g.L.Link.sent c.rounds.link) (g.L.Link.sent c.ask_all.new.link) (g.L.Link.sent c.refuse-in-Limit.new.link) got.1 R.0 got.3 R.1),
+      Serves-whole c.args.left.now c.rounds.left c.rounds.at inv.kept c.args.piece.now inv.next inv.written (got.1 ++ R.0) inv.ps got.0 c.refuse-in-Limit.result inv.count inv.goes R.2,
+    )
