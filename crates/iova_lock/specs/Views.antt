@@ -1,0 +1,143 @@
+-- What contracts see of books, seats and tallies, and what a keeper tells.
+use Rattle.std.specs.Prelude.{ℕ, zero, suc, ◌≡◌, ◌+◌, ◌<◌, ◌≤◌, ◌⊎◌, ◌==◌, ◌&&◌, sum_by, Bool, true, false, List, [], ◌∷◌, ◌++◌, length, Option, Some, None, Result, Ok, Err, MatchOption}
+use Rattle.std.specs.List.{list_any}
+use Rattle.iova_range.specs.declared.refusal.Refusal.{Refusal}
+use Rattle.iova_range.specs.declared.refusal.Refusal.TheVariants as refusal
+use Rattle.iova_range.specs.Frames.{Frames}
+use Rattle.iova_model.specs.declared.step.Step.{Step}
+use Rattle.iova_model.specs.declared.step.Step.TheVariants as step
+use Rattle.iova_model.specs.declared.step.Reply.{Reply}
+use Rattle.iova_model.specs.declared.step.Reply.TheVariants as reply
+use Rattle.iova_model.specs.declared.totals.Totals.{Totals}
+use Rattle.iova_model.specs.Clients.{Client, client_with, totals_of}
+use Rattle.iova_model.specs.State.{State}
+use Rattle.iova_model.specs.Laws.{MovesTotals}
+use Rattle.iova_model.specs.Laws.{IsAmong, IsReplyTo}
+use Rattle.iova_lock.specs.Tapes.{Tape}
+
+-- a book: its domain's number, whether it is strict, its domain, and its tape
+pub record Account : Type 0 where
+  pub number : ℕ
+  pub strict : Bool
+  pub state : State
+  pub tape : Option Tape
+
+-- a tally: the flushes that it ended well, and its parts
+pub record Part : Type 0 where
+  pub good : ℕ
+  pub parts : ℕ
+
+-- a seat: its worker, its shares, and its tally
+pub record Place : Type 0 where
+  pub worker : ℕ
+  pub held : Totals
+  pub tally : Part
+
+abbrev pub nothing : Totals
+nothing = totals_of []
+
+-- a worker's new seat
+abbrev pub vacant : ℕ → Place
+vacant worker = record { worker = worker; held = record { count = 0; frames = 0; sum_lo = 0 }; tally = record { good = 0; parts = 256 } }
+
+-- the new seats of the workers below a number
+abbrev pub fresh : ℕ → List Place
+fresh zero = []
+fresh (suc n) = fresh n ++ vacant n ∷ []
+
+-- a seat has less than a range, in one of its shares
+abbrev pub Lacks : Totals → Frames → Type 0
+Lacks held r = (held.count < 1) ⊎ (held.frames < r.len) ⊎ (held.sum_lo < r.lo)
+
+-- or not
+abbrev pub Covers : Totals → Frames → Type 0
+Covers held r = (1 ≤ held.count) × (r.len ≤ held.frames) × (r.lo ≤ held.sum_lo)
+
+-- what a client holds, 0 where there is no such client
+abbrev pub left_in : Option Client → ℕ
+left_in None = 0
+left_in (Some c) = length c.holdings
+
+abbrev pub left_of : ℕ → State → ℕ
+left_of id s = left_in (client_with id s.clients)
+
+-- a book keeps its number, and whether it is strict
+abbrev pub IsSame : Account → Account → Type 0
+IsSame old new = (new.number ≡ old.number) × (new.strict ≡ old.strict)
+
+-- the steps of a seat, and those of a tally
+abbrev pub by_seat : Step → Bool
+by_seat (step.Open w sac) = true
+by_seat (step.Alloc w id frames limit) = true
+by_seat (step.Unmap w id lo) = true
+by_seat (step.CloseOne w id) = true
+by_seat st = false
+
+abbrev pub by_tally : Step → Bool
+by_tally step.Begin = true
+by_tally (step.End n ok) = true
+by_tally st = false
+
+-- answers as replies
+abbrev pub opened_or : Result ℕ Refusal → Reply
+opened_or (Ok id) = reply.Opened id
+opened_or (Err e) = reply.Refused e
+
+abbrev pub given_or : Result Frames Refusal → Reply
+given_or (Ok r) = reply.Given r
+given_or (Err e) = reply.Refused e
+
+abbrev pub queued_or : Result Frames Refusal → Reply
+queued_or (Ok r) = reply.Queued r
+queued_or (Err e) = reply.Refused e
+
+abbrev pub begun_or : Result ℕ Refusal → Reply
+begun_or (Ok n) = reply.Begun n
+begun_or (Err e) = reply.Refused e
+
+-- the refusals of an unmap
+abbrev pub IsUnmapRefusal : Refusal → Type 0
+IsUnmapRefusal e = IsAmong e (refusal.NoWorker ∷ refusal.NoClient ∷ refusal.Closing ∷ refusal.NotHeld ∷ refusal.RingFull ∷ [])
+
+-- what an unmap of a range that begins at lo may be heard to answer
+abbrev pub IsUnmapHeard : ℕ → Option Reply → Type 0
+IsUnmapHeard lo (Some (reply.Queued r)) = r.lo ≡ lo
+IsUnmapHeard lo (Some (reply.Refused e)) = IsUnmapRefusal e
+IsUnmapHeard lo o = ⊥
+
+-- what a begin may be heard to answer, after a refusal by RingFull
+abbrev pub IsBeginHeard : Option Reply → Option Reply → Type 0
+IsBeginHeard o None = Unit {0}
+IsBeginHeard o (Some b) = (o ≡ Some (reply.Refused refusal.RingFull)) × IsReplyTo step.Begin b
+
+-- what a keeper that tells its domain says of a call: it tells it before and after, and they stand so
+abbrev pub Told : Option State → Option State → (State → State → Type 0) → Type 0
+Told None after P = Unit {0}
+Told (Some s) after P = MatchOption after ⊥ (λ t. P s t)
+
+-- a seat's shares move as its last reply says
+abbrev pub MovesHeard : Option Reply → Totals → Totals → Type 0
+MovesHeard None old new = new ≡ old
+MovesHeard (Some r) old new = MovesTotals r old new
+
+-- what an unmap with this reply queued
+abbrev pub queued_by : Reply → Totals
+queued_by (reply.Queued r) = totals_of (r ∷ [])
+queued_by r = nothing
+
+-- Seats that are gathered.
+
+abbrev pub has_seat : ℕ → List Place → Bool
+has_seat worker seats = list_any (λ s. s.worker == worker) seats
+
+abbrev pub have_seats : ℕ → List Place → Bool
+have_seats zero seats = true
+have_seats (suc n) seats = have_seats n seats && has_seat n seats
+
+-- as many seats as workers, and one of each
+abbrev pub is_each_once : ℕ → List Place → Bool
+is_each_once workers seats = (length seats == workers) && have_seats workers seats
+
+-- the sums of their shares
+abbrev pub held_sum : List Place → Totals
+held_sum seats = record { count = sum_by (λ s. s.held.count) seats; frames = sum_by (λ s. s.held.frames) seats; sum_lo = sum_by (λ s. s.held.sum_lo) seats }

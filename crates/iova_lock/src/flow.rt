@@ -1,0 +1,107 @@
+//! Calls of several holds, over any keeper.
+ghost use Rattle.std.specs.Prelude.{◌≡◌, ℕ, ◌+◌, ◌≤◌, ◌++◌, ◌≢◌, List, [], ◌∷◌, Option, Some, Err, true, false, IfOk, IfErr, MatchResult};
+ghost use Rattle.iova_model.specs.Laws.{MovesTotals};
+ghost use Rattle.iova_model.specs.Laws.{IsReplyTo};
+ghost use Rattle.iova_sink.specs.Calls.{Call, good_calls};
+ghost use Rattle.iova_lock.specs.Views.{Part, Place, Account, Told, queued_or, begun_or, IsUnmapRefusal, IsUnmapHeard};
+ghost use Rattle.iova_lock.specs.Events.{Event, Does, Unmap, UnmapsWith, FlushesWith};
+
+use crate::keep::{Heard, Keep};
+use crate::seat::{Seat, Tally};
+use iova_core::{ClientId, Reply, Step};
+use iova_range::range::Range;
+use iova_range::refusal::Refusal;
+use iova_sink::sink::Sink;
+use std::sync::ledger::Ledger;
+
+/// Begins a flush, calls the sink, and ends the flush as the sink answered.
+pub fn flush<C: Ledger, F: Ledger, S: Ledger, G: Ledger, K: Keep<C, F, S, G>, D: Sink>(
+    keeper: &mut K,
+    tally: &mut Tally<G>,
+    sink: &mut D,
+) -> Result<u64, Refusal>
+    ensures told { Told (K.told keeper.old) (K.told keeper.new) (Does (FlushesWith result (K.named keeper.old) (D.calls sink.old) (D.calls sink.new))) }
+    ensures sunk { IfOk result (λ no. D.calls sink.new ≡ D.calls sink.old ++ record { domain = K.named keeper.old; number = no; ok = true } ∷ []) }
+    ensures fault { result ≡ Err Refusal.SinkFault → (no : ℕ) × (D.calls sink.new ≡ D.calls sink.old ++ record { domain = K.named keeper.old; number = no; ok = false } ∷ []) }
+    ensures tally { tally.new.good + good_calls (D.calls sink.old) ≤ tally.old.good + good_calls (D.calls sink.new) }
+    ensures parts { tally.new.parts ≡ tally.old.parts }
+    ensures named { K.named keeper.new ≡ K.named keeper.old }
+{
+    let Heard {
+        reply: _,
+        begun,
+        queued: _,
+        left: _,
+    } = keeper.begin(tally);
+    let Some(begun) = begun else {
+        unreachable!();
+    };
+    let no = match number(begun) {
+        Ok(no) => no,
+        Err(refusal) => return Err(refusal),
+    };
+    let ok = sink.invalidate(keeper.number(), no).is_ok();
+    let _ended = keeper.end(tally, no, ok);
+    if ok { Ok(no) } else { Err(Refusal::SinkFault) }
+}
+
+/// Unmaps; where the ring is full, flushes and tries once more.
+pub fn unmap<C: Ledger, F: Ledger, S: Ledger, G: Ledger, K: Keep<C, F, S, G>, D: Sink>(
+    keeper: &mut K,
+    seat: &mut Seat<C, F, S, G>,
+    sink: &mut D,
+    id: ClientId,
+    lo: u64,
+) -> Result<Range, Refusal>
+    ensures told { Told (K.told keeper.old) (K.told keeper.new) (Does (UnmapsWith (Step.Unmap seat.old.worker id lo) seat.old.held (queued_or result) (K.named keeper.old) (D.calls sink.old) (D.calls sink.new))) }
+    ensures answer { MatchResult result (λ r. r.lo ≡ lo) IsUnmapRefusal }
+    ensures seat { MovesTotals (queued_or result) seat.old.held seat.new.held }
+    ensures worker { seat.new.worker ≡ seat.old.worker }
+    ensures tally { seat.new.tally.good + good_calls (D.calls sink.old) ≤ seat.old.tally.good + good_calls (D.calls sink.new) }
+    ensures parts { seat.new.tally.parts ≡ seat.old.tally.parts }
+    ensures named { K.named keeper.new ≡ K.named keeper.old }
+{
+    let Heard {
+        reply,
+        begun,
+        queued: _,
+        left: _,
+    } = keeper.unmap_first(seat, id, lo);
+    let Some(begun) = begun else {
+        return answer(lo, reply);
+    };
+    let Ok(no) = number(begun) else {
+        return answer(lo, reply);
+    };
+    let ok = sink.invalidate(keeper.number(), no).is_ok();
+    answer(lo, keeper.unmap_again(seat, id, lo, no, ok).reply)
+}
+
+/// The number of the flush that began, or why none did.
+fn number(begun: Reply) -> Result<u64, Refusal>
+    requires { IsReplyTo Step.Begin begun }
+    ensures is { begun ≡ begun_or result }
+    ensures refusal { IfErr result (λ e. e ≢ Refusal.SinkFault) }
+{
+    match begun {
+        Reply::Begun(no) => Ok(no),
+        Reply::Refused(refusal) => Err(refusal),
+        _ => unreachable!(),
+    }
+}
+
+/// What an unmap is answered, by what its last hold heard.
+fn answer(lo: u64, heard: Option<Reply>) -> Result<Range, Refusal>
+    requires { IsUnmapHeard lo heard }
+    ensures is { heard ≡ Some (queued_or result) }
+    ensures answer { MatchResult result (λ r. r.lo ≡ lo) IsUnmapRefusal }
+{
+    let Some(reply) = heard else {
+        unreachable!();
+    };
+    match reply {
+        Reply::Queued(range) => Ok(range),
+        Reply::Refused(refusal) => Err(refusal),
+        _ => unreachable!(),
+    }
+}
