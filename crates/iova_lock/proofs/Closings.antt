@@ -13,7 +13,7 @@ use Rattle.iova_model.specs.Clients.{totals_of}
 use Rattle.iova_model.specs.State.{State}
 use Rattle.iova_model.specs.Laws.{add_totals, MovesTotals}
 use Rattle.iova_model.specs.Laws.{IsReplyTo}
-use Rattle.iova_lock.specs.Tapes.{Takes}
+use Rattle.iova_lock.specs.StepLogs.{Takes}
 use Rattle.iova_lock.specs.Events.{Event, Ran, Leads, Does, Unmapping, run, not_run, Closing, stops, queues, Closes, ClosesSoFar}
 
 -- totals of two lists

@@ -11,27 +11,27 @@ use Rattle.iova_model.specs.declared.totals.Totals.{Totals}
 use Rattle.iova_model.specs.State.{State}
 use Rattle.iova_sink.specs.Calls.{Call, good_calls}
 use Rattle.iova_model.specs.Laws.{to_queue, ended_well}
-use Rattle.iova_lock.specs.Tapes.{Takes}
-use Rattle.iova_lock.specs.Views.{Told, IsBeginHeard}
-use Rattle.iova_lock.specs.Events.{Event, Ran, Short, Sank, IsShort, Leads, sink_calls, Does, Unmapping, run, not_run, UnmapFirst, tried, full, UnmapAgain, again, Unmap, once, not_begun, flushed, Flush, refused, done, failed, UnmapsWith, FlushesWith}
+use Rattle.iova_lock.specs.StepLogs.{Takes}
+use Rattle.iova_lock.specs.Views.{WhereKnown, IsBeginHeard}
+use Rattle.iova_lock.specs.Events.{Event, Ran, NotRun, Invalidated, IsShort, Leads, sink_calls, Does, Unmapping, run, not_run, UnmapFirst, tried, full, UnmapAgain, again, Unmap, once, not_begun, flushed, Flush, refused, done, failed, UnmapsWith, FlushesWith}
 
 -- what two calls of a keeper do, one after the other
-pub told_both : (a b c : Option State) (P Q R : State → State → Type 0) → Told a b P → Told b c Q → ((s m t : State) → P s m → Q m t → R s t) → Told a c R
-told_both None b c P Q R p q f = tt
-told_both (Some s) None c P Q R p q f = absurd p
-told_both (Some s) (Some m) None P Q R p q f = absurd q
-told_both (Some s) (Some m) (Some t) P Q R p q f = f s m t p q
+pub known_both : (a b c : Option State) (P Q R : State → State → Type 0) → WhereKnown a b P → WhereKnown b c Q → ((s m t : State) → P s m → Q m t → R s t) → WhereKnown a c R
+known_both None b c P Q R p q f = tt
+known_both (Some s) None c P Q R p q f = absurd p
+known_both (Some s) (Some m) None P Q R p q f = absurd q
+known_both (Some s) (Some m) (Some t) P Q R p q f = f s m t p q
 
-pub told_one : (a b : Option State) (P R : State → State → Type 0) → Told a b P → ((s t : State) → P s t → R s t) → Told a b R
-told_one None b P R p f = tt
-told_one (Some s) None P R p f = absurd p
-told_one (Some s) (Some t) P R p f = f s t p
+pub known_one : (a b : Option State) (P R : State → State → Type 0) → WhereKnown a b P → ((s t : State) → P s t → R s t) → WhereKnown a b R
+known_one None b P R p f = tt
+known_one (Some s) None P R p f = absurd p
+known_one (Some s) (Some t) P R p f = f s t p
 
 pub does_run : (st : Step) (held : Totals) (r : Reply) (s t : State) → Takes s st r t → Does (Unmapping st held r) s t
 does_run st held r s t h = record { events = Ran st r ∷ []; allowed = run r; leads = (t, h, refl) }
 
 pub does_not_run : (st : Step) (held : Totals) (s : State) → IsShort held (to_queue s st) → Does (Unmapping st held (reply.Refused refusal.NotHeld)) s s
-does_not_run st held s h = record { events = Short st held ∷ []; allowed = not_run; leads = (h, refl) }
+does_not_run st held s h = record { events = NotRun st held ∷ []; allowed = not_run; leads = (h, refl) }
 
 pub first_tried : (st : Step) (held : Totals) (r : Reply) (s t : State) → r ≢ reply.Refused refusal.RingFull → Does (Unmapping st held r) s t → Does (UnmapFirst st held (Some r) None) s t
 first_tried st held r s t other d = record { events = d.events; allowed = tried r d.events other d.allowed; leads = d.leads }
@@ -96,7 +96,7 @@ two_holds st held n ok r domain before now s m t (full begin) is l told d =
     let same : begin ≡ reply.Begun n = cc in
     let k = l.2 in
     record {
-      events = Ran st (reply.Refused refusal.RingFull) ∷ Ran step.Begin (reply.Begun n) ∷ Sank n ok ∷ d.events;
+      events = Ran st (reply.Refused refusal.RingFull) ∷ Ran step.Begin (reply.Begun n) ∷ Invalidated n ok ∷ d.events;
       allowed = (
         flushed n ok r d.events d.allowed,
         told ∙ ap (λ cs. before ++ record { domain = domain; number = n; ok = ok } ∷ cs) (sym (silent_again domain d.allowed)),
@@ -117,7 +117,7 @@ flush_refused e domain calls s t h = record { events = Ran step.Begin (reply.Ref
 pub flush_done : (n : ℕ) (end : Reply) (domain : ℕ) (before now : List Call) (s m t : State) → Takes s step.Begin (reply.Begun n) m → now ≡ before ++ record { domain = domain; number = n; ok = true } ∷ []
     → Takes m (step.End n true) end t → Does (FlushesWith (Ok n) domain before now) s t
 flush_done n end domain before now s m t h told k = record {
-  events = Ran step.Begin (reply.Begun n) ∷ Sank n true ∷ Ran (step.End n true) end ∷ [];
+  events = Ran step.Begin (reply.Begun n) ∷ Invalidated n true ∷ Ran (step.End n true) end ∷ [];
   allowed = (done n end, told);
   leads = (m, h, (t, k, refl));
 }
@@ -125,7 +125,7 @@ flush_done n end domain before now s m t h told k = record {
 pub flush_failed : (n : ℕ) (end : Reply) (domain : ℕ) (before now : List Call) (s m t : State) → Takes s step.Begin (reply.Begun n) m → now ≡ before ++ record { domain = domain; number = n; ok = false } ∷ []
     → Takes m (step.End n false) end t → Does (FlushesWith (Err refusal.SinkFault) domain before now) s t
 flush_failed n end domain before now s m t h told k = record {
-  events = Ran step.Begin (reply.Begun n) ∷ Sank n false ∷ Ran (step.End n false) end ∷ [];
+  events = Ran step.Begin (reply.Begun n) ∷ Invalidated n false ∷ Ran (step.End n false) end ∷ [];
   allowed = (failed n end, told);
   leads = (m, h, (t, k, refl));
 }
@@ -174,40 +174,40 @@ good_bound (Some r) n ok old new domain before now h told =
 
 -- The same where the keeper may tell nothing.
 
-pub told_flush_refused : (a b : Option State) (begun : Option Reply) (e : Refusal) (domain : ℕ) (calls : List Call) → begun ≡ Some (reply.Refused e)
-    → Told a b (λ s t. MatchOption begun ⊥ (λ x. Takes s step.Begin x t)) → Told a b (Does (FlushesWith (Err e) domain calls calls))
-told_flush_refused a b begun e domain calls is p =
-    told_one a b (λ s t. Takes s step.Begin (reply.Refused e) t) (Does (FlushesWith (Err e) domain calls calls)) (rw is at p) (λ s t h. flush_refused e domain calls s t h)
+pub known_flush_refused : (a b : Option State) (begun : Option Reply) (e : Refusal) (domain : ℕ) (calls : List Call) → begun ≡ Some (reply.Refused e)
+    → WhereKnown a b (λ s t. MatchOption begun ⊥ (λ x. Takes s step.Begin x t)) → WhereKnown a b (Does (FlushesWith (Err e) domain calls calls))
+known_flush_refused a b begun e domain calls is p =
+    known_one a b (λ s t. Takes s step.Begin (reply.Refused e) t) (Does (FlushesWith (Err e) domain calls calls)) (rw is at p) (λ s t h. flush_refused e domain calls s t h)
 
-pub told_flush_done : (a b c : Option State) (n : ℕ) (begun o : Option Reply) (ok : Bool) (domain : ℕ) (before now : List Call) → begun ≡ Some (reply.Begun n) → ok ≡ true
+pub known_flush_done : (a b c : Option State) (n : ℕ) (begun o : Option Reply) (ok : Bool) (domain : ℕ) (before now : List Call) → begun ≡ Some (reply.Begun n) → ok ≡ true
     → now ≡ before ++ record { domain = domain; number = n; ok = ok } ∷ []
-    → Told a b (λ s t. MatchOption begun ⊥ (λ x. Takes s step.Begin x t)) → Told b c (λ s t. MatchOption o ⊥ (λ r. Takes s (step.End n ok) r t)) → Told a c (Does (FlushesWith (Ok n) domain before now))
-told_flush_done a b c n begun o ok domain before now is well told p q =
-    told_both a b c (λ s t. Takes s step.Begin (reply.Begun n) t) (λ s t. MatchOption o ⊥ (λ r. Takes s (step.End n true) r t)) (Does (FlushesWith (Ok n) domain before now))
+    → WhereKnown a b (λ s t. MatchOption begun ⊥ (λ x. Takes s step.Begin x t)) → WhereKnown b c (λ s t. MatchOption o ⊥ (λ r. Takes s (step.End n ok) r t)) → WhereKnown a c (Does (FlushesWith (Ok n) domain before now))
+known_flush_done a b c n begun o ok domain before now is well told p q =
+    known_both a b c (λ s t. Takes s step.Begin (reply.Begun n) t) (λ s t. MatchOption o ⊥ (λ r. Takes s (step.End n true) r t)) (Does (FlushesWith (Ok n) domain before now))
     (rw is at p) (rw well at q) (λ s m t x y. flush_all_done n o domain before now s m t x (rw well at told) y)
 
-pub told_flush_failed : (a b c : Option State) (n : ℕ) (begun o : Option Reply) (ok : Bool) (domain : ℕ) (before now : List Call) → begun ≡ Some (reply.Begun n) → ok ≡ false
+pub known_flush_failed : (a b c : Option State) (n : ℕ) (begun o : Option Reply) (ok : Bool) (domain : ℕ) (before now : List Call) → begun ≡ Some (reply.Begun n) → ok ≡ false
     → now ≡ before ++ record { domain = domain; number = n; ok = ok } ∷ []
-    → Told a b (λ s t. MatchOption begun ⊥ (λ x. Takes s step.Begin x t)) → Told b c (λ s t. MatchOption o ⊥ (λ r. Takes s (step.End n ok) r t)) → Told a c (Does (FlushesWith (Err refusal.SinkFault) domain before now))
-told_flush_failed a b c n begun o ok domain before now is well told p q =
-    told_both a b c (λ s t. Takes s step.Begin (reply.Begun n) t) (λ s t. MatchOption o ⊥ (λ r. Takes s (step.End n false) r t)) (Does (FlushesWith (Err refusal.SinkFault) domain before now))
+    → WhereKnown a b (λ s t. MatchOption begun ⊥ (λ x. Takes s step.Begin x t)) → WhereKnown b c (λ s t. MatchOption o ⊥ (λ r. Takes s (step.End n ok) r t)) → WhereKnown a c (Does (FlushesWith (Err refusal.SinkFault) domain before now))
+known_flush_failed a b c n begun o ok domain before now is well told p q =
+    known_both a b c (λ s t. Takes s step.Begin (reply.Begun n) t) (λ s t. MatchOption o ⊥ (λ r. Takes s (step.End n false) r t)) (Does (FlushesWith (Err refusal.SinkFault) domain before now))
     (rw is at p) (rw well at q) (λ s m t x y. flush_all_failed n o domain before now s m t x (rw well at told) y)
 
-pub told_in_one : (a b : Option State) (st : Step) (held : Totals) (o begun : Option Reply) (r : Reply) (domain : ℕ) (calls : List Call) → o ≡ Some r → begun ≡ None
-    → Told a b (Does (UnmapFirst st held o begun)) → Told a b (Does (UnmapsWith st held r domain calls calls))
-told_in_one a b st held o begun r domain calls is none p =
-    told_one a b (Does (UnmapFirst st held o begun)) (Does (UnmapsWith st held r domain calls calls)) p (λ s t d. in_one_hold st held o begun r domain calls s t is none d)
+pub known_in_one : (a b : Option State) (st : Step) (held : Totals) (o begun : Option Reply) (r : Reply) (domain : ℕ) (calls : List Call) → o ≡ Some r → begun ≡ None
+    → WhereKnown a b (Does (UnmapFirst st held o begun)) → WhereKnown a b (Does (UnmapsWith st held r domain calls calls))
+known_in_one a b st held o begun r domain calls is none p =
+    known_one a b (Does (UnmapFirst st held o begun)) (Does (UnmapsWith st held r domain calls calls)) p (λ s t d. in_one_hold st held o begun r domain calls s t is none d)
 
-pub told_in_vain : (a b : Option State) (st : Step) (held : Totals) (o begun : Option Reply) (r : Reply) (e : Refusal) (domain : ℕ) (calls : List Call) → begun ≡ Some (reply.Refused e) → o ≡ Some r → IsBeginHeard o begun
-    → Told a b (Does (UnmapFirst st held o begun)) → Told a b (Does (UnmapsWith st held r domain calls calls))
-told_in_vain a b st held o begun r e domain calls is ends heard p =
+pub known_in_vain : (a b : Option State) (st : Step) (held : Totals) (o begun : Option Reply) (r : Reply) (e : Refusal) (domain : ℕ) (calls : List Call) → begun ≡ Some (reply.Refused e) → o ≡ Some r → IsBeginHeard o begun
+    → WhereKnown a b (Does (UnmapFirst st held o begun)) → WhereKnown a b (Does (UnmapsWith st held r domain calls calls))
+known_in_vain a b st held o begun r e domain calls is ends heard p =
     let full = rw is at heard in
     let same : r ≡ reply.Refused refusal.RingFull = let f = full.0 in cc in
-    rw same (told_one a b (Does (UnmapFirst st held o begun)) (Does (UnmapsWith st held (reply.Refused refusal.RingFull) domain calls calls)) p (λ s t d. in_vain st held o begun e domain calls s t is d))
+    rw same (known_one a b (Does (UnmapFirst st held o begun)) (Does (UnmapsWith st held (reply.Refused refusal.RingFull) domain calls calls)) p (λ s t d. in_vain st held o begun e domain calls s t is d))
 
-pub told_in_two : (a b c : Option State) (st : Step) (held : Totals) (n : ℕ) (ok : Bool) (o begun last : Option Reply) (r : Reply) (domain : ℕ) (before now : List Call) → begun ≡ Some (reply.Begun n) → last ≡ Some r
+pub known_in_two : (a b c : Option State) (st : Step) (held : Totals) (n : ℕ) (ok : Bool) (o begun last : Option Reply) (r : Reply) (domain : ℕ) (before now : List Call) → begun ≡ Some (reply.Begun n) → last ≡ Some r
     → now ≡ before ++ record { domain = domain; number = n; ok = ok } ∷ []
-    → Told a b (Does (UnmapFirst st held o begun)) → Told b c (Does (UnmapAgain st held n ok last)) → Told a c (Does (UnmapsWith st held r domain before now))
-told_in_two a b c st held n ok o begun last r domain before now is ends told p q =
-    told_both a b c (Does (UnmapFirst st held o begun)) (Does (UnmapAgain st held n ok (Some r))) (Does (UnmapsWith st held r domain before now))
+    → WhereKnown a b (Does (UnmapFirst st held o begun)) → WhereKnown b c (Does (UnmapAgain st held n ok last)) → WhereKnown a c (Does (UnmapsWith st held r domain before now))
+known_in_two a b c st held n ok o begun last r domain before now is ends told p q =
+    known_both a b c (Does (UnmapFirst st held o begun)) (Does (UnmapAgain st held n ok (Some r))) (Does (UnmapsWith st held r domain before now))
     p (rw ends at q) (λ s m t x y. in_two_holds st held n ok o begun r domain before now s m t is told x y)

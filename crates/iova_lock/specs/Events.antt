@@ -13,15 +13,15 @@ use Rattle.iova_model.specs.State.{State}
 use Rattle.iova_model.specs.Laws.{add_totals}
 use Rattle.iova_sink.specs.Calls.{Call}
 use Rattle.iova_model.specs.Laws.{to_queue}
-use Rattle.iova_lock.specs.Tapes.{Takes}
-use Rattle.iova_lock.specs.Views.{Place, Lacks}
+use Rattle.iova_lock.specs.StepLogs.{Takes}
+use Rattle.iova_lock.specs.Views.{SeatState, Lacks}
 
 -- What happens in a call: a step is run and answered; a step is not run, since the seat has these totals and the range that
 -- would be queued is more; the sink is told of a flush, and answers.
 pub data Event : Type 0 where
   Ran : Step → Reply → Event
-  Short : Step → Totals → Event
-  Sank : ℕ → Bool → Event
+  NotRun : Step → Totals → Event
+  Invalidated : ℕ → Bool → Event
 
 -- a step would queue a range that is more than this
 abbrev pub IsShort : Totals → Option Frames → Type 0
@@ -31,15 +31,15 @@ IsShort held queues = (r : Frames) × (queues ≡ Some r) × Lacks held r
 abbrev pub Leads : State → List Event → State → Type 0
 Leads s [] t = t ≡ s
 Leads s (Ran st r ∷ es) t = (mid : State) × Takes s st r mid × Leads mid es t
-Leads s (Short st held ∷ es) t = IsShort held (to_queue s st) × Leads s es t
-Leads s (Sank n ok ∷ es) t = Leads s es t
+Leads s (NotRun st held ∷ es) t = IsShort held (to_queue s st) × Leads s es t
+Leads s (Invalidated n ok ∷ es) t = Leads s es t
 
 -- the calls that a sink of this domain was made
 abbrev pub sink_calls : ℕ → List Event → List Call
 sink_calls domain [] = []
 sink_calls domain (Ran st r ∷ es) = sink_calls domain es
-sink_calls domain (Short st held ∷ es) = sink_calls domain es
-sink_calls domain (Sank n ok ∷ es) = record { domain = domain; number = n; ok = ok } ∷ sink_calls domain es
+sink_calls domain (NotRun st held ∷ es) = sink_calls domain es
+sink_calls domain (Invalidated n ok ∷ es) = record { domain = domain; number = n; ok = ok } ∷ sink_calls domain es
 
 -- A call does what is allowed of it.
 pub record Does (Allowed : List Event → Type 0) (s t : State) : Type 0 where
@@ -54,7 +54,7 @@ Runs st r es = es ≡ Ran st r ∷ []
 -- an unmap or a step of a closing at a seat: it is run; or it is not, and heard as refused by NotHeld
 pub data Unmapping (st : Step) (held : Totals) : Reply → List Event → Type 0 where
   run : (r : Reply) → Unmapping st held r (Ran st r ∷ [])
-  not_run : Unmapping st held (reply.Refused refusal.NotHeld) (Short st held ∷ [])
+  not_run : Unmapping st held (reply.Refused refusal.NotHeld) (NotRun st held ∷ [])
 
 -- The first hold of an unmap: where the ring is full, a flush begins in it.
 pub data UnmapFirst (st : Step) (held : Totals) : Option Reply → Option Reply → List Event → Type 0 where
@@ -70,13 +70,13 @@ pub data Unmap (st : Step) (held : Totals) : Reply → List Event → Type 0 whe
   once : (r : Reply) (es : List Event) → UnmapFirst st held (Some r) None es → Unmap st held r es
   not_begun : (e : Refusal) → Unmap st held (reply.Refused refusal.RingFull) (Ran st (reply.Refused refusal.RingFull) ∷ Ran step.Begin (reply.Refused e) ∷ [])
   flushed : (n : ℕ) (ok : Bool) (r : Reply) (es : List Event) → UnmapAgain st held n ok (Some r) es
-      → Unmap st held r (Ran st (reply.Refused refusal.RingFull) ∷ Ran step.Begin (reply.Begun n) ∷ Sank n ok ∷ es)
+      → Unmap st held r (Ran st (reply.Refused refusal.RingFull) ∷ Ran step.Begin (reply.Begun n) ∷ Invalidated n ok ∷ es)
 
 -- A flush: it begins, the sink is told, and it ends as the sink answered.
 pub data Flush : Result ℕ Refusal → List Event → Type 0 where
   refused : (e : Refusal) → Flush (Err e) (Ran step.Begin (reply.Refused e) ∷ [])
-  done : (n : ℕ) (end : Reply) → Flush (Ok n) (Ran step.Begin (reply.Begun n) ∷ Sank n true ∷ Ran (step.End n true) end ∷ [])
-  failed : (n : ℕ) (end : Reply) → Flush (Err refusal.SinkFault) (Ran step.Begin (reply.Begun n) ∷ Sank n false ∷ Ran (step.End n false) end ∷ [])
+  done : (n : ℕ) (end : Reply) → Flush (Ok n) (Ran step.Begin (reply.Begun n) ∷ Invalidated n true ∷ Ran (step.End n true) end ∷ [])
+  failed : (n : ℕ) (end : Reply) → Flush (Err refusal.SinkFault) (Ran step.Begin (reply.Begun n) ∷ Invalidated n false ∷ Ran (step.End n false) end ∷ [])
 
 -- the same, with the calls of the sink
 abbrev pub UnmapsWith : Step → Totals → Reply → ℕ → List Call → List Call → List Event → Type 0

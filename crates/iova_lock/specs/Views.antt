@@ -13,37 +13,37 @@ use Rattle.iova_model.specs.Clients.{Client, client_with, totals_of}
 use Rattle.iova_model.specs.State.{State}
 use Rattle.iova_model.specs.Laws.{MovesTotals}
 use Rattle.iova_model.specs.Laws.{IsAmong, IsReplyTo}
-use Rattle.iova_lock.specs.Tapes.{Tape}
+use Rattle.iova_lock.specs.StepLogs.{StepLog}
 
--- a book: its domain's number, whether it is strict, its domain, and its tape
-pub record Account : Type 0 where
+-- a book: its domain's number, whether it is strict, its domain, and its log
+pub record BookState : Type 0 where
   pub number : ℕ
   pub strict : Bool
   pub state : State
-  pub tape : Option Tape
+  pub log : Option StepLog
 
 -- a tally: the flushes that it ended well, and its parts
-pub record Part : Type 0 where
+pub record TallyState : Type 0 where
   pub good : ℕ
   pub parts : ℕ
 
 -- a seat: its worker, its shares, and its tally
-pub record Place : Type 0 where
+pub record SeatState : Type 0 where
   pub worker : ℕ
   pub held : Totals
-  pub tally : Part
+  pub tally : TallyState
 
 abbrev pub nothing : Totals
 nothing = totals_of []
 
 -- a worker's new seat
-abbrev pub vacant : ℕ → Place
-vacant worker = record { worker = worker; held = record { count = 0; frames = 0; sum_lo = 0 }; tally = record { good = 0; parts = 256 } }
+abbrev pub new_seat : ℕ → SeatState
+new_seat worker = record { worker = worker; held = record { count = 0; frames = 0; sum_lo = 0 }; tally = record { good = 0; parts = 256 } }
 
 -- the new seats of the workers below a number
-abbrev pub fresh : ℕ → List Place
-fresh zero = []
-fresh (suc n) = fresh n ++ vacant n ∷ []
+abbrev pub new_seats : ℕ → List SeatState
+new_seats zero = []
+new_seats (suc n) = new_seats n ++ new_seat n ∷ []
 
 -- a seat has less than a range, in one of its shares
 abbrev pub Lacks : Totals → Frames → Type 0
@@ -62,7 +62,7 @@ abbrev pub left_of : ℕ → State → ℕ
 left_of id s = left_in (client_with id s.clients)
 
 -- a book keeps its number, and whether it is strict
-abbrev pub IsSame : Account → Account → Type 0
+abbrev pub IsSame : BookState → BookState → Type 0
 IsSame old new = (new.number ≡ old.number) × (new.strict ≡ old.strict)
 
 -- the steps of a seat, and those of a tally
@@ -111,9 +111,9 @@ IsBeginHeard o None = Unit {0}
 IsBeginHeard o (Some b) = (o ≡ Some (reply.Refused refusal.RingFull)) × IsReplyTo step.Begin b
 
 -- what a keeper that tells its domain says of a call: it tells it before and after, and they stand so
-abbrev pub Told : Option State → Option State → (State → State → Type 0) → Type 0
-Told None after P = Unit {0}
-Told (Some s) after P = MatchOption after ⊥ (λ t. P s t)
+abbrev pub WhereKnown : Option State → Option State → (State → State → Type 0) → Type 0
+WhereKnown None after P = Unit {0}
+WhereKnown (Some s) after P = MatchOption after ⊥ (λ t. P s t)
 
 -- a seat's shares move as its last reply says
 abbrev pub MovesHeard : Option Reply → Totals → Totals → Type 0
@@ -127,17 +127,17 @@ queued_by r = nothing
 
 -- Seats that are gathered.
 
-abbrev pub has_seat : ℕ → List Place → Bool
+abbrev pub has_seat : ℕ → List SeatState → Bool
 has_seat worker seats = list_any (λ s. s.worker == worker) seats
 
-abbrev pub have_seats : ℕ → List Place → Bool
+abbrev pub have_seats : ℕ → List SeatState → Bool
 have_seats zero seats = true
 have_seats (suc n) seats = have_seats n seats && has_seat n seats
 
 -- as many seats as workers, and one of each
-abbrev pub is_each_once : ℕ → List Place → Bool
+abbrev pub is_each_once : ℕ → List SeatState → Bool
 is_each_once workers seats = (length seats == workers) && have_seats workers seats
 
 -- the sums of their shares
-abbrev pub held_sum : List Place → Totals
+abbrev pub held_sum : List SeatState → Totals
 held_sum seats = record { count = sum_by (λ s. s.held.count) seats; frames = sum_by (λ s. s.held.frames) seats; sum_lo = sum_by (λ s. s.held.sum_lo) seats }

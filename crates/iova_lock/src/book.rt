@@ -5,9 +5,9 @@ ghost use Rattle.iova_model.specs.Clients.{totals, totals_of};
 ghost use Rattle.iova_model.specs.State.{State, new_domain};
 ghost use Rattle.iova_model.specs.Laws.{MovesTotals};
 ghost use Rattle.iova_model.specs.Laws.{IsReplyTo, ended_well, to_queue};
-ghost use Rattle.iova_lock.specs.Tapes.{Takes, Tape, IsGivenWithin, IsRecorded, is_recording};
+ghost use Rattle.iova_lock.specs.StepLogs.{Takes, StepLog, IsGivenWithin, IsRecorded, is_recording};
 ghost use Rattle.iova_lock.specs.Events.{Does, Unmapping, IsShort, Closes};
-ghost use Rattle.iova_lock.specs.Views.{Account, Part, Place, Covers, IsSame, by_seat, by_tally, fresh, left_of};
+ghost use Rattle.iova_lock.specs.Views.{BookState, TallyState, SeatState, Covers, IsSame, by_seat, by_tally, new_seats, left_of};
 
 use crate::machine::{Machine, Stored};
 use crate::seat::{Seat, Tally};
@@ -37,11 +37,11 @@ pub struct Book<C: Ledger, F: Ledger, S: Ledger, G: Ledger> {
 impl<C: Ledger, F: Ledger, S: Ledger, G: Ledger> Model for Book<C, F, S, G> {
     ghost use Rattle.std.specs.Prelude.{◌≡◌};
     ghost use Rattle.iova_model.specs.Clients.{totals};
-    ghost use Rattle.iova_lock.specs.Views.{Account};
+    ghost use Rattle.iova_lock.specs.Views.{BookState};
 
-    ghost Value = { Account };
+    ghost Value = { BookState };
 
-    ghost view = { λ b. record { number = b.number; strict = b.strict; state = b.machine.state; tape = b.machine.tape } };
+    ghost view = { λ b. record { number = b.number; strict = b.strict; state = b.machine.state; log = b.machine.log } };
 
     ghost invariant = { λ b. (b.count.total ≡ (totals b.machine.state.clients).count) × (b.frames.total ≡ (totals b.machine.state.clients).frames) × (b.sum_lo.total ≡ (totals b.machine.state.clients).sum_lo) × (b.good.total ≡ b.machine.state.flushes.good) };
 }
@@ -62,7 +62,7 @@ impl<C: Ledger, F: Ledger, S: Ledger, G: Ledger> Book<C, F, S, G> {
         requires frames { 1 ≤ workers → workers ≤ 16 → (frames.name ≡ F.name) × (frames.parts ≡ F.parts) × (frames.parts ≡ workers) }
         requires sum_lo { 1 ≤ workers → workers ≤ 16 → (sum_lo.name ≡ S.name) × (sum_lo.parts ≡ S.parts) × (sum_lo.parts ≡ workers) }
         requires good { 1 ≤ workers → workers ≤ 16 → (good.name ≡ G.name) × (good.parts ≡ G.parts) × (good.parts ≡ 256 * workers) }
-        ensures ok { IfOk result (λ r. (r.0 ≡ record { number = number; strict = false; state = new_domain bounds workers; tape = None }) × (r.1.items ≡ fresh workers)) }
+        ensures ok { IfOk result (λ r. (r.0 ≡ record { number = number; strict = false; state = new_domain bounds workers; log = None }) × (r.1.items ≡ new_seats workers)) }
         ensures workers { (result ≡ Err Refusal.NoWorker) ↔ ((workers ≡ 0) ⊎ (17 ≤ workers)) }
         ensures memory { IsErr result → (result ≡ Err Refusal.NoWorker) ⊎ (result ≡ Err Refusal.NoMemory) }
     {
@@ -100,7 +100,7 @@ impl<C: Ledger, F: Ledger, S: Ledger, G: Ledger> Book<C, F, S, G> {
         requires frames { 1 ≤ workers → workers ≤ 16 → (frames.name ≡ F.name) × (frames.parts ≡ F.parts) × (frames.parts ≡ workers) }
         requires sum_lo { 1 ≤ workers → workers ≤ 16 → (sum_lo.name ≡ S.name) × (sum_lo.parts ≡ S.parts) × (sum_lo.parts ≡ workers) }
         requires good { 1 ≤ workers → workers ≤ 16 → (good.name ≡ G.name) × (good.parts ≡ G.parts) × (good.parts ≡ 256 * workers) }
-        ensures ok { IfOk result (λ r. (r.0 ≡ record { number = number; strict = false; state = new_domain bounds workers; tape = Some (record { recording = true; pairs = [] }) }) × (r.1.items ≡ fresh workers)) }
+        ensures ok { IfOk result (λ r. (r.0 ≡ record { number = number; strict = false; state = new_domain bounds workers; log = Some (record { recording = true; pairs = [] }) }) × (r.1.items ≡ new_seats workers)) }
         ensures workers { (result ≡ Err Refusal.NoWorker) ↔ ((workers ≡ 0) ⊎ (17 ≤ workers)) }
         ensures memory { IsErr result → (result ≡ Err Refusal.NoWorker) ⊎ (result ≡ Err Refusal.NoMemory) }
     {
@@ -134,15 +134,15 @@ impl<C: Ledger, F: Ledger, S: Ledger, G: Ledger> Book<C, F, S, G> {
     /// Whether steps are still recorded. While they are, the recorded pairs are a transcript from the new domain that
     /// leaves this one.
     pub fn recording(&self) -> bool
-        ensures { result ≡ is_recording self.now.tape }
+        ensures { result ≡ is_recording self.now.log }
     {
         self.machine.recording()
     }
 
     /// The pairs that were recorded.
     pub fn pairs(&self) -> Option<&[Stored]>
-        ensures is { option_copied result ≡ option_map (λ t. t.pairs) self.now.tape }
-        ensures recorded { IsRecorded self.now.tape self.now.state }
+        ensures is { option_copied result ≡ option_map (λ t. t.pairs) self.now.log }
+        ensures recorded { IsRecorded self.now.log self.now.state }
     {
         self.machine.pairs()
     }
@@ -326,7 +326,7 @@ fn seats<C: Ledger, F: Ledger, S: Ledger, G: Ledger>(
     requires sum_lo { (sum_lo.name ≡ S.name) × (sum_lo.parts ≡ S.parts) × (sum_lo.parts ≡ workers) }
     requires good { (good.name ≡ G.name) × (good.parts ≡ G.parts) × (good.parts ≡ 256 * workers) }
     requires workers { workers ≤ 16 }
-    ensures ok { IfOk result (λ r. (r.0.items ≡ fresh workers) × (r.1.total ≡ 0) × (r.2.total ≡ 0) × (r.3.total ≡ 0) × (r.4.total ≡ 0)) }
+    ensures ok { IfOk result (λ r. (r.0.items ≡ new_seats workers) × (r.1.total ≡ 0) × (r.2.total ≡ 0) × (r.3.total ≡ 0) × (r.4.total ≡ 0)) }
     ensures err { IsErr result → result ≡ Err Refusal.NoMemory }
 {
     let (count, mut counted) = count.open::<C>();

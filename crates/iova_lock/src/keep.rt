@@ -5,8 +5,8 @@ ghost use Rattle.iova_model.specs.Clients.{totals};
 ghost use Rattle.iova_model.specs.State.{State};
 ghost use Rattle.iova_model.specs.Laws.{MovesTotals};
 ghost use Rattle.iova_model.specs.Laws.{IsReplyTo, ended_well};
-ghost use Rattle.iova_lock.specs.Tapes.{Takes};
-ghost use Rattle.iova_lock.specs.Views.{Account, Part, Place, Told, opened_or, given_or, IsUnmapHeard, IsBeginHeard, MovesHeard, left_of, queued_by};
+ghost use Rattle.iova_lock.specs.StepLogs.{Takes};
+ghost use Rattle.iova_lock.specs.Views.{BookState, TallyState, SeatState, WhereKnown, opened_or, given_or, IsUnmapHeard, IsBeginHeard, MovesHeard, left_of, queued_by};
 ghost use Rattle.iova_lock.specs.Batches.{Batched, Adds};
 ghost use Rattle.iova_lock.specs.Events.{Does, UnmapFirst, UnmapAgain};
 
@@ -36,17 +36,17 @@ pub struct Heard {
 /// A keeper of a domain. Each call but `number` is one hold.
 pub trait Keep<C: Ledger, F: Ledger, S: Ledger, G: Ledger> {
     /// The domain, where that is known.
-    ghost told: { Self → Option State };
+    ghost domain: { Self → Option State };
 
     /// The domain's number.
-    ghost named: { Self → ℕ };
+    ghost domain_number: { Self → ℕ };
 
     fn number(&self) -> u64
-        ensures { result ≡ named self.now };
+        ensures { result ≡ domain_number self.now };
 
     fn open(&mut self, seat: &mut Seat<C, F, S, G>, sac: bool) -> Result<ClientId, Refusal>
-        ensures named { named self.new ≡ named self.old }
-        ensures told { Told (told self.old) (told self.new) (λ s t. Takes s (Step.Open seat.old.worker sac) (opened_or result) t) }
+        ensures number { domain_number self.new ≡ domain_number self.old }
+        ensures domain { WhereKnown (domain self.old) (domain self.new) (λ s t. Takes s (Step.Open seat.old.worker sac) (opened_or result) t) }
         ensures seat { seat.new ≡ seat.old };
 
     fn alloc(
@@ -56,17 +56,17 @@ pub trait Keep<C: Ledger, F: Ledger, S: Ledger, G: Ledger> {
         frames: u64,
         limit: u64,
     ) -> Result<Range, Refusal>
-        ensures named { named self.new ≡ named self.old }
-        ensures told { Told (told self.old) (told self.new) (λ s t. Takes s (Step.Alloc seat.old.worker id frames limit) (given_or result) t) }
+        ensures number { domain_number self.new ≡ domain_number self.old }
+        ensures domain { WhereKnown (domain self.old) (domain self.new) (λ s t. Takes s (Step.Alloc seat.old.worker id frames limit) (given_or result) t) }
         ensures seat { MovesTotals (given_or result) seat.old.held seat.new.held }
         ensures rest { (seat.new.worker ≡ seat.old.worker) × (seat.new.tally ≡ seat.old.tally) }
         ensures given { IfOk result (λ r. (r.len ≡ need frames) × (r.lo % align_of r.len ≡ 0) × (r.lo + r.len ≤ limit + 1)) };
 
     /// An unmap; where the ring is full, a begin in the same hold.
     fn unmap_first(&mut self, seat: &mut Seat<C, F, S, G>, id: ClientId, lo: u64) -> Heard
-        ensures named { named self.new ≡ named self.old }
-        ensures told { Told (told self.old) (told self.new) (Does (UnmapFirst (Step.Unmap seat.old.worker id lo) seat.old.held result.reply result.begun)) }
-        ensures left { Told (told self.old) (told self.new) (λ s t. result.left ≡ left_of id t) }
+        ensures number { domain_number self.new ≡ domain_number self.old }
+        ensures domain { WhereKnown (domain self.old) (domain self.new) (Does (UnmapFirst (Step.Unmap seat.old.worker id lo) seat.old.held result.reply result.begun)) }
+        ensures left { WhereKnown (domain self.old) (domain self.new) (λ s t. result.left ≡ left_of id t) }
         ensures seat { MovesHeard result.reply seat.old.held seat.new.held }
         ensures rest { (seat.new.worker ≡ seat.old.worker) × (seat.new.tally ≡ seat.old.tally) }
         ensures heard { IsUnmapHeard lo result.reply }
@@ -82,9 +82,9 @@ pub trait Keep<C: Ledger, F: Ledger, S: Ledger, G: Ledger> {
         no: u64,
         ok: bool,
     ) -> Heard
-        ensures named { named self.new ≡ named self.old }
-        ensures told { Told (told self.old) (told self.new) (Does (UnmapAgain (Step.Unmap seat.old.worker id lo) seat.old.held no ok result.reply)) }
-        ensures left { Told (told self.old) (told self.new) (λ s t. result.left ≡ left_of id t) }
+        ensures number { domain_number self.new ≡ domain_number self.old }
+        ensures domain { WhereKnown (domain self.old) (domain self.new) (Does (UnmapAgain (Step.Unmap seat.old.worker id lo) seat.old.held no ok result.reply)) }
+        ensures left { WhereKnown (domain self.old) (domain self.new) (λ s t. result.left ≡ left_of id t) }
         ensures seat { MovesHeard result.reply seat.old.held seat.new.held }
         ensures worker { seat.new.worker ≡ seat.old.worker }
         ensures good { (seat.old.tally.good ≤ seat.new.tally.good) × (seat.new.tally.good ≤ seat.old.tally.good + (if ok then 1 else 0)) }
@@ -93,14 +93,14 @@ pub trait Keep<C: Ledger, F: Ledger, S: Ledger, G: Ledger> {
         ensures queued { MatchOption result.reply ⊥ (λ r. result.queued ≡ queued_by r) };
 
     fn begin(&mut self, tally: &mut Tally<G>) -> Heard
-        ensures named { named self.new ≡ named self.old }
-        ensures told { Told (told self.old) (told self.new) (λ s t. MatchOption result.begun ⊥ (λ b. Takes s Step.Begin b t)) }
+        ensures number { domain_number self.new ≡ domain_number self.old }
+        ensures domain { WhereKnown (domain self.old) (domain self.new) (λ s t. MatchOption result.begun ⊥ (λ b. Takes s Step.Begin b t)) }
         ensures tally { tally.new ≡ tally.old }
         ensures heard { MatchOption result.begun ⊥ (λ b. IsReplyTo Step.Begin b) };
 
     fn end(&mut self, tally: &mut Tally<G>, no: u64, ok: bool) -> Heard
-        ensures named { named self.new ≡ named self.old }
-        ensures told { Told (told self.old) (told self.new) (λ s t. MatchOption result.reply ⊥ (λ r. Takes s (Step.End no ok) r t)) }
+        ensures number { domain_number self.new ≡ domain_number self.old }
+        ensures domain { WhereKnown (domain self.old) (domain self.new) (λ s t. MatchOption result.reply ⊥ (λ r. Takes s (Step.End no ok) r t)) }
         ensures good { MatchOption result.reply ⊥ (λ r. tally.new.good ≡ tally.old.good + ended_well (Step.End no ok) r) }
         ensures parts { tally.new.parts ≡ tally.old.parts };
 
@@ -114,15 +114,15 @@ pub trait Keep<C: Ledger, F: Ledger, S: Ledger, G: Ledger> {
         replies: &mut Vec<Reply>,
     ) -> Result<usize, Refusal>
         requires { length asks.now ≤ 16 }
-        ensures named { named self.new ≡ named self.old }
-        ensures told { Told (told self.old) (told self.new) (λ s t. MatchResult result (λ n. Batched seat.old.worker id asks.now replies.old.items replies.new.items n s t seat.old.held seat.new.held) (λ e. t ≡ s)) }
+        ensures number { domain_number self.new ≡ domain_number self.old }
+        ensures domain { WhereKnown (domain self.old) (domain self.new) (λ s t. MatchResult result (λ n. Batched seat.old.worker id asks.now replies.old.items replies.new.items n s t seat.old.held seat.new.held) (λ e. t ≡ s)) }
         ensures seat { MatchResult result (λ n. Adds replies.old.items replies.new.items n seat.old.held seat.new.held) (λ e. (e ≡ Refusal.NoMemory) × (replies.new.items ≡ replies.old.items) × (seat.new ≡ seat.old)) }
         ensures rest { (seat.new.worker ≡ seat.old.worker) × (seat.new.tally ≡ seat.old.tally) };
 
     /// The count, frames and sum of first frames of all that is held.
     fn totals(&mut self) -> Totals
-        ensures named { named self.new ≡ named self.old }
-        ensures told { Told (told self.old) (told self.new) (λ s t. (t ≡ s) × (result ≡ totals s.clients)) };
+        ensures number { domain_number self.new ≡ domain_number self.old }
+        ensures domain { WhereKnown (domain self.old) (domain self.new) (λ s t. (t ≡ s) × (result ≡ totals s.clients)) };
 }
 
 /// What an unmap with this reply queued.
@@ -150,9 +150,9 @@ fn is_full(reply: &Reply) -> bool
 }
 
 impl<C: Ledger, F: Ledger, S: Ledger, G: Ledger> Keep<C, F, S, G> for Book<C, F, S, G> {
-    ghost told = { λ b. Some b.state };
+    ghost domain = { λ b. Some b.state };
 
-    ghost named = { λ b. b.number };
+    ghost domain_number = { λ b. b.number };
 
     fn number(&self) -> u64 {
         self.number_of()

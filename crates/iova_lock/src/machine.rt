@@ -6,7 +6,7 @@ ghost use Rattle.iova_model.specs.State.{State, new_domain};
 ghost use Rattle.iova_model.specs.Laws.{MovesTotals};
 ghost use Rattle.iova_model.specs.Transcript.{Pair};
 ghost use Rattle.iova_model.specs.Laws.{IsReplyTo, ended_well, to_queue};
-ghost use Rattle.iova_lock.specs.Tapes.{Takes, Tape, Recorded, IsGivenWithin, IsRecorded, is_recording};
+ghost use Rattle.iova_lock.specs.StepLogs.{Takes, StepLog, MachineState, IsGivenWithin, IsRecorded, is_recording};
 ghost use Rattle.iova_lock.specs.Views.{left_of};
 
 use iova_core::domain::Domain;
@@ -50,9 +50,9 @@ pub(crate) struct Log {
 }
 
 impl Model for Log {
-    ghost use Rattle.iova_lock.specs.Tapes.{Tape};
+    ghost use Rattle.iova_lock.specs.StepLogs.{StepLog};
 
-    ghost Value = { Tape };
+    ghost Value = { StepLog };
 
     ghost view = { λ l. record { recording = l.recording; pairs = l.pairs.items } };
 }
@@ -80,11 +80,11 @@ pub(crate) struct Machine {
 }
 
 impl Model for Machine {
-    ghost use Rattle.iova_lock.specs.Tapes.{Recorded, IsRecorded};
+    ghost use Rattle.iova_lock.specs.StepLogs.{MachineState, IsRecorded};
 
-    ghost Value = { Recorded };
+    ghost Value = { MachineState };
 
-    ghost view = { λ m. record { state = m.domain; tape = m.log } };
+    ghost view = { λ m. record { state = m.domain; log = m.log } };
 
     ghost invariant = { λ m. IsRecorded m.log m.domain };
 }
@@ -92,7 +92,7 @@ impl Model for Machine {
 impl Machine {
     /// A new domain, which is recorded where there is a log.
     pub(crate) fn new(alloc: Global, bounds: Bounds, workers: u64) -> Result<Machine, Refusal>
-        ensures ok { IfOk result (λ m. m ≡ record { state = new_domain bounds workers; tape = None }) }
+        ensures ok { IfOk result (λ m. m ≡ record { state = new_domain bounds workers; log = None }) }
         ensures workers { (result ≡ Err Refusal.NoWorker) ↔ ((workers ≡ 0) ⊎ (17 ≤ workers)) }
         ensures memory { IsErr result → (result ≡ Err Refusal.NoWorker) ⊎ (result ≡ Err Refusal.NoMemory) }
     {
@@ -109,7 +109,7 @@ impl Machine {
         workers: u64,
         pairs: usize,
     ) -> Result<Machine, Refusal>
-        ensures ok { IfOk result (λ m. m ≡ record { state = new_domain bounds workers; tape = Some (record { recording = true; pairs = [] }) }) }
+        ensures ok { IfOk result (λ m. m ≡ record { state = new_domain bounds workers; log = Some (record { recording = true; pairs = [] }) }) }
         ensures workers { (result ≡ Err Refusal.NoWorker) ↔ ((workers ≡ 0) ⊎ (17 ≤ workers)) }
         ensures memory { IsErr result → (result ≡ Err Refusal.NoWorker) ⊎ (result ≡ Err Refusal.NoMemory) }
     {
@@ -184,7 +184,7 @@ impl Machine {
 
     /// Whether steps are still recorded.
     pub(crate) fn recording(&self) -> bool
-        ensures { result ≡ is_recording self.now.tape }
+        ensures { result ≡ is_recording self.now.log }
     {
         match &self.log {
             Some(log) => log.recording,
@@ -194,8 +194,8 @@ impl Machine {
 
     /// The pairs that were recorded.
     pub(crate) fn pairs(&self) -> Option<&[Stored]>
-        ensures is { option_copied result ≡ option_map (λ t. t.pairs) self.now.tape }
-        ensures recorded { IsRecorded self.now.tape self.now.state }
+        ensures is { option_copied result ≡ option_map (λ t. t.pairs) self.now.log }
+        ensures recorded { IsRecorded self.now.log self.now.state }
     {
         match &self.log {
             Some(log) => Some(log.pairs.as_slice()),
@@ -220,7 +220,7 @@ fn pair_of(step: Step, point: Point, reply: Reply) -> Stored
 /// Stores a pair where there is a log.
 fn store(log: &mut Option<Log>, pair: Stored)
     ensures none { log.old ≡ None → log.new ≡ None }
-    ensures some { (tape : Tape) → log.old ≡ Some tape → (log.new ≡ Some (record { recording = false; pairs = tape.pairs })) ⊎ ((tape.recording ≡ true) × (log.new ≡ Some (record { recording = true; pairs = tape.pairs ++ pair ∷ [] }))) }
+    ensures some { (kept : StepLog) → log.old ≡ Some kept → (log.new ≡ Some (record { recording = false; pairs = kept.pairs })) ⊎ ((kept.recording ≡ true) × (log.new ≡ Some (record { recording = true; pairs = kept.pairs ++ pair ∷ [] }))) }
 {
     if let Some(log) = log {
         log.store(pair);

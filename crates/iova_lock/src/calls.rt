@@ -3,7 +3,7 @@ ghost use Rattle.std.specs.Prelude.{◌≡◌, ℕ, ◌+◌, ◌≤◌, ◌++◌
 ghost use Rattle.iova_model.specs.Laws.{MovesTotals};
 ghost use Rattle.iova_model.specs.Laws.{IsReplyTo};
 ghost use Rattle.iova_sink.specs.Calls.{Call, good_calls};
-ghost use Rattle.iova_lock.specs.Views.{Part, Place, Account, Told, queued_or, begun_or, IsUnmapRefusal, IsUnmapHeard};
+ghost use Rattle.iova_lock.specs.Views.{TallyState, SeatState, BookState, WhereKnown, queued_or, begun_or, IsUnmapRefusal, IsUnmapHeard};
 ghost use Rattle.iova_lock.specs.Events.{Event, Does, Unmap, UnmapsWith, FlushesWith};
 
 use crate::keep::{Heard, Keep};
@@ -20,12 +20,12 @@ pub fn flush<C: Ledger, F: Ledger, S: Ledger, G: Ledger, K: Keep<C, F, S, G>, D:
     tally: &mut Tally<G>,
     sink: &mut D,
 ) -> Result<u64, Refusal>
-    ensures told { Told (K.told keeper.old) (K.told keeper.new) (Does (FlushesWith result (K.named keeper.old) (D.calls sink.old) (D.calls sink.new))) }
-    ensures sunk { IfOk result (λ no. D.calls sink.new ≡ D.calls sink.old ++ record { domain = K.named keeper.old; number = no; ok = true } ∷ []) }
-    ensures fault { result ≡ Err Refusal.SinkFault → (no : ℕ) × (D.calls sink.new ≡ D.calls sink.old ++ record { domain = K.named keeper.old; number = no; ok = false } ∷ []) }
+    ensures domain { WhereKnown (K.domain keeper.old) (K.domain keeper.new) (Does (FlushesWith result (K.domain_number keeper.old) (D.calls sink.old) (D.calls sink.new))) }
+    ensures sunk { IfOk result (λ no. D.calls sink.new ≡ D.calls sink.old ++ record { domain = K.domain_number keeper.old; number = no; ok = true } ∷ []) }
+    ensures fault { result ≡ Err Refusal.SinkFault → (no : ℕ) × (D.calls sink.new ≡ D.calls sink.old ++ record { domain = K.domain_number keeper.old; number = no; ok = false } ∷ []) }
     ensures tally { tally.new.good + good_calls (D.calls sink.old) ≤ tally.old.good + good_calls (D.calls sink.new) }
     ensures parts { tally.new.parts ≡ tally.old.parts }
-    ensures named { K.named keeper.new ≡ K.named keeper.old }
+    ensures number { K.domain_number keeper.new ≡ K.domain_number keeper.old }
 {
     let Heard {
         reply: _,
@@ -53,13 +53,13 @@ pub fn unmap<C: Ledger, F: Ledger, S: Ledger, G: Ledger, K: Keep<C, F, S, G>, D:
     id: ClientId,
     lo: u64,
 ) -> Result<Range, Refusal>
-    ensures told { Told (K.told keeper.old) (K.told keeper.new) (Does (UnmapsWith (Step.Unmap seat.old.worker id lo) seat.old.held (queued_or result) (K.named keeper.old) (D.calls sink.old) (D.calls sink.new))) }
+    ensures domain { WhereKnown (K.domain keeper.old) (K.domain keeper.new) (Does (UnmapsWith (Step.Unmap seat.old.worker id lo) seat.old.held (queued_or result) (K.domain_number keeper.old) (D.calls sink.old) (D.calls sink.new))) }
     ensures answer { MatchResult result (λ r. r.lo ≡ lo) IsUnmapRefusal }
     ensures seat { MovesTotals (queued_or result) seat.old.held seat.new.held }
     ensures worker { seat.new.worker ≡ seat.old.worker }
     ensures tally { seat.new.tally.good + good_calls (D.calls sink.old) ≤ seat.old.tally.good + good_calls (D.calls sink.new) }
     ensures parts { seat.new.tally.parts ≡ seat.old.tally.parts }
-    ensures named { K.named keeper.new ≡ K.named keeper.old }
+    ensures number { K.domain_number keeper.new ≡ K.domain_number keeper.old }
 {
     let Heard {
         reply,
