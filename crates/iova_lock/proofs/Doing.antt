@@ -13,7 +13,8 @@ use Rattle.iova_sink.specs.Calls.{Call, good_calls}
 use Rattle.iova_model.specs.Laws.{to_queue, ended_well}
 use Rattle.iova_lock.specs.StepLogs.{Takes}
 use Rattle.iova_lock.specs.Views.{WhereKnown, IsBeginHeard}
-use Rattle.iova_lock.specs.Events.{Event, Ran, NotRun, Invalidated, IsShort, Leads, sink_calls, Does, Unmapping, run, not_run, UnmapFirst, tried, full, UnmapAgain, again, Unmap, once, not_begun, flushed, Flush, refused, done, failed, UnmapsWith, FlushesWith}
+use Rattle.iova_lock.specs.Events.{Event, Ran, NotRun, Invalidated, IsShort, Leads, sink_calls, Does, Unmapping, run, not_run, UnmapFirst, tried, full, UnmapAgain, again, Unmap, once, not_begun, flushed, Flush, refused, done, failed}
+use Rattle.iova_lock.specs.Answers.{UnmapsWith, FlushesWith}
 
 -- what two calls of a keeper do, one after the other
 pub known_both : (a b c : Option State) (P Q R : State → State → Type 0) → WhereKnown a b P → WhereKnown b c Q → ((s m t : State) → P s m → Q m t → R s t) → WhereKnown a c R

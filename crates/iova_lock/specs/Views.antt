@@ -1,18 +1,21 @@
 -- What contracts see of books, seats and tallies, and what a keeper tells.
-use Rattle.std.specs.Prelude.{ℕ, zero, suc, ◌≡◌, ◌+◌, ◌<◌, ◌≤◌, ◌⊎◌, ◌==◌, ◌&&◌, sum_by, Bool, true, false, List, [], ◌∷◌, ◌++◌, length, Option, Some, None, Result, Ok, Err, MatchOption}
+use Rattle.std.specs.Prelude.{ℕ, zero, suc, ◌≡◌, ◌+◌, ◌<◌, ◌≤◌, ◌%◌, ◌⊎◌, ◌==◌, ◌&&◌, sum_by, Bool, true, false, List, [], ◌∷◌, ◌++◌, length, Option, Some, None, Result, Ok, Err, MatchOption}
 use Rattle.std.specs.List.{list_any}
 use Rattle.iova_range.specs.declared.refusal.Refusal.{Refusal}
 use Rattle.iova_range.specs.declared.refusal.Refusal.TheVariants as refusal
 use Rattle.iova_range.specs.Frames.{Frames}
+use Rattle.iova_range.specs.Sizes.{need, align_of}
+use Rattle.iova_range.specs.declared.stat.Stat.{Stat}
 use Rattle.iova_model.specs.declared.step.Step.{Step}
 use Rattle.iova_model.specs.declared.step.Step.TheVariants as step
 use Rattle.iova_model.specs.declared.step.Reply.{Reply}
 use Rattle.iova_model.specs.declared.step.Reply.TheVariants as reply
 use Rattle.iova_model.specs.declared.totals.Totals.{Totals}
 use Rattle.iova_model.specs.Clients.{Client, client_with, totals_of}
-use Rattle.iova_model.specs.State.{State}
-use Rattle.iova_model.specs.Laws.{MovesTotals}
-use Rattle.iova_model.specs.Laws.{IsAmong, IsReplyTo}
+use Rattle.iova_model.specs.State.{State, counts}
+use Rattle.iova_model.specs.Laws.{MovesTotals, IsAmong, IsReplyTo, add_totals}
+use Rattle.iova_lock.specs.declared.ending.Ending.{Ending}
+use Rattle.iova_lock.specs.declared.ending.Ending.TheVariants as ending
 use Rattle.iova_lock.specs.StepLogs.{StepLog}
 
 -- a book: its domain's number, whether it is strict, its domain, and its log
@@ -61,6 +64,19 @@ left_in (Some c) = length c.holdings
 abbrev pub left_of : ℕ → State → ℕ
 left_of id s = left_in (client_with id s.clients)
 
+-- a domain in numbers
+abbrev pub stat_of : State → Stat
+stat_of s = record {
+  free = (counts s).free;
+  reserved = (counts s).reserved;
+  client = (counts s).client;
+  magazine = (counts s).magazine;
+  depot = (counts s).depot;
+  ring = (counts s).ring;
+  start = s.flushes.start;
+  finish = s.flushes.finish;
+}
+
 -- a book keeps its number, and whether it is strict
 abbrev pub IsSame : BookState → BookState → Type 0
 IsSame old new = (new.number ≡ old.number) × (new.strict ≡ old.strict)
@@ -95,9 +111,37 @@ abbrev pub begun_or : Result ℕ Refusal → Reply
 begun_or (Ok n) = reply.Begun n
 begun_or (Err e) = reply.Refused e
 
--- the refusals of an unmap
+-- Refusals.
+
+abbrev pub IsOpenRefusal : Refusal → Type 0
+IsOpenRefusal e = IsAmong e (refusal.NoWorker ∷ refusal.Worn ∷ refusal.ClientsFull ∷ refusal.NoMemory ∷ [])
+
+abbrev pub IsAllocRefusal : Refusal → Type 0
+IsAllocRefusal e =
+    IsAmong e (refusal.NoWorker ∷ refusal.Zero ∷ refusal.TooBig ∷ refusal.NoClient ∷ refusal.Closing ∷ refusal.HoldingsFull ∷ refusal.NoMemory ∷ refusal.NoSpace ∷ [])
+
 abbrev pub IsUnmapRefusal : Refusal → Type 0
 IsUnmapRefusal e = IsAmong e (refusal.NoWorker ∷ refusal.NoClient ∷ refusal.Closing ∷ refusal.NotHeld ∷ refusal.RingFull ∷ [])
+
+abbrev pub IsBeginRefusal : Refusal → Type 0
+IsBeginRefusal e = IsAmong e (refusal.FlightsFull ∷ refusal.Worn ∷ [])
+
+abbrev pub IsFlushRefusal : Refusal → Type 0
+IsFlushRefusal e = IsAmong e (refusal.FlightsFull ∷ refusal.Worn ∷ refusal.SinkFault ∷ [])
+
+-- no such client of this worker, or no such worker
+abbrev pub IsUnknown : Refusal → Type 0
+IsUnknown e = IsAmong e (refusal.NoClient ∷ refusal.NoWorker ∷ [])
+
+-- what a hold of a client's end is refused by
+abbrev pub IsCloseRefusal : Refusal → Type 0
+IsCloseRefusal e = IsUnknown e ⊎ (e ≡ refusal.NotHeld) ⊎ (e ≡ refusal.RingFull)
+
+-- what is given to a request of so many frames with this limit: as many as it needs, aligned to their size, and none above
+abbrev pub IsGivenTo : ℕ → ℕ → Frames → Type 0
+IsGivenTo frames limit r = (r.len ≡ need frames) × (r.lo % align_of r.len ≡ 0) × (r.lo + r.len ≤ limit + 1)
+
+-- What a hold may be heard to answer.
 
 -- what an unmap of a range that begins at lo may be heard to answer
 abbrev pub IsUnmapHeard : ℕ → Option Reply → Type 0
@@ -110,10 +154,36 @@ abbrev pub IsBeginHeard : Option Reply → Option Reply → Type 0
 IsBeginHeard o None = Unit {0}
 IsBeginHeard o (Some b) = (o ≡ Some (reply.Refused refusal.RingFull)) × IsReplyTo step.Begin b
 
--- what a keeper that tells its domain says of a call: it tells it before and after, and they stand so
+-- what the last closing of a hold may be heard to answer
+abbrev pub IsCloseHeard : Option Reply → Type 0
+IsCloseHeard (Some reply.Empty) = Unit {0}
+IsCloseHeard (Some (reply.Refused e)) = IsCloseRefusal e
+IsCloseHeard o = ⊥
+
+-- where a keeper's domain is known before a call, it is known after it, and the two stand so
 abbrev pub WhereKnown : Option State → Option State → (State → State → Type 0) → Type 0
 WhereKnown None after P = Unit {0}
 WhereKnown (Some s) after P = MatchOption after ⊥ (λ t. P s t)
+
+-- Shares.
+
+-- these ranges were queued, and the shares lowered by them
+abbrev pub IsLowered : List Frames → Totals → Totals → Type 0
+IsLowered ranges old new = old ≡ add_totals new (totals_of ranges)
+
+-- some ranges were queued, whose totals these are, and the shares lowered by them
+abbrev pub Lowers : Totals → Totals → Totals → Type 0
+Lowers queued old new = (ranges : List Frames) × (queued ≡ totals_of ranges) × IsLowered ranges old new
+
+-- so many ranges are told of where all were queued, and none is where the call was refused
+abbrev pub Tells : Result Ending Refusal → ℕ → Type 0
+Tells (Ok (ending.Ended queued)) count = queued ≡ count
+Tells (Ok (ending.Waiting left why)) count = Unit {0}
+Tells (Err e) count = (count ≡ 0) × IsUnknown e
+
+-- a client's end queues some ranges, lowers the shares by them, and tells how many where it has ended
+abbrev pub LowersTold : Result Ending Refusal → Totals → Totals → Type 0
+LowersTold result old new = (ranges : List Frames) × IsLowered ranges old new × Tells result (length ranges)
 
 -- a seat's shares move as its last reply says
 abbrev pub MovesHeard : Option Reply → Totals → Totals → Type 0

@@ -1,13 +1,14 @@
 //! The value under the lock.
-ghost use Rattle.std.specs.Prelude.{◌≡◌, ◌≢◌, ◌+◌, ◌≤◌, ◌*◌, ◌⊎◌, ◌↔◌, Err, IsErr, option_copied, option_map, true, false, if◌then◌else◌, Some, None, [], ◌∷◌, IfOk, MatchResult, MatchOption, List};
+ghost use Rattle.std.specs.Prelude.{◌≡◌, ◌≢◌, ◌+◌, ◌<◌, ◌≤◌, ◌*◌, ◌⊎◌, ◌↔◌, Err, IsErr, option_copied, option_map, true, false, if◌then◌else◌, Some, None, [], ◌∷◌, IfOk, MatchResult, MatchOption, List};
 ghost use Rattle.iova_range.specs.Frames.{Frames};
-ghost use Rattle.iova_model.specs.Clients.{totals, totals_of};
+ghost use Rattle.iova_model.specs.Clients.{totals, client_of};
 ghost use Rattle.iova_model.specs.State.{State, new_domain};
-ghost use Rattle.iova_model.specs.Laws.{MovesTotals};
-ghost use Rattle.iova_model.specs.Laws.{IsReplyTo, ended_well, to_queue};
-ghost use Rattle.iova_lock.specs.StepLogs.{Takes, StepLog, IsGivenWithin, IsRecorded, is_recording};
-ghost use Rattle.iova_lock.specs.Events.{Does, Unmapping, IsShort, Closes};
-ghost use Rattle.iova_lock.specs.Views.{BookState, TallyState, SeatState, Covers, IsSame, by_seat, by_tally, new_seats, left_of};
+ghost use Rattle.iova_model.specs.Laws.{MovesTotals, IsReplyTo, ended_well, to_queue, shares_below};
+ghost use Rattle.iova_model.specs.Valid.{IsValid};
+ghost use Rattle.iova_model.specs.Promises.{OnePlace};
+ghost use Rattle.iova_lock.specs.StepLogs.{Takes, StepLog, IsGivenWithin, IsDrainReply, IsRecorded, is_recording};
+ghost use Rattle.iova_lock.specs.Events.{Does, Unmapping, IsShort, Closing, Draining, rings_from};
+ghost use Rattle.iova_lock.specs.Views.{BookState, TallyState, SeatState, Covers, IsSame, by_seat, by_tally, new_seats, left_of, stat_of, IsLowered, IsCloseHeard};
 
 use crate::machine::{Machine, Stored};
 use crate::seat::{Seat, Tally};
@@ -17,6 +18,7 @@ use iova_model::totals::Totals;
 use iova_range::bounds::Bounds;
 use iova_range::range::Range;
 use iova_range::refusal::Refusal;
+use iova_range::stat::Stat;
 use std::alloc::Global;
 use std::marker::Model;
 use std::sync::ledger;
@@ -166,6 +168,30 @@ impl<C: Ledger, F: Ledger, S: Ledger, G: Ledger> Book<C, F, S, G> {
         self.machine.left(id)
     }
 
+    /// How many workers the domain has.
+    pub(crate) fn workers(&self) -> u64
+        ensures is { result ≡ self.now.state.workers }
+        ensures some { 1 ≤ result }
+        ensures few { result ≤ 16 }
+    {
+        self.machine.is_valid();
+        self.machine.workers()
+    }
+
+    /// How the domain stands, in numbers.
+    pub(crate) fn stat_of(&self) -> Stat
+        ensures { result ≡ stat_of self.now.state }
+    {
+        self.machine.stat()
+    }
+
+    /// The holdings of the worker's client, rising by first frame.
+    pub(crate) fn holdings_of(&self, worker: u64, id: u64) -> Option<&[Range]>
+        ensures { option_copied result ≡ option_map (λ c. c.holdings) (client_of worker id self.now.state.clients) }
+    {
+        self.machine.holdings(worker, id)
+    }
+
     pub(crate) fn into_domain(self) -> Domain
         ensures { result ≡ self.state }
     {
@@ -218,7 +244,9 @@ impl<C: Ledger, F: Ledger, S: Ledger, G: Ledger> Book<C, F, S, G> {
 
     /// Closes the client, range by range, until a step queues none, and answers that step's reply.
     pub(crate) fn close_all(&mut self, seat: &mut Seat<C, F, S, G>, id: u64) -> Reply
-        ensures closes { Closes (Step.CloseOne seat.old.worker id) seat.old.held seat.new.held result self.old.state self.new.state }
+        ensures closes { Does (Closing (Step.CloseOne seat.old.worker id) seat.old.held seat.new.held result) self.old.state self.new.state }
+        ensures shares { (ranges : List Frames) × IsLowered ranges seat.old.held seat.new.held }
+        ensures heard { IsCloseHeard (Some result) }
         ensures same { IsSame self.old self.new }
         ensures rest { (seat.new.worker ≡ seat.old.worker) × (seat.new.tally ≡ seat.old.tally) }
     {
@@ -230,6 +258,47 @@ impl<C: Ledger, F: Ledger, S: Ledger, G: Ledger> Book<C, F, S, G> {
             }
         };
         last
+    }
+
+    /// Drains `left` rings from `ring` on, and answers how many entries that frees.
+    pub(crate) fn drain_rings(&mut self, ring: u64, left: u64, by: u64) -> u64
+        requires few { ring + left ≤ 16 }
+        requires rings { ring + left ≡ self.old.state.workers }
+        requires worker { by < self.old.state.workers }
+        ensures drains { Does (Draining by (rings_from ring left) result) self.old.state self.new.state }
+        ensures bound { result ≤ 255 * left }
+        ensures same { IsSame self.old self.new }
+    {
+        if left == 0 {
+            return 0;
+        }
+        let n = self.drain_one(ring, by);
+        n + self.drain_rings(ring + 1, left - 1, by)
+    }
+
+    /// Drains a ring, and answers how many entries that frees.
+    fn drain_one(&mut self, ring: u64, by: u64) -> u64
+        requires ring { ring < self.old.state.workers }
+        requires worker { by < self.old.state.workers }
+        ensures takes { Takes self.old.state (Step.Drain ring by) (Reply.Drained result) self.new.state }
+        ensures bound { result ≤ 255 }
+        ensures workers { self.new.state.workers ≡ self.old.state.workers }
+        ensures same { IsSame self.old self.new }
+    {
+        match self.run_drain(ring, by) {
+            Reply::Drained(n) => n,
+            _ => unreachable!(),
+        }
+    }
+
+    /// Drains a ring. No share and no tally moves.
+    pub(crate) fn run_drain(&mut self, ring: u64, by: u64) -> Reply
+        ensures takes { Takes self.old.state (Step.Drain ring by) result self.new.state }
+        ensures drained { IsDrainReply self.old.state.workers (Step.Drain ring by) result }
+        ensures workers { self.new.state.workers ≡ self.old.state.workers }
+        ensures same { IsSame self.old self.new }
+    {
+        self.machine.step(Step::Drain { ring, by })
     }
 
     /// Runs a seat's step, and moves the seat's shares by what was answered.

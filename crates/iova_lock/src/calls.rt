@@ -1,28 +1,31 @@
-//! Calls of several holds, over any keeper.
-ghost use Rattle.std.specs.Prelude.{◌≡◌, ℕ, ◌+◌, ◌≤◌, ◌++◌, ◌≢◌, List, [], ◌∷◌, Option, Some, Err, true, false, IfOk, IfErr, MatchResult};
-ghost use Rattle.iova_model.specs.Laws.{MovesTotals};
-ghost use Rattle.iova_model.specs.Laws.{IsReplyTo};
-ghost use Rattle.iova_sink.specs.Calls.{Call, good_calls};
-ghost use Rattle.iova_lock.specs.Views.{TallyState, SeatState, BookState, WhereKnown, queued_or, begun_or, IsUnmapRefusal, IsUnmapHeard};
-ghost use Rattle.iova_lock.specs.Events.{Event, Does, Unmap, UnmapsWith, FlushesWith};
+//! Calls of several holds, over any keeper. The sink runs between two holds, never in one.
+ghost use Rattle.std.specs.Prelude.{◌≡◌, ℕ, ◌+◌, ◌<◌, ◌≤◌, ◌++◌, List, [], ◌∷◌, Some, Err, true, false, IfOk, IfErr, MatchResult};
+ghost use Rattle.iova_model.specs.Laws.{MovesTotals, IsReplyTo};
+ghost use Rattle.iova_sink.specs.Calls.{good_calls, failed_calls};
+ghost use Rattle.iova_lock.specs.Views.{TallyState, SeatState, WhereKnown, queued_or, begun_or, IsUnmapRefusal, IsBeginRefusal, IsFlushRefusal, IsUnmapHeard};
+ghost use Rattle.iova_lock.specs.Answers.{DoesUnmap, DoesFlush, DoesTimeout};
 
 use crate::keep::{Heard, Keep};
 use crate::seat::{Seat, Tally};
 use iova_core::{ClientId, Reply, Step};
+use iova_laws::refusals::steps_keep_the_domain;
 use iova_range::range::Range;
 use iova_range::refusal::Refusal;
 use iova_sink::sink::Sink;
 use std::sync::ledger::Ledger;
 
-/// Begins a flush, calls the sink, and ends the flush as the sink answered.
+/// Begins a flush, calls the sink, and ends the flush as the sink answered. It gives the flush's number, which the sink was
+/// told with the domain's in its last call. Refused by `FlightsFull` and `Worn` where none begins, and then the sink isn't
+/// called; by `SinkFault` where the sink failed. Linux 5.15 drivers/iommu/iova.c: fq_flush_iotlb; failures are our own.
 pub fn flush<C: Ledger, F: Ledger, S: Ledger, G: Ledger, K: Keep<C, F, S, G>, D: Sink>(
     keeper: &mut K,
     tally: &mut Tally<G>,
     sink: &mut D,
 ) -> Result<u64, Refusal>
-    ensures domain { WhereKnown (K.domain keeper.old) (K.domain keeper.new) (Does (FlushesWith result (K.domain_number keeper.old) (D.calls sink.old) (D.calls sink.new))) }
+    ensures domain { WhereKnown (K.domain keeper.old) (K.domain keeper.new) (DoesFlush result (K.domain_number keeper.old) (D.calls sink.old) (D.calls sink.new)) }
     ensures sunk { IfOk result (λ no. D.calls sink.new ≡ D.calls sink.old ++ record { domain = K.domain_number keeper.old; number = no; ok = true } ∷ []) }
     ensures fault { result ≡ Err Refusal.SinkFault → (no : ℕ) × (D.calls sink.new ≡ D.calls sink.old ++ record { domain = K.domain_number keeper.old; number = no; ok = false } ∷ []) }
+    ensures refusal { IfErr result IsFlushRefusal }
     ensures tally { tally.new.good + good_calls (D.calls sink.old) ≤ tally.old.good + good_calls (D.calls sink.new) }
     ensures parts { tally.new.parts ≡ tally.old.parts }
     ensures number { K.domain_number keeper.new ≡ K.domain_number keeper.old }
@@ -45,7 +48,9 @@ pub fn flush<C: Ledger, F: Ledger, S: Ledger, G: Ledger, K: Keep<C, F, S, G>, D:
     if ok { Ok(no) } else { Err(Refusal::SinkFault) }
 }
 
-/// Unmaps; where the ring is full, flushes and tries once more.
+/// Unmaps the client's range that begins at `lo`: it leaves the client, and waits in the worker's ring for a flush. Where the
+/// ring is full, it flushes and tries once more. Refused by `NoClient`, `Closing` and `NotHeld`, and by `RingFull` where the
+/// ring stays full or no flush begins; then the range is still the client's. Own.
 pub fn unmap<C: Ledger, F: Ledger, S: Ledger, G: Ledger, K: Keep<C, F, S, G>, D: Sink>(
     keeper: &mut K,
     seat: &mut Seat<C, F, S, G>,
@@ -53,7 +58,7 @@ pub fn unmap<C: Ledger, F: Ledger, S: Ledger, G: Ledger, K: Keep<C, F, S, G>, D:
     id: ClientId,
     lo: u64,
 ) -> Result<Range, Refusal>
-    ensures domain { WhereKnown (K.domain keeper.old) (K.domain keeper.new) (Does (UnmapsWith (Step.Unmap seat.old.worker id lo) seat.old.held (queued_or result) (K.domain_number keeper.old) (D.calls sink.old) (D.calls sink.new))) }
+    ensures domain { WhereKnown (K.domain keeper.old) (K.domain keeper.new) (DoesUnmap seat.old id lo result (K.domain_number keeper.old) (D.calls sink.old) (D.calls sink.new)) }
     ensures answer { MatchResult result (λ r. r.lo ≡ lo) IsUnmapRefusal }
     ensures seat { MovesTotals (queued_or result) seat.old.held seat.new.held }
     ensures worker { seat.new.worker ≡ seat.old.worker }
@@ -77,11 +82,36 @@ pub fn unmap<C: Ledger, F: Ledger, S: Ledger, G: Ledger, K: Keep<C, F, S, G>, D:
     answer(lo, keeper.unmap_again(seat, id, lo, no, ok).reply)
 }
 
+/// A flusher's round: where any ring has an entry it flushes, and where the flush ended well it drains all rings into the
+/// magazines of worker 0 and gives how many entries that freed. With all rings empty it gives 0 and the sink isn't called.
+/// Refused by `FlightsFull`, `Worn` and `SinkFault`; then nothing is drained. Linux 5.15 drivers/iommu/iova.c:
+/// fq_flush_timeout; the test for entries is our own.
+pub fn timeout<C: Ledger, F: Ledger, S: Ledger, G: Ledger, K: Keep<C, F, S, G>, D: Sink>(
+    keeper: &mut K,
+    tally: &mut Tally<G>,
+    sink: &mut D,
+) -> Result<u64, Refusal>
+    ensures domain { WhereKnown (K.domain keeper.old) (K.domain keeper.new) (DoesTimeout result (K.domain_number keeper.old) (D.calls sink.old) (D.calls sink.new)) }
+    ensures fault { result ≡ Err Refusal.SinkFault → failed_calls (D.calls sink.old) < failed_calls (D.calls sink.new) }
+    ensures tally { tally.new.good + good_calls (D.calls sink.old) ≤ tally.old.good + good_calls (D.calls sink.new) }
+    ensures parts { tally.new.parts ≡ tally.old.parts }
+    ensures number { K.domain_number keeper.new ≡ K.domain_number keeper.old }
+{
+    steps_keep_the_domain();
+    if keeper.stat().ring == 0 {
+        return Ok(0);
+    }
+    match flush(keeper, tally, sink) {
+        Ok(_no) => keeper.drain_all(0),
+        Err(refusal) => Err(refusal),
+    }
+}
+
 /// The number of the flush that began, or why none did.
-fn number(begun: Reply) -> Result<u64, Refusal>
+pub(crate) fn number(begun: Reply) -> Result<u64, Refusal>
     requires { IsReplyTo Step.Begin begun }
     ensures is { begun ≡ begun_or result }
-    ensures refusal { IfErr result (λ e. e ≢ Refusal.SinkFault) }
+    ensures refusal { IfErr result IsBeginRefusal }
 {
     match begun {
         Reply::Begun(no) => Ok(no),

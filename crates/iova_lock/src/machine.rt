@@ -1,13 +1,13 @@
 //! The one door to a domain: every step goes through `Machine::step`, which records it.
-ghost use Rattle.std.specs.Prelude.{◌≡◌, ◌+◌, ◌<◌, ◌⊎◌, ◌++◌, ◌∷◌, IfOk, IfErr, IsErr, Err, ◌≤◌, ◌↔◌, Some, None, [], true, false, find, option_copied, option_map};
+ghost use Rattle.std.specs.Prelude.{◌≡◌, ◌+◌, ◌<◌, ◌⊎◌, ◌++◌, ◌∷◌, IfOk, IfErr, IsErr, Err, ◌≤◌, ◌↔◌, Some, None, [], true, false, option_copied, option_map};
 ghost use Rattle.iova_range.specs.Frames.{Frames};
-ghost use Rattle.iova_model.specs.Clients.{totals, begins_at};
+ghost use Rattle.iova_model.specs.Clients.{totals, client_of};
+ghost use Rattle.iova_model.specs.Valid.{IsValid};
 ghost use Rattle.iova_model.specs.State.{State, new_domain};
-ghost use Rattle.iova_model.specs.Laws.{MovesTotals};
+ghost use Rattle.iova_model.specs.Laws.{MovesTotals, IsReplyTo, ended_well, to_queue};
 ghost use Rattle.iova_model.specs.Transcript.{Pair};
-ghost use Rattle.iova_model.specs.Laws.{IsReplyTo, ended_well, to_queue};
-ghost use Rattle.iova_lock.specs.StepLogs.{Takes, StepLog, MachineState, IsGivenWithin, IsRecorded, is_recording};
-ghost use Rattle.iova_lock.specs.Views.{left_of};
+ghost use Rattle.iova_lock.specs.StepLogs.{Takes, StepLog, MachineState, IsGivenWithin, IsDrainReply, IsRecorded, is_recording};
+ghost use Rattle.iova_lock.specs.Views.{left_of, stat_of};
 
 use iova_core::domain::Domain;
 use iova_core::{Point, Reply, Step};
@@ -19,6 +19,7 @@ use iova_model::totals::Totals;
 use iova_range::bounds::Bounds;
 use iova_range::range::Range;
 use iova_range::refusal::Refusal;
+use iova_range::stat::Stat;
 use std::alloc::Global;
 use std::marker::Model;
 
@@ -128,6 +129,8 @@ impl Machine {
         ensures good { self.new.state.flushes.good ≡ self.old.state.flushes.good + ended_well step result }
         ensures kind { IsReplyTo step result }
         ensures given { IsGivenWithin step result }
+        ensures drained { IsDrainReply self.old.state.workers step result }
+        ensures workers { self.new.state.workers ≡ self.old.state.workers }
         ensures held { (r : Frames) → result ≡ Reply.Queued r → to_queue self.old.state step ≡ Some r }
     {
         steps_move_ledgers();
@@ -149,6 +152,40 @@ impl Machine {
         ensures { result ≡ totals self.now.state.clients }
     {
         self.domain.totals()
+    }
+
+    /// How the domain stands, in numbers.
+    pub(crate) fn stat(&self) -> Stat
+        ensures { result ≡ stat_of self.now.state }
+    {
+        let counts = self.domain.counts();
+        Stat {
+            free: counts.free,
+            reserved: counts.reserved,
+            client: counts.client,
+            magazine: counts.magazine,
+            depot: counts.depot,
+            ring: counts.ring,
+            start: self.domain.start(),
+            finish: self.domain.finish(),
+        }
+    }
+
+    /// The holdings of the worker's client, rising by first frame.
+    pub(crate) fn holdings(&self, worker: u64, client: u64) -> Option<&[Range]>
+        ensures { option_copied result ≡ option_map (λ c. c.holdings) (client_of worker client self.now.state.clients) }
+    {
+        if self.domain.owner(client) != Some(worker) {
+            return None;
+        }
+        self.domain.holdings_of(client)
+    }
+
+    /// What the domain keeps.
+    pub(crate) fn is_valid(&self)
+        ensures { IsValid self.now.state }
+    {
+        let _workers = self.domain.workers();
     }
 
     /// How many flushes ended well.

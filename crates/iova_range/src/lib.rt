@@ -8,3 +8,4 @@ pub mod profile;
 pub mod range;
 pub mod refusal;
 pub mod sizes;
+pub mod stat;
