@@ -125,9 +125,7 @@ impl Ledger {
         ensures { result ≡ find (begins_at lo) self.now.holdings }
     {
         let holdings = self.holdings.as_slice();
-        let place = holdings
-            .binary_search_by_key(&lo, |held| held.lo())
-            .ok()?;
+        let place = holdings.binary_search_by_key(&lo, |held| held.lo()).ok()?;
         Some(holdings[place])
     }
 

@@ -1,14 +1,19 @@
 use crate::{ClientId, Clients};
 use iova_model::totals::Totals;
+use iova_range::limits::MAX_FRAMES;
 use iova_range::range::Range;
 use iova_range::refusal::Refusal;
-use iova_range::sizes::MAX_FRAMES;
 use std::alloc::Global;
+use std::io::Print;
 use std::process::Abort;
 use std::test::Fail;
 
 // Opens a client. Where memory is refused once, nothing has changed, and the same call then succeeds.
-fn open(rt: &impl Abort, clients: &mut Clients, worker: u64) -> Result<ClientId, Refusal> {
+fn open(
+    rt: &(impl Abort + Print),
+    clients: &mut Clients,
+    worker: u64,
+) -> Result<ClientId, Refusal> {
     if worker >= 16 {
         return Err(Refusal::NoWorker);
     }
@@ -17,6 +22,7 @@ fn open(rt: &impl Abort, clients: &mut Clients, worker: u64) -> Result<ClientId,
     if answer != Err(Refusal::NoMemory) {
         return answer;
     }
+    let _ = println!(rt; "refused at open");
     assert_eq!(rt; clients.len(), count);
     assert_eq!(rt; clients.serial(), serial);
     clients.open(worker, worker == 7)
@@ -24,7 +30,7 @@ fn open(rt: &impl Abort, clients: &mut Clients, worker: u64) -> Result<ClientId,
 
 // Gives a client a holding. Where memory is refused once, nothing has changed, and the same call then succeeds.
 fn give(
-    rt: &impl Abort,
+    rt: &(impl Abort + Print),
     clients: &mut Clients,
     id: ClientId,
     lo: u64,
@@ -35,6 +41,7 @@ fn give(
     }
     let totals = clients.totals();
     if clients.room(id) == Err(Refusal::NoMemory) {
+        let _ = println!(rt; "refused at room");
         assert_eq!(rt; clients.totals(), totals);
     }
     let Err(Refusal::NotHeld) = clients.take(id, lo) else {
@@ -55,7 +62,7 @@ fn forget(clients: &mut Clients, id: ClientId) -> bool {
 }
 
 // Three clients, the first and the third of worker 4 and the second of worker 5, with five holdings.
-fn three_clients(rt: &impl Abort, alloc: Global) -> Result<Clients, Refusal> {
+fn three_clients(rt: &(impl Abort + Print), alloc: Global) -> Result<Clients, Refusal> {
     let mut clients = Clients::new(alloc);
     for worker in [4, 5, 4] {
         open(rt, &mut clients, worker)?;

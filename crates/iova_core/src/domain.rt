@@ -26,9 +26,10 @@ use iova_model::place::{Counts, Place};
 use iova_model::step::{Point, Reply, Step};
 use iova_model::totals::Totals;
 use iova_range::bounds::Bounds;
+use iova_range::limits::{MAX_FRAMES, MAX_WORKERS};
 use iova_range::range::Range;
 use iova_range::refusal::Refusal;
-use iova_range::sizes::{MAX_FRAMES, need};
+use iova_range::sizes::need;
 use iova_tree::tree::Tree;
 use std::alloc::Global;
 use std::marker::Model;
@@ -84,10 +85,10 @@ impl Domain {
     /// by `NoMemory`, in this order.
     pub fn new(alloc: Global, bounds: Bounds, workers: u64) -> Result<Self, Refusal>
         ensures value { IfOk result (λ d. d ≡ new_domain bounds workers) }
-        ensures workers { (result ≡ Err Refusal.NoWorker) ↔ ((workers ≡ 0) ⊎ (17 ≤ workers)) }
+        ensures workers { (result ≡ Err Refusal.NoWorker) ↔ ((workers ≡ 0) ⊎ (MAX_WORKERS < workers)) }
         ensures memory { IsErr result → (result ≡ Err Refusal.NoWorker) ⊎ (result ≡ Err Refusal.NoMemory) }
     {
-        if workers == 0 || workers > 16 {
+        if workers == 0 || workers > MAX_WORKERS {
             return Err(Refusal::NoWorker);
         }
         new_domains_are_valid();
@@ -145,7 +146,7 @@ impl Domain {
         steps_keep_validity();
         match self.tree.reserve(lo, hi) {
             Ok(window) => {
-                self.reserved = frames_of(self.tree.windows());
+                self.reserved = window_frames(self.tree.windows());
                 (Reply::Reserved(window), Point::Never)
             }
             Err(refusal) => refused_at(refusal, Point::Once),
@@ -206,7 +207,7 @@ impl Domain {
                 (Reply::Given(range), Point::Never)
             }
             Found::Nowhere => refused(Refusal::NoSpace),
-            Found::Starved(point) => (Reply::Refused(Refusal::NoMemory), point),
+            Found::OutOfMemory(point) => (Reply::Refused(Refusal::NoMemory), point),
         }
     }
 
@@ -573,7 +574,7 @@ pub fn run(domain: &mut Domain, steps: &[Step], replies: &mut Vec<Reply>) -> Res
 
 /// A ring for each worker.
 fn new_rings(alloc: Global, workers: usize) -> Result<Vec<Ring>, Refusal>
-    requires { workers ≤ 16 }
+    requires { workers ≤ MAX_WORKERS }
     ensures value { IfOk result (λ rings. rings.items ≡ replicate workers []) }
     ensures refused { IsErr result → result ≡ Err Refusal.NoMemory }
 {
@@ -587,7 +588,7 @@ fn new_rings(alloc: Global, workers: usize) -> Result<Vec<Ring>, Refusal>
 }
 
 /// How many frames windows have together.
-fn frames_of(windows: &[Range]) -> u64
+fn window_frames(windows: &[Range]) -> u64
     requires { sum_by (λ r. r.len) windows.now ≤ 2 ^ 40 }
     ensures { result ≡ sum_by (λ r. r.len) windows.now }
 {
@@ -607,7 +608,7 @@ fn has_frame(windows: &[Range], frame: u64) -> bool
 
 /// How many frames wait in rings.
 fn queued_frames(rings: &[Ring]) -> u64
-    requires { length rings.now ≤ 16 }
+    requires { length rings.now ≤ MAX_WORKERS }
     ensures { result ≡ frames_in_rings rings.now }
 {
     let mut frames = 0;

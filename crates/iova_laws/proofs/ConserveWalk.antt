@@ -1,5 +1,6 @@
 -- What a request's walk comes to: a cached range, a free one, or nothing, and what is left of the caches.
 use Rattle.std.proofs.Common.{ℕ, ◌≡◌, ◌+◌, ◌-◌, ◌^◌, ◌<◌, ◌≤◌, ◌&&◌, ◌⊎◌, inl, inr, Bool, true, false, Option, Some, None, length, refl, ap, arith}
+use Rattle.iova_range.specs.declared.limits.TheConstants.{SAC_LIMIT}
 use Rattle.std.specs.Prelude.{nat_lt, nat_le, slice_index}
 use Rattle.std.proofs.lemmas.Bool.{cond_both, and_parts, leb-true, ltb-true}
 use Rattle.iova_model.specs.declared.step.Point.{Point}
@@ -10,7 +11,7 @@ use Rattle.iova_model.specs.Fit.{fits}
 use Rattle.iova_model.specs.Caches.{Caches, Shelf, shelf_at, with_shelf, reloaded, fitting, popped, get, emptied}
 use Rattle.iova_model.specs.State.{State, held_ranges}
 use Rattle.iova_model.specs.Valid.{AreCaches}
-use Rattle.iova_model.specs.Next.{Found, At, Nowhere, OutOfMemory, Tried, with_caches, is_at, best_place, from_cache, from_tree, or_emptied, or_tree, try, or_second, low_limit, walk}
+use Rattle.iova_model.specs.Next.{Found, At, Nowhere, OutOfMemory, Tried, with_caches, is_at, best_place, from_cache, from_tree, or_emptied, or_tree, try, or_second, walk}
 use Rattle.iova_model.proofs.Placing.{greatest_some}
 use Rattle.iova_laws.proofs.Weight as weight
 use Rattle.iova_laws.proofs.WeightCaches.{cached_with, Pops, get_pops, cached-emptied}
@@ -83,8 +84,8 @@ got_within s limit size lo is = popped_within (reloaded s) (fitting (reloaded s)
 module _ (s : State) (w size : ℕ) (below : w < s.workers) where
   module _ (limit : ℕ) (P : Tried → Type 0) (each : OnEach s size limit true P) where
     -- the tree alone, with nothing cached
-    tree_cases : (c : Caches) → AreOwn s c → NoneCached c → (x : Option ℕ) → best_place (with_caches s c) size limit ≡ x → (starved : Bool) → P (from_tree (with_caches s c) x starved)
-    tree_cases c own none None is starved = each Nowhere c own (none, is)
+    tree_cases : (c : Caches) → AreOwn s c → NoneCached c → (x : Option ℕ) → best_place (with_caches s c) size limit ≡ x → (no_memory : Bool) → P (from_tree (with_caches s c) x no_memory)
+    tree_cases c own none None is no_memory = each Nowhere c own (none, is)
     tree_cases c own none (Some lo) is true = each OutOfMemory c own (inr none)
     tree_cases c own none (Some lo) is false =
         let fit = greatest_some (fits s.bounds (held_ranges (with_caches s c)) size limit) _ lo is in
@@ -95,15 +96,15 @@ module _ (s : State) (w size : ℕ) (below : w < s.workers) where
   try_cases c limit emptying here m P own same each = cache_cases (order_of size) refl
     where
       -- nothing fits: once more with all caches emptied, where that may be
-      last_cases : (starved : Bool) → (emptying : Bool) → OnEach s size limit emptying P → (c : Caches) → AreOwn s c → Same s.caches c → P (or_emptied Nowhere (with_caches s c) size limit emptying starved)
-      last_cases starved true each c own same =
+      last_cases : (no_memory : Bool) → (emptying : Bool) → OnEach s size limit emptying P → (c : Caches) → AreOwn s c → Same s.caches c → P (or_emptied Nowhere (with_caches s c) size limit emptying no_memory)
+      last_cases no_memory true each c own same =
           let c' = emptied c in
-          tree_cases limit P each c' (emptied_valid s.bounds.profile s.workers c own) (λ weigh. cached-emptied weigh c) (best_place (with_caches s c') size limit) refl starved
-      last_cases starved false each c own same = each Nowhere c own same
+          tree_cases limit P each c' (emptied_valid s.bounds.profile s.workers c own) (λ weigh. cached-emptied weigh c) (best_place (with_caches s c') size limit) refl no_memory
+      last_cases no_memory false each c own same = each Nowhere c own same
 
       -- the greatest place that fits, or none
-      best_cases : (c : Caches) → AreOwn s c → Same s.caches c → (x : Option ℕ) → best_place (with_caches s c) size limit ≡ x → (starved last : Bool) → P (or_emptied (from_tree (with_caches s c) x starved).found (from_tree (with_caches s c) x starved).state size limit emptying last)
-      best_cases c own same None is starved last = last_cases last emptying each c own same
+      best_cases : (c : Caches) → AreOwn s c → Same s.caches c → (x : Option ℕ) → best_place (with_caches s c) size limit ≡ x → (no_memory last : Bool) → P (or_emptied (from_tree (with_caches s c) x no_memory).found (from_tree (with_caches s c) x no_memory).state size limit emptying last)
+      best_cases c own same None is no_memory last = last_cases last emptying each c own same
       best_cases c own same (Some lo) is true last = each OutOfMemory c own (may_stay emptying s.caches c same)
       best_cases c own same (Some lo) is false last =
           let fit = greatest_some (fits s.bounds (held_ranges (with_caches s c)) size limit) _ lo is in
@@ -141,12 +142,12 @@ module _ (s : State) (w size : ℕ) (below : w < s.workers) where
   -- what holds of each outcome holds of the walk
   pub walk_cases : (sac : Bool) (limit : ℕ) (m : Point) (P : Tried → Type 0) → AreOwn s s.caches → OnEach s size limit true P → P (walk s w sac size limit m)
   walk_cases sac limit m P own each =
-      let t = try s w size low_limit false point.First m in
-      cond_both (sac && nat_lt low_limit limit) (or_second t.found t.state w size limit m) (try s w size limit true point.Second m) P
-      (λ e. try_cases s.caches low_limit false point.First m (λ x. P (or_second x.found x.state w size limit m)) own (λ weigh. refl) (second_cases (ltb-true low_limit limit (and_parts sac _ e).1)))
+      let t = try s w size SAC_LIMIT false point.First m in
+      cond_both (sac && nat_lt SAC_LIMIT limit) (or_second t.found t.state w size limit m) (try s w size limit true point.Second m) P
+      (λ e. try_cases s.caches SAC_LIMIT false point.First m (λ x. P (or_second x.found x.state w size limit m)) own (λ weigh. refl) (second_cases (ltb-true SAC_LIMIT limit (and_parts sac _ e).1)))
       (λ e. try_cases s.caches limit true point.Second m P own (λ weigh. refl) each)
     where
-      second_cases : low_limit < limit → OnEach s size low_limit false (λ x. P (or_second x.found x.state w size limit m))
+      second_cases : SAC_LIMIT < limit → OnEach s size SAC_LIMIT false (λ x. P (or_second x.found x.state w size limit m))
       second_cases lower (At lo) c own' (inl was) = each (At lo) c own' (inl (record { left = was.left; within = omega (arith, was.within) }))
       second_cases lower (At lo) c own' (inr free) =
           each (At lo) c own' (inr (inl free.0, record { used = free.1.used; within = omega (arith, free.1.within); fits = free.1.fits }))

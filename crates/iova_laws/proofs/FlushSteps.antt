@@ -2,7 +2,6 @@
 use Rattle.std.proofs.Common.{ℕ, ◌≡◌, ◌+◌, ◌≤◌, Bool, true, false, length, refl, arith}
 use Rattle.std.proofs.lemmas.Bool.{leb-false}
 use Rattle.std.proofs.lemmas.List.{length-set}
-use Rattle.iova_range.specs.declared.refusal.Refusal.{Refusal}
 use Rattle.iova_range.specs.Frames.{Frames, covers}
 use Rattle.iova_model.specs.declared.step.Step.{Step}
 use Rattle.iova_model.specs.declared.step.Step.TheVariants as step
@@ -13,7 +12,7 @@ use Rattle.iova_model.specs.State.{State}
 use Rattle.iova_model.specs.Next.{ring_at, drained, queued, no_worker}
 use Rattle.iova_model.specs.Transcript.{Unmaps}
 use Rattle.iova_laws.proofs.FlushRings.{waits, waits_in-unflushed, waits_in_push, waits_in_last, waits_kept, waits_put}
-use Rattle.iova_laws.proofs.Outcomes.{Outcome, turned_down, unmaps, begins, ends, drains, queues_lowest}
+use Rattle.iova_laws.proofs.Outcomes.{Outcome, unmaps, begins, ends, drains, queues_lowest}
 
 -- a step leaves the flushes, or it begins or ends one
 pub data FlushStep (st : Step) (r : Reply) (old new : Flushes) : Type 0 where

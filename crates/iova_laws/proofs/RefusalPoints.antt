@@ -1,5 +1,6 @@
 -- A growth that is refused is answered so, or the step is as it would be with memory.
 use Rattle.std.proofs.Common.{ℕ, ◌≡◌, ◌⊎◌, ◌+◌, inl, inr, Bool, true, false, ◌&&◌, List, [], ◌∷◌, ◌++◌, take, Option, Some, None, refl, ap, subst, cond}
+use Rattle.iova_range.specs.declared.limits.TheConstants.{SAC_LIMIT}
 use Rattle.std.specs.Prelude.{nat_lt}
 use Rattle.iova_range.specs.declared.refusal.Refusal.{Refusal}
 use Rattle.iova_range.specs.declared.refusal.Refusal.TheVariants as refusal
@@ -11,7 +12,7 @@ use Rattle.iova_model.specs.declared.step.Point.TheVariants as point
 use Rattle.iova_model.specs.Caches.{emptied}
 use Rattle.iova_model.specs.Clients.{Client, client_of}
 use Rattle.iova_model.specs.State.{State}
-use Rattle.iova_model.specs.Next.{Next, refused, unless, Found, At, Nowhere, OutOfMemory, Tried, is_at, with_caches, from_cache, best_place, from_tree, or_emptied, or_tree, try, or_second, low_limit, walk, given_by, ledger_tests, alloc_to, alloc_tests, from_to, reserve_tests, reserved, open_tests, opened}
+use Rattle.iova_model.specs.Next.{Next, refused, unless, Found, At, Nowhere, OutOfMemory, Tried, is_at, with_caches, from_cache, best_place, from_tree, or_emptied, or_tree, try, or_second, walk, given_by, ledger_tests, alloc_to, alloc_tests, from_to, reserve_tests, reserved, open_tests, opened}
 use Rattle.iova_model.specs.Laws.{PointsOnlyRefuse}
 
 -- one choice between things that are alike
@@ -26,20 +27,20 @@ abbrev IsAlike : Tried → Tried → Type 0
 IsAlike t t' = (t.found ≡ OutOfMemory) ⊎ (t ≡ t')
 
 -- the tree's growth may be refused
-tree_alike : (s : State) (place : Option ℕ) (starved : Bool) → IsAlike (from_tree s place starved) (from_tree s place false)
-tree_alike s None starved = inr refl
+tree_alike : (s : State) (place : Option ℕ) (no_memory : Bool) → IsAlike (from_tree s place no_memory) (from_tree s place false)
+tree_alike s None no_memory = inr refl
 tree_alike s (Some lo) true = inl refl
 tree_alike s (Some lo) false = inr refl
 
 -- and once more with emptied caches
-emptied_alike : (t t' : Tried) (size limit : ℕ) (emptying starved : Bool) → IsAlike t t' → IsAlike (or_emptied t.found t.state size limit emptying starved) (or_emptied t'.found t'.state size limit emptying false)
-emptied_alike t t' size limit emptying starved (inl out) = inl (rw out refl)
-emptied_alike t t' size limit emptying starved (inr same) =
-    let P : Tried → Type 0 = λ x. IsAlike (or_emptied t.found t.state size limit emptying starved) (or_emptied x.found x.state size limit emptying false) in
+emptied_alike : (t t' : Tried) (size limit : ℕ) (emptying no_memory : Bool) → IsAlike t t' → IsAlike (or_emptied t.found t.state size limit emptying no_memory) (or_emptied t'.found t'.state size limit emptying false)
+emptied_alike t t' size limit emptying no_memory (inl out) = inl (rw out refl)
+emptied_alike t t' size limit emptying no_memory (inr same) =
+    let P : Tried → Type 0 = λ x. IsAlike (or_emptied t.found t.state size limit emptying no_memory) (or_emptied x.found x.state size limit emptying false) in
     subst P same (alike t.found t.state emptying)
   where
-    alike : (found : Found) (s : State) (e : Bool) → IsAlike (or_emptied found s size limit e starved) (or_emptied found s size limit e false)
-    alike Nowhere s true = let u = with_caches s (emptied s.caches) in tree_alike u (best_place u size limit) starved
+    alike : (found : Found) (s : State) (e : Bool) → IsAlike (or_emptied found s size limit e no_memory) (or_emptied found s size limit e false)
+    alike Nowhere s true = let u = with_caches s (emptied s.caches) in tree_alike u (best_place u size limit) no_memory
     alike Nowhere s false = inr refl
     alike (At lo) s e = inr refl
     alike OutOfMemory s e = inr refl
@@ -75,11 +76,11 @@ second_alike t t' w size limit m (inr same) =
 -- all of it
 walk_alike : (s : State) (w : ℕ) (sac : Bool) (size limit : ℕ) (m : Point) → IsAlike (walk s w sac size limit m) (walk s w sac size limit point.Never)
 walk_alike s w sac size limit m =
-    let first = λ (p : Point). try s w size low_limit false point.First p in
+    let first = λ (p : Point). try s w size SAC_LIMIT false point.First p in
     let then = λ (p : Point). or_second (first p).found (first p).state w size limit p in
     let only = λ (p : Point). try s w size limit true point.Second p in
-    cond_alike IsAlike (sac && nat_lt low_limit limit) (then m) (then point.Never) (only m) (only point.Never)
-    (second_alike (first m) (first point.Never) w size limit m (try_alike s w size low_limit false point.First m refl))
+    cond_alike IsAlike (sac && nat_lt SAC_LIMIT limit) (then m) (then point.Never) (only m) (only point.Never)
+    (second_alike (first m) (first point.Never) w size limit m (try_alike s w size SAC_LIMIT false point.First m refl))
     (try_alike s w size limit true point.Second m refl)
 
 -- A step in which one is refused, beside the same step in which none is.
@@ -95,12 +96,12 @@ unless_alike s ((b, r) ∷ tests) n n' alike =
     cond_alike OnlyRefuses b (refused r s) (refused r s) (unless tests s n) (unless tests s n') (inr refl) (unless_alike s tests n n' alike)
 
 -- and a last test for memory in the first
-unless_memory : (s : State) (tests : List (Bool × Refusal)) (starved : Bool) (n n' : Next) → OnlyRefuses n n' → OnlyRefuses (unless (tests ++ (starved, refusal.NoMemory) ∷ []) s n) (unless tests s n')
+unless_memory : (s : State) (tests : List (Bool × Refusal)) (no_memory : Bool) (n n' : Next) → OnlyRefuses n n' → OnlyRefuses (unless (tests ++ (no_memory, refusal.NoMemory) ∷ []) s n) (unless tests s n')
 unless_memory s [] true n n' alike = inl refl
 unless_memory s [] false n n' alike = alike
-unless_memory s ((b, r) ∷ tests) starved n n' alike =
-    let rest = unless (tests ++ (starved, refusal.NoMemory) ∷ []) s n in
-    cond_alike OnlyRefuses b (refused r s) (refused r s) rest (unless tests s n') (inr refl) (unless_memory s tests starved n n' alike)
+unless_memory s ((b, r) ∷ tests) no_memory n n' alike =
+    let rest = unless (tests ++ (no_memory, refusal.NoMemory) ∷ []) s n in
+    cond_alike OnlyRefuses b (refused r s) (refused r s) rest (unless tests s n') (inr refl) (unless_memory s tests no_memory n n' alike)
 
 -- what a walk comes to is answered
 given_alike : (t t' : Tried) (id size : ℕ) → IsAlike t t' → OnlyRefuses (given_by t id size) (given_by t' id size)

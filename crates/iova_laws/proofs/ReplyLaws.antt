@@ -1,5 +1,5 @@
 -- What a step may be answered, what it queues, and how it moves the number of good flushes.
-use Rattle.std.proofs.Common.{ℕ, ◌≡◌, ◌+◌, ◌==◌, ◌⊎◌, inl, inr, Bool, true, false, List, [], ◌∷◌, Option, Some, None, refl, sym, ap, ◌∙◌, arith}
+use Rattle.std.proofs.Common.{ℕ, ◌≡◌, ◌+◌, ◌==◌, inl, inr, true, false, List, [], ◌∷◌, Option, Some, None, refl, ap, arith}
 use Rattle.std.specs.Prelude.{find}
 use Rattle.std.proofs.lemmas.Bool.Decides.{nat_tests}
 use Rattle.iova_range.specs.declared.refusal.Refusal.{Refusal}
@@ -11,10 +11,10 @@ use Rattle.iova_model.specs.declared.step.Step.TheVariants as step
 use Rattle.iova_model.specs.declared.step.Reply.{Reply}
 use Rattle.iova_model.specs.declared.step.Reply.TheVariants as reply
 use Rattle.iova_model.specs.declared.step.Point.{Point}
-use Rattle.iova_model.specs.Clients.{Client, client_with, client_of, if_owned, begins_at, changed, marked}
+use Rattle.iova_model.specs.Clients.{Client, client_of, begins_at, changed, marked}
 use Rattle.iova_model.specs.State.{State}
 use Rattle.iova_model.specs.Next
-use Rattle.iova_model.specs.Laws.{IsAmong, IsReplyTo, refusals_of, StepsAreAnsweredInKind, ended_well, StepsMoveGood, unmapped_of, to_queue, QueuedWereHeld}
+use Rattle.iova_model.specs.Laws.{IsReplyTo, StepsAreAnsweredInKind, ended_well, StepsMoveGood, to_queue, QueuedWereHeld}
 use Rattle.iova_laws.proofs.Tests.{unless_each}
 use Rattle.iova_laws.proofs.ValidFound.{found_at}
 use Rattle.iova_laws.proofs.Outcomes.{Outcome, IsOwned, turned_down, unmaps, ends, queues_lowest, outcome}

@@ -2,6 +2,7 @@
 -- statement; the crate iova_laws proves it.
 use Rattle.std.specs.Prelude.{ℕ, zero, suc, ◌≡◌, ◌≢◌, ◌<◌, ◌≤◌, ◌+◌, ◌-◌, ◌%◌, ◌^◌, ◌==◌, ◌⊎◌, Bool, true, false, nat_lt, if◌then◌else◌, min, List, [], ◌∷◌, ◌++◌, length, map, filter, find, Option, Some, None, option_and_then, slice_get, sum_by}
 use Rattle.std.specs.List.{AllByRecursion}
+use Rattle.iova_range.specs.declared.limits.TheConstants.{MAX_WORKERS, MAX_FRAMES, MAX_FLIGHTS, MAX_SERIAL}
 use Rattle.iova_range.specs.declared.refusal.Refusal.{Refusal}
 use Rattle.iova_range.specs.declared.refusal.Refusal.TheVariants as refusal
 use Rattle.iova_range.specs.Frames.{Frames, covers, meets}
@@ -28,7 +29,7 @@ use Rattle.iova_model.specs.Transcript.{Pair, IsTranscript, after, IsUnmappedAt,
 -- 1. Validity is kept.
 
 abbrev pub NewDomainsAreValid : Type 0
-NewDomainsAreValid = (bounds : Extent) (workers : ℕ) → IsExtent bounds → 1 ≤ workers → workers ≤ 16 → IsValid (new_domain bounds workers)
+NewDomainsAreValid = (bounds : Extent) (workers : ℕ) → IsExtent bounds → 1 ≤ workers → workers ≤ MAX_WORKERS → IsValid (new_domain bounds workers)
 
 abbrev pub StepsKeepValidity : Type 0
 StepsKeepValidity = (s : State) (st : Step) (m : Point) → IsValid s → IsValid (next s st m).state
@@ -287,7 +288,7 @@ unless_no_worker s w r = if no_worker s w then refusal.NoWorker else r
 
 abbrev pub unknown_refusal : State → Step → Refusal
 unknown_refusal s (step.Alloc w id frames limit) =
-    unless_no_worker s w (if frames == 0 then refusal.Zero else if nat_lt 1048576 frames then refusal.TooBig else refusal.NoClient)
+    unless_no_worker s w (if frames == 0 then refusal.Zero else if nat_lt MAX_FRAMES frames then refusal.TooBig else refusal.NoClient)
 unknown_refusal s (step.Unmap w id lo) = unless_no_worker s w refusal.NoClient
 unknown_refusal s (step.Close w id) = unless_no_worker s w refusal.NoClient
 unknown_refusal s (step.CloseOne w id) = unless_no_worker s w refusal.NoClient
@@ -370,10 +371,10 @@ StepsKeepTheDomain = (s : State) (st : Step) (m : Point) → ((next s st m).stat
 -- 9. The numbers of the flushes.
 
 abbrev pub NewFlushesAreSound : Type 0
-NewFlushesAreSound = (n : ℕ) → n ≤ 2 ^ 63 - 1 → AreSound (flushes_from n)
+NewFlushesAreSound = (n : ℕ) → n ≤ MAX_SERIAL → AreSound (flushes_from n)
 
 abbrev pub BeginsKeepFlushesSound : Type 0
-BeginsKeepFlushesSound = (f : Flushes) → AreSound f → length f.in_flight < 32 → f.start < 2 ^ 63 - 1 → AreSound (begun f)
+BeginsKeepFlushesSound = (f : Flushes) → AreSound f → length f.in_flight < MAX_FLIGHTS → f.start < MAX_SERIAL → AreSound (begun f)
 
 abbrev pub EndsKeepFlushesSound : Type 0
 EndsKeepFlushesSound = (f : Flushes) (n : ℕ) (ok : Bool) → AreSound f → is_in_flight n f.in_flight ≡ true → AreSound (ended f n ok)

@@ -1,11 +1,13 @@
 -- The promises of the product: what holds of every list of steps that are run from a valid state, and of the state that they
 -- leave. Whatever runs steps states these.
-use Rattle.std.specs.Prelude.{ℕ, ◌≡◌, ◌<◌, ◌≤◌, ◌⊎◌, List, [], ◌∷◌, ◌++◌, take, Some, None, slice_get}
+use Rattle.std.specs.Prelude.{ℕ, ◌≡◌, ◌<◌, ◌≤◌, ◌+◌, ◌%◌, ◌⊎◌, List, [], ◌∷◌, ◌++◌, take, Some, None, slice_get}
+use Rattle.iova_range.specs.Frames.{Frames}
+use Rattle.iova_range.specs.Sizes.{align_of}
 use Rattle.iova_model.specs.declared.step.Step.{Step}
 use Rattle.iova_model.specs.declared.step.Reply.{Reply}
 use Rattle.iova_model.specs.declared.step.Reply.TheVariants as reply
 use Rattle.iova_model.specs.Clients.{Client, client_with, totals}
-use Rattle.iova_model.specs.State.{State, place_of}
+use Rattle.iova_model.specs.State.{State, Holder, holders, owners, place_of}
 use Rattle.iova_model.specs.Valid.{IsValid}
 use Rattle.iova_model.specs.Next.{next}
 use Rattle.iova_model.specs.Transcript.{Pair, IsTranscript, after, IsRun, IsUnmappedAt, IsFlushedBetween, FlushLaw}
@@ -38,6 +40,20 @@ ConservationLaw s ps = (n : ℕ) (p : Pair) → slice_get ps n ≡ Some p → Co
 abbrev pub OnePlace : State → Type 0
 OnePlace t = (frame : ℕ) → IsOnlyAt t frame (place_of t frame)
 
+-- What somebody has lies inside the bounds, and so is not frame 0.
+pub record IsWithin (s : State) (r : Frames) : Type 0 where
+  pub some : 1 ≤ r.len
+  pub above_zero : 1 ≤ r.lo
+  pub start : s.bounds.start ≤ r.lo
+  pub last : r.lo + r.len ≤ s.bounds.last + 1
+
+abbrev pub HoldersAreWithin : State → Type 0
+HoldersAreWithin s = (i : ℕ) (h : Holder) → slice_get (holders s) i ≡ Some h → IsWithin s h.range
+
+-- What somebody has, unless it is a window, begins at a multiple of the least power of two that isn't below its length.
+abbrev pub OwnersAreAligned : State → Type 0
+OwnersAreAligned s = (i : ℕ) (h : Holder) → slice_get (owners s) i ≡ Some h → h.range.lo % align_of h.range.len ≡ 0
+
 -- The steps from s on, with their replies, keep the laws, and each frame of the state that they leave is in one place; the
 -- counts add up to the bounds, and the totals are the sums of the shares of all workers.
 pub record AreKept (s : State) (ps : List Pair) : Type 0 where
@@ -48,6 +64,8 @@ pub record AreKept (s : State) (ps : List Pair) : Type 0 where
   pub conserved : ConservationLaw s ps
   pub valid : IsValid (after s ps)
   pub one_place : OnePlace (after s ps)
+  pub within : HoldersAreWithin (after s ps)
+  pub aligned : OwnersAreAligned (after s ps)
   pub counted : CountsAddUp (after s ps)
   pub totals : totals (after s ps).clients ≡ shares_below (after s ps).workers (after s ps).clients
 

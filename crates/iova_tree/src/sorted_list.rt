@@ -9,12 +9,13 @@ ghost use Rattle.iova_model.specs.Next.{from_to, union, windows_with};
 ghost use Rattle.iova_tree.specs.Space.{ranges_of, IsInside, IsSpace, reserve_refusal, clear_of};
 ghost use Rattle.iova_tree.specs.Sorted.{IsLastAligned, Picks};
 
-use crate::place::place_of;
+use crate::position::position_of;
 use crate::window::{count_clear, join, meets};
 use iova_range::bounds::Bounds;
+use iova_range::limits::{MAX_FRAMES, MAX_WINDOWS};
 use iova_range::range::Range;
 use iova_range::refusal::Refusal;
-use iova_range::sizes::{MAX_FRAMES, align_of};
+use iova_range::sizes::align_of;
 use std::alloc::Global;
 use std::marker::Model;
 
@@ -37,9 +38,6 @@ impl Model for SortedList {
 }
 
 impl SortedList {
-    /// The most windows.
-    pub const MAX_WINDOWS: usize = 64;
-
     /// A tree with nothing allocated.
     pub fn new(alloc: Global, bounds: Bounds) -> Result<Self, Refusal>
         ensures value { IfOk result (λ t. t ≡ record { bounds = bounds; inserted = []; windows = [] }) }
@@ -93,7 +91,7 @@ impl SortedList {
         ensures ok { OnOk result (self.new ≡ record self.old { inserted = insert_rising range self.old.inserted }) }
         ensures err { OnErr result ((result ≡ Err Refusal.NoMemory) × (self.new ≡ self.old)) }
     {
-        let at = place_of(&self.inserted, range.lo());
+        let at = position_of(&self.inserted, range.lo());
         let Ok(()) = self.inserted.insert(at, range) else {
             return Err(Refusal::NoMemory);
         };
@@ -106,7 +104,7 @@ impl SortedList {
         ensures value { find (begins_at lo) self.old.inserted ≡ Some result }
         ensures rest { self.new ≡ record self.old { inserted = remove_at lo self.old.inserted } }
     {
-        let at = place_of(&self.inserted, lo);
+        let at = position_of(&self.inserted, lo);
         self.inserted.remove(at)
     }
 
@@ -124,7 +122,7 @@ impl SortedList {
     #[inline]
     pub fn windows(&self) -> &[Range]
         ensures value { result.now ≡ self.now.windows }
-        ensures few { length result.now ≤ Self.MAX_WINDOWS }
+        ensures few { length result.now ≤ MAX_WINDOWS }
         ensures space { IsSpace self.now }
     {
         &self.windows
@@ -158,14 +156,14 @@ impl SortedList {
         if meets_any(&self.inserted, asked) {
             return Err(Refusal::Taken);
         }
-        if count_clear(&self.windows, asked) >= Self::MAX_WINDOWS {
+        if count_clear(&self.windows, asked) >= MAX_WINDOWS {
             return Err(Refusal::WindowsFull);
         }
         let Ok(()) = self.windows.reserve(1) else {
             return Err(Refusal::NoMemory);
         };
         let window = absorb(&mut self.windows, asked);
-        let at = place_of(&self.windows, window.lo());
+        let at = position_of(&self.windows, window.lo());
         self.windows.insert(at, window).unwrap();
         Ok(window)
     }
