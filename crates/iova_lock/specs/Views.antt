@@ -5,25 +5,32 @@ use Rattle.iova_range.specs.declared.refusal.Refusal.{Refusal}
 use Rattle.iova_range.specs.declared.refusal.Refusal.TheVariants as refusal
 use Rattle.iova_range.specs.Frames.{Frames}
 use Rattle.iova_range.specs.Sizes.{need, align_of}
+use Rattle.iova_range.specs.declared.limits.TheConstants.{TALLY_PARTS}
 use Rattle.iova_range.specs.declared.stat.Stat.{Stat}
 use Rattle.iova_model.specs.declared.step.Step.{Step}
 use Rattle.iova_model.specs.declared.step.Step.TheVariants as step
 use Rattle.iova_model.specs.declared.step.Reply.{Reply}
 use Rattle.iova_model.specs.declared.step.Reply.TheVariants as reply
 use Rattle.iova_model.specs.declared.totals.Totals.{Totals}
-use Rattle.iova_model.specs.Clients.{Client, client_with, totals_of}
+use Rattle.iova_model.specs.Clients.{Client, client_with, totals_of, totals}
+use Rattle.iova_model.specs.Valid.{IsValid}
+use Rattle.iova_model.specs.Promises.{OnePlace, HoldersAreWithin, OwnersAreAligned}
 use Rattle.iova_model.specs.State.{State, counts}
-use Rattle.iova_model.specs.Laws.{MovesTotals, IsAmong, IsReplyTo, add_totals}
+use Rattle.iova_model.specs.Laws.{MovesTotals, IsAmong, IsReplyTo, add_totals, CountsAddUp, shares_below}
 use Rattle.iova_lock.specs.declared.ending.Ending.{Ending}
 use Rattle.iova_lock.specs.declared.ending.Ending.TheVariants as ending
-use Rattle.iova_lock.specs.StepLogs.{StepLog}
+use Rattle.iova_sink.specs.Calls.{Call, good_calls}
+use Rattle.iova_lock.specs.StepLogs.{StepLog, IsRecorded}
 
--- a book: its domain's number, whether it is strict, its domain, and its log
+-- A book: its domain's number, whether it is strict, its domain, and its log; and the totals of its four ledgers, which are the
+-- sums of the shares that all seats and tallies keep.
 pub record BookState : Type 0 where
   pub number : ℕ
   pub strict : Bool
   pub state : State
   pub log : Option StepLog
+  pub shares : Totals
+  pub ended : ℕ
 
 -- a tally: the flushes that it ended well, and its parts
 pub record TallyState : Type 0 where
@@ -41,7 +48,7 @@ nothing = totals_of []
 
 -- a worker's new seat
 abbrev pub new_seat : ℕ → SeatState
-new_seat worker = record { worker = worker; held = record { count = 0; frames = 0; sum_lo = 0 }; tally = record { good = 0; parts = 256 } }
+new_seat worker = record { worker = worker; held = record { count = 0; frames = 0; sum_lo = 0 }; tally = record { good = 0; parts = TALLY_PARTS } }
 
 -- the new seats of the workers below a number
 abbrev pub new_seats : ℕ → List SeatState
@@ -55,6 +62,25 @@ Lacks held r = (held.count < 1) ⊎ (held.frames < r.len) ⊎ (held.sum_lo < r.l
 -- or not
 abbrev pub Covers : Totals → Frames → Type 0
 Covers held r = (1 ≤ held.count) × (r.len ≤ held.frames) × (r.lo ≤ held.sum_lo)
+
+-- What each domain keeps: no limit of a list is passed, the numbers of the flushes are sound, and the counts of each ring rise
+-- up to the start count; each frame is in one place; what somebody has is inside the bounds, and aligned unless it is a window;
+-- the counts add up to the bounds; and the totals are the sums of all workers' shares.
+pub record IsKept (s : State) : Type 0 where
+  pub valid : IsValid s
+  pub one_place : OnePlace s
+  pub within : HoldersAreWithin s
+  pub aligned : OwnersAreAligned s
+  pub counted : CountsAddUp s
+  pub totals : totals s.clients ≡ shares_below s.workers s.clients
+
+-- What the value under the lock keeps: its domain's promises; the totals of its ledgers are the domain's totals and the number
+-- of its flushes that ended well; and while it records, its log is a transcript that leaves the domain.
+pub record IsBook (b : BookState) : Type 0 where
+  pub domain : IsKept b.state
+  pub shares : b.shares ≡ totals b.state.clients
+  pub ended : b.ended ≡ b.state.flushes.good
+  pub recorded : IsRecorded b.log b.state
 
 -- what a client holds, 0 where there is no such client
 abbrev pub left_in : Option Client → ℕ
@@ -164,6 +190,10 @@ IsCloseHeard o = ⊥
 abbrev pub WhereKnown : Option State → Option State → (State → State → Type 0) → Type 0
 WhereKnown None after P = Unit {0}
 WhereKnown (Some s) after P = MatchOption after ⊥ (λ t. P s t)
+
+-- flushes that ended well rise from old to new, by at most the good calls that the sink was made
+abbrev pub RisesWithin : ℕ → ℕ → List Call → List Call → Type 0
+RisesWithin old new before now = new + good_calls before ≤ old + good_calls now
 
 -- Shares.
 

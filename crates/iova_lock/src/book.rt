@@ -3,12 +3,10 @@ ghost use Rattle.std.specs.Prelude.{◌≡◌, ◌≢◌, ◌+◌, ◌<◌, ◌�
 ghost use Rattle.iova_range.specs.Frames.{Frames};
 ghost use Rattle.iova_model.specs.Clients.{totals, client_of};
 ghost use Rattle.iova_model.specs.State.{State, new_domain};
-ghost use Rattle.iova_model.specs.Laws.{MovesTotals, IsReplyTo, ended_well, to_queue, shares_below};
-ghost use Rattle.iova_model.specs.Valid.{IsValid};
-ghost use Rattle.iova_model.specs.Promises.{OnePlace};
+ghost use Rattle.iova_model.specs.Laws.{MovesTotals, IsReplyTo, ended_well, to_queue};
 ghost use Rattle.iova_lock.specs.StepLogs.{Takes, StepLog, IsGivenWithin, IsDrainReply, IsRecorded, is_recording};
 ghost use Rattle.iova_lock.specs.Events.{Does, Unmapping, IsShort, Closing, Draining, rings_from};
-ghost use Rattle.iova_lock.specs.Views.{BookState, TallyState, SeatState, Covers, IsSame, by_seat, by_tally, new_seats, left_of, stat_of, IsLowered, IsCloseHeard};
+ghost use Rattle.iova_lock.specs.Views.{BookState, TallyState, SeatState, Covers, IsSame, by_seat, by_tally, new_seats, left_of, stat_of, nothing, IsLowered, IsCloseHeard, IsKept, IsBook};
 
 use crate::machine::{Machine, Stored};
 use crate::seat::{Seat, Tally};
@@ -16,6 +14,7 @@ use iova_core::domain::Domain;
 use iova_core::{Reply, Step};
 use iova_model::totals::Totals;
 use iova_range::bounds::Bounds;
+use iova_range::limits::{MAX_ENTRIES, MAX_WORKERS, TALLY_PARTS};
 use iova_range::range::Range;
 use iova_range::refusal::Refusal;
 use iova_range::stat::Stat;
@@ -43,9 +42,19 @@ impl<C: Ledger, F: Ledger, S: Ledger, G: Ledger> Model for Book<C, F, S, G> {
 
     ghost Value = { BookState };
 
-    ghost view = { λ b. record { number = b.number; strict = b.strict; state = b.machine.state; log = b.machine.log } };
+    ghost view = { λ b. record {
+        number = b.number;
+        strict = b.strict;
+        state = b.machine.state;
+        log = b.machine.log;
+        shares = record { count = b.count.total; frames = b.frames.total; sum_lo = b.sum_lo.total };
+        ended = b.good.total;
+    } };
 
-    ghost invariant = { λ b. (b.count.total ≡ (totals b.machine.state.clients).count) × (b.frames.total ≡ (totals b.machine.state.clients).frames) × (b.sum_lo.total ≡ (totals b.machine.state.clients).sum_lo) × (b.good.total ≡ b.machine.state.flushes.good) };
+    ghost invariant = { λ b. (b.count.total ≡ (totals b.machine.state.clients).count)
+        × (b.frames.total ≡ (totals b.machine.state.clients).frames)
+        × (b.sum_lo.total ≡ (totals b.machine.state.clients).sum_lo)
+        × (b.good.total ≡ b.machine.state.flushes.good) };
 }
 
 impl<C: Ledger, F: Ledger, S: Ledger, G: Ledger> Book<C, F, S, G> {
@@ -60,12 +69,17 @@ impl<C: Ledger, F: Ledger, S: Ledger, G: Ledger> Book<C, F, S, G> {
         sum_lo: Blank,
         good: Blank,
     ) -> Result<(Book<C, F, S, G>, Vec<Seat<C, F, S, G>>), Refusal>
-        requires count { 1 ≤ workers → workers ≤ 16 → (count.name ≡ C.name) × (count.parts ≡ C.parts) × (count.parts ≡ workers) }
-        requires frames { 1 ≤ workers → workers ≤ 16 → (frames.name ≡ F.name) × (frames.parts ≡ F.parts) × (frames.parts ≡ workers) }
-        requires sum_lo { 1 ≤ workers → workers ≤ 16 → (sum_lo.name ≡ S.name) × (sum_lo.parts ≡ S.parts) × (sum_lo.parts ≡ workers) }
-        requires good { 1 ≤ workers → workers ≤ 16 → (good.name ≡ G.name) × (good.parts ≡ G.parts) × (good.parts ≡ 256 * workers) }
-        ensures ok { IfOk result (λ r. (r.0 ≡ record { number = number; strict = false; state = new_domain bounds workers; log = None }) × (r.1.items ≡ new_seats workers)) }
-        ensures workers { (result ≡ Err Refusal.NoWorker) ↔ ((workers ≡ 0) ⊎ (17 ≤ workers)) }
+        requires count { 1 ≤ workers → workers ≤ MAX_WORKERS → (count.name ≡ C.name) × (count.parts ≡ C.parts)
+            × (count.parts ≡ workers) }
+        requires frames { 1 ≤ workers → workers ≤ MAX_WORKERS → (frames.name ≡ F.name)
+            × (frames.parts ≡ F.parts) × (frames.parts ≡ workers) }
+        requires sum_lo { 1 ≤ workers → workers ≤ MAX_WORKERS → (sum_lo.name ≡ S.name)
+            × (sum_lo.parts ≡ S.parts) × (sum_lo.parts ≡ workers) }
+        requires good { 1 ≤ workers → workers ≤ MAX_WORKERS → (good.name ≡ G.name) × (good.parts ≡ G.parts)
+            × (good.parts ≡ TALLY_PARTS * workers) }
+        ensures ok { IfOk result (λ r. (r.0 ≡ record { number = number; strict = false; state = new_domain
+            bounds workers; log = None; shares = nothing; ended = 0 }) × (r.1.items ≡ new_seats workers)) }
+        ensures workers { (result ≡ Err Refusal.NoWorker) ↔ ((workers ≡ 0) ⊎ (MAX_WORKERS < workers)) }
         ensures memory { IsErr result → (result ≡ Err Refusal.NoWorker) ⊎ (result ≡ Err Refusal.NoMemory) }
     {
         let machine = Machine::new(alloc, bounds, workers)?;
@@ -86,7 +100,8 @@ impl<C: Ledger, F: Ledger, S: Ledger, G: Ledger> Book<C, F, S, G> {
         ))
     }
 
-    /// A new domain whose first steps are recorded, `pairs` of them, and a seat for each worker. Refused by `NoWorker` where the workers aren't 1 to 16, and by `NoMemory`.
+    /// A new domain whose first steps are recorded, `pairs` of them, and a seat for each worker. Refused by `NoWorker` where
+    /// the workers aren't 1 to 16, and by `NoMemory`.
     pub fn recorded(
         alloc: Global,
         number: u64,
@@ -98,12 +113,18 @@ impl<C: Ledger, F: Ledger, S: Ledger, G: Ledger> Book<C, F, S, G> {
         sum_lo: Blank,
         good: Blank,
     ) -> Result<(Book<C, F, S, G>, Vec<Seat<C, F, S, G>>), Refusal>
-        requires count { 1 ≤ workers → workers ≤ 16 → (count.name ≡ C.name) × (count.parts ≡ C.parts) × (count.parts ≡ workers) }
-        requires frames { 1 ≤ workers → workers ≤ 16 → (frames.name ≡ F.name) × (frames.parts ≡ F.parts) × (frames.parts ≡ workers) }
-        requires sum_lo { 1 ≤ workers → workers ≤ 16 → (sum_lo.name ≡ S.name) × (sum_lo.parts ≡ S.parts) × (sum_lo.parts ≡ workers) }
-        requires good { 1 ≤ workers → workers ≤ 16 → (good.name ≡ G.name) × (good.parts ≡ G.parts) × (good.parts ≡ 256 * workers) }
-        ensures ok { IfOk result (λ r. (r.0 ≡ record { number = number; strict = false; state = new_domain bounds workers; log = Some (record { recording = true; pairs = [] }) }) × (r.1.items ≡ new_seats workers)) }
-        ensures workers { (result ≡ Err Refusal.NoWorker) ↔ ((workers ≡ 0) ⊎ (17 ≤ workers)) }
+        requires count { 1 ≤ workers → workers ≤ MAX_WORKERS → (count.name ≡ C.name) × (count.parts ≡ C.parts)
+            × (count.parts ≡ workers) }
+        requires frames { 1 ≤ workers → workers ≤ MAX_WORKERS → (frames.name ≡ F.name)
+            × (frames.parts ≡ F.parts) × (frames.parts ≡ workers) }
+        requires sum_lo { 1 ≤ workers → workers ≤ MAX_WORKERS → (sum_lo.name ≡ S.name)
+            × (sum_lo.parts ≡ S.parts) × (sum_lo.parts ≡ workers) }
+        requires good { 1 ≤ workers → workers ≤ MAX_WORKERS → (good.name ≡ G.name) × (good.parts ≡ G.parts)
+            × (good.parts ≡ TALLY_PARTS * workers) }
+        ensures ok { IfOk result (λ r. (r.0 ≡ record { number = number; strict = false; state = new_domain
+            bounds workers; log = Some (record { recording = true; pairs = [] }); shares = nothing; ended = 0 })
+            × (r.1.items ≡ new_seats workers)) }
+        ensures workers { (result ≡ Err Refusal.NoWorker) ↔ ((workers ≡ 0) ⊎ (MAX_WORKERS < workers)) }
         ensures memory { IsErr result → (result ≡ Err Refusal.NoWorker) ⊎ (result ≡ Err Refusal.NoMemory) }
     {
         let machine = Machine::recorded(alloc, bounds, workers, pairs)?;
@@ -131,6 +152,14 @@ impl<C: Ledger, F: Ledger, S: Ledger, G: Ledger> Book<C, F, S, G> {
         let mut book = self;
         book.strict = true;
         book
+    }
+
+    /// What every book keeps, whoever holds it: so whatever a thread finds under the lock, and whatever it leaves there.
+    pub fn is_kept(&self)
+        ensures { IsBook self.now }
+    {
+        self.machine.is_kept();
+        let _pairs = self.machine.pairs();
     }
 
     /// Whether steps are still recorded. While they are, the recorded pairs are a transcript from the new domain that
@@ -172,9 +201,9 @@ impl<C: Ledger, F: Ledger, S: Ledger, G: Ledger> Book<C, F, S, G> {
     pub(crate) fn workers(&self) -> u64
         ensures is { result ≡ self.now.state.workers }
         ensures some { 1 ≤ result }
-        ensures few { result ≤ 16 }
+        ensures few { result ≤ MAX_WORKERS }
     {
-        self.machine.is_valid();
+        self.machine.is_kept();
         self.machine.workers()
     }
 
@@ -187,14 +216,17 @@ impl<C: Ledger, F: Ledger, S: Ledger, G: Ledger> Book<C, F, S, G> {
 
     /// The holdings of the worker's client, rising by first frame.
     pub(crate) fn holdings_of(&self, worker: u64, id: u64) -> Option<&[Range]>
-        ensures { option_copied result ≡ option_map (λ c. c.holdings) (client_of worker id self.now.state.clients) }
+        ensures { option_copied result ≡ option_map (λ c. c.holdings)
+            (client_of worker id self.now.state.clients) }
     {
         self.machine.holdings(worker, id)
     }
 
     pub(crate) fn into_domain(self) -> Domain
-        ensures { result ≡ self.state }
+        ensures is { result ≡ self.state }
+        ensures kept { IsKept result }
     {
+        self.machine.is_kept();
         let Book {
             number: _,
             strict: _,
@@ -219,7 +251,8 @@ impl<C: Ledger, F: Ledger, S: Ledger, G: Ledger> Book<C, F, S, G> {
         requires summed { summed.old.parts ≡ S.parts }
         ensures same { self.new ≡ self.old }
         ensures locked { result ≡ totals self.old.state.clients }
-        ensures sums { (result.count ≡ counted.old.amount) × (result.frames ≡ framed.old.amount) × (result.sum_lo ≡ summed.old.amount) }
+        ensures sums { (result.count ≡ counted.old.amount) × (result.frames ≡ framed.old.amount)
+            × (result.sum_lo ≡ summed.old.amount) }
     {
         self.count.audit(counted);
         self.frames.audit(framed);
@@ -244,7 +277,8 @@ impl<C: Ledger, F: Ledger, S: Ledger, G: Ledger> Book<C, F, S, G> {
 
     /// Closes the client, range by range, until a step queues none, and answers that step's reply.
     pub(crate) fn close_all(&mut self, seat: &mut Seat<C, F, S, G>, id: u64) -> Reply
-        ensures closes { Does (Closing (Step.CloseOne seat.old.worker id) seat.old.held seat.new.held result) self.old.state self.new.state }
+        ensures closes { Does (Closing (Step.CloseOne seat.old.worker id) seat.old.held seat.new.held result)
+            self.old.state self.new.state }
         ensures shares { (ranges : List Frames) × IsLowered ranges seat.old.held seat.new.held }
         ensures heard { IsCloseHeard (Some result) }
         ensures same { IsSame self.old self.new }
@@ -262,11 +296,11 @@ impl<C: Ledger, F: Ledger, S: Ledger, G: Ledger> Book<C, F, S, G> {
 
     /// Drains `left` rings from `ring` on, and answers how many entries that frees.
     pub(crate) fn drain_rings(&mut self, ring: u64, left: u64, by: u64) -> u64
-        requires few { ring + left ≤ 16 }
+        requires few { ring + left ≤ MAX_WORKERS }
         requires rings { ring + left ≡ self.old.state.workers }
         requires worker { by < self.old.state.workers }
         ensures drains { Does (Draining by (rings_from ring left) result) self.old.state self.new.state }
-        ensures bound { result ≤ 255 * left }
+        ensures bound { result ≤ MAX_ENTRIES * left }
         ensures same { IsSame self.old self.new }
     {
         if left == 0 {
@@ -281,7 +315,7 @@ impl<C: Ledger, F: Ledger, S: Ledger, G: Ledger> Book<C, F, S, G> {
         requires ring { ring < self.old.state.workers }
         requires worker { by < self.old.state.workers }
         ensures takes { Takes self.old.state (Step.Drain ring by) (Reply.Drained result) self.new.state }
-        ensures bound { result ≤ 255 }
+        ensures bound { result ≤ MAX_ENTRIES }
         ensures workers { self.new.state.workers ≡ self.old.state.workers }
         ensures same { IsSame self.old self.new }
     {
@@ -393,9 +427,10 @@ fn seats<C: Ledger, F: Ledger, S: Ledger, G: Ledger>(
     requires count { (count.name ≡ C.name) × (count.parts ≡ C.parts) × (count.parts ≡ workers) }
     requires frames { (frames.name ≡ F.name) × (frames.parts ≡ F.parts) × (frames.parts ≡ workers) }
     requires sum_lo { (sum_lo.name ≡ S.name) × (sum_lo.parts ≡ S.parts) × (sum_lo.parts ≡ workers) }
-    requires good { (good.name ≡ G.name) × (good.parts ≡ G.parts) × (good.parts ≡ 256 * workers) }
-    requires workers { workers ≤ 16 }
-    ensures ok { IfOk result (λ r. (r.0.items ≡ new_seats workers) × (r.1.total ≡ 0) × (r.2.total ≡ 0) × (r.3.total ≡ 0) × (r.4.total ≡ 0)) }
+    requires good { (good.name ≡ G.name) × (good.parts ≡ G.parts) × (good.parts ≡ TALLY_PARTS * workers) }
+    requires workers { workers ≤ MAX_WORKERS }
+    ensures ok { IfOk result (λ r. (r.0.items ≡ new_seats workers) × (r.1.total ≡ 0) × (r.2.total ≡ 0)
+        × (r.3.total ≡ 0) × (r.4.total ≡ 0)) }
     ensures err { IsErr result → result ≡ Err Refusal.NoMemory }
 {
     let (count, mut counted) = count.open::<C>();
@@ -406,8 +441,8 @@ fn seats<C: Ledger, F: Ledger, S: Ledger, G: Ledger>(
     for worker in 0..workers {
         let tally = Tally {
             good: 0,
-            parts: 256,
-            share: ended.split_off(256, 0),
+            parts: TALLY_PARTS,
+            share: ended.split_off(TALLY_PARTS, 0),
         };
         let seat = Seat {
             worker,

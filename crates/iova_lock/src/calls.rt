@@ -1,8 +1,8 @@
 //! Calls of several holds, over any keeper. The sink runs between two holds, never in one.
 ghost use Rattle.std.specs.Prelude.{◌≡◌, ℕ, ◌+◌, ◌<◌, ◌≤◌, ◌++◌, List, [], ◌∷◌, Some, Err, true, false, IfOk, IfErr, MatchResult};
 ghost use Rattle.iova_model.specs.Laws.{MovesTotals, IsReplyTo};
-ghost use Rattle.iova_sink.specs.Calls.{good_calls, failed_calls};
-ghost use Rattle.iova_lock.specs.Views.{TallyState, SeatState, WhereKnown, queued_or, begun_or, IsUnmapRefusal, IsBeginRefusal, IsFlushRefusal, IsUnmapHeard};
+ghost use Rattle.iova_sink.specs.Calls.{failed_calls};
+ghost use Rattle.iova_lock.specs.Views.{TallyState, SeatState, WhereKnown, RisesWithin, queued_or, begun_or, IsUnmapRefusal, IsBeginRefusal, IsFlushRefusal, IsUnmapHeard};
 ghost use Rattle.iova_lock.specs.Answers.{DoesUnmap, DoesFlush, DoesTimeout};
 
 use crate::keep::{Heard, Keep};
@@ -22,11 +22,15 @@ pub fn flush<C: Ledger, F: Ledger, S: Ledger, G: Ledger, K: Keep<C, F, S, G>, D:
     tally: &mut Tally<G>,
     sink: &mut D,
 ) -> Result<u64, Refusal>
-    ensures domain { WhereKnown (K.domain keeper.old) (K.domain keeper.new) (DoesFlush result (K.domain_number keeper.old) (D.calls sink.old) (D.calls sink.new)) }
-    ensures sunk { IfOk result (λ no. D.calls sink.new ≡ D.calls sink.old ++ record { domain = K.domain_number keeper.old; number = no; ok = true } ∷ []) }
-    ensures fault { result ≡ Err Refusal.SinkFault → (no : ℕ) × (D.calls sink.new ≡ D.calls sink.old ++ record { domain = K.domain_number keeper.old; number = no; ok = false } ∷ []) }
+    ensures domain { WhereKnown (K.domain keeper.old) (K.domain keeper.new)
+        (DoesFlush result (K.domain_number keeper.old) (D.calls sink.old) (D.calls sink.new)) }
+    ensures sunk { IfOk result (λ no. D.calls sink.new ≡ D.calls
+        sink.old ++ record { domain = K.domain_number keeper.old; number = no; ok = true } ∷ []) }
+    ensures fault { result ≡ Err Refusal.SinkFault → (no : ℕ)
+        × (D.calls sink.new ≡ D.calls
+        sink.old ++ record { domain = K.domain_number keeper.old; number = no; ok = false } ∷ []) }
     ensures refusal { IfErr result IsFlushRefusal }
-    ensures tally { tally.new.good + good_calls (D.calls sink.old) ≤ tally.old.good + good_calls (D.calls sink.new) }
+    ensures tally { RisesWithin tally.old.good tally.new.good (D.calls sink.old) (D.calls sink.new) }
     ensures parts { tally.new.parts ≡ tally.old.parts }
     ensures number { K.domain_number keeper.new ≡ K.domain_number keeper.old }
 {
@@ -58,11 +62,12 @@ pub fn unmap<C: Ledger, F: Ledger, S: Ledger, G: Ledger, K: Keep<C, F, S, G>, D:
     id: ClientId,
     lo: u64,
 ) -> Result<Range, Refusal>
-    ensures domain { WhereKnown (K.domain keeper.old) (K.domain keeper.new) (DoesUnmap seat.old id lo result (K.domain_number keeper.old) (D.calls sink.old) (D.calls sink.new)) }
+    ensures domain { WhereKnown (K.domain keeper.old) (K.domain keeper.new)
+        (DoesUnmap seat.old id lo result (K.domain_number keeper.old) (D.calls sink.old) (D.calls sink.new)) }
     ensures answer { MatchResult result (λ r. r.lo ≡ lo) IsUnmapRefusal }
     ensures seat { MovesTotals (queued_or result) seat.old.held seat.new.held }
     ensures worker { seat.new.worker ≡ seat.old.worker }
-    ensures tally { seat.new.tally.good + good_calls (D.calls sink.old) ≤ seat.old.tally.good + good_calls (D.calls sink.new) }
+    ensures tally { RisesWithin seat.old.tally.good seat.new.tally.good (D.calls sink.old) (D.calls sink.new) }
     ensures parts { seat.new.tally.parts ≡ seat.old.tally.parts }
     ensures number { K.domain_number keeper.new ≡ K.domain_number keeper.old }
 {
@@ -91,9 +96,11 @@ pub fn timeout<C: Ledger, F: Ledger, S: Ledger, G: Ledger, K: Keep<C, F, S, G>, 
     tally: &mut Tally<G>,
     sink: &mut D,
 ) -> Result<u64, Refusal>
-    ensures domain { WhereKnown (K.domain keeper.old) (K.domain keeper.new) (DoesTimeout result (K.domain_number keeper.old) (D.calls sink.old) (D.calls sink.new)) }
-    ensures fault { result ≡ Err Refusal.SinkFault → failed_calls (D.calls sink.old) < failed_calls (D.calls sink.new) }
-    ensures tally { tally.new.good + good_calls (D.calls sink.old) ≤ tally.old.good + good_calls (D.calls sink.new) }
+    ensures domain { WhereKnown (K.domain keeper.old) (K.domain keeper.new)
+        (DoesTimeout result (K.domain_number keeper.old) (D.calls sink.old) (D.calls sink.new)) }
+    ensures fault { result ≡ Err Refusal.SinkFault
+        → failed_calls (D.calls sink.old) < failed_calls (D.calls sink.new) }
+    ensures tally { RisesWithin tally.old.good tally.new.good (D.calls sink.old) (D.calls sink.new) }
     ensures parts { tally.new.parts ≡ tally.old.parts }
     ensures number { K.domain_number keeper.new ≡ K.domain_number keeper.old }
 {

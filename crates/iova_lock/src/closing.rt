@@ -2,8 +2,8 @@
 ghost use Rattle.std.specs.Prelude.{◌≡◌, ◌≢◌, ◌==◌, ℕ, ◌+◌, ◌<◌, ◌≤◌, ◌⊎◌, Some, None, Ok, Err, List, true, false, IfSome, IfNone, MatchBool};
 ghost use Rattle.iova_range.specs.Frames.{Frames};
 ghost use Rattle.iova_model.specs.Laws.{IsReplyTo};
-ghost use Rattle.iova_sink.specs.Calls.{good_calls, failed_calls};
-ghost use Rattle.iova_lock.specs.Views.{TallyState, SeatState, WhereKnown, IsCloseHeard, IsCloseRefusal, IsBeginHeard, LowersTold, IsLowered};
+ghost use Rattle.iova_sink.specs.Calls.{failed_calls};
+ghost use Rattle.iova_lock.specs.Views.{TallyState, SeatState, WhereKnown, RisesWithin, IsCloseHeard, IsCloseRefusal, IsBeginHeard, LowersTold, IsLowered};
 ghost use Rattle.iova_lock.specs.Events.{Answered};
 ghost use Rattle.iova_lock.specs.Answers.{DoesEndClient, DoesRest, Leaves};
 
@@ -32,11 +32,14 @@ pub fn end_client<
     sink: &mut D,
     id: ClientId,
 ) -> Result<Ending, Refusal>
-    ensures domain { WhereKnown (K.domain keeper.old) (K.domain keeper.new) (DoesEndClient seat.old seat.new.held id result (K.domain_number keeper.old) (D.calls sink.old) (D.calls sink.new)) }
+    ensures domain { WhereKnown (K.domain keeper.old) (K.domain keeper.new)
+        (DoesEndClient seat.old seat.new.held id result (K.domain_number keeper.old) (D.calls sink.old)
+        (D.calls sink.new)) }
     ensures shares { LowersTold result seat.old.held seat.new.held }
-    ensures fault { (left : ℕ) → result ≡ Ok (Ending.Waiting left Why.SinkFailed) → failed_calls (D.calls sink.old) < failed_calls (D.calls sink.new) }
+    ensures fault { (left : ℕ) → result ≡ Ok (Ending.Waiting left Why.SinkFailed)
+        → failed_calls (D.calls sink.old) < failed_calls (D.calls sink.new) }
     ensures worker { seat.new.worker ≡ seat.old.worker }
-    ensures tally { seat.new.tally.good + good_calls (D.calls sink.old) ≤ seat.old.tally.good + good_calls (D.calls sink.new) }
+    ensures tally { RisesWithin seat.old.tally.good seat.new.tally.good (D.calls sink.old) (D.calls sink.new) }
     ensures parts { seat.new.tally.parts ≡ seat.old.tally.parts }
     ensures number { K.domain_number keeper.new ≡ K.domain_number keeper.old }
 {
@@ -73,7 +76,9 @@ fn close_rest<
     id: ClientId,
     no: u64,
 ) -> LastHold
-    ensures domain { WhereKnown (K.domain keeper.old) (K.domain keeper.new) (DoesRest seat.old seat.new.held id no result.ok result.heard.reply result.heard.begun (K.domain_number keeper.old) (D.calls sink.old) (D.calls sink.new)) }
+    ensures domain { WhereKnown (K.domain keeper.old) (K.domain keeper.new)
+        (DoesRest seat.old seat.new.held id no result.ok result.heard.reply result.heard.begun
+        (K.domain_number keeper.old) (D.calls sink.old) (D.calls sink.new)) }
     ensures left { WhereKnown (K.domain keeper.old) (K.domain keeper.new) (Leaves id result.heard.left) }
     ensures shares { (ranges : List Frames) × IsLowered ranges seat.old.held seat.new.held }
     ensures heard { IsCloseHeard result.heard.reply }
@@ -82,7 +87,7 @@ fn close_rest<
     ensures failed { failed_calls (D.calls sink.old) ≤ failed_calls (D.calls sink.new) }
     ensures fault { result.ok ≡ false → failed_calls (D.calls sink.old) < failed_calls (D.calls sink.new) }
     ensures worker { seat.new.worker ≡ seat.old.worker }
-    ensures tally { seat.new.tally.good + good_calls (D.calls sink.old) ≤ seat.old.tally.good + good_calls (D.calls sink.new) }
+    ensures tally { RisesWithin seat.old.tally.good seat.new.tally.good (D.calls sink.old) (D.calls sink.new) }
     ensures parts { seat.new.tally.parts ≡ seat.old.tally.parts }
     ensures number { K.domain_number keeper.new ≡ K.domain_number keeper.old }
 {
@@ -146,7 +151,8 @@ fn closed(queued: u64, left: u64, flushed: Option<bool>, reply: Reply) -> Result
 fn not_begun(begun: Reply) -> Why
     requires begin { IsReplyTo Step.Begin begun }
     requires none { (no : ℕ) → begun ≢ Reply.Begun no }
-    ensures { ((begun ≡ Reply.Refused Refusal.FlightsFull) × (result ≡ Why.FlightsFull)) ⊎ ((begun ≡ Reply.Refused Refusal.Worn) × (result ≡ Why.Worn)) }
+    ensures { ((begun ≡ Reply.Refused Refusal.FlightsFull) × (result ≡ Why.FlightsFull))
+        ⊎ ((begun ≡ Reply.Refused Refusal.Worn) × (result ≡ Why.Worn)) }
 {
     match begun {
         Reply::Refused(Refusal::FlightsFull) => Why::FlightsFull,
@@ -176,7 +182,8 @@ fn refused(
 /// Why the ring is full right after a flush.
 fn still_full(flushed: Option<bool>) -> Why
     requires { flushed ≢ None }
-    ensures { ((flushed ≡ Some true) × (result ≡ Why.Overlap)) ⊎ ((flushed ≡ Some false) × (result ≡ Why.SinkFailed)) }
+    ensures { ((flushed ≡ Some true) × (result ≡ Why.Overlap))
+        ⊎ ((flushed ≡ Some false) × (result ≡ Why.SinkFailed)) }
 {
     match flushed {
         Some(true) => Why::Overlap,

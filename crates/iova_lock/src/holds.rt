@@ -51,7 +51,8 @@ fn queued_between(before: Totals, after: Totals) -> Totals
 
 /// Whether the ring was full.
 pub(crate) fn is_full(reply: &Reply) -> bool
-    ensures { MatchBool result (reply.now ≡ Reply.Refused Refusal.RingFull) (reply.now ≢ Reply.Refused Refusal.RingFull) }
+    ensures { MatchBool result (reply.now ≡ Reply.Refused Refusal.RingFull)
+        (reply.now ≢ Reply.Refused Refusal.RingFull) }
 {
     matches!(reply, Reply::Refused(Refusal::RingFull))
 }

@@ -5,13 +5,14 @@ ghost use Rattle.iova_model.specs.Clients.{totals};
 ghost use Rattle.iova_model.specs.State.{State};
 ghost use Rattle.iova_model.specs.Laws.{MovesTotals, IsReplyTo, ended_well};
 ghost use Rattle.iova_lock.specs.Views.{TallyState, SeatState, WhereKnown, IsOpenRefusal, IsAllocRefusal, IsGivenTo, IsUnmapHeard, IsBeginHeard, IsCloseHeard, MovesHeard, Lowers, queued_by, given_or, stat_of};
-ghost use Rattle.iova_lock.specs.Batches.{Batched, TellsAsks};
+ghost use Rattle.iova_lock.specs.Batches.{DoesBatch, TellsAsks};
 ghost use Rattle.iova_lock.specs.Answers.{Opens, Allocs, UnmapsFirst, UnmapsAgain, Begins, Ends, ClosesFirst, ClosesAgain, Leaves, DrainsAll, ReadsHoldings};
 
 use crate::ask::{Ask, Told};
 use crate::seat::{Seat, Tally};
 use iova_core::{ClientId, Reply, Step};
 use iova_model::totals::Totals;
+use iova_range::limits::MAX_RUN;
 use iova_range::range::Range;
 use iova_range::refusal::Refusal;
 use iova_range::stat::Stat;
@@ -64,7 +65,8 @@ pub trait Keep<C: Ledger, F: Ledger, S: Ledger, G: Ledger> {
         limit: u64,
     ) -> Result<Range, Refusal>
         ensures number { domain_number self.new ≡ domain_number self.old }
-        ensures domain { WhereKnown (domain self.old) (domain self.new) (Allocs seat.old.worker id frames limit result) }
+        ensures domain { WhereKnown (domain self.old) (domain self.new)
+            (Allocs seat.old.worker id frames limit result) }
         ensures given { MatchResult result (IsGivenTo frames limit) IsAllocRefusal }
         ensures seat { MovesTotals (given_or result) seat.old.held seat.new.held }
         ensures rest { (seat.new.worker ≡ seat.old.worker) × (seat.new.tally ≡ seat.old.tally) };
@@ -72,7 +74,8 @@ pub trait Keep<C: Ledger, F: Ledger, S: Ledger, G: Ledger> {
     /// The first hold of an unmap: an unmap; where the ring is full, a flush begins.
     fn unmap_first(&mut self, seat: &mut Seat<C, F, S, G>, id: ClientId, lo: u64) -> Heard
         ensures number { domain_number self.new ≡ domain_number self.old }
-        ensures domain { WhereKnown (domain self.old) (domain self.new) (UnmapsFirst seat.old id lo result.reply result.begun) }
+        ensures domain { WhereKnown (domain self.old) (domain self.new)
+            (UnmapsFirst seat.old id lo result.reply result.begun) }
         ensures left { WhereKnown (domain self.old) (domain self.new) (Leaves id result.left) }
         ensures seat { MovesHeard result.reply seat.old.held seat.new.held }
         ensures rest { (seat.new.worker ≡ seat.old.worker) × (seat.new.tally ≡ seat.old.tally) }
@@ -91,11 +94,13 @@ pub trait Keep<C: Ledger, F: Ledger, S: Ledger, G: Ledger> {
         ok: bool,
     ) -> Heard
         ensures number { domain_number self.new ≡ domain_number self.old }
-        ensures domain { WhereKnown (domain self.old) (domain self.new) (UnmapsAgain seat.old id lo no ok result.reply) }
+        ensures domain { WhereKnown (domain self.old) (domain self.new)
+            (UnmapsAgain seat.old id lo no ok result.reply) }
         ensures left { WhereKnown (domain self.old) (domain self.new) (Leaves id result.left) }
         ensures seat { MovesHeard result.reply seat.old.held seat.new.held }
         ensures worker { seat.new.worker ≡ seat.old.worker }
-        ensures good { (seat.old.tally.good ≤ seat.new.tally.good) × (seat.new.tally.good ≤ seat.old.tally.good + (if ok then 1 else 0)) }
+        ensures good { (seat.old.tally.good ≤ seat.new.tally.good)
+            × (seat.new.tally.good ≤ seat.old.tally.good + (if ok then 1 else 0)) }
         ensures parts { seat.new.tally.parts ≡ seat.old.tally.parts }
         ensures heard { IsUnmapHeard lo result.reply }
         ensures queued { MatchOption result.reply ⊥ (λ r. result.queued ≡ queued_by r) };
@@ -111,14 +116,16 @@ pub trait Keep<C: Ledger, F: Ledger, S: Ledger, G: Ledger> {
     fn end(&mut self, tally: &mut Tally<G>, no: u64, ok: bool) -> Heard
         ensures number { domain_number self.new ≡ domain_number self.old }
         ensures domain { WhereKnown (domain self.old) (domain self.new) (Ends no ok result.reply) }
-        ensures good { MatchOption result.reply ⊥ (λ r. tally.new.good ≡ tally.old.good + ended_well (Step.End no ok) r) }
+        ensures good { MatchOption result.reply ⊥
+            (λ r. tally.new.good ≡ tally.old.good + ended_well (Step.End no ok) r) }
         ensures parts { tally.new.parts ≡ tally.old.parts };
 
     /// The first hold of a client's end: its ranges are queued, lowest first, until it is gone or a step is refused; where
     /// the ring is full, a flush begins.
     fn close_first(&mut self, seat: &mut Seat<C, F, S, G>, id: ClientId) -> Heard
         ensures number { domain_number self.new ≡ domain_number self.old }
-        ensures domain { WhereKnown (domain self.old) (domain self.new) (ClosesFirst seat.old seat.new.held id result.reply result.begun) }
+        ensures domain { WhereKnown (domain self.old) (domain self.new)
+            (ClosesFirst seat.old seat.new.held id result.reply result.begun) }
         ensures left { WhereKnown (domain self.old) (domain self.new) (Leaves id result.left) }
         ensures seat { Lowers result.queued seat.old.held seat.new.held }
         ensures rest { (seat.new.worker ≡ seat.old.worker) × (seat.new.tally ≡ seat.old.tally) }
@@ -136,11 +143,13 @@ pub trait Keep<C: Ledger, F: Ledger, S: Ledger, G: Ledger> {
         ok: bool,
     ) -> Heard
         ensures number { domain_number self.new ≡ domain_number self.old }
-        ensures domain { WhereKnown (domain self.old) (domain self.new) (ClosesAgain seat.old seat.new.held id no ok result.reply result.begun) }
+        ensures domain { WhereKnown (domain self.old) (domain self.new)
+            (ClosesAgain seat.old seat.new.held id no ok result.reply result.begun) }
         ensures left { WhereKnown (domain self.old) (domain self.new) (Leaves id result.left) }
         ensures seat { Lowers result.queued seat.old.held seat.new.held }
         ensures worker { seat.new.worker ≡ seat.old.worker }
-        ensures good { (seat.old.tally.good ≤ seat.new.tally.good) × (seat.new.tally.good ≤ seat.old.tally.good + (if ok then 1 else 0)) }
+        ensures good { (seat.old.tally.good ≤ seat.new.tally.good)
+            × (seat.new.tally.good ≤ seat.old.tally.good + (if ok then 1 else 0)) }
         ensures parts { seat.new.tally.parts ≡ seat.old.tally.parts }
         ensures heard { IsCloseHeard result.reply }
         ensures begun { IsBeginHeard result.reply result.begun }
@@ -163,11 +172,14 @@ pub trait Keep<C: Ledger, F: Ledger, S: Ledger, G: Ledger> {
         asks: &[Ask],
         told: &mut Vec<Told>,
     ) -> Result<usize, Refusal>
-        requires { (1 ≤ length asks.now) × (length asks.now ≤ 16) }
+        requires { (1 ≤ length asks.now) × (length asks.now ≤ MAX_RUN) }
         ensures number { domain_number self.new ≡ domain_number self.old }
-        ensures domain { WhereKnown (domain self.old) (domain self.new) (λ s t. MatchResult result (λ n. Batched seat.old.worker id asks.now told.old.items told.new.items n seat.old.held seat.new.held s t) (λ e. t ≡ s)) }
-        ensures told { IfOk result (λ n. TellsAsks asks.now told.old.items told.new.items n seat.old.held seat.new.held) }
-        ensures memory { IfErr result (λ e. (e ≡ Refusal.NoMemory) × (told.new.items ≡ told.old.items) × (seat.new ≡ seat.old)) }
+        ensures domain { WhereKnown (domain self.old) (domain self.new)
+            (DoesBatch seat.old seat.new.held id asks.now told.old.items told.new.items result) }
+        ensures told { IfOk result (λ n. TellsAsks asks.now told.old.items told.new.items n seat.old.held
+            seat.new.held) }
+        ensures memory { IfErr result (λ e. (e ≡ Refusal.NoMemory) × (told.new.items ≡ told.old.items)
+            × (seat.new ≡ seat.old)) }
         ensures rest { (seat.new.worker ≡ seat.old.worker) × (seat.new.tally ≡ seat.old.tally) };
 
     /// Appends the holdings of the seat's client, rising by first frame. Refused by `NoClient` and `NoMemory`; then nothing
@@ -178,9 +190,11 @@ pub trait Keep<C: Ledger, F: Ledger, S: Ledger, G: Ledger> {
         id: ClientId,
         ranges: &mut Vec<Range>,
     ) -> Result<(), Refusal>
-        ensures domain { IfSome (domain self.now) (ReadsHoldings seat.now.worker id ranges.old.items ranges.new.items result) }
+        ensures domain { IfSome (domain self.now)
+            (ReadsHoldings seat.now.worker id ranges.old.items ranges.new.items result) }
         ensures ok { IfOk result (λ u. (more : List Frames) × (ranges.new.items ≡ ranges.old.items ++ more)) }
-        ensures err { IfErr result (λ e. ((e ≡ Refusal.NoClient) ⊎ (e ≡ Refusal.NoMemory)) × (ranges.new.items ≡ ranges.old.items)) };
+        ensures err { IfErr result (λ e. ((e ≡ Refusal.NoClient) ⊎ (e ≡ Refusal.NoMemory))
+            × (ranges.new.items ≡ ranges.old.items)) };
 
     /// The count, frames and sum of first frames of all holdings.
     fn totals(&self) -> Totals

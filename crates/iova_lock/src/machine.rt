@@ -2,21 +2,22 @@
 ghost use Rattle.std.specs.Prelude.{◌≡◌, ◌+◌, ◌<◌, ◌⊎◌, ◌++◌, ◌∷◌, IfOk, IfErr, IsErr, Err, ◌≤◌, ◌↔◌, Some, None, [], true, false, option_copied, option_map};
 ghost use Rattle.iova_range.specs.Frames.{Frames};
 ghost use Rattle.iova_model.specs.Clients.{totals, client_of};
-ghost use Rattle.iova_model.specs.Valid.{IsValid};
 ghost use Rattle.iova_model.specs.State.{State, new_domain};
 ghost use Rattle.iova_model.specs.Laws.{MovesTotals, IsReplyTo, ended_well, to_queue};
 ghost use Rattle.iova_model.specs.Transcript.{Pair};
 ghost use Rattle.iova_lock.specs.StepLogs.{Takes, StepLog, MachineState, IsGivenWithin, IsDrainReply, IsRecorded, is_recording};
-ghost use Rattle.iova_lock.specs.Views.{left_of, stat_of};
+ghost use Rattle.iova_lock.specs.Views.{left_of, stat_of, IsKept};
 
 use iova_core::domain::Domain;
 use iova_core::{Point, Reply, Step};
 use iova_laws::ledgers::steps_move_ledgers;
+use iova_laws::promises::promises_are_kept;
 use iova_laws::refusals::steps_keep_the_domain;
 use iova_laws::replies::{queued_were_held, steps_are_answered_in_kind, steps_move_good};
 use iova_laws::requests::requests_are_answered;
 use iova_model::totals::Totals;
 use iova_range::bounds::Bounds;
+use iova_range::limits::MAX_WORKERS;
 use iova_range::range::Range;
 use iova_range::refusal::Refusal;
 use iova_range::stat::Stat;
@@ -94,7 +95,7 @@ impl Machine {
     /// A new domain, which is recorded where there is a log.
     pub(crate) fn new(alloc: Global, bounds: Bounds, workers: u64) -> Result<Machine, Refusal>
         ensures ok { IfOk result (λ m. m ≡ record { state = new_domain bounds workers; log = None }) }
-        ensures workers { (result ≡ Err Refusal.NoWorker) ↔ ((workers ≡ 0) ⊎ (17 ≤ workers)) }
+        ensures workers { (result ≡ Err Refusal.NoWorker) ↔ ((workers ≡ 0) ⊎ (MAX_WORKERS < workers)) }
         ensures memory { IsErr result → (result ≡ Err Refusal.NoWorker) ⊎ (result ≡ Err Refusal.NoMemory) }
     {
         Ok(Machine {
@@ -110,8 +111,9 @@ impl Machine {
         workers: u64,
         pairs: usize,
     ) -> Result<Machine, Refusal>
-        ensures ok { IfOk result (λ m. m ≡ record { state = new_domain bounds workers; log = Some (record { recording = true; pairs = [] }) }) }
-        ensures workers { (result ≡ Err Refusal.NoWorker) ↔ ((workers ≡ 0) ⊎ (17 ≤ workers)) }
+        ensures ok { IfOk result (λ m. m ≡ record { state = new_domain bounds workers; log = Some
+            (record { recording = true; pairs = [] }) }) }
+        ensures workers { (result ≡ Err Refusal.NoWorker) ↔ ((workers ≡ 0) ⊎ (MAX_WORKERS < workers)) }
         ensures memory { IsErr result → (result ≡ Err Refusal.NoWorker) ⊎ (result ≡ Err Refusal.NoMemory) }
     {
         let domain = Domain::new(alloc, bounds, workers)?;
@@ -173,7 +175,8 @@ impl Machine {
 
     /// The holdings of the worker's client, rising by first frame.
     pub(crate) fn holdings(&self, worker: u64, client: u64) -> Option<&[Range]>
-        ensures { option_copied result ≡ option_map (λ c. c.holdings) (client_of worker client self.now.state.clients) }
+        ensures { option_copied result ≡ option_map (λ c. c.holdings)
+            (client_of worker client self.now.state.clients) }
     {
         if self.domain.owner(client) != Some(worker) {
             return None;
@@ -182,9 +185,10 @@ impl Machine {
     }
 
     /// What the domain keeps.
-    pub(crate) fn is_valid(&self)
-        ensures { IsValid self.now.state }
+    pub(crate) fn is_kept(&self)
+        ensures { IsKept self.now.state }
     {
+        promises_are_kept();
         let _workers = self.domain.workers();
     }
 
@@ -257,7 +261,10 @@ fn pair_of(step: Step, point: Point, reply: Reply) -> Stored
 /// Stores a pair where there is a log.
 fn store(log: &mut Option<Log>, pair: Stored)
     ensures none { log.old ≡ None → log.new ≡ None }
-    ensures some { (kept : StepLog) → log.old ≡ Some kept → (log.new ≡ Some (record { recording = false; pairs = kept.pairs })) ⊎ ((kept.recording ≡ true) × (log.new ≡ Some (record { recording = true; pairs = kept.pairs ++ pair ∷ [] }))) }
+    ensures some { (kept : StepLog) → log.old ≡ Some kept
+        → (log.new ≡ Some (record { recording = false; pairs = kept.pairs }))
+        ⊎ ((kept.recording ≡ true) × (log.new ≡ Some
+        (record { recording = true; pairs = kept.pairs ++ pair ∷ [] }))) }
 {
     if let Some(log) = log {
         log.store(pair);
@@ -267,7 +274,9 @@ fn store(log: &mut Option<Log>, pair: Stored)
 impl Log {
     /// Stores a pair where there is room, and else records no more.
     fn store(&mut self, pair: Stored)
-        ensures { (self.new ≡ record { recording = false; pairs = self.old.pairs }) ⊎ ((self.old.recording ≡ true) × (self.new ≡ record { recording = true; pairs = self.old.pairs ++ pair ∷ [] })) }
+        ensures { (self.new ≡ record { recording = false; pairs = self.old.pairs })
+            ⊎ ((self.old.recording ≡ true)
+            × (self.new ≡ record { recording = true; pairs = self.old.pairs ++ pair ∷ [] })) }
     {
         if self.recording && self.pairs.len() < self.pairs.capacity() {
             self.pairs.push(pair).unwrap();
