@@ -11,15 +11,3 @@ ghosts-made-S-Ledger g a = record { name = a.sum_lo.name; parts = a.sum_lo.parts
 
 abbrev pub ghosts-made-G-Ledger : goal.ghosts-made-G-Ledger
 ghosts-made-G-Ledger g a = record { name = a.good.name; parts = a.good.parts }
-
-abbrev pub ghosts-made-C-Ledger-2 : goal.ghosts-made-C-Ledger-2
-ghosts-made-C-Ledger-2 g a = record { name = a.count.name; parts = a.count.parts }
-
-abbrev pub ghosts-made-F-Ledger-2 : goal.ghosts-made-F-Ledger-2
-ghosts-made-F-Ledger-2 g a = record { name = a.frames.name; parts = a.frames.parts }
-
-abbrev pub ghosts-made-S-Ledger-2 : goal.ghosts-made-S-Ledger-2
-ghosts-made-S-Ledger-2 g a = record { name = a.sum_lo.name; parts = a.sum_lo.parts }
-
-abbrev pub ghosts-made-G-Ledger-2 : goal.ghosts-made-G-Ledger-2
-ghosts-made-G-Ledger-2 g a = record { name = a.good.name; parts = a.good.parts }
