@@ -76,3 +76,6 @@ pub const MAX_RUN: usize = 16;
 
 /// The most sessions that a daemon serves. Own.
 pub const MAX_SESSIONS: u64 = 65_536;
+
+/// The parts of a worker's new tally: with one part each, so many threads can end flushes at a time. Own.
+pub const TALLY_PARTS: u64 = 256;

@@ -1,23 +1,23 @@
-//! What a domain is told to hold, in numbers.
+//! How a domain stands, in numbers.
 
-/// The frames at each kind of place of a domain, and the two counts of its flushes. All magazines are counted together, and
-/// all rings. Own.
+/// The frames of a domain's bounds, place by place, and the two counts of its flushes. Each frame of the bounds is
+/// counted at one place, so the first six add up to the length of the bounds.
 #[derive(Clone, Copy, Debug, PartialEq, Eq)]
 pub struct Stat {
-    /// Frames of the bounds in no other place.
+    /// Frames that nobody has.
     pub free: u64,
-    /// Frames of windows.
+    /// Frames in windows.
     pub reserved: u64,
-    /// Frames of clients' holdings.
+    /// Frames in the holdings of all clients.
     pub client: u64,
-    /// Frames of ranges in magazines of workers.
+    /// Frames in the magazines of all workers.
     pub magazine: u64,
-    /// Frames of ranges in the depot.
+    /// Frames in the depot.
     pub depot: u64,
-    /// Frames of ranges in flush rings.
+    /// Frames in the rings of all workers.
     pub ring: u64,
-    /// The start count: the number of the newest flush.
+    /// How many flushes have begun.
     pub start: u64,
-    /// The finish count.
+    /// Entries of rings with a lower count have been flushed.
     pub finish: u64,
 }

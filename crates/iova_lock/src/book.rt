@@ -1,0 +1,480 @@
+//! The value under the lock.
+ghost use Rattle.std.specs.Prelude.{◌≡◌, ◌≢◌, ◌+◌, ◌<◌, ◌≤◌, ◌*◌, ◌⊎◌, ◌↔◌, Err, IsErr, option_copied, option_map, true, false, if◌then◌else◌, Some, None, [], ◌∷◌, IfOk, MatchResult, MatchOption, List};
+ghost use Rattle.iova_range.specs.Frames.{Frames};
+ghost use Rattle.iova_model.specs.Clients.{totals, client_of};
+ghost use Rattle.iova_model.specs.State.{State, new_domain};
+ghost use Rattle.iova_model.specs.Laws.{MovesTotals, IsReplyTo, ended_well, to_queue};
+ghost use Rattle.iova_lock.specs.StepLogs.{Takes, StepLog, IsGivenWithin, IsDrainReply, IsRecorded, is_recording};
+ghost use Rattle.iova_lock.specs.Events.{Does, Unmapping, IsShort, Closing, Draining, rings_from};
+ghost use Rattle.iova_lock.specs.Views.{BookState, TallyState, SeatState, Covers, IsSame, by_seat, by_tally, new_seats, left_of, stat_of, nothing, IsLowered, IsCloseHeard, IsKept, IsBook};
+
+use crate::machine::{Machine, Stored};
+use crate::seat::{Seat, Tally};
+use iova_core::domain::Domain;
+use iova_core::{Reply, Step};
+use iova_model::totals::Totals;
+use iova_range::bounds::Bounds;
+use iova_range::limits::{MAX_ENTRIES, MAX_WORKERS, TALLY_PARTS};
+use iova_range::range::Range;
+use iova_range::refusal::Refusal;
+use iova_range::stat::Stat;
+use std::alloc::Global;
+use std::marker::Model;
+use std::sync::ledger;
+use std::sync::ledger::{Blank, Ledger, Share};
+
+/// A domain, with the ledgers of its totals and of its flushes that ended well.
+#[derive(Drop)]
+pub struct Book<C: Ledger, F: Ledger, S: Ledger, G: Ledger> {
+    number: u64,
+    strict: bool,
+    machine: Machine,
+    count: ledger::Book<C>,
+    frames: ledger::Book<F>,
+    sum_lo: ledger::Book<S>,
+    good: ledger::Book<G>,
+}
+
+impl<C: Ledger, F: Ledger, S: Ledger, G: Ledger> Model for Book<C, F, S, G> {
+    ghost use Rattle.std.specs.Prelude.{◌≡◌};
+    ghost use Rattle.iova_model.specs.Clients.{totals};
+    ghost use Rattle.iova_lock.specs.Views.{BookState};
+
+    ghost Value = { BookState };
+
+    ghost view = { λ b. record {
+        number = b.number;
+        strict = b.strict;
+        state = b.machine.state;
+        log = b.machine.log;
+        shares = record { count = b.count.total; frames = b.frames.total; sum_lo = b.sum_lo.total };
+        ended = b.good.total;
+    } };
+
+    ghost invariant = { λ b. (b.count.total ≡ (totals b.machine.state.clients).count)
+        × (b.frames.total ≡ (totals b.machine.state.clients).frames)
+        × (b.sum_lo.total ≡ (totals b.machine.state.clients).sum_lo)
+        × (b.good.total ≡ b.machine.state.flushes.good) };
+}
+
+impl<C: Ledger, F: Ledger, S: Ledger, G: Ledger> Book<C, F, S, G> {
+    /// A new domain, and a seat for each worker. Refused by `NoWorker` where the workers aren't 1 to 16, and by `NoMemory`.
+    pub fn new(
+        alloc: Global,
+        number: u64,
+        bounds: Bounds,
+        workers: u64,
+        count: Blank,
+        frames: Blank,
+        sum_lo: Blank,
+        good: Blank,
+    ) -> Result<(Book<C, F, S, G>, Vec<Seat<C, F, S, G>>), Refusal>
+        requires count { 1 ≤ workers → workers ≤ MAX_WORKERS → (count.name ≡ C.name) × (count.parts ≡ C.parts)
+            × (count.parts ≡ workers) }
+        requires frames { 1 ≤ workers → workers ≤ MAX_WORKERS → (frames.name ≡ F.name)
+            × (frames.parts ≡ F.parts) × (frames.parts ≡ workers) }
+        requires sum_lo { 1 ≤ workers → workers ≤ MAX_WORKERS → (sum_lo.name ≡ S.name)
+            × (sum_lo.parts ≡ S.parts) × (sum_lo.parts ≡ workers) }
+        requires good { 1 ≤ workers → workers ≤ MAX_WORKERS → (good.name ≡ G.name) × (good.parts ≡ G.parts)
+            × (good.parts ≡ TALLY_PARTS * workers) }
+        ensures ok { IfOk result (λ r. (r.0 ≡ record { number = number; strict = false; state = new_domain
+            bounds workers; log = None; shares = nothing; ended = 0 }) × (r.1.items ≡ new_seats workers)) }
+        ensures workers { (result ≡ Err Refusal.NoWorker) ↔ ((workers ≡ 0) ⊎ (MAX_WORKERS < workers)) }
+        ensures memory { IsErr result → (result ≡ Err Refusal.NoWorker) ⊎ (result ≡ Err Refusal.NoMemory) }
+    {
+        let machine = Machine::new(alloc, bounds, workers)?;
+        let (seats, count, frames, sum_lo, good) = seats(
+            alloc, workers, count, frames, sum_lo, good,
+        )?;
+        Ok((
+            Book {
+                number,
+                strict: false,
+                machine,
+                count,
+                frames,
+                sum_lo,
+                good,
+            },
+            seats,
+        ))
+    }
+
+    /// A new domain whose first steps are recorded, `pairs` of them, and a seat for each worker. Refused by `NoWorker` where
+    /// the workers aren't 1 to 16, and by `NoMemory`.
+    pub fn recorded(
+        alloc: Global,
+        number: u64,
+        bounds: Bounds,
+        workers: u64,
+        pairs: usize,
+        count: Blank,
+        frames: Blank,
+        sum_lo: Blank,
+        good: Blank,
+    ) -> Result<(Book<C, F, S, G>, Vec<Seat<C, F, S, G>>), Refusal>
+        requires count { 1 ≤ workers → workers ≤ MAX_WORKERS → (count.name ≡ C.name) × (count.parts ≡ C.parts)
+            × (count.parts ≡ workers) }
+        requires frames { 1 ≤ workers → workers ≤ MAX_WORKERS → (frames.name ≡ F.name)
+            × (frames.parts ≡ F.parts) × (frames.parts ≡ workers) }
+        requires sum_lo { 1 ≤ workers → workers ≤ MAX_WORKERS → (sum_lo.name ≡ S.name)
+            × (sum_lo.parts ≡ S.parts) × (sum_lo.parts ≡ workers) }
+        requires good { 1 ≤ workers → workers ≤ MAX_WORKERS → (good.name ≡ G.name) × (good.parts ≡ G.parts)
+            × (good.parts ≡ TALLY_PARTS * workers) }
+        ensures ok { IfOk result (λ r. (r.0 ≡ record { number = number; strict = false; state = new_domain
+            bounds workers; log = Some (record { recording = true; pairs = [] }); shares = nothing; ended = 0 })
+            × (r.1.items ≡ new_seats workers)) }
+        ensures workers { (result ≡ Err Refusal.NoWorker) ↔ ((workers ≡ 0) ⊎ (MAX_WORKERS < workers)) }
+        ensures memory { IsErr result → (result ≡ Err Refusal.NoWorker) ⊎ (result ≡ Err Refusal.NoMemory) }
+    {
+        let machine = Machine::recorded(alloc, bounds, workers, pairs)?;
+        let (seats, count, frames, sum_lo, good) = seats(
+            alloc, workers, count, frames, sum_lo, good,
+        )?;
+        Ok((
+            Book {
+                number,
+                strict: false,
+                machine,
+                count,
+                frames,
+                sum_lo,
+                good,
+            },
+            seats,
+        ))
+    }
+
+    /// The domain becomes strict.
+    pub fn strict(self) -> Self
+        ensures { result ≡ record self { strict = true } }
+    {
+        let mut book = self;
+        book.strict = true;
+        book
+    }
+
+    /// What every book keeps, whoever holds it: so whatever a thread finds under the lock, and whatever it leaves there.
+    pub fn is_kept(&self)
+        ensures { IsBook self.now }
+    {
+        self.machine.is_kept();
+        let _pairs = self.machine.pairs();
+    }
+
+    /// Whether steps are still recorded. While they are, the recorded pairs are a transcript from the new domain that
+    /// leaves this one.
+    pub fn recording(&self) -> bool
+        ensures { result ≡ is_recording self.now.log }
+    {
+        self.machine.recording()
+    }
+
+    /// The pairs that were recorded.
+    pub fn pairs(&self) -> Option<&[Stored]>
+        ensures is { option_copied result ≡ option_map (λ t. t.pairs) self.now.log }
+        ensures recorded { IsRecorded self.now.log self.now.state }
+    {
+        self.machine.pairs()
+    }
+
+    pub(crate) fn number_of(&self) -> u64
+        ensures { result ≡ self.now.number }
+    {
+        self.number
+    }
+
+    pub(crate) fn totals_of(&self) -> Totals
+        ensures { result ≡ totals self.now.state.clients }
+    {
+        self.machine.totals()
+    }
+
+    /// How many holdings the client has left, 0 where there is no such client.
+    pub(crate) fn left(&self, id: u64) -> u64
+        ensures { result ≡ left_of id self.now.state }
+    {
+        self.machine.left(id)
+    }
+
+    /// How many workers the domain has.
+    pub(crate) fn workers(&self) -> u64
+        ensures is { result ≡ self.now.state.workers }
+        ensures some { 1 ≤ result }
+        ensures few { result ≤ MAX_WORKERS }
+    {
+        self.machine.is_kept();
+        self.machine.workers()
+    }
+
+    /// How the domain stands, in numbers.
+    pub(crate) fn stat_of(&self) -> Stat
+        ensures { result ≡ stat_of self.now.state }
+    {
+        self.machine.stat()
+    }
+
+    /// The holdings of the worker's client, rising by first frame.
+    pub(crate) fn holdings_of(&self, worker: u64, id: u64) -> Option<&[Range]>
+        ensures { option_copied result ≡ option_map (λ c. c.holdings)
+            (client_of worker id self.now.state.clients) }
+    {
+        self.machine.holdings(worker, id)
+    }
+
+    pub(crate) fn into_domain(self) -> Domain
+        ensures is { result ≡ self.state }
+        ensures kept { IsKept result }
+    {
+        self.machine.is_kept();
+        let Book {
+            number: _,
+            strict: _,
+            machine,
+            count: _,
+            frames: _,
+            sum_lo: _,
+            good: _,
+        } = self;
+        machine.into_domain()
+    }
+
+    /// The totals, which whole shares have for their amounts.
+    pub(crate) fn audit(
+        &mut self,
+        counted: &mut Share<C>,
+        framed: &mut Share<F>,
+        summed: &mut Share<S>,
+    ) -> Totals
+        requires counted { counted.old.parts ≡ C.parts }
+        requires framed { framed.old.parts ≡ F.parts }
+        requires summed { summed.old.parts ≡ S.parts }
+        ensures same { self.new ≡ self.old }
+        ensures locked { result ≡ totals self.old.state.clients }
+        ensures sums { (result.count ≡ counted.old.amount) × (result.frames ≡ framed.old.amount)
+            × (result.sum_lo ≡ summed.old.amount) }
+    {
+        self.count.audit(counted);
+        self.frames.audit(framed);
+        self.sum_lo.audit(summed);
+        self.machine.totals()
+    }
+
+    /// Runs a seat's step that may queue a range, unless one of the seat's shares is less than the range.
+    pub(crate) fn run_within(&mut self, seat: &mut Seat<C, F, S, G>, step: Step) -> Reply
+        requires by_seat { by_seat step ≡ true }
+        ensures does { Does (Unmapping step seat.old.held result) self.old.state self.new.state }
+        ensures same { IsSame self.old self.new }
+        ensures kind { (result ≡ Reply.Refused Refusal.NotHeld) ⊎ IsReplyTo step result }
+        ensures seat { MovesTotals result seat.old.held seat.new.held }
+        ensures rest { (seat.new.worker ≡ seat.old.worker) × (seat.new.tally ≡ seat.old.tally) }
+    {
+        if !covers(seat.held(), self.machine.to_queue(step)) {
+            return Reply::Refused(Refusal::NotHeld);
+        }
+        self.run(seat, step)
+    }
+
+    /// Closes the client, range by range, until a step queues none, and answers that step's reply.
+    pub(crate) fn close_all(&mut self, seat: &mut Seat<C, F, S, G>, id: u64) -> Reply
+        ensures closes { Does (Closing (Step.CloseOne seat.old.worker id) seat.old.held seat.new.held result)
+            self.old.state self.new.state }
+        ensures shares { (ranges : List Frames) × IsLowered ranges seat.old.held seat.new.held }
+        ensures heard { IsCloseHeard (Some result) }
+        ensures same { IsSame self.old self.new }
+        ensures rest { (seat.new.worker ≡ seat.old.worker) × (seat.new.tally ≡ seat.old.tally) }
+    {
+        let worker = seat.worker();
+        let last = 'queue: loop {
+            let reply = self.run_within(seat, Step::CloseOne { worker, client: id });
+            if !is_queued(&reply) {
+                break reply;
+            }
+        };
+        last
+    }
+
+    /// Drains `left` rings from `ring` on, and answers how many entries that frees.
+    pub(crate) fn drain_rings(&mut self, ring: u64, left: u64, by: u64) -> u64
+        requires few { ring + left ≤ MAX_WORKERS }
+        requires rings { ring + left ≡ self.old.state.workers }
+        requires worker { by < self.old.state.workers }
+        ensures drains { Does (Draining by (rings_from ring left) result) self.old.state self.new.state }
+        ensures bound { result ≤ MAX_ENTRIES * left }
+        ensures same { IsSame self.old self.new }
+    {
+        if left == 0 {
+            return 0;
+        }
+        let n = self.drain_one(ring, by);
+        n + self.drain_rings(ring + 1, left - 1, by)
+    }
+
+    /// Drains a ring, and answers how many entries that frees.
+    fn drain_one(&mut self, ring: u64, by: u64) -> u64
+        requires ring { ring < self.old.state.workers }
+        requires worker { by < self.old.state.workers }
+        ensures takes { Takes self.old.state (Step.Drain ring by) (Reply.Drained result) self.new.state }
+        ensures bound { result ≤ MAX_ENTRIES }
+        ensures workers { self.new.state.workers ≡ self.old.state.workers }
+        ensures same { IsSame self.old self.new }
+    {
+        match self.run_drain(ring, by) {
+            Reply::Drained(n) => n,
+            _ => unreachable!(),
+        }
+    }
+
+    /// Drains a ring. No share and no tally moves.
+    pub(crate) fn run_drain(&mut self, ring: u64, by: u64) -> Reply
+        ensures takes { Takes self.old.state (Step.Drain ring by) result self.new.state }
+        ensures drained { IsDrainReply self.old.state.workers (Step.Drain ring by) result }
+        ensures workers { self.new.state.workers ≡ self.old.state.workers }
+        ensures same { IsSame self.old self.new }
+    {
+        self.machine.step(Step::Drain { ring, by })
+    }
+
+    /// Runs a seat's step, and moves the seat's shares by what was answered.
+    pub(crate) fn run(&mut self, seat: &mut Seat<C, F, S, G>, step: Step) -> Reply
+        requires by_seat { by_seat step ≡ true }
+        requires enough { (r : Frames) → to_queue self.old.state step ≡ Some r → Covers seat.old.held r }
+        ensures takes { Takes self.old.state step result self.new.state }
+        ensures same { IsSame self.old self.new }
+        ensures kind { IsReplyTo step result }
+        ensures given { IsGivenWithin step result }
+        ensures seat { MovesTotals result seat.old.held seat.new.held }
+        ensures rest { (seat.new.worker ≡ seat.old.worker) × (seat.new.tally ≡ seat.old.tally) }
+    {
+        let reply = self.machine.step(step);
+        match reply {
+            Reply::Given(range) => {
+                self.count.add(&mut seat.counted, 1);
+                self.frames.add(&mut seat.framed, range.len());
+                self.sum_lo.add(&mut seat.summed, range.lo());
+                self.count.audit(&mut seat.counted);
+                self.frames.audit(&mut seat.framed);
+                self.sum_lo.audit(&mut seat.summed);
+                let _ = self.machine.totals();
+                seat.held.count += 1;
+                seat.held.frames += range.len();
+                seat.held.sum_lo += range.lo();
+            }
+            Reply::Queued(range) => {
+                self.count.sub(&mut seat.counted, 1);
+                self.frames.sub(&mut seat.framed, range.len());
+                self.sum_lo.sub(&mut seat.summed, range.lo());
+                seat.held.count -= 1;
+                seat.held.frames -= range.len();
+                seat.held.sum_lo -= range.lo();
+            }
+            _ => {}
+        }
+        reply
+    }
+
+    /// Begins or ends a flush, and raises the tally where it ended well.
+    pub(crate) fn run_flush(&mut self, tally: &mut Tally<G>, step: Step) -> Reply
+        requires { by_tally step ≡ true }
+        ensures takes { Takes self.old.state step result self.new.state }
+        ensures same { IsSame self.old self.new }
+        ensures kind { IsReplyTo step result }
+        ensures good { tally.new.good ≡ tally.old.good + ended_well step result }
+        ensures parts { tally.new.parts ≡ tally.old.parts }
+    {
+        let reply = self.machine.step(step);
+        if ends_well(step, &reply) {
+            self.good.add(&mut tally.share, 1);
+            self.good.audit(&mut tally.share);
+            let _ = self.machine.good();
+            tally.good += 1;
+        }
+        reply
+    }
+}
+
+/// Whether the totals cover the range, if there is one.
+fn covers(held: Totals, range: Option<Range>) -> bool
+    ensures yes { result ≡ true → (r : Frames) → range ≡ Some r → Covers held r }
+    ensures none { result ≡ false → IsShort held range }
+{
+    match range {
+        Some(range) => {
+            held.count >= 1 && held.frames >= range.len() && held.sum_lo >= range.lo()
+        }
+        None => true,
+    }
+}
+
+/// A seat for each worker, and the ledgers of their shares.
+fn seats<C: Ledger, F: Ledger, S: Ledger, G: Ledger>(
+    alloc: Global,
+    workers: u64,
+    count: Blank,
+    frames: Blank,
+    sum_lo: Blank,
+    good: Blank,
+) -> Result<
+    (
+        Vec<Seat<C, F, S, G>>,
+        ledger::Book<C>,
+        ledger::Book<F>,
+        ledger::Book<S>,
+        ledger::Book<G>,
+    ),
+    Refusal,
+>
+    requires count { (count.name ≡ C.name) × (count.parts ≡ C.parts) × (count.parts ≡ workers) }
+    requires frames { (frames.name ≡ F.name) × (frames.parts ≡ F.parts) × (frames.parts ≡ workers) }
+    requires sum_lo { (sum_lo.name ≡ S.name) × (sum_lo.parts ≡ S.parts) × (sum_lo.parts ≡ workers) }
+    requires good { (good.name ≡ G.name) × (good.parts ≡ G.parts) × (good.parts ≡ TALLY_PARTS * workers) }
+    requires workers { workers ≤ MAX_WORKERS }
+    ensures ok { IfOk result (λ r. (r.0.items ≡ new_seats workers) × (r.1.total ≡ 0) × (r.2.total ≡ 0)
+        × (r.3.total ≡ 0) × (r.4.total ≡ 0)) }
+    ensures err { IsErr result → result ≡ Err Refusal.NoMemory }
+{
+    let (count, mut counted) = count.open::<C>();
+    let (frames, mut framed) = frames.open::<F>();
+    let (sum_lo, mut summed) = sum_lo.open::<S>();
+    let (good, mut ended) = good.open::<G>();
+    let mut seats = Vec::new(alloc);
+    for worker in 0..workers {
+        let tally = Tally {
+            good: 0,
+            parts: TALLY_PARTS,
+            share: ended.split_off(TALLY_PARTS, 0),
+        };
+        let seat = Seat {
+            worker,
+            held: Totals {
+                count: 0,
+                frames: 0,
+                sum_lo: 0,
+            },
+            counted: counted.split_off(1, 0),
+            framed: framed.split_off(1, 0),
+            summed: summed.split_off(1, 0),
+            tally,
+        };
+        if seats.push(seat).is_err() {
+            return Err(Refusal::NoMemory);
+        }
+    }
+    Ok((seats, count, frames, sum_lo, good))
+}
+
+fn is_queued(reply: &Reply) -> bool
+    ensures yes { result ≡ true → (r : Frames) × (reply.now ≡ Reply.Queued r) }
+    ensures none { result ≡ false → (r : Frames) → reply.now ≢ Reply.Queued r }
+{
+    matches!(reply, Reply::Queued(_))
+}
+
+fn ends_well(step: Step, reply: &Reply) -> bool
+    ensures { ended_well step reply.now ≡ (if result then 1 else 0) }
+{
+    match (step, reply) {
+        (Step::End { no: _, ok }, Reply::Ended) => ok,
+        _ => false,
+    }
+}
