@@ -1,6 +1,6 @@
 -- What holds do, one after another.
 use Rattle.std.proofs.Common.{ℕ, ◌≡◌, ◌≢◌, Bool, List, [], ◌∷◌, ◌++◌, Option, Some, None, refl, sym, ap, ◌∙◌, subst, append-nil, arith}
-use Rattle.std.specs.Prelude.{Result, Ok, Err, MatchOption, if◌then◌else◌, true, false, ◌+◌, ◌≤◌}
+use Rattle.std.specs.Prelude.{Ok, Err, MatchOption, if◌then◌else◌, true, false, ◌+◌, ◌≤◌}
 use Rattle.iova_range.specs.declared.refusal.Refusal.{Refusal}
 use Rattle.iova_range.specs.declared.refusal.Refusal.TheVariants as refusal
 use Rattle.iova_model.specs.declared.step.Step.{Step}
@@ -13,7 +13,7 @@ use Rattle.iova_sink.specs.Calls.{Call, good_calls}
 use Rattle.iova_model.specs.Laws.{to_queue, ended_well}
 use Rattle.iova_lock.specs.StepLogs.{Takes}
 use Rattle.iova_lock.specs.Views.{WhereKnown, IsBeginHeard}
-use Rattle.iova_lock.specs.Events.{Event, Ran, NotRun, Invalidated, IsShort, Leads, sink_calls, Does, Unmapping, run, not_run, UnmapFirst, tried, full, UnmapAgain, again, Unmap, once, not_begun, flushed, Flush, refused, done, failed}
+use Rattle.iova_lock.specs.Events.{Event, Ran, NotRun, Invalidated, IsShort, Leads, sink_calls, Does, Unmapping, run, not_run, UnmapFirst, tried, full, UnmapAgain, again, Unmap, once, not_begun, flushed, refused, done, failed}
 use Rattle.iova_lock.specs.Answers.{UnmapsWith, FlushesWith}
 
 -- what two calls of a keeper do, one after the other

@@ -1,6 +1,6 @@
 -- Rings that are drained.
-use Rattle.std.proofs.Common.{ℕ, zero, suc, ◌≡◌, ◌≢◌, ◌⊎◌, inl, inr, ◌+◌, ◌-◌, ◌<◌, ◌≤◌, ◌||◌, Bool, true, false, List, [], ◌∷◌, length, refl, sym, ap, ◌∙◌, subst, arith}
-use Rattle.std.specs.Prelude.{nat_lt, nat_le, slice_index_or}
+use Rattle.std.proofs.Common.{ℕ, zero, suc, ◌≡◌, ◌≢◌, inl, inr, ◌+◌, ◌-◌, ◌<◌, ◌≤◌, ◌||◌, Bool, true, false, List, [], ◌∷◌, length, refl, ap, arith}
+use Rattle.std.specs.Prelude.{nat_lt, slice_index_or}
 use Rattle.std.specs.List.{AllByRecursion}
 use Rattle.std.proofs.lemmas.Bool.{cond_both}
 use Rattle.std.proofs.lemmas.Bool.Decides.{nat_tests}
@@ -15,7 +15,7 @@ use Rattle.iova_model.specs.declared.step.Point.{Point}
 use Rattle.iova_model.specs.Flushes.{flushed}
 use Rattle.iova_model.specs.State.{State}
 use Rattle.iova_model.specs.Valid.{IsValid, IsRing}
-use Rattle.iova_model.specs.Next.{Next, next, no_worker, ring_at, drained, drain_tests, unless}
+use Rattle.iova_model.specs.Next.{Next, next, no_worker, ring_at, unless}
 use Rattle.iova_lock.specs.StepLogs.{Takes, IsDrainReply}
 use Rattle.iova_lock.specs.Events.{Ran, Does, Draining, drains, none_left, rings_from}
 

@@ -1,6 +1,6 @@
 -- What the holds of a client's end and of a flusher's round do, one after another.
 use Rattle.std.proofs.Common.{ℕ, ◌≡◌, ◌≢◌, ◌+◌, ◌<◌, ◌≤◌, Bool, true, false, List, [], ◌∷◌, ◌++◌, Option, Some, None, length, refl, sym, ap, ◌∙◌, subst, append-nil, append_assoc, arith}
-use Rattle.std.specs.Prelude.{Result, Ok, Err, IfSome, MatchOption, if◌then◌else◌, IsOk}
+use Rattle.std.specs.Prelude.{Result, Ok, Err, IfSome, if◌then◌else◌, IsOk}
 use Rattle.iova_range.specs.declared.refusal.Refusal.{Refusal}
 use Rattle.iova_range.specs.declared.refusal.Refusal.TheVariants as refusal
 use Rattle.iova_range.specs.declared.stat.Stat.{Stat}
@@ -20,7 +20,7 @@ use Rattle.iova_lock.specs.StepLogs.{Takes}
 use Rattle.iova_lock.specs.Views.{SeatState, WhereKnown, IsLowered, LowersTold, Tells, stat_of, left_of}
 use Rattle.iova_lock.specs.Events
 use Rattle.iova_lock.specs.Events.{Event, Ran, NotRun, Invalidated, IsShort, Leads, sink_calls, Does, Unmapping, run, not_run, Closing, stops, queues, CloseFirst, closed, closed_full, CloseAgain, closed_again, full_at_once, full_again, CloseRest, last, another, Answered, EndClient, in_one_hold, in_more, Flush, Draining, drains, none_left, rings_from, DrainAll, drained, no_worker, Timeout, idle, not_flushed, flushed_and_drained}
-use Rattle.iova_lock.specs.Answers.{ClosesFirst, ClosesAgain, Leaves, RestWith, DoesRest, EndsWith, DoesEndClient, FlushesWith, DoesFlush, DrainsAll, TimesOutWith, DoesTimeout}
+use Rattle.iova_lock.specs.Answers.{ClosesFirst, ClosesAgain, Leaves, DoesRest, DoesEndClient, DoesFlush, DrainsAll, DoesTimeout}
 use Rattle.iova_lock.proofs.Doing.{known_both, known_one}
 
 -- Events in a row.

@@ -1,5 +1,5 @@
 -- What a domain keeps, by the law of promises over no step.
-use Rattle.std.proofs.Common.{◌≡◌, []}
+use Rattle.std.proofs.Common.{[]}
 use Rattle.iova_model.specs.State.{State}
 use Rattle.iova_model.specs.Valid.{IsValid}
 use Rattle.iova_model.specs.Promises.{PromisesAreKept}

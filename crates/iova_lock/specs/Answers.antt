@@ -1,5 +1,5 @@
 -- What each call does to a domain that is known, from s to t.
-use Rattle.std.specs.Prelude.{ℕ, ◌≡◌, ◌++◌, Bool, List, Option, Some, None, Result, Ok, Err, MatchOption, MatchResult}
+use Rattle.std.specs.Prelude.{ℕ, ◌≡◌, ◌++◌, Bool, List, Option, Result, Err, MatchOption, MatchResult}
 use Rattle.iova_range.specs.declared.refusal.Refusal.{Refusal}
 use Rattle.iova_range.specs.declared.refusal.Refusal.TheVariants as refusal
 use Rattle.iova_range.specs.Frames.{Frames}

@@ -3,6 +3,7 @@ use Rattle.std.specs.Prelude.{ℕ, zero, suc, ◌≡◌, ◌+◌, ◌<◌, ◌�
 use Rattle.std.specs.List.{list_any}
 use Rattle.iova_range.specs.declared.refusal.Refusal.{Refusal}
 use Rattle.iova_range.specs.declared.refusal.Refusal.TheVariants as refusal
+use Rattle.iova_range.specs.Bounds.{Extent}
 use Rattle.iova_range.specs.Frames.{Frames}
 use Rattle.iova_range.specs.Sizes.{need, align_of}
 use Rattle.iova_range.specs.declared.limits.TheConstants.{TALLY_PARTS}
@@ -15,7 +16,7 @@ use Rattle.iova_model.specs.declared.totals.Totals.{Totals}
 use Rattle.iova_model.specs.Clients.{Client, client_with, totals_of, totals}
 use Rattle.iova_model.specs.Valid.{IsValid}
 use Rattle.iova_model.specs.Promises.{OnePlace, HoldersAreWithin, OwnersAreAligned}
-use Rattle.iova_model.specs.State.{State, counts}
+use Rattle.iova_model.specs.State.{State, counts, new_domain}
 use Rattle.iova_model.specs.Laws.{MovesTotals, IsAmong, IsReplyTo, add_totals, CountsAddUp, shares_below}
 use Rattle.iova_lock.specs.declared.ending.Ending.{Ending}
 use Rattle.iova_lock.specs.declared.ending.Ending.TheVariants as ending
@@ -45,6 +46,11 @@ pub record SeatState : Type 0 where
 
 abbrev pub nothing : Totals
 nothing = totals_of []
+
+-- a new domain's book
+abbrev pub new_book : ℕ → Extent → ℕ → Option StepLog → BookState
+new_book number bounds workers log =
+    record { number = number; strict = false; state = new_domain bounds workers; log = log; shares = nothing; ended = 0 }
 
 -- a worker's new seat
 abbrev pub new_seat : ℕ → SeatState

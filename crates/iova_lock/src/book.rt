@@ -6,7 +6,7 @@ ghost use Rattle.iova_model.specs.State.{State, new_domain};
 ghost use Rattle.iova_model.specs.Laws.{MovesTotals, IsReplyTo, ended_well, to_queue};
 ghost use Rattle.iova_lock.specs.StepLogs.{Takes, StepLog, IsGivenWithin, IsDrainReply, IsRecorded, is_recording};
 ghost use Rattle.iova_lock.specs.Events.{Does, Unmapping, IsShort, Closing, Draining, rings_from};
-ghost use Rattle.iova_lock.specs.Views.{BookState, TallyState, SeatState, Covers, IsSame, by_seat, by_tally, new_seats, left_of, stat_of, nothing, IsLowered, IsCloseHeard, IsKept, IsBook};
+ghost use Rattle.iova_lock.specs.Views.{BookState, TallyState, SeatState, Covers, IsSame, by_seat, by_tally, new_book, new_seats, left_of, stat_of, nothing, IsLowered, IsCloseHeard, IsKept, IsBook};
 
 use crate::machine::{Machine, Stored};
 use crate::seat::{Seat, Tally};
@@ -43,12 +43,12 @@ impl<C: Ledger, F: Ledger, S: Ledger, G: Ledger> Model for Book<C, F, S, G> {
     ghost Value = { BookState };
 
     ghost view = { λ b. record {
-        number = b.number;
-        strict = b.strict;
-        state = b.machine.state;
-        log = b.machine.log;
-        shares = record { count = b.count.total; frames = b.frames.total; sum_lo = b.sum_lo.total };
-        ended = b.good.total;
+      number = b.number;
+      strict = b.strict;
+      state = b.machine.state;
+      log = b.machine.log;
+      shares = record { count = b.count.total; frames = b.frames.total; sum_lo = b.sum_lo.total };
+      ended = b.good.total;
     } };
 
     ghost invariant = { λ b. (b.count.total ≡ (totals b.machine.state.clients).count)
@@ -77,8 +77,7 @@ impl<C: Ledger, F: Ledger, S: Ledger, G: Ledger> Book<C, F, S, G> {
             × (sum_lo.parts ≡ S.parts) × (sum_lo.parts ≡ workers) }
         requires good { 1 ≤ workers → workers ≤ MAX_WORKERS → (good.name ≡ G.name) × (good.parts ≡ G.parts)
             × (good.parts ≡ TALLY_PARTS * workers) }
-        ensures ok { IfOk result (λ r. (r.0 ≡ record { number = number; strict = false; state = new_domain
-            bounds workers; log = None; shares = nothing; ended = 0 }) × (r.1.items ≡ new_seats workers)) }
+        ensures ok { IfOk result (λ r. (r.0 ≡ new_book number bounds workers None) × (r.1.items ≡ new_seats workers)) }
         ensures workers { (result ≡ Err Refusal.NoWorker) ↔ ((workers ≡ 0) ⊎ (MAX_WORKERS < workers)) }
         ensures memory { IsErr result → (result ≡ Err Refusal.NoWorker) ⊎ (result ≡ Err Refusal.NoMemory) }
     {
@@ -121,8 +120,7 @@ impl<C: Ledger, F: Ledger, S: Ledger, G: Ledger> Book<C, F, S, G> {
             × (sum_lo.parts ≡ S.parts) × (sum_lo.parts ≡ workers) }
         requires good { 1 ≤ workers → workers ≤ MAX_WORKERS → (good.name ≡ G.name) × (good.parts ≡ G.parts)
             × (good.parts ≡ TALLY_PARTS * workers) }
-        ensures ok { IfOk result (λ r. (r.0 ≡ record { number = number; strict = false; state = new_domain
-            bounds workers; log = Some (record { recording = true; pairs = [] }); shares = nothing; ended = 0 })
+        ensures ok { IfOk result (λ r. (r.0 ≡ new_book number bounds workers (Some (record { recording = true; pairs = [] })))
             × (r.1.items ≡ new_seats workers)) }
         ensures workers { (result ≡ Err Refusal.NoWorker) ↔ ((workers ≡ 0) ⊎ (MAX_WORKERS < workers)) }
         ensures memory { IsErr result → (result ≡ Err Refusal.NoWorker) ⊎ (result ≡ Err Refusal.NoMemory) }

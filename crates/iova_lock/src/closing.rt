@@ -19,14 +19,7 @@ use std::sync::ledger::Ledger;
 /// ring is full it flushes and goes on. `Waiting` where the ring stays full right after a flush, where none can begin, or
 /// where a share would fall below 0; the client stays closing then, keeps what is left, and may be ended again. Refused by
 /// `NoClient`; then nothing has changed. Own.
-pub fn end_client<
-    C: Ledger,
-    F: Ledger,
-    S: Ledger,
-    G: Ledger,
-    K: Keep<C, F, S, G>,
-    D: Sink,
->(
+pub fn end_client<C: Ledger, F: Ledger, S: Ledger, G: Ledger, K: Keep<C, F, S, G>, D: Sink>(
     keeper: &mut K,
     seat: &mut Seat<C, F, S, G>,
     sink: &mut D,
@@ -62,14 +55,7 @@ struct LastHold {
 }
 
 /// Calls the sink for the flush, ends it and goes on closing, until a hold begins no other flush.
-fn close_rest<
-    C: Ledger,
-    F: Ledger,
-    S: Ledger,
-    G: Ledger,
-    K: Keep<C, F, S, G>,
-    D: Sink,
->(
+fn close_rest<C: Ledger, F: Ledger, S: Ledger, G: Ledger, K: Keep<C, F, S, G>, D: Sink>(
     keeper: &mut K,
     seat: &mut Seat<C, F, S, G>,
     sink: &mut D,

@@ -135,13 +135,7 @@ pub trait Keep<C: Ledger, F: Ledger, S: Ledger, G: Ledger> {
 
     /// A further hold of a client's end: the flush ends, as `ok` says, and then as the first one; but where the ring is full
     /// before a range was queued, no flush begins. `ok` is what a sink answered for this flush.
-    fn close_again(
-        &mut self,
-        seat: &mut Seat<C, F, S, G>,
-        id: ClientId,
-        no: u64,
-        ok: bool,
-    ) -> Heard
+    fn close_again(&mut self, seat: &mut Seat<C, F, S, G>, id: ClientId, no: u64, ok: bool) -> Heard
         ensures number { domain_number self.new ≡ domain_number self.old }
         ensures domain { WhereKnown (domain self.old) (domain self.new)
             (ClosesAgain seat.old seat.new.held id no ok result.reply result.begun) }

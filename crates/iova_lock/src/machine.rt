@@ -111,8 +111,11 @@ impl Machine {
         workers: u64,
         pairs: usize,
     ) -> Result<Machine, Refusal>
-        ensures ok { IfOk result (λ m. m ≡ record { state = new_domain bounds workers; log = Some
-            (record { recording = true; pairs = [] }) }) }
+        ensures ok { IfOk result (λ m. m ≡ record {
+          state = new_domain bounds workers;
+          log = Some
+              (record { recording = true; pairs = [] });
+        }) }
         ensures workers { (result ≡ Err Refusal.NoWorker) ↔ ((workers ≡ 0) ⊎ (MAX_WORKERS < workers)) }
         ensures memory { IsErr result → (result ≡ Err Refusal.NoWorker) ⊎ (result ≡ Err Refusal.NoMemory) }
     {

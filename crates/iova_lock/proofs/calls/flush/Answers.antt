@@ -1,4 +1,4 @@
-use Rattle.std.proofs.Common.{◌≡◌, ◌∙◌, ap}
+use Rattle.std.proofs.Common.{◌∙◌, ap}
 use Rattle.std.specs.Prelude.{Some}
 use Rattle.iova_lock.proofs.Doing.{known_flush_refused, known_flush_done, known_flush_failed, good_bound}
 use Rattle.iova_lock.proofs.calls.flush.Goals as goal

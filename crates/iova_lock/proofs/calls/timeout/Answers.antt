@@ -1,4 +1,4 @@
-use Rattle.std.proofs.Common.{◌≡◌, ◌∙◌, ap, arith, refl}
+use Rattle.std.proofs.Common.{arith, refl}
 use Rattle.iova_lock.proofs.Endings.{known_idle, known_not_flushed, known_drained, failed_then}
 use Rattle.iova_lock.proofs.calls.timeout.Goals as goal
 

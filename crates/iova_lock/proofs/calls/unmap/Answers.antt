@@ -1,4 +1,4 @@
-use Rattle.std.proofs.Common.{◌≡◌, ◌∙◌, ap}
+use Rattle.std.proofs.Common.{◌∙◌, ap}
 use Rattle.std.specs.Prelude.{Some}
 use Rattle.iova_lock.specs.Views.{TallyState}
 use Rattle.iova_lock.proofs.Doing.{known_in_one, known_in_vain, known_in_two, good_within}

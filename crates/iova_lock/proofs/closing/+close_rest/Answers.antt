@@ -1,4 +1,4 @@
-use Rattle.std.proofs.Common.{◌≡◌, ◌∙◌, ap, arith, refl}
+use Rattle.std.proofs.Common.{arith}
 use Rattle.iova_lock.proofs.Doing.{good_within}
 use Rattle.iova_lock.proofs.Closings.{lowered_more}
 use Rattle.iova_lock.proofs.Endings.{known_rest_last, known_rest_more, failed_at_most, failed_then}

@@ -1,4 +1,3 @@
-use Rattle.std.proofs.Common.{◌≡◌}
 use Rattle.iova_lock.specs.Events.{ended}
 use Rattle.iova_lock.proofs.closing.closed.Goals as goal
 

@@ -1,7 +1,7 @@
 use Rattle.std.proofs.Common.{◌≡◌, ◌+◌, ◌-◌, ap, arith}
 use Rattle.iova_model.specs.declared.totals.Totals.{Totals}
 use Rattle.iova_lock.proofs.Closings.{lowered_more}
-use Rattle.iova_lock.proofs.Endings.{known_end_one, known_end_more, told_lowered, failed_sink}
+use Rattle.iova_lock.proofs.Endings.{known_end_one, known_end_more, told_lowered}
 use Rattle.iova_lock.proofs.closing.end_client.Goals as goal
 
 pub returns-in-None-clause-domain : goal.returns-in-None-clause-domain

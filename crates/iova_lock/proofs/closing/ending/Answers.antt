@@ -1,11 +1,11 @@
-use Rattle.std.proofs.Common.{◌≡◌, ◌⊎◌, inl, inr, ℕ, Bool, Option, Some, None, Ok, refl, sym, ap, subst}
+use Rattle.std.proofs.Common.{◌≡◌, ◌⊎◌, inl, inr, ℕ, Bool, Option, Some, Ok}
 use Rattle.iova_range.specs.declared.refusal.Refusal.TheVariants as refusal
 use Rattle.iova_model.specs.declared.step.Reply.{Reply}
 use Rattle.iova_model.specs.declared.step.Reply.TheVariants as reply
 use Rattle.iova_lock.specs.declared.ending.Ending.TheVariants as ending
 use Rattle.iova_lock.specs.declared.ending.Why.{Why}
 use Rattle.iova_lock.specs.declared.ending.Why.TheVariants as why
-use Rattle.iova_lock.specs.Events.{Answered, ended, flights_full, worn}
+use Rattle.iova_lock.specs.Events.{Answered, flights_full, worn}
 use Rattle.iova_lock.proofs.closing.ending.Goals as goal
 
 of_begun : (queued left : ℕ) (flushed : Option Bool) (b : Reply) (w : Why) → ((b ≡ reply.Refused refusal.FlightsFull) × (w ≡ why.FlightsFull)) ⊎ ((b ≡ reply.Refused refusal.Worn) × (w ≡ why.Worn))

@@ -1,4 +1,3 @@
-use Rattle.std.proofs.Common.{◌≡◌, ◌∙◌, ap, arith}
 use Rattle.iova_lock.proofs.Drains.{drains_none, drains_more, rings_step}
 use Rattle.iova_lock.proofs.book.Book.+drain_rings.Goals as goal
 

@@ -1,5 +1,4 @@
 use Rattle.std.proofs.Common.{◌≡◌, ap, ◌∙◌}
-use Rattle.iova_model.specs.State.{State}
 use Rattle.iova_model.specs.Laws.{to_queue}
 use Rattle.iova_lock.specs.Views.{BookState}
 use Rattle.iova_lock.proofs.Doing.{does_run, does_not_run}

@@ -15,13 +15,13 @@ returns-clause-domain g c =
     let lowered = rw held at c.close_all-reply.ensures.shares in
     elim c.if-is_full.branch [
       | then-is_full+then-count-before w ↦
-        let some : c.close_all-reply.new.seat.held.count < c.args.seat.now.held.count = omega (arith, before, w.count.ensures, w.if-count-before.true) in
-        rw (w.begun-is, w.self-is, w.seat-is, held_after) (again_full _ _ _ _ _ _ _ _ _ _ _ _ c.run_flush-ended.ensures.takes (rw w.if-is_full.true at c.is_full.ensures) some closes w.run_flush.ensures.takes)
+          let some : c.close_all-reply.new.seat.held.count < c.args.seat.now.held.count = omega (arith, before, w.count.ensures, w.if-count-before.true) in
+          rw (w.begun-is, w.self-is, w.seat-is, held_after) (again_full _ _ _ _ _ _ _ _ _ _ _ _ c.run_flush-ended.ensures.takes (rw w.if-is_full.true at c.is_full.ensures) some closes w.run_flush.ensures.takes)
       | else-is_full w ↦ rw (w.begun-is, w.self-is, w.seat-is) (elim w.else-is_full.branch [
-          | else-is_full-via-then-is_full+else-count-before v ↦
+        | else-is_full-via-then-is_full+else-count-before v ↦
             let less = ap (λ (t : Totals). t.count) lowered.1 in
             let none : c.close_all-reply.new.seat.held.count ≡ c.args.seat.now.held.count = omega (arith, before, less, v.count.ensures, v.if-count-before.false) in
             again_full_at_once _ _ _ _ _ _ _ _ _ _ c.run_flush-ended.ensures.takes (rw v.if-is_full.true at c.is_full.ensures) none closes
-          | else-is_full-via-else-is_full v ↦ again_closed _ _ _ _ _ _ _ _ _ _ c.run_flush-ended.ensures.takes (rw v.if-is_full.false at c.is_full.ensures) closes
-        ])
+        | else-is_full-via-else-is_full v ↦ again_closed _ _ _ _ _ _ _ _ _ _ c.run_flush-ended.ensures.takes (rw v.if-is_full.false at c.is_full.ensures) closes
+      ])
     ]

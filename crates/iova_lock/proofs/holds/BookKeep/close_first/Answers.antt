@@ -1,4 +1,4 @@
-use Rattle.std.proofs.Common.{◌≡◌, ap}
+use Rattle.std.proofs.Common.{ap}
 use Rattle.iova_lock.specs.Views.{SeatState}
 use Rattle.iova_lock.proofs.Endings.{first_closed, first_full}
 use Rattle.iova_lock.proofs.holds.BookKeep.close_first.Goals.{then-is_full, else-is_full}

@@ -1,4 +1,4 @@
-use Rattle.std.proofs.Common.{◌≡◌, ◌≤◌, ◌<◌, sym, ap, arith}
+use Rattle.std.proofs.Common.{◌≤◌, sym, arith}
 use Rattle.iova_lock.proofs.Drains.{refused_so}
 use Rattle.iova_lock.proofs.Endings.{all_drained, none_drained}
 use Rattle.iova_lock.proofs.holds.BookKeep.drain_all.Goals as goal

@@ -1,4 +1,3 @@
-use Rattle.std.proofs.Common.{◌≡◌}
 use Rattle.iova_lock.proofs.Keeping.{kept}
 use Rattle.iova_lock.proofs.machine.Machine.is_kept.Goals as goal
 
