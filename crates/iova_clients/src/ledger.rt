@@ -5,7 +5,8 @@ ghost use Rattle.iova_model.specs.Valid.{Rises};
 ghost use Rattle.iova_clients.specs.Registry.{room_refusal};
 ghost use Rattle.iova_clients.specs.Accounts.{client_at};
 
-use crate::MAX_HOLDINGS;
+use crate::holdings::Holdings;
+use iova_range::limits::MAX_HOLDINGS;
 use iova_range::range::Range;
 use iova_range::refusal::Refusal;
 use std::alloc::Global;
@@ -17,11 +18,10 @@ pub(crate) struct Ledger {
     worker: u64,
     sac: bool,
     closing: bool,
-    holdings: Vec<Range>,
+    holdings: Holdings,
 }
 
 impl Model for Ledger {
-    ghost use Rattle.std.specs.Prelude.{◌-◌, vec_len, vec_capacity};
     ghost use Rattle.iova_clients.specs.Accounts.{Account};
 
     ghost Value = { Account };
@@ -30,8 +30,8 @@ impl Model for Ledger {
       worker = l.worker;
       sac = l.sac;
       closing = l.closing;
-      holdings = l.holdings.items;
-      spare = vec_capacity l.holdings - vec_len l.holdings;
+      holdings = l.holdings.ranges;
+      spare = l.holdings.spare;
     } };
 }
 
@@ -43,7 +43,7 @@ impl Ledger {
             worker,
             sac,
             closing: false,
-            holdings: Vec::new(alloc),
+            holdings: Holdings::new(alloc),
         }
     }
 
@@ -78,7 +78,7 @@ impl Ledger {
     pub(crate) fn covers(&self, frame: u64) -> bool
         ensures { result ≡ is_covered frame self.now.holdings }
     {
-        self.holdings
+        self.holdings()
             .iter()
             .any(|range| range.lo() <= frame && frame <= range.hi())
     }
@@ -96,10 +96,10 @@ impl Ledger {
         if self.closing {
             return Err(Refusal::Closing);
         }
-        if self.holdings.len() >= MAX_HOLDINGS {
+        if self.holdings().len() >= MAX_HOLDINGS {
             return Err(Refusal::HoldingsFull);
         }
-        match self.holdings.reserve(1) {
+        match self.holdings.reserve() {
             Ok(()) => Ok(()),
             Err(_) => Err(Refusal::NoMemory),
         }
@@ -115,7 +115,7 @@ impl Ledger {
             .holdings
             .as_slice()
             .partition_point(|held| held.lo() <= range.lo());
-        self.holdings.insert(place, range).unwrap();
+        self.holdings.insert(place, range);
     }
 
     /// Gives up the holding that begins there.

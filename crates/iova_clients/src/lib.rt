@@ -6,8 +6,10 @@ ghost use Rattle.iova_model.specs.Fit.{is_covered};
 ghost use Rattle.iova_model.specs.Clients.{new_client, client_with, changed, forgotten, with_holding, without_holding, marked, totals, share_of};
 ghost use Rattle.iova_clients.specs.Registry.{empty_registry, spare_of, IsRegistry, open_refusal, room_refusal, CanBeGiven, held_at, lowest, count_held, IsDone, IsHolder};
 
+mod holdings;
 mod ledger;
 mod ledgers;
+mod shifts;
 mod sums;
 #[cfg(test)]
 mod tests;
