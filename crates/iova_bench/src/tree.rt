@@ -6,9 +6,9 @@ ghost use Rattle.iova_bench.specs.Held.{AreHeld};
 
 use crate::random::Random;
 use iova_range::bounds::Bounds;
+use iova_range::limits::MAX_FRAMES;
 use iova_range::range::Range;
 use iova_range::refusal::Refusal;
-use iova_range::sizes::MAX_FRAMES;
 use iova_tree::tree::Tree;
 use std::alloc::Global;
 use std::rt::Runtime;

@@ -118,6 +118,17 @@ impl Ledger {
         self.holdings.insert(place, range);
     }
 
+    /// The holding that begins there.
+    #[inline]
+    pub(crate) fn holding(&self, lo: u64) -> Option<Range>
+        requires { Rises 0 self.now.holdings }
+        ensures { result ≡ find (begins_at lo) self.now.holdings }
+    {
+        let holdings = self.holdings.as_slice();
+        let place = holdings.binary_search_by_key(&lo, |held| held.lo()).ok()?;
+        Some(holdings[place])
+    }
+
     /// Gives up the holding that begins there.
     pub(crate) fn take(&mut self, lo: u64) -> Option<Range>
         requires { Rises 0 self.old.holdings }

@@ -3,7 +3,7 @@
 
 ghost use Rattle.std.specs.Prelude.{◌≡◌, ◌≢◌, ◌+◌, ◌-◌, ◌^◌, ◌<◌, ◌≤◌, ℕ, [], ◌∷◌, ◌++◌, find, length, option_map, option_copied, option_and_then, IfOk, OnOk, OnErr, Ok, Err, IsOkUnless, IfSome, IfNone, IsSomeAnd, All, IsTrue, ◌↔◌, false};
 ghost use Rattle.iova_model.specs.Fit.{is_covered};
-ghost use Rattle.iova_model.specs.Clients.{new_client, client_with, changed, forgotten, with_holding, without_holding, marked, totals, share_of};
+ghost use Rattle.iova_model.specs.Clients.{new_client, client_with, begins_at, changed, forgotten, with_holding, without_holding, marked, totals, share_of};
 ghost use Rattle.iova_clients.specs.Registry.{empty_registry, spare_of, IsRegistry, open_refusal, room_refusal, CanBeGiven, held_at, lowest, count_held, IsDone, IsHolder};
 
 mod holdings;
@@ -176,6 +176,13 @@ impl Clients {
         ensures registry { IsRegistry self.now }
     {
         self.ledgers.get(id)?.holdings().first().copied()
+    }
+
+    /// The client's holding that begins at `lo`, where it has one: a look-up and a binary search.
+    pub fn holding(&self, id: ClientId, lo: u64) -> Option<Range>
+        ensures { result ≡ option_and_then (λ c. find (begins_at lo) c.holdings) (client_with id self.now.clients) }
+    {
+        self.ledgers.get(id)?.holding(lo)
     }
 
     /// The first client, by serial, that has a holding with the frame. This looks through all holdings.

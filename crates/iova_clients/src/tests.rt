@@ -2,7 +2,7 @@ use crate::{ClientId, Clients};
 use iova_model::totals::Totals;
 use iova_range::range::Range;
 use iova_range::refusal::Refusal;
-use iova_range::sizes::MAX_FRAMES;
+use iova_range::limits::MAX_FRAMES;
 use std::alloc::Global;
 use std::process::Abort;
 use std::test::Fail;

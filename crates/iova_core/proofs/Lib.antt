@@ -6,7 +6,6 @@ mod Drains
 mod Given
 mod Holdings
 mod Outcomes
-mod Promises
 mod Queues
 mod Readers
 mod Reductions

@@ -1,5 +1,6 @@
 -- The walk of a request: one try or two.
 use Rattle.std.proofs.Common.{ℕ, ◌≡◌, ◌≢◌, inl, inr, Bool, true, false, ◌&&◌, [], Option, Some, None, refl, sym, ap, ◌∙◌, arith}
+use Rattle.iova_range.specs.declared.limits.TheConstants.{SAC_LIMIT}
 use Rattle.std.specs.Prelude.{nat_lt}
 use Rattle.iova_model.specs.declared.step.Point.{Point}
 use Rattle.iova_model.specs.declared.step.Point.TheVariants as point
@@ -91,26 +92,26 @@ stands_exchanged tree tree' c c' s stands ex =
 
 module _ (s : State) (w : ℕ) (sac : Bool) (size limit : ℕ) where
   -- one try
-  pub comes_plain : (f : Found) (left : Caches) → (sac && nat_lt next.low_limit limit) ≡ false → Comes (next.try s w size limit true point.Second (point_of f)) f left → Comes (next.walk s w sac size limit (point_of f)) f left
+  pub comes_plain : (f : Found) (left : Caches) → (sac && nat_lt SAC_LIMIT limit) ≡ false → Comes (next.try s w size limit true point.Second (point_of f)) f left → Comes (next.walk s w sac size limit (point_of f)) f left
   comes_plain f left plain h = rw plain h
 
   -- the first of two gave an answer
-  pub comes_first : (f : Found) (left : Caches) → (sac && nat_lt next.low_limit limit) ≡ true → (f ≡ found.Nowhere → ⊥) → Comes (next.try s w size next.low_limit false point.First (point_of f)) f left → Comes (next.walk s w sac size limit (point_of f)) f left
+  pub comes_first : (f : Found) (left : Caches) → (sac && nat_lt SAC_LIMIT limit) ≡ true → (f ≡ found.Nowhere → ⊥) → Comes (next.try s w size SAC_LIMIT false point.First (point_of f)) f left → Comes (next.walk s w sac size limit (point_of f)) f left
   comes_first f left low answered h =
-      let t = next.try s w size next.low_limit false point.First (point_of f) in
+      let t = next.try s w size SAC_LIMIT false point.First (point_of f) in
       let e = second_not t.found t.state w size limit (point_of f) (λ x. answered (as_nowhere f (sym h.found ∙ x))) in
       rw low (record { found = ap (λ (x : next.Tried). x.found) e ∙ h.found; left = ap (λ (x : next.Tried). x.state.caches) e ∙ h.left })
 
   -- it gave none
-  pub comes_second : (f : Found) (mid left : Caches) → (sac && nat_lt next.low_limit limit) ≡ true → IsPointFrom point.Second (point_of f) → Comes (next.try s w size next.low_limit false point.First point.Never) found.Nowhere mid
+  pub comes_second : (f : Found) (mid left : Caches) → (sac && nat_lt SAC_LIMIT limit) ≡ true → IsPointFrom point.Second (point_of f) → Comes (next.try s w size SAC_LIMIT false point.First point.Never) found.Nowhere mid
       → Comes (next.try (next.with_caches s mid) w size limit true point.Second (point_of f)) f left → Comes (next.walk s w sac size limit (point_of f)) f left
   comes_second f mid left low own first h =
       let m = point_of f in
-      let g = next.from_cache s w size next.low_limit (order_of size) in
-      let t = next.try s w size next.low_limit false point.First m in
-      let u = next.try s w size next.low_limit false point.First point.Never in
-      let same : t ≡ u = or_tree_point g.0 g.1 size next.low_limit point.First m point.Never (never_first m own) in
-      let state : u.state ≡ next.with_caches s mid = try_keeps s w size next.low_limit false point.First point.Never ∙ ap (λ x. next.with_caches s x) first.left in
+      let g = next.from_cache s w size SAC_LIMIT (order_of size) in
+      let t = next.try s w size SAC_LIMIT false point.First m in
+      let u = next.try s w size SAC_LIMIT false point.First point.Never in
+      let same : t ≡ u = or_tree_point g.0 g.1 size SAC_LIMIT point.First m point.Never (never_first m own) in
+      let state : u.state ≡ next.with_caches s mid = try_keeps s w size SAC_LIMIT false point.First point.Never ∙ ap (λ x. next.with_caches s x) first.left in
       let e : next.or_second t.found t.state w size limit m ≡ next.try (next.with_caches s mid) w size limit true point.Second m =
       ap (λ (x : next.Tried). next.or_second x.found x.state w size limit m) same
       ∙ (ap (λ x. next.or_second x u.state w size limit m) first.found ∙ ap (λ x. next.try x w size limit true point.Second m) state) in

@@ -1,6 +1,5 @@
 pub use Rattle.iova_model.specs.State
 pub mod Domain
-pub mod Promises
 pub mod Stock
 pub mod Tied
 pub mod Walk

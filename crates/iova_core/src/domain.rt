@@ -5,7 +5,8 @@ ghost use Rattle.iova_model.specs.Clients.{Client, client_with, begins_at, total
 ghost use Rattle.iova_range.specs.Frames.{covers};
 ghost use Rattle.iova_model.specs.State.{new_domain, counts, ring_holders, place_in};
 ghost use Rattle.iova_model.specs.Valid.{IsValid};
-ghost use Rattle.iova_core.specs.Promises.{AreLaws, Runs};
+ghost use Rattle.iova_model.specs.Promises.{Runs};
+ghost use Rattle.iova_model.specs.Laws.{to_queue, unmapped_of};
 ghost use Rattle.iova_model.specs.Next.{next, reserve, open_client, alloc, unmap, unmap_held, begin, end, drain, close, close_one};
 ghost use Rattle.iova_core.specs.Domain.{place_inside, frames_in_rings};
 
@@ -17,19 +18,18 @@ use iova_depot::spot::Spot;
 use iova_flush::Entry;
 use iova_flush::flights::Flights;
 use iova_flush::ring::Ring;
-use iova_laws::closing::{clients_close_in_order, gone_clients_stay_gone};
-use iova_laws::flushing::{reuse_is_flushed, transcripts_are_flushed};
-use iova_laws::ledgers::totals_are_shares;
-use iova_laws::places::{each_frame_is_in_one_place, places_add_up, steps_conserve};
+use iova_laws::places::places_add_up;
+use iova_laws::promises::promises_are_kept;
 use iova_laws::refusals::no_memory_is_refused;
-use iova_laws::validity::{new_domains_are_valid, steps_keep_validity, transcripts_keep_validity};
+use iova_laws::validity::{new_domains_are_valid, steps_keep_validity};
 use iova_model::place::{Counts, Place};
 use iova_model::step::{Point, Reply, Step};
 use iova_model::totals::Totals;
 use iova_range::bounds::Bounds;
+use iova_range::limits::{MAX_FRAMES, MAX_WORKERS};
 use iova_range::range::Range;
 use iova_range::refusal::Refusal;
-use iova_range::sizes::{MAX_FRAMES, need};
+use iova_range::sizes::need;
 use iova_tree::tree::Tree;
 use std::alloc::Global;
 use std::marker::Model;
@@ -85,10 +85,10 @@ impl Domain {
     /// by `NoMemory`, in this order.
     pub fn new(alloc: Global, bounds: Bounds, workers: u64) -> Result<Self, Refusal>
         ensures value { IfOk result (λ d. d ≡ new_domain bounds workers) }
-        ensures workers { (result ≡ Err Refusal.NoWorker) ↔ ((workers ≡ 0) ⊎ (17 ≤ workers)) }
+        ensures workers { (result ≡ Err Refusal.NoWorker) ↔ ((workers ≡ 0) ⊎ (MAX_WORKERS < workers)) }
         ensures memory { IsErr result → (result ≡ Err Refusal.NoWorker) ⊎ (result ≡ Err Refusal.NoMemory) }
     {
-        if workers == 0 || workers > 16 {
+        if workers == 0 || workers > MAX_WORKERS {
             return Err(Refusal::NoWorker);
         }
         new_domains_are_valid();
@@ -416,6 +416,47 @@ impl Domain {
         self.clients.holdings(client)
     }
 
+    /// The range that this step would put into its worker's ring if the ring had room: none where it is refused before
+    /// the ring is asked, and none for a step that queues nothing. It takes one look-up and a binary search.
+    pub fn to_queue(&self, step: Step) -> Option<Range>
+        ensures { result ≡ to_queue self.now step }
+    {
+        match step {
+            Step::Unmap { worker, client, lo } => self.to_unmap(worker, client, lo),
+            Step::CloseOne { worker, client } => self.to_close(worker, client),
+            Step::Reserve { .. }
+            | Step::Open { .. }
+            | Step::Alloc { .. }
+            | Step::Begin
+            | Step::End { .. }
+            | Step::Drain { .. }
+            | Step::Close { .. } => None,
+        }
+    }
+
+    /// The holding that begins at `lo`, of a client of this worker that isn't closing.
+    fn to_unmap(&self, worker: u64, client: ClientId, lo: u64) -> Option<Range>
+        ensures { result ≡ to_queue self.now (Step.Unmap worker client lo) }
+    {
+        if worker >= self.workers()
+            || self.clients.owner(client) != Some(worker)
+            || self.clients.is_closing(client) != Some(false)
+        {
+            return None;
+        }
+        self.clients.holding(client, lo)
+    }
+
+    /// The lowest holding of a client of this worker.
+    fn to_close(&self, worker: u64, client: ClientId) -> Option<Range>
+        ensures { result ≡ to_queue self.now (Step.CloseOne worker client) }
+    {
+        if worker >= self.workers() || self.clients.owner(client) != Some(worker) {
+            return None;
+        }
+        self.clients.first(client)
+    }
+
     /// How many clients there are, closing ones too, 0 to 1,024.
     #[inline]
     pub fn clients(&self) -> usize
@@ -518,7 +559,7 @@ pub fn run(domain: &mut Domain, steps: &[Step], replies: &mut Vec<Reply>) -> Res
     ensures ok { OnOk result (Runs domain.old domain.new steps.now replies.old.items replies.new.items) }
     ensures err { OnErr result ((result ≡ Err Refusal.NoMemory) × ((n : ℕ) × Runs domain.old domain.new (take n steps.now) replies.old.items replies.new.items)) }
 {
-    laws();
+    promises_are_kept();
     // says that the state is valid
     let _workers = domain.workers();
     for step in steps {
@@ -531,24 +572,9 @@ pub fn run(domain: &mut Domain, steps: &[Step], replies: &mut Vec<Reply>) -> Res
     Ok(())
 }
 
-/// The laws of the definitions that the promises of a run follow from.
-fn laws()
-    ensures { AreLaws }
-{
-    transcripts_are_flushed();
-    reuse_is_flushed();
-    clients_close_in_order();
-    gone_clients_stay_gone();
-    steps_conserve();
-    transcripts_keep_validity();
-    each_frame_is_in_one_place();
-    places_add_up();
-    totals_are_shares();
-}
-
 /// A ring for each worker.
 fn new_rings(alloc: Global, workers: usize) -> Result<Vec<Ring>, Refusal>
-    requires { workers ≤ 16 }
+    requires { workers ≤ MAX_WORKERS }
     ensures value { IfOk result (λ rings. rings.items ≡ replicate workers []) }
     ensures refused { IsErr result → result ≡ Err Refusal.NoMemory }
 {
@@ -582,7 +608,7 @@ fn has_frame(windows: &[Range], frame: u64) -> bool
 
 /// How many frames wait in rings.
 fn queued_frames(rings: &[Ring]) -> u64
-    requires { length rings.now ≤ 16 }
+    requires { length rings.now ≤ MAX_WORKERS }
     ensures { result ≡ frames_in_rings rings.now }
 {
     let mut frames = 0;

@@ -11,8 +11,9 @@ ghost use Rattle.iova_core.specs.Stock.{HasAll, Frees, IsStock, Exchanges};
 use iova_depot::caches::Caches;
 use iova_flush::ring::Ring;
 use iova_mag::magazine::Magazine;
+use iova_range::limits::{MAX_ENTRIES, MAX_FRAMES, ORDERS};
 use iova_range::range::Range;
-use iova_range::sizes::{MAX_FRAMES, ORDERS, order_of};
+use iova_range::sizes::order_of;
 use iova_tree::tree::Tree;
 
 /// Frees a range of the tree.
@@ -83,7 +84,7 @@ fn put_full(tree: &mut Tree, caches: &mut Caches, w: usize, order: u8, range: Ra
 /// (Linux 5.15 `drivers/iommu/iova.c`: `fq_ring_free`).
 pub fn drain(tree: &mut Tree, caches: &mut Caches, ring: &mut Ring, w: usize, finish: u64) -> u64
     requires worker { w < caches.old.workers }
-    requires room { length ring.old ≤ 255 }
+    requires room { length ring.old ≤ MAX_ENTRIES }
     requires stock { IsStock tree.old caches.old (map entry_range ring.old) }
     ensures count { result ≡ length (flushed finish ring.old) }
     ensures ring { ring.new ≡ unflushed finish ring.old }

@@ -14,8 +14,9 @@ ghost use Rattle.iova_core.specs.Walk.{get_cached, Places, Stands, Comes, point_
 use crate::stock::empty;
 use iova_depot::caches::Caches;
 use iova_model::step::Point;
+use iova_range::limits::{MAX_FRAMES, SAC_LIMIT};
 use iova_range::range::Range;
-use iova_range::sizes::{MAX_FRAMES, order_of};
+use iova_range::sizes::order_of;
 use iova_tree::tree::Tree;
 
 /// What a walk of a request comes to.
@@ -28,9 +29,6 @@ pub enum Found {
     /// The growth at this point was refused.
     Starved(Point),
 }
-
-/// The last frame below 4 GiB.
-pub const LOW_LIMIT: u64 = 1_048_575;
 
 /// Asks the caches of worker `w`.
 #[inline]
@@ -118,8 +116,8 @@ pub fn walk(
     ensures point { point_of result ≢ Point.Ledger }
     ensures stock { Exchanges tree.old tree.new caches.old caches.new (placed result) [] }
 {
-    if sac && limit > LOW_LIMIT {
-        match try_once(tree, caches, w, size, LOW_LIMIT, false, Point::First) {
+    if sac && limit > SAC_LIMIT {
+        match try_once(tree, caches, w, size, SAC_LIMIT, false, Point::First) {
             Found::Nowhere => {}
             found => return found,
         }

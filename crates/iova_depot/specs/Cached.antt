@@ -1,5 +1,6 @@
 -- All that is cached: the workers' magazines, and the depot.
 use Rattle.std.specs.Prelude.{ℕ, ◌≡◌, ◌≤◌, ◌+◌, List, [], sum_by, slice_index_or, slice_set}
+use Rattle.iova_range.specs.declared.limits.TheConstants.{MAX_WORKERS}
 use Rattle.iova_range.specs.Frames.{Frames}
 use Rattle.iova_range.specs.Bounds.{Capacities, IsProfile}
 use Rattle.iova_model.specs.declared.place.Place.{Place}
@@ -23,7 +24,7 @@ new_cached profile workers = record { profile = profile; workers = workers; cach
 pub record IsCached (c : Cached) : Type 0 where
   pub profile : IsProfile c.profile
   pub some_worker : 1 ≤ c.workers
-  pub few_workers : c.workers ≤ 16
+  pub few_workers : c.workers ≤ MAX_WORKERS
   pub caches : AreCaches c.profile c.workers c.caches
 
 -- A range has left, and all else that was cached is cached: whatever ranges weigh, that one is what they weigh less.

@@ -1,5 +1,6 @@
 -- What a `Caches` keeps true inside.
 use Rattle.std.specs.Prelude.{◌≡◌, ◌≤◌, ◌<◌, ◌+◌, ◌*◌, ℕ, List, [], length, All, map, slice_index_or}
+use Rattle.iova_range.specs.declared.limits.TheConstants.{MAX_WORKERS}
 use Rattle.iova_range.specs.Bounds.{Capacities, IsProfile}
 use Rattle.iova_model.specs.Caches.{Caches, cache_at}
 use Rattle.iova_model.specs.State.{magazine_holders, depot_holders}
@@ -22,7 +23,7 @@ seen workers depots = record { workers = map (λ w. w.caches) workers; depots = 
 pub record IsInside (profile : Capacities) (workers : List WorkerCache) (depots : List Stored) (in_magazines in_depot first_filled : ℕ) : Type 0 where
   pub is_profile : IsProfile profile
   pub some_worker : 1 ≤ length workers
-  pub few_workers : length workers ≤ 16
+  pub few_workers : length workers ≤ MAX_WORKERS
   pub same_in_workers : All (λ w. w.profile ≡ profile) workers
   pub same_in_depots : All (λ d. d.profile ≡ profile) depots
   pub caches : AreCaches profile (length workers) (seen workers depots)

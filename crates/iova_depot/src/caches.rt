@@ -12,9 +12,9 @@ use crate::depot::Depot;
 use crate::spot::Spot;
 use iova_mag::magazine::Magazine;
 use iova_mag::worker::{Got, WorkerCache};
+use iova_range::limits::{MAX_WORKERS, ORDERS};
 use iova_range::profile::Profile;
 use iova_range::refusal::Refusal;
-use iova_range::sizes::ORDERS;
 use std::alloc::{AllocError, Global};
 use std::marker::Model;
 
@@ -48,7 +48,7 @@ impl Caches {
     /// Empty caches of the first profile for 1 to 16 workers. `NoMemory` where a growth is refused.
     pub fn new(alloc: Global, workers: usize) -> Result<Self, Refusal>
         requires some { 1 ≤ workers }
-        requires few { workers ≤ 16 }
+        requires few { workers ≤ MAX_WORKERS }
         ensures value { IfOk result (λ c. c ≡ new_cached first_profile workers) }
         ensures refused { IsErr result → result ≡ Err Refusal.NoMemory }
     {
@@ -58,7 +58,7 @@ impl Caches {
     /// Empty caches of this profile for 1 to 16 workers. `NoMemory` where a growth is refused.
     pub fn new_for(alloc: Global, profile: Profile, workers: usize) -> Result<Self, Refusal>
         requires some { 1 ≤ workers }
-        requires few { workers ≤ 16 }
+        requires few { workers ≤ MAX_WORKERS }
         ensures value { IfOk result (λ c. c ≡ new_cached profile workers) }
         ensures refused { IsErr result → result ≡ Err Refusal.NoMemory }
     {
@@ -389,7 +389,7 @@ impl Caches {
 }
 
 fn new_workers(alloc: Global, profile: Profile, count: usize) -> Result<Vec<WorkerCache>, Refusal>
-    requires { count ≤ 16 }
+    requires { count ≤ MAX_WORKERS }
     ensures value { IfOk result (λ v. v.items ≡ replicate count (new_worker profile)) }
     ensures refused { IsErr result → result ≡ Err Refusal.NoMemory }
 {

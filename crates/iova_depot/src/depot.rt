@@ -6,8 +6,8 @@ ghost use Rattle.iova_model.specs.State.{list_holders};
 ghost use Rattle.iova_model.specs.Valid.{IsDepot};
 
 use iova_mag::magazine::Magazine;
+use iova_range::limits::ORDERS;
 use iova_range::profile::Profile;
-use iova_range::sizes::ORDERS;
 use std::alloc::{AllocError, Global};
 use std::marker::Model;
 

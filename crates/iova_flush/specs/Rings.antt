@@ -3,6 +3,7 @@ use Rattle.std.specs.Prelude.{ℕ, ◌≡◌, ◌≤◌, List, [], ◌∷◌, le
 use Rattle.std.specs.List.{sum_by, AllByRecursion}
 use Rattle.iova_model.specs.declared.entry.Entry.{Entry}
 use Rattle.iova_model.specs.Valid.{IsRequestSizedEntry}
+use Rattle.iova_range.specs.declared.limits.TheConstants.{RING_SLOTS, MAX_ENTRIES}
 
 -- the frames of all entries
 abbrev pub frame_count : List Entry → ℕ
@@ -15,7 +16,7 @@ OldestWaits finish (e ∷ es) = finish ≤ e.count
 
 -- A ring of so many slots, one of which stays empty, with the number of its frames kept beside the entries.
 pub record IsKept (slots frames : ℕ) (entries : List Entry) : Type 0 where
-  pub capacity : slots ≡ 256
-  pub room : length entries ≤ 255
+  pub capacity : slots ≡ RING_SLOTS
+  pub room : length entries ≤ MAX_ENTRIES
   pub sized : AllByRecursion IsRequestSizedEntry entries
   pub counted : frames ≡ frame_count entries

@@ -3,14 +3,9 @@ ghost use Rattle.iova_model.specs.Flushes.{flushes_from, begun, ended, is_in_fli
 
 use crate::Flight;
 use arrayvec::ArrayVec;
+use iova_range::limits::{MAX_FLIGHTS, MAX_SERIAL};
 use iova_range::refusal::Refusal;
 use std::marker::Model;
-
-/// How many flushes can be in flight.
-pub const MAX_IN_FLIGHT: usize = 32;
-
-/// The last number of a flush, 2^63 - 1.
-pub const LAST_NUMBER: u64 = 0x7fff_ffff_ffff_ffff;
 
 /// The flushes: how many have begun, how many are accounted for, and those in flight, at most 32, rising by number.
 ///
@@ -30,7 +25,7 @@ pub struct Flights {
     owed: u64,
     newest: u64,
     good: u64,
-    in_flight: ArrayVec<Flight, MAX_IN_FLIGHT>,
+    in_flight: ArrayVec<Flight, MAX_FLIGHTS>,
 }
 
 impl Model for Flights {
@@ -70,21 +65,21 @@ impl Flights {
     /// nothing is owed then. Refused, with no change, by `FlightsFull` exactly where 32 are in flight, else by `Worn`
     /// exactly where the start count is 2^63 - 1.
     pub fn begin(&mut self) -> Result<u64, Refusal>
-        ensures begins { IsOk result ↔ (length self.old.in_flight < 32) × (self.old.start < 2 ^ 63 - 1) }
+        ensures begins { IsOk result ↔ (length self.old.in_flight < MAX_FLIGHTS) × (self.old.start < MAX_SERIAL) }
         ensures begun { OnOk result (self.new ≡ begun self.old) }
         ensures number { IfOk result (λ no. no ≡ self.new.start) }
 
         // Too many in flight come before too great a number.
-        ensures full { (result ≡ Err Refusal.FlightsFull) ↔ (32 ≤ length self.old.in_flight) }
+        ensures full { (result ≡ Err Refusal.FlightsFull) ↔ (MAX_FLIGHTS ≤ length self.old.in_flight) }
         ensures worn { (result ≡ Err Refusal.Worn)
-            ↔ (length self.old.in_flight < 32) × (2 ^ 63 - 1 ≤ self.old.start) }
+            ↔ (length self.old.in_flight < MAX_FLIGHTS) × (MAX_SERIAL ≤ self.old.start) }
         ensures refused { IfErr result (λ r. (r ≡ Refusal.FlightsFull) ⊎ (r ≡ Refusal.Worn)) }
         ensures unchanged { OnErr result (self.new ≡ self.old) }
     {
         if self.in_flight.is_full() {
             return Err(Refusal::FlightsFull);
         }
-        if self.start == LAST_NUMBER {
+        if self.start == MAX_SERIAL {
             return Err(Refusal::Worn);
         }
         self.start += 1;

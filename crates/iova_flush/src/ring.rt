@@ -7,17 +7,10 @@ ghost use Rattle.iova_flush.specs.Rings.{frame_count, OldestWaits};
 
 use crate::Entry;
 use circular_buffer::HeapCircularBuffer;
+use iova_range::limits::{MAX_ENTRIES, MAX_FRAMES, RING_SLOTS};
 use iova_range::refusal::Refusal;
-use iova_range::sizes::MAX_FRAMES;
 use std::alloc::Global;
 use std::marker::Model;
-
-/// How many entries a ring is full at.
-pub const MAX_ENTRIES: usize = 255;
-
-// One slot more than entries, as a ring that tells full from empty by its two ends needs
-// (`IOVA_FQ_SIZE` of Linux 5.15 `include/linux/iova.h`).
-const SLOTS: usize = 256;
 
 /// The ranges of one worker that wait for a flush, oldest first: at most 255 entries of 1 to 1,048,576 frames each
 /// (Linux 5.15 `include/linux/iova.h`: `iova_fq`). Contracts see it as the list of its entries.
@@ -46,7 +39,7 @@ impl Ring {
         ensures empty { IfOk result (λ ring. ring ≡ []) }
         ensures refused { IsOkUnless result Refusal.NoMemory }
     {
-        let Ok(entries) = HeapCircularBuffer::with_capacity(alloc, SLOTS) else {
+        let Ok(entries) = HeapCircularBuffer::with_capacity(alloc, RING_SLOTS) else {
             return Err(Refusal::NoMemory);
         };
         Ok(Ring { entries, frames: 0 })

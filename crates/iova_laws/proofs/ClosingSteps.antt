@@ -47,12 +47,20 @@ idle queues not_emptied = record { queues = queues; not_emptied = not_emptied }
 
 -- each refusal is one
 refused_idle : (id : ℕ) (st : Step) (r : Refusal) → IsIdle id st (reply.Refused r)
-refused_idle id (step.CloseOne w other) r = idle refl (λ e. e)
-refused_idle id st r = idle refl (λ e. e)
+refused_idle id (step.CloseOne w other) r = idle refl (λ e. let is = e.1 in cc)
+refused_idle id st r = idle refl (λ e. let is = e.1 in cc)
 
 -- and the closing of another client
 other_idle : (id w other : ℕ) (r : Frames) → other ≢ id → IsIdle id (step.CloseOne w other) (reply.Queued r)
-other_idle id w other r apart = let different : (other == id) ≡ false = grind (arith, nat_tests) in idle (rw different refl) (λ e. e)
+other_idle id w other r apart = let different : (other == id) ≡ false = grind (arith, nat_tests) in idle (rw different refl) (λ e. let is = e.1 in cc)
+
+same_client : {other id : ℕ} → Some other ≡ Some id → other ≡ id
+same_client e = cc
+
+-- the client is marked by the step that closes it, or it is closing already
+closed_by : {A B : Type 0} {other id : ℕ} → A ⊎ ((Some other ≡ Some id) × B) → A ⊎ (other ≡ id)
+closed_by (inl a) = inl a
+closed_by (inr marks) = inr (same_client marks.0)
 
 -- A state with this client.
 module _ (s : State) (id : ℕ) (c : Client) (is : client_with id s.clients ≡ Some c) where
@@ -112,7 +120,7 @@ module _ (s : State) (id : ℕ) (c : Client) (is : client_with id s.clients ≡ 
         is = ap (λ cs. client_with id cs) clients ∙ changed_found id (without_holding r.lo) (marked c) (changed id marked s.clients) marked_is refl;
         closing = refl;
         left = rw (same, rest) (sym lowest);
-        not_emptied = λ e. e;
+        not_emptied = λ e. let is = e.1 in cc;
       }
 
   -- where the lowest holding of another client is queued, it stays as it is
@@ -143,9 +151,9 @@ module _ (s : State) (id : ℕ) (c : Client) (is : client_with id s.clients ≡ 
         gone = subst (λ i. client_with id (forgotten i s.clients) ≡ None) (sym same) (forgotten_is_gone id 0 s.clients s.serial rise);
         nothing = ap (λ x. x.holdings) (sym (is_same w other d own same)) ∙ empty;
         nothing_queued = refl;
-        empties = same;
+        empties = (ap (λ i. Some i) same, refl);
       })
-      split (inr apart) (inl closing) = inl (untouched (idle refl apart) (found-forgotten_other id other s.clients apart ∙ is) closing)
+      split (inr apart) (inl closing) = inl (untouched (idle refl (λ e. apart (same_client e.0))) (found-forgotten_other id other s.clients apart ∙ is) closing)
       split (inr apart) (inr same) = absurd (apart same)
 
   -- what a step comes to for a client that is closing, or that it marks
@@ -153,14 +161,14 @@ module _ (s : State) (id : ℕ) (c : Client) (is : client_with id s.clients ≡ 
   unfolding after_lowest
   closing_step (turned_down st r why) rise (inl closing) = inl (untouched (refused_idle id st r) is closing)
   closing_step (turned_down st r why) rise (inr marks) = absurd (why.unmarked id marks)
-  closing_step (opens w sac) rise (inl closing) = inl (untouched (idle refl (λ e. e)) (found-push id s.clients _ c is) closing)
+  closing_step (opens w sac) rise (inl closing) = inl (untouched (idle refl (λ e. let is = e.1 in cc)) (found-push id s.clients _ c is) closing)
   closing_step (gives w other frames limit d r caches own still_open) rise (inl closing) =
-      inl (untouched (idle refl (λ e. e)) (other_changed other (with_holding r) (λ x. refl) (is_other w other d own still_open closing)) closing)
+      inl (untouched (idle refl (λ e. let is = e.1 in cc)) (other_changed other (with_holding r) (λ x. refl) (is_other w other d own still_open closing)) closing)
   closing_step (unmaps w other lo d r known own still_open held) rise (inl closing) =
-      inl (untouched (idle refl (λ e. e)) (other_changed other (without_holding r.lo) (λ x. refl) (is_other w other d own still_open closing)) closing)
-  closing_step (closes w other d own) rise why = inl (marks_one other (idle refl (λ e. e)) why)
-  closing_step (queues_lowest w other d r rs known own lowest) rise why = inl (queues_one w other d r rs _ own lowest refl why)
-  closing_step (only_marks w other d own) rise why = inl (marks_one other (idle refl (λ e. e)) why)
-  closing_step (forgets w other d own empty) rise why = forgets_one w other d rise own empty why
-  closing_step o rise (inl closing) = inl (untouched (idle refl (λ e. e)) is closing)
-  closing_step o rise (inr marks) = absurd marks
+      inl (untouched (idle refl (λ e. let is = e.1 in cc)) (other_changed other (without_holding r.lo) (λ x. refl) (is_other w other d own still_open closing)) closing)
+  closing_step (closes w other d own) rise why = inl (marks_one other (idle refl (λ e. let is = e.1 in cc)) (closed_by why))
+  closing_step (queues_lowest w other d r rs known own lowest) rise why = inl (queues_one w other d r rs _ own lowest refl (closed_by why))
+  closing_step (only_marks w other d own) rise why = inl (marks_one other (idle refl (λ e. let is = e.1 in cc)) (closed_by why))
+  closing_step (forgets w other d own empty) rise why = forgets_one w other d rise own empty (closed_by why)
+  closing_step o rise (inl closing) = inl (untouched (idle refl (λ e. let is = e.1 in cc)) is closing)
+  closing_step o rise (inr marks) = let none = marks.0 in absurd cc

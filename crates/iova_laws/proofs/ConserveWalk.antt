@@ -1,5 +1,6 @@
 -- What a request's walk comes to: a cached range, a free one, or nothing, and what is left of the caches.
 use Rattle.std.proofs.Common.{ℕ, ◌≡◌, ◌+◌, ◌-◌, ◌^◌, ◌<◌, ◌≤◌, ◌&&◌, ◌⊎◌, inl, inr, Bool, true, false, Option, Some, None, length, refl, ap, arith}
+use Rattle.iova_range.specs.declared.limits.TheConstants.{SAC_LIMIT}
 use Rattle.std.specs.Prelude.{nat_lt, nat_le, slice_index}
 use Rattle.std.proofs.lemmas.Bool.{cond_both, and_parts, leb-true, ltb-true}
 use Rattle.iova_model.specs.declared.step.Point.{Point}
@@ -10,7 +11,7 @@ use Rattle.iova_model.specs.Fit.{fits}
 use Rattle.iova_model.specs.Caches.{Caches, Shelf, shelf_at, with_shelf, reloaded, fitting, popped, get, emptied}
 use Rattle.iova_model.specs.State.{State, held_ranges}
 use Rattle.iova_model.specs.Valid.{AreCaches}
-use Rattle.iova_model.specs.Next.{Found, At, Nowhere, OutOfMemory, Tried, with_caches, is_at, best_place, from_cache, from_tree, or_emptied, or_tree, try, or_second, low_limit, walk}
+use Rattle.iova_model.specs.Next.{Found, At, Nowhere, OutOfMemory, Tried, with_caches, is_at, best_place, from_cache, from_tree, or_emptied, or_tree, try, or_second, walk}
 use Rattle.iova_model.proofs.Placing.{greatest_some}
 use Rattle.iova_laws.proofs.Weight as weight
 use Rattle.iova_laws.proofs.WeightCaches.{cached_with, Pops, get_pops, cached-emptied}
@@ -141,12 +142,12 @@ module _ (s : State) (w size : ℕ) (below : w < s.workers) where
   -- what holds of each outcome holds of the walk
   pub walk_cases : (sac : Bool) (limit : ℕ) (m : Point) (P : Tried → Type 0) → AreOwn s s.caches → OnEach s size limit true P → P (walk s w sac size limit m)
   walk_cases sac limit m P own each =
-      let t = try s w size low_limit false point.First m in
-      cond_both (sac && nat_lt low_limit limit) (or_second t.found t.state w size limit m) (try s w size limit true point.Second m) P
-      (λ e. try_cases s.caches low_limit false point.First m (λ x. P (or_second x.found x.state w size limit m)) own (λ weigh. refl) (second_cases (ltb-true low_limit limit (and_parts sac _ e).1)))
+      let t = try s w size SAC_LIMIT false point.First m in
+      cond_both (sac && nat_lt SAC_LIMIT limit) (or_second t.found t.state w size limit m) (try s w size limit true point.Second m) P
+      (λ e. try_cases s.caches SAC_LIMIT false point.First m (λ x. P (or_second x.found x.state w size limit m)) own (λ weigh. refl) (second_cases (ltb-true SAC_LIMIT limit (and_parts sac _ e).1)))
       (λ e. try_cases s.caches limit true point.Second m P own (λ weigh. refl) each)
     where
-      second_cases : low_limit < limit → OnEach s size low_limit false (λ x. P (or_second x.found x.state w size limit m))
+      second_cases : SAC_LIMIT < limit → OnEach s size SAC_LIMIT false (λ x. P (or_second x.found x.state w size limit m))
       second_cases lower (At lo) c own' (inl was) = each (At lo) c own' (inl (record { left = was.left; within = omega (arith, was.within) }))
       second_cases lower (At lo) c own' (inr free) =
           each (At lo) c own' (inr (inl free.0, record { used = free.1.used; within = omega (arith, free.1.within); fits = free.1.fits }))

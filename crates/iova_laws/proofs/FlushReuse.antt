@@ -2,7 +2,6 @@
 use Rattle.std.proofs.Common.{ℕ, ◌≡◌, false, take, sym, arith}
 use Rattle.std.proofs.lemmas.Option.{slice_get_within}
 use Rattle.iova_model.specs.declared.step.Step.{Step}
-use Rattle.iova_model.specs.declared.step.Step.TheVariants as step
 use Rattle.iova_model.specs.declared.step.Reply.{Reply}
 use Rattle.iova_model.specs.declared.step.Reply.TheVariants as reply
 use Rattle.iova_model.specs.declared.step.Point.{Point}
@@ -16,9 +15,8 @@ use Rattle.iova_laws.proofs.PlaceGiven.{given_not_ringed}
 use Rattle.iova_laws.proofs.Valid.{transcripts_keep_validity}
 
 -- a frame that a reply gives is in no ring
-gives_not_ringed : (s : State) (st : Step) (m : Point) (r : Reply) (frame : ℕ) → IsValid s → (next s st m).reply ≡ r → Gives frame st r → is_ringed frame s.rings ≡ false
-gives_not_ringed s (step.Alloc w id frames limit) m (reply.Given r) frame valid is has =
-    given_not_ringed s (step.Alloc w id frames limit) m r frame valid is has
+gives_not_ringed : (s : State) (st : Step) (m : Point) (r : Reply) (frame : ℕ) → IsValid s → (next s st m).reply ≡ r → Gives frame r → is_ringed frame s.rings ≡ false
+gives_not_ringed s st m (reply.Given r) frame valid is has = given_not_ringed s st m r frame valid is has
 gives_not_ringed s st m r frame valid is has = absurd has
 
 -- so it has left the rings when it is given again

@@ -2,7 +2,6 @@
 use Rattle.std.proofs.Common.{ℕ, ◌≡◌, ◌+◌, ◌≤◌, Bool, true, false, length, refl, arith}
 use Rattle.std.proofs.lemmas.Bool.{leb-false}
 use Rattle.std.proofs.lemmas.List.{length-set}
-use Rattle.iova_range.specs.declared.refusal.Refusal.{Refusal}
 use Rattle.iova_range.specs.Frames.{Frames, covers}
 use Rattle.iova_model.specs.declared.step.Step.{Step}
 use Rattle.iova_model.specs.declared.step.Step.TheVariants as step
@@ -13,7 +12,7 @@ use Rattle.iova_model.specs.State.{State}
 use Rattle.iova_model.specs.Next.{ring_at, drained, queued, no_worker}
 use Rattle.iova_model.specs.Transcript.{Unmaps}
 use Rattle.iova_laws.proofs.FlushRings.{waits, waits_in-unflushed, waits_in_push, waits_in_last, waits_kept, waits_put}
-use Rattle.iova_laws.proofs.Outcomes.{Outcome, turned_down, unmaps, begins, ends, drains, queues_lowest}
+use Rattle.iova_laws.proofs.Outcomes.{Outcome, unmaps, begins, ends, drains, queues_lowest}
 
 -- a step leaves the flushes, or it begins or ends one
 pub data FlushStep (st : Step) (r : Reply) (old new : Flushes) : Type 0 where
@@ -54,20 +53,14 @@ just_queued s w id r frame rings known has =
     let below = leb-false s.workers w known in
     waits_put frame s.flushes.start d.rings w _ (omega arith) (waits_in_last frame s.flushes.start (ring_at d w) _ has (omega arith))
 
--- no refusal unmaps
-refused_unmaps : (frame : ℕ) (st : Step) (r : Refusal) → Unmaps frame st (reply.Refused r) → ⊥
-refused_unmaps frame (step.Unmap w id lo) r u = u
-refused_unmaps frame st r u = u
-
 -- and so what a step unmaps waits
-pub queues_waits : (s : State) {st : Step} {r : Reply} {t : State} → Outcome s st r t → (frame : ℕ) → length s.rings ≡ s.workers → Unmaps frame st r → waits frame s.flushes.start t.rings ≡ true
+pub queues_waits : (s : State) {st : Step} {r : Reply} {t : State} → Outcome s st r t → (frame : ℕ) → length s.rings ≡ s.workers → Unmaps frame r → waits frame s.flushes.start t.rings ≡ true
 queues_waits s (unmaps w id lo c r known is still_open held) frame rings u = just_queued s w id r frame rings known u
 queues_waits s (queues_lowest w id c r rs known is held) frame rings u = just_queued s w id r frame rings known u
-queues_waits s (turned_down st r why) frame rings u = absurd (refused_unmaps frame st r u)
 queues_waits s o frame rings u = absurd u
 
 -- a step that unmaps leaves the flushes
-pub unmapped_flushes : (s : State) {st : Step} {r : Reply} {t : State} → Outcome s st r t → (frame : ℕ) → Unmaps frame st r → t.flushes ≡ s.flushes
+pub unmapped_flushes : (s : State) {st : Step} {r : Reply} {t : State} → Outcome s st r t → (frame : ℕ) → Unmaps frame r → t.flushes ≡ s.flushes
 unmapped_flushes s (begins room fresh) frame u = absurd u
 unmapped_flushes s (ends n ok flies) frame u = absurd u
 unmapped_flushes s o frame u = refl

@@ -179,7 +179,7 @@ pair_at (p ∷ ps) zero below = (p, refl)
 pair_at (p ∷ ps) (suc k) below = pair_at ps k (omega arith)
 
 -- just after the unmap
-pending_first : (ps : List Pair) (i frame : ℕ) (s : State) (st : Step) (m : Point) → IsValid s → Unmaps frame st (next s st m).reply → Pending ps i frame s.flushes.start (suc i) (next s st m).state
+pending_first : (ps : List Pair) (i frame : ℕ) (s : State) (st : Step) (m : Point) → IsValid s → Unmaps frame (next s st m).reply → Pending ps i frame s.flushes.start (suc i) (next s st m).state
 pending_first ps i frame s st m valid u =
     let o = outcome s st m in
     let e = unmapped_flushes s o frame u in
@@ -207,7 +207,7 @@ module _ (s : State) (ps : List Pair) (valid : IsValid s) (t : IsTranscript s ps
   pending_once =
       let at = step_at s ps i u.pair t u.is in
       let now = after s (take i ps) in
-      let unmaps_now = subst (λ r. Unmaps frame u.pair.step r) at.reply u.unmaps in
+      let unmaps_now = subst (λ r. Unmaps frame r) at.reply u.unmaps in
       subst (λ x. Pending ps i frame count (suc i) x) (sym at.state) (pending_first ps i frame now u.pair.step u.pair.point (transcripts_keep_validity s (take i ps) valid) unmaps_now)
 
   -- from one pair after the unmap to the next

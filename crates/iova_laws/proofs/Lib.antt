@@ -25,7 +25,9 @@ mod PlaceOnce
 mod PlaceWindows
 mod RefusalMemory
 mod RefusalPoints
+mod PromiseLaws
 mod RefusalState
+mod ReplyLaws
 mod RequestAnswers
 mod Serials
 mod Tests

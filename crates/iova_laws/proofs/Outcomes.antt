@@ -120,14 +120,14 @@ module _ (s : State) where
   reserve_comes lo hi m =
       let st = step.Reserve lo hi in
       unless_cases (λ x. Comes s st x) s (Next.reserve_tests s lo hi m) (Next.reserved s (Next.from_to lo hi))
-      (λ r. unnamed st r refl (λ id h. h) refl) (λ all. reserves lo hi _ _)
+      (λ r. unnamed st r refl (λ id h. let none = h.0 in cc) refl) (λ all. reserves lo hi _ _)
 
   -- a client is opened
   open_comes : (w : ℕ) (sac : Bool) (m : Point) → Comes s (step.Open w sac) (Next.open_client s w sac m)
   open_comes w sac m =
       let st = step.Open w sac in
       let n : Next.Next = record { reply = reply.Opened (s.serial + 1); state = Next.opened s w sac } in
-      unless_cases (λ x. Comes s st x) s (Next.open_tests s w m) n (λ r. unnamed st r refl (λ id h. h) refl) (λ all. opens w sac)
+      unless_cases (λ x. Comes s st x) s (Next.open_tests s w m) n (λ r. unnamed st r refl (λ id h. let none = h.0 in cc) refl) (λ all. opens w sac)
 
   -- Requests.
 
@@ -141,14 +141,14 @@ module _ (s : State) where
   -- the client is asked for, and its ledger
   alloc_to_comes : (o : Option Client) (w id frames limit : ℕ) (m : Point) → client_of w id s.clients ≡ o → AllFail (Next.alloc_tests s w frames)
       → Comes s (step.Alloc w id frames limit) (Next.alloc_to o s w id (need frames) limit m)
-  alloc_to_comes None w id frames limit m is asked = early (step.Alloc w id frames limit) refusal.NoClient (rw (asked.0, asked.1.0, asked.1.1.0) refl) (λ id h. h) refl
+  alloc_to_comes None w id frames limit m is asked = early (step.Alloc w id frames limit) refusal.NoClient (rw (asked.0, asked.1.0, asked.1.1.0) refl) (λ id h. let none = h.0 in cc) refl
   alloc_to_comes (Some c) w id frames limit m is asked =
       let st = step.Alloc w id frames limit in
       let size = need frames in
       let own = owned w id s.clients c is in
       let t = Next.walk s w c.sac size limit m in
       let walked = walk_walked s w c.sac size limit m in
-      let known_now = λ (r : Refusal) (leaves : Leaves s st r s) (b : Bool) (e : b ≡ true). known st r w id c refl own (λ id h. h) leaves in
+      let known_now = λ (r : Refusal) (leaves : Leaves s st r s) (b : Bool) (e : b ≡ true). known st r w id c refl own (λ id h. let none = h.0 in cc) leaves in
       unless_each (λ x. Comes s st x) s (Next.ledger_tests c m) (Next.given_by t id size)
       (known_now refusal.Closing refl _, λ e. (known_now refusal.HoldingsFull refl _, λ f. (known_now refusal.NoMemory refl _, λ g. tt)))
       (λ all. subst (λ u. Comes s st (Next.given t.found u id size)) (sym walked.is) (given_comes t.found w id frames limit size c t.state.caches own all.0 walked.nowhere))
@@ -158,11 +158,11 @@ module _ (s : State) where
   alloc_comes w id frames limit m =
       let st = step.Alloc w id frames limit in
       unless_each (λ x. Comes s st x) s (Next.alloc_tests s w frames) (Next.alloc_to (client_of w id s.clients) s w id (need frames) limit m) (
-        (λ e. early st refusal.NoWorker (rw e refl) (λ id h. h) refl),
+        (λ e. early st refusal.NoWorker (rw e refl) (λ id h. let none = h.0 in cc) refl),
         λ a. (
-          (λ e. early st refusal.Zero (rw (a, e) refl) (λ id h. h) refl),
+          (λ e. early st refusal.Zero (rw (a, e) refl) (λ id h. let none = h.0 in cc) refl),
           λ b. (
-            (λ e. early st refusal.TooBig (rw (a, b, e) refl) (λ id h. h) refl),
+            (λ e. early st refusal.TooBig (rw (a, b, e) refl) (λ id h. let none = h.0 in cc) refl),
             λ c. tt,
           ),
         ),
@@ -172,21 +172,21 @@ module _ (s : State) where
   -- the holding is asked for, and the ring
   unmap_held_comes : (held : Option Frames) (w id lo : ℕ) (c : Client) → Next.no_worker s w ≡ false → IsOwned w id s.clients c → c.closing ≡ false → find (begins_at lo) c.holdings ≡ held
       → Comes s (step.Unmap w id lo) (Next.unmap_held held s w id)
-  unmap_held_comes None w id lo c worker own still_open is = known (step.Unmap w id lo) refusal.NotHeld w id c refl own (λ id h. h) refl
+  unmap_held_comes None w id lo c worker own still_open is = known (step.Unmap w id lo) refusal.NotHeld w id c refl own (λ id h. let none = h.0 in cc) refl
   unmap_held_comes (Some r) w id lo c worker own still_open is =
       let st = step.Unmap w id lo in
       let d = Next.drained s w w in
       let n : Next.Next = record { reply = reply.Queued r; state = Next.queued d w id r } in
-      unless_cases (λ x. Comes s st x) s (Next.full_tests d w) n (λ r. known st r w id c refl own (λ id h. h) refl) (λ all. unmaps w id lo c r worker own still_open is)
+      unless_cases (λ x. Comes s st x) s (Next.full_tests d w) n (λ r. known st r w id c refl own (λ id h. let none = h.0 in cc) refl) (λ all. unmaps w id lo c r worker own still_open is)
 
   -- an unmap, by its client
   unmap_of_comes : (o : Option Client) (w id lo : ℕ) → Next.no_worker s w ≡ false → client_of w id s.clients ≡ o → Comes s (step.Unmap w id lo) (Next.unmap_of o s w id lo)
-  unmap_of_comes None w id lo worker is = early (step.Unmap w id lo) refusal.NoClient (rw worker refl) (λ id h. h) refl
+  unmap_of_comes None w id lo worker is = early (step.Unmap w id lo) refusal.NoClient (rw worker refl) (λ id h. let none = h.0 in cc) refl
   unmap_of_comes (Some c) w id lo worker is =
       let st = step.Unmap w id lo in
       let own = owned w id s.clients c is in
       let held = find (begins_at lo) c.holdings in
-      unless_cases (λ x. Comes s st x) s (Next.closing_tests c) (Next.unmap_held held s w id) (λ r. known st r w id c refl own (λ id h. h) refl)
+      unless_cases (λ x. Comes s st x) s (Next.closing_tests c) (Next.unmap_held held s w id) (λ r. known st r w id c refl own (λ id h. let none = h.0 in cc) refl)
       (λ all. unmap_held_comes held w id lo c worker own all.0 refl)
 
   -- Flushes.
@@ -195,7 +195,7 @@ module _ (s : State) where
   begin_comes : Comes s step.Begin (Next.begin s)
   begin_comes =
       let n : Next.Next = record { reply = reply.Begun (s.flushes.start + 1); state = Next.with_flushes s (begun s.flushes) } in
-      unless_cases (λ x. Comes s step.Begin x) s (Next.begin_tests s.flushes) n (λ r. unnamed step.Begin r refl (λ id h. h) refl) (λ all.
+      unless_cases (λ x. Comes s step.Begin x) s (Next.begin_tests s.flushes) n (λ r. unnamed step.Begin r refl (λ id h. let none = h.0 in cc) refl) (λ all.
       begins (leb-false 32 (length s.flushes.in_flight) all.0) (leb-false (2 ^ 63 - 1) s.flushes.start all.1.0))
 
   -- a flush ends
@@ -203,20 +203,20 @@ module _ (s : State) where
   end_comes number ok =
       let st = step.End number ok in
       let n : Next.Next = record { reply = reply.Ended; state = Next.with_flushes s (ended s.flushes number ok) } in
-      unless_cases (λ x. Comes s st x) s (Next.end_tests s.flushes number) n (λ r. unnamed st r refl (λ id h. h) refl) (λ all. ends number ok (not-false _ all.0))
+      unless_cases (λ x. Comes s st x) s (Next.end_tests s.flushes number) n (λ r. unnamed st r refl (λ id h. let none = h.0 in cc) refl) (λ all. ends number ok (not-false _ all.0))
 
   -- a ring is drained
   drain_comes : (q w : ℕ) → Comes s (step.Drain q w) (Next.drain s q w)
   drain_comes q w =
       let st = step.Drain q w in
       let n : Next.Next = record { reply = reply.Drained (length (flushed s.flushes.finish (Next.ring_at s q))); state = Next.drained s q w } in
-      unless_cases (λ x. Comes s st x) s (Next.drain_tests s q w) n (λ r. unnamed st r refl (λ id h. h) refl) (λ all. drains q w)
+      unless_cases (λ x. Comes s st x) s (Next.drain_tests s q w) n (λ r. unnamed st r refl (λ id h. let none = h.0 in cc) refl) (λ all. drains q w)
 
   -- Closing.
 
   -- a client is marked closing
   close_of_comes : (o : Option Client) (w id : ℕ) → Next.no_worker s w ≡ false → client_of w id s.clients ≡ o → Comes s (step.Close w id) (Next.close_of o s id)
-  close_of_comes None w id worker is = early (step.Close w id) refusal.NoClient (rw worker refl) (λ id h. h) refl
+  close_of_comes None w id worker is = early (step.Close w id) refusal.NoClient (rw worker refl) (λ id h. let full = h.1 in cc) refl
   close_of_comes (Some c) w id worker is = closes w id c (owned w id s.clients c is)
 
   -- the lowest holding is queued, or the client goes
@@ -232,7 +232,7 @@ module _ (s : State) where
 
   -- one step of a closing, by its client
   close_one_of_comes : (o : Option Client) (w id : ℕ) → Next.no_worker s w ≡ false → client_of w id s.clients ≡ o → Comes s (step.CloseOne w id) (Next.close_one_of o s w id)
-  close_one_of_comes None w id worker is = early (step.CloseOne w id) refusal.NoClient (rw worker refl) (λ id h. h) refl
+  close_one_of_comes None w id worker is = early (step.CloseOne w id) refusal.NoClient (rw worker refl) (λ id h. let full = h.1 in cc) refl
   close_one_of_comes (Some c) w id worker is = close_lowest_comes c.holdings w id c worker (owned w id s.clients c is) refl
 
 -- what each step comes to
@@ -243,15 +243,15 @@ outcome s (step.Alloc w id frames limit) m = alloc_comes s w id frames limit m
 outcome s (step.Unmap w id lo) m =
     let st = step.Unmap w id lo in
     let o = client_of w id s.clients in
-    if_worker s st w (Next.unmap_of o s w id lo) (λ e. early s st refusal.NoWorker (rw e refl) (λ id h. h) refl) (λ worker. unmap_of_comes s o w id lo worker refl)
+    if_worker s st w (Next.unmap_of o s w id lo) (λ e. early s st refusal.NoWorker (rw e refl) (λ id h. let none = h.0 in cc) refl) (λ worker. unmap_of_comes s o w id lo worker refl)
 outcome s step.Begin m = begin_comes s
 outcome s (step.End n ok) m = end_comes s n ok
 outcome s (step.Drain q w) m = drain_comes s q w
 outcome s (step.Close w id) m =
     let st = step.Close w id in
     let o = client_of w id s.clients in
-    if_worker s st w (Next.close_of o s id) (λ e. early s st refusal.NoWorker (rw e refl) (λ id h. h) refl) (λ worker. close_of_comes s o w id worker refl)
+    if_worker s st w (Next.close_of o s id) (λ e. early s st refusal.NoWorker (rw e refl) (λ id h. let full = h.1 in cc) refl) (λ worker. close_of_comes s o w id worker refl)
 outcome s (step.CloseOne w id) m =
     let st = step.CloseOne w id in
     let o = client_of w id s.clients in
-    if_worker s st w (Next.close_one_of o s w id) (λ e. early s st refusal.NoWorker (rw e refl) (λ id h. h) refl) (λ worker. close_one_of_comes s o w id worker refl)
+    if_worker s st w (Next.close_one_of o s w id) (λ e. early s st refusal.NoWorker (rw e refl) (λ id h. let full = h.1 in cc) refl) (λ worker. close_one_of_comes s o w id worker refl)

@@ -1,5 +1,6 @@
 -- A step is refused memory only where a growth in it was refused.
 use Rattle.std.proofs.Common.{ℕ, ◌≡◌, ◌+◌, Bool, true, false, ◌&&◌, length, List, [], ◌∷◌, Option, Some, None, refl}
+use Rattle.iova_range.specs.declared.limits.TheConstants.{SAC_LIMIT}
 use Rattle.std.specs.Prelude.{nat_lt, find}
 use Rattle.std.proofs.lemmas.Bool.{cond_both}
 use Rattle.iova_range.specs.declared.refusal.Refusal.{Refusal}
@@ -77,9 +78,9 @@ second_found Next.OutOfMemory s w size limit fine = fine
 -- all of it
 walk_found : (s : State) (w : ℕ) (sac : Bool) (size limit : ℕ) → Found (Next.walk s w sac size limit point.Never)
 walk_found s w sac size limit =
-    let t = Next.try s w size Next.low_limit false point.First point.Never in
-    cond_both (sac && nat_lt Next.low_limit limit) (Next.or_second t.found t.state w size limit point.Never) (Next.try s w size limit true point.Second point.Never) Found
-    (λ e. second_found t.found t.state w size limit (try_found s w size Next.low_limit false point.First refl))
+    let t = Next.try s w size SAC_LIMIT false point.First point.Never in
+    cond_both (sac && nat_lt SAC_LIMIT limit) (Next.or_second t.found t.state w size limit point.Never) (Next.try s w size limit true point.Second point.Never) Found
+    (λ e. second_found t.found t.state w size limit (try_found s w size SAC_LIMIT false point.First refl))
     (λ e. try_found s w size limit true point.Second refl)
 
 -- what the walk found is given, or nothing is

@@ -1,5 +1,6 @@
 -- A growth that is refused is answered so, or the step is as it would be with memory.
 use Rattle.std.proofs.Common.{ℕ, ◌≡◌, ◌⊎◌, ◌+◌, inl, inr, Bool, true, false, ◌&&◌, List, [], ◌∷◌, ◌++◌, take, Option, Some, None, refl, ap, subst, cond}
+use Rattle.iova_range.specs.declared.limits.TheConstants.{SAC_LIMIT}
 use Rattle.std.specs.Prelude.{nat_lt}
 use Rattle.iova_range.specs.declared.refusal.Refusal.{Refusal}
 use Rattle.iova_range.specs.declared.refusal.Refusal.TheVariants as refusal
@@ -11,7 +12,7 @@ use Rattle.iova_model.specs.declared.step.Point.TheVariants as point
 use Rattle.iova_model.specs.Caches.{emptied}
 use Rattle.iova_model.specs.Clients.{Client, client_of}
 use Rattle.iova_model.specs.State.{State}
-use Rattle.iova_model.specs.Next.{Next, refused, unless, Found, At, Nowhere, OutOfMemory, Tried, is_at, with_caches, from_cache, best_place, from_tree, or_emptied, or_tree, try, or_second, low_limit, walk, given_by, ledger_tests, alloc_to, alloc_tests, from_to, reserve_tests, reserved, open_tests, opened}
+use Rattle.iova_model.specs.Next.{Next, refused, unless, Found, At, Nowhere, OutOfMemory, Tried, is_at, with_caches, from_cache, best_place, from_tree, or_emptied, or_tree, try, or_second, walk, given_by, ledger_tests, alloc_to, alloc_tests, from_to, reserve_tests, reserved, open_tests, opened}
 use Rattle.iova_model.specs.Laws.{PointsOnlyRefuse}
 
 -- one choice between things that are alike
@@ -75,11 +76,11 @@ second_alike t t' w size limit m (inr same) =
 -- all of it
 walk_alike : (s : State) (w : ℕ) (sac : Bool) (size limit : ℕ) (m : Point) → IsAlike (walk s w sac size limit m) (walk s w sac size limit point.Never)
 walk_alike s w sac size limit m =
-    let first = λ (p : Point). try s w size low_limit false point.First p in
+    let first = λ (p : Point). try s w size SAC_LIMIT false point.First p in
     let then = λ (p : Point). or_second (first p).found (first p).state w size limit p in
     let only = λ (p : Point). try s w size limit true point.Second p in
-    cond_alike IsAlike (sac && nat_lt low_limit limit) (then m) (then point.Never) (only m) (only point.Never)
-    (second_alike (first m) (first point.Never) w size limit m (try_alike s w size low_limit false point.First m refl))
+    cond_alike IsAlike (sac && nat_lt SAC_LIMIT limit) (then m) (then point.Never) (only m) (only point.Never)
+    (second_alike (first m) (first point.Never) w size limit m (try_alike s w size SAC_LIMIT false point.First m refl))
     (try_alike s w size limit true point.Second m refl)
 
 -- A step in which one is refused, beside the same step in which none is.

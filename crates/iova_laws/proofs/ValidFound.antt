@@ -5,7 +5,7 @@ use Rattle.iova_range.specs.Frames.{Frames}
 use Rattle.iova_model.specs.Clients.{Client, client_with, changed, begins_at}
 
 -- a range that is found begins where it was sought
-found_at : (lo : ℕ) (r : Frames) (rs : List Frames) → find (begins_at lo) rs ≡ Some r → r.lo ≡ lo
+pub found_at : (lo : ℕ) (r : Frames) (rs : List Frames) → find (begins_at lo) rs ≡ Some r → r.lo ≡ lo
 found_at lo r [] found = absurd cc
 found_at lo r (x ∷ xs) found = grind (arith, nat_tests, found_at lo r xs)
 

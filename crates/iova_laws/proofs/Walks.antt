@@ -1,5 +1,6 @@
 -- The walk of a request touches the caches alone, and empties them where it finds nothing.
 use Rattle.std.proofs.Common.{ℕ, ◌≡◌, Bool, true, false, ◌&&◌, List, [], map, Option, Some, None, refl, sym, ap, ◌∙◌}
+use Rattle.iova_range.specs.declared.limits.TheConstants.{SAC_LIMIT}
 use Rattle.std.specs.Prelude.{nat_lt, slice_index_or, slice_set}
 use Rattle.std.proofs.Math.Seq.{map-set_same}
 use Rattle.std.proofs.lemmas.Bool.{cond_both}
@@ -89,8 +90,8 @@ second_walked s Next.OutOfMemory t w size limit m h = record { is = h.is; nowher
 -- all of it
 pub walk_walked : (s : State) (w : ℕ) (sac : Bool) (size limit : ℕ) (m : Point) → IsWalked s true (Next.walk s w sac size limit m)
 walk_walked s w sac size limit m =
-    let t = Next.try s w size Next.low_limit false point.First m in
+    let t = Next.try s w size SAC_LIMIT false point.First m in
     let second = Next.or_second t.found t.state w size limit m in
-    cond_both (sac && nat_lt Next.low_limit limit) second (Next.try s w size limit true point.Second m) (λ x. IsWalked s true x)
-    (λ e. second_walked s t.found t.state w size limit m (try_walked s w size Next.low_limit false point.First m))
+    cond_both (sac && nat_lt SAC_LIMIT limit) second (Next.try s w size limit true point.Second m) (λ x. IsWalked s true x)
+    (λ e. second_walked s t.found t.state w size limit m (try_walked s w size SAC_LIMIT false point.First m))
     (λ e. try_walked s w size limit true point.Second m)

@@ -8,6 +8,8 @@ pub mod flushing;
 pub mod ledgers;
 pub mod numbers;
 pub mod places;
+pub mod promises;
 pub mod refusals;
+pub mod replies;
 pub mod requests;
 pub mod validity;

@@ -6,20 +6,16 @@ ghost use Rattle.iova_model.specs.Caches.{fitting, front, of_order};
 ghost use Rattle.iova_mag.specs.Magazines.{IsMagazine, pop};
 
 use arrayvec::ArrayVec;
+use iova_range::limits::{MAGAZINE, MAX_FRAMES};
 use iova_range::profile::Profile;
-use iova_range::sizes::MAX_FRAMES;
 use std::marker::Model;
-
-/// The entries that a magazine has room for, in both profiles
-/// (`IOVA_MAG_SIZE` of Linux 5.15 `drivers/iommu/iova.c`).
-pub const CAPACITY: usize = 128;
 
 /// First frames of cached ranges of one order, the newest last. Each is below 2^40. It is full at the profile's `mag()`
 /// entries (Linux 5.15 `drivers/iommu/iova.c`: `struct iova_magazine`).
 #[derive(Drop)]
 pub struct Magazine {
     profile: Profile,
-    entries: ArrayVec<u64, CAPACITY>,
+    entries: ArrayVec<u64, MAGAZINE>,
 }
 
 impl Model for Magazine {

@@ -9,9 +9,9 @@ ghost use Rattle.iova_model.specs.Valid.{IsCache};
 ghost use Rattle.iova_mag.specs.Workers.{IsWorkerCache, new_pair, new_worker, cache_of, with_cache, shelf_of, pair_of, AreEmpty, AreFull, HasRoom, got, newest, without_newest};
 
 use crate::magazine::Magazine;
+use iova_range::limits::ORDERS;
 use iova_range::profile::Profile;
 use iova_range::refusal::Refusal;
-use iova_range::sizes::ORDERS;
 use std::alloc::{AllocError, Global};
 use std::marker::Model;
 use std::mem;

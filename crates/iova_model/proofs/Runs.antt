@@ -1,4 +1,4 @@
--- A run goes on by one step.
+-- A run goes on by one step, and keeps the promises.
 use Rattle.std.proofs.Common.{◌≡◌, List, [], ◌∷◌, ◌++◌, refl, sym, ap, ◌∙◌, append_assoc}
 use Rattle.std.specs.Prelude.{map}
 use Rattle.std.proofs.lemmas.List.{append-nil}
@@ -7,14 +7,16 @@ use Rattle.iova_model.specs.declared.step.Reply.{Reply}
 use Rattle.iova_model.specs.declared.step.Point.{Point}
 use Rattle.iova_model.specs.State.{State}
 use Rattle.iova_model.specs.Next.{next}
+use Rattle.iova_model.specs.Valid.{IsValid}
 use Rattle.iova_model.specs.Transcript.{Pair, IsTranscript, after, IsRun}
+use Rattle.iova_model.specs.Promises.{PromisesAreKept, Runs}
 
 -- one pair more
-transcript_push : (s : State) (ps : List Pair) (p : Pair) → IsTranscript s ps → p.reply ≡ (next (after s ps) p.step p.point).reply → IsTranscript s (ps ++ p ∷ [])
+pub transcript_push : (s : State) (ps : List Pair) (p : Pair) → IsTranscript s ps → p.reply ≡ (next (after s ps) p.step p.point).reply → IsTranscript s (ps ++ p ∷ [])
 transcript_push s [] p t e = (e, tt)
 transcript_push s (x ∷ ps) p t e = (t.0, transcript_push (next s x.step x.point).state ps p t.1 e)
 
-after_push : (s : State) (ps : List Pair) (p : Pair) → after s (ps ++ p ∷ []) ≡ (next (after s ps) p.step p.point).state
+pub after_push : (s : State) (ps : List Pair) (p : Pair) → after s (ps ++ p ∷ []) ≡ (next (after s ps) p.step p.point).state
 after_push s [] p = refl
 after_push s (x ∷ ps) p = after_push (next s x.step x.point).state ps p
 
@@ -40,3 +42,7 @@ run_more old mid new steps before replies st m r h e f =
       steps = steps_push h.pairs p ∙ ap (λ l. l ++ st ∷ []) h.steps;
       replies = ap (λ l. before ++ l) (replies_push h.pairs p) ∙ (sym (append_assoc before (map (λ x. x.reply) h.pairs) (r ∷ [])) ∙ ap (λ l. l ++ r ∷ []) h.replies);
     }
+
+-- by the law of promises
+pub run_keeps : PromisesAreKept → (old new : State) (taken : List Step) (before now : List Reply) → IsValid old → IsRun old new taken before now → Runs old new taken before now
+run_keeps law old new taken before now valid run = record { run = run; kept = law old run.pairs valid run.transcript }

@@ -1,5 +1,6 @@
 -- The magazines of the workers, and the depot. Linux 5.15 drivers/iommu/iova.c, from iova_magazine_alloc on.
 use Rattle.std.specs.Prelude.{ℕ, ◌≡◌, ◌+◌, ◌-◌, ◌^◌, ◌≤◌, Bool, true, false, not, nat_lt, nat_le, List, [], ◌∷◌, ◌++◌, length, take, map, Option, Some, None, slice_get, slice_index, slice_index_or, slice_set, if◌then◌else◌, remove, swap_remove, ◌⊎◌, replicate}
+use Rattle.iova_range.specs.declared.limits.TheConstants.{ORDERS}
 use Rattle.iova_range.specs.Frames.{Frames}
 use Rattle.iova_range.specs.Sizes.{order_of}
 use Rattle.iova_range.specs.Bounds.{Capacities}
@@ -37,7 +38,7 @@ no_magazines = record { loaded = []; previous = [] }
 
 -- nothing is cached yet
 abbrev pub new_caches : ℕ → Caches
-new_caches workers = record { workers = replicate workers (replicate 6 no_magazines); depots = replicate 6 [] }
+new_caches workers = record { workers = replicate workers (replicate ORDERS no_magazines); depots = replicate ORDERS [] }
 
 abbrev pub cache_at : Caches → ℕ → ℕ → Cache
 cache_at c w o = slice_index_or (slice_index_or c.workers w []) o no_magazines

@@ -1,6 +1,7 @@
 -- The flushes with their credits, and the rings. The two counts and the rings are those of Linux 5.15
 -- drivers/iommu/iova.c (iova_domain_flush, fq_ring_free, queue_iova); credits, failures and numbers are our own.
 use Rattle.std.specs.Prelude.{ℕ, ◌≡◌, ◌<◌, ◌≤◌, ◌+◌, ◌-◌, ◌^◌, ◌==◌, Bool, true, false, nat_lt, max, List, [], ◌∷◌, ◌++◌, length, if◌then◌else◌}
+use Rattle.iova_range.specs.declared.limits.TheConstants.{MAX_FLIGHTS, MAX_SERIAL}
 use Rattle.iova_range.specs.Frames.{Frames}
 use Rattle.iova_model.specs.declared.flight.Flight.{Flight}
 use Rattle.iova_model.specs.declared.entry.Entry.{Entry}
@@ -103,8 +104,8 @@ pub record AreSound (s : Flushes) : Type 0 where
   pub newest : s.newest ≤ s.start
   pub finish : s.finish ≤ s.newest
   pub good : s.good + length s.in_flight ≤ s.start
-  pub room : length s.in_flight ≤ 32
-  pub worn : s.start ≤ 2 ^ 63 - 1
+  pub room : length s.in_flight ≤ MAX_FLIGHTS
+  pub worn : s.start ≤ MAX_SERIAL
 
 -- Rings, oldest entry first.
 

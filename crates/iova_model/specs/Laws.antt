@@ -1,7 +1,8 @@
 -- What follows from the definitions, for every transcript from every valid state: the promises of the product. Each is a
 -- statement; the crate iova_laws proves it.
-use Rattle.std.specs.Prelude.{ℕ, zero, suc, ◌≡◌, ◌≢◌, ◌<◌, ◌≤◌, ◌+◌, ◌-◌, ◌%◌, ◌^◌, ◌==◌, ◌⊎◌, Bool, true, false, nat_lt, if◌then◌else◌, min, List, [], ◌∷◌, ◌++◌, length, map, filter, Option, Some, None, slice_get, sum_by}
+use Rattle.std.specs.Prelude.{ℕ, zero, suc, ◌≡◌, ◌≢◌, ◌<◌, ◌≤◌, ◌+◌, ◌-◌, ◌%◌, ◌^◌, ◌==◌, ◌⊎◌, Bool, true, false, nat_lt, if◌then◌else◌, min, List, [], ◌∷◌, ◌++◌, length, map, filter, find, Option, Some, None, option_and_then, slice_get, sum_by}
 use Rattle.std.specs.List.{AllByRecursion}
+use Rattle.iova_range.specs.declared.limits.TheConstants.{MAX_WORKERS, MAX_FRAMES, MAX_FLIGHTS, MAX_SERIAL}
 use Rattle.iova_range.specs.declared.refusal.Refusal.{Refusal}
 use Rattle.iova_range.specs.declared.refusal.Refusal.TheVariants as refusal
 use Rattle.iova_range.specs.Frames.{Frames, covers, meets}
@@ -19,7 +20,7 @@ use Rattle.iova_model.specs.declared.totals.Totals.{Totals}
 use Rattle.iova_model.specs.Fit.{IsBest, best}
 use Rattle.iova_model.specs.Caches.{Caches, freed_by_puts, emptied}
 use Rattle.iova_model.specs.Flushes.{Flushes, flushes_from, begun, is_in_flight, ended, entry_range, flushed, AreSound, NumbersRise}
-use Rattle.iova_model.specs.Clients.{Client, changed, marked, client_with, totals, totals_of, share_of}
+use Rattle.iova_model.specs.Clients.{Client, changed, marked, client_with, client_of, begins_at, totals, totals_of, share_of}
 use Rattle.iova_model.specs.State.{State, Holder, holders, held_ranges, window_holders, magazine_holders, depot_holders, ring_holders, cached_holders, new_domain, place_of, times_held, counts}
 use Rattle.iova_model.specs.Valid.{IsValid}
 use Rattle.iova_model.specs.Next.{Next, next, no_worker, from_to, ring_at, with_caches, with_clients}
@@ -28,7 +29,7 @@ use Rattle.iova_model.specs.Transcript.{Pair, IsTranscript, after, IsUnmappedAt,
 -- 1. Validity is kept.
 
 abbrev pub NewDomainsAreValid : Type 0
-NewDomainsAreValid = (bounds : Extent) (workers : ℕ) → IsExtent bounds → 1 ≤ workers → workers ≤ 16 → IsValid (new_domain bounds workers)
+NewDomainsAreValid = (bounds : Extent) (workers : ℕ) → IsExtent bounds → 1 ≤ workers → workers ≤ MAX_WORKERS → IsValid (new_domain bounds workers)
 
 abbrev pub StepsKeepValidity : Type 0
 StepsKeepValidity = (s : State) (st : Step) (m : Point) → IsValid s → IsValid (next s st m).state
@@ -119,7 +120,14 @@ TotalsAreShares = (s : State) → IsValid s → totals s.clients ≡ shares_belo
 abbrev pub MovesTotals : Reply → Totals → Totals → Type 0
 MovesTotals (reply.Given r) old new = new ≡ add_totals old (totals_of (r ∷ []))
 MovesTotals (reply.Queued r) old new = old ≡ add_totals new (totals_of (r ∷ []))
-MovesTotals r old new = new ≡ old
+MovesTotals (reply.Reserved window) old new = new ≡ old
+MovesTotals (reply.Opened id) old new = new ≡ old
+MovesTotals (reply.Begun number) old new = new ≡ old
+MovesTotals reply.Ended old new = new ≡ old
+MovesTotals (reply.Drained n) old new = new ≡ old
+MovesTotals (reply.Marked left) old new = new ≡ old
+MovesTotals reply.Empty old new = new ≡ old
+MovesTotals (reply.Refused r) old new = new ≡ old
 
 -- the worker that a step names
 abbrev pub worker_of : Step → Option ℕ
@@ -128,7 +136,10 @@ worker_of (step.Alloc w id frames limit) = Some w
 worker_of (step.Unmap w id lo) = Some w
 worker_of (step.Close w id) = Some w
 worker_of (step.CloseOne w id) = Some w
-worker_of st = None
+worker_of (step.Reserve lo hi) = None
+worker_of step.Begin = None
+worker_of (step.End number ok) = None
+worker_of (step.Drain ring by) = None
 
 -- the share of the worker that the step names moves as the totals do, and no other
 abbrev pub MovesShare : Option ℕ → Reply → ℕ → Totals → Totals → Type 0
@@ -147,15 +158,23 @@ StepsMoveLedgers = (s : State) (st : Step) (m : Point) → IsValid s → MovesLe
 abbrev pub TranscriptsAreFlushed : Type 0
 TranscriptsAreFlushed = (s : State) (ps : List Pair) → IsValid s → IsTranscript s ps → FlushLaw s ps
 
--- a request was given the frame
-abbrev pub Gives : ℕ → Step → Reply → Type 0
-Gives frame (step.Alloc w id frames limit) (reply.Given r) = covers frame r ≡ true
-Gives frame st r = ⊥
+-- by this reply the frame was given, whichever step it answers
+abbrev pub Gives : ℕ → Reply → Type 0
+Gives frame (reply.Given r) = covers frame r ≡ true
+Gives frame (reply.Queued r) = ⊥
+Gives frame (reply.Reserved r) = ⊥
+Gives frame (reply.Opened id) = ⊥
+Gives frame (reply.Begun number) = ⊥
+Gives frame reply.Ended = ⊥
+Gives frame (reply.Drained n) = ⊥
+Gives frame (reply.Marked left) = ⊥
+Gives frame reply.Empty = ⊥
+Gives frame (reply.Refused r) = ⊥
 
 pub record IsGivenAt (ps : List Pair) (n frame : ℕ) : Type 0 where
   pub pair : Pair
   pub is : slice_get ps n ≡ Some pair
-  pub gives : Gives frame pair.step pair.reply
+  pub gives : Gives frame pair.reply
 
 -- Between an unmap of a frame and the next time that it is given, a flush has begun and ended well.
 abbrev pub ReuseIsFlushed : Type 0
@@ -168,24 +187,60 @@ ReuseIsFlushed =
 -- the ranges that the closing of the client queued, in order
 abbrev pub queued_in : ℕ → Step → Reply → List Frames
 queued_in id (step.CloseOne w client) (reply.Queued r) = if client == id then r ∷ [] else []
-queued_in id st r = []
+queued_in id (step.CloseOne w client) (reply.Reserved r) = []
+queued_in id (step.CloseOne w client) (reply.Opened serial) = []
+queued_in id (step.CloseOne w client) (reply.Given r) = []
+queued_in id (step.CloseOne w client) (reply.Begun number) = []
+queued_in id (step.CloseOne w client) reply.Ended = []
+queued_in id (step.CloseOne w client) (reply.Drained n) = []
+queued_in id (step.CloseOne w client) (reply.Marked left) = []
+queued_in id (step.CloseOne w client) reply.Empty = []
+queued_in id (step.CloseOne w client) (reply.Refused r) = []
+queued_in id (step.Reserve lo hi) r = []
+queued_in id (step.Open w sac) r = []
+queued_in id (step.Alloc w client frames limit) r = []
+queued_in id (step.Unmap w client lo) r = []
+queued_in id step.Begin r = []
+queued_in id (step.End number ok) r = []
+queued_in id (step.Drain ring by) r = []
+queued_in id (step.Close w client) r = []
 
 abbrev pub queued_by_closing : ℕ → List Pair → List Frames
 queued_by_closing id [] = []
 queued_by_closing id (p ∷ ps) = queued_in id p.step p.reply ++ queued_by_closing id ps
 
+-- the client that a step closes
+abbrev pub client_closed : Step → Option ℕ
+client_closed (step.Close w id) = Some id
+client_closed (step.CloseOne w id) = Some id
+client_closed (step.Reserve lo hi) = None
+client_closed (step.Open w sac) = None
+client_closed (step.Alloc w id frames limit) = None
+client_closed (step.Unmap w id lo) = None
+client_closed step.Begin = None
+client_closed (step.End number ok) = None
+client_closed (step.Drain ring by) = None
+
+-- a step that closes has marked its client where it is answered so
+abbrev pub HasMarked : Reply → Type 0
+HasMarked (reply.Marked left) = Unit {0}
+HasMarked (reply.Queued r) = Unit {0}
+HasMarked reply.Empty = Unit {0}
+HasMarked (reply.Refused r) = r ≡ refusal.RingFull
+HasMarked (reply.Reserved r) = ⊥
+HasMarked (reply.Opened id) = ⊥
+HasMarked (reply.Given r) = ⊥
+HasMarked (reply.Begun number) = ⊥
+HasMarked reply.Ended = ⊥
+HasMarked (reply.Drained n) = ⊥
+
 -- a step with this reply marks the client closing
 abbrev pub Marks : ℕ → Step → Reply → Type 0
-Marks id (step.Close w client) (reply.Marked left) = client ≡ id
-Marks id (step.CloseOne w client) (reply.Queued r) = client ≡ id
-Marks id (step.CloseOne w client) reply.Empty = client ≡ id
-Marks id (step.CloseOne w client) (reply.Refused refusal.RingFull) = client ≡ id
-Marks id st r = ⊥
+Marks id st r = (client_closed st ≡ Some id) × HasMarked r
 
 -- the client's closing was answered `Empty`
 abbrev pub Empties : ℕ → Step → Reply → Type 0
-Empties id (step.CloseOne w client) reply.Empty = client ≡ id
-Empties id st r = ⊥
+Empties id st r = (client_closed st ≡ Some id) × (r ≡ reply.Empty)
 
 pub record IsEmptiedAt (ps : List Pair) (i id : ℕ) : Type 0 where
   pub pair : Pair
@@ -221,7 +276,11 @@ client_named (step.Alloc w id frames limit) = Some id
 client_named (step.Unmap w id lo) = Some id
 client_named (step.Close w id) = Some id
 client_named (step.CloseOne w id) = Some id
-client_named st = None
+client_named (step.Reserve lo hi) = None
+client_named (step.Open w sac) = None
+client_named step.Begin = None
+client_named (step.End number ok) = None
+client_named (step.Drain ring by) = None
 
 -- why a step is refused whose client there isn't: for want of it, or by what is asked before
 abbrev pub unless_no_worker : State → ℕ → Refusal → Refusal
@@ -229,11 +288,15 @@ unless_no_worker s w r = if no_worker s w then refusal.NoWorker else r
 
 abbrev pub unknown_refusal : State → Step → Refusal
 unknown_refusal s (step.Alloc w id frames limit) =
-    unless_no_worker s w (if frames == 0 then refusal.Zero else if nat_lt 1048576 frames then refusal.TooBig else refusal.NoClient)
+    unless_no_worker s w (if frames == 0 then refusal.Zero else if nat_lt MAX_FRAMES frames then refusal.TooBig else refusal.NoClient)
 unknown_refusal s (step.Unmap w id lo) = unless_no_worker s w refusal.NoClient
 unknown_refusal s (step.Close w id) = unless_no_worker s w refusal.NoClient
 unknown_refusal s (step.CloseOne w id) = unless_no_worker s w refusal.NoClient
-unknown_refusal s st = refusal.NoClient
+unknown_refusal s (step.Reserve lo hi) = refusal.NoClient
+unknown_refusal s (step.Open w sac) = refusal.NoClient
+unknown_refusal s step.Begin = refusal.NoClient
+unknown_refusal s (step.End number ok) = refusal.NoClient
+unknown_refusal s (step.Drain ring by) = refusal.NoClient
 
 -- A serial that was given and whose client is gone stays so, and each step that names it is refused.
 abbrev pub GoneClientsStayGone : Type 0
@@ -275,7 +338,12 @@ abbrev pub takes_memory : Step → Bool
 takes_memory (step.Reserve lo hi) = true
 takes_memory (step.Open w sac) = true
 takes_memory (step.Alloc w id frames limit) = true
-takes_memory st = false
+takes_memory (step.Unmap w id lo) = false
+takes_memory step.Begin = false
+takes_memory (step.End number ok) = false
+takes_memory (step.Drain ring by) = false
+takes_memory (step.Close w id) = false
+takes_memory (step.CloseOne w id) = false
 
 -- no other step wants for memory
 abbrev pub OtherStepsTakeNoMemory : Type 0
@@ -303,10 +371,10 @@ StepsKeepTheDomain = (s : State) (st : Step) (m : Point) → ((next s st m).stat
 -- 9. The numbers of the flushes.
 
 abbrev pub NewFlushesAreSound : Type 0
-NewFlushesAreSound = (n : ℕ) → n ≤ 2 ^ 63 - 1 → AreSound (flushes_from n)
+NewFlushesAreSound = (n : ℕ) → n ≤ MAX_SERIAL → AreSound (flushes_from n)
 
 abbrev pub BeginsKeepFlushesSound : Type 0
-BeginsKeepFlushesSound = (f : Flushes) → AreSound f → length f.in_flight < 32 → f.start < 2 ^ 63 - 1 → AreSound (begun f)
+BeginsKeepFlushesSound = (f : Flushes) → AreSound f → length f.in_flight < MAX_FLIGHTS → f.start < MAX_SERIAL → AreSound (begun f)
 
 abbrev pub EndsKeepFlushesSound : Type 0
 EndsKeepFlushesSound = (f : Flushes) (n : ℕ) (ok : Bool) → AreSound f → is_in_flight n f.in_flight ≡ true → AreSound (ended f n ok)
@@ -314,3 +382,68 @@ EndsKeepFlushesSound = (f : Flushes) (n : ℕ) (ok : Bool) → AreSound f → is
 -- where the oldest flush in flight ends well, the finish count reaches its number
 abbrev pub OldestFlushReaches : Type 0
 OldestFlushReaches = (f : Flushes) (n : ℕ) → AreSound f → is_in_flight n f.in_flight ≡ true → NumbersRise (n - 1) f.in_flight f.start → n ≤ (ended f n true).finish
+
+-- 10. Which reply a step has, what it queues, and which flushes it ends well.
+
+-- the refusals of a step, in the order in which they are tried
+abbrev pub refusals_of : Step → List Refusal
+refusals_of (step.Reserve lo hi) = refusal.BadWindow ∷ refusal.Taken ∷ refusal.WindowsFull ∷ refusal.NoMemory ∷ []
+refusals_of (step.Open w sac) = refusal.NoWorker ∷ refusal.Worn ∷ refusal.ClientsFull ∷ refusal.NoMemory ∷ []
+refusals_of (step.Alloc w id frames limit) =
+    refusal.NoWorker ∷ refusal.Zero ∷ refusal.TooBig ∷ refusal.NoClient ∷ refusal.Closing ∷ refusal.HoldingsFull ∷ refusal.NoMemory ∷ refusal.NoSpace ∷ []
+refusals_of (step.Unmap w id lo) = refusal.NoWorker ∷ refusal.NoClient ∷ refusal.Closing ∷ refusal.NotHeld ∷ refusal.RingFull ∷ []
+refusals_of step.Begin = refusal.FlightsFull ∷ refusal.Worn ∷ []
+refusals_of (step.End n ok) = refusal.NoFlight ∷ []
+refusals_of (step.Drain ring by) = refusal.NoWorker ∷ []
+refusals_of (step.Close w id) = refusal.NoWorker ∷ refusal.NoClient ∷ []
+refusals_of (step.CloseOne w id) = refusal.NoWorker ∷ refusal.NoClient ∷ refusal.RingFull ∷ []
+
+abbrev pub IsAmong : Refusal → List Refusal → Type 0
+IsAmong r [] = ⊥
+IsAmong r (x ∷ xs) = (r ≡ x) ⊎ IsAmong r xs
+
+-- each step has answers of its own, and refusals of its own
+abbrev pub IsReplyTo : Step → Reply → Type 0
+IsReplyTo (step.Reserve lo hi) (reply.Reserved r) = Unit {0}
+IsReplyTo (step.Open w sac) (reply.Opened id) = Unit {0}
+IsReplyTo (step.Alloc w id frames limit) (reply.Given r) = Unit {0}
+IsReplyTo (step.Unmap w id lo) (reply.Queued r) = r.lo ≡ lo
+IsReplyTo step.Begin (reply.Begun n) = Unit {0}
+IsReplyTo (step.End n ok) reply.Ended = Unit {0}
+IsReplyTo (step.Drain ring by) (reply.Drained n) = Unit {0}
+IsReplyTo (step.Close w id) (reply.Marked left) = Unit {0}
+IsReplyTo (step.CloseOne w id) (reply.Queued r) = Unit {0}
+IsReplyTo (step.CloseOne w id) reply.Empty = Unit {0}
+IsReplyTo st (reply.Refused r) = IsAmong r (refusals_of st)
+IsReplyTo st r = ⊥
+
+abbrev pub StepsAreAnsweredInKind : Type 0
+StepsAreAnsweredInKind = (s : State) (st : Step) (m : Point) → IsReplyTo st (next s st m).reply
+
+-- how many flushes a step with this reply ended well
+abbrev pub ended_well : Step → Reply → ℕ
+ended_well (step.End n ok) reply.Ended = if ok then 1 else 0
+ended_well st r = 0
+
+-- only the end of a flush that its sink answered well counts as a good one
+abbrev pub StepsMoveGood : Type 0
+StepsMoveGood = (s : State) (st : Step) (m : Point) → (next s st m).state.flushes.good ≡ s.flushes.good + ended_well st (next s st m).reply
+
+-- the range that a step would queue if the ring had room: none where it is refused before the ring is asked
+abbrev pub unmapped_of : ℕ → Client → Option Frames
+unmapped_of lo c = if c.closing then None else find (begins_at lo) c.holdings
+
+abbrev pub to_queue : State → Step → Option Frames
+to_queue s (step.Unmap w id lo) = if no_worker s w then None else option_and_then (unmapped_of lo) (client_of w id s.clients)
+to_queue s (step.CloseOne w id) = if no_worker s w then None else option_and_then (λ c. slice_get c.holdings 0) (client_of w id s.clients)
+to_queue s (step.Reserve lo hi) = None
+to_queue s (step.Open w sac) = None
+to_queue s (step.Alloc w id frames limit) = None
+to_queue s step.Begin = None
+to_queue s (step.End number ok) = None
+to_queue s (step.Drain ring by) = None
+to_queue s (step.Close w id) = None
+
+-- what a step queues was held by the client that it names
+abbrev pub QueuedWereHeld : Type 0
+QueuedWereHeld = (s : State) (st : Step) (m : Point) (r : Frames) → (next s st m).reply ≡ reply.Queued r → to_queue s st ≡ Some r

@@ -11,3 +11,4 @@ pub mod Valid
 pub mod Next
 pub mod Transcript
 pub mod Laws
+pub mod Promises

@@ -1,6 +1,7 @@
 -- What each step answers, and what it leaves.
 use Rattle.std.specs.Prelude.{ℕ, ◌+◌, ◌-◌, ◌^◌, ◌==◌, Bool, true, false, not, ◌&&◌, ◌||◌, nat_lt, nat_le, min, max, List, [], ◌∷◌, ◌++◌, length, map, filter, Option, Some, None, slice_index_or, slice_set, if◌then◌else◌, find}
 use Rattle.std.specs.List.{list_any}
+use Rattle.iova_range.specs.declared.limits.TheConstants.{MAX_WINDOWS, MAX_SERIAL, MAX_CLIENTS, SAC_LIMIT, MAX_HOLDINGS, MAX_FRAMES, MAX_ENTRIES, MAX_FLIGHTS}
 use Rattle.iova_range.specs.declared.refusal.Refusal.{Refusal}
 use Rattle.iova_range.specs.declared.refusal.Refusal.TheVariants as refusal
 use Rattle.iova_range.specs.Frames.{Frames, meets}
@@ -93,7 +94,7 @@ abbrev pub reserve_tests : State → ℕ → ℕ → Point → List (Bool × Ref
 reserve_tests s lo hi m =
     (nat_lt hi lo || nat_lt lo s.bounds.start || nat_lt s.bounds.last hi, refusal.BadWindow)
     ∷ (is_taken s (from_to lo hi), refusal.Taken)
-    ∷ (nat_lt 64 (length (windows_with (from_to lo hi) s.windows)), refusal.WindowsFull)
+    ∷ (nat_lt MAX_WINDOWS (length (windows_with (from_to lo hi) s.windows)), refusal.WindowsFull)
     ∷ (is_at point.Once m, refusal.NoMemory)
     ∷ []
 
@@ -111,8 +112,8 @@ opened s w sac = record s { clients = s.clients ++ new_client (s.serial + 1) w s
 abbrev pub open_tests : State → ℕ → Point → List (Bool × Refusal)
 open_tests s w m =
     (no_worker s w, refusal.NoWorker)
-    ∷ (nat_le (2 ^ 63 - 1) s.serial, refusal.Worn)
-    ∷ (nat_le 1024 (length s.clients), refusal.ClientsFull)
+    ∷ (nat_le MAX_SERIAL s.serial, refusal.Worn)
+    ∷ (nat_le MAX_CLIENTS (length s.clients), refusal.ClientsFull)
     ∷ (is_at point.Once m, refusal.NoMemory)
     ∷ []
 
@@ -172,14 +173,10 @@ or_second Nowhere s w size limit m = try s w size limit true point.Second m
 or_second (At lo) s w size limit m = record { found = At lo; state = s }
 or_second OutOfMemory s w size limit m = record { found = OutOfMemory; state = s }
 
--- the last frame below 4 GiB
-abbrev pub low_limit : ℕ
-low_limit = 1048575
-
 abbrev pub walk : State → ℕ → Bool → ℕ → ℕ → Point → Tried
 walk s w sac size limit m =
-    if sac && nat_lt low_limit limit
-    then (let t = try s w size low_limit false point.First m in or_second t.found t.state w size limit m)
+    if sac && nat_lt SAC_LIMIT limit
+    then (let t = try s w size SAC_LIMIT false point.First m in or_second t.found t.state w size limit m)
     else try s w size limit true point.Second m
 
 abbrev pub given : Found → State → ℕ → ℕ → Next
@@ -195,7 +192,7 @@ given_by t id size = given t.found t.state id size
 abbrev pub ledger_tests : Client → Point → List (Bool × Refusal)
 ledger_tests c m =
     (c.closing, refusal.Closing)
-    ∷ (nat_le 4096 (length c.holdings), refusal.HoldingsFull)
+    ∷ (nat_le MAX_HOLDINGS (length c.holdings), refusal.HoldingsFull)
     ∷ (is_at point.Ledger m, refusal.NoMemory)
     ∷ []
 
@@ -207,7 +204,7 @@ abbrev pub alloc_tests : State → ℕ → ℕ → List (Bool × Refusal)
 alloc_tests s w frames =
     (no_worker s w, refusal.NoWorker)
     ∷ (frames == 0, refusal.Zero)
-    ∷ (nat_lt 1048576 frames, refusal.TooBig)
+    ∷ (nat_lt MAX_FRAMES frames, refusal.TooBig)
     ∷ []
 
 abbrev pub alloc : State → ℕ → ℕ → ℕ → ℕ → Point → Next
@@ -240,7 +237,7 @@ queued s w id r = record s {
 }
 
 abbrev pub full_tests : State → ℕ → List (Bool × Refusal)
-full_tests s w = (nat_le 255 (length (ring_at s w)), refusal.RingFull) ∷ []
+full_tests s w = (nat_le MAX_ENTRIES (length (ring_at s w)), refusal.RingFull) ∷ []
 
 -- The worker's own ring is drained first. One that is still full has given nothing up, so a refusal leaves the state.
 abbrev pub queue : State → ℕ → ℕ → Frames → Next
@@ -264,8 +261,8 @@ unmap s w id lo = unless (worker_tests s w) s (unmap_of (client_of w id s.client
 
 abbrev pub begin_tests : Flushes → List (Bool × Refusal)
 begin_tests f =
-    (nat_le 32 (length f.in_flight), refusal.FlightsFull)
-    ∷ (nat_le (2 ^ 63 - 1) f.start, refusal.Worn)
+    (nat_le MAX_FLIGHTS (length f.in_flight), refusal.FlightsFull)
+    ∷ (nat_le MAX_SERIAL f.start, refusal.Worn)
     ∷ []
 
 abbrev pub begin : State → Next

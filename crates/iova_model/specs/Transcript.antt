@@ -36,17 +36,24 @@ pub record IsRun (old new : State) (taken : List Step) (before now : List Reply)
   pub steps : map (λ p. p.step) pairs ≡ taken
   pub replies : before ++ map (λ p. p.reply) pairs ≡ now
 
--- a step with this reply put the frame into a ring
-abbrev pub Unmaps : ℕ → Step → Reply → Type 0
-Unmaps frame (step.Unmap w id lo) (reply.Queued r) = covers frame r ≡ true
-Unmaps frame (step.CloseOne w id) (reply.Queued r) = covers frame r ≡ true
-Unmaps frame s r = ⊥
+-- by this reply the frame was put into a ring, whichever step it answers
+abbrev pub Unmaps : ℕ → Reply → Type 0
+Unmaps frame (reply.Queued r) = covers frame r ≡ true
+Unmaps frame (reply.Reserved r) = ⊥
+Unmaps frame (reply.Opened id) = ⊥
+Unmaps frame (reply.Given r) = ⊥
+Unmaps frame (reply.Begun number) = ⊥
+Unmaps frame reply.Ended = ⊥
+Unmaps frame (reply.Drained n) = ⊥
+Unmaps frame (reply.Marked left) = ⊥
+Unmaps frame reply.Empty = ⊥
+Unmaps frame (reply.Refused r) = ⊥
 
 -- pair i did so
 pub record IsUnmappedAt (ps : List Pair) (i frame : ℕ) : Type 0 where
   pub pair : Pair
   pub is : slice_get ps i ≡ Some pair
-  pub unmaps : Unmaps frame pair.step pair.reply
+  pub unmaps : Unmaps frame pair.reply
 
 -- a flush began at pair b and ended well at pair d
 pub record IsWholeFlush (ps : List Pair) (b d : ℕ) : Type 0 where

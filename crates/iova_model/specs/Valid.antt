@@ -1,6 +1,7 @@
 -- What makes a state valid. Each domain keeps it.
 use Rattle.std.specs.Prelude.{ℕ, ◌≡◌, ◌<◌, ◌≤◌, ◌+◌, ◌-◌, ◌%◌, ◌^◌, ◌&&◌, ◌==◌, Bool, true, nat_le, List, [], ◌∷◌, length}
 use Rattle.std.specs.List.{list_all, AllByRecursion}
+use Rattle.iova_range.specs.declared.limits.TheConstants.{MAX_WORKERS, MAX_CLIENTS, MAX_HOLDINGS, MAX_WINDOWS, MAX_FRAMES, MAX_ENTRIES, MAX_SERIAL, ORDERS}
 use Rattle.iova_range.specs.Frames.{Frames}
 use Rattle.iova_range.specs.Sizes.{align_of}
 use Rattle.iova_range.specs.Bounds.{Capacities, Extent, IsExtent}
@@ -29,7 +30,7 @@ pub record IsOnePlace (s : State) : Type 0 where
 
 -- no range is larger than a request may be
 abbrev pub IsRequestSized : Frames → Type 0
-IsRequestSized r = r.len ≤ 1048576
+IsRequestSized r = r.len ≤ MAX_FRAMES
 
 -- the first frames rise, from `from` on
 abbrev pub Rises : ℕ → List Frames → Type 0
@@ -37,12 +38,12 @@ Rises from [] = Unit {0}
 Rises from (r ∷ rs) = (from ≤ r.lo) × Rises (r.lo + 1) rs
 
 pub record AreWindows (windows : List Frames) : Type 0 where
-  pub room : length windows ≤ 64
+  pub room : length windows ≤ MAX_WINDOWS
   pub rising : Rises 0 windows
 
 pub record IsClient (workers : ℕ) (c : Client) : Type 0 where
   pub worker : c.worker < workers
-  pub room : length c.holdings ≤ 4096
+  pub room : length c.holdings ≤ MAX_HOLDINGS
   pub rising : Rises 0 c.holdings
   pub sized : AllByRecursion IsRequestSized c.holdings
 
@@ -52,9 +53,9 @@ SerialsRise below [] last = below ≤ last
 SerialsRise below (c ∷ cs) last = (below < c.id) × SerialsRise c.id cs last
 
 pub record AreClients (workers : ℕ) (clients : List Client) (serial : ℕ) : Type 0 where
-  pub room : length clients ≤ 1024
+  pub room : length clients ≤ MAX_CLIENTS
   pub serials : SerialsRise 0 clients serial
-  pub worn : serial ≤ 2 ^ 63 - 1
+  pub worn : serial ≤ MAX_SERIAL
   pub each : AllByRecursion (IsClient workers) clients
 
 -- both magazines take as many entries as the profile says
@@ -64,7 +65,7 @@ pub record IsCache (p : Capacities) (c : Cache) : Type 0 where
 
 -- a cache for each order
 pub record AreWorkerCaches (p : Capacities) (cs : List Cache) : Type 0 where
-  pub orders : length cs ≡ 6
+  pub orders : length cs ≡ ORDERS
   pub each : AllByRecursion (IsCache p) cs
 
 -- a list of a depot
@@ -80,22 +81,22 @@ pub record IsDepot (p : Capacities) (depot : List (List ℕ)) : Type 0 where
 pub record AreCaches (p : Capacities) (workers : ℕ) (c : Caches) : Type 0 where
   pub each_worker : length c.workers ≡ workers
   pub magazines : AllByRecursion (AreWorkerCaches p) c.workers
-  pub orders : length c.depots ≡ 6
+  pub orders : length c.depots ≡ ORDERS
   pub depots : AllByRecursion (IsDepot p) c.depots
 
 abbrev pub IsRequestSizedEntry : Entry → Type 0
-IsRequestSizedEntry e = (1 ≤ e.len) × (e.len ≤ 1048576)
+IsRequestSizedEntry e = (1 ≤ e.len) × (e.len ≤ MAX_FRAMES)
 
 -- a ring at this start count
 pub record IsRing (start : ℕ) (entries : List Entry) : Type 0 where
-  pub room : length entries ≤ 255
+  pub room : length entries ≤ MAX_ENTRIES
   pub rising : CountsRise 0 entries start
   pub sized : AllByRecursion IsRequestSizedEntry entries
 
 pub record IsValid (s : State) : Type 0 where
   pub bounds : IsExtent s.bounds
   pub some_worker : 1 ≤ s.workers
-  pub few_workers : s.workers ≤ 16
+  pub few_workers : s.workers ≤ MAX_WORKERS
   pub windows : AreWindows s.windows
   pub clients : AreClients s.workers s.clients s.serial
   pub caches : AreCaches s.bounds.profile s.workers s.caches

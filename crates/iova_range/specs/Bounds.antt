@@ -1,5 +1,6 @@
 -- The frames that a domain may hand out, and the sizes of its caches.
-use Rattle.std.specs.Prelude.{◌≡◌, ℕ, ◌≤◌, ◌-◌, ◌^◌, ◌⊎◌}
+use Rattle.std.specs.Prelude.{◌≡◌, ℕ, ◌≤◌, ◌⊎◌}
+use Rattle.iova_range.specs.declared.limits.TheConstants.{MAGAZINE, SMALL_MAGAZINE, MAX_DEPOT, TOP, WIDE_TOP}
 
 -- What a `Profile` is seen as: how many entries a magazine is full at, how many full magazines the depot takes for each
 -- order, and the greatest frame number
@@ -11,15 +12,15 @@ pub record Capacities : Type 0 where
 -- The kernel's sizes: IOVA_MAG_SIZE of Linux 5.15 drivers/iommu/iova.c and MAX_GLOBAL_MAGS of include/linux/iova.h; the
 -- greatest frame is our own
 abbrev pub first_profile : Capacities
-first_profile = record { mag = 128; depot = 32; top = 2 ^ 36 - 1 }
+first_profile = record { mag = MAGAZINE; depot = MAX_DEPOT; top = TOP }
 
 -- smaller magazines, a depot of a chosen depth, and frames up to 2^40 - 1: our own
 abbrev pub second_profile : ℕ → Capacities
-second_profile depot = record { mag = 127; depot = depot; top = 2 ^ 40 - 1 }
+second_profile depot = record { mag = SMALL_MAGAZINE; depot = depot; top = WIDE_TOP }
 
 -- one of the two
 abbrev pub IsProfile : Capacities → Type 0
-IsProfile p = (p ≡ first_profile) ⊎ ((p.depot ≤ 32) × (p ≡ second_profile p.depot))
+IsProfile p = (p ≡ first_profile) ⊎ ((p.depot ≤ MAX_DEPOT) × (p ≡ second_profile p.depot))
 
 -- What `Bounds` are seen as: the first and the last frame, and the profile
 pub record Extent : Type 0 where

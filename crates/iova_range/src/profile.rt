@@ -1,6 +1,7 @@
 ghost use Rattle.std.specs.Prelude.{◌≡◌, ◌≤◌, IfOk, IsOk, IsErr, ◌↔◌};
 ghost use Rattle.iova_range.specs.Bounds.{first_profile, second_profile, IsProfile};
 
+use crate::limits::{MAGAZINE, MAX_DEPOT, SMALL_MAGAZINE, TOP, WIDE_TOP};
 use crate::refusal::Refusal;
 use std::marker::Model;
 
@@ -25,9 +26,6 @@ impl Model for Profile {
 }
 
 impl Profile {
-    /// The most magazines of one order that a depot of the second profile can take.
-    pub const MAX_DEPOT: u64 = 32;
-
     /// The first profile: magazines of 128 entries, 32 of them in the depot for each order, frames up to 2^36 - 1
     /// (`IOVA_MAG_SIZE` of Linux 5.15 `drivers/iommu/iova.c` and `MAX_GLOBAL_MAGS` of `include/linux/iova.h`; the greatest
     /// frame is our own).
@@ -35,9 +33,9 @@ impl Profile {
         ensures { result ≡ first_profile }
     {
         Profile {
-            mag: 128,
-            depot: 32,
-            top: 0xf_ffff_ffff,
+            mag: MAGAZINE,
+            depot: MAX_DEPOT as usize,
+            top: TOP,
         }
     }
 
@@ -45,16 +43,16 @@ impl Profile {
     /// 2^40 - 1. It is our own. Refused by `BadProfile` exactly where `depot` is above 32.
     pub fn two(depot: u64) -> Result<Self, Refusal>
         ensures value { IfOk result (λ p. p ≡ second_profile depot) }
-        ensures accepted { IsOk result ↔ (depot ≤ 32) }
+        ensures accepted { IsOk result ↔ (depot ≤ MAX_DEPOT) }
         ensures refused { IsErr result → result ≡ Err Refusal.BadProfile }
     {
-        if depot > Self::MAX_DEPOT {
+        if depot > MAX_DEPOT {
             return Err(Refusal::BadProfile);
         }
         Ok(Profile {
-            mag: 127,
+            mag: SMALL_MAGAZINE,
             depot: depot as usize,
-            top: 0xff_ffff_ffff,
+            top: WIDE_TOP,
         })
     }
 

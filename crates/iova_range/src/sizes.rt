@@ -2,12 +2,7 @@ ghost use Rattle.std.specs.Prelude.{◌≡◌, ◌≤◌, ◌<◌, ◌^◌, ℕ,
 ghost use Rattle.std.specs.Int.{IsNextPowerOfTwo};
 ghost use Rattle.iova_range.specs.Sizes.{need, align_of, order_of};
 
-/// The most frames of one request.
-pub const MAX_FRAMES: u64 = 1_048_576;
-
-/// How many orders have magazines: sizes 1, 2, 4, 8, 16 and 32
-/// (`IOVA_RANGE_CACHE_MAX_SIZE` of Linux 5.15 `include/linux/iova.h`).
-pub const ORDERS: usize = 6;
+use crate::limits::{MAX_FRAMES, ORDERS};
 
 /// How many frames a request for `n` frames is given, `n` being 1 to 1,048,576: the least power of two that is not
 /// below `n` for `n` below 32, else `n` itself (Linux 5.15 `drivers/iommu/dma-iommu.c`: `iommu_dma_alloc_iova`).

@@ -12,11 +12,13 @@ use Rattle.iova_model.specs.declared.step.Step.TheVariants as step
 use Rattle.iova_trace.specs.declared.line.Verb.{Verb}
 use Rattle.iova_trace.specs.declared.line.Verb.TheVariants as verb
 use Rattle.iova_trace.specs.declared.trace.Trace.{Trace}
-use Rattle.iova_trace.specs.Text.{spaced_words, verb_text, verb_of, kind_text, outcome_text, arguments_of, step_text, Fits, header_numbers, header_text, IsHeader}
+use Rattle.iova_text.specs.Words.{spaced_words}
+use Rattle.iova_trace.specs.Text.{verb_text, verb_of, kind_text, outcome_text, arguments_of, step_text, Fits, header_numbers, header_text, IsHeader}
 use Rattle.iova_trace.specs.LineSteps.{IsStep}
-use Rattle.iova_trace.specs.Lines.{is_not_lf, HasNoLf, whole_line, step_line, trace_text, lines_text, IsTrace, Begins, IsOther, IsOverlong, IsBad, IsCut, MayFollow, IsRefused, next_number}
+use Rattle.iova_text.specs.Lines.{is_not_lf, HasNoLf, whole_line, IsOverlong}
+use Rattle.iova_trace.specs.Lines.{step_line, trace_text, lines_text, IsTrace, Begins, IsOther, IsBad, IsCut, MayFollow, IsRefused, next_line_number}
 use Rattle.iova_trace.specs.Replay.{StopsAtBad}
-use Rattle.iova_trace.proofs.Cuts.{list_all-right}
+use Rattle.iova_text.proofs.Cuts.{list_all-right}
 use Rattle.iova_trace.proofs.Readings.{IsEnd, end_at, cut_once, no_line, no_lf_step, no_lf_header, header_fits}
 
 -- no step that may be the one behind so many begins the bytes
@@ -45,7 +47,7 @@ same_steps count (s ∷ ss) (m ∷ ms) r q a b few most e stop end =
     (ap suc rest.0, rest.1)
 
 same_lines : (text : List ℕ) (f g : Option Trace) (r q : List ℕ) → Begins text f r → Begins text g q → IsEnd f r → IsEnd g q
-    → (next_number f ≡ next_number g) × (r ≡ q)
+    → (next_line_number f ≡ next_line_number g) × (r ≡ q)
 same_lines text None None r q a b stop end = (refl, sym a.whole ∙ b.whole)
 same_lines text None (Some t) r q a b stop end =
     let header = header_text t.bounds t.workers in
@@ -69,8 +71,8 @@ same_lines text (Some t) (Some u) r q a b stop end =
     (λ s more lt is e. stuck_at t r stop s more (omega arith) is e) (λ s more lt is e. stuck_at u q end s more (omega arith) is e) in
     (ap (λ (n : ℕ). n + 2) same.0, same.1)
 
-pub one_number : (text : List ℕ) (n m : ℕ) → IsRefused text n → IsRefused text m → n ≡ m
-one_number text n m a b =
+pub unique_number : (text : List ℕ) (n m : ℕ) → IsRefused text n → IsRefused text m → n ≡ m
+unique_number text n m a b =
     a.number_is ∙ ((same_lines text a.lines b.lines a.rest b.rest a.begins b.begins (inl a.bad) (inl b.bad)).0 ∙ sym b.number_is)
 
 -- a trace is not refused
@@ -83,7 +85,7 @@ refused_none text n t a is whole = go a.lines a.begins a.bad
         let same = same_lines text (Some t) lines [] a.rest mine begins (inr (refl, λ e. cc)) (inl bad) in
         none lines same.0 same.1 bad
       where
-        none : (lines : Option Trace) → next_number (Some t) ≡ next_number lines → [] ≡ a.rest → IsOther lines a.rest ⊎ IsCut lines a.rest → ⊥
+        none : (lines : Option Trace) → next_line_number (Some t) ≡ next_line_number lines → [] ≡ a.rest → IsOther lines a.rest ⊎ IsCut lines a.rest → ⊥
         none None number empty bad = omega arith
         none (Some u) number empty (inl other) = no_line [] other.line other.more refl (empty ∙ other.whole)
         none (Some u) number empty (inr cut) = cut.1 (sym empty)

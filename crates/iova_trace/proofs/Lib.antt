@@ -1,5 +1,3 @@
-mod Cuts
-mod Digits
 mod FirstBad
 mod Headers
 mod LineSteps

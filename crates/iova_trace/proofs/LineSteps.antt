@@ -6,20 +6,25 @@ use Rattle.std.proofs.lemmas.List.{length_push, take-append-drop}
 use Rattle.std.proofs.lemmas.List.Concat.{flat_map-append}
 use Rattle.std.proofs.lemmas.Bool.{and_parts, and_from}
 use Rattle.iova_model.specs.declared.step.Step.{Step}
+use Rattle.iova_model.specs.declared.step.Reply.{Reply}
 use Rattle.iova_model.specs.declared.step.Point.{Point}
 use Rattle.iova_model.specs.State.{State, new_domain}
 use Rattle.iova_model.specs.Next.{next}
-use Rattle.iova_model.proofs.Runs.{run_none, run_more}
+use Rattle.iova_model.specs.Laws.{NewDomainsAreValid}
+use Rattle.iova_model.specs.Transcript.{IsRun}
+use Rattle.iova_model.specs.Promises.{PromisesAreKept, Runs}
+use Rattle.iova_model.proofs.Runs.{run_none, run_more, run_keeps}
 use Rattle.iova_trace.specs.declared.line.Header.{Header}
 use Rattle.iova_trace.specs.declared.trace.Trace.{Trace}
 use Rattle.iova_trace.specs.declared.fault.ReplayFault.TheVariants as fault
 use Rattle.iova_trace.specs.declared.replay.Progress.{Progress}
 use Rattle.iova_trace.specs.Text.{IsHeader, header_text, step_text, reply_text}
 use Rattle.iova_trace.specs.LineSteps.{IsStep}
-use Rattle.iova_trace.specs.Lines.{is_not_lf, HasNoLf, IsTrace, step_line, trace_text, lines_text, count_steps, next_number, whole_line, Begins, AreLines}
+use Rattle.iova_text.specs.Lines.{is_not_lf, HasNoLf, whole_line}
+use Rattle.iova_trace.specs.Lines.{IsTrace, step_line, trace_text, lines_text, count_steps, next_line_number, Begins, AreLines}
 use Rattle.iova_trace.specs.Replay.{IsReplayed}
 use Rattle.iova_trace.specs.Progress.{number_at, Goes, Stops}
-use Rattle.iova_trace.proofs.Cuts.{list_all-append}
+use Rattle.iova_text.proofs.Cuts.{list_all-append}
 
 pub All-push : (P : Step → Type 0) (xs : List Step) (x : Step) → AllByRecursion P xs → P x → AllByRecursion P (xs ++ x ∷ [])
 All-push P [] x a p = (p, tt)
@@ -45,7 +50,7 @@ trace_text-more t s =
 
 -- the state so far is that of the lines so far
 pub number_at-is : (lines : Option Trace) (d : Option State) (steps : ℕ) (text : List ℕ) → IsReplayed lines d text → steps ≡ count_steps lines
-    → number_at d steps ≡ next_number lines
+    → number_at d steps ≡ next_line_number lines
 number_at-is None None steps text r e = refl
 number_at-is None (Some d) steps text r e = absurd r
 number_at-is (Some t) None steps text r e = absurd r
@@ -59,11 +64,16 @@ no_lines (Some t) d text e r = absurd (let P : Option State → Type 0 = λ x. I
 abbrev header_trace : Header → Trace
 header_trace h = record { bounds = h.bounds; workers = h.workers; steps = [] }
 
-pub header_taken : (p q : Progress) (line : List ℕ) (h : Header) → p.line.items ≡ [] → p.domain ≡ None
+-- what is run from a new domain keeps the promises
+new_run_keeps : PromisesAreKept → NewDomainsAreValid → (t : Trace) (s : State) (replies : List Reply) → IsHeader t.bounds t.workers
+    → IsRun (new_domain t.bounds t.workers) s t.steps [] replies → Runs (new_domain t.bounds t.workers) s t.steps [] replies
+new_run_keeps law valid t s replies h run = run_keeps law (new_domain t.bounds t.workers) s t.steps [] replies (valid t.bounds t.workers h.extent h.some h.most) run
+
+pub header_taken : PromisesAreKept → NewDomainsAreValid → (p q : Progress) (line : List ℕ) (h : Header) → p.line.items ≡ [] → p.domain ≡ None
     → IsHeader h.bounds h.workers → line ≡ header_text h.bounds h.workers
     → q.line.items ≡ p.line.items → q.steps ≡ p.steps → q.replies.items ≡ p.replies.items → q.domain ≡ Some (new_domain h.bounds h.workers)
     → Goes p (whole_line line) [] q
-header_taken p q line h empty none good is kept steps replies domain taken written st =
+header_taken law valid p q line h empty none good is kept steps replies domain taken written st =
     let first = no_lines st.lines p.domain st.text none st.replayed in
     let t = header_trace h in
     let whole : taken ≡ [] = st.begins.whole ∙ (ap (λ (x : Option Trace). lines_text x ++ p.line.items) first.0 ∙ empty) in
@@ -76,7 +86,7 @@ header_taken p q line h empty none good is kept steps replies domain taken writt
         whole = ap (λ (x : List ℕ). x ++ whole_line line) whole ∙ (text ∙ (sym (append-nil (trace_text t)) ∙ ap (λ (x : List ℕ). trace_text t ++ x) (sym (kept ∙ empty))));
       };
       replayed = (let P : Option State → Type 0 = λ d. IsReplayed (Some t) d st.text in
-          subst P (sym domain) ([], run_none (new_domain h.bounds h.workers) [], first.1));
+          subst P (sym domain) ([], new_run_keeps law valid t (new_domain h.bounds h.workers) [] good (run_none (new_domain h.bounds h.workers) []), first.1));
       steps = steps ∙ (st.steps ∙ ap count_steps first.0);
       gathered = st.gathered ∙ (ap (λ (x : List ℕ). written ++ x) (sym replies) ∙ ap (λ (x : List ℕ). x ++ q.replies.items) (sym (append-nil written)));
     }
@@ -87,9 +97,10 @@ pub record OneMore (lines : Option Trace) (d : State) (text : List ℕ) (s : Ste
   pub is : lines ≡ Some trace
   pub replayed : IsReplayed (Some (with_step trace s)) (Some (next d s m).state) (text ++ reply_text (next d s m).reply)
 
-one_more : (lines : Option Trace) (domain : Option State) (d : State) (text : List ℕ) (s : Step) (m : Point) → domain ≡ Some d → IsReplayed lines domain text → OneMore lines d text s m
-one_more None domain d text s m e r = absurd (let P : Option State → Type 0 = λ x. IsReplayed None x text in subst P e r)
-one_more (Some t) domain d text s m e r =
+one_more : PromisesAreKept → NewDomainsAreValid → (lines : Option Trace) (domain : Option State) (d : State) (text : List ℕ) (s : Step) (m : Point)
+    → domain ≡ Some d → AreLines lines → IsReplayed lines domain text → OneMore lines d text s m
+one_more law valid None domain d text s m e good r = absurd (let P : Option State → Type 0 = λ x. IsReplayed None x text in subst P e r)
+one_more law valid (Some t) domain d text s m e good r =
     let P : Option State → Type 0 = λ x. IsReplayed (Some t) x text in
     let run = subst P e r in
     let reply = (next d s m).reply in
@@ -98,7 +109,8 @@ one_more (Some t) domain d text s m e r =
       is = refl;
       replayed = (
         run.0 ++ reply ∷ [],
-        run_more (new_domain t.bounds t.workers) d (next d s m).state t.steps [] run.0 s m reply run.1 refl refl,
+        new_run_keeps law valid (with_step t s) (next d s m).state (run.0 ++ reply ∷ []) good.header
+            (run_more (new_domain t.bounds t.workers) d (next d s m).state t.steps [] run.0 s m reply run.1.run refl refl),
         ap (λ (x : List ℕ). x ++ reply_text reply) run.2 ∙ (ap (λ (x : List ℕ). flat_map reply_text run.0 ++ x) (sym (append-nil (reply_text reply)))
             ∙ sym (flat_map-append reply_text run.0 (reply ∷ []))),
       );
@@ -116,13 +128,13 @@ begins_one_more taken line lines t kept s b is none lt step spelled =
           ∙ (sym (trace_text-more t s) ∙ sym (append-nil (trace_text (with_step t s)))));
     }
 
-pub step_taken : (p q : Progress) (line : List ℕ) (d : State) (s : Step) (m : Point) → p.line.items ≡ [] → p.domain ≡ Some d
+pub step_taken : PromisesAreKept → NewDomainsAreValid → (p q : Progress) (line : List ℕ) (d : State) (s : Step) (m : Point) → p.line.items ≡ [] → p.domain ≡ Some d
     → p.steps < 1000000 → IsStep s → line ≡ step_text s
     → q.line.items ≡ p.line.items → q.steps ≡ p.steps + 1 → q.domain ≡ Some (next d s m).state
     → q.replies.items ≡ p.replies.items ++ reply_text (next d s m).reply
     → Goes p (whole_line line) [] q
-step_taken p q line d s m empty domain lt step spelled kept steps after replies taken written st =
-    let more = one_more st.lines p.domain d st.text s m domain st.replayed in
+step_taken law valid p q line d s m empty domain lt step spelled kept steps after replies taken written st =
+    let more = one_more law valid st.lines p.domain d st.text s m domain st.begins.good st.replayed in
     let t = more.trace in
     let count : p.steps ≡ length t.steps = st.steps ∙ ap count_steps more.is in
     let reply = reply_text (next d s m).reply in

@@ -10,11 +10,13 @@ use Rattle.iova_model.specs.declared.step.Step.TheVariants as step
 use Rattle.iova_trace.specs.declared.line.Verb.{Verb}
 use Rattle.iova_trace.specs.declared.line.Verb.TheVariants as verb
 use Rattle.iova_trace.specs.declared.trace.Trace.{Trace}
-use Rattle.iova_trace.specs.Text.{spaced_words, verb_text, verb_of, kind_text, outcome_text, arguments_of, step_text, Fits, header_numbers, header_text, IsHeader}
+use Rattle.iova_text.specs.Words.{spaced_words}
+use Rattle.iova_trace.specs.Text.{verb_text, verb_of, kind_text, outcome_text, arguments_of, step_text, Fits, header_numbers, header_text, IsHeader}
 use Rattle.iova_trace.specs.LineSteps.{IsStep}
-use Rattle.iova_trace.specs.Lines.{is_not_lf, HasNoLf, whole_line, step_line, trace_text, IsTrace, Begins, IsOther, IsCut, MayFollow, IsRefused, next_number}
-use Rattle.iova_trace.proofs.Cuts.{list_all-append, list_all-right, run_once}
-use Rattle.iova_trace.proofs.Digits.{decimal-digits}
+use Rattle.iova_text.specs.Lines.{is_not_lf, HasNoLf, whole_line}
+use Rattle.iova_trace.specs.Lines.{step_line, trace_text, IsTrace, Begins, IsOther, IsCut, MayFollow, IsRefused, next_line_number}
+use Rattle.iova_text.proofs.Cuts.{list_all-append, list_all-right, run_once}
+use Rattle.iova_text.proofs.Digits.{decimal-digits}
 use Rattle.iova_trace.proofs.LineSteps.{with_step, trace_text-more}
 
 -- No line of a trace has an LF.
@@ -251,7 +253,7 @@ stuck_whole text bounds workers steps left t only stuck some is whole =
 pub stuck_refused : (text : List ℕ) (bounds : Extent) (workers : ℕ) (steps : List Step) (left : List ℕ) (number : ℕ) → IsOnly text bounds workers steps left
     → IsStuck steps left → IsRefused text number → number ≡ length steps + 2
 stuck_refused text bounds workers steps left number only stuck r =
-    r.number_is ∙ ap next_number (stuck_here bounds workers steps left r.lines r.rest (only r.lines r.rest (reads_refused text number r)) stuck).0
+    r.number_is ∙ ap next_line_number (stuck_here bounds workers steps left r.lines r.rest (only r.lines r.rest (reads_refused text number r)) stuck).0
 
 -- the same for the first line
 abbrev pub HasNoHeader : List ℕ → Type 0
@@ -263,7 +265,7 @@ no_header_whole text t none is whole = none t.bounds t.workers (flat_map step_li
 pub no_header_refused : (text : List ℕ) (number : ℕ) → HasNoHeader text → IsRefused text number → number ≡ 1
 no_header_refused text number none r = go r.lines r.begins r.number_is
   where
-    go : (lines : Option Trace) → Begins text lines r.rest → number ≡ next_number lines → number ≡ 1
+    go : (lines : Option Trace) → Begins text lines r.rest → number ≡ next_line_number lines → number ≡ 1
     go None b e = e
     go (Some t) b e =
         absurd (none t.bounds t.workers (flat_map step_line t.steps ++ r.rest) b.good.header

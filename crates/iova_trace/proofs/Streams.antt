@@ -1,8 +1,7 @@
 -- One piece of a trace after another.
-use Rattle.std.proofs.Common.{ℕ, zero, suc, ◌≡◌, ◌+◌, ◌-◌, ◌<◌, ◌≤◌, ◌==◌, inl, inr, List, [], ◌∷◌, ◌++◌, Option, None, Result, Ok, Err, length, take, drop, get_or, refl, sym, ap, ◌∙◌, subst, arith, true, append_assoc, append-nil, take-append-drop, length-append, add-one}
+use Rattle.std.proofs.Common.{ℕ, ◌≡◌, ◌≤◌, inl, inr, List, [], ◌∷◌, ◌++◌, Option, None, Result, Ok, Err, length, take, drop, refl, sym, ap, ◌∙◌, subst, arith, append_assoc, append-nil, take-append-drop, length-append}
 use Rattle.std.specs.List.{list_all}
-use Rattle.std.proofs.lemmas.Bool.{eqb-true, not_from_false, false_from_ne_true}
-use Rattle.std.proofs.lemmas.List.{take-take, take-append-le, take_at, take_more, drop-take}
+use Rattle.std.proofs.lemmas.List.{take-append-le, take_at}
 use Rattle.std.proofs.KnownBytes.{Appends-trans, Appends-nil, Consumes-trans, Consumes-nil, Consumes-kept}
 use Rattle.std.specs.Io.KnownBytes.{Appends, Consumes, Keeps, IsAtEnd}
 use Rattle.iova_model.specs.State.{State}
@@ -10,24 +9,10 @@ use Rattle.iova_trace.specs.declared.trace.Trace.{Trace}
 use Rattle.iova_trace.specs.declared.fault.ReplayFault.{ReplayFault}
 use Rattle.iova_trace.specs.declared.fault.ReplayFault.TheVariants as fault
 use Rattle.iova_trace.specs.declared.replay.Progress.{Progress}
-use Rattle.iova_trace.specs.Lines.{is_not_lf, HasNoLf, whole_line, IsUnended, Begins, IsBad, lines_text}
+use Rattle.iova_text.specs.Lines.{is_not_lf, whole_line, IsUnended}
+use Rattle.iova_trace.specs.Lines.{Begins, IsBad, lines_text}
 use Rattle.iova_trace.specs.Replay.{BreaksOff, IsReplayed, StopsInLine, Tells, Replays}
 use Rattle.iova_trace.specs.Progress.{Stands, Goes, Ends, Stops, Outcome, Takes, Closes}
-use Rattle.iova_trace.proofs.Cuts.{rest_from, cut_at, list_all-more}
-
-pub take_plus : (bs : List ℕ) (i n : ℕ) → take (i + n) bs ≡ take i bs ++ take n (drop i bs)
-take_plus bs i n =
-    let front : take i (take (i + n) bs) ≡ take i bs = take-take i (i + n) bs (omega arith) in
-    let back : drop i (take (i + n) bs) ≡ take n (drop i bs) = drop-take i n bs in
-    sym (take-append-drop i (take (i + n) bs)) ∙ (ap (λ (x : List ℕ). x ++ drop i (take (i + n) bs)) front ∙ ap (λ (x : List ℕ). take i bs ++ x) back)
-
--- a write goes on where the last one stopped
-pub Appends-more : (a b c : Option (List ℕ)) (bs : List ℕ) (i n : ℕ) → Appends a b (take i bs)
-    → Appends b c (take n (take (length bs - i) (drop i bs))) → Appends a c (take (i + n) bs)
-Appends-more a b c bs i n p q =
-    let P : List ℕ → Type 0 = λ x. Appends a c x in
-    let R : List ℕ → Type 0 = λ x. Appends b c (take n x) in
-    subst P (sym (take_plus bs i n)) (Appends-trans a b c (take i bs) (take n (drop i bs)) p (subst R (rest_from bs i) q))
 
 -- Outcomes
 
@@ -277,22 +262,6 @@ Closes-tells taken written left (Err (fault.BadTrace number)) s end = inr (s, en
 Closes-tells taken written left (Err fault.NoMemory) s end = absurd s
 Closes-tells taken written left (Err fault.ReadFault) s end = absurd s
 Closes-tells taken written left (Err fault.WriteFault) s end = absurd s
-
--- The first LF
-
-pub no_lf_before : (bytes : List ℕ) (n : ℕ) → n ≤ length bytes → ((k : ℕ) → 0 ≤ k → k < n → (get_or bytes k 0 == 10) ≡ true → ⊥) → HasNoLf (take n bytes)
-no_lf_before bytes zero within none = refl
-no_lf_before bytes (suc n) within none =
-    let before = no_lf_before bytes n (omega arith) (λ k low lt. none k low (omega arith)) in
-    let here : is_not_lf (get_or bytes n 0) ≡ true = not_from_false (get_or bytes n 0 == 10) (false_from_ne_true (get_or bytes n 0 == 10) (none n (omega arith) (omega arith))) in
-    rw (← add-one n) (list_all-more is_not_lf bytes n (omega arith) before here)
-
-pub cut_at_lf : (bytes : List ℕ) (n : ℕ) → n < length bytes → (get_or bytes n 0 == 10) ≡ true
-    → bytes ≡ whole_line (take n bytes) ++ take (length bytes - (n + 1)) (drop (n + 1) bytes)
-cut_at_lf bytes n lt is =
-    let byte : get_or bytes n 0 ≡ 10 = eqb-true (get_or bytes n 0) 10 is in
-    cut_at bytes (n + 1) ∙ ap (λ (x : List ℕ). x ++ take (length bytes - (n + 1)) (drop (n + 1) bytes))
-    (take_more bytes n 0 lt ∙ ap (λ (b : ℕ). take n bytes ++ b ∷ []) byte)
 
 -- a reader and a writer before and now, between two reads: all replies to what was taken are written
 pub record SoFar (input left output filled : Option (List ℕ)) (p : Progress) : Type 0 where

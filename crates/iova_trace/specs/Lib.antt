@@ -1,5 +1,4 @@
 pub mod Text
-pub mod Reading
 pub mod LineSteps
 pub mod Lines
 pub mod Whole

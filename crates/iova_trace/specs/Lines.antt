@@ -1,42 +1,21 @@
 -- What stands in the bytes of a trace: its lines, the header first, and the first bad one. Own.
-use Rattle.std.specs.Prelude.{ℕ, ◌≡◌, ◌≢◌, ◌+◌, ◌<◌, ◌≤◌, ◌==◌, ◌⊎◌, Bool, true, not, List, [], ◌∷◌, ◌++◌, length, take, flat_map, Option, Some, None}
-use Rattle.std.specs.List.{list_all, AllByRecursion}
+use Rattle.std.specs.Prelude.{ℕ, ◌≡◌, ◌≢◌, ◌+◌, ◌<◌, ◌≤◌, ◌⊎◌, List, [], ◌++◌, length, flat_map, Option, Some, None}
+use Rattle.std.specs.List.{AllByRecursion}
 use Rattle.iova_range.specs.Bounds.{Extent}
+use Rattle.iova_range.specs.declared.limits.TheConstants.{MAX_STEPS}
+use Rattle.iova_text.specs.Lines.{HasNoLf, whole_line, IsOverlong}
 use Rattle.iova_model.specs.declared.step.Step.{Step}
 use Rattle.iova_trace.specs.declared.trace.Trace.{Trace}
 use Rattle.iova_trace.specs.Text.{header_text, step_text, IsHeader}
 use Rattle.iova_trace.specs.LineSteps.{IsStep}
 
--- Bytes
-
-abbrev pub is_not_lf : ℕ → Bool
-is_not_lf b = not (b == 10)
-
--- no byte of them ends a line
-abbrev pub HasNoLf : List ℕ → Type 0
-HasNoLf bytes = list_all is_not_lf bytes ≡ true
-
--- a line with its LF
-abbrev pub whole_line : List ℕ → List ℕ
-whole_line line = line ++ 10 ∷ []
-
--- what has come of a line that has not ended: it is shorter than the longest line
-pub record IsUnended (bytes : List ℕ) : Type 0 where
-  pub one : HasNoLf bytes
-  pub short : length bytes < 128
-
--- 128 bytes that end no line, whatever comes behind them
-pub record IsOverlong (bytes : List ℕ) : Type 0 where
-  pub one : HasNoLf (take 128 bytes)
-  pub long : 128 ≤ length bytes
-
 -- Traces
 
--- a header, and at most 1,000,000 steps
+-- a header, and steps, not too many
 pub record IsTrace (t : Trace) : Type 0 where
   pub header : IsHeader t.bounds t.workers
   pub steps : AllByRecursion IsStep t.steps
-  pub few : length t.steps ≤ 1000000
+  pub few : length t.steps ≤ MAX_STEPS
 
 abbrev pub step_line : Step → List ℕ
 step_line s = whole_line (step_text s)
@@ -60,14 +39,14 @@ count_steps None = 0
 count_steps (Some t) = length t.steps
 
 -- the number of the line behind them, the header being line 1
-abbrev pub next_number : Option Trace → ℕ
-next_number None = 1
-next_number (Some t) = length t.steps + 2
+abbrev pub next_line_number : Option Trace → ℕ
+next_line_number None = 1
+next_line_number (Some t) = length t.steps + 2
 
 -- this line, which is without its LF, may stand behind them
 abbrev pub MayFollow : Option Trace → List ℕ → Type 0
 MayFollow None line = (bounds : Extent) × (workers : ℕ) × IsHeader bounds workers × (line ≡ header_text bounds workers)
-MayFollow (Some t) line = (length t.steps < 1000000) × (s : Step) × IsStep s × (line ≡ step_text s)
+MayFollow (Some t) line = (length t.steps < MAX_STEPS) × (s : Step) × IsStep s × (line ≡ step_text s)
 
 -- the bytes are these lines and a rest
 pub record Begins (bytes : List ℕ) (lines : Option Trace) (rest : List ℕ) : Type 0 where
@@ -94,10 +73,10 @@ IsCut None rest = HasNoLf rest
 IsCut (Some t) rest = HasNoLf rest × (rest ≢ [])
 
 -- As the whole text of a trace the bytes are refused, and this is the number of the first bad line. One that is too long is bad
--- in one of these ways too, since no line of a trace has more than 128 bytes.
+-- in one of these ways too, since no line of a trace is as long.
 pub record IsRefused (bytes : List ℕ) (number : ℕ) : Type 0 where
   pub lines : Option Trace
   pub rest : List ℕ
   pub begins : Begins bytes lines rest
-  pub number_is : number ≡ next_number lines
+  pub number_is : number ≡ next_line_number lines
   pub bad : IsOther lines rest ⊎ IsCut lines rest

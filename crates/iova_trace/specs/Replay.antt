@@ -3,18 +3,20 @@ use Rattle.std.specs.Prelude.{ℕ, ◌≡◌, ◌⊎◌, List, [], ◌++◌, len
 use Rattle.std.specs.Io.KnownBytes.{Consumes, Appends, IsAtEnd}
 use Rattle.iova_model.specs.declared.step.Reply.{Reply}
 use Rattle.iova_model.specs.State.{State, new_domain}
-use Rattle.iova_model.specs.Transcript.{IsRun}
+use Rattle.iova_model.specs.Promises.{Runs}
 use Rattle.iova_trace.specs.declared.trace.Trace.{Trace}
 use Rattle.iova_trace.specs.declared.fault.ReplayFault.{ReplayFault}
 use Rattle.iova_trace.specs.declared.fault.ReplayFault.TheVariants as fault
 use Rattle.iova_trace.specs.Text.{reply_text}
-use Rattle.iova_trace.specs.Lines.{IsTrace, trace_text, next_number, Begins, IsUnended, IsBad, IsCut}
+use Rattle.iova_text.specs.Lines.{IsUnended}
+use Rattle.iova_trace.specs.Lines.{IsTrace, trace_text, next_line_number, Begins, IsBad, IsCut}
 
 -- Lines were replayed: in a new domain, once there is a header, their steps leave this state and are answered by this text.
+-- The transcript of these steps keeps the promises.
 abbrev pub IsReplayed : Option Trace → Option State → List ℕ → Type 0
 IsReplayed None None text = text ≡ []
 IsReplayed (Some t) (Some s) text =
-    (replies : List Reply) × IsRun (new_domain t.bounds t.workers) s t.steps [] replies × (text ≡ flat_map reply_text replies)
+    (replies : List Reply) × Runs (new_domain t.bounds t.workers) s t.steps [] replies × (text ≡ flat_map reply_text replies)
 IsReplayed lines state text = ⊥
 
 -- all that was taken is a trace, each reply is written, and this is the last state and the number of steps
@@ -32,7 +34,7 @@ pub record StopsAtBad (taken written : List ℕ) (number : ℕ) : Type 0 where
   pub state : Option State
   pub begins : Begins taken lines rest
   pub replayed : IsReplayed lines state written
-  pub number_is : number ≡ next_number lines
+  pub number_is : number ≡ next_line_number lines
   pub bad : IsBad lines rest
 
 -- the same where the input ends in the line
@@ -42,7 +44,7 @@ pub record StopsAtCut (taken written : List ℕ) (number : ℕ) : Type 0 where
   pub state : Option State
   pub begins : Begins taken lines rest
   pub replayed : IsReplayed lines state written
-  pub number_is : number ≡ next_number lines
+  pub number_is : number ≡ next_line_number lines
   pub cut : IsCut lines rest
 
 -- the replies to all whole lines are written, and no bad line has been taken

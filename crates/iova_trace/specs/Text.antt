@@ -1,27 +1,16 @@
 -- The text of a trace: a line for its header, one for each step, and one for each reply. All of it is ASCII, a line ends by LF,
 -- and the words of a line have one space between them. Own.
-use Rattle.std.specs.Prelude.{ℕ, ◌+◌, ◌-◌, ◌<◌, ◌≤◌, ◌^◌, ◌==◌, Bool, true, false, List, [], ◌∷◌, ◌++◌, map, codes, decimal, if◌then◌else◌}
+use Rattle.std.specs.Prelude.{ℕ, ◌+◌, ◌-◌, ◌<◌, ◌≤◌, ◌^◌, ◌==◌, Bool, true, false, List, [], ◌∷◌, ◌++◌, codes, decimal, if◌then◌else◌}
 use Rattle.iova_range.specs.Bounds.{Extent, IsExtent, first_profile}
 use Rattle.iova_range.specs.Refusals.{refusal_number, refusal_name}
+use Rattle.iova_text.specs.Words.{line_text, numbers_line}
+use Rattle.iova_range.specs.declared.limits.TheConstants.{MAX_WORKERS}
 use Rattle.iova_model.specs.declared.step.Step.{Step}
 use Rattle.iova_model.specs.declared.step.Step.TheVariants as step
 use Rattle.iova_model.specs.declared.step.Reply.{Reply}
 use Rattle.iova_model.specs.declared.step.Reply.TheVariants as reply
 use Rattle.iova_trace.specs.declared.line.Verb.{Verb}
 use Rattle.iova_trace.specs.declared.line.Verb.TheVariants as verb
-
--- each word with a space before it
-abbrev pub spaced_words : List (List ℕ) → List ℕ
-spaced_words [] = []
-spaced_words (w ∷ ws) = 32 ∷ (w ++ spaced_words ws)
-
--- a word and its arguments
-abbrev pub line_text : List ℕ → List (List ℕ) → List ℕ
-line_text word arguments = word ++ spaced_words arguments
-
--- a word and numbers
-abbrev pub numbers_line : List ℕ → List ℕ → List ℕ
-numbers_line word ns = line_text word (map decimal ns)
 
 -- Steps
 
@@ -99,7 +88,7 @@ header_text bounds workers = numbers_line (codes "iovatrace") (header_numbers bo
 pub record IsHeader (bounds : Extent) (workers : ℕ) : Type 0 where
   pub extent : IsExtent bounds
   pub some : 1 ≤ workers
-  pub most : workers ≤ 16
+  pub most : workers ≤ MAX_WORKERS
 
 -- Replies
 

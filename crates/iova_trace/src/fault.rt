@@ -1,6 +1,8 @@
+//! Why a trace is not read or replayed to its end.
 ghost use Rattle.std.specs.Prelude.{◌≡◌};
-ghost use Rattle.iova_trace.specs.declared.fault.ReplayFault.TheVariants.{NoMemory as WantsMemory};
+ghost use Rattle.iova_trace.specs.declared.fault.ReplayFault.TheVariants.{NoMemory as WantsMemory, WriteFault as CannotWrite};
 
+use iova_text::write;
 use std::alloc::AllocError;
 use thiserror::Error;
 
@@ -26,5 +28,13 @@ impl From<AllocError> for ReplayFault {
 
     fn from(_error: AllocError) -> ReplayFault {
         ReplayFault::NoMemory
+    }
+}
+
+impl From<write::WriteFault> for ReplayFault {
+    ghost from_gives = { λ _ e. e ≡ CannotWrite };
+
+    fn from(_fault: write::WriteFault) -> ReplayFault {
+        ReplayFault::WriteFault
     }
 }

@@ -1,20 +1,18 @@
+//! A step's line and a header's, read and written.
 ghost use Rattle.std.specs.Prelude.{◌≡◌, ◌≢◌, ℕ, ◌+◌, ◌^◌, ◌<◌, ◌≤◌, ◌↔◌, Bool, List, [], ◌∷◌, ◌++◌, Some, IsSome, IfSome, IsNone, OnOk, OnErr, length, decimal, vec_len, vec_capacity};
 ghost use Rattle.iova_range.specs.Bounds.{Extent, AreBounds, first_profile, second_profile};
 ghost use Rattle.iova_model.specs.declared.step.Step.{Step};
-ghost use Rattle.iova_trace.specs.Text.{spaced_words, verb_text, verb_of, kind_text, outcome_text, arguments_of, step_text, Fits, header_text, IsHeader};
+ghost use Rattle.iova_text.specs.Words.{spaced_words};
+ghost use Rattle.iova_trace.specs.Text.{verb_text, verb_of, kind_text, outcome_text, arguments_of, step_text, Fits, header_text, IsHeader};
 ghost use Rattle.iova_trace.specs.declared.line.Verb.{Verb};
 
-use crate::words::{
-    MAX_LINE, append, first_word, next_number, put, put_numbers, three_numbers, two_numbers,
-};
-use arrayvec::ArrayVec;
 use iova_model::step::Step;
 use iova_range::bounds::Bounds;
+use iova_range::limits::MAX_WORKERS;
 use iova_range::profile::Profile;
 use iova_range::refusal::Refusal;
-
-/// The most workers that a domain has.
-pub const MAX_WORKERS: u64 = 16;
+use iova_text::buffer::{LineBuffer, append, put, put_numbers};
+use iova_text::words::{first_word, next_number, three_numbers, two_numbers};
 
 /// The first word of a step's line. Our own.
 #[derive(Clone, Copy, Debug, PartialEq, Eq)]
@@ -88,7 +86,7 @@ pub fn write_step(step: &Step, out: &mut Vec<u8>) -> Result<(), Refusal>
     ensures err { OnErr result ((result ≡ Err Refusal.NoMemory) × (out.new.items ≡ out.old.items)) }
     ensures full { OnErr result (vec_capacity out.old < vec_len out.old + (length (step_text step.now) + 1)) }
 {
-    let mut text = ArrayVec::new();
+    let mut text = LineBuffer::new();
     put_step(step, &mut text);
     append(out, &text)
 }
@@ -100,7 +98,7 @@ pub fn write_header(bounds: &Bounds, workers: u64, out: &mut Vec<u8>) -> Result<
     ensures err { OnErr result ((result ≡ Err Refusal.NoMemory) × (out.new.items ≡ out.old.items)) }
     ensures full { OnErr result (vec_capacity out.old < vec_len out.old + (length (header_text bounds.now workers) + 1)) }
 {
-    let mut text = ArrayVec::new();
+    let mut text = LineBuffer::new();
     put_header(*bounds, workers, &mut text);
     append(out, &text)
 }
@@ -249,7 +247,7 @@ fn second_header(numbers: &[u8]) -> Option<Header>
 
 fn header_of(profile: Profile, start: u64, last: u64, workers: u64) -> Option<Header>
     ensures value { IfSome result (λ h. h ≡ record { bounds = record { start = start; last = last; profile = profile }; workers = workers }) }
-    ensures accepted { IsSome result ↔ (AreBounds profile start last × ((1 ≤ workers) × (workers ≤ 16))) }
+    ensures accepted { IsSome result ↔ (AreBounds profile start last × ((1 ≤ workers) × (workers ≤ MAX_WORKERS))) }
 {
     if workers == 0 || workers > MAX_WORKERS {
         return None;
@@ -260,7 +258,7 @@ fn header_of(profile: Profile, start: u64, last: u64, workers: u64) -> Option<He
     }
 }
 
-fn put_step(step: &Step, out: &mut ArrayVec<u8, MAX_LINE>)
+fn put_step(step: &Step, out: &mut LineBuffer)
     requires { out.old.items ≡ [] }
     ensures { out.new.items ≡ step_text step.now ++ 10 ∷ [] }
 {
@@ -291,7 +289,7 @@ fn put_step(step: &Step, out: &mut ArrayVec<u8, MAX_LINE>)
     put(out, b"\n");
 }
 
-fn put_header(bounds: Bounds, workers: u64, out: &mut ArrayVec<u8, MAX_LINE>)
+fn put_header(bounds: Bounds, workers: u64, out: &mut LineBuffer)
     requires { out.old.items ≡ [] }
     ensures { out.new.items ≡ header_text bounds workers ++ 10 ∷ [] }
 {

@@ -1,24 +1,24 @@
-ghost use Rattle.std.specs.Prelude.{◌≡◌, ◌≤◌, ◌<◌, ℕ, take, length, IfOk, IfErr, OnOk, OnErr, IsOk, IsErr};
+//! A trace replayed from a reader to a writer, one line after another.
+ghost use Rattle.std.specs.Prelude.{◌≡◌, ◌≤◌, ◌<◌, ℕ, take, length, IfOk, IfErr, OnOk, OnErr, IsErr};
 ghost use Rattle.std.specs.Io.KnownBytes.{Appends, Consumes, Keeps, IsAtEnd};
-ghost use Rattle.iova_trace.specs.Lines.{IsUnended};
+ghost use Rattle.iova_range.specs.declared.limits.TheConstants.{MAX_STEPS};
+ghost use Rattle.iova_text.specs.Lines.{IsUnended};
 ghost use Rattle.iova_trace.specs.Replay.{Replays};
 
 use crate::fault::ReplayFault;
 use crate::line::read_header;
 use crate::reply::write_reply;
 use crate::trace::next_step;
-use arrayvec::ArrayVec;
 use iova_core::domain::Domain;
+use iova_laws::promises::promises_are_kept;
+use iova_laws::validity::new_domains_are_valid;
+use iova_range::limits::{MAX_LINE, MAX_READS};
+use iova_text::buffer::LineBuffer;
+use iova_text::write::write_all;
 use memchr::memchr;
 use std::alloc::Global;
 use std::io;
 use std::io::{Read, Write};
-
-/// The most reads of one trace.
-pub const MAX_READS: u64 = 134_217_728;
-
-/// The most bytes of a line, its line feed among them.
-const MAX_LINE: usize = 128;
 
 /// How many bytes are read, or gathered before they are written.
 const BUFFER: usize = 65_536;
@@ -44,7 +44,7 @@ pub fn replay<R: Read, W: Write>(
     for _ in 0..MAX_READS {
         match read_some(reader, &mut input)? {
             0 => return progress.finish(),
-            len => progress.take_piece(&input[..len], writer)?,
+            len => progress.replay_piece(&input[..len], writer)?,
         }
     }
     Err(ReplayFault::ReadFault)
@@ -59,16 +59,16 @@ struct Progress {
     /// How many steps have been run.
     steps: u64,
     /// What has come of a line that has not ended.
-    line: ArrayVec<u8, 128>,
+    line: LineBuffer,
     /// Replies that have not been written.
     replies: Vec<u8>,
-    ghost few: { steps ≤ 1000000 },
+    ghost few: { steps ≤ MAX_STEPS },
     ghost unended: { IsUnended line.items },
 }
 
 impl Progress {
     ghost use Rattle.std.specs.Prelude.{List, [], ◌++◌};
-    ghost use Rattle.iova_trace.specs.Lines.{HasNoLf, whole_line};
+    ghost use Rattle.iova_text.specs.Lines.{HasNoLf, whole_line};
     ghost use Rattle.iova_trace.specs.Progress.{Stands, number_at, Takes, Outcome, Closes};
 
     fn new(alloc: Global) -> Result<Self, ReplayFault>
@@ -80,7 +80,7 @@ impl Progress {
             alloc,
             domain: None,
             steps: 0,
-            line: ArrayVec::new(),
+            line: LineBuffer::new(),
             replies: Vec::with_capacity(alloc, BUFFER)?,
         })
     }
@@ -97,7 +97,7 @@ impl Progress {
     }
 
     /// Takes the next bytes of the trace, and writes the replies to the lines that they end.
-    fn take_piece<W: Write>(&mut self, piece: &[u8], writer: &mut W) -> Result<(), ReplayFault>
+    fn replay_piece<W: Write>(&mut self, piece: &[u8], writer: &mut W) -> Result<(), ReplayFault>
         ensures outcome { (more : List ℕ) × Appends (W.contents writer.old) (W.contents writer.new) more
             × Outcome self.old piece.now more self.new result }
         ensures written { OnOk result (self.new.replies.items ≡ []) }
@@ -106,42 +106,42 @@ impl Progress {
         while let Some(end) = memchr(b'\n', rest) {
             let line = &rest[..end];
             rest = &rest[end + 1..];
-            self.answer_line(line, writer)?;
+            self.reply_to_line(line, writer)?;
         }
-        let kept = self.keep(rest);
+        let kept = self.keep_part(rest);
         self.write_replies(writer)?;
         kept
     }
 
-    /// Takes the rest of a line, without its line feed, and writes the replies where they are many. Where the line is
+    /// Takes the rest of a line, without its LF, and writes the replies where they are many. Where the line is
     /// refused, the replies to those before it are written first.
-    fn answer_line<W: Write>(&mut self, end: &[u8], writer: &mut W) -> Result<(), ReplayFault>
+    fn reply_to_line<W: Write>(&mut self, end: &[u8], writer: &mut W) -> Result<(), ReplayFault>
         requires { HasNoLf end.now }
         ensures { (more : List ℕ) × Appends (W.contents writer.old) (W.contents writer.new) more
             × Outcome self.old (whole_line end.now) more self.new result }
     {
-        let ended = self.end_line(end);
+        let ended = self.complete_line(end);
         if ended.is_err() || self.replies.len() > BUFFER - MAX_LINE {
             self.write_replies(writer)?;
         }
         ended
     }
 
-    /// Takes the rest of a line, without its line feed.
-    fn end_line(&mut self, end: &[u8]) -> Result<(), ReplayFault>
+    /// Takes the rest of a line, without its LF.
+    fn complete_line(&mut self, end: &[u8]) -> Result<(), ReplayFault>
         requires { HasNoLf end.now }
         ensures { Takes self.old (whole_line end.now) self.new result }
     {
         if self.line.is_empty() {
-            return self.take_line(end);
+            return self.run_line(end);
         }
-        self.keep(end)?;
+        self.keep_part(end)?;
         let line = std::mem::take(&mut self.line);
-        self.take_line(line.as_slice())
+        self.run_line(line.as_slice())
     }
 
-    /// Keeps what has come of a line. One of 128 bytes without a line feed is refused.
-    fn keep(&mut self, bytes: &[u8]) -> Result<(), ReplayFault>
+    /// Keeps what has come of a line. One of 128 bytes without an LF is refused.
+    fn keep_part(&mut self, bytes: &[u8]) -> Result<(), ReplayFault>
         requires { HasNoLf bytes.now }
         ensures takes { Takes self.old bytes.now self.new result }
         ensures replies { self.new.replies.items ≡ self.old.replies.items }
@@ -154,14 +154,17 @@ impl Progress {
     }
 
     /// Takes a whole line, the header first.
-    fn take_line(&mut self, line: &[u8]) -> Result<(), ReplayFault>
+    fn run_line(&mut self, line: &[u8]) -> Result<(), ReplayFault>
         requires one { HasNoLf line.now }
         requires fresh { self.old.line.items ≡ [] }
         ensures { Takes self.old (whole_line line.now) self.new result }
     {
+        // for the proof: the steps so far keep the promises
+        promises_are_kept();
+        new_domains_are_valid();
         let number = self.number();
         let Some(domain) = &mut self.domain else {
-            return self.take_header(line);
+            return self.run_header(line);
         };
         let Some(step) = next_step(line, self.steps) else {
             return Err(ReplayFault::BadTrace(number));
@@ -174,12 +177,15 @@ impl Progress {
         }
     }
 
-    fn take_header(&mut self, line: &[u8]) -> Result<(), ReplayFault>
+    fn run_header(&mut self, line: &[u8]) -> Result<(), ReplayFault>
         requires one { HasNoLf line.now }
         requires fresh { self.old.line.items ≡ [] }
         requires first { self.old.domain ≡ None }
         ensures { Takes self.old (whole_line line.now) self.new result }
     {
+        // for the proof: so does a new domain
+        promises_are_kept();
+        new_domains_are_valid();
         let Some(header) = read_header(line) else {
             return Err(ReplayFault::BadTrace(1));
         };
@@ -231,20 +237,6 @@ impl Progress {
     }
 }
 
-/// Writes all bytes and flushes. `WriteFault` where a call fails, an interruption too, or a write takes nothing; some first
-/// bytes are written then. Our own.
-pub fn write_all<W: Write>(writer: &mut W, bytes: &[u8]) -> Result<(), ReplayFault>
-    ensures ok { OnOk result (Appends (W.contents writer.old) (W.contents writer.new) bytes.now) }
-    ensures err { IfErr result (λ e. (e ≡ ReplayFault.WriteFault)
-        × ((n : ℕ) × Appends (W.contents writer.old) (W.contents writer.new) (take n bytes.now))) }
-{
-    let mut done = 0;
-    while done < bytes.len() {
-        done += bytes_written(writer.write(&bytes[done..]))?;
-    }
-    flushed(writer.flush())
-}
-
 /// Reads once, and gives how many bytes came, none only at the end. Any error is a fault, an interruption too.
 fn read_some<R: Read>(reader: &mut R, buffer: &mut [u8]) -> Result<usize, ReplayFault>
     requires { 0 < length buffer.old }
@@ -265,28 +257,6 @@ fn bytes_read(read: io::Result<usize>) -> Result<usize, ReplayFault>
     match read {
         Ok(len) => Ok(len),
         Err(_) => Err(ReplayFault::ReadFault),
-    }
-}
-
-/// How many bytes a write took. Any error is a fault, an interruption too, and so is none.
-fn bytes_written(written: io::Result<usize>) -> Result<usize, ReplayFault>
-    ensures ok { IfOk result (λ len. (written ≡ Ok len) × (0 < len)) }
-    ensures err { OnErr result (IfOk written (λ len. len ≡ 0) × (result ≡ Err ReplayFault.WriteFault)) }
-{
-    match written {
-        Ok(len) if len > 0 => Ok(len),
-        _ => Err(ReplayFault::WriteFault),
-    }
-}
-
-/// What a flush came to. Any error is a fault, an interruption too.
-fn flushed(flushed: io::Result<()>) -> Result<(), ReplayFault>
-    ensures ok { OnOk result (IsOk flushed) }
-    ensures err { OnErr result (IsErr flushed × (result ≡ Err ReplayFault.WriteFault)) }
-{
-    match flushed {
-        Ok(()) => Ok(()),
-        Err(_) => Err(ReplayFault::WriteFault),
     }
 }
 

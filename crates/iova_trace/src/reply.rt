@@ -1,18 +1,20 @@
+//! A reply's line, written.
 ghost use Rattle.std.specs.Prelude.{◌≡◌, ◌+◌, ◌<◌, ◌≤◌, [], ◌∷◌, ◌++◌, length, OnOk, OnErr, decimal, codes, vec_len, vec_capacity};
 ghost use Rattle.iova_range.specs.Refusals.{refusal_number, refusal_name};
-ghost use Rattle.iova_trace.specs.Text.{line_text, reply_text};
+ghost use Rattle.iova_text.specs.Words.{line_text};
+ghost use Rattle.iova_trace.specs.Text.{reply_text};
 
-use crate::words::{MAX_LINE, append, put, put_numbers};
-use arrayvec::ArrayVec;
 use iova_model::step::Reply;
+use iova_range::limits::MAX_LINE;
 use iova_range::refusal::Refusal;
+use iova_text::buffer::{LineBuffer, append, put, put_numbers};
 
 /// The most bytes that a reply's line has, with its LF.
 pub const MAX_REPLY: usize = 64;
 
 /// Appends the reply's line with its LF, at most 64 bytes, for which there is room. It takes no memory. Our own form.
-pub fn put_reply(reply: &Reply, out: &mut ArrayVec<u8, 128>)
-    requires { length out.old.items + MAX_REPLY ≤ 128 }
+pub fn put_reply(reply: &Reply, out: &mut LineBuffer)
+    requires { length out.old.items + MAX_REPLY ≤ MAX_LINE }
     ensures items { out.new.items ≡ out.old.items ++ reply_text reply.now }
     ensures short { length out.new.items ≤ length out.old.items + MAX_REPLY }
 {
@@ -38,12 +40,12 @@ pub fn write_reply(reply: &Reply, out: &mut Vec<u8>) -> Result<(), Refusal>
     ensures err { OnErr result ((result ≡ Err Refusal.NoMemory) × (out.new.items ≡ out.old.items)) }
     ensures full { OnErr result (vec_capacity out.old < vec_len out.old + length (reply_text reply.now)) }
 {
-    let mut text = ArrayVec::new();
+    let mut text = LineBuffer::new();
     put_reply(reply, &mut text);
     append(out, &text)
 }
 
-fn put_refusal(refusal: Refusal, out: &mut ArrayVec<u8, MAX_LINE>)
+fn put_refusal(refusal: Refusal, out: &mut LineBuffer)
     requires { length out.old.items + MAX_REPLY ≤ MAX_LINE }
     ensures items { out.new.items ≡ out.old.items ++ line_text (codes "no") (decimal (refusal_number refusal) ∷ refusal_name refusal ∷ []) }
     ensures short { length out.new.items + 1 ≤ length out.old.items + MAX_REPLY }
@@ -78,7 +80,7 @@ mod tests {
                 "reserved 18446744073709551614 18446744073709551615\n",
             ),
         ] {
-            let mut line: ArrayVec<u8, 128> = ArrayVec::new();
+            let mut line = LineBuffer::new();
             put_reply(&reply, &mut line);
             assert_eq!(rt; line.as_slice(), want.as_bytes());
             let mut out = b">".as_slice().to_vec(rt.alloc())?;

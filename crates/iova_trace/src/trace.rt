@@ -1,3 +1,4 @@
+//! What a trace says: its domain and its steps.
 ghost use Rattle.std.specs.Prelude.{◌≡◌, ◌≢◌, ◌<◌, Some, IsNone, IfSome};
 ghost use Rattle.iova_model.specs.declared.step.Step.{Step};
 ghost use Rattle.iova_trace.specs.Text.{step_text};
@@ -6,10 +7,8 @@ ghost use Rattle.iova_trace.specs.LineSteps.{IsStep};
 use crate::line::read_step;
 use iova_model::step::Step;
 use iova_range::bounds::Bounds;
+use iova_range::limits::MAX_STEPS;
 use std::marker::Model;
-
-/// The most steps of one trace.
-pub const MAX_STEPS: u64 = 1_000_000;
 
 /// What a trace says: the domain of its header, and its steps. Our own.
 #[derive(Drop)]

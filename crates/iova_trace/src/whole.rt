@@ -1,5 +1,6 @@
-ghost use Rattle.std.specs.Prelude.{◌≡◌, ◌≢◌, ℕ, List, ◌++◌, Ok, Err, IfOk, IfErr, IfSome, IfNone};
-ghost use Rattle.iova_trace.specs.Lines.{HasNoLf, whole_line, IsTrace, trace_text, IsRefused};
+//! The whole text of a trace, read.
+ghost use Rattle.std.specs.Prelude.{◌≡◌, ◌≢◌, ℕ, List, ◌++◌, Ok, Err, IfOk, IfErr};
+ghost use Rattle.iova_trace.specs.Lines.{IsTrace, trace_text, IsRefused};
 ghost use Rattle.iova_trace.specs.Replay.{StopsAtBad};
 ghost use Rattle.iova_trace.specs.Whole.{IsFaultOf, IsUnlessStarved};
 ghost use Rattle.iova_trace.specs.declared.trace.Trace.{Trace as T};
@@ -7,7 +8,7 @@ ghost use Rattle.iova_trace.specs.declared.trace.Trace.{Trace as T};
 use crate::fault::ReplayFault;
 use crate::line::read_header;
 use crate::trace::{Steps, Trace, next_step};
-use memchr::memchr;
+use iova_text::line::cut_line;
 use std::alloc::Global;
 
 /// Reads the whole text of a trace: the line of its header, and a line for each of its steps, at most 1,000,000, each line
@@ -53,20 +54,10 @@ pub fn read_trace(alloc: Global, text: &[u8]) -> Result<Trace, ReplayFault>
 /// The first bad line of a text has one number, and a trace has none. Where a replay has stopped at a bad line, it is that of
 /// the whole input, whatever comes behind what was taken.
 pub fn first_bad_line()
-    ensures one_number { (text : List ℕ) (n m : ℕ) → IsRefused text n → IsRefused text m → n ≡ m }
+    ensures unique_number { (text : List ℕ) (n m : ℕ) → IsRefused text n → IsRefused text m → n ≡ m }
     ensures no_trace { (text : List ℕ) (n : ℕ) (trace : T) → IsRefused text n → IsTrace trace → text ≢ trace_text trace }
     ensures stops { (taken written more : List ℕ) (n : ℕ) → StopsAtBad taken written n → IsRefused (taken ++ more) n }
 {}
-
-/// The bytes before the first LF, and those behind it. None where there is no LF.
-fn cut_line(text: &[u8]) -> Option<(&[u8], &[u8])>
-    ensures cut { IfSome result (λ p. text.now ≡ whole_line p.0.now ++ p.1.now) }
-    ensures one { IfSome result (λ p. HasNoLf p.0.now) }
-    ensures none { IfNone result (HasNoLf text.now) }
-{
-    let end = memchr(b'\n', text)?;
-    Some((&text[..end], &text[end + 1..]))
-}
 
 #[cfg(test)]
 mod tests {

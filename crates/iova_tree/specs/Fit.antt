@@ -1,5 +1,6 @@
 -- The highest place that a request finds between ranges.
 use Rattle.std.specs.Prelude.{◌≡◌, ℕ, ◌-◌, ◌*◌, ◌/◌, ◌≤◌, min, List, [], ◌∷◌, nat_lt, Option, Some, None, if◌then◌else◌}
+use Rattle.iova_range.specs.declared.limits.TheConstants.{MAX_FRAMES}
 use Rattle.iova_range.specs.Sizes.{align_of}
 use Rattle.iova_tree.specs.Spans.{Span, end_after}
 use Rattle.iova_tree.specs.declared.search.Wanted.{Wanted}
@@ -7,7 +8,7 @@ use Rattle.iova_tree.specs.declared.search.Wanted.{Wanted}
 -- a request of some frames, at most those that `room` speaks of, with the alignment of its size
 pub record IsWanted (w : Wanted) : Type 0 where
   pub some : 1 ≤ w.size
-  pub bounded : w.size ≤ 1048576
+  pub bounded : w.size ≤ MAX_FRAMES
   pub align : w.align ≡ align_of w.size
 
 -- the first that is there

@@ -1,6 +1,7 @@
 -- The ranges of a tree.
 use Rattle.std.specs.Prelude.{ℕ, ◌≡◌, ◌+◌, ◌≤◌, Bool, true, not, ◌||◌, nat_lt, List, [], ◌∷◌, ◌++◌, length, filter, Option}
 use Rattle.std.specs.List.{AllByRecursion, list_any}
+use Rattle.iova_range.specs.declared.limits.TheConstants.{MAX_WINDOWS}
 use Rattle.iova_range.specs.declared.refusal.Refusal.{Refusal}
 use Rattle.iova_range.specs.declared.refusal.Refusal.TheVariants as refusal
 use Rattle.iova_range.specs.Frames.{Frames, meets}
@@ -35,7 +36,7 @@ pub record IsSpace (s : Space) : Type 0 where
   pub bounds : IsExtent s.bounds
   pub inserted : RiseApart s.bounds.start s.inserted (s.bounds.last + 1)
   pub windows : RiseApart s.bounds.start s.windows (s.bounds.last + 1)
-  pub few : length s.windows ≤ 64
+  pub few : length s.windows ≤ MAX_WINDOWS
   pub apart : AllByRecursion (λ w. is_clear w s.inserted ≡ true) s.windows
 
 -- the ranges rise apart, from `from` on and below `until`
@@ -47,7 +48,7 @@ pub record IsKept (b : Extent) (spans : List Span) (ws : List Frames) : Type 0 w
   pub bounds : IsExtent b
   pub within : LieWithin b.start spans (b.last + 1)
   pub windows : ws ≡ windows_of spans
-  pub few : length ws ≤ 64
+  pub few : length ws ≤ MAX_WINDOWS
 
 -- what these fields are seen as
 abbrev pub space_of : Extent → List Span → List Frames → Space
@@ -60,7 +61,7 @@ abbrev pub window_tests : Space → ℕ → ℕ → List (Bool × Refusal)
 window_tests s lo hi =
     (nat_lt hi lo || nat_lt lo s.bounds.start || nat_lt s.bounds.last hi, refusal.BadWindow)
     ∷ (list_any (meets (from_to lo hi)) s.inserted, refusal.Taken)
-    ∷ (nat_lt 64 (length (windows_with (from_to lo hi) s.windows)), refusal.WindowsFull)
+    ∷ (nat_lt MAX_WINDOWS (length (windows_with (from_to lo hi) s.windows)), refusal.WindowsFull)
     ∷ []
 
 -- what it is refused for with ample memory, if it is

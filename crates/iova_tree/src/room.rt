@@ -1,7 +1,7 @@
 ghost use Rattle.std.specs.Prelude.{◌≡◌, ◌+◌, ◌^◌, ◌≤◌, ◌<◌, max, ℕ};
 ghost use Rattle.iova_tree.specs.Room.{room, FitsBetween};
 
-use iova_range::sizes::MAX_FRAMES;
+use iova_range::limits::MAX_FRAMES;
 
 /// The greatest size of a request, 1 to 1,048,576, that fits aligned into the frames from `from` on and below `until`;
 /// 0 where none does.

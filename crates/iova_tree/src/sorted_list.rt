@@ -12,9 +12,10 @@ ghost use Rattle.iova_tree.specs.Sorted.{IsLastAligned, Picks};
 use crate::place::place_of;
 use crate::window::{count_clear, join, meets};
 use iova_range::bounds::Bounds;
+use iova_range::limits::{MAX_FRAMES, MAX_WINDOWS};
 use iova_range::range::Range;
 use iova_range::refusal::Refusal;
-use iova_range::sizes::{MAX_FRAMES, align_of};
+use iova_range::sizes::align_of;
 use std::alloc::Global;
 use std::marker::Model;
 
@@ -37,9 +38,6 @@ impl Model for SortedList {
 }
 
 impl SortedList {
-    /// The most windows.
-    pub const MAX_WINDOWS: usize = 64;
-
     /// A tree with nothing allocated.
     pub fn new(alloc: Global, bounds: Bounds) -> Result<Self, Refusal>
         ensures value { IfOk result (λ t. t ≡ record { bounds = bounds; inserted = []; windows = [] }) }
@@ -124,7 +122,7 @@ impl SortedList {
     #[inline]
     pub fn windows(&self) -> &[Range]
         ensures value { result.now ≡ self.now.windows }
-        ensures few { length result.now ≤ Self.MAX_WINDOWS }
+        ensures few { length result.now ≤ MAX_WINDOWS }
         ensures space { IsSpace self.now }
     {
         &self.windows
@@ -158,7 +156,7 @@ impl SortedList {
         if meets_any(&self.inserted, asked) {
             return Err(Refusal::Taken);
         }
-        if count_clear(&self.windows, asked) >= Self::MAX_WINDOWS {
+        if count_clear(&self.windows, asked) >= MAX_WINDOWS {
             return Err(Refusal::WindowsFull);
         }
         let Ok(()) = self.windows.reserve(1) else {

@@ -11,9 +11,10 @@ use crate::search::Wanted;
 use crate::subtree::{Node, stretch};
 use crate::window::{absorb, count_clear, insert_window};
 use iova_range::bounds::Bounds;
+use iova_range::limits::{MAX_FRAMES, MAX_WINDOWS};
 use iova_range::range::Range;
 use iova_range::refusal::Refusal;
-use iova_range::sizes::{MAX_FRAMES, align_of};
+use iova_range::sizes::align_of;
 use std::alloc::Global;
 use std::marker::Model;
 
@@ -37,9 +38,6 @@ impl Model for Tree {
 }
 
 impl Tree {
-    /// The most windows.
-    pub const MAX_WINDOWS: usize = 64;
-
     /// A tree with nothing allocated.
     pub fn new(alloc: Global, bounds: Bounds) -> Result<Self, Refusal>
         ensures value { IfOk result (λ t. t ≡ record { bounds = bounds; inserted = []; windows = [] }) }
@@ -123,7 +121,7 @@ impl Tree {
     #[inline]
     pub fn windows(&self) -> &[Range]
         ensures value { result.now ≡ self.now.windows }
-        ensures few { length result.now ≤ Self.MAX_WINDOWS }
+        ensures few { length result.now ≤ MAX_WINDOWS }
         ensures space { IsSpace self.now }
     {
         &self.windows
@@ -138,6 +136,7 @@ impl Tree {
     pub fn reserve(&mut self, lo: u64, hi: u64) -> Result<Range, Refusal>
         ensures refused { IfSome (reserve_refusal self.old lo hi) (λ refusal. result ≡ Err refusal) }
         ensures accepted { IfNone (reserve_refusal self.old lo hi) (IsOkUnless result Refusal.NoMemory) }
+        ensures memory { result ≡ Err Refusal.NoMemory → is_clear (from_to lo hi) self.old.windows ≡ true }
         ensures window { IfOk result (λ w. w ≡ union (from_to lo hi) self.old.windows) }
         ensures windows { OnOk result (self.new ≡ record self.old { windows = windows_with (from_to lo hi) self.old.windows }) }
         ensures unchanged { OnErr result (self.new ≡ self.old) }
@@ -150,7 +149,7 @@ impl Tree {
             return Err(Refusal::Taken);
         }
         let apart = count_clear(&self.windows, asked);
-        if apart >= Self::MAX_WINDOWS {
+        if apart >= MAX_WINDOWS {
             return Err(Refusal::WindowsFull);
         }
         if apart < self.windows.len() {
@@ -164,7 +163,7 @@ impl Tree {
     fn add_window(&mut self, window: Range) -> Result<(), Refusal>
         requires inside { IsInside self.old.bounds window }
         requires free { is_clear window (ranges_of self.old) ≡ true }
-        requires few { length self.old.windows < Self.MAX_WINDOWS }
+        requires few { length self.old.windows < MAX_WINDOWS }
         ensures ok { OnOk result (self.new ≡ record self.old { windows = insert_rising window self.old.windows }) }
         ensures err { OnErr result ((result ≡ Err Refusal.NoMemory) × (self.new ≡ self.old)) }
     {
@@ -185,7 +184,7 @@ impl Tree {
     fn join_windows(&mut self, asked: Range) -> Range
         requires inside { IsInside self.old.bounds asked }
         requires clear { list_any (meets asked) self.old.inserted ≡ false }
-        requires few { length (clear_of asked self.old.windows) < Self.MAX_WINDOWS }
+        requires few { length (clear_of asked self.old.windows) < MAX_WINDOWS }
         requires joins { length (clear_of asked self.old.windows) < length self.old.windows }
         ensures value { result ≡ union asked self.old.windows }
         ensures windows { self.new ≡ record self.old { windows = windows_with asked self.old.windows } }

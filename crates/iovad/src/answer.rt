@@ -3,8 +3,9 @@ ghost use Rattle.iovad.specs.Answers.{Answers, Follows, Reports};
 
 use iova_core::domain::Domain;
 use iova_report::report;
+use iova_text::write::write_all;
 use iova_trace::fault::ReplayFault;
-use iova_trace::replay::{replay, write_all};
+use iova_trace::replay::replay;
 use std::alloc::Global;
 use std::io::{Read, Write};
 
@@ -48,7 +49,10 @@ fn write_report<W: Write>(alloc: Global, domain: &Domain, writer: &mut W) -> Res
 {
     let mut text = Vec::new(alloc);
     match report(domain, &mut text) {
-        Ok(()) => write_all(writer, &text),
+        Ok(()) => {
+            write_all(writer, &text)?;
+            Ok(())
+        }
         Err(_) => Err(ReplayFault::NoMemory),
     }
 }

@@ -1,5 +1,6 @@
 //! Replays over readers and writers that give and take few bytes at a call, and fail at one.
 use super::*;
+use arrayvec::ArrayVec;
 use memchr::memmem;
 use std::cell::Cell;
 use std::io::ErrorKind;

@@ -2,8 +2,7 @@ use Rattle.std.proofs.Common.{◌≡◌, ◌<◌, [], ◌∷◌, ◌++◌, lengt
 use Rattle.std.proofs.lemmas.List.{take_more, take_all}
 use Rattle.std.proofs.lemmas.Grind.{common_steps}
 use Rattle.iova_model.specs.declared.step.Step.TheVariants.{Reserve}
-use Rattle.iova_core.proofs.Promises.{run_keeps}
-use Rattle.iova_model.proofs.Runs.{run_more}
+use Rattle.iova_model.proofs.Runs.{run_more, run_keeps}
 use Rattle.iova_core.proofs.domain.run.Goals as goal
 
 pub loop-step-preserved : goal.loop-step-preserved
@@ -15,9 +14,9 @@ loop-step-preserved c =
     rw (take_more c.args.steps.now c.loop-step.step-index (Reserve 0 0), items) (run_more _ _ _ _ _ _ step taken.0 _ c.loop-step.invariant taken.1 taken.2)
 
 pub returns-in_default-clause-err : goal.returns-in_default-clause-err
-returns-in_default-clause-err c = (refl, (c.loop-step.step-index, rw c.reserve.ensures.items (run_keeps c.laws.ensures _ _ _ _ _ c.workers-workers.ensures.valid c.loop-step.invariant)))
+returns-in_default-clause-err c = (refl, (c.loop-step.step-index, rw c.reserve.ensures.items (run_keeps c.promises_are_kept.ensures _ _ _ _ _ c.workers-workers.ensures.valid c.loop-step.invariant)))
 
 pub returns-clause-ok : goal.returns-clause-ok
 returns-clause-ok c =
     let all = take_all c.loop-step.step-index c.args.steps.now c.loop-step-test.false in
-    run_keeps c.laws.ensures _ _ _ _ _ c.workers-workers.ensures.valid (rw all at c.loop-step.invariant)
+    run_keeps c.promises_are_kept.ensures _ _ _ _ _ c.workers-workers.ensures.valid (rw all at c.loop-step.invariant)

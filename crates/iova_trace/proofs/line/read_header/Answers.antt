@@ -2,8 +2,9 @@ use Rattle.std.proofs.Common.{ℕ, true, not, ◌≡◌, ◌∙◌, refl, sym, L
 use Rattle.std.specs.Str.{bytes_eq}
 use Rattle.std.proofs.lemmas.Bool.{not-true, both_ways}
 use Rattle.std.proofs.lemmas.Slice.Eq.{bytes_eq-Decides}
-use Rattle.iova_trace.specs.Text.{spaced_words, header_numbers}
-use Rattle.iova_trace.proofs.Headers.{stops-spaced_words}
+use Rattle.iova_text.specs.Words.{spaced_words}
+use Rattle.iova_trace.specs.Text.{header_numbers}
+use Rattle.iova_text.proofs.Cuts.{stops-spaced_words}
 use Rattle.iova_trace.proofs.line.read_header.Goals as goal
 
 same_words : (xs ys zs : List ℕ) → true ≡ not (bytes_eq xs ys) → xs ≡ zs → ys ≡ zs → ⊥

@@ -40,23 +40,23 @@ returns-in-0 g c =
     (g.W.Write.contents c.args.writer.now) (g.W.Write.contents c.loop.writer) c.loop.progress c.in_ok-len.len c.read_some.new.buffer c.finish.result
     c.loop.invariant.so_far read.ok c.in-0.is (read.end c.in-0.is) c.finish.ensures
 
-pub slice_bounds-take_piece-end : goal.slice_bounds-take_piece-end
-slice_bounds-take_piece-end g c =
+pub slice_bounds-replay_piece-end : goal.slice_bounds-replay_piece-end
+slice_bounds-replay_piece-end g c =
     let back = read_back c.loop.input.len c.read_some.new.buffer c.loop.input.items c.deref_mut.result.now c.read_some.auto.buffer c.deref_mut.ensures.value c.loop.input.ok.0 in
     let is = c.deref.ensures.value ∙ back in
     let bound : c.in_ok-len.len ≤ length c.read_some.new.buffer = c.in_ok-len.ensures.bound in
     rw is (omega (arith, length-take c.in_ok-len.len c.read_some.new.buffer, bound))
 
-pub returns-in_err-take_piece-in_default : goal.returns-in_err-take_piece-in_default
-returns-in_err-take_piece-in_default g c =
-    let p = err_from_is_err_and c.from_residual-in_err-take_piece-in_default.result c.from_residual-in_err-take_piece-in_default.ensures.1 in
+pub returns-in_err-replay_piece-in_default : goal.returns-in_err-replay_piece-in_default
+returns-in_err-replay_piece-in_default g c =
+    let p = err_from_is_err_and c.from_residual-in_err-replay_piece-in_default.result c.from_residual-in_err-replay_piece-in_default.ensures.1 in
     let back = read_back c.loop.input.len c.read_some.new.buffer c.loop.input.items c.deref_mut.result.now c.read_some.auto.buffer c.deref_mut.ensures.value c.loop.input.ok.0 in
     let is = sym (c.deref.ensures.value ∙ back) in
     let P : List ℕ → Type 0 = λ x. Consumes (g.R.Read.remaining c.loop.reader) (g.R.Read.remaining c.read_some.new.reader) (take c.in_ok-len.len x) in
-    let out = c.in_err-take_piece-in_default.ensures.outcome in
+    let out = c.in_err-replay_piece-in_default.ensures.outcome in
     rw (p.1, p.2) (piece_stops (g.R.Read.remaining c.args.reader.now) (g.R.Read.remaining c.loop.reader) (g.R.Read.remaining c.read_some.new.reader)
-    (g.W.Write.contents c.args.writer.now) (g.W.Write.contents c.loop.writer) (g.W.Write.contents c.take_piece.new.writer)
-    c.loop.progress (take c.in_ok-len.len c.deref.result.now) out.0 c.in_err-take_piece-in_default.field-0.0
+    (g.W.Write.contents c.args.writer.now) (g.W.Write.contents c.loop.writer) (g.W.Write.contents c.replay_piece.new.writer)
+    c.loop.progress (take c.in_ok-len.len c.deref.result.now) out.0 c.in_err-replay_piece-in_default.field-0.0
     c.loop.invariant.so_far (subst P is c.in_ok-len.ensures.ok) out.1 out.2)
 
 pub loop-preserved : goal.loop-preserved
@@ -64,11 +64,11 @@ loop-preserved g c =
     let back = read_back c.loop.input.len c.read_some.new.buffer c.loop.input.items c.deref_mut.result.now c.read_some.auto.buffer c.deref_mut.ensures.value c.loop.input.ok.0 in
     let is = sym (c.deref.ensures.value ∙ back) in
     let P : List ℕ → Type 0 = λ x. Consumes (g.R.Read.remaining c.loop.reader) (g.R.Read.remaining c.read_some.new.reader) (take c.in_ok-len.len x) in
-    let out = c.in_ok-take_piece-in_default.ensures in
+    let out = c.in_ok-replay_piece-in_default.ensures in
     record {
       so_far = piece_goes (g.R.Read.remaining c.args.reader.now) (g.R.Read.remaining c.loop.reader) (g.R.Read.remaining c.read_some.new.reader)
-          (g.W.Write.contents c.args.writer.now) (g.W.Write.contents c.loop.writer) (g.W.Write.contents c.take_piece.new.writer)
-          c.loop.progress c.take_piece.new.self (take c.in_ok-len.len c.deref.result.now) out.outcome.0
+          (g.W.Write.contents c.args.writer.now) (g.W.Write.contents c.loop.writer) (g.W.Write.contents c.replay_piece.new.writer)
+          c.loop.progress c.replay_piece.new.self (take c.in_ok-len.len c.deref.result.now) out.outcome.0
           c.loop.invariant.so_far (subst P is c.in_ok-len.ensures.ok) out.outcome.1 out.outcome.2 out.written;
       room = rw back (omega (arith, c.loop.invariant.room, c.read_some.auto.buffer, ap length c.deref_mut.ensures.value));
     }

@@ -1,14 +1,15 @@
-use Rattle.std.proofs.Common.{rules, ℕ, ◌≡◌, ◌≢◌, ◌+◌, List, [], ◌++◌, Option, Some, None, refl, sym, ap, subst, ◌∙◌}
+use Rattle.std.proofs.Common.{rules, ℕ, ◌≡◌, ◌≢◌, ◌+◌, List, [], ◌++◌, Option, Some, None, refl, ap, subst, ◌∙◌}
 use Rattle.std.proofs.lemmas.List.{append-nil}
 use Rattle.iova_model.specs.State.{State}
 use Rattle.iova_trace.specs.declared.trace.Trace.{Trace}
-use Rattle.iova_trace.specs.Lines.{HasNoLf, IsCut, next_number, count_steps}
+use Rattle.iova_text.specs.Lines.{HasNoLf}
+use Rattle.iova_trace.specs.Lines.{IsCut, next_line_number, count_steps}
 use Rattle.iova_trace.specs.Progress.{number_at}
 use Rattle.iova_trace.specs.Replay.{IsReplayed}
 use Rattle.iova_trace.proofs.replay.Progress.finish.Goals as goal
 
 -- the number of the line that comes next
-next_is : (lines : Option Trace) (domain : Option State) (text : List ℕ) (steps : ℕ) → IsReplayed lines domain text → steps ≡ count_steps lines → number_at domain steps ≡ next_number lines
+next_is : (lines : Option Trace) (domain : Option State) (text : List ℕ) (steps : ℕ) → IsReplayed lines domain text → steps ≡ count_steps lines → number_at domain steps ≡ next_line_number lines
 next_is None None text steps h count = refl
 next_is None (Some s) text steps h count = absurd h
 next_is (Some t) None text steps h count = absurd h

@@ -1,7 +1,8 @@
-use Rattle.std.proofs.Common.{ℕ, ◌≡◌, ◌+◌, ◌-◌, ◌≤◌, Bool, false, length, List, Some, None, sym, ap, ◌∙◌, subst, rules, arith}
+use Rattle.std.proofs.Common.{ℕ, ◌≡◌, ◌+◌, ◌-◌, ◌≤◌, Bool, true, false, length, List, Some, None, sym, ap, ◌∙◌, subst, rules, arith}
 use Rattle.std.specs.List.{list_any}
 use Rattle.iova_range.specs.declared.refusal.Refusal.TheVariants as refusal
 use Rattle.iova_range.specs.Frames.{Frames, meets}
+use Rattle.iova_model.specs.Fit.{is_clear}
 use Rattle.iova_model.specs.Clients.{insert_rising}
 use Rattle.iova_model.specs.Next.{from_to, union, windows_with}
 use Rattle.iova_tree.specs.Space.{Space, space_of, clear_of, reserve_refusal}
@@ -77,3 +78,13 @@ returns-clause-windows c =
     let e : windows_with (from_to c.args.lo c.args.hi) i.windows.items ≡ insert_rising c.new-asked.result i.windows.items = subst (λ (r : Frames). windows_with r i.windows.items ≡ insert_rising c.new-asked.result i.windows.items) asked.frames (alone_windows c.new-asked.result i.windows.items alone) in
     let now : windows_with (from_to c.args.lo c.args.hi) c.args.self.now.windows ≡ insert_rising c.new-asked.result c.args.self.now.windows = rw (← c.self.view_is) e in
     c.in_ok-add_window.ensures.ok ∙ ap (λ (ws : List Frames). record c.args.self.now { windows = ws }) (sym now)
+
+pub returns-in_err-add_window-clause-memory : goal.returns-in_err-add_window-clause-memory
+returns-in_err-add_window-clause-memory c =
+    let i = c.self.inside in
+    let s : Space = space_of i.bounds i.ranges i.windows.items in
+    let asked : IsAsked s c.args.lo c.args.hi c.new-asked.result = asked_clear s _ _ _ _ c.if-lo-hi.false (rw c.start.ensures.is at c.if-lo-start.false) (rw c.last.ensures.is at c.if-hi-last.false) c.new-asked.ensures c.meets_inserted.ensures c.if-meets_inserted.false in
+    let n : c.len.result ≡ length i.windows.items = search (rules, c.len.ensures) in
+    let count : c.count_clear-apart.result ≡ length (clear_of c.new-asked.result i.windows.items) = rw c.deref.ensures.value at c.count_clear-apart.ensures in
+    let alone = alone c.new-asked.result i.windows.items (omega (arith, c.if-apart-len.false)) in
+    rw (← c.self.view_is) (λ refused. subst (λ (r : Frames). is_clear r i.windows.items ≡ true) asked.frames alone.clear)

@@ -1,0 +1,30 @@
+//! What takes the bytes of records.
+ghost use Rattle.std.specs.Prelude.{◌≡◌, ◌+◌, ◌<◌, ◌≤◌, ℕ, List, Option, IfOk, MatchResult, length};
+ghost use Rattle.std.specs.Io.KnownBytes.{WriteAppends, Keeps};
+
+/// The device failed.
+#[derive(Clone, Copy, PartialEq, Eq, Debug)]
+pub struct DeviceFault;
+
+/// Takes bytes. Any error of the operating system is a failure, an interruption too, and so is a call that takes none
+/// of a nonempty slice. Own.
+pub trait Device {
+    /// The bytes that it took, where they are known.
+    ghost taken: { Self → Option (List ℕ) };
+
+    /// How many calls failed.
+    ghost failures: { Self → ℕ };
+
+    /// Takes a front of the bytes, at least one byte where there is one, and gives their number. A call that fails takes
+    /// none.
+    fn put(&mut self, bytes: &[u8]) -> Result<usize, DeviceFault>
+        ensures bound { IfOk result (λ n. n ≤ length bytes.now) }
+        ensures some { IfOk result (λ n. 0 < length bytes.now → 0 < n) }
+        ensures bytes { WriteAppends (taken self.old) (taken self.new) result bytes.now }
+        ensures failures { MatchResult result (λ n. failures self.new ≡ failures self.old) (λ e. failures self.new ≡ failures self.old + 1) };
+
+    /// Hands on what the device itself kept back.
+    fn push_out(&mut self) -> Result<(), DeviceFault>
+        ensures bytes { Keeps (taken self.old) (taken self.new) }
+        ensures failures { MatchResult result (λ u. failures self.new ≡ failures self.old) (λ e. failures self.new ≡ failures self.old + 1) };
+}

@@ -1,0 +1,109 @@
+//! A line cut into words at single spaces, and the numbers behind them.
+ghost use Rattle.std.specs.Prelude.{◌≡◌, ℕ, ◌^◌, ◌<◌, List, [], ◌∷◌, ◌++◌, Some, IfSome, IsSomeAnd, IsTrue, decimal};
+ghost use Rattle.std.specs.Char.{is_ascii_digit};
+ghost use Rattle.std.specs.List.{list_all};
+ghost use Rattle.iova_text.specs.Reading.{stops, is_not_space};
+ghost use Rattle.iova_text.specs.Words.{spaced_words};
+
+use crate::number::leading_number;
+
+/// The bytes before the first space, all where there is none, and the rest from that space on.
+pub fn first_word(line: &[u8]) -> (&[u8], &[u8])
+    ensures whole { line.now ≡ result.0.now ++ result.1.now }
+    ensures read { (word rest : List ℕ) → IsTrue (list_all is_not_space word) → IsTrue (stops is_not_space rest) → line.now ≡ word ++ rest
+        → (result.0.now ≡ word) × (result.1.now ≡ rest) }
+{
+    let mut len = 0;
+    while len < line.len() && line[len] != b' ' {
+        len += 1;
+    }
+    line.split_at(len)
+}
+
+/// A space and a number, and the text behind them.
+pub fn next_number(text: &[u8]) -> Option<(u64, &[u8])>
+    ensures spelled { IfSome result (λ p. text.now ≡ 32 ∷ (decimal p.0 ++ p.1.now)) }
+    ensures read { (n : ℕ) (rest : List ℕ) → n < 2 ^ 64 → IsTrue (stops is_ascii_digit rest) → text.now ≡ 32 ∷ (decimal n ++ rest)
+        → IsSomeAnd result (λ p. (p.0 ≡ n) × (p.1.now ≡ rest)) }
+{
+    let (first, digits) = text.split_first()?;
+    if *first == b' ' {
+        leading_number(digits)
+    } else {
+        None
+    }
+}
+
+/// A space and a number, and nothing behind them.
+pub fn one_number(text: &[u8]) -> Option<u64>
+    ensures spelled { IfSome result (λ a. text.now ≡ spaced_words (decimal a ∷ [])) }
+    ensures read { (a : ℕ) → a < 2 ^ 64 → text.now ≡ spaced_words (decimal a ∷ []) → result ≡ Some a }
+{
+    let (a, rest) = next_number(text)?;
+    if rest.is_empty() { Some(a) } else { None }
+}
+
+/// Two numbers, each with a space before it, and nothing behind them.
+pub fn two_numbers(text: &[u8]) -> Option<(u64, u64)>
+    ensures spelled { IfSome result (λ p. text.now ≡ spaced_words (decimal p.0 ∷ decimal p.1 ∷ [])) }
+    ensures read { (a b : ℕ) → a < 2 ^ 64 → b < 2 ^ 64 → text.now ≡ spaced_words (decimal a ∷ decimal b ∷ [])
+        → result ≡ Some (record { 0 = a; 1 = b }) }
+{
+    let (a, rest) = next_number(text)?;
+    let b = one_number(rest)?;
+    Some((a, b))
+}
+
+/// Three numbers, each with a space before it, and nothing behind them.
+pub fn three_numbers(text: &[u8]) -> Option<(u64, u64, u64)>
+    ensures spelled { IfSome result (λ p. text.now ≡ spaced_words (decimal p.0 ∷ decimal p.1 ∷ decimal p.2 ∷ [])) }
+    ensures read { (a b c : ℕ) → a < 2 ^ 64 → b < 2 ^ 64 → c < 2 ^ 64
+        → text.now ≡ spaced_words (decimal a ∷ decimal b ∷ decimal c ∷ []) → result ≡ Some (record { 0 = a; 1 = b; 2 = c }) }
+{
+    let (a, rest) = next_number(text)?;
+    let (b, c) = two_numbers(rest)?;
+    Some((a, b, c))
+}
+
+#[cfg(test)]
+mod tests {
+    use super::*;
+
+    #[test]
+    fn words_are_cut_at_single_spaces(rt: HostRuntime) {
+        for (line, word, rest) in [
+            ("alloc 1 5", "alloc", " 1 5"),
+            ("list", "list", ""),
+            ("list ", "list", " "),
+            (" list", "", " list"),
+            ("", "", ""),
+        ] {
+            let (first, behind) = first_word(line.as_bytes());
+            assert_eq!(rt; first, word.as_bytes(), "first word of {line:?}");
+            assert_eq!(rt;
+                behind,
+                rest.as_bytes(),
+                "behind the first word of {line:?}"
+            );
+        }
+    }
+
+    #[test]
+    fn numbers_stand_behind_one_space_each(rt: HostRuntime) {
+        assert_eq!(rt; next_number(b" 12 5"), Some((12, b" 5".as_slice())));
+        assert_eq!(rt; next_number(b"12 5"), None);
+        assert_eq!(rt; next_number(b"  12"), None);
+        assert_eq!(rt; one_number(b" 12"), Some(12));
+        assert_eq!(rt; one_number(b" 12 "), None);
+        assert_eq!(rt; two_numbers(b" 1 0"), Some((1, 0)));
+        assert_eq!(rt; two_numbers(b" 1 00"), None);
+        assert_eq!(rt; two_numbers(b" 1  0"), None);
+        assert_eq!(rt; two_numbers(b" 1"), None);
+        assert_eq!(rt;
+            three_numbers(b" 1 2 18446744073709551615"),
+            Some((1, 2, u64::MAX))
+        );
+        assert_eq!(rt; three_numbers(b" 1 2 18446744073709551616"), None);
+        assert_eq!(rt; three_numbers(b" 1 2 3 4"), None);
+    }
+}

@@ -1,9 +1,0 @@
-use Rattle.std.proofs.Common.{◌≡◌, ◌+◌, ◌*◌, ◌≤◌, ◌++◌, length, take, map, decimal}
-use Rattle.iova_trace.specs.Text.{spaced_words}
-use Rattle.iova_trace.proofs.words.put_numbers.Given as goal
-
-abbrev pub invariant-loop-n : goal.invariant-loop-n
-invariant-loop-n l = record {
-  items : l.out.items ≡ l.initial.out.items ++ spaced_words (map decimal (take l.n-index l.ns));
-  short : length l.out.items ≤ length l.initial.out.items + 21 * l.n-index;
-}
