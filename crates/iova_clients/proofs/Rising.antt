@@ -1,5 +1,5 @@
 -- Holdings that rise by first frame, and the places that a binary search finds in them.
-use Rattle.std.proofs.Common.{◌≡◌, ◌≢◌, ℕ, zero, suc, ◌+◌, ◌<◌, ◌≤◌, ◌==◌, ◌⊎◌, inl, inr, Bool, true, false, cond, List, [], ◌∷◌, ◌++◌, length, take, drop, insert, remove, find, get_or, Option, None, Some, Result, Ok, Err, MatchResult, refl, sym, ap, ◌∙◌, subst, arith}
+use Rattle.std.proofs.Common.{◌≡◌, ◌≢◌, ℕ, zero, suc, ◌+◌, ◌<◌, ◌≤◌, ◌==◌, ◌⊎◌, inl, inr, Bool, true, false, cond, List, [], ◌∷◌, ◌++◌, length, take, drop, insert, remove, find, get_or, Option, None, Some, Result, Ok, Err, MatchResult, IfSome, IfNone, refl, sym, ap, ◌∙◌, subst, arith}
 use Rattle.std.specs.Prelude.{nat_lt, nat_le}
 use Rattle.std.specs.Ordering.{nat_cmp, ordering_index}
 use Rattle.std.specs.declared.cmp.Ordering.TheVariants.{Less, Equal, Greater}
@@ -9,6 +9,7 @@ use Rattle.std.proofs.lemmas.Bool.Decides.{nat_tests}
 use Rattle.iova_range.specs.Frames.{Frames}
 use Rattle.iova_model.specs.Clients.{insert_rising, begins_at, remove_at}
 use Rattle.iova_model.specs.Valid.{Rises}
+use Rattle.iova_clients.specs.Registry.{StandsAt}
 
 -- a later start asks more
 pub Rises-from : (low high : ℕ) (rs : List Frames) → low ≤ high → Rises high rs → Rises low rs
@@ -111,3 +112,18 @@ searched_none from lo rs (Err i) rises h is =
         → IsPartitionPoint (λ (x : Frames). nat_cmp x.lo lo ≡ Less) (λ (x : Frames). nat_cmp x.lo lo ≡ Greater) rs i → (get_or rs k d).lo ≢ lo
     split k d lt true below point = less_differs (get_or rs k d).lo lo (point.0 k d (omega arith) (grind (arith, nat_tests)))
     split k d lt false above point = greater_differs (get_or rs k d).lo lo (point.1 k d (grind (arith, nat_tests)) lt)
+
+-- What a search answers, as the place where the holding stands.
+
+pub placed_some : (lo : ℕ) (rs : List Frames) (r : Result ℕ ℕ) (o : Option ℕ) → IsBinarySearchResult (λ (x : Frames). nat_cmp x.lo lo) rs r → IsSearchInRange r (length rs)
+    → o ≡ result_ok r → IfSome o (StandsAt lo rs)
+placed_some lo rs r None h within is = tt
+placed_some lo rs r (Some i) h within is = record {
+  within = (searched_some lo i rs r (record { lo = 0; len = 0 }) h within (sym is)).1;
+  begins = λ d. (searched_some lo i rs r d h within (sym is)).0;
+}
+
+pub placed_none : (lo : ℕ) (rs : List Frames) (r : Result ℕ ℕ) (o : Option ℕ) → Rises 0 rs → IsBinarySearchResult (λ (x : Frames). nat_cmp x.lo lo) rs r
+    → o ≡ result_ok r → IfNone o (find (begins_at lo) rs ≡ None)
+placed_none lo rs r None rises h is = searched_none 0 lo rs r rises h (sym is)
+placed_none lo rs r (Some i) rises h is = tt

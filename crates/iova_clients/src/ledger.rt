@@ -1,8 +1,8 @@
-ghost use Rattle.std.specs.Prelude.{◌≡◌, ◌≤◌, ◌+◌, ◌-◌, false, true, [], find, Some, Err, OnOk, OnErr, OnSome, IfSome, IfNone, IsOkUnless};
+ghost use Rattle.std.specs.Prelude.{◌≡◌, ◌≤◌, ◌+◌, ◌-◌, false, true, [], find, Some, Err, OnOk, OnErr, OnSome, IfSome, IfNone, None, IsOkUnless};
 ghost use Rattle.iova_model.specs.Fit.{is_covered};
 ghost use Rattle.iova_model.specs.Clients.{insert_rising, begins_at, remove_at};
 ghost use Rattle.iova_model.specs.Valid.{Rises};
-ghost use Rattle.iova_clients.specs.Registry.{room_refusal};
+ghost use Rattle.iova_clients.specs.Registry.{room_refusal, StandsAt};
 ghost use Rattle.iova_clients.specs.Accounts.{client_at};
 
 use crate::holdings::Holdings;
@@ -118,15 +118,30 @@ impl Ledger {
         self.holdings.insert(place, range);
     }
 
+    /// Where the holding stands that begins there. The first is looked at before they are searched: a client that closes
+    /// gives up its first holding each time.
+    fn place_of(&self, lo: u64) -> Option<usize>
+        requires { Rises 0 self.now.holdings }
+        ensures held { IfSome result (StandsAt lo self.now.holdings) }
+        ensures none { IfNone result (find (begins_at lo) self.now.holdings ≡ None) }
+    {
+        let holdings = self.holdings.as_slice();
+        if let Some(first) = holdings.first()
+            && first.lo() == lo
+        {
+            return Some(0);
+        }
+        holdings.binary_search_by_key(&lo, |held| held.lo()).ok()
+    }
+
     /// The holding that begins there.
     #[inline]
     pub(crate) fn holding(&self, lo: u64) -> Option<Range>
         requires { Rises 0 self.now.holdings }
         ensures { result ≡ find (begins_at lo) self.now.holdings }
     {
-        let holdings = self.holdings.as_slice();
-        let place = holdings.binary_search_by_key(&lo, |held| held.lo()).ok()?;
-        Some(holdings[place])
+        let place = self.place_of(lo)?;
+        Some(self.holdings()[place])
     }
 
     /// Gives up the holding that begins there.
@@ -136,11 +151,7 @@ impl Ledger {
         ensures some { OnSome result (self.new ≡ record self.old { holdings = remove_at lo self.old.holdings; spare = self.old.spare + 1 }) }
         ensures none { IfNone result (self.new ≡ self.old) }
     {
-        let place = self
-            .holdings
-            .as_slice()
-            .binary_search_by_key(&lo, |held| held.lo())
-            .ok()?;
+        let place = self.place_of(lo)?;
         Some(self.holdings.remove(place))
     }
 

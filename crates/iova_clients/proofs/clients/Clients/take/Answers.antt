@@ -11,7 +11,7 @@ use Rattle.iova_clients.specs.Sums.{with_share, without_one}
 use Rattle.iova_clients.proofs.Changed.{client_some, client_none, changed-at, set_value_same, spare_at, spare_same, lookup-set_here, lookup-set_other, found_mut, refused_at, none_mut}
 use Rattle.iova_clients.proofs.Kept.{client_is, client_is_low, IsRegistry-changed, IsClient-taken, all_removed}
 use Rattle.iova_clients.proofs.BooksLemmas.{sums_taken, all_include, share_includes}
-use Rattle.iova_clients.proofs.Clients.take.Goals as goal
+use Rattle.iova_clients.proofs.clients.Clients.take.Goals as goal
 
 pub returns-in_err-ledger-clause-value : goal.returns-in_err-ledger-clause-value
 returns-in_err-ledger-clause-value c =

@@ -7,7 +7,7 @@ use Rattle.iova_range.specs.declared.refusal.Refusal.TheVariants.{NoClient, NoMe
 use Rattle.iova_clients.specs.Registry.{is_serial, room_refusal}
 use Rattle.iova_clients.specs.Accounts.{Account, client_at, clients_at, spares_at}
 use Rattle.iova_clients.proofs.Changed.{client_some, client_none, changed-at, set_value_same, clients-set, spare_at, spare_same, lookup-set_here, lookup-set_other, found_mut, refused_at, none_mut}
-use Rattle.iova_clients.proofs.Clients.room.Goals as goal
+use Rattle.iova_clients.proofs.clients.Clients.room.Goals as goal
 
 pub returns-in_err-ledger-clause-refused : goal.returns-in_err-ledger-clause-refused
 returns-in_err-ledger-clause-refused c =

@@ -2,7 +2,7 @@ use Rattle.std.proofs.Common.{◌≡◌, Some, None, option_and_then, option_cop
 use Rattle.std.specs.Prelude.{slice_get}
 use Rattle.iova_clients.specs.Registry.{lowest}
 use Rattle.iova_clients.proofs.Changed.{client_some, client_none}
-use Rattle.iova_clients.proofs.Clients.first.Goals as goal
+use Rattle.iova_clients.proofs.clients.Clients.first.Goals as goal
 
 pub returns-in_err-get-clause-is : goal.returns-in_err-get-clause-is
 returns-in_err-get-clause-is c =

@@ -6,7 +6,7 @@ use Rattle.iova_clients.specs.Accounts.{clients_at, spares_at}
 use Rattle.iova_clients.proofs.Changed.{forgotten-at, lookup-remove_other, spare_same, spare_none, lookup_none, known_there}
 use Rattle.iova_clients.proofs.Kept.{client_with-forgotten, IsRegistry-forgotten}
 use Rattle.iova_clients.proofs.BooksLemmas.{sums_forgotten}
-use Rattle.iova_clients.proofs.Clients.forget.Goals as goal
+use Rattle.iova_clients.proofs.clients.Clients.forget.Goals as goal
 
 pub invariant_of-self : goal.invariant_of-self
 invariant_of-self c =

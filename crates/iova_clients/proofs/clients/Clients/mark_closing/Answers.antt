@@ -8,7 +8,7 @@ use Rattle.iova_clients.specs.Accounts.{Account, client_at, clients_at}
 use Rattle.iova_clients.proofs.Changed.{client_some, client_none, changed-at, spares-set, found_mut, refused_at, none_mut}
 use Rattle.iova_clients.proofs.Kept.{client_is, client_is_low, IsRegistry-changed}
 use Rattle.iova_clients.proofs.BooksLemmas.{sums_kept}
-use Rattle.iova_clients.proofs.Clients.mark_closing.Goals as goal
+use Rattle.iova_clients.proofs.clients.Clients.mark_closing.Goals as goal
 
 pub returns-in_err-ledger-clause-value : goal.returns-in_err-ledger-clause-value
 returns-in_err-ledger-clause-value c =

@@ -2,7 +2,7 @@ use Rattle.std.proofs.Common.{◌≡◌, Some, None, find, option_and_then, opti
 use Rattle.iova_model.specs.Clients.{Client, begins_at}
 use Rattle.iova_clients.proofs.Changed.{client_some, client_none}
 use Rattle.iova_clients.proofs.Kept.{client_is}
-use Rattle.iova_clients.proofs.Clients.holding.Goals as goal
+use Rattle.iova_clients.proofs.clients.Clients.holding.Goals as goal
 
 pub returns-in_err-get : goal.returns-in_err-get
 returns-in_err-get c =

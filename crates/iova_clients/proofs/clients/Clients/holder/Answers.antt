@@ -1,7 +1,7 @@
 use Rattle.std.proofs.Common.{◌∙◌}
 use Rattle.iova_clients.proofs.Holding.{holder-at, holder_holds, holder_none}
 use Rattle.iova_clients.specs.Accounts.{clients_at}
-use Rattle.iova_clients.proofs.Clients.holder.Goals as goal
+use Rattle.iova_clients.proofs.clients.Clients.holder.Goals as goal
 
 pub returns-clause-is : goal.returns-clause-is
 returns-clause-is c = rw (← c.self.view_is) (c.holder.ensures ∙ holder-at c.args.frame c.self.inside.ledgers)
