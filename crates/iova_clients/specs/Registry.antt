@@ -10,6 +10,7 @@ use Rattle.iova_model.specs.Fit.{is_covered}
 use Rattle.iova_model.specs.Clients.{Client, begins_at}
 use Rattle.iova_model.specs.Next.{first_refusal}
 use Rattle.iova_model.specs.Valid.{AreClients}
+use Rattle.iova_clients.specs.declared.marks.Marks.{Marks}
 
 -- The clients, rising by serial; the last serial given; and by the serial of each client how many more holdings it can be given
 -- without memory
@@ -67,6 +68,10 @@ held_at lo (Some c) = ok_or (find (begins_at lo) c.holdings) refusal.NotHeld
 pub record StandsAt (lo : ℕ) (holdings : List Frames) (place : ℕ) : Type 0 where
   pub within : place < length holdings
   pub begins : (d : Frames) → (slice_index_or holdings place d).lo ≡ lo
+
+-- what a step asks of a client before it looks at a holding
+abbrev pub marks_of : Client → Marks
+marks_of c = record { sac = c.sac; closing = c.closing }
 
 -- the lowest holding
 abbrev pub lowest : Client → Option Frames

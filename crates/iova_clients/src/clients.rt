@@ -1,11 +1,12 @@
 //! The clients of a domain.
 ghost use Rattle.std.specs.Prelude.{◌≡◌, ◌≢◌, ◌+◌, ◌-◌, ◌^◌, ◌<◌, ◌≤◌, ℕ, [], ◌∷◌, ◌++◌, find, length, option_map, option_copied, option_and_then, IfOk, OnOk, OnErr, Ok, Err, IsOkUnless, IfSome, IfNone, IsSomeAnd, All, IsTrue, ◌↔◌, false};
 ghost use Rattle.iova_model.specs.Fit.{is_covered};
-ghost use Rattle.iova_model.specs.Clients.{new_client, client_with, begins_at, changed, forgotten, with_holding, without_holding, marked, totals, share_of};
-ghost use Rattle.iova_clients.specs.Registry.{empty_registry, spare_of, IsRegistry, open_refusal, room_refusal, CanBeGiven, held_at, lowest, count_held, IsDone, IsHolder};
+ghost use Rattle.iova_model.specs.Clients.{new_client, client_with, client_of, begins_at, changed, forgotten, with_holding, without_holding, marked, totals, share_of};
+ghost use Rattle.iova_clients.specs.Registry.{empty_registry, spare_of, IsRegistry, open_refusal, room_refusal, CanBeGiven, held_at, lowest, count_held, marks_of, IsDone, IsHolder};
 
 use crate::ledger::Ledger;
 use crate::ledgers::Ledgers;
+use crate::marks::Marks;
 use crate::sums::Sums;
 use iova_model::totals::Totals;
 use iova_range::limits::{MAX_CLIENTS, MAX_FRAMES, MAX_SERIAL, MAX_WORKERS};
@@ -120,6 +121,23 @@ impl Clients {
         ensures registry { IsRegistry self.now }
     {
         self.serial
+    }
+
+    /// The marks of the client, where it is one of this worker. Its ledger is found by what follows with no other
+    /// look-up, until another client is looked up or one comes or goes.
+    #[inline]
+    pub fn look_up(&mut self, worker: u64, id: ClientId) -> Option<Marks>
+        ensures is { result ≡ option_map marks_of (client_of worker id self.old.clients) }
+        ensures unchanged { self.new ≡ self.old }
+    {
+        let ledger = self.ledgers.get_mut(id)?;
+        if ledger.worker() != worker {
+            return None;
+        }
+        Some(Marks {
+            sac: ledger.is_sac(),
+            closing: ledger.is_closing(),
+        })
     }
 
     /// The worker that opened the client.

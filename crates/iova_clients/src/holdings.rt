@@ -3,7 +3,9 @@ ghost use Rattle.std.specs.Prelude.{◌≡◌, ◌<◌, ◌≤◌, ◌+◌, ◌-
 ghost use Rattle.std.specs.List.{insert, remove};
 ghost use Rattle.std.specs.Prelude.{vec_len};
 
-use crate::shifts::{grow, insert_high, insert_low, remove_high, remove_low, room_above, room_below};
+use crate::shifts::{
+    grow, insert_high, insert_low, remove_high, remove_low, room_above, room_below,
+};
 use iova_range::limits::MAX_HOLDINGS;
 use iova_range::range::Range;
 use std::alloc::{AllocError, Global};
@@ -107,9 +109,7 @@ impl Holdings {
         ensures spare { self.new.spare ≡ self.old.spare + 1 }
     {
         let range = self.cells[self.first + place];
-        let cells = self
-            .cells
-            .slice_mut(self.first..self.first + self.count);
+        let cells = self.cells.slice_mut(self.first..self.first + self.count);
         self.count -= 1;
         if place < self.count - place {
             remove_low(cells, place);

@@ -5,6 +5,7 @@ pub mod clients;
 mod holdings;
 mod ledger;
 mod ledgers;
+pub mod marks;
 mod shifts;
 mod sums;
 #[cfg(test)]
