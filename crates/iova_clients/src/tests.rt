@@ -7,11 +7,16 @@ use iova_range::limits::{MAX_CLIENTS, MAX_FRAMES, MAX_HOLDINGS, MAX_SERIAL, MAX_
 use iova_range::range::Range;
 use iova_range::refusal::Refusal;
 use std::alloc::Global;
+use std::io::Print;
 use std::process::Abort;
 use std::test::Fail;
 
 // Opens a client. Where memory is refused once, nothing has changed, and the same call then succeeds.
-fn open(rt: &impl Abort, clients: &mut Clients, worker: u64) -> Result<ClientId, Refusal> {
+fn open(
+    rt: &(impl Abort + Print),
+    clients: &mut Clients,
+    worker: u64,
+) -> Result<ClientId, Refusal> {
     if worker >= MAX_WORKERS {
         return Err(Refusal::NoWorker);
     }
@@ -20,6 +25,7 @@ fn open(rt: &impl Abort, clients: &mut Clients, worker: u64) -> Result<ClientId,
     if answer != Err(Refusal::NoMemory) {
         return answer;
     }
+    let _ = println!(rt; "refused at open");
     assert_eq!(rt; clients.len(), count);
     assert_eq!(rt; clients.serial(), serial);
     clients.open(worker, worker == 7)
@@ -27,7 +33,7 @@ fn open(rt: &impl Abort, clients: &mut Clients, worker: u64) -> Result<ClientId,
 
 // Gives a client a holding. Where memory is refused once, nothing has changed, and the same call then succeeds.
 fn give(
-    rt: &impl Abort,
+    rt: &(impl Abort + Print),
     clients: &mut Clients,
     id: ClientId,
     lo: u64,
@@ -38,6 +44,7 @@ fn give(
     }
     let totals = clients.totals();
     if clients.room(id) == Err(Refusal::NoMemory) {
+        let _ = println!(rt; "refused at room");
         assert_eq!(rt; clients.totals(), totals);
     }
     let Err(Refusal::NotHeld) = clients.take(id, lo) else {
@@ -89,7 +96,7 @@ fn compare(rt: &impl Abort, clients: &Clients, id: ClientId, held: &[bool; 4096]
 // A client is given 4,096 ranges, at the places that `given` says, and gives up the k-th that it was given, with k as `gone`
 // says.
 fn fill_and_empty(
-    rt: &impl Abort,
+    rt: &(impl Abort + Print),
     alloc: Global,
     given: Order,
     gone: Order,
@@ -132,7 +139,7 @@ fn forget(clients: &mut Clients, id: ClientId) -> bool {
 }
 
 // Three clients, the first and the third of worker 4 and the second of worker 5, with five holdings.
-fn three_clients(rt: &impl Abort, alloc: Global) -> Result<Clients, Refusal> {
+fn three_clients(rt: &(impl Abort + Print), alloc: Global) -> Result<Clients, Refusal> {
     let mut clients = Clients::new(alloc);
     for worker in [4, 5, 4] {
         open(rt, &mut clients, worker)?;

@@ -4,6 +4,7 @@ use iova_model::step::{Reply, Step};
 use iova_range::bounds::Bounds;
 use iova_range::profile::Profile;
 use std::alloc::{AllocError, Global};
+use std::io::Print;
 use std::process::Abort;
 use std::test::Fail;
 
@@ -61,13 +62,14 @@ fn copied(alloc: Global, bytes: &[u8]) -> Result<Vec<u8>, AllocError> {
 
 // The report behind these bytes. Where a growth is refused, nothing is appended, and the same call then succeeds.
 fn report_behind(
-    rt: &impl Abort,
+    rt: &(impl Abort + Print),
     alloc: Global,
     front: &[u8],
     domain: &Domain,
 ) -> Result<Vec<u8>, AllocError> {
     let mut out = copied(alloc, front)?;
     if report(domain, &mut out) == Err(Refusal::NoMemory) {
+        let _ = println!(rt; "refused at report");
         assert_eq!(rt; out.as_slice(), front);
         assert_eq!(rt; report(domain, &mut out), Ok(()));
     }

@@ -179,6 +179,7 @@ fn a_refused_growth_is_no_memory(rt: HostRuntime) -> Result<(), Fail> {
         Ok(caches) => caches,
         Err(refusal) => {
             assert_eq!(rt; refusal, Refusal::NoMemory);
+            let _ = println!(rt; "refused at new_for");
             Caches::new_for(rt.alloc(), profile, 2)?
         }
     };

@@ -3,7 +3,7 @@ use super::*;
 use arrayvec::ArrayVec;
 use memchr::memmem;
 use std::cell::Cell;
-use std::io::ErrorKind;
+use std::io::{ErrorKind, Print};
 use std::process::Abort;
 
 /// A reader of bytes, at most `most` of them a call. Its call of number `fail_at` is interrupted.
@@ -136,7 +136,7 @@ fn replayed<R: Read, W: Write>(
 
 /// A replay in which one growth may be refused, wherever that is: it ends, or the step is answered so. No answer changes in
 /// place of that, and the next replay is whole.
-fn settled(rt: &impl Abort, alloc: Global) {
+fn settled(rt: &(impl Abort + Print), alloc: Global) {
     let mut reader = Pieces::whole(TRACE);
     let mut writer = Page::new(4096, 0, Failure::Interrupted);
     match replayed(alloc, &mut reader, &mut writer) {
@@ -147,9 +147,11 @@ fn settled(rt: &impl Abort, alloc: Global) {
             }
             let refused = memmem::find(writer.text.as_slice(), b"no 17 NoMemory\n");
             assert!(rt; refused.is_some());
+            let _ = println!(rt; "refused at step");
         }
         Err(fault) => {
             assert_eq!(rt; fault, ReplayFault::NoMemory);
+            let _ = println!(rt; "refused at replay");
             assert!(rt; writer.text.is_empty());
         }
     }

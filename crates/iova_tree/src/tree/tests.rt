@@ -4,6 +4,7 @@ ghost use Rattle.iova_model.specs.Clients.{insert_rising};
 ghost use Rattle.iova_tree.specs.Space.{ranges_of, IsInside};
 
 use super::*;
+use std::io::Print;
 use std::process::Abort;
 use std::test::Fail;
 
@@ -102,13 +103,14 @@ fn window_limit(rt: HostRuntime) -> Result<(), Fail> {
 }
 
 // Inserts the range. Where the growth is refused, nothing has changed, and the same call then succeeds.
-fn insert_again(rt: &impl Abort, tree: &mut Tree, range: Range) -> Result<(), Refusal>
+fn insert_again(rt: &(impl Abort + Print), tree: &mut Tree, range: Range) -> Result<(), Refusal>
     requires inside { IsInside tree.old.bounds range }
     requires free { is_clear range (ranges_of tree.old) ≡ true }
     ensures { OnOk result (tree.new ≡ record tree.old { inserted = insert_rising range tree.old.inserted }) }
 {
     if let Err(refusal) = tree.insert(range) {
         assert_eq!(rt; refusal, Refusal::NoMemory);
+        let _ = println!(rt; "refused at insert");
         assert!(rt; tree.is_free(range.lo()) && tree.is_free(range.hi()));
         return tree.insert(range);
     }
@@ -122,6 +124,7 @@ fn refused_growth_changes_nothing(rt: HostRuntime) -> Result<(), Fail> {
     for n in 1..21u64 {
         let old = tree.windows().len();
         if tree.reserve(4 * n, 4 * n) == Err(Refusal::NoMemory) {
+            let _ = println!(rt; "refused at reserve");
             assert_eq!(rt; tree.windows().len(), old);
             assert!(rt; tree.is_free(4 * n));
             tree.reserve(4 * n, 4 * n)?;
