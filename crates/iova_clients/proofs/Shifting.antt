@@ -1,5 +1,5 @@
 -- Ranges that move by one cell.
-use Rattle.std.proofs.Common.{◌≡◌, ℕ, zero, suc, ◌+◌, ◌-◌, ◌<◌, ◌≤◌, List, [], ◌∷◌, ◌++◌, length, take, drop, set, insert, remove, get_or, refl, sym, ap, ◌∙◌, add-one, append_assoc, length-drop, append-nil, arith}
+use Rattle.std.proofs.Common.{◌≡◌, ℕ, ◌+◌, ◌-◌, ◌<◌, ◌≤◌, List, [], ◌∷◌, ◌++◌, length, take, drop, set, insert, remove, get_or, refl, sym, ap, ◌∙◌, add-one, append_assoc, length-drop, append-nil, arith}
 use Rattle.std.proofs.lemmas.List.{take_rest, take-take, drop-take, drop_more, drop_all, take_at, drop_at, set_at, length-take-le, length-append, drop-drop, drop-append-le}
 use Rattle.std.proofs.lemmas.List.Edits.{length-remove, length-insert}
 use Rattle.std.proofs.lemmas.Slice.{put_mid-rotated}

@@ -1,5 +1,5 @@
 -- What `Clients` are seen as, and what refuses a call of theirs.
-use Rattle.std.specs.Prelude.{ℕ, ◌≡◌, ◌==◌, ◌+◌, ◌-◌, ◌^◌, ◌<◌, ◌≤◌, Bool, true, nat_le, List, [], ◌∷◌, length, Option, Some, None, Result, Err, unwrap_or, find, option_map, ok_or, slice_get, slice_index_or, if◌then◌else◌}
+use Rattle.std.specs.Prelude.{ℕ, ◌≡◌, ◌==◌, ◌+◌, ◌^◌, ◌<◌, ◌≤◌, Bool, true, nat_le, List, [], ◌∷◌, length, Option, Some, None, Result, Err, unwrap_or, find, option_map, ok_or, slice_get, slice_index_or}
 use Rattle.std.specs.List.{AllByRecursion}
 use Rattle.std.specs.Map.{lookup}
 use Rattle.iova_range.specs.declared.limits.TheConstants.{MAX_WORKERS, MAX_CLIENTS, MAX_HOLDINGS, MAX_SERIAL}

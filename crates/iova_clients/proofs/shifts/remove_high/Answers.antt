@@ -1,4 +1,3 @@
-use Rattle.iova_range.specs.Frames.{Frames}
 use Rattle.iova_clients.proofs.Shifting.{removed_high}
 use Rattle.iova_clients.proofs.shifts.remove_high.Goals as goal
 

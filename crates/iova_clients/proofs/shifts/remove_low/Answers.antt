@@ -1,4 +1,3 @@
-use Rattle.iova_range.specs.Frames.{Frames}
 use Rattle.iova_clients.proofs.Shifting.{removed_low}
 use Rattle.iova_clients.proofs.shifts.remove_low.Goals as goal
 

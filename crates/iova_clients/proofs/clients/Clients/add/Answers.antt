@@ -1,8 +1,8 @@
-use Rattle.std.proofs.Common.{◌≡◌, ◌<◌, ◌≤◌, ◌+◌, ◌-◌, Some, refl, sym, ap, ◌∙◌, arith}
-use Rattle.std.specs.Map.{lookup, set_value}
-use Rattle.iova_model.specs.Clients.{with_holding, changed, insert_rising}
+use Rattle.std.proofs.Common.{◌≡◌, ◌-◌, refl, sym, ap, arith}
+use Rattle.std.specs.Map.{set_value}
+use Rattle.iova_model.specs.Clients.{with_holding}
 use Rattle.iova_clients.specs.Registry.{is_serial, CanBeGiven, IsLow}
-use Rattle.iova_clients.specs.Accounts.{Account, client_at, clients_at, spares_at}
+use Rattle.iova_clients.specs.Accounts.{Account, client_at, clients_at}
 use Rattle.iova_clients.specs.Sums.{with_share, with_one}
 use Rattle.iova_clients.proofs.Changed.{client_some, changed-at, spare_at, spare_same, lookup-set_here, lookup-set_other, found_mut, client_known, mut_there}
 use Rattle.iova_clients.proofs.Kept.{client_is, client_is_low, IsRegistry-changed, IsClient-given, all_inserted}

@@ -1,4 +1,4 @@
-use Rattle.std.proofs.Common.{◌≡◌, Some, None, option_and_then, option_copied, sym, ap, ◌∙◌}
+use Rattle.std.proofs.Common.{option_and_then, option_copied, sym, ap, ◌∙◌}
 use Rattle.std.specs.Prelude.{slice_get}
 use Rattle.iova_clients.specs.Registry.{lowest}
 use Rattle.iova_clients.proofs.Changed.{client_some, client_none}

@@ -1,8 +1,8 @@
-use Rattle.std.proofs.Common.{◌≡◌, refl, sym, ap, ◌∙◌}
+use Rattle.std.proofs.Common.{refl, ap, ◌∙◌}
 use Rattle.std.specs.Map.{remove_entry}
-use Rattle.iova_model.specs.Clients.{client_with, forgotten}
+use Rattle.iova_model.specs.Clients.{client_with}
 use Rattle.iova_clients.specs.Registry.{is_serial, IsDone}
-use Rattle.iova_clients.specs.Accounts.{clients_at, spares_at}
+use Rattle.iova_clients.specs.Accounts.{clients_at}
 use Rattle.iova_clients.proofs.Changed.{forgotten-at, lookup-remove_other, spare_same, spare_none, lookup_none, known_there}
 use Rattle.iova_clients.proofs.Kept.{client_with-forgotten, IsRegistry-forgotten}
 use Rattle.iova_clients.proofs.BooksLemmas.{sums_forgotten}

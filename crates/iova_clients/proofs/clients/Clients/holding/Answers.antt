@@ -1,4 +1,4 @@
-use Rattle.std.proofs.Common.{◌≡◌, Some, None, find, option_and_then, option_copied, refl, sym, ap, ◌∙◌}
+use Rattle.std.proofs.Common.{find, option_and_then, option_copied, refl, sym, ap, ◌∙◌}
 use Rattle.iova_model.specs.Clients.{Client, begins_at}
 use Rattle.iova_clients.proofs.Changed.{client_some, client_none}
 use Rattle.iova_clients.proofs.Kept.{client_is}

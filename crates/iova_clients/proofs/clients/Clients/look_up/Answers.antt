@@ -1,6 +1,6 @@
-use Rattle.std.proofs.Common.{◌≡◌, ◌≢◌, ◌==◌, ℕ, Bool, true, false, cond, Option, Some, None, option_map, option_and_then, refl, sym, ap, ◌∙◌, arith}
+use Rattle.std.proofs.Common.{◌≡◌, ◌≢◌, ◌==◌, ℕ, true, false, Option, Some, None, option_map, option_and_then, refl, sym, ◌∙◌, arith}
 use Rattle.std.proofs.lemmas.Bool.Decides.{nat_tests}
-use Rattle.iova_model.specs.Clients.{Client, if_owned, client_of}
+use Rattle.iova_model.specs.Clients.{Client, if_owned}
 use Rattle.iova_clients.specs.Registry.{marks_of}
 use Rattle.iova_clients.proofs.Changed.{client_some, client_none, set_value_same, found_mut, none_mut}
 use Rattle.iova_clients.proofs.clients.Clients.look_up.Goals as goal

@@ -1,4 +1,4 @@
-use Rattle.std.proofs.Common.{◌≡◌, Some, None, Ok, Err, length, ok_or, refl, sym, ap, ◌∙◌}
+use Rattle.std.proofs.Common.{Ok, length, refl, sym, ap, ◌∙◌}
 use Rattle.std.specs.Result.{result_ok}
 use Rattle.std.proofs.lemmas.Result.{err_from_is_err_and}
 use Rattle.iova_range.specs.declared.refusal.Refusal.TheVariants.{NoClient}

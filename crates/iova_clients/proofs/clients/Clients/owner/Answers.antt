@@ -1,4 +1,4 @@
-use Rattle.std.proofs.Common.{◌≡◌, Some, None, option_map, option_copied, sym, ap, ◌∙◌}
+use Rattle.std.proofs.Common.{Some, option_map, option_copied, sym, ap, ◌∙◌}
 use Rattle.iova_model.specs.Clients.{Client}
 use Rattle.iova_clients.proofs.Changed.{client_some, client_none}
 use Rattle.iova_clients.proofs.clients.Clients.owner.Goals as goal

@@ -1,12 +1,11 @@
-use Rattle.std.proofs.Common.{◌≡◌, ◌≤◌, Some, None, Ok, Err, IfSome, IfNone, IsOkUnless, OnErr, OnOk, refl, sym, ap, ◌∙◌, arith}
+use Rattle.std.proofs.Common.{refl, ap, ◌∙◌, arith}
 use Rattle.std.specs.Result.{result_ok}
 use Rattle.std.specs.Map.{set_value}
 use Rattle.std.proofs.lemmas.Result.{err_from_is_err_and, on_ok_weaker, on_err_weaker}
-use Rattle.iova_range.specs.declared.refusal.Refusal.{Refusal}
-use Rattle.iova_range.specs.declared.refusal.Refusal.TheVariants.{NoClient, NoMemory}
-use Rattle.iova_clients.specs.Registry.{is_serial, room_refusal}
-use Rattle.iova_clients.specs.Accounts.{Account, client_at, clients_at, spares_at}
-use Rattle.iova_clients.proofs.Changed.{client_some, client_none, changed-at, set_value_same, clients-set, spare_at, spare_same, lookup-set_here, lookup-set_other, found_mut, refused_at, none_mut}
+use Rattle.iova_range.specs.declared.refusal.Refusal.TheVariants.{NoClient}
+use Rattle.iova_clients.specs.Registry.{is_serial}
+use Rattle.iova_clients.specs.Accounts.{client_at}
+use Rattle.iova_clients.proofs.Changed.{client_some, client_none, set_value_same, clients-set, spare_at, spare_same, lookup-set_here, lookup-set_other, found_mut, refused_at, none_mut}
 use Rattle.iova_clients.proofs.clients.Clients.room.Goals as goal
 
 pub returns-in_err-ledger-clause-refused : goal.returns-in_err-ledger-clause-refused

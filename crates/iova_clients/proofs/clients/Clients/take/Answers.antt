@@ -1,12 +1,11 @@
-use Rattle.std.proofs.Common.{◌≡◌, ◌+◌, Some, None, Ok, Err, ok_or, find, refl, sym, ap, ◌∙◌, arith}
+use Rattle.std.proofs.Common.{◌≡◌, ◌+◌, Some, None, ok_or, find, refl, sym, ap, ◌∙◌, arith}
 use Rattle.std.specs.Result.{result_ok}
 use Rattle.std.specs.Map.{set_value}
 use Rattle.std.proofs.lemmas.Result.{err_from_is_err_and}
 use Rattle.iova_range.specs.declared.refusal.Refusal.TheVariants.{NoClient, NotHeld}
-use Rattle.iova_range.specs.Frames.{Frames}
 use Rattle.iova_model.specs.Clients.{without_holding, begins_at, remove_at}
 use Rattle.iova_clients.specs.Registry.{is_serial, held_at, IsLow}
-use Rattle.iova_clients.specs.Accounts.{Account, client_at, clients_at, spares_at}
+use Rattle.iova_clients.specs.Accounts.{Account, client_at, clients_at}
 use Rattle.iova_clients.specs.Sums.{with_share, without_one}
 use Rattle.iova_clients.proofs.Changed.{client_some, client_none, changed-at, set_value_same, spare_at, spare_same, lookup-set_here, lookup-set_other, found_mut, refused_at, none_mut}
 use Rattle.iova_clients.proofs.Kept.{client_is, client_is_low, IsRegistry-changed, IsClient-taken, all_removed}

@@ -1,7 +1,6 @@
-use Rattle.std.proofs.Common.{rules, ◌≡◌, ◌<◌, ◌≤◌, ◌+◌, ◌-◌, [], length, take, drop, slice_index_or, OnOk, OnErr, vec_len, ℕ, ◌*◌, ◌/◌, ◌%◌, Bool, true, false, nat_eq, nat_lt, List, ◌∷◌, ◌++◌, slice_set, arith, sym, ◌∙◌, refl}
+use Rattle.std.proofs.Common.{◌≡◌, ◌<◌, ◌≤◌, ◌+◌, ◌-◌, length, drop, arith, sym, ◌∙◌}
 use Rattle.std.proofs.lemmas.List.{length-take}
-use Rattle.std.specs.List.{insert, remove}
-use Rattle.iova_clients.proofs.Shifting.{inserted_below, inserted_above, with_part, refill}
+use Rattle.iova_clients.proofs.Shifting.{inserted_below, inserted_above}
 use Rattle.iova_clients.proofs.holdings.Holdings.insert.Goals as goal
 use Rattle.iova_clients.proofs.holdings.Holdings.insert.Goals.{then-place-count, else-place-count}
 

@@ -1,5 +1,4 @@
-use Rattle.std.proofs.Common.{◌≡◌, ◌<◌, ◌≤◌, ◌+◌, ◌-◌, length, take, drop, arith, sym, ◌∙◌, refl}
-use Rattle.std.specs.List.{remove}
+use Rattle.std.proofs.Common.{◌≡◌, ◌+◌, ◌-◌, length, arith, sym}
 use Rattle.iova_clients.proofs.Shifting.{removed_below}
 use Rattle.iova_clients.proofs.holdings.Holdings.remove.Goals as goal
 

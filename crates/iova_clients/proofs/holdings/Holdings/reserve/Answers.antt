@@ -1,4 +1,4 @@
-use Rattle.std.proofs.Common.{◌≡◌, ◌<◌, ◌≤◌, ◌+◌, ◌-◌, length, take, drop, arith, sym, ◌∙◌, refl}
+use Rattle.std.proofs.Common.{arith, sym}
 use Rattle.iova_clients.proofs.Shifting.{grown}
 use Rattle.iova_clients.proofs.holdings.Holdings.reserve.Goals as goal
 

@@ -1,4 +1,4 @@
-use Rattle.std.proofs.Common.{◌≡◌, Some, sym, ap, ◌∙◌}
+use Rattle.std.proofs.Common.{Some, sym, ap, ◌∙◌}
 use Rattle.iova_clients.proofs.Rising.{find_at}
 use Rattle.iova_clients.proofs.ledger.Ledger.holding.Goals as goal
 

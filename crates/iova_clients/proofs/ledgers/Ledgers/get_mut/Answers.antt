@@ -1,4 +1,4 @@
-use Rattle.std.proofs.Common.{refl, sym, ap, ◌∙◌, inl, Some, None}
+use Rattle.std.proofs.Common.{refl, sym, ◌∙◌, inl, Some, None}
 use Rattle.slab.specs.Slab.{get as at_key, with_value}
 use Rattle.slab.proofs.SlabLemmas.{Updates-with_value}
 use Rattle.iova_clients.specs.Registry.{is_serial}

@@ -1,7 +1,7 @@
 use Rattle.std.proofs.Common.{◌≡◌, ◌∙◌, ◌<◌, [], ◌∷◌, ◌++◌, ap, sym}
 use Rattle.std.specs.List.{AllByRecursion}
 use Rattle.slab.specs.Slab.{get as at_key}
-use Rattle.iova_clients.specs.Accounts.{Account, listed, AreKeyed}
+use Rattle.iova_clients.specs.Accounts.{listed, AreKeyed}
 use Rattle.iova_clients.proofs.Listed.{listed_pushed, keyed_pushed}
 use Rattle.iova_clients.proofs.ledgers.Ledgers.push.Goals as goal
 

@@ -1,4 +1,4 @@
-use Rattle.std.proofs.Common.{◌≡◌, ◌∙◌, ap, sym, Some, None}
+use Rattle.std.proofs.Common.{◌∙◌, ap, sym, Some, None}
 use Rattle.slab.specs.Slab.{get as at_key}
 use Rattle.iova_clients.specs.Registry.{is_serial}
 use Rattle.iova_clients.specs.Accounts.{listed}
