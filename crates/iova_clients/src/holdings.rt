@@ -19,8 +19,8 @@ const MAX_CELLS: usize = MAX_HOLDINGS + MAX_HOLDINGS / 4;
 const SOME_CELLS: usize = 8;
 
 /// Ranges in a row, as one slice. A range that comes in or goes moves those between it and the nearer end by one cell.
-/// Only where that end of the block is reached do all of them move, to its middle; that many more come and go before it is
-/// reached again as are a part of all.
+/// Only where that end of the block has no spare cell do all of them move, to the middle: an eighth as many come in before
+/// that happens again.
 #[derive(Drop)]
 pub(crate) struct Holdings {
     cells: Vec<Range>,
@@ -58,23 +58,22 @@ impl Holdings {
         &self.cells.as_slice()[self.first..self.first + self.count]
     }
 
-    /// Makes room for one range more.
+    /// Makes room for one range more. Where fewer than a quarter as many cells are spare the block grows; where memory is
+    /// refused the spare cells that there are do.
     pub(crate) fn reserve(&mut self) -> Result<(), AllocError>
         requires { length self.old.ranges < MAX_HOLDINGS }
         ensures spare { OnOk result (1 ≤ self.new.spare) }
+        ensures few_cells { length self.new.ranges + self.new.spare ≤ MAX_CELLS }
         ensures grows { self.old.spare ≤ self.new.spare }
         ensures ranges { self.new.ranges ≡ self.old.ranges }
         ensures starved { OnErr result (self.old.spare ≡ 0) }
         ensures unchanged { OnErr result (self.new ≡ self.old) }
     {
         let cells = self.cells.len();
-        if self.count / 8 < cells - self.count {
+        if self.count / 4 < cells - self.count {
             return Ok(());
         }
         let more = (2 * cells).max(SOME_CELLS).min(MAX_CELLS);
-        if more <= cells {
-            return Ok(());
-        }
         match grow(&mut self.cells, more) {
             Err(refused) if self.count == cells => Err(refused),
             _ => Ok(()),
