@@ -1,7 +1,6 @@
 //! The holdings of one client, in a block of cells with room at both ends.
-ghost use Rattle.std.specs.Prelude.{◌≡◌, ◌<◌, ◌≤◌, ◌+◌, ◌-◌, [], length, take, drop, slice_index_or, OnOk, OnErr};
+ghost use Rattle.std.specs.Prelude.{◌≡◌, ◌<◌, ◌≤◌, ◌+◌, ◌-◌, [], length, take, drop, slice_index_or, OnOk, OnErr, vec_len};
 ghost use Rattle.std.specs.List.{insert, remove};
-ghost use Rattle.std.specs.Prelude.{vec_len};
 
 use crate::shifts::{
     grow, insert_high, insert_low, remove_high, remove_low, room_above, room_below,
@@ -11,8 +10,8 @@ use iova_range::range::Range;
 use std::alloc::{AllocError, Global};
 use std::marker::Model;
 
-/// The most cells of a block: a quarter more than a client's holdings, so that where one end is full the other has room
-/// enough for it to take long until all of them move again.
+/// The most cells of a block: a quarter more than a client's holdings. With a cell of 16 bytes that is 20 bytes a holding
+/// where there are as many as may be.
 const MAX_CELLS: usize = MAX_HOLDINGS + MAX_HOLDINGS / 4;
 
 /// The cells of the first block.
@@ -58,8 +57,8 @@ impl Holdings {
         &self.cells.as_slice()[self.first..self.first + self.count]
     }
 
-    /// Makes room for one range more. Where fewer than a quarter as many cells are spare the block grows; where memory is
-    /// refused the spare cells that there are do.
+    /// Makes room for one range more. Where at most a quarter as many cells as ranges are spare the block grows; where memory
+    /// is refused, the spare cells that there are do.
     pub(crate) fn reserve(&mut self) -> Result<(), AllocError>
         requires { length self.old.ranges < MAX_HOLDINGS }
         ensures spare { OnOk result (1 ≤ self.new.spare) }

@@ -1,3 +1,4 @@
+//! The ledger of one client.
 ghost use Rattle.std.specs.Prelude.{◌≡◌, ◌≤◌, ◌+◌, ◌-◌, false, true, [], find, Some, Err, OnOk, OnErr, OnSome, IfSome, IfNone, None, IsOkUnless};
 ghost use Rattle.iova_model.specs.Fit.{is_covered};
 ghost use Rattle.iova_model.specs.Clients.{insert_rising, begins_at, remove_at};

@@ -1,3 +1,4 @@
+//! The ledgers of all clients.
 ghost use Rattle.std.specs.Prelude.{◌≡◌, ◌<◌, [], ◌∷◌, ◌++◌, find, option_map, option_copied, length, OnOk, OnErr, IsOkUnless};
 ghost use Rattle.std.specs.Option.{option_copied_mut};
 ghost use Rattle.std.specs.Borrow.{sem};

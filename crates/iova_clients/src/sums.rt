@@ -1,3 +1,4 @@
+//! The totals that are kept as numbers.
 ghost use Rattle.std.specs.Prelude.{◌≡◌, ◌<◌, ◌≤◌, ◌+◌, ◌^◌, replicate, length};
 ghost use Rattle.iova_clients.specs.Sums.{no_totals, with_one, without_one, share_at, with_share, HaveRoom, Include};
 

@@ -1,3 +1,4 @@
+//! The clients and their ledgers, with memory at hand and with one growth refused.
 ghost use Rattle.std.specs.Prelude.{◌<◌};
 
 use crate::marks::Marks;
