@@ -64,6 +64,15 @@ abbrev pub held_at : ℕ → Option Client → Result Frames Refusal
 held_at lo None = Err refusal.NoClient
 held_at lo (Some c) = ok_or (find (begins_at lo) c.holdings) refusal.NotHeld
 
+-- the holdings from this place on begin above `lo`
+abbrev pub AllBehind : ℕ → ℕ → List Frames → Type 0
+AllBehind place lo holdings = (k : ℕ) (d : Frames) → place ≤ k → k < length holdings → lo < (slice_index_or holdings k d).lo
+
+-- those before this place begin at `lo` or below, and the others above
+pub record IsReach (lo : ℕ) (holdings : List Frames) (place : ℕ) : Type 0 where
+  pub before : (k : ℕ) (d : Frames) → k < place → (slice_index_or holdings k d).lo ≤ lo
+  pub behind : AllBehind place lo holdings
+
 -- the holding at this place begins there
 pub record StandsAt (lo : ℕ) (holdings : List Frames) (place : ℕ) : Type 0 where
   pub within : place < length holdings

@@ -1,9 +1,9 @@
 //! The ledger of one client.
-ghost use Rattle.std.specs.Prelude.{◌≡◌, ◌≤◌, ◌+◌, ◌-◌, false, true, [], find, Some, Err, OnOk, OnErr, OnSome, IfSome, IfNone, None, IsOkUnless};
+ghost use Rattle.std.specs.Prelude.{◌≡◌, ◌≤◌, ◌+◌, ◌-◌, false, true, [], find, length, Some, Err, OnOk, OnErr, OnSome, IfSome, IfNone, None, IsOkUnless};
 ghost use Rattle.iova_model.specs.Fit.{is_covered};
 ghost use Rattle.iova_model.specs.Clients.{insert_rising, begins_at, remove_at};
 ghost use Rattle.iova_model.specs.Valid.{Rises};
-ghost use Rattle.iova_clients.specs.Registry.{room_refusal, StandsAt};
+ghost use Rattle.iova_clients.specs.Registry.{room_refusal, StandsAt, IsReach, AllBehind};
 ghost use Rattle.iova_clients.specs.Accounts.{client_at};
 
 use crate::holdings::Holdings;
@@ -34,6 +34,24 @@ impl Model for Ledger {
       holdings = l.holdings.ranges;
       spare = l.holdings.spare;
     } };
+}
+
+/// The least number of holdings that are searched.
+const NEAR: usize = 128;
+
+/// A number of holdings from the first on, behind which none begins there or below. New holdings come in front, so the
+/// first ones are looked at before all are.
+#[inline]
+fn reach_at_most(holdings: &[Range], lo: u64) -> usize
+    requires { Rises 0 holdings.now }
+    ensures within { result ≤ length holdings.now }
+    ensures behind { AllBehind result lo holdings.now }
+{
+    let mut end = NEAR;
+    while end < holdings.len() && holdings[end].lo() <= lo {
+        end *= 2;
+    }
+    end.min(holdings.len())
 }
 
 impl Ledger {
@@ -106,16 +124,23 @@ impl Ledger {
         }
     }
 
+    /// How many holdings begin there or below.
+    fn reach(&self, lo: u64) -> usize
+        requires { Rises 0 self.now.holdings }
+        ensures within { result ≤ length self.now.holdings }
+        ensures reached { IsReach lo self.now.holdings result }
+    {
+        let holdings = self.holdings.as_slice();
+        holdings[..reach_at_most(holdings, lo)].partition_point(|held| held.lo() <= lo)
+    }
+
     /// Takes the range in at its place.
     pub(crate) fn add(&mut self, range: Range)
         requires spare { 1 ≤ self.old.spare }
         requires rises { Rises 0 self.old.holdings }
         ensures { self.new ≡ record self.old { holdings = insert_rising range self.old.holdings; spare = self.old.spare - 1 } }
     {
-        let place = self
-            .holdings
-            .as_slice()
-            .partition_point(|held| held.lo() <= range.lo());
+        let place = self.reach(range.lo());
         self.holdings.insert(place, range);
     }
 
@@ -126,13 +151,17 @@ impl Ledger {
         ensures held { IfSome result (StandsAt lo self.now.holdings) }
         ensures none { IfNone result (find (begins_at lo) self.now.holdings ≡ None) }
     {
-        let holdings = self.holdings.as_slice();
-        if let Some(first) = holdings.first()
+        if let Some(first) = self.holdings().first()
             && first.lo() == lo
         {
             return Some(0);
         }
-        holdings.binary_search_by_key(&lo, |held| held.lo()).ok()
+        let place = self.reach(lo).checked_sub(1)?;
+        if self.holdings()[place].lo() == lo {
+            Some(place)
+        } else {
+            None
+        }
     }
 
     /// The holding that begins there.

@@ -1,23 +1,22 @@
-use Rattle.std.proofs.Common.{rules, of_calls, ◌≡◌}
-use Rattle.std.specs.Ordering.{nat_cmp}
-use Rattle.std.specs.List.Sorted.{IsBinarySearchResult}
-use Rattle.std.proofs.lemmas.Fn.{always_returns_same}
+use Rattle.std.proofs.Common.{◌≡◌, ◌≢◌, ◌<◌, ◌+◌, get_or, length, ap, ◌∙◌, arith}
 use Rattle.iova_range.specs.Frames.{Frames}
-use Rattle.iova_clients.proofs.Rising.{placed_some, placed_none}
+use Rattle.iova_clients.specs.Registry.{IsReach}
+use Rattle.iova_clients.proofs.Rising.{none_reached, none_last}
 use Rattle.iova_clients.proofs.ledger.Ledger.place_of.Goals as goal
 
-pub returns-2-clause-held : goal.returns-2-clause-held
-returns-2-clause-held c =
-    let l = c.self.inside in
-    let same : c.as_slice-holdings.result.now ≡ l.holdings.ranges = c.as_slice-holdings.ensures in
-    let found : IsBinarySearchResult (λ (x : Frames). nat_cmp x.lo c.args.lo) c.as_slice-holdings.result.now c.binary_search_by_key.result =
-    c.binary_search_by_key.ensures.position (λ (x : Frames). x.lo) (always_returns_same _ _ _ (λ a r f k. search (rules, of_calls))) in
-    rw (← c.self.view_is) (placed_some c.args.lo l.holdings.ranges c.binary_search_by_key.result c.ok.result (rw same at found) (rw same at c.binary_search_by_key.ensures.bound) c.ok.ensures.value)
+pub returns-in_err-place-clause-none : goal.returns-in_err-place-clause-none
+returns-in_err-place-clause-none c =
+    let zero : c.reach.result ≡ 0 = omega (arith, c.in_err-place.ensures) in
+    rw c.from_residual.ensures (none_reached c.args.lo c.args.self.now.holdings (rw zero at c.reach.ensures.reached))
 
-pub returns-2-clause-none : goal.returns-2-clause-none
-returns-2-clause-none c =
-    let l = c.self.inside in
-    let same : c.as_slice-holdings.result.now ≡ l.holdings.ranges = c.as_slice-holdings.ensures in
-    let found : IsBinarySearchResult (λ (x : Frames). nat_cmp x.lo c.args.lo) c.as_slice-holdings.result.now c.binary_search_by_key.result =
-    c.binary_search_by_key.ensures.position (λ (x : Frames). x.lo) (always_returns_same _ _ _ (λ a r f k. search (rules, of_calls))) in
-    rw (← c.self.view_is) (placed_none c.args.lo l.holdings.ranges c.binary_search_by_key.result c.ok.result (rw (← c.self.view_is) at c.requires) (rw same at found) c.ok.ensures.value)
+pub returns-else-lo-2-clause-none : goal.returns-else-lo-2-clause-none
+returns-else-lo-2-clause-none c =
+    let rs = c.args.self.now.holdings in
+    let x = c.index-holdings-place.result in
+    let place = c.in_ok-place.place in
+    let more : c.reach.result ≡ place + 1 = omega (arith, c.in_ok-place.ensures.0, c.in_ok-place.ensures.1) in
+    let within : place < length rs = omega (arith, c.reach.ensures.within) in
+    let is : x ≡ get_or rs place x = rw c.holdings-2.ensures at c.index-holdings-place.is in
+    let other : (get_or rs place x).lo ≢ c.args.lo = λ e. c.if-lo-2.false (c.lo-2.ensures ∙ (ap (λ (f : Frames). f.lo) is ∙ e)) in
+    let reached : IsReach c.args.lo rs (place + 1) = rw more at c.reach.ensures.reached in
+    none_last c.args.lo place rs x c.requires reached within other
