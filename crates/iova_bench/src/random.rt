@@ -1,3 +1,4 @@
+//! Numbers from a fixed seed.
 ghost use Rattle.std.specs.Prelude.{◌<◌};
 
 /// A generator of numbers from a fixed seed: Steele, Lea and Flood's SplitMix64.

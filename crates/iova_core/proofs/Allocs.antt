@@ -20,7 +20,7 @@ use Rattle.iova_depot.specs.Cached.{Cached}
 use Rattle.iova_core.specs.declared.walk.Found.{Found}
 use Rattle.iova_core.specs.Stock.{Exchanges}
 use Rattle.iova_core.specs.Domain.{Parts, state_of, IsDomain}
-use Rattle.iova_core.specs.Walk.{Stands, Comes, point_of, placed, found_as}
+use Rattle.iova_core.specs.Walk.{ArePartsOf, Comes, point_of, placed, found_as}
 use Rattle.iova_core.proofs.Outcomes.{owner_is}
 use Rattle.iova_core.proofs.Queues.{inserted_load}
 use Rattle.iova_core.proofs.Reductions.{room_refusal_of, alloc_walks}
@@ -92,8 +92,8 @@ begins_itself r = let e : (r.lo == r.lo) ≡ true = grind (arith, nat_tests) in 
 
 -- The walk of a request that may be asked.
 module _ (p : Parts) (h : IsDomain p) (w id frames limit : ℕ) (c : Client) (asked : IsAsked (state_of p) w id frames c) (tree : Space) (cached : Cached) (f : Found)
-    (comes : (s : State) → Stands p.tree p.cached.caches s → Comes (next.walk s w c.sac (need frames) limit (point_of f)) f cached.caches) (elsewhere : point_of f ≢ point.Ledger) (ex : Exchanges p.tree tree p.cached cached (placed f) []) where
-  stands : Stands p.tree p.cached.caches (state_of p)
+    (comes : (s : State) → ArePartsOf p.tree p.cached.caches s → Comes (next.walk s w c.sac (need frames) limit (point_of f)) f cached.caches) (elsewhere : point_of f ≢ point.Ledger) (ex : Exchanges p.tree tree p.cached cached (placed f) []) where
+  stands : ArePartsOf p.tree p.cached.caches (state_of p)
   stands = record { bounds = refl; windows = refl; cached = refl; tied = h.tied }
 
   not_ledger : (m : Point) → m ≢ point.Ledger → next.is_at point.Ledger m ≡ false

@@ -34,8 +34,8 @@ module _ (s : State) (w : ℕ) (sac : Bool) where
       let n : Next = record { reply = reply.Opened (s.serial + 1); state = opened s w sac } in
       unless-append tests memory s n ∙ unless_taken tests s (unless memory s n) (rw known is)
 
-  pub open_starved : no_worker s w ≡ false → open_refusal_of s ≡ None → open_client s w sac point.Once ≡ refused refusal.NoMemory s
-  open_starved known is = open_none point.Once known is
+  pub open_no_memory : no_worker s w ≡ false → open_refusal_of s ≡ None → open_client s w sac point.Once ≡ refused refusal.NoMemory s
+  open_no_memory known is = open_none point.Once known is
 
   pub open_taken : no_worker s w ≡ false → open_refusal_of s ≡ None → open_client s w sac point.Never ≡ record { reply = reply.Opened (s.serial + 1); state = opened s w sac }
   open_taken known is = open_none point.Never known is
@@ -69,8 +69,8 @@ module _ (s : State) (w id frames limit : ℕ) where
       let n = given_by (walk s w c.sac (need frames) limit m) id (need frames) in
       alloc_none m (Some c) is client ∙ (unless-append tests memory s n ∙ unless_taken tests s (unless memory s n) room)
 
-  pub alloc_ledger_starved : (c : Client) → first_refusal (alloc_tests s w frames) ≡ None → client_of w id s.clients ≡ Some c → room_refusal_of c ≡ None → alloc s w id frames limit point.Ledger ≡ refused refusal.NoMemory s
-  alloc_ledger_starved c is client room = alloc_room point.Ledger c is client room
+  pub alloc_ledger_no_memory : (c : Client) → first_refusal (alloc_tests s w frames) ≡ None → client_of w id s.clients ≡ Some c → room_refusal_of c ≡ None → alloc s w id frames limit point.Ledger ≡ refused refusal.NoMemory s
+  alloc_ledger_no_memory c is client room = alloc_room point.Ledger c is client room
 
   pub alloc_walks : (m : Point) (c : Client) → first_refusal (alloc_tests s w frames) ≡ None → client_of w id s.clients ≡ Some c → room_refusal_of c ≡ None → is_at point.Ledger m ≡ false
       → alloc s w id frames limit m ≡ given_by (walk s w c.sac (need frames) limit m) id (need frames)

@@ -17,7 +17,7 @@ use Rattle.iova_core.specs.declared.walk.Found.{Found}
 use Rattle.iova_core.specs.declared.walk.Found.TheVariants as found
 use Rattle.iova_core.specs.Stock.{HasAll, IsStock, Exchanges}
 use Rattle.iova_core.specs.Tied.{IsTied}
-use Rattle.iova_core.specs.Walk.{get_cached, Places, Stands, Comes, point_of, placed, found_as, IsPlacedOf, IsTryPoint, IsPointFrom}
+use Rattle.iova_core.specs.Walk.{get_cached, Places, ArePartsOf, Comes, point_of, placed, found_as, IsPlacedOf, IsTryPoint, IsPointFrom}
 use Rattle.iova_core.proofs.Covered.{covered_alike}
 use Rattle.iova_core.proofs.Given.{some_alike}
 use Rattle.iova_core.proofs.Stocks.{cached_sum}
@@ -39,7 +39,7 @@ some_append (x ∷ xs) ys a b = (a.0, some_append xs ys a.1 b)
 pub space_some : (tree : Space) → IsSpace tree → AreSome (ranges_of tree)
 space_some tree space = some_append tree.windows tree.inserted (rise_some tree.bounds.start (tree.bounds.last + 1) tree.windows space.windows) (rise_some tree.bounds.start (tree.bounds.last + 1) tree.inserted space.inserted)
 
-pub best_same : (tree : Space) (c : Caches) (s : State) (size limit : ℕ) → 1 ≤ size → IsSpace tree → Stands tree c s → next.best_place s size limit ≡ best tree.bounds (ranges_of tree) size limit
+pub best_same : (tree : Space) (c : Caches) (s : State) (size limit : ℕ) → 1 ≤ size → IsSpace tree → ArePartsOf tree c s → next.best_place s size limit ≡ best tree.bounds (ranges_of tree) size limit
 best_same tree c s size limit some space stands =
     let ranges = ranges_of tree in
     let all = space_some tree space in
@@ -51,8 +51,8 @@ best_same tree c s size limit some space stands =
 
 -- A state with other caches.
 
-pub stands_with : (tree tree' : Space) (c c' : Caches) (s : State) → Stands tree c s → tree'.bounds ≡ tree.bounds → tree'.windows ≡ tree.windows
-    → ((weigh : Frames → ℕ) → sum_by weigh tree'.inserted + weight.cached weigh c ≡ sum_by weigh tree.inserted + weight.cached weigh c') → Stands tree' c' (next.with_caches s c')
+pub stands_with : (tree tree' : Space) (c c' : Caches) (s : State) → ArePartsOf tree c s → tree'.bounds ≡ tree.bounds → tree'.windows ≡ tree.windows
+    → ((weigh : Frames → ℕ) → sum_by weigh tree'.inserted + weight.cached weigh c ≡ sum_by weigh tree.inserted + weight.cached weigh c') → ArePartsOf tree' c' (next.with_caches s c')
 stands_with tree tree' c c' s stands bounds windows balance =
     let t = next.with_caches s c' in
     let ranges : s.windows ++ tree.inserted ≡ ranges_of tree = ap (λ l. l ++ tree.inserted) stands.windows in
@@ -137,7 +137,7 @@ exchanges_placed None here size tree tree' c found.Nowhere space cached h = reco
   balance = λ weigh. ap (λ (t : Space). sum_by weigh t.inserted + sum_by weigh (cached_ranges c.caches) + sum_by weigh []) h;
 }
 exchanges_placed None here size tree tree' c (found.Placed r) space cached h = absurd h
-exchanges_placed None here size tree tree' c (found.Starved m) space cached h = absurd h
+exchanges_placed None here size tree tree' c (found.OutOfMemory m) space cached h = absurd h
 exchanges_placed (Some lo) here size tree tree' c found.Nowhere space cached h = absurd h
 exchanges_placed (Some lo) here size tree tree' c (found.Placed r) space cached h = record {
   space = space;
@@ -150,7 +150,7 @@ exchanges_placed (Some lo) here size tree tree' c (found.Placed r) space cached 
       let e : sum_by weigh tree'.inserted ≡ sum_by weigh (insert_rising r tree.inserted) = ap (λ (t : Space). sum_by weigh t.inserted) h.1 in
       omega (arith, e, weight.ranges_are weigh (insert_rising r tree.inserted), weight.ranges_are weigh tree.inserted, weight.ranges-insert weigh r tree.inserted, weight.ranges_are weigh [], weight.ranges_are weigh (r ∷ []));
 }
-exchanges_placed (Some lo) here size tree tree' c (found.Starved m) space cached h = record {
+exchanges_placed (Some lo) here size tree tree' c (found.OutOfMemory m) space cached h = record {
   space = space;
   cached = cached;
   bounds = ap (λ (t : Space). t.bounds) h.1;
@@ -202,23 +202,23 @@ at_here here (inr e) = rw e (refl, refl)
 tree_gives : (s : State) (o : Option ℕ) (here : Point) (size : ℕ) (old new : Space) (f : Found) → IsTryPoint here ⊎ (here ≡ point.Last) → Places o here size old new f → Comes (next.from_tree s o (next.is_at here (point_of f))) f s.caches
 tree_gives s None here size old new found.Nowhere own h = record { found = refl; left = refl }
 tree_gives s None here size old new (found.Placed r) own h = absurd h
-tree_gives s None here size old new (found.Starved m) own h = absurd h
+tree_gives s None here size old new (found.OutOfMemory m) own h = absurd h
 tree_gives s (Some lo) here size old new found.Nowhere own h = absurd h
 tree_gives s (Some lo) here size old new (found.Placed r) own h =
     let at : lo ≡ r.lo = sym (ap (λ (x : Frames). x.lo) h.0) in
     record { found = rw (at_here here own).1 (ap next.At at); left = refl }
-tree_gives s (Some lo) here size old new (found.Starved m) own h = record { found = rw (h.0, (at_here here own).0) refl; left = refl }
+tree_gives s (Some lo) here size old new (found.OutOfMemory m) own h = record { found = rw (h.0, (at_here here own).0) refl; left = refl }
 
 -- the tree alone is asked again only where nothing was found, and only where emptying is allowed
-emptied_not : (x : next.Found) (s : State) (size limit : ℕ) (emptying starved : Bool) → (x ≡ next.Nowhere → emptying ≡ false) → next.or_emptied x s size limit emptying starved ≡ record { found = x; state = s }
-emptied_not next.Nowhere s size limit true starved h = absurd (let e : true ≡ false = h refl in cc)
-emptied_not next.Nowhere s size limit false starved h = refl
-emptied_not (next.At lo) s size limit emptying starved h = refl
-emptied_not next.OutOfMemory s size limit emptying starved h = refl
+emptied_not : (x : next.Found) (s : State) (size limit : ℕ) (emptying no_memory : Bool) → (x ≡ next.Nowhere → emptying ≡ false) → next.or_emptied x s size limit emptying no_memory ≡ record { found = x; state = s }
+emptied_not next.Nowhere s size limit true no_memory h = absurd (let e : true ≡ false = h refl in cc)
+emptied_not next.Nowhere s size limit false no_memory h = refl
+emptied_not (next.At lo) s size limit emptying no_memory h = refl
+emptied_not next.OutOfMemory s size limit emptying no_memory h = refl
 
-tree_state : (s : State) (o : Option ℕ) (starved : Bool) → (next.from_tree s o starved).state ≡ s
-tree_state s None starved = refl
-tree_state s (Some lo) starved = refl
+tree_state : (s : State) (o : Option ℕ) (no_memory : Bool) → (next.from_tree s o no_memory).state ≡ s
+tree_state s None no_memory = refl
+tree_state s (Some lo) no_memory = refl
 
 -- nothing is found where the best place is none
 pub places_none : (o : Option ℕ) (here : Point) (size : ℕ) (old new : Space) → Places o here size old new found.Nowhere → (o ≡ None) × (new ≡ old)
@@ -231,7 +231,7 @@ asked s c w size limit = next.with_caches s (get_cached c w size limit (order_of
 
 module _ (s : State) (c : Caches) (w size limit : ℕ) (cached : s.caches ≡ c) (miss : None ≡ (get_cached c w size limit (order_of size)).0) where
   -- what the tree gives at once
-  pub comes_tree : (tree tree' : Space) (emptying : Bool) (here : Point) (f : Found) (left : Caches) → 1 ≤ size → IsSpace tree → Stands tree (get_cached c w size limit (order_of size)).1 (asked s c w size limit) → left ≡ (get_cached c w size limit (order_of size)).1
+  pub comes_tree : (tree tree' : Space) (emptying : Bool) (here : Point) (f : Found) (left : Caches) → 1 ≤ size → IsSpace tree → ArePartsOf tree (get_cached c w size limit (order_of size)).1 (asked s c w size limit) → left ≡ (get_cached c w size limit (order_of size)).1
       → IsTryPoint here → Places (best tree.bounds (ranges_of tree) size limit) here size tree tree' f → (found_as f ≡ next.Nowhere → emptying ≡ false) → Comes (next.try s w size limit emptying here (point_of f)) f left
   comes_tree tree tree' emptying here f left some space stands now own h ends =
       let m = point_of f in
@@ -245,8 +245,8 @@ module _ (s : State) (c : Caches) (w size limit : ℕ) (cached : s.caches ≡ c)
       }
 
   -- what it gives once the caches are emptied
-  pub comes_emptied : (tree tree' last : Space) (here : Point) (f : Found) (left : Caches) → 1 ≤ size → IsSpace tree → Stands tree (get_cached c w size limit (order_of size)).1 (asked s c w size limit) → best tree.bounds (ranges_of tree) size limit ≡ None
-      → IsSpace tree' → Stands tree' (emptied (get_cached c w size limit (order_of size)).1) (next.with_caches (asked s c w size limit) (emptied (get_cached c w size limit (order_of size)).1)) → left ≡ emptied (get_cached c w size limit (order_of size)).1
+  pub comes_emptied : (tree tree' last : Space) (here : Point) (f : Found) (left : Caches) → 1 ≤ size → IsSpace tree → ArePartsOf tree (get_cached c w size limit (order_of size)).1 (asked s c w size limit) → best tree.bounds (ranges_of tree) size limit ≡ None
+      → IsSpace tree' → ArePartsOf tree' (emptied (get_cached c w size limit (order_of size)).1) (next.with_caches (asked s c w size limit) (emptied (get_cached c w size limit (order_of size)).1)) → left ≡ emptied (get_cached c w size limit (order_of size)).1
       → Places (best tree'.bounds (ranges_of tree') size limit) point.Last size tree' last f → Comes (next.try s w size limit true here (point_of f)) f left
   comes_emptied tree tree' last here f left some space stands none space' stands' now h =
       let m = point_of f in
@@ -267,23 +267,23 @@ module _ (s : State) (c : Caches) (w size limit : ℕ) (cached : s.caches ≡ c)
 pub as_nowhere : (f : Found) → found_as f ≡ next.Nowhere → f ≡ found.Nowhere
 as_nowhere found.Nowhere e = refl
 as_nowhere (found.Placed r) e = absurd cc
-as_nowhere (found.Starved m) e = absurd cc
+as_nowhere (found.OutOfMemory m) e = absurd cc
 
 pub places_size : (o : Option ℕ) (here : Point) (size : ℕ) (old new : Space) (f : Found) → Places o here size old new f → IsPlacedOf size f
 places_size None here size old new found.Nowhere h = tt
 places_size None here size old new (found.Placed r) h = absurd h
-places_size None here size old new (found.Starved m) h = absurd h
+places_size None here size old new (found.OutOfMemory m) h = absurd h
 places_size (Some lo) here size old new found.Nowhere h = absurd h
 places_size (Some lo) here size old new (found.Placed r) h = ap (λ (x : Frames). x.len) h.0
-places_size (Some lo) here size old new (found.Starved m) h = tt
+places_size (Some lo) here size old new (found.OutOfMemory m) h = tt
 
 pub places_point : (o : Option ℕ) (here : Point) (size : ℕ) (old new : Space) (f : Found) → Places o here size old new f → (point_of f ≡ point.Never) ⊎ (point_of f ≡ here)
 places_point None here size old new found.Nowhere h = inl refl
 places_point None here size old new (found.Placed r) h = absurd h
-places_point None here size old new (found.Starved m) h = absurd h
+places_point None here size old new (found.OutOfMemory m) h = absurd h
 places_point (Some lo) here size old new found.Nowhere h = absurd h
 places_point (Some lo) here size old new (found.Placed r) h = inl refl
-places_point (Some lo) here size old new (found.Starved m) h = inr h.0
+places_point (Some lo) here size old new (found.OutOfMemory m) h = inr h.0
 
 pub point_here : (here m : Point) → (m ≡ point.Never) ⊎ (m ≡ here) → IsPointFrom here m
 point_here here m (inl e) = inl e
@@ -307,13 +307,13 @@ module _ (tree : Space) (c d : Cached) (w size limit : ℕ) (stock : IsStock tre
       let made : Caches → Cached = λ x. record c { caches = x } in
       exchanges_got tree c d size None stock.space (cached stock.cached) missed (now ∙ ap made (sym left_is))
 
-  pub missed_stands : (s : State) → Stands tree c.caches s → Stands tree (get_cached c.caches w size limit (order_of size)).1 (asked s c.caches w size limit)
+  pub missed_stands : (s : State) → ArePartsOf tree c.caches s → ArePartsOf tree (get_cached c.caches w size limit (order_of size)).1 (asked s c.caches w size limit)
   missed_stands s stands =
       stands_with tree tree c.caches (get_cached c.caches w size limit (order_of size)).1 s stands refl refl (λ weigh. omega (arith, missed weigh, ap (weight.cached weigh) left_is))
 
   -- and are emptied
-  pub emptied_stands : (tree' : Space) (e : Cached) (s : State) → Stands tree c.caches s → e ≡ record d { caches = emptied d.caches } → Exchanges tree tree' d e [] []
-      → Stands tree' (emptied (get_cached c.caches w size limit (order_of size)).1) (next.with_caches (asked s c.caches w size limit) (emptied (get_cached c.caches w size limit (order_of size)).1))
+  pub emptied_stands : (tree' : Space) (e : Cached) (s : State) → ArePartsOf tree c.caches s → e ≡ record d { caches = emptied d.caches } → Exchanges tree tree' d e [] []
+      → ArePartsOf tree' (emptied (get_cached c.caches w size limit (order_of size)).1) (next.with_caches (asked s c.caches w size limit) (emptied (get_cached c.caches w size limit (order_of size)).1))
   emptied_stands tree' e s stands is ex =
       let g = (get_cached c.caches w size limit (order_of size)).1 in
       let e_is : e.caches ≡ emptied g = ap (λ (x : Cached). x.caches) is ∙ ap emptied left_is in

@@ -13,7 +13,7 @@ use Rattle.iova_depot.specs.Cached.{Cached}
 use Rattle.iova_core.specs.declared.walk.Found.{Found}
 use Rattle.iova_core.specs.declared.walk.Found.TheVariants as found
 use Rattle.iova_core.specs.Stock.{Exchanges}
-use Rattle.iova_core.specs.Walk.{Stands, Comes, point_of, IsPointFrom}
+use Rattle.iova_core.specs.Walk.{ArePartsOf, Comes, point_of, IsPointFrom}
 use Rattle.iova_core.proofs.Stocks.{cached_sum}
 use Rattle.iova_core.proofs.Tries.{as_nowhere, stands_with}
 use Rattle.iova_laws.proofs.Weights as weight
@@ -24,21 +24,21 @@ cache_keeps : (s : State) (w size limit : ℕ) (o : Option ℕ) → (next.from_c
 cache_keeps s w size limit None = refl
 cache_keeps s w size limit (Some o) = refl
 
-tree_keeps : (s : State) (o : Option ℕ) (starved : Bool) → (next.from_tree s o starved).state ≡ next.with_caches s (next.from_tree s o starved).state.caches
-tree_keeps s None starved = refl
-tree_keeps s (Some lo) starved = refl
+tree_keeps : (s : State) (o : Option ℕ) (no_memory : Bool) → (next.from_tree s o no_memory).state ≡ next.with_caches s (next.from_tree s o no_memory).state.caches
+tree_keeps s None no_memory = refl
+tree_keeps s (Some lo) no_memory = refl
 
-emptied_keeps : (x : next.Found) (s : State) (size limit : ℕ) (emptying starved : Bool) → (next.or_emptied x s size limit emptying starved).state ≡ next.with_caches s (next.or_emptied x s size limit emptying starved).state.caches
-emptied_keeps next.Nowhere s size limit true starved =
+emptied_keeps : (x : next.Found) (s : State) (size limit : ℕ) (emptying no_memory : Bool) → (next.or_emptied x s size limit emptying no_memory).state ≡ next.with_caches s (next.or_emptied x s size limit emptying no_memory).state.caches
+emptied_keeps next.Nowhere s size limit true no_memory =
     let bare = next.with_caches s (emptied s.caches) in
-    tree_keeps bare (next.best_place bare size limit) starved
-emptied_keeps next.Nowhere s size limit false starved = refl
-emptied_keeps (next.At lo) s size limit emptying starved = refl
-emptied_keeps next.OutOfMemory s size limit emptying starved = refl
+    tree_keeps bare (next.best_place bare size limit) no_memory
+emptied_keeps next.Nowhere s size limit false no_memory = refl
+emptied_keeps (next.At lo) s size limit emptying no_memory = refl
+emptied_keeps next.OutOfMemory s size limit emptying no_memory = refl
 
-tree_same : (s : State) (o : Option ℕ) (starved : Bool) → (next.from_tree s o starved).state ≡ s
-tree_same s None starved = refl
-tree_same s (Some lo) starved = refl
+tree_same : (s : State) (o : Option ℕ) (no_memory : Bool) → (next.from_tree s o no_memory).state ≡ s
+tree_same s None no_memory = refl
+tree_same s (Some lo) no_memory = refl
 
 or_tree_keeps : (got : Option ℕ) (s : State) (size limit : ℕ) (emptying : Bool) (here m : Point) → (next.or_tree got s size limit emptying here m).state ≡ next.with_caches s (next.or_tree got s size limit emptying here m).state.caches
 or_tree_keeps (Some lo) s size limit emptying here m = refl
@@ -86,7 +86,7 @@ not_ledger here m other (inr (inl e)) = λ x. other (sym e ∙ x)
 not_ledger here m other (inr (inr e)) = λ x. absurd (let h : point.Last ≡ point.Ledger = sym e ∙ x in cc)
 
 -- What stands after an exchange that gave nothing.
-pub stands_exchanged : (tree tree' : Space) (c c' : Cached) (s : State) → Stands tree c.caches s → Exchanges tree tree' c c' [] [] → Stands tree' c'.caches (next.with_caches s c'.caches)
+pub stands_exchanged : (tree tree' : Space) (c c' : Cached) (s : State) → ArePartsOf tree c.caches s → Exchanges tree tree' c c' [] [] → ArePartsOf tree' c'.caches (next.with_caches s c'.caches)
 stands_exchanged tree tree' c c' s stands ex =
     stands_with tree tree' c.caches c'.caches s stands ex.bounds ex.windows (λ weigh. omega (arith, ex.balance weigh, cached_sum weigh c.caches, cached_sum weigh c'.caches, weight.ranges_are weigh []))
 

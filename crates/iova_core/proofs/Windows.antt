@@ -69,8 +69,8 @@ module _ (p : Parts) (h : IsDomain p) (lo hi : ℕ) where
   reserve_refused : (m : Point) (r : Refusal) → reserve_refusal p.tree lo hi ≡ Some r → reserve (state_of p) lo hi m ≡ refused r (state_of p)
   reserve_refused m r is = reserve_is m ∙ unless_refused (window_tests p.tree lo hi) r (state_of p) _ is
 
-  reserve_starved : reserve_refusal p.tree lo hi ≡ None → reserve (state_of p) lo hi point.Once ≡ refused refusal.NoMemory (state_of p)
-  reserve_starved is = reserve_is point.Once ∙ unless_taken (window_tests p.tree lo hi) (state_of p) _ is
+  reserve_no_memory : reserve_refusal p.tree lo hi ≡ None → reserve (state_of p) lo hi point.Once ≡ refused refusal.NoMemory (state_of p)
+  reserve_no_memory is = reserve_is point.Once ∙ unless_taken (window_tests p.tree lo hi) (state_of p) _ is
 
   reserve_taken : reserve_refusal p.tree lo hi ≡ None → reserve (state_of p) lo hi point.Never ≡ reserved (state_of p) (from_to lo hi)
   reserve_taken is = reserve_is point.Never ∙ unless_taken (window_tests p.tree lo hi) (state_of p) _ is
@@ -78,7 +78,7 @@ module _ (p : Parts) (h : IsDomain p) (lo hi : ℕ) where
   -- either refusal
   reserve_refuses : (m : Point) (r : Refusal) → (r ≡ refusal.NoMemory → m ≡ point.Once) → ((r ≡ refusal.NoMemory) × (reserve_refusal p.tree lo hi ≡ None)) ⊎ (reserve_refusal p.tree lo hi ≡ Some r) → reserve (state_of p) lo hi m ≡ refused r (state_of p)
   reserve_refuses m r once (inl both) =
-      ap (reserve (state_of p) lo hi) (once both.0) ∙ (reserve_starved both.1 ∙ ap (λ x. refused x (state_of p)) (sym both.0))
+      ap (reserve (state_of p) lo hi) (once both.0) ∙ (reserve_no_memory both.1 ∙ ap (λ x. refused x (state_of p)) (sym both.0))
   reserve_refuses m r once (inr test) = reserve_refused m r test
 
 -- What the step answers and leaves, as the definitions say.

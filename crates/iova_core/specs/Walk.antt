@@ -22,11 +22,11 @@ abbrev pub Places : Option ℕ → Point → ℕ → Space → Space → Found �
 Places None here size old new found.Nowhere = new ≡ old
 Places (Some lo) here size old new (found.Placed r) =
     (r ≡ record { lo = lo; len = size }) × (new ≡ record old { inserted = insert_rising r old.inserted })
-Places (Some lo) here size old new (found.Starved m) = (m ≡ here) × (new ≡ old)
+Places (Some lo) here size old new (found.OutOfMemory m) = (m ≡ here) × (new ≡ old)
 Places lo here size old new f = ⊥
 
 -- the tree and the caches are those of a state
-pub record Stands (tree : Space) (caches : Caches) (s : State) : Type 0 where
+pub record ArePartsOf (tree : Space) (caches : Caches) (s : State) : Type 0 where
   pub bounds : s.bounds ≡ tree.bounds
   pub windows : s.windows ≡ tree.windows
   pub cached : s.caches ≡ caches
@@ -36,19 +36,19 @@ pub record Stands (tree : Space) (caches : Caches) (s : State) : Type 0 where
 abbrev pub point_of : Found → Point
 point_of (found.Placed r) = point.Never
 point_of found.Nowhere = point.Never
-point_of (found.Starved m) = m
+point_of (found.OutOfMemory m) = m
 
 -- the ranges that were found
 abbrev pub placed : Found → List Frames
 placed (found.Placed r) = r ∷ []
 placed found.Nowhere = []
-placed (found.Starved m) = []
+placed (found.OutOfMemory m) = []
 
 -- the same in the words of the definitions
 abbrev pub found_as : Found → next.Found
 found_as (found.Placed r) = next.At r.lo
 found_as found.Nowhere = next.Nowhere
-found_as (found.Starved m) = next.OutOfMemory
+found_as (found.OutOfMemory m) = next.OutOfMemory
 
 -- a range that was found has this length
 abbrev pub IsPlacedOf : ℕ → Found → Type 0

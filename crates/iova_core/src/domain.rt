@@ -1,3 +1,4 @@
+//! A domain: its steps, one at a time and in runs, and its readers.
 ghost use Rattle.std.specs.Prelude.{◌≡◌, ◌≢◌, ◌≤◌, ◌<◌, ◌⊎◌, ◌^◌, ℕ, [], take, replicate, sum_by, find, length, Some, IfOk, OnOk, OnErr, IsErr, ◌↔◌, Err, option_map, option_copied};
 ghost use Rattle.iova_model.specs.declared.step.Point.{Point as MemoryPoint};
 ghost use Rattle.iova_model.specs.Fit.{is_covered};
@@ -146,7 +147,7 @@ impl Domain {
         steps_keep_validity();
         match self.tree.reserve(lo, hi) {
             Ok(window) => {
-                self.reserved = frames_of(self.tree.windows());
+                self.reserved = window_frames(self.tree.windows());
                 (Reply::Reserved(window), Point::Never)
             }
             Err(refusal) => refused_at(refusal, Point::Once),
@@ -206,7 +207,7 @@ impl Domain {
                 (Reply::Given(range), Point::Never)
             }
             Found::Nowhere => refused(Refusal::NoSpace),
-            Found::Starved(point) => (Reply::Refused(Refusal::NoMemory), point),
+            Found::OutOfMemory(point) => (Reply::Refused(Refusal::NoMemory), point),
         }
     }
 
@@ -587,7 +588,7 @@ fn new_rings(alloc: Global, workers: usize) -> Result<Vec<Ring>, Refusal>
 }
 
 /// How many frames windows have together.
-fn frames_of(windows: &[Range]) -> u64
+fn window_frames(windows: &[Range]) -> u64
     requires { sum_by (λ r. r.len) windows.now ≤ 2 ^ 40 }
     ensures { result ≡ sum_by (λ r. r.len) windows.now }
 {

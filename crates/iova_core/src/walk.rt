@@ -9,7 +9,7 @@ ghost use Rattle.iova_range.specs.Sizes.{order_of};
 ghost use Rattle.iova_tree.specs.Space.{IsSpace, ranges_of};
 ghost use Rattle.iova_depot.specs.Cached.{IsCached};
 ghost use Rattle.iova_core.specs.Stock.{IsStock, Exchanges};
-ghost use Rattle.iova_core.specs.Walk.{get_cached, Places, Stands, Comes, point_of, placed, IsPlacedOf, IsTryPoint, IsPointFrom};
+ghost use Rattle.iova_core.specs.Walk.{get_cached, Places, ArePartsOf, Comes, point_of, placed, IsPlacedOf, IsTryPoint, IsPointFrom};
 
 use crate::stock::empty;
 use iova_depot::caches::Caches;
@@ -27,7 +27,7 @@ pub enum Found {
     /// Nothing fits.
     Nowhere,
     /// The growth at this point was refused.
-    Starved(Point),
+    OutOfMemory(Point),
 }
 
 /// Asks the caches of worker `w`.
@@ -57,7 +57,7 @@ fn from_tree(tree: &mut Tree, size: u64, limit: u64, here: Point) -> Found
     let range = Range::new(lo, size);
     match tree.insert(range) {
         Ok(()) => Found::Placed(range),
-        Err(_) => Found::Starved(here),
+        Err(_) => Found::OutOfMemory(here),
     }
 }
 
@@ -78,7 +78,7 @@ fn try_once(
     requires bounded { size ≤ MAX_FRAMES }
     requires here { IsTryPoint here }
     requires stock { IsStock tree.old caches.old [] }
-    ensures comes { (s : State) → Stands tree.old caches.old.caches s → Comes (next.try s w size limit emptying here (point_of result)) result caches.new.caches }
+    ensures comes { (s : State) → ArePartsOf tree.old caches.old.caches s → Comes (next.try s w size limit emptying here (point_of result)) result caches.new.caches }
     ensures size { IsPlacedOf size result }
     ensures point { IsPointFrom here (point_of result) }
     ensures stock { Exchanges tree.old tree.new caches.old caches.new (placed result) [] }
@@ -111,7 +111,7 @@ pub fn walk(
     requires some { 1 ≤ size }
     requires bounded { size ≤ MAX_FRAMES }
     requires stock { IsStock tree.old caches.old [] }
-    ensures comes { (s : State) → Stands tree.old caches.old.caches s → Comes (next.walk s w sac size limit (point_of result)) result caches.new.caches }
+    ensures comes { (s : State) → ArePartsOf tree.old caches.old.caches s → Comes (next.walk s w sac size limit (point_of result)) result caches.new.caches }
     ensures size { IsPlacedOf size result }
     ensures point { point_of result ≢ Point.Ledger }
     ensures stock { Exchanges tree.old tree.new caches.old caches.new (placed result) [] }

@@ -1,3 +1,4 @@
+//! All that is cached in a domain.
 ghost use Rattle.std.specs.Prelude.{◌≡◌, ◌≢◌, ◌+◌, ◌*◌, ◌%◌, ◌-◌, ◌≤◌, ◌<◌, ◌^◌, ◌↔◌, ℕ, [], ◌∷◌, ◌++◌, length, replicate, Some, map, find, option_map, slice_index_or, IsTrue, IfOk, IsErr, IfNone, IfSome, OnOk};
 ghost use Rattle.std.specs.Bool.{OnTrue, OnFalse};
 ghost use Rattle.iova_range.specs.Bounds.{first_profile};

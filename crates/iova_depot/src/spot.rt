@@ -1,3 +1,4 @@
+//! Where a cached frame is.
 /// Where a cached range is.
 #[derive(Clone, Copy, Debug, PartialEq, Eq)]
 pub enum Spot {

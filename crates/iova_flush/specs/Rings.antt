@@ -15,7 +15,7 @@ OldestWaits finish [] = Unit {0}
 OldestWaits finish (e ∷ es) = finish ≤ e.count
 
 -- A ring of so many slots, one of which stays empty, with the number of its frames kept beside the entries.
-pub record IsKept (slots frames : ℕ) (entries : List Entry) : Type 0 where
+pub record IsRingKept (slots frames : ℕ) (entries : List Entry) : Type 0 where
   pub capacity : slots ≡ RING_SLOTS
   pub room : length entries ≤ MAX_ENTRIES
   pub sized : AllByRecursion IsRequestSizedEntry entries

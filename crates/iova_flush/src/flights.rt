@@ -1,3 +1,4 @@
+//! The flushes in flight, with their credits.
 ghost use Rattle.std.specs.Prelude.{◌≡◌, ◌≤◌, ◌<◌, ◌-◌, ◌^◌, ◌↔◌, ◌⊎◌, ◌==◌, position, length, IsTrue, is_ok, IsOk, IsOkUnless, IfOk, IfErr, OnOk, OnErr};
 ghost use Rattle.iova_model.specs.Flushes.{flushes_from, begun, ended, is_in_flight, NumbersRise, AreSound};
 
@@ -104,7 +105,7 @@ impl Flights {
         ensures reaches { IsTrue ok → NumbersRise (no - 1) self.old.in_flight self.old.start
             → OnOk result (no ≤ self.new.finish) }
     {
-        let Some(place) = place_of(self.in_flight.as_slice(), no) else {
+        let Some(place) = position_of(self.in_flight.as_slice(), no) else {
             return Err(Refusal::NoFlight);
         };
         let flight = self.in_flight.remove(place);
@@ -177,7 +178,7 @@ impl Flights {
 }
 
 // Where the flight of this number is.
-fn place_of(flights: &[Flight], no: u64) -> Option<usize>
+fn position_of(flights: &[Flight], no: u64) -> Option<usize>
     ensures { result ≡ position (λ f. f.number == no) flights.now }
 {
     flights.iter().position(|flight| flight.number == no)

@@ -1,3 +1,4 @@
+//! The flush ring of one worker.
 ghost use Rattle.std.specs.Prelude.{◌≡◌, ◌≤◌, ◌<◌, ◌*◌, ◌↔◌, [], ◌∷◌, ◌++◌, length, IsTrue, IsErr, IsOkUnless, IfOk, IfErr, OnOk, OnErr, IfSome, IfNone, MatchOption};
 ghost use Rattle.std.specs.List.{list_any, AllByRecursion};
 ghost use Rattle.iova_range.specs.Frames.{covers};
@@ -23,13 +24,13 @@ pub struct Ring {
 impl Model for Ring {
     ghost use Rattle.std.specs.Prelude.{List};
     ghost use Rattle.iova_model.specs.declared.entry.Entry.{Entry as E};
-    ghost use Rattle.iova_flush.specs.Rings.{IsKept};
+    ghost use Rattle.iova_flush.specs.Rings.{IsRingKept};
 
     ghost Value = { List E };
 
     ghost view = { λ r. r.entries.items };
 
-    ghost invariant = { λ r. IsKept r.entries.capacity r.frames r.entries.items };
+    ghost invariant = { λ r. IsRingKept r.entries.capacity r.frames r.entries.items };
 }
 
 impl Ring {

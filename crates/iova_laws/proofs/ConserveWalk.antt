@@ -84,8 +84,8 @@ got_within s limit size lo is = popped_within (reloaded s) (fitting (reloaded s)
 module _ (s : State) (w size : ℕ) (below : w < s.workers) where
   module _ (limit : ℕ) (P : Tried → Type 0) (each : OnEach s size limit true P) where
     -- the tree alone, with nothing cached
-    tree_cases : (c : Caches) → AreOwn s c → NoneCached c → (x : Option ℕ) → best_place (with_caches s c) size limit ≡ x → (starved : Bool) → P (from_tree (with_caches s c) x starved)
-    tree_cases c own none None is starved = each Nowhere c own (none, is)
+    tree_cases : (c : Caches) → AreOwn s c → NoneCached c → (x : Option ℕ) → best_place (with_caches s c) size limit ≡ x → (no_memory : Bool) → P (from_tree (with_caches s c) x no_memory)
+    tree_cases c own none None is no_memory = each Nowhere c own (none, is)
     tree_cases c own none (Some lo) is true = each OutOfMemory c own (inr none)
     tree_cases c own none (Some lo) is false =
         let fit = greatest_some (fits s.bounds (held_ranges (with_caches s c)) size limit) _ lo is in
@@ -96,15 +96,15 @@ module _ (s : State) (w size : ℕ) (below : w < s.workers) where
   try_cases c limit emptying here m P own same each = cache_cases (order_of size) refl
     where
       -- nothing fits: once more with all caches emptied, where that may be
-      last_cases : (starved : Bool) → (emptying : Bool) → OnEach s size limit emptying P → (c : Caches) → AreOwn s c → Same s.caches c → P (or_emptied Nowhere (with_caches s c) size limit emptying starved)
-      last_cases starved true each c own same =
+      last_cases : (no_memory : Bool) → (emptying : Bool) → OnEach s size limit emptying P → (c : Caches) → AreOwn s c → Same s.caches c → P (or_emptied Nowhere (with_caches s c) size limit emptying no_memory)
+      last_cases no_memory true each c own same =
           let c' = emptied c in
-          tree_cases limit P each c' (emptied_valid s.bounds.profile s.workers c own) (λ weigh. cached-emptied weigh c) (best_place (with_caches s c') size limit) refl starved
-      last_cases starved false each c own same = each Nowhere c own same
+          tree_cases limit P each c' (emptied_valid s.bounds.profile s.workers c own) (λ weigh. cached-emptied weigh c) (best_place (with_caches s c') size limit) refl no_memory
+      last_cases no_memory false each c own same = each Nowhere c own same
 
       -- the greatest place that fits, or none
-      best_cases : (c : Caches) → AreOwn s c → Same s.caches c → (x : Option ℕ) → best_place (with_caches s c) size limit ≡ x → (starved last : Bool) → P (or_emptied (from_tree (with_caches s c) x starved).found (from_tree (with_caches s c) x starved).state size limit emptying last)
-      best_cases c own same None is starved last = last_cases last emptying each c own same
+      best_cases : (c : Caches) → AreOwn s c → Same s.caches c → (x : Option ℕ) → best_place (with_caches s c) size limit ≡ x → (no_memory last : Bool) → P (or_emptied (from_tree (with_caches s c) x no_memory).found (from_tree (with_caches s c) x no_memory).state size limit emptying last)
+      best_cases c own same None is no_memory last = last_cases last emptying each c own same
       best_cases c own same (Some lo) is true last = each OutOfMemory c own (may_stay emptying s.caches c same)
       best_cases c own same (Some lo) is false last =
           let fit = greatest_some (fits s.bounds (held_ranges (with_caches s c)) size limit) _ lo is in

@@ -3,7 +3,7 @@ use Rattle.std.proofs.Common.{ℕ, ◌≡◌, Bool, true, false, List, [], ◌�
 use Rattle.iova_model.specs.Clients.{Client, client_with, has_id, changed}
 
 -- The clients before it and those after it, which a change to it leaves.
-pub record Stands (id : ℕ) (c : Client) (clients : List Client) : Type 0 where
+pub record IsAmongClients (id : ℕ) (c : Client) (clients : List Client) : Type 0 where
   pub before : List Client
   pub later : List Client
   pub is : clients ≡ before ++ c ∷ later
@@ -11,7 +11,7 @@ pub record Stands (id : ℕ) (c : Client) (clients : List Client) : Type 0 where
 
 -- the first client is the one, or it stands before it
 stands_step : (id : ℕ) (c x : Client) (clients : List Client) (b : Bool) → has_id id x ≡ b → client_with id (x ∷ clients) ≡ Some c
-    → (client_with id clients ≡ Some c → Stands id c clients) → Stands id c (x ∷ clients)
+    → (client_with id clients ≡ Some c → IsAmongClients id c clients) → IsAmongClients id c (x ∷ clients)
 stands_step id c x clients true same is further =
     let found = rw same at is in
     let one : x ≡ c = cc (found) in
@@ -31,6 +31,6 @@ stands_step id c x clients false other is further =
     }
 
 -- a client that is found stands somewhere
-pub stands : (id : ℕ) (c : Client) (clients : List Client) → client_with id clients ≡ Some c → Stands id c clients
+pub stands : (id : ℕ) (c : Client) (clients : List Client) → client_with id clients ≡ Some c → IsAmongClients id c clients
 stands id c [] is = absurd cc
 stands id c (x ∷ clients) is = stands_step id c x clients (has_id id x) refl is (λ more. stands id c clients more)

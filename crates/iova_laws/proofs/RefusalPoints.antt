@@ -27,20 +27,20 @@ abbrev IsAlike : Tried → Tried → Type 0
 IsAlike t t' = (t.found ≡ OutOfMemory) ⊎ (t ≡ t')
 
 -- the tree's growth may be refused
-tree_alike : (s : State) (place : Option ℕ) (starved : Bool) → IsAlike (from_tree s place starved) (from_tree s place false)
-tree_alike s None starved = inr refl
+tree_alike : (s : State) (place : Option ℕ) (no_memory : Bool) → IsAlike (from_tree s place no_memory) (from_tree s place false)
+tree_alike s None no_memory = inr refl
 tree_alike s (Some lo) true = inl refl
 tree_alike s (Some lo) false = inr refl
 
 -- and once more with emptied caches
-emptied_alike : (t t' : Tried) (size limit : ℕ) (emptying starved : Bool) → IsAlike t t' → IsAlike (or_emptied t.found t.state size limit emptying starved) (or_emptied t'.found t'.state size limit emptying false)
-emptied_alike t t' size limit emptying starved (inl out) = inl (rw out refl)
-emptied_alike t t' size limit emptying starved (inr same) =
-    let P : Tried → Type 0 = λ x. IsAlike (or_emptied t.found t.state size limit emptying starved) (or_emptied x.found x.state size limit emptying false) in
+emptied_alike : (t t' : Tried) (size limit : ℕ) (emptying no_memory : Bool) → IsAlike t t' → IsAlike (or_emptied t.found t.state size limit emptying no_memory) (or_emptied t'.found t'.state size limit emptying false)
+emptied_alike t t' size limit emptying no_memory (inl out) = inl (rw out refl)
+emptied_alike t t' size limit emptying no_memory (inr same) =
+    let P : Tried → Type 0 = λ x. IsAlike (or_emptied t.found t.state size limit emptying no_memory) (or_emptied x.found x.state size limit emptying false) in
     subst P same (alike t.found t.state emptying)
   where
-    alike : (found : Found) (s : State) (e : Bool) → IsAlike (or_emptied found s size limit e starved) (or_emptied found s size limit e false)
-    alike Nowhere s true = let u = with_caches s (emptied s.caches) in tree_alike u (best_place u size limit) starved
+    alike : (found : Found) (s : State) (e : Bool) → IsAlike (or_emptied found s size limit e no_memory) (or_emptied found s size limit e false)
+    alike Nowhere s true = let u = with_caches s (emptied s.caches) in tree_alike u (best_place u size limit) no_memory
     alike Nowhere s false = inr refl
     alike (At lo) s e = inr refl
     alike OutOfMemory s e = inr refl
@@ -96,12 +96,12 @@ unless_alike s ((b, r) ∷ tests) n n' alike =
     cond_alike OnlyRefuses b (refused r s) (refused r s) (unless tests s n) (unless tests s n') (inr refl) (unless_alike s tests n n' alike)
 
 -- and a last test for memory in the first
-unless_memory : (s : State) (tests : List (Bool × Refusal)) (starved : Bool) (n n' : Next) → OnlyRefuses n n' → OnlyRefuses (unless (tests ++ (starved, refusal.NoMemory) ∷ []) s n) (unless tests s n')
+unless_memory : (s : State) (tests : List (Bool × Refusal)) (no_memory : Bool) (n n' : Next) → OnlyRefuses n n' → OnlyRefuses (unless (tests ++ (no_memory, refusal.NoMemory) ∷ []) s n) (unless tests s n')
 unless_memory s [] true n n' alike = inl refl
 unless_memory s [] false n n' alike = alike
-unless_memory s ((b, r) ∷ tests) starved n n' alike =
-    let rest = unless (tests ++ (starved, refusal.NoMemory) ∷ []) s n in
-    cond_alike OnlyRefuses b (refused r s) (refused r s) rest (unless tests s n') (inr refl) (unless_memory s tests starved n n' alike)
+unless_memory s ((b, r) ∷ tests) no_memory n n' alike =
+    let rest = unless (tests ++ (no_memory, refusal.NoMemory) ∷ []) s n in
+    cond_alike OnlyRefuses b (refused r s) (refused r s) rest (unless tests s n') (inr refl) (unless_memory s tests no_memory n n' alike)
 
 -- what a walk comes to is answered
 given_alike : (t t' : Tried) (id size : ℕ) → IsAlike t t' → OnlyRefuses (given_by t id size) (given_by t' id size)

@@ -1,6 +1,7 @@
 -- What a step may be answered, what it queues, and how it moves the number of good flushes.
-use Rattle.std.proofs.Common.{ℕ, ◌≡◌, ◌+◌, ◌==◌, inl, inr, true, false, List, [], ◌∷◌, Option, Some, None, refl, ap, arith}
-use Rattle.std.specs.Prelude.{find}
+use Rattle.std.proofs.Common.{ℕ, ◌≡◌, ◌+◌, ◌==◌, inl, inr, true, false, List, [], ◌∷◌, ◌++◌, Option, Some, None, refl, ap, arith, ◌≢◌, ◌∙◌, Bool}
+use Rattle.std.specs.Prelude.{find, if◌then◌else◌}
+use Rattle.std.proofs.lemmas.Bool.{cond_both}
 use Rattle.std.proofs.lemmas.Bool.Decides.{nat_tests}
 use Rattle.iova_range.specs.declared.refusal.Refusal.{Refusal}
 use Rattle.iova_range.specs.declared.refusal.Refusal.TheVariants as refusal
@@ -11,13 +12,14 @@ use Rattle.iova_model.specs.declared.step.Step.TheVariants as step
 use Rattle.iova_model.specs.declared.step.Reply.{Reply}
 use Rattle.iova_model.specs.declared.step.Reply.TheVariants as reply
 use Rattle.iova_model.specs.declared.step.Point.{Point}
-use Rattle.iova_model.specs.Clients.{Client, client_of, begins_at, changed, marked}
+use Rattle.iova_model.specs.Clients.{Client, client_of, begins_at, changed, marked, new_client, with_holding, without_holding}
 use Rattle.iova_model.specs.State.{State}
 use Rattle.iova_model.specs.Next
-use Rattle.iova_model.specs.Laws.{IsReplyTo, StepsAreAnsweredInKind, ended_well, StepsMoveGood, to_queue, QueuedWereHeld}
+use Rattle.iova_model.specs.Laws.{IsReplyTo, StepsAreAnsweredInKind, ended_well, StepsMoveGood, to_queue, QueuedWereHeld, client_named, held_in, held_by, OthersKeepTheirHoldings}
+use Rattle.iova_laws.proofs.ClosingSerials.{found-changed_other, found-forgotten_other}
 use Rattle.iova_laws.proofs.Tests.{unless_each}
 use Rattle.iova_laws.proofs.ValidFound.{found_at}
-use Rattle.iova_laws.proofs.Outcomes.{Outcome, IsOwned, turned_down, unmaps, ends, queues_lowest, outcome}
+use Rattle.iova_laws.proofs.Outcomes.{Outcome, IsOwned, turned_down, opens, gives, unmaps, ends, closes, queues_lowest, only_marks, forgets, outcome}
 
 -- Good flushes.
 
@@ -53,6 +55,37 @@ queued_held s o q e = absurd cc
 
 pub queued_were_held : QueuedWereHeld
 queued_were_held = λ s st m r e. queued_held s (outcome s st m) r e
+
+-- Other clients.
+
+held-push : (id : ℕ) (clients : List Client) (w serial : ℕ) (sac : Bool) → held_by id (clients ++ new_client serial w sac ∷ []) ≡ held_by id clients
+held-push id [] w serial sac = from_new (serial == id)
+  where
+    from_new : (b : Bool) → held_in (if b then Some (new_client serial w sac) else None) ≡ []
+    from_new true = refl
+    from_new false = refl
+held-push id (c ∷ cs) w serial sac = grind (arith, nat_tests, held-push id cs w serial sac)
+
+-- a client that the step doesn't name keeps what it has
+others_keep : (s : State) {st : Step} {r : Reply} {t : State} → Outcome s st r t → (id : ℕ) → (client_named st ≡ Some id → ⊥) → held_by id t.clients ≡ held_by id s.clients
+others_keep s (opens w sac) id unnamed = held-push id s.clients w (s.serial + 1) sac
+others_keep s (gives w other frames limit c r caches own still_open) id unnamed =
+    ap held_in (found-changed_other id other (with_holding r) s.clients (λ x. refl) (λ same. unnamed (ap (λ i. Some i) same)))
+others_keep s (unmaps w other lo c r known own still_open found) id unnamed =
+    ap held_in (found-changed_other id other (without_holding r.lo) s.clients (λ x. refl) (λ same. unnamed (ap (λ i. Some i) same)))
+others_keep s (closes w other c own) id unnamed =
+    ap held_in (found-changed_other id other marked s.clients (λ x. refl) (λ same. unnamed (ap (λ i. Some i) same)))
+others_keep s (queues_lowest w other c r rs known own lowest) id unnamed =
+    let apart : other ≢ id = λ same. unnamed (ap (λ i. Some i) same) in
+    ap held_in (found-changed_other id other (without_holding r.lo) (changed other marked s.clients) (λ x. refl) apart ∙ found-changed_other id other marked s.clients (λ x. refl) apart)
+others_keep s (only_marks w other c own) id unnamed =
+    ap held_in (found-changed_other id other marked s.clients (λ x. refl) (λ same. unnamed (ap (λ i. Some i) same)))
+others_keep s (forgets w other c own empty) id unnamed =
+    ap held_in (found-forgotten_other id other s.clients (λ same. unnamed (ap (λ i. Some i) same)))
+others_keep s o id unnamed = refl
+
+pub others_keep_their_holdings : OthersKeepTheirHoldings
+others_keep_their_holdings = λ s st m id unnamed. others_keep s (outcome s st m) id unnamed
 
 -- Answers in kind.
 

@@ -44,20 +44,20 @@ recached_self : (s : State) → IsRecached s s
 recached_self s = record { is = refl; emptied = refl }
 
 -- the tree is asked again, with all caches emptied
-again_walked : (s t : State) (place : Option ℕ) (starved : Bool) → t ≡ Next.with_caches s (emptied s.caches) → IsWalked s true (Next.from_tree t place starved)
-again_walked s t None starved e = record { is = e ∙ ap (λ x. Next.with_caches s x.caches) (sym e); nowhere = λ n. ap (λ x. x.caches) e }
-again_walked s t (Some lo) starved e = record { is = e ∙ ap (λ x. Next.with_caches s x.caches) (sym e); nowhere = λ n. ap (λ x. x.caches) e }
+again_walked : (s t : State) (place : Option ℕ) (no_memory : Bool) → t ≡ Next.with_caches s (emptied s.caches) → IsWalked s true (Next.from_tree t place no_memory)
+again_walked s t None no_memory e = record { is = e ∙ ap (λ x. Next.with_caches s x.caches) (sym e); nowhere = λ n. ap (λ x. x.caches) e }
+again_walked s t (Some lo) no_memory e = record { is = e ∙ ap (λ x. Next.with_caches s x.caches) (sym e); nowhere = λ n. ap (λ x. x.caches) e }
 
 -- the tree is asked, and perhaps again
-tree_walked : (s t : State) (size limit : ℕ) (place : Option ℕ) (emptying starved starved_last : Bool) → IsRecached s t
-    → (let x = Next.from_tree t place starved in IsWalked s emptying (Next.or_emptied x.found x.state size limit emptying starved_last))
-tree_walked s t size limit None true starved starved_last h =
+tree_walked : (s t : State) (size limit : ℕ) (place : Option ℕ) (emptying no_memory no_memory_last : Bool) → IsRecached s t
+    → (let x = Next.from_tree t place no_memory in IsWalked s emptying (Next.or_emptied x.found x.state size limit emptying no_memory_last))
+tree_walked s t size limit None true no_memory no_memory_last h =
     let u = Next.with_caches t (emptied t.caches) in
     let same : u ≡ Next.with_caches s (emptied s.caches) = ap (λ x. Next.with_caches x (emptied t.caches)) h.is ∙ ap (λ c. Next.with_caches s c) h.emptied in
-    again_walked s u (Next.best_place u size limit) starved_last same
-tree_walked s t size limit None false starved starved_last h = record { is = h.is; nowhere = λ n. h.emptied }
-tree_walked s t size limit (Some lo) emptying true starved_last h = record { is = h.is; nowhere = λ n. absurd cc }
-tree_walked s t size limit (Some lo) emptying false starved_last h = record { is = h.is; nowhere = λ n. absurd cc }
+    again_walked s u (Next.best_place u size limit) no_memory_last same
+tree_walked s t size limit None false no_memory no_memory_last h = record { is = h.is; nowhere = λ n. h.emptied }
+tree_walked s t size limit (Some lo) emptying true no_memory_last h = record { is = h.is; nowhere = λ n. absurd cc }
+tree_walked s t size limit (Some lo) emptying false no_memory_last h = record { is = h.is; nowhere = λ n. absurd cc }
 
 -- where nothing came from the cache
 or_tree_walked : (s t : State) (cached : Option ℕ) (size limit : ℕ) (emptying : Bool) (here m : Point) → IsRecached s t → IsWalked s emptying (Next.or_tree cached t size limit emptying here m)

@@ -1,5 +1,5 @@
 //! What a step may be answered, and what follows from the answer.
-ghost use Rattle.iova_model.specs.Laws.{StepsAreAnsweredInKind, StepsMoveGood, QueuedWereHeld};
+ghost use Rattle.iova_model.specs.Laws.{StepsAreAnsweredInKind, StepsMoveGood, QueuedWereHeld, OthersKeepTheirHoldings};
 
 /// A step has answers of its own kind, and is refused by its own refusals alone; an unmap queues the range that was named.
 pub fn steps_are_answered_in_kind()
@@ -14,4 +14,9 @@ pub fn steps_move_good()
 /// A range that a step queues was held by the client that it names.
 pub fn queued_were_held()
     ensures { QueuedWereHeld }
+{}
+
+/// A step changes the holdings of no client but the one that it names.
+pub fn others_keep_their_holdings()
+    ensures { OthersKeepTheirHoldings }
 {}

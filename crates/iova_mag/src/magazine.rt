@@ -1,3 +1,4 @@
+//! One magazine.
 ghost use Rattle.std.specs.Prelude.{◌≡◌, ◌+◌, ◌-◌, ◌≤◌, ◌<◌, ◌^◌, ◌↔◌, [], ◌∷◌, ◌++◌, length, slice_get, IsTrue, All, IfSome, ◌&&◌, nat_le, nat_lt};
 ghost use Rattle.std.specs.List.{list_any};
 ghost use Rattle.iova_range.specs.Bounds.{first_profile};

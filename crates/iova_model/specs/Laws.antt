@@ -447,3 +447,15 @@ to_queue s (step.Close w id) = None
 -- what a step queues was held by the client that it names
 abbrev pub QueuedWereHeld : Type 0
 QueuedWereHeld = (s : State) (st : Step) (m : Point) (r : Frames) → (next s st m).reply ≡ reply.Queued r → to_queue s st ≡ Some r
+
+-- what the client with this serial holds, nothing where there is none
+abbrev pub held_in : Option Client → List Frames
+held_in None = []
+held_in (Some c) = c.holdings
+
+abbrev pub held_by : ℕ → List Client → List Frames
+held_by id clients = held_in (client_with id clients)
+
+-- a step changes the holdings of no client but the one that it names
+abbrev pub OthersKeepTheirHoldings : Type 0
+OthersKeepTheirHoldings = (s : State) (st : Step) (m : Point) (id : ℕ) → (client_named st ≡ Some id → ⊥) → held_by id (next s st m).state.clients ≡ held_by id s.clients

@@ -145,16 +145,16 @@ best_place s size limit = best s.bounds (held_ranges s) size limit
 
 -- a range of the tree, whose insertion may be refused memory
 abbrev pub from_tree : State → Option ℕ → Bool → Tried
-from_tree s None starved = record { found = Nowhere; state = s }
-from_tree s (Some lo) starved = record { found = if starved then OutOfMemory else At lo; state = s }
+from_tree s None no_memory = record { found = Nowhere; state = s }
+from_tree s (Some lo) no_memory = record { found = if no_memory then OutOfMemory else At lo; state = s }
 
 -- where there was nothing, the tree alone is asked again, with all caches emptied
 abbrev pub or_emptied : Found → State → ℕ → ℕ → Bool → Bool → Tried
-or_emptied Nowhere s size limit true starved =
-    let s' = with_caches s (emptied s.caches) in from_tree s' (best_place s' size limit) starved
-or_emptied Nowhere s size limit false starved = record { found = Nowhere; state = s }
-or_emptied (At lo) s size limit emptying starved = record { found = At lo; state = s }
-or_emptied OutOfMemory s size limit emptying starved = record { found = OutOfMemory; state = s }
+or_emptied Nowhere s size limit true no_memory =
+    let s' = with_caches s (emptied s.caches) in from_tree s' (best_place s' size limit) no_memory
+or_emptied Nowhere s size limit false no_memory = record { found = Nowhere; state = s }
+or_emptied (At lo) s size limit emptying no_memory = record { found = At lo; state = s }
+or_emptied OutOfMemory s size limit emptying no_memory = record { found = OutOfMemory; state = s }
 
 -- a cached range, else the tree's
 abbrev pub or_tree : Option ℕ → State → ℕ → ℕ → Bool → Point → Point → Tried

@@ -1,3 +1,4 @@
+//! An entry of a flush ring.
 /// A range that waits in a ring for a flush (Linux 5.15 `include/linux/iova.h`: `iova_fq_entry`).
 #[derive(Clone, Copy, Debug, Default, PartialEq, Eq)]
 pub struct Entry {

@@ -1,3 +1,4 @@
+//! A flush in flight.
 /// A flush in flight.
 #[derive(Clone, Copy, Debug, Default, PartialEq, Eq)]
 pub struct Flight {

@@ -1,3 +1,4 @@
+//! Where a frame can be, and how many frames are there.
 /// Where a frame is.
 #[derive(Clone, Copy, Debug, PartialEq, Eq)]
 pub enum Place {

@@ -1,3 +1,4 @@
+//! Totals over holdings.
 /// What some clients hold.
 #[derive(Clone, Copy, Debug, Default, PartialEq, Eq)]
 pub struct Totals {

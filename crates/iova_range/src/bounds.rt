@@ -1,3 +1,4 @@
+//! The frames that a domain may hand out.
 ghost use Rattle.std.specs.Prelude.{◌≡◌, ◌<◌, ◌^◌, IfOk, ◌↔◌, IsOk, IsErr};
 ghost use Rattle.iova_range.specs.Bounds.{first_profile, AreBounds, IsExtent};
 

@@ -1,3 +1,4 @@
+//! The sizes of the caches: the kernel's, and a second set of our own.
 ghost use Rattle.std.specs.Prelude.{◌≡◌, ◌≤◌, IfOk, IsOk, IsErr, ◌↔◌};
 ghost use Rattle.iova_range.specs.Bounds.{first_profile, second_profile, IsProfile};
 

@@ -1,3 +1,4 @@
+//! Page frames in a row.
 ghost use Rattle.std.specs.Prelude.{◌≡◌, ◌+◌, ◌≤◌, ◌^◌};
 ghost use Rattle.iova_range.specs.Frames.{covers};
 

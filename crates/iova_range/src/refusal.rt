@@ -1,3 +1,4 @@
+//! Why a call is refused.
 ghost use Rattle.std.specs.Prelude.{◌≡◌};
 ghost use Rattle.iova_range.specs.Refusals.{refusal_number, refusal_name};
 

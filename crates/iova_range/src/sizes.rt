@@ -1,3 +1,4 @@
+//! How sizes are rounded, aligned and cached.
 ghost use Rattle.std.specs.Prelude.{◌≡◌, ◌≤◌, ◌<◌, ◌^◌, ℕ, IfSome, IfNone, ◌≢◌};
 ghost use Rattle.std.specs.Int.{IsNextPowerOfTwo};
 ghost use Rattle.iova_range.specs.Sizes.{need, align_of, order_of};

@@ -1,3 +1,4 @@
+mod Examples
 mod FirstBad
 mod Headers
 mod LineSteps

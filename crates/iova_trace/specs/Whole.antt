@@ -13,5 +13,5 @@ IsFaultOf text fault.ReadFault = ⊥
 IsFaultOf text fault.WriteFault = ⊥
 
 -- this is the answer, unless memory was refused
-abbrev pub IsUnlessStarved : Result Trace ReplayFault → Result Trace ReplayFault → Type 0
-IsUnlessStarved answer result = (result ≡ answer) ⊎ (result ≡ Err fault.NoMemory)
+abbrev pub IsUnlessOutOfMemory : Result Trace ReplayFault → Result Trace ReplayFault → Type 0
+IsUnlessOutOfMemory answer result = (result ≡ answer) ⊎ (result ≡ Err fault.NoMemory)

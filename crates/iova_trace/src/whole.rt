@@ -2,7 +2,7 @@
 ghost use Rattle.std.specs.Prelude.{◌≡◌, ◌≢◌, ℕ, List, ◌++◌, Ok, Err, IfOk, IfErr};
 ghost use Rattle.iova_trace.specs.Lines.{IsTrace, trace_text, IsRefused};
 ghost use Rattle.iova_trace.specs.Replay.{StopsAtBad};
-ghost use Rattle.iova_trace.specs.Whole.{IsFaultOf, IsUnlessStarved};
+ghost use Rattle.iova_trace.specs.Whole.{IsFaultOf, IsUnlessOutOfMemory};
 ghost use Rattle.iova_trace.specs.declared.trace.Trace.{Trace as T};
 
 use crate::fault::ReplayFault;
@@ -21,8 +21,8 @@ pub fn read_trace(alloc: Global, text: &[u8]) -> Result<Trace, ReplayFault>
     ensures err { IfErr result (IsFaultOf text.now) }
 
     // It is the only reading, and the first bad line has one number.
-    ensures whole { (trace : T) → IsTrace trace → text.now ≡ trace_text trace → IsUnlessStarved (Ok trace) result }
-    ensures refused { (number : ℕ) → IsRefused text.now number → IsUnlessStarved (Err (ReplayFault.BadTrace number)) result }
+    ensures whole { (trace : T) → IsTrace trace → text.now ≡ trace_text trace → IsUnlessOutOfMemory (Ok trace) result }
+    ensures refused { (number : ℕ) → IsRefused text.now number → IsUnlessOutOfMemory (Err (ReplayFault.BadTrace number)) result }
 {
     let Some((line, mut rest)) = cut_line(text) else {
         return Err(ReplayFault::BadTrace(1));

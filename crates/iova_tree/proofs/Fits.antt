@@ -11,7 +11,7 @@ use Rattle.iova_range.proofs.Powers.{align_of-first}
 use Rattle.iova_model.specs.Fit.{Fits, IsBest, is_covered, is_clear}
 use Rattle.iova_model.proofs.Placing.{AreSome, uncovered-clear}
 use Rattle.iova_tree.specs.Room.{room}
-use Rattle.iova_tree.specs.Spans.{Span, frames_of, all_of, end_after, first_lo, IsRisingFrom, room_after, room_between}
+use Rattle.iova_tree.specs.Spans.{Span, range_of_span, all_of, end_after, first_lo, IsRisingFrom, room_after, room_between}
 use Rattle.iova_tree.specs.declared.search.Wanted.{Wanted}
 use Rattle.iova_tree.specs.Fit.{IsWanted, higher, place, highest_after, highest_between, place_before, place_behind, highest_free}
 use Rattle.iova_tree.proofs.Rooms.{multiple_le, multiple_is, align_of_pos, room-covers}
@@ -187,10 +187,10 @@ highest_between-above_cap w (x ∷ l) z r h = highest_after-above_cap w x.end l 
 free_uncovered : (e a b : ℕ) (l : List Span) (frame : ℕ) → IsRisingFrom e l → IsFree a b l → a ≤ frame → frame < b → is_covered frame (all_of l) ≡ false
 free_uncovered e a b [] frame r f p q = refl
 free_uncovered e a b (x ∷ l) frame r f p q =
-    let here : covers frame (frames_of x) ≡ false = apart f.0 in
+    let here : covers frame (range_of_span x) ≡ false = apart f.0 in
     rw here (free_uncovered x.end a b l frame r.2 f.1 p q)
   where
-    apart : (b ≤ x.lo) ⊎ (x.end ≤ a) → covers frame (frames_of x) ≡ false
+    apart : (b ≤ x.lo) ⊎ (x.end ≤ a) → covers frame (range_of_span x) ≡ false
     apart (inl h) = grind (arith, nat_tests)
     apart (inr h) = let e : x.lo + (x.end - x.lo) ≡ x.end = omega (arith, r.1) in rw e (grind (arith, nat_tests))
 
@@ -198,7 +198,7 @@ pub all_some : (e : ℕ) (l : List Span) → IsRisingFrom e l → AreSome (all_o
 all_some e [] r = tt
 all_some e (x ∷ l) r = (omega (arith, r.1), all_some x.end l r.2)
 
-clear_beside : (s size : ℕ) (x : Span) → x.lo < x.end → 1 ≤ size → not (meets (record { lo = s; len = size }) (frames_of x)) ≡ true → (s + size ≤ x.lo) ⊎ (x.end ≤ s)
+clear_beside : (s size : ℕ) (x : Span) → x.lo < x.end → 1 ≤ size → not (meets (record { lo = s; len = size }) (range_of_span x)) ≡ true → (s + size ≤ x.lo) ⊎ (x.end ≤ s)
 clear_beside s size x lt some clear =
     let e : x.lo + (x.end - x.lo) ≡ x.end = omega arith in
     split (nat_le (s + size) x.lo) refl (rw e at clear)
@@ -211,7 +211,7 @@ clear_free : (e s size : ℕ) (l : List Span) → IsRisingFrom e l → 1 ≤ siz
 clear_free e s size [] r some clear = tt
 clear_free e s size (x ∷ l) r some clear =
     let own : Frames = record { lo = s; len = size } in
-    let parts = and_parts (not (meets own (frames_of x))) (is_clear own (all_of l)) clear in
+    let parts = and_parts (not (meets own (range_of_span x))) (is_clear own (all_of l)) clear in
     (clear_beside s size x r.1 some parts.0, clear_free x.end s size l r.2 some parts.1)
 
 module _ (bounds : Extent) (w : Wanted) (limit : ℕ) (l : List Span) (h : IsWanted w) (cap : w.cap ≡ min limit bounds.last + 1) (r : IsRisingFrom bounds.start l) where

@@ -9,7 +9,7 @@ use Rattle.iova_model.specs.Fit.{IsBest, is_covered, is_clear}
 use Rattle.iova_model.specs.Clients.{insert_rising, remove_at, begins_at}
 use Rattle.iova_model.specs.Next.{union, windows_with}
 use Rattle.iova_model.proofs.Placing.{IsBest-same}
-use Rattle.iova_tree.specs.Spans.{Span, frames_of, all_of, windows_of, inserted_of, with_span, IsRisingFrom, Holds}
+use Rattle.iova_tree.specs.Spans.{Span, range_of_span, all_of, windows_of, inserted_of, with_span, IsRisingFrom, Holds}
 use Rattle.iova_tree.specs.Space.{IsKept, IsInside, LieWithin, space_of, ranges_of, clear_of}
 use Rattle.iova_tree.proofs.Spans.{rising-weaken}
 use Rattle.iova_tree.proofs.Apart.{LiesWithin, is_clear-append}
@@ -20,7 +20,7 @@ use Rattle.iova_tree.proofs.Windows.{length-insert_rising}
 abbrev pub span_of : Frames → Bool → Span
 span_of r window = record { lo = r.lo; end = r.lo + r.len; window = window }
 
-pub frames_span : (r : Frames) (window : Bool) → frames_of (span_of r window) ≡ r
+pub frames_span : (r : Frames) (window : Bool) → range_of_span (span_of r window) ≡ r
 frames_span r window = let e : r.lo + r.len - r.lo ≡ r.len = omega arith in rw e refl
 
 pub few_kept : (b : Extent) (l : List Span) (ws : List Frames) → IsKept b l ws → b.last < 2 ^ 40 → length l ≤ 2 ^ 40
@@ -89,7 +89,7 @@ inserted_held lo l found = holds_kind false lo l found
 -- what is known of the range that was inserted at lo, once it is taken out
 pub record IsTakenOut (b : Extent) (lo : ℕ) (x : Span) (l rest : List Span) (ws : List Frames) : Type 0 where
   pub some : x.lo < x.end
-  pub found : find (begins_at lo) (inserted_of l) ≡ Some (frames_of x)
+  pub found : find (begins_at lo) (inserted_of l) ≡ Some (range_of_span x)
   pub without : inserted_of rest ≡ remove_at lo (inserted_of l)
   pub kept : IsKept b rest ws
 
@@ -102,7 +102,7 @@ taken_out b lo x l rest ws h is begins found =
     let other : x.window ≡ false = not_window x.window kind in
     record {
       some = (rising_with b.start x rest within.0).1;
-      found = subst (λ (k : List Span). find (begins_at lo) (inserted_of k) ≡ Some (frames_of x)) (sym is) (subst (λ (n : ℕ). find (begins_at n) (inserted_of (with_span x rest)) ≡ Some (frames_of x)) begins t.0);
+      found = subst (λ (k : List Span). find (begins_at lo) (inserted_of k) ≡ Some (range_of_span x)) (sym is) (subst (λ (n : ℕ). find (begins_at n) (inserted_of (with_span x rest)) ≡ Some (range_of_span x)) begins t.0);
       without = sym (subst (λ (k : List Span). remove_at lo (inserted_of k) ≡ inserted_of rest) (sym is) (subst (λ (n : ℕ). remove_at n (inserted_of (with_span x rest)) ≡ inserted_of rest) begins t.1));
       kept = record {
         bounds = h.bounds;

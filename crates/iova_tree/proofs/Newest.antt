@@ -4,7 +4,7 @@ use Rattle.std.specs.Prelude.{nat_lt}
 use Rattle.std.specs.List.{list_any}
 use Rattle.iova_range.specs.Frames.{Frames, covers}
 use Rattle.iova_model.specs.Fit.{is_covered}
-use Rattle.iova_tree.specs.Spans.{Span, frames_of, all_of, is_kind, of_kind, IsRisingFrom, with_span}
+use Rattle.iova_tree.specs.Spans.{Span, range_of_span, all_of, is_kind, of_kind, IsRisingFrom, with_span}
 use Rattle.std.specs.declared.alloc.Global.{Global}
 use Rattle.iova_tree.specs.declared.search.Wanted.{Wanted}
 use Rattle.iova_tree.specs.declared.subtree.Node.{Node}
@@ -28,37 +28,37 @@ or_swap true false c = refl
 or_swap false true c = refl
 or_swap false false c = refl
 
-pub covered_with : (frame : ℕ) (x : Span) (l : List Span) → is_covered frame (all_of (with_span x l)) ≡ (covers frame (frames_of x) || is_covered frame (all_of l))
+pub covered_with : (frame : ℕ) (x : Span) (l : List Span) → is_covered frame (all_of (with_span x l)) ≡ (covers frame (range_of_span x) || is_covered frame (all_of l))
 covered_with frame x [] = refl
 covered_with frame x (y ∷ l) = split (nat_lt x.lo y.lo) (covered_with frame x l)
   where
-    split : (b : Bool) → is_covered frame (all_of (with_span x l)) ≡ (covers frame (frames_of x) || is_covered frame (all_of l))
-        → is_covered frame (all_of (cond b (x ∷ y ∷ l) (y ∷ with_span x l))) ≡ (covers frame (frames_of x) || is_covered frame (all_of (y ∷ l)))
+    split : (b : Bool) → is_covered frame (all_of (with_span x l)) ≡ (covers frame (range_of_span x) || is_covered frame (all_of l))
+        → is_covered frame (all_of (cond b (x ∷ y ∷ l) (y ∷ with_span x l))) ≡ (covers frame (range_of_span x) || is_covered frame (all_of (y ∷ l)))
     split true e = refl
-    split false e = ap (λ z. covers frame (frames_of y) || z) e ∙ or_swap (covers frame (frames_of x)) (covers frame (frames_of y)) (is_covered frame (all_of l))
+    split false e = ap (λ z. covers frame (range_of_span y) || z) e ∙ or_swap (covers frame (range_of_span x)) (covers frame (range_of_span y)) (is_covered frame (all_of l))
 
 any_cons : (b : Bool) (p : Frames → Bool) (f : Frames) (l : List Frames) → list_any p (cond b (f ∷ l) l) ≡ ((b && p f) || list_any p l)
 any_cons true p f l = refl
 any_cons false p f l = refl
 
-pub any_with : (kind : Bool) (p : Frames → Bool) (x : Span) (l : List Span) → list_any p (of_kind kind (with_span x l)) ≡ ((is_kind kind x && p (frames_of x)) || list_any p (of_kind kind l))
-any_with kind p x [] = any_cons (is_kind kind x) p (frames_of x) []
+pub any_with : (kind : Bool) (p : Frames → Bool) (x : Span) (l : List Span) → list_any p (of_kind kind (with_span x l)) ≡ ((is_kind kind x && p (range_of_span x)) || list_any p (of_kind kind l))
+any_with kind p x [] = any_cons (is_kind kind x) p (range_of_span x) []
 any_with kind p x (y ∷ l) = split (nat_lt x.lo y.lo) (any_with kind p x l)
   where
     a : Bool
-    a = is_kind kind x && p (frames_of x)
+    a = is_kind kind x && p (range_of_span x)
 
     b : Bool
-    b = is_kind kind y && p (frames_of y)
+    b = is_kind kind y && p (range_of_span y)
 
     split : (c : Bool) → list_any p (of_kind kind (with_span x l)) ≡ (a || list_any p (of_kind kind l))
         → list_any p (of_kind kind (cond c (x ∷ y ∷ l) (y ∷ with_span x l))) ≡ (a || list_any p (of_kind kind (y ∷ l)))
-    split true e = any_cons (is_kind kind x) p (frames_of x) (of_kind kind (y ∷ l))
+    split true e = any_cons (is_kind kind x) p (range_of_span x) (of_kind kind (y ∷ l))
     split false e =
-        any_cons (is_kind kind y) p (frames_of y) (of_kind kind (with_span x l))
+        any_cons (is_kind kind y) p (range_of_span y) (of_kind kind (with_span x l))
         ∙ ap (λ z. b || z) e
         ∙ or_swap a b (list_any p (of_kind kind l))
-        ∙ ap (λ z. a || z) (sym (any_cons (is_kind kind y) p (frames_of y) (of_kind kind l)))
+        ∙ ap (λ z. a || z) (sym (any_cons (is_kind kind y) p (range_of_span y) (of_kind kind l)))
 
 -- The greatest fit.
 

@@ -9,12 +9,12 @@ pub record Span : Type 0 where
   pub end : ℕ
   pub window : Bool
 
-abbrev pub frames_of : Span → Frames
-frames_of x = record { lo = x.lo; len = x.end - x.lo }
+abbrev pub range_of_span : Span → Frames
+range_of_span x = record { lo = x.lo; len = x.end - x.lo }
 
 abbrev pub all_of : List Span → List Frames
 all_of [] = []
-all_of (x ∷ t) = frames_of x ∷ all_of t
+all_of (x ∷ t) = range_of_span x ∷ all_of t
 
 -- it is a window, or it was inserted
 abbrev pub is_kind : Bool → Span → Bool
@@ -23,7 +23,7 @@ is_kind false x = not x.window
 
 abbrev pub of_kind : Bool → List Span → List Frames
 of_kind kind [] = []
-of_kind kind (x ∷ t) = if is_kind kind x then frames_of x ∷ of_kind kind t else of_kind kind t
+of_kind kind (x ∷ t) = if is_kind kind x then range_of_span x ∷ of_kind kind t else of_kind kind t
 
 abbrev pub windows_of : List Span → List Frames
 windows_of spans = of_kind true spans

@@ -1,7 +1,7 @@
 //! The allocated ranges of a domain, its windows among them, and the highest place where a request fits between them.
 #![tactic(auto)]
 
-mod place;
+mod position;
 mod ranges;
 mod room;
 mod search;

@@ -1,3 +1,4 @@
+//! The greatest size that fits aligned into a gap.
 ghost use Rattle.std.specs.Prelude.{◌≡◌, ◌+◌, ◌^◌, ◌≤◌, ◌<◌, max, ℕ};
 ghost use Rattle.iova_tree.specs.Room.{room, FitsBetween};
 

@@ -1,3 +1,4 @@
+//! The highest place in a gap.
 ghost use Rattle.std.specs.Prelude.{◌≡◌};
 ghost use Rattle.std.specs.Int.{IsPowerOfTwo};
 ghost use Rattle.iova_tree.specs.Fit.{place};

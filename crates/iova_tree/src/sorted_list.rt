@@ -9,7 +9,7 @@ ghost use Rattle.iova_model.specs.Next.{from_to, union, windows_with};
 ghost use Rattle.iova_tree.specs.Space.{ranges_of, IsInside, IsSpace, reserve_refusal, clear_of};
 ghost use Rattle.iova_tree.specs.Sorted.{IsLastAligned, Picks};
 
-use crate::place::place_of;
+use crate::position::position_of;
 use crate::window::{count_clear, join, meets};
 use iova_range::bounds::Bounds;
 use iova_range::limits::{MAX_FRAMES, MAX_WINDOWS};
@@ -91,7 +91,7 @@ impl SortedList {
         ensures ok { OnOk result (self.new ≡ record self.old { inserted = insert_rising range self.old.inserted }) }
         ensures err { OnErr result ((result ≡ Err Refusal.NoMemory) × (self.new ≡ self.old)) }
     {
-        let at = place_of(&self.inserted, range.lo());
+        let at = position_of(&self.inserted, range.lo());
         let Ok(()) = self.inserted.insert(at, range) else {
             return Err(Refusal::NoMemory);
         };
@@ -104,7 +104,7 @@ impl SortedList {
         ensures value { find (begins_at lo) self.old.inserted ≡ Some result }
         ensures rest { self.new ≡ record self.old { inserted = remove_at lo self.old.inserted } }
     {
-        let at = place_of(&self.inserted, lo);
+        let at = position_of(&self.inserted, lo);
         self.inserted.remove(at)
     }
 
@@ -163,7 +163,7 @@ impl SortedList {
             return Err(Refusal::NoMemory);
         };
         let window = absorb(&mut self.windows, asked);
-        let at = place_of(&self.windows, window.lo());
+        let at = position_of(&self.windows, window.lo());
         self.windows.insert(at, window).unwrap();
         Ok(window)
     }

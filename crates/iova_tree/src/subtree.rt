@@ -7,7 +7,7 @@ ghost use Rattle.std.specs.Int.{IsPowerOfTwo};
 ghost use Rattle.std.specs.List.{list_any};
 ghost use Rattle.iova_range.specs.Frames.{covers, meets};
 ghost use Rattle.iova_model.specs.Fit.{is_covered};
-ghost use Rattle.iova_tree.specs.Spans.{frames_of, all_of, is_kind, inserted_of, first_or, end_after, room_after, room_below, room_between, with_span, IsRisingFrom, Holds, IsLow};
+ghost use Rattle.iova_tree.specs.Spans.{range_of_span, all_of, is_kind, inserted_of, first_or, end_after, room_after, room_below, room_between, with_span, IsRisingFrom, Holds, IsLow};
 ghost use Rattle.iova_tree.specs.Fit.{IsWanted, place_before, place_behind, highest_between, highest_free};
 ghost use Rattle.iova_tree.specs.Node.{node_summary, node_height, node_spans, own_span, IsSingle, IsBalanced, Rebalances, IsRootOf, PlacesBelow, HasSameSummary, TakesBelow, DifferByAtMost};
 
@@ -412,7 +412,7 @@ impl Node {
     #[inline]
     pub fn range(&self) -> Range
         requires { self.now.lo < self.now.end }
-        ensures { result ≡ frames_of (own_span self.now) }
+        ensures { result ≡ range_of_span (own_span self.now) }
     {
         Range::new(self.lo, self.end - self.lo)
     }
@@ -437,7 +437,7 @@ impl Node {
     #[inline]
     pub fn has(&self, frame: u64) -> bool
         requires { self.now.lo < self.now.end }
-        ensures { result ≡ covers frame (frames_of (own_span self.now)) }
+        ensures { result ≡ covers frame (range_of_span (own_span self.now)) }
     {
         self.lo <= frame && frame < self.end
     }
@@ -447,7 +447,7 @@ impl Node {
     pub fn is_taken(&self, lo: u64, end: u64) -> bool
         requires own { self.now.lo < self.now.end }
         requires asked { lo < end }
-        ensures { result ≡ (is_kind false (own_span self.now) && meets (record { lo = lo; len = end - lo }) (frames_of (own_span self.now))) }
+        ensures { result ≡ (is_kind false (own_span self.now) && meets (record { lo = lo; len = end - lo }) (range_of_span (own_span self.now))) }
     {
         !self.window && self.lo < end && lo < self.end
     }

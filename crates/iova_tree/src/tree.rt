@@ -1,3 +1,4 @@
+//! The allocated ranges and the windows of a domain.
 ghost use Rattle.std.specs.Prelude.{◌≡◌, ◌+◌, ◌≤◌, ◌<◌, [], length, IfOk, OnOk, OnErr, IsOkUnless, IsTrue, ◌↔◌, IsSome, IfSome, IfNone, Some, find, false, true};
 ghost use Rattle.std.specs.List.{list_any};
 ghost use Rattle.iova_range.specs.Frames.{meets};

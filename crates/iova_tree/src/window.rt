@@ -1,3 +1,4 @@
+//! Windows that join.
 ghost use Rattle.std.specs.Prelude.{◌≡◌, ◌+◌, ◌^◌, ◌≤◌, ◌<◌, ℕ, true, length, vec_len, vec_capacity, IfSome, IfNone};
 ghost use Rattle.iova_range.specs.Frames.{meets};
 ghost use Rattle.iova_model.specs.Fit.{is_clear};
@@ -7,7 +8,7 @@ ghost use Rattle.iova_tree.specs.Spans.{windows_of, inserted_of};
 ghost use Rattle.iova_tree.specs.Space.{RiseApart, LieWithin, clear_of};
 ghost use Rattle.iova_tree.specs.Node.{IsSingle};
 
-use crate::place::place_of;
+use crate::position::position_of;
 use crate::ranges::Ranges;
 use crate::subtree::Node;
 use iova_range::range::Range;
@@ -46,7 +47,7 @@ pub fn insert_window(windows: &mut Vec<Range>, window: Range)
     requires room { vec_len windows.old < vec_capacity windows.old }
     ensures { windows.new.items ≡ insert_rising window windows.old.items }
 {
-    let at = place_of(windows, window.lo());
+    let at = position_of(windows, window.lo());
     windows.insert(at, window).unwrap();
 }
 

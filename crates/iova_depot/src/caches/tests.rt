@@ -1,3 +1,4 @@
+//! Caches that fill, empty and are refused memory.
 ghost use Rattle.std.specs.Prelude.{◌<◌, ◌^◌};
 
 use super::*;

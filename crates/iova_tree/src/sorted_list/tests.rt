@@ -1,3 +1,4 @@
+//! The plain form.
 ghost use Rattle.std.specs.Prelude.{◌≡◌, ◌+◌, ◌^◌, ◌≤◌, ◌<◌, OnOk};
 
 use super::*;

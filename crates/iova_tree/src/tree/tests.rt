@@ -1,3 +1,4 @@
+//! Fits, windows and refused growths, and the tree beside the plain form.
 ghost use Rattle.std.specs.Prelude.{◌≡◌, OnOk, true};
 ghost use Rattle.iova_model.specs.Fit.{is_clear};
 ghost use Rattle.iova_model.specs.Clients.{insert_rising};

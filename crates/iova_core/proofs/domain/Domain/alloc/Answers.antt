@@ -83,8 +83,8 @@ invariant_of-self-in-Nowhere c =
     let comes = rw (mark, c.need.ensures.computed) at c.in-Nowhere.ensures.comes in
     domain_walked p c.self.invariant c.args.worker c.args.client c.args.frames c.args.limit asked.0 asked.1 c.walk.new.tree c.walk.new.caches found.Nowhere comes c.in-Nowhere.ensures.point c.in-Nowhere.ensures.stock c.steps_keep_validity.ensures c.room.new.self listed kept refl (ap (λ (n : Next). n.state) (alloc_is p c.self.invariant c.args.worker c.args.client c.args.frames c.args.limit asked.0 asked.1 c.walk.new.tree c.walk.new.caches found.Nowhere comes c.in-Nowhere.ensures.point c.in-Nowhere.ensures.stock) ∙ walked_state p c.self.invariant c.args.worker c.args.client c.args.frames c.args.limit asked.0 asked.1 c.walk.new.tree c.walk.new.caches found.Nowhere comes c.in-Nowhere.ensures.point c.in-Nowhere.ensures.stock c.room.new.self listed kept)
 
-pub invariant_of-self-in-Starved : goal.invariant_of-self-in-Starved
-invariant_of-self-in-Starved c =
+pub invariant_of-self-in-OutOfMemory : goal.invariant_of-self-in-OutOfMemory
+invariant_of-self-in-OutOfMemory c =
     let p : Parts = record { tree = c.self.inside.tree; clients = c.self.inside.clients; cached = c.self.inside.caches; rings = c.self.inside.rings.items; flushes = c.self.inside.flights; reserved = c.self.inside.reserved } in
     let s = state_of p in
     let count : c.workers.result ≡ p.cached.workers = rw (← c.self.view_is) at c.workers.ensures.is in
@@ -96,8 +96,8 @@ invariant_of-self-in-Starved c =
     let kept = rw same at c.room.ensures.serial in
     let asked = asked_from s c.args.worker c.args.client c.args.frames known (omega arith) c.if-frames-gt-MAX_FRAMES.false owner room in
     let mark : c.in-Some.marks.sac ≡ asked.0.sac = looked_up_sac c.args.worker _ c.in-Some.marks asked.0 c.in-Some.ensures.is asked.1.found in
-    let comes = rw (mark, c.need.ensures.computed) at c.in-Starved.ensures.comes in
-    domain_walked p c.self.invariant c.args.worker c.args.client c.args.frames c.args.limit asked.0 asked.1 c.walk.new.tree c.walk.new.caches (found.Starved c.in-Starved.point) comes c.in-Starved.ensures.point c.in-Starved.ensures.stock c.steps_keep_validity.ensures c.room.new.self listed kept refl (ap (λ (n : Next). n.state) (alloc_is p c.self.invariant c.args.worker c.args.client c.args.frames c.args.limit asked.0 asked.1 c.walk.new.tree c.walk.new.caches (found.Starved c.in-Starved.point) comes c.in-Starved.ensures.point c.in-Starved.ensures.stock) ∙ walked_state p c.self.invariant c.args.worker c.args.client c.args.frames c.args.limit asked.0 asked.1 c.walk.new.tree c.walk.new.caches (found.Starved c.in-Starved.point) comes c.in-Starved.ensures.point c.in-Starved.ensures.stock c.room.new.self listed kept)
+    let comes = rw (mark, c.need.ensures.computed) at c.in-OutOfMemory.ensures.comes in
+    domain_walked p c.self.invariant c.args.worker c.args.client c.args.frames c.args.limit asked.0 asked.1 c.walk.new.tree c.walk.new.caches (found.OutOfMemory c.in-OutOfMemory.point) comes c.in-OutOfMemory.ensures.point c.in-OutOfMemory.ensures.stock c.steps_keep_validity.ensures c.room.new.self listed kept refl (ap (λ (n : Next). n.state) (alloc_is p c.self.invariant c.args.worker c.args.client c.args.frames c.args.limit asked.0 asked.1 c.walk.new.tree c.walk.new.caches (found.OutOfMemory c.in-OutOfMemory.point) comes c.in-OutOfMemory.ensures.point c.in-OutOfMemory.ensures.stock) ∙ walked_state p c.self.invariant c.args.worker c.args.client c.args.frames c.args.limit asked.0 asked.1 c.walk.new.tree c.walk.new.caches (found.OutOfMemory c.in-OutOfMemory.point) comes c.in-OutOfMemory.ensures.point c.in-OutOfMemory.ensures.stock c.room.new.self listed kept)
 
 pub returns-in-Placed-clause-state : goal.returns-in-Placed-clause-state
 returns-in-Placed-clause-state c =
@@ -134,8 +134,8 @@ returns-in-Nowhere-clause-state c =
     let comes = rw (mark, c.need.ensures.computed) at c.in-Nowhere.ensures.comes in
     rw (← c.self.view_is, c.refused-in-Nowhere.ensures.point) (sym (ap (λ (n : Next). n.state) (alloc_is p c.self.invariant c.args.worker c.args.client c.args.frames c.args.limit asked.0 asked.1 c.walk.new.tree c.walk.new.caches found.Nowhere comes c.in-Nowhere.ensures.point c.in-Nowhere.ensures.stock) ∙ walked_state p c.self.invariant c.args.worker c.args.client c.args.frames c.args.limit asked.0 asked.1 c.walk.new.tree c.walk.new.caches found.Nowhere comes c.in-Nowhere.ensures.point c.in-Nowhere.ensures.stock c.room.new.self listed kept))
 
-pub returns-in-Starved-clause-state : goal.returns-in-Starved-clause-state
-returns-in-Starved-clause-state c =
+pub returns-in-OutOfMemory-clause-state : goal.returns-in-OutOfMemory-clause-state
+returns-in-OutOfMemory-clause-state c =
     let p : Parts = record { tree = c.self.inside.tree; clients = c.self.inside.clients; cached = c.self.inside.caches; rings = c.self.inside.rings.items; flushes = c.self.inside.flights; reserved = c.self.inside.reserved } in
     let s = state_of p in
     let count : c.workers.result ≡ p.cached.workers = rw (← c.self.view_is) at c.workers.ensures.is in
@@ -147,5 +147,5 @@ returns-in-Starved-clause-state c =
     let kept = rw same at c.room.ensures.serial in
     let asked = asked_from s c.args.worker c.args.client c.args.frames known (omega arith) c.if-frames-gt-MAX_FRAMES.false owner room in
     let mark : c.in-Some.marks.sac ≡ asked.0.sac = looked_up_sac c.args.worker _ c.in-Some.marks asked.0 c.in-Some.ensures.is asked.1.found in
-    let comes = rw (mark, c.need.ensures.computed) at c.in-Starved.ensures.comes in
-    rw (← c.self.view_is) (sym (ap (λ (n : Next). n.state) (alloc_is p c.self.invariant c.args.worker c.args.client c.args.frames c.args.limit asked.0 asked.1 c.walk.new.tree c.walk.new.caches (found.Starved c.in-Starved.point) comes c.in-Starved.ensures.point c.in-Starved.ensures.stock) ∙ walked_state p c.self.invariant c.args.worker c.args.client c.args.frames c.args.limit asked.0 asked.1 c.walk.new.tree c.walk.new.caches (found.Starved c.in-Starved.point) comes c.in-Starved.ensures.point c.in-Starved.ensures.stock c.room.new.self listed kept))
+    let comes = rw (mark, c.need.ensures.computed) at c.in-OutOfMemory.ensures.comes in
+    rw (← c.self.view_is) (sym (ap (λ (n : Next). n.state) (alloc_is p c.self.invariant c.args.worker c.args.client c.args.frames c.args.limit asked.0 asked.1 c.walk.new.tree c.walk.new.caches (found.OutOfMemory c.in-OutOfMemory.point) comes c.in-OutOfMemory.ensures.point c.in-OutOfMemory.ensures.stock) ∙ walked_state p c.self.invariant c.args.worker c.args.client c.args.frames c.args.limit asked.0 asked.1 c.walk.new.tree c.walk.new.caches (found.OutOfMemory c.in-OutOfMemory.point) comes c.in-OutOfMemory.ensures.point c.in-OutOfMemory.ensures.stock c.room.new.self listed kept))

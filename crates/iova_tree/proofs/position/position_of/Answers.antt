@@ -3,7 +3,7 @@ use Rattle.std.specs.Prelude.{nat_lt}
 use Rattle.std.proofs.lemmas.List.Sorted.{IsPartitionPoint-from_clause, IsPartitionedBy-ltb}
 use Rattle.std.proofs.lemmas.Bool.Decides.{nat_tests}
 use Rattle.iova_range.specs.Frames.{Frames}
-use Rattle.iova_tree.proofs.place.place_of.Goals as goal
+use Rattle.iova_tree.proofs.position.position_of.Goals as goal
 
 pub returns-clause-below : goal.returns-clause-below
 returns-clause-below c k d lt =

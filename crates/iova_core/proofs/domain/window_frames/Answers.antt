@@ -1,7 +1,7 @@
 use Rattle.std.proofs.Common.{ap, arith}
 use Rattle.std.proofs.lemmas.List.Sums.{sum_by_more, sum_by_more_le}
 use Rattle.iova_range.specs.Frames.{Frames}
-use Rattle.iova_core.proofs.domain.frames_of.Goals as goal
+use Rattle.iova_core.proofs.domain.window_frames.Goals as goal
 
 pub overflow_add-frames : goal.overflow_add-frames
 overflow_add-frames c =

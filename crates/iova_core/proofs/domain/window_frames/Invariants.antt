@@ -1,5 +1,5 @@
 use Rattle.std.proofs.Common.{◌≡◌, take, sum_by}
-use Rattle.iova_core.proofs.domain.frames_of.Given as goal
+use Rattle.iova_core.proofs.domain.window_frames.Given as goal
 
 -- the frames of the windows so far
 abbrev pub invariant-loop-window : goal.invariant-loop-window
