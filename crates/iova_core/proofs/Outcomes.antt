@@ -1,7 +1,6 @@
 -- What a call's clauses on its refusals say together, and whose a client is.
-use Rattle.std.proofs.Common.{ℕ, ◌≡◌, ◌==◌, Bool, true, false, not, Option, Some, None, refl, sym, ap, subst, ◌∙◌, ◌⊎◌, inl, inr}
-use Rattle.std.specs.Prelude.{Result, Ok, Err, IfSome, IfNone, IsOkUnless, option_map, option_and_then, nat_eq, if◌then◌else◌}
-use Rattle.std.specs.Option.{option_eq}
+use Rattle.std.proofs.Common.{ℕ, ◌≡◌, ◌==◌, Bool, true, false, Option, Some, None, refl, sym, ap, subst, ◌∙◌, ◌⊎◌, inl, inr}
+use Rattle.std.specs.Prelude.{Result, Ok, Err, IfSome, IfNone, IsOkUnless, option_map, option_and_then, if◌then◌else◌}
 use Rattle.std.proofs.lemmas.Bool.Decides.{nat_tests}
 use Rattle.std.proofs.Common.{arith}
 use Rattle.iova_range.specs.declared.refusal.Refusal.{Refusal}

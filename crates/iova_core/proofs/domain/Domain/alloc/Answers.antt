@@ -1,6 +1,4 @@
-use Rattle.std.proofs.Common.{◌≡◌, ◌<◌, false, refl, sym, ap, ◌∙◌, arith}
-use Rattle.std.specs.Prelude.{unwrap_or, option_map}
-use Rattle.iova_model.specs.Clients.{Client, client_with}
+use Rattle.std.proofs.Common.{◌≡◌, ◌<◌, refl, sym, ap, ◌∙◌, arith}
 use Rattle.iova_model.specs.Next.{Next}
 use Rattle.iova_core.specs.Domain.{Parts, state_of}
 use Rattle.iova_core.specs.declared.walk.Found.TheVariants as found
