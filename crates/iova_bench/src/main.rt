@@ -2,6 +2,7 @@
 //! the name, how many ranges are live, how many operations were run, and how many nanoseconds one took, the best of three.
 #![tactic(auto)]
 
+mod ledger;
 mod machine;
 mod random;
 mod tree;
@@ -24,12 +25,16 @@ fn run(rt: &HostRuntime) -> anyhow::Result<()> {
         for case in machine::CASES {
             println!(rt; "{case}")?;
         }
+        for case in ledger::CASES {
+            println!(rt; "{case}")?;
+        }
         for case in tree::CASES {
             println!(rt; "{case}")?;
         }
     }
     for word in words.iter().skip(1) {
         machine::run(rt, alloc, word.as_str())?;
+        ledger::run(rt, alloc, word.as_str())?;
         tree::run(rt, alloc, word.as_str())?;
     }
     Ok(())

@@ -1,12 +1,12 @@
 -- The clients and their spares, as the accounts change.
-use Rattle.std.proofs.Common.{◌≡◌, ◌≢◌, ℕ, ◌==◌, Bool, true, false, cond, List, [], ◌∷◌, ◌++◌, Option, None, Some, option_map, unwrap_or, IsSome, refl, sym, ap, ◌∙◌, arith}
+use Rattle.std.proofs.Common.{◌≡◌, ◌≢◌, ℕ, Bool, true, false, cond, List, [], ◌∷◌, ◌++◌, Option, None, Some, option_map, unwrap_or, IsSome, refl, sym, ap, ◌∙◌, arith}
 use Rattle.std.specs.Prelude.{IsSomeAnd, Result, Ok, Err, ok_or}
 use Rattle.iova_range.specs.declared.refusal.Refusal.{Refusal}
 use Rattle.std.specs.Option.{option_copied_mut}
 use Rattle.std.specs.Borrow.{MutBor}
 use Rattle.std.specs.Map.{lookup, remove_entry, set_value}
 use Rattle.std.proofs.lemmas.Bool.Decides.{nat_tests}
-use Rattle.iova_model.specs.Clients.{Client, has_id, client_with, changed, forgotten}
+use Rattle.iova_model.specs.Clients.{Client, client_with, changed, forgotten}
 use Rattle.iova_clients.specs.Registry.{is_serial}
 use Rattle.iova_clients.specs.Accounts.{Account, client_at, clients_at, spares_at}
 

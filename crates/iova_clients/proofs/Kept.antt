@@ -1,13 +1,13 @@
 -- What is true of all clients, as one of them changes, comes or goes.
-use Rattle.std.proofs.Common.{◌≡◌, ◌≢◌, ℕ, suc, ◌+◌, ◌-◌, ◌^◌, ◌<◌, ◌≤◌, ◌==◌, Bool, true, false, cond, List, [], ◌∷◌, ◌++◌, length, Option, None, Some, find, refl, sym, ap, ◌∙◌, subst, arith, length-append}
+use Rattle.std.proofs.Common.{◌≡◌, ◌≢◌, ℕ, suc, ◌+◌, ◌-◌, ◌^◌, ◌<◌, ◌≤◌, ◌==◌, Bool, true, false, cond, List, [], ◌∷◌, ◌++◌, length, None, Some, find, refl, sym, ap, ◌∙◌, subst, arith, length-append}
 use Rattle.std.specs.Prelude.{nat_lt}
 use Rattle.std.specs.List.{AllByRecursion}
 use Rattle.std.specs.Map.{lookup}
 use Rattle.std.proofs.lemmas.Bool.Decides.{nat_tests}
 use Rattle.iova_range.specs.Frames.{Frames}
 use Rattle.iova_model.specs.Clients.{Client, new_client, has_id, client_with, changed, forgotten, insert_rising, begins_at, remove_at, with_holding, without_holding}
-use Rattle.iova_model.specs.Valid.{IsRequestSized, Rises, IsClient, SerialsRise, AreClients}
-use Rattle.iova_clients.specs.Registry.{Registry, IsLow, HoldsLow, IsRegistry, is_serial}
+use Rattle.iova_model.specs.Valid.{IsRequestSized, Rises, IsClient, SerialsRise}
+use Rattle.iova_clients.specs.Registry.{Registry, HoldsLow, IsRegistry, is_serial}
 use Rattle.iova_clients.specs.Accounts.{Account, client_at, clients_at}
 use Rattle.iova_clients.proofs.Changed.{client_some}
 use Rattle.iova_clients.proofs.Rising.{Rises-from}

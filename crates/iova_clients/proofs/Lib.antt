@@ -1,3 +1,4 @@
+mod Shifting
 mod Listed
 mod Rising
 mod AccountLemmas

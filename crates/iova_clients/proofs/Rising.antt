@@ -1,14 +1,13 @@
 -- Holdings that rise by first frame, and the places that a binary search finds in them.
-use Rattle.std.proofs.Common.{◌≡◌, ◌≢◌, ℕ, zero, suc, ◌+◌, ◌<◌, ◌≤◌, ◌==◌, ◌⊎◌, inl, inr, Bool, true, false, cond, List, [], ◌∷◌, ◌++◌, length, take, drop, insert, remove, find, get_or, Option, None, Some, Result, Ok, Err, MatchResult, refl, sym, ap, ◌∙◌, subst, arith}
+use Rattle.std.proofs.Common.{◌≡◌, ◌≢◌, ℕ, zero, suc, ◌+◌, ◌<◌, ◌≤◌, ◌==◌, Bool, true, false, List, [], ◌∷◌, length, insert, remove, find, get_or, None, Some, refl, sym, ap, arith, take, ◌∙◌}
 use Rattle.std.specs.Prelude.{nat_lt, nat_le}
-use Rattle.std.specs.Ordering.{nat_cmp, ordering_index}
-use Rattle.std.specs.declared.cmp.Ordering.TheVariants.{Less, Equal, Greater}
-use Rattle.std.specs.List.Sorted.{IsNonDecreasingBy, IsPartitionedBy, IsPartitionPoint, IsBinarySearchResult, IsSearchInRange}
-use Rattle.std.specs.Result.{result_ok}
+use Rattle.std.specs.List.Sorted.{IsNonDecreasingBy, IsPartitionPoint}
 use Rattle.std.proofs.lemmas.Bool.Decides.{nat_tests}
+use Rattle.std.proofs.lemmas.List.{get_or-take, get_or_default, length-take-le}
 use Rattle.iova_range.specs.Frames.{Frames}
 use Rattle.iova_model.specs.Clients.{insert_rising, begins_at, remove_at}
 use Rattle.iova_model.specs.Valid.{Rises}
+use Rattle.iova_clients.specs.Registry.{AllBehind, IsReach}
 
 -- a later start asks more
 pub Rises-from : (low high : ℕ) (rs : List Frames) → low ≤ high → Rises high rs → Rises low rs
@@ -77,37 +76,62 @@ remove_at_place from lo (x ∷ rs) (suc i) d h lt is =
     let other : (x.lo == lo) ≡ false = grind (arith, nat_tests) in
     rw other (ap (λ l. x ∷ l) (remove_at_place (x.lo + 1) lo rs i d h.1 (omega arith) is))
 
--- What a binary search by first frame says.
+-- How many begin at a frame or below.
 
-index_rises : (a b lo : ℕ) → a ≤ b → ordering_index (nat_cmp a lo) ≤ ordering_index (nat_cmp b lo)
-index_rises a b lo le = grind (arith, nat_tests)
+pub Rises-rising : (from : ℕ) (rs : List Frames) → Rises from rs → (i j : ℕ) (d : Frames) → i < j → j < length rs → (get_or rs i d).lo < (get_or rs j d).lo
+Rises-rising from [] h i j d lt within = absurd (omega arith)
+Rises-rising from (r ∷ rs) h i zero d lt within = absurd (omega arith)
+Rises-rising from (r ∷ rs) h zero (suc j) d lt within =
+    let later : r.lo + 1 ≤ (get_or rs j d).lo = get_or-Rises (r.lo + 1) rs j d h.1 (omega arith) in omega arith
+Rises-rising from (r ∷ rs) h (suc i) (suc j) d lt within = Rises-rising (r.lo + 1) rs h.1 i j d (omega arith) (omega arith)
 
-less_differs : (a lo : ℕ) → nat_cmp a lo ≡ Less → a ≢ lo
-less_differs a lo is = grind (arith, nat_tests)
+-- behind one that begins above, all do
+pub behind_one : (lo place : ℕ) (rs : List Frames) (x : Frames) → Rises 0 rs → lo < (get_or rs place x).lo → AllBehind place lo rs
+behind_one lo place rs x rises above k d le within =
+    let same : get_or rs place x ≡ get_or rs place d = get_or_default rs place x d (omega arith) in
+    let here : lo < (get_or rs place d).lo = rw same at above in
+    let up : (get_or rs place d).lo ≤ (get_or rs k d).lo = Rises-non_decreasing 0 rs rises place k d le within in omega arith
 
-greater_differs : (a lo : ℕ) → nat_cmp a lo ≡ Greater → a ≢ lo
-greater_differs a lo is = grind (arith, nat_tests)
-
-equal_same : (a lo : ℕ) → nat_cmp a lo ≡ Equal → a ≡ lo
-equal_same a lo is = grind (arith, nat_tests)
-
-pub searched_some : (lo i : ℕ) (rs : List Frames) (r : Result ℕ ℕ) (d : Frames) → IsBinarySearchResult (λ (x : Frames). nat_cmp x.lo lo) rs r → IsSearchInRange r (length rs)
-    → result_ok r ≡ Some i → ((get_or rs i d).lo ≡ lo) × (i < length rs)
-searched_some lo i rs (Ok j) d h within is =
-    let same : j ≡ i = cc in
-    (equal_same (get_or rs i d).lo lo (rw same at h d), rw same at within)
-searched_some lo i rs (Err j) d h within is = absurd (let bad : None ≡ Some i = is in cc)
-
-pub searched_none : (from lo : ℕ) (rs : List Frames) (r : Result ℕ ℕ) → Rises from rs → IsBinarySearchResult (λ (x : Frames). nat_cmp x.lo lo) rs r
-    → result_ok r ≡ None → find (begins_at lo) rs ≡ None
-searched_none from lo rs (Ok j) rises h is = absurd (let bad : Some j ≡ None = is in cc)
-searched_none from lo rs (Err i) rises h is =
-    let up : IsNonDecreasingBy (λ (x : Frames). ordering_index (nat_cmp x.lo lo)) rs =
-    λ a b d le lt. index_rises (get_or rs a d).lo (get_or rs b d).lo lo (Rises-non_decreasing from rs rises a b d le lt) in
-    let point = h up in
-    find_none lo rs (λ k d lt. split k d lt (nat_lt k i) refl point)
+pub reach_is : (lo n p : ℕ) (rs : List Frames) → n ≤ length rs → AllBehind n lo rs → p ≤ n
+    → IsPartitionPoint (λ (x : Frames). nat_le x.lo lo ≡ true) (λ (x : Frames). nat_le x.lo lo ≡ false) (take n rs) p → IsReach lo rs p
+reach_is lo n p rs within far le point = record {
+  before = λ k d lt. let test : nat_le (get_or rs k d).lo lo ≡ true = rw (get_or-take n rs k d (omega arith)) at (point.0 k d (omega arith) lt) in grind (arith, nat_tests);
+  behind = λ k d ge lt. near k d ge lt (nat_lt k n) refl;
+}
   where
-    split : (k : ℕ) (d : Frames) → k < length rs → (b : Bool) → nat_lt k i ≡ b
-        → IsPartitionPoint (λ (x : Frames). nat_cmp x.lo lo ≡ Less) (λ (x : Frames). nat_cmp x.lo lo ≡ Greater) rs i → (get_or rs k d).lo ≢ lo
-    split k d lt true below point = less_differs (get_or rs k d).lo lo (point.0 k d (omega arith) (grind (arith, nat_tests)))
-    split k d lt false above point = greater_differs (get_or rs k d).lo lo (point.1 k d (grind (arith, nat_tests)) lt)
+    near : (k : ℕ) (d : Frames) → p ≤ k → k < length rs → (b : Bool) → nat_lt k n ≡ b → lo < (get_or rs k d).lo
+    near k d ge lt true is =
+        let low : k < n = grind (arith, nat_tests) in
+        let long : length (take n rs) ≡ n = length-take-le n rs within in
+        let test : nat_le (get_or rs k d).lo lo ≡ false = rw (get_or-take n rs k d low) at (point.1 k d ge (omega arith)) in
+        grind (arith, nat_tests)
+    near k d ge lt false is = far k d (grind (arith, nat_tests)) lt
+
+pub insert_at_reach : (r : Frames) (rs : List Frames) (i : ℕ) → i ≤ length rs → IsReach r.lo rs i → insert rs i r ≡ insert_rising r rs
+insert_at_reach r rs i le h = insert_at_point r rs i le (
+  (λ k d low high. let e : (get_or rs k d).lo ≤ r.lo = h.before k d high in grind (arith, nat_tests)),
+  (λ k d low high. let e : r.lo < (get_or rs k d).lo = h.behind k d low high in grind (arith, nat_tests)),
+)
+
+-- none begins there, where none begins there or below, or the last of those that do begins below
+pub none_reached : (lo : ℕ) (rs : List Frames) → IsReach lo rs 0 → find (begins_at lo) rs ≡ None
+none_reached lo rs h = find_none lo rs (λ k d lt is. let above : lo < (get_or rs k d).lo = h.behind k d (omega arith) lt in omega arith)
+
+pub none_last : (lo i : ℕ) (rs : List Frames) (x : Frames) → Rises 0 rs → IsReach lo rs (i + 1) → i < length rs → (get_or rs i x).lo ≢ lo → find (begins_at lo) rs ≡ None
+none_last lo i rs x rises h within ne = find_none lo rs (λ k d lt. step k d lt (nat_lt k i) refl (nat_lt i k) refl)
+  where
+    step : (k : ℕ) (d : Frames) → k < length rs → (b : Bool) → nat_lt k i ≡ b → (c : Bool) → nat_lt i k ≡ c → (get_or rs k d).lo ≢ lo
+    step k d lt true low c e is =
+        let less : (get_or rs k d).lo < (get_or rs i d).lo = Rises-rising 0 rs rises k i d (grind (arith, nat_tests)) within in
+        let last : (get_or rs i d).lo ≤ lo = h.before i d (omega arith) in omega arith
+    step k d lt false low true high is =
+        let above : lo < (get_or rs k d).lo = h.behind k d (grind (arith, nat_tests)) lt in omega arith
+    step k d lt false low false high is =
+        let here : k ≡ i = grind (arith, nat_tests) in
+        let same : get_or rs k d ≡ get_or rs i x = rw here (get_or_default rs i d x within) in
+        ne (ap (λ (f : Frames). f.lo) (sym same) ∙ is)
+
+pub Rises-take : (from n : ℕ) (rs : List Frames) → Rises from rs → Rises from (take n rs)
+Rises-take from zero rs h = tt
+Rises-take from (suc n) [] h = tt
+Rises-take from (suc n) (r ∷ rs) h = (h.0, Rises-take (r.lo + 1) n rs h.1)

@@ -1,16 +1,15 @@
 -- The totals over some clients, as one of them changes, comes or goes.
-use Rattle.std.proofs.Common.{◌≡◌, ◌≢◌, ℕ, suc, ◌+◌, ◌-◌, ◌*◌, ◌^◌, ◌<◌, ◌≤◌, ◌==◌, Bool, true, false, cond, List, [], ◌∷◌, ◌++◌, length, Option, None, Some, find, filter, sum_by, slice_set, refl, sym, ap, ◌∙◌, arith, length-append}
-use Rattle.std.specs.Prelude.{nat_lt, slice_index_or, replicate}
+use Rattle.std.proofs.Common.{◌≡◌, ℕ, suc, ◌+◌, ◌*◌, ◌^◌, ◌≤◌, ◌==◌, Bool, true, false, cond, List, [], ◌∷◌, ◌++◌, length, None, Some, find, filter, sum_by, refl, sym, ap, ◌∙◌, arith, length-append}
+use Rattle.std.specs.Prelude.{nat_lt}
 use Rattle.std.specs.List.{AllByRecursion}
 use Rattle.std.proofs.lemmas.List.Sums.{sum_by-cons, sum_by-append}
-use Rattle.std.proofs.lemmas.Bool.Decides.{nat_tests}
 use Rattle.iova_range.specs.Frames.{Frames}
 use Rattle.iova_model.specs.declared.totals.Totals.{Totals}
-use Rattle.iova_model.specs.Clients.{Client, new_client, has_id, client_with, changed, forgotten, insert_rising, begins_at, remove_at, with_holding, without_holding, totals_of, all_holdings, totals, share_of}
-use Rattle.iova_model.specs.Valid.{IsRequestSized, IsClient}
+use Rattle.iova_model.specs.Clients.{Client, has_id, client_with, changed, forgotten, insert_rising, begins_at, remove_at, with_holding, without_holding, totals_of, all_holdings, totals, share_of}
+use Rattle.iova_model.specs.Valid.{IsClient}
 use Rattle.iova_clients.specs.Registry.{Registry, IsLow, HoldsLow, IsRegistry}
 use Rattle.iova_clients.proofs.Kept.{length-insert_rising}
-use Rattle.iova_clients.specs.Sums.{no_totals, with_one, without_one, HaveRoom, Include}
+use Rattle.iova_clients.specs.Sums.{with_one, without_one, HaveRoom, Include}
 
 -- The totals over the clients that pass a test, as three sums over the clients.
 

@@ -1,7 +1,14 @@
 -- The accounts of the clients, by rising serial, and where they are stored.
 use Rattle.std.specs.Prelude.{◌≡◌, ◌≢◌, ℕ, Bool, List, [], ◌∷◌, ◌++◌, map, Option, None, Some, IsSome}
+use Rattle.std.specs.Map.{lookup}
 use Rattle.iova_range.specs.Frames.{Frames}
 use Rattle.iova_model.specs.Clients.{Client}
+use Rattle.iova_clients.specs.Registry.{is_serial}
+
+-- What `Holdings` are seen as: ranges in a row, and how many more fit without memory
+pub record Row : Type 0 where
+  pub ranges : List Frames
+  pub spare : ℕ
 
 -- What a `Ledger` is seen as: a client but for its serial, and how many more holdings fit without memory
 pub record Account : Type 0 where
@@ -30,6 +37,15 @@ IsApart key (e ∷ es) = (e.1 ≢ key) × IsApart key es
 abbrev pub AreKeyed : (ℕ → Option Account) → List (ℕ × ℕ) → Type 0
 AreKeyed at [] = Unit {0}
 AreKeyed at (e ∷ es) = IsSome (at e.1) × IsApart e.1 es × AreKeyed at es
+
+-- the serial that was looked up last has this key
+abbrev pub IsRemembered : Option (ℕ × ℕ) → List (ℕ × ℕ) → Type 0
+IsRemembered None keys = Unit {0}
+IsRemembered (Some e) keys = lookup (is_serial e.0) keys ≡ Some e.1
+
+pub record AreLedgers (at : ℕ → Option Account) (keys : List (ℕ × ℕ)) (last : Option (ℕ × ℕ)) : Type 0 where
+  pub keyed : AreKeyed at keys
+  pub remembered : IsRemembered last keys
 
 -- the client of this serial and account
 abbrev pub client_at : ℕ × Account → Client

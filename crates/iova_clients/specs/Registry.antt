@@ -1,7 +1,8 @@
 -- What `Clients` are seen as, and what refuses a call of theirs.
-use Rattle.std.specs.Prelude.{ℕ, ◌≡◌, ◌==◌, ◌+◌, ◌-◌, ◌^◌, ◌<◌, ◌≤◌, Bool, true, nat_le, List, [], ◌∷◌, length, Option, Some, None, Result, Err, unwrap_or, find, option_map, ok_or, slice_get, if◌then◌else◌}
+use Rattle.std.specs.Prelude.{ℕ, ◌≡◌, ◌==◌, ◌+◌, ◌^◌, ◌<◌, ◌≤◌, Bool, true, nat_le, List, [], ◌∷◌, length, Option, Some, None, Result, Err, unwrap_or, find, option_map, ok_or, slice_get, slice_index_or}
 use Rattle.std.specs.List.{AllByRecursion}
 use Rattle.std.specs.Map.{lookup}
+use Rattle.iova_range.specs.declared.limits.TheConstants.{MAX_WORKERS, MAX_CLIENTS, MAX_HOLDINGS, MAX_SERIAL}
 use Rattle.iova_range.specs.declared.refusal.Refusal.{Refusal}
 use Rattle.iova_range.specs.declared.refusal.Refusal.TheVariants as refusal
 use Rattle.iova_range.specs.Frames.{Frames}
@@ -9,6 +10,7 @@ use Rattle.iova_model.specs.Fit.{is_covered}
 use Rattle.iova_model.specs.Clients.{Client, begins_at}
 use Rattle.iova_model.specs.Next.{first_refusal}
 use Rattle.iova_model.specs.Valid.{AreClients}
+use Rattle.iova_clients.specs.declared.marks.Marks.{Marks}
 
 -- The clients, rising by serial; the last serial given; and by the serial of each client how many more holdings it can be given
 -- without memory
@@ -37,7 +39,7 @@ HoldsLow c = AllByRecursion IsLow c.holdings
 
 -- what is true of all `Clients`, the workers being 0 to 15
 pub record IsRegistry (r : Registry) : Type 0 where
-  pub clients : AreClients 16 r.clients r.serial
+  pub clients : AreClients MAX_WORKERS r.clients r.serial
   pub low : AllByRecursion HoldsLow r.clients
 
 -- Refusals
@@ -45,22 +47,40 @@ pub record IsRegistry (r : Registry) : Type 0 where
 -- of `open`, where memory is left
 abbrev pub open_refusal : Registry → Option Refusal
 open_refusal r =
-    first_refusal ((nat_le (2 ^ 63 - 1) r.serial, refusal.Worn) ∷ (nat_le 1024 (length r.clients), refusal.ClientsFull) ∷ [])
+    first_refusal ((nat_le MAX_SERIAL r.serial, refusal.Worn) ∷ (nat_le MAX_CLIENTS (length r.clients), refusal.ClientsFull) ∷ [])
 
 -- of `room`, where memory is left
 abbrev pub room_refusal : Option Client → Option Refusal
 room_refusal None = Some refusal.NoClient
-room_refusal (Some c) = first_refusal ((c.closing, refusal.Closing) ∷ (nat_le 4096 (length c.holdings), refusal.HoldingsFull) ∷ [])
+room_refusal (Some c) = first_refusal ((c.closing, refusal.Closing) ∷ (nat_le MAX_HOLDINGS (length c.holdings), refusal.HoldingsFull) ∷ [])
 
 -- a client has fewer than 4,096 holdings, none of which begins where the range does
 pub record CanBeGiven (r : Frames) (c : Client) : Type 0 where
-  pub room : length c.holdings < 4096
+  pub room : length c.holdings < MAX_HOLDINGS
   pub new : find (begins_at r.lo) c.holdings ≡ None
 
 -- the holding that begins there
 abbrev pub held_at : ℕ → Option Client → Result Frames Refusal
 held_at lo None = Err refusal.NoClient
 held_at lo (Some c) = ok_or (find (begins_at lo) c.holdings) refusal.NotHeld
+
+-- the holdings from this place on begin above `lo`
+abbrev pub AllBehind : ℕ → ℕ → List Frames → Type 0
+AllBehind place lo holdings = (k : ℕ) (d : Frames) → place ≤ k → k < length holdings → lo < (slice_index_or holdings k d).lo
+
+-- those before this place begin at `lo` or below, and the others above
+pub record IsReach (lo : ℕ) (holdings : List Frames) (place : ℕ) : Type 0 where
+  pub before : (k : ℕ) (d : Frames) → k < place → (slice_index_or holdings k d).lo ≤ lo
+  pub behind : AllBehind place lo holdings
+
+-- the holding at this place begins there
+pub record StandsAt (lo : ℕ) (holdings : List Frames) (place : ℕ) : Type 0 where
+  pub within : place < length holdings
+  pub begins : (d : Frames) → (slice_index_or holdings place d).lo ≡ lo
+
+-- what a step asks of a client before it looks at a holding
+abbrev pub marks_of : Client → Marks
+marks_of c = record { sac = c.sac; closing = c.closing }
 
 -- the lowest holding
 abbrev pub lowest : Client → Option Frames

@@ -1,11 +1,13 @@
-ghost use Rattle.std.specs.Prelude.{◌≡◌, ◌≤◌, ◌+◌, ◌-◌, false, true, [], find, Some, Err, OnOk, OnErr, OnSome, IfSome, IfNone, IsOkUnless};
+//! The ledger of one client.
+ghost use Rattle.std.specs.Prelude.{◌≡◌, ◌≤◌, ◌+◌, ◌-◌, false, true, [], find, length, Some, Err, OnOk, OnErr, OnSome, IfSome, IfNone, None, IsOkUnless};
 ghost use Rattle.iova_model.specs.Fit.{is_covered};
 ghost use Rattle.iova_model.specs.Clients.{insert_rising, begins_at, remove_at};
 ghost use Rattle.iova_model.specs.Valid.{Rises};
-ghost use Rattle.iova_clients.specs.Registry.{room_refusal};
+ghost use Rattle.iova_clients.specs.Registry.{room_refusal, StandsAt, IsReach, AllBehind};
 ghost use Rattle.iova_clients.specs.Accounts.{client_at};
 
-use crate::MAX_HOLDINGS;
+use crate::holdings::Holdings;
+use iova_range::limits::MAX_HOLDINGS;
 use iova_range::range::Range;
 use iova_range::refusal::Refusal;
 use std::alloc::Global;
@@ -17,11 +19,10 @@ pub(crate) struct Ledger {
     worker: u64,
     sac: bool,
     closing: bool,
-    holdings: Vec<Range>,
+    holdings: Holdings,
 }
 
 impl Model for Ledger {
-    ghost use Rattle.std.specs.Prelude.{◌-◌, vec_len, vec_capacity};
     ghost use Rattle.iova_clients.specs.Accounts.{Account};
 
     ghost Value = { Account };
@@ -30,9 +31,27 @@ impl Model for Ledger {
       worker = l.worker;
       sac = l.sac;
       closing = l.closing;
-      holdings = l.holdings.items;
-      spare = vec_capacity l.holdings - vec_len l.holdings;
+      holdings = l.holdings.ranges;
+      spare = l.holdings.spare;
     } };
+}
+
+/// The least number of holdings that are searched.
+const NEAR: usize = 128;
+
+/// A number of holdings from the first on, behind which none begins there or below. New holdings come in front, so the
+/// first ones are looked at before all are.
+#[inline]
+fn reach_at_most(holdings: &[Range], lo: u64) -> usize
+    requires { Rises 0 holdings.now }
+    ensures within { result ≤ length holdings.now }
+    ensures behind { AllBehind result lo holdings.now }
+{
+    let mut end = NEAR;
+    while end < holdings.len() && holdings[end].lo() <= lo {
+        end *= 2;
+    }
+    end.min(holdings.len())
 }
 
 impl Ledger {
@@ -43,7 +62,7 @@ impl Ledger {
             worker,
             sac,
             closing: false,
-            holdings: Vec::new(alloc),
+            holdings: Holdings::new(alloc),
         }
     }
 
@@ -78,7 +97,7 @@ impl Ledger {
     pub(crate) fn covers(&self, frame: u64) -> bool
         ensures { result ≡ is_covered frame self.now.holdings }
     {
-        self.holdings
+        self.holdings()
             .iter()
             .any(|range| range.lo() <= frame && frame <= range.hi())
     }
@@ -96,13 +115,23 @@ impl Ledger {
         if self.closing {
             return Err(Refusal::Closing);
         }
-        if self.holdings.len() >= MAX_HOLDINGS {
+        if self.holdings().len() >= MAX_HOLDINGS {
             return Err(Refusal::HoldingsFull);
         }
-        match self.holdings.reserve(1) {
+        match self.holdings.reserve() {
             Ok(()) => Ok(()),
             Err(_) => Err(Refusal::NoMemory),
         }
+    }
+
+    /// How many holdings begin there or below.
+    fn reach(&self, lo: u64) -> usize
+        requires { Rises 0 self.now.holdings }
+        ensures within { result ≤ length self.now.holdings }
+        ensures reached { IsReach lo self.now.holdings result }
+    {
+        let holdings = self.holdings.as_slice();
+        holdings[..reach_at_most(holdings, lo)].partition_point(|held| held.lo() <= lo)
     }
 
     /// Takes the range in at its place.
@@ -111,11 +140,28 @@ impl Ledger {
         requires rises { Rises 0 self.old.holdings }
         ensures { self.new ≡ record self.old { holdings = insert_rising range self.old.holdings; spare = self.old.spare - 1 } }
     {
-        let place = self
-            .holdings
-            .as_slice()
-            .partition_point(|held| held.lo() <= range.lo());
-        self.holdings.insert(place, range).unwrap();
+        let place = self.reach(range.lo());
+        self.holdings.insert(place, range);
+    }
+
+    /// Where the holding stands that begins there. The first is looked at before they are searched: a client that closes
+    /// gives up its first holding each time.
+    fn place_of(&self, lo: u64) -> Option<usize>
+        requires { Rises 0 self.now.holdings }
+        ensures held { IfSome result (StandsAt lo self.now.holdings) }
+        ensures none { IfNone result (find (begins_at lo) self.now.holdings ≡ None) }
+    {
+        if let Some(first) = self.holdings().first()
+            && first.lo() == lo
+        {
+            return Some(0);
+        }
+        let place = self.reach(lo).checked_sub(1)?;
+        if self.holdings()[place].lo() == lo {
+            Some(place)
+        } else {
+            None
+        }
     }
 
     /// The holding that begins there.
@@ -124,9 +170,8 @@ impl Ledger {
         requires { Rises 0 self.now.holdings }
         ensures { result ≡ find (begins_at lo) self.now.holdings }
     {
-        let holdings = self.holdings.as_slice();
-        let place = holdings.binary_search_by_key(&lo, |held| held.lo()).ok()?;
-        Some(holdings[place])
+        let place = self.place_of(lo)?;
+        Some(self.holdings()[place])
     }
 
     /// Gives up the holding that begins there.
@@ -136,11 +181,7 @@ impl Ledger {
         ensures some { OnSome result (self.new ≡ record self.old { holdings = remove_at lo self.old.holdings; spare = self.old.spare + 1 }) }
         ensures none { IfNone result (self.new ≡ self.old) }
     {
-        let place = self
-            .holdings
-            .as_slice()
-            .binary_search_by_key(&lo, |held| held.lo())
-            .ok()?;
+        let place = self.place_of(lo)?;
         Some(self.holdings.remove(place))
     }
 

@@ -1,3 +1,4 @@
+//! The ledgers of all clients.
 ghost use Rattle.std.specs.Prelude.{◌≡◌, ◌<◌, [], ◌∷◌, ◌++◌, find, option_map, option_copied, length, OnOk, OnErr, IsOkUnless};
 ghost use Rattle.std.specs.Option.{option_copied_mut};
 ghost use Rattle.std.specs.Borrow.{sem};
@@ -5,6 +6,7 @@ ghost use Rattle.std.specs.List.{AllByRecursion};
 ghost use Rattle.std.specs.Map.{lookup, remove_entry};
 ghost use Rattle.iova_model.specs.Fit.{is_covered};
 ghost use Rattle.iova_clients.specs.Registry.{is_serial};
+ghost use Rattle.iova_clients.specs.Accounts.{IsRemembered};
 
 use crate::ledger::Ledger;
 use iova_range::refusal::Refusal;
@@ -18,18 +20,33 @@ use std::marker::Model;
 pub(crate) struct Ledgers {
     slab: Slab<Ledger>,
     keys: BTreeMap<u64, usize>,
+    /// The serial that was looked up last to change its ledger, with its key. Most steps speak of the client of the step
+    /// before, and each part of a step of the same one.
+    last: Option<(u64, usize)>,
 }
 
 impl Model for Ledgers {
     ghost use Rattle.std.specs.Prelude.{ℕ, List};
-    ghost use Rattle.iova_clients.specs.Accounts.{Account, listed, AreKeyed};
+    ghost use Rattle.iova_clients.specs.Accounts.{Account, listed, AreLedgers};
     ghost use Rattle.slab.specs.Slab.{get};
 
     ghost Value = { List (ℕ × Account) };
 
     ghost view = { λ l. listed (get l.slab) l.keys.entries };
 
-    ghost invariant = { λ l. AreKeyed (get l.slab) l.keys.entries };
+    ghost invariant = { λ l. AreLedgers (get l.slab) l.keys.entries l.last };
+}
+
+/// The key of this serial.
+#[inline]
+fn key_of(keys: &BTreeMap<u64, usize>, last: Option<(u64, usize)>, id: u64) -> Option<usize>
+    requires { IsRemembered last keys.now.entries }
+    ensures { result ≡ lookup (is_serial id) keys.now.entries }
+{
+    match last {
+        Some((serial, key)) if serial == id => Some(key),
+        _ => keys.get(&id).copied(),
+    }
 }
 
 impl Ledgers {
@@ -41,6 +58,7 @@ impl Ledgers {
         Ledgers {
             slab: Slab::new(alloc),
             keys: BTreeMap::new(alloc),
+            last: None,
         }
     }
 
@@ -55,7 +73,7 @@ impl Ledgers {
     pub(crate) fn get(&self, id: u64) -> Option<&Ledger>
         ensures { option_copied result ≡ lookup (is_serial id) self.now }
     {
-        let key = self.keys.get(&id).copied()?;
+        let key = key_of(&self.keys, self.last, id)?;
         self.slab.get(key)
     }
 
@@ -64,7 +82,8 @@ impl Ledgers {
         ensures* writes_back { sem 𝓛 (LendsLedger self.entry id result) }
         ensures value { option_copied_mut result ≡ lookup (is_serial id) self.old }
     {
-        let key = self.keys.get(&id).copied()?;
+        let key = key_of(&self.keys, self.last, id)?;
+        self.last = Some((id, key));
         Some(&mut self.slab[key])
     }
 
@@ -83,6 +102,7 @@ impl Ledgers {
             return Err(Refusal::NoMemory);
         };
         self.slab.insert_reserved(ledger);
+        self.last = None;
         Ok(())
     }
 
@@ -91,6 +111,7 @@ impl Ledgers {
         ensures value { result ≡ lookup (is_serial id) self.old }
         ensures left { self.new ≡ remove_entry (is_serial id) self.old }
     {
+        self.last = None;
         match self.keys.remove(&id) {
             Some(key) => self.slab.try_remove(key),
             None => None,

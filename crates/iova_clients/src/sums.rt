@@ -1,7 +1,9 @@
+//! The totals that are kept as numbers.
 ghost use Rattle.std.specs.Prelude.{◌≡◌, ◌<◌, ◌≤◌, ◌+◌, ◌^◌, replicate, length};
 ghost use Rattle.iova_clients.specs.Sums.{no_totals, with_one, without_one, share_at, with_share, HaveRoom, Include};
 
 use iova_model::totals::Totals;
+use iova_range::limits::MAX_WORKERS;
 use iova_range::range::Range;
 
 const NO_TOTALS: Totals = Totals {
@@ -14,7 +16,7 @@ const NO_TOTALS: Totals = Totals {
 #[derive(Drop)]
 pub(crate) struct Sums {
     pub(crate) all: Totals,
-    pub(crate) shares: [Totals; 16],
+    pub(crate) shares: [Totals; MAX_WORKERS as usize],
 }
 
 fn with_one(range: Range, totals: Totals) -> Totals
@@ -44,18 +46,18 @@ impl Sums {
     /// Of no holdings.
     pub(crate) fn new() -> Sums
         ensures all { result.all ≡ no_totals }
-        ensures shares { result.shares ≡ replicate 16 no_totals }
+        ensures shares { result.shares ≡ replicate MAX_WORKERS no_totals }
     {
         Sums {
             all: NO_TOTALS,
-            shares: [NO_TOTALS; 16],
+            shares: [NO_TOTALS; MAX_WORKERS as usize],
         }
     }
 
     /// One worker's.
     #[inline]
     pub(crate) fn share(&self, worker: u64) -> Totals
-        requires { worker < 16 }
+        requires { worker < MAX_WORKERS }
         ensures { result ≡ share_at worker self.now.shares }
     {
         self.shares[worker as usize]
@@ -63,7 +65,7 @@ impl Sums {
 
     /// A client of this worker is given a holding.
     pub(crate) fn add(&mut self, worker: u64, range: Range)
-        requires worker { worker < 16 }
+        requires worker { worker < MAX_WORKERS }
         requires low { range.lo + range.len ≤ 2 ^ 40 }
         requires all_room { HaveRoom self.old.all }
         requires share_room { HaveRoom (share_at worker self.old.shares) }
@@ -77,7 +79,7 @@ impl Sums {
 
     /// A client of this worker gives a holding up.
     pub(crate) fn remove(&mut self, worker: u64, range: Range)
-        requires worker { worker < 16 }
+        requires worker { worker < MAX_WORKERS }
         requires in_all { Include range self.old.all }
         requires in_share { Include range (share_at worker self.old.shares) }
         ensures all { self.new.all ≡ without_one range self.old.all }

@@ -1,12 +1,13 @@
 -- What a call's clauses on its refusals say together, and whose a client is.
-use Rattle.std.proofs.Common.{ℕ, ◌≡◌, ◌==◌, Bool, true, false, not, Option, Some, None, refl, sym, ap, subst, ◌∙◌, ◌⊎◌, inl, inr}
-use Rattle.std.specs.Prelude.{Result, Ok, Err, IfSome, IfNone, IsOkUnless, option_map, option_and_then, nat_eq, if◌then◌else◌}
-use Rattle.std.specs.Option.{option_eq}
+use Rattle.std.proofs.Common.{ℕ, ◌≡◌, ◌==◌, Bool, true, false, Option, Some, None, refl, sym, ap, subst, ◌∙◌, ◌⊎◌, inl, inr}
+use Rattle.std.specs.Prelude.{Result, Ok, Err, IfSome, IfNone, IsOkUnless, option_map, option_and_then, if◌then◌else◌}
 use Rattle.std.proofs.lemmas.Bool.Decides.{nat_tests}
 use Rattle.std.proofs.Common.{arith}
 use Rattle.iova_range.specs.declared.refusal.Refusal.{Refusal}
 use Rattle.iova_range.specs.declared.refusal.Refusal.TheVariants as refusal
 use Rattle.iova_model.specs.Clients.{Client, if_owned}
+use Rattle.iova_clients.specs.declared.marks.Marks.{Marks}
+use Rattle.iova_clients.specs.Registry.{marks_of}
 
 -- A call that is refused where a test says so, and else only for want of memory.
 pub record Refuses {A : Type 0} (tested : Option Refusal) (result : Result A Refusal) : Type 0 where
@@ -36,19 +37,15 @@ pub owner_is : (w : ℕ) (o : Option Client) → option_map (λ c. c.worker) o �
 owner_is w None e = absurd cc
 owner_is w (Some c) e = (c, record { found = refl; owned = owned_step w c (c.worker == w) refl e })
 
-other_step : (w : ℕ) (c : Client) (b : Bool) → (c.worker == w) ≡ b → (c.worker ≡ w → ⊥) → (if c.worker == w then Some c else None) ≡ None
-other_step w c true is other = absurd (other (grind (arith, nat_tests)))
-other_step w c false is other = rw is refl
+-- a client that was looked up for its worker
+marks_step : (w : ℕ) (m : Marks) (c : Client) (b : Bool) → (c.worker == w) ≡ b → Some m ≡ option_map marks_of (if c.worker == w then Some c else None) → (c.worker ≡ w) × (m ≡ marks_of c)
+marks_step w m c true is e = (grind (arith, nat_tests), let f : Some m ≡ Some (marks_of c) = rw is at e in cc)
+marks_step w m c false is e = absurd (let f : Some m ≡ None = rw is at e in cc)
 
-pub owner_none : (w : ℕ) (o : Option Client) → (option_map (λ c. c.worker) o ≡ Some w → ⊥) → option_and_then (if_owned w) o ≡ None
-owner_none w None other = refl
-owner_none w (Some c) other = other_step w c (c.worker == w) refl (λ e. other (ap (λ x. Some x) e))
+pub looked_up : (w : ℕ) (o : Option Client) (m : Marks) → Some m ≡ option_map marks_of (option_and_then (if_owned w) o) → option_map (λ c. c.worker) o ≡ Some w
+looked_up w None m e = absurd (let f : Some m ≡ None = e in cc)
+looked_up w (Some c) m e = ap (λ n. Some n) (marks_step w m c (c.worker == w) refl e).0
 
-not_true : (b : Bool) → false ≡ not b → b ≡ true
-not_true true e = refl
-not_true false e = absurd cc
-
--- an owner that was compared with the worker
-pub same_owner : (w : ℕ) (o : Option ℕ) → false ≡ not (option_eq nat_eq o (Some w)) → o ≡ Some w
-same_owner w None e = absurd cc
-same_owner w (Some x) e = let test : nat_eq x w ≡ true = not_true (nat_eq x w) e in ap (λ (n : ℕ). Some n) (let same : x ≡ w = grind (arith, nat_tests) in same)
+pub looked_up_sac : (w : ℕ) (o : Option Client) (m : Marks) (c : Client) → Some m ≡ option_map marks_of (option_and_then (if_owned w) o) → o ≡ Some c → m.sac ≡ c.sac
+looked_up_sac w None m c e is = absurd cc
+looked_up_sac w (Some x) m c e is = let same : x ≡ c = cc in ap (λ (n : Marks). n.sac) (marks_step w m x (x.worker == w) refl e).1 ∙ ap (λ (y : Client). y.sac) same

@@ -186,20 +186,19 @@ impl Domain {
         if frames > MAX_FRAMES {
             return refused(Refusal::TooBig);
         }
-        if self.clients.owner(client) != Some(worker) {
+        let Some(marks) = self.clients.look_up(worker, client) else {
             return refused(Refusal::NoClient);
-        }
+        };
         match self.clients.room(client) {
             Ok(()) => {}
             Err(refusal) => return refused_at(refusal, Point::Ledger),
         }
         steps_keep_validity();
-        let sac = self.clients.is_sac(client).unwrap_or(false);
         match walk(
             &mut self.tree,
             &mut self.caches,
             worker as usize,
-            sac,
+            marks.sac,
             need(frames),
             limit,
         ) {
@@ -222,10 +221,10 @@ impl Domain {
         if worker >= self.workers() {
             return refused(Refusal::NoWorker);
         }
-        if self.clients.owner(client) != Some(worker) {
+        let Some(marks) = self.clients.look_up(worker, client) else {
             return refused(Refusal::NoClient);
-        }
-        if self.clients.is_closing(client) == Some(true) {
+        };
+        if marks.closing {
             return refused(Refusal::Closing);
         }
         self.queue(worker, client, lo)
@@ -314,9 +313,9 @@ impl Domain {
         if worker >= self.workers() {
             return refused(Refusal::NoWorker);
         }
-        if self.clients.owner(client) != Some(worker) {
+        let Some(_) = self.clients.look_up(worker, client) else {
             return refused(Refusal::NoClient);
-        }
+        };
         match self.clients.mark_closing(client) {
             Ok(left) => (Reply::Marked(left), Point::Never),
             Err(refusal) => refused(refusal),

@@ -1,25 +1,14 @@
-use Rattle.std.proofs.Common.{rules, of_calls, ◌≡◌, ◌<◌, ◌+◌, ◌-◌, sym, ap, ◌∙◌, vec_len, vec_capacity, arith}
-use Rattle.std.specs.Prelude.{nat_le}
-use Rattle.std.proofs.lemmas.List.Sorted.{IsPartitionPoint-from_clause, IsPartitionedBy-leb}
-use Rattle.iova_range.specs.Frames.{Frames}
+use Rattle.std.proofs.Common.{◌≡◌, ◌∙◌, arith}
 use Rattle.iova_model.specs.Clients.{insert_rising}
-use Rattle.iova_model.specs.Valid.{Rises}
-use Rattle.iova_clients.proofs.Rising.{Rises-non_decreasing, insert_at_point}
+use Rattle.iova_clients.proofs.Rising.{insert_at_reach}
 use Rattle.iova_clients.proofs.AccountLemmas.{same_account}
 use Rattle.iova_clients.proofs.ledger.Ledger.add.Goals as goal
 
 pub returns : goal.returns
 returns c =
     let l = c.self.inside in
-    let same : c.as_slice.result.now ≡ l.holdings.items = c.as_slice.ensures.value in
-    let started : Rises 0 l.holdings.items = rw (← c.self.view_is) at c.requires.rises in
-    let rises : Rises 0 c.as_slice.result.now = rw same started in
-    let parted = IsPartitionedBy-leb (λ (x : Frames). x.lo) c.as_slice.result.now c.args.range.lo (Rises-non_decreasing 0 c.as_slice.result.now rises) in
-    let point = IsPartitionPoint-from_clause (λ (x : Frames). nat_le x.lo c.args.range.lo) _ _ c.partition_point-place.ensures.partitioned parted (λ a r q k. search (rules, of_calls)) in
-    let placed = insert_at_point c.args.range c.as_slice.result.now c.partition_point-place.result c.partition_point-place.ensures.bound point in
-    let room : vec_len l.holdings < vec_capacity l.holdings = (let spare = rw (← c.self.view_is) at c.requires.spare in omega arith) in
-    let items : c.insert.new.self.items ≡ insert_rising c.args.range l.holdings.items =
-    rw c.unwrap.ensures at c.insert.ensures.items ∙ (rw same at placed) in
-    let len : vec_len c.insert.new.self ≡ vec_len l.holdings + 1 = rw c.unwrap.ensures at c.insert.ensures.len in
-    let capacity : vec_capacity c.insert.new.self ≡ vec_capacity l.holdings = (c.insert.ensures.in_place room).1.0 in
-    rw (← c.self.view_is) (same_account l.worker l.sac l.closing _ _ _ _ items (omega arith))
+    let within = rw (← c.self.view_is) at c.reach-place.ensures.within in
+    let reached = rw (c.lo.ensures, ← c.self.view_is) at c.reach-place.ensures.reached in
+    let ranges : c.insert.new.self.ranges ≡ insert_rising c.args.range l.holdings.ranges =
+    c.insert.ensures.ranges ∙ insert_at_reach c.args.range l.holdings.ranges c.reach-place.result within reached in
+    rw (← c.self.view_is) (same_account l.worker l.sac l.closing _ _ _ _ ranges (omega (arith, c.insert.ensures.spare)))

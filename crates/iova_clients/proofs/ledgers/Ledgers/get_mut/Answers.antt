@@ -1,4 +1,4 @@
-use Rattle.std.proofs.Common.{refl, sym, ap, ◌∙◌, inl, Some, None}
+use Rattle.std.proofs.Common.{refl, sym, ◌∙◌, inl, Some, None}
 use Rattle.slab.specs.Slab.{get as at_key, with_value}
 use Rattle.slab.proofs.SlabLemmas.{Updates-with_value}
 use Rattle.iova_clients.specs.Registry.{is_serial}
@@ -9,35 +9,36 @@ use Rattle.iova_clients.proofs.ledgers.Ledgers.get_mut.Goals as goal
 pub returns-in_err-key : goal.returns-in_err-key
 returns-in_err-key c =
     let i = c.self.inside in
-    let none = get_listed (at_key i.slab) c.args.id i.keys.entries None c.self.invariant (sym c.get.ensures.value ∙ (sym c.copied.ensures ∙ c.in_err-key.was)) in
+    let none = get_listed (at_key i.slab) c.args.id i.keys.entries None c.self.invariant.keyed (lookup_at c.args.id i.keys.entries ∙ (sym c.key_of.ensures ∙ c.in_err-key.was)) in
     rw (c.from_residual.ensures, ← c.self.view_is) (refl, record { writes_back = tt; value = sym none })
 
 pub index_mut-requires : goal.index_mut-requires
 index_mut-requires c =
     let i = c.self.inside in
-    found_some (at_key i.slab) (is_serial c.args.id) c.in_ok-key.key i.keys.entries c.self.invariant
-    (sym (lookup_at c.args.id i.keys.entries) ∙ (sym c.get.ensures.value ∙ (sym c.copied.ensures ∙ c.in_ok-key.was)))
+    found_some (at_key i.slab) (is_serial c.args.id) c.in_ok-key.key i.keys.entries c.self.invariant.keyed (sym c.key_of.ensures ∙ c.in_ok-key.was)
 
 pub invariant_of-self-lent : goal.invariant_of-self-lent
 invariant_of-self-lent c =
     λ w. let i = c.self.inside in
     let key = c.in_ok-key.key in
-    let there = found_some (at_key i.slab) (is_serial c.args.id) key i.keys.entries c.self.invariant
-    (sym (lookup_at c.args.id i.keys.entries) ∙ (sym c.get.ensures.value ∙ (sym c.copied.ensures ∙ c.in_ok-key.was))) in
+    let here = sym c.key_of.ensures ∙ c.in_ok-key.was in
+    let there = found_some (at_key i.slab) (is_serial c.args.id) key i.keys.entries c.self.invariant.keyed here in
     let updates = Updates-with_value i.slab key w there in
-    keyed_set (at_key i.slab) (at_key (with_value i.slab key w)) key w i.keys.entries c.self.invariant updates.changed updates.others
+    record {
+      keyed = keyed_set (at_key i.slab) (at_key (with_value i.slab key w)) key w i.keys.entries c.self.invariant.keyed updates.changed updates.others;
+      remembered = here;
+    }
 
 pub returns : goal.returns
 returns c =
     let i = c.self.inside in
     let key = c.in_ok-key.key in
-    let was = sym c.get.ensures.value ∙ (sym c.copied.ensures ∙ c.in_ok-key.was) in
-    let here = sym (lookup_at c.args.id i.keys.entries) ∙ was in
-    let there = found_some (at_key i.slab) (is_serial c.args.id) key i.keys.entries c.self.invariant here in
+    let here = sym c.key_of.ensures ∙ c.in_ok-key.was in
+    let there = found_some (at_key i.slab) (is_serial c.args.id) key i.keys.entries c.self.invariant.keyed here in
     let written = λ (w : Account).
     let updates = Updates-with_value i.slab key w there in
-    listed_set (at_key i.slab) (at_key (with_value i.slab key w)) (is_serial c.args.id) key w i.keys.entries c.self.invariant here updates.changed updates.others in
-    let value = get_listed (at_key i.slab) c.args.id i.keys.entries (Some key) c.self.invariant was in
+    listed_set (at_key i.slab) (at_key (with_value i.slab key w)) (is_serial c.args.id) key w i.keys.entries c.self.invariant.keyed here updates.changed updates.others in
+    let value = get_listed (at_key i.slab) c.args.id i.keys.entries (Some key) c.self.invariant.keyed (lookup_at c.args.id i.keys.entries ∙ here) in
     rw (← c.self.view_is) (
       (λ i. inl (c.index_mut.result.ghost_name, λ w. written w i)),
       record { writes_back = tt; value = sym c.index_mut.ensures.value ∙ sym value },

@@ -6,4 +6,4 @@ use Rattle.iova_clients.proofs.ledgers.Ledgers.len.Goals as goal
 pub returns : goal.returns
 returns c =
     let i = c.self.inside in
-    rw (← c.self.view_is) (c.len.ensures.len ∙ sym (length-listed (get i.slab) i.keys.entries c.self.invariant))
+    rw (← c.self.view_is) (c.len.ensures.len ∙ sym (length-listed (get i.slab) i.keys.entries c.self.invariant.keyed))

@@ -1,33 +1,39 @@
 use Rattle.std.proofs.Common.{◌≡◌, ◌∙◌, ◌<◌, [], ◌∷◌, ◌++◌, ap, sym}
 use Rattle.std.specs.List.{AllByRecursion}
 use Rattle.slab.specs.Slab.{get as at_key}
-use Rattle.iova_clients.specs.Accounts.{Account, listed, AreKeyed}
+use Rattle.iova_clients.specs.Accounts.{listed, AreKeyed}
 use Rattle.iova_clients.proofs.Listed.{listed_pushed, keyed_pushed}
 use Rattle.iova_clients.proofs.ledgers.Ledgers.push.Goals as goal
 
 pub invariant_of-self : goal.invariant_of-self
-invariant_of-self c = rw c.reserve.ensures.rest_kept c.self.invariant
+invariant_of-self c = record { keyed = rw c.reserve.ensures.rest_kept c.self.invariant.keyed; remembered = c.self.invariant.remembered }
 
 pub invariant_of-self-in_default-insert : goal.invariant_of-self-in_default-insert
-invariant_of-self-in_default-insert c = rw (c.in_default-insert.ensures.err, c.reserve.ensures.rest_kept) c.self.invariant
+invariant_of-self-in_default-insert c = record {
+  keyed = rw (c.in_default-insert.ensures.err, c.reserve.ensures.rest_kept) c.self.invariant.keyed;
+  remembered = rw c.in_default-insert.ensures.err c.self.invariant.remembered;
+}
 
 pub invariant_of-self-2 : goal.invariant_of-self-2
 invariant_of-self-2 c =
     let i = c.self.inside in
     let key = c.vacant_key-key.result in
-    let keyed : AreKeyed (at_key c.reserve.new.self) i.keys.entries = rw c.reserve.ensures.rest_kept c.self.invariant in
+    let keyed : AreKeyed (at_key c.reserve.new.self) i.keys.entries = rw c.reserve.ensures.rest_kept c.self.invariant.keyed in
     let below : AllByRecursion (λ e. e.0 < c.args.id) (listed (at_key c.reserve.new.self) i.keys.entries) = rw (c.reserve.ensures.rest_kept, c.self.view_is) c.requires in
     let same : c.insert_reserved.result ≡ key = c.insert_reserved.ensures.key ∙ sym c.vacant_key-key.ensures.value in
     let updates = rw same at c.insert_reserved.ensures.updates in
-    rw c.in-Ok-insert.ensures.entries
-    (keyed_pushed (at_key c.reserve.new.self) (at_key c.insert_reserved.new.self) c.args.id key c.args.ledger i.keys.entries keyed below
-    c.vacant_key-key.ensures.vacant updates.changed updates.others)
+    record {
+      keyed = rw c.in-Ok-insert.ensures.entries
+          (keyed_pushed (at_key c.reserve.new.self) (at_key c.insert_reserved.new.self) c.args.id key c.args.ledger i.keys.entries keyed below
+          c.vacant_key-key.ensures.vacant updates.changed updates.others);
+      remembered = tt;
+    }
 
 pub returns-clause-ok : goal.returns-clause-ok
 returns-clause-ok c =
     let i = c.self.inside in
     let key = c.vacant_key-key.result in
-    let keyed : AreKeyed (at_key c.reserve.new.self) i.keys.entries = rw c.reserve.ensures.rest_kept c.self.invariant in
+    let keyed : AreKeyed (at_key c.reserve.new.self) i.keys.entries = rw c.reserve.ensures.rest_kept c.self.invariant.keyed in
     let below : AllByRecursion (λ e. e.0 < c.args.id) (listed (at_key c.reserve.new.self) i.keys.entries) = rw (c.reserve.ensures.rest_kept, c.self.view_is) c.requires in
     let same : c.insert_reserved.result ≡ key = c.insert_reserved.ensures.key ∙ sym c.vacant_key-key.ensures.value in
     let updates = rw same at c.insert_reserved.ensures.updates in

@@ -1,4 +1,4 @@
-use Rattle.std.proofs.Common.{◌≡◌, ◌∙◌, ap, sym, Some, None}
+use Rattle.std.proofs.Common.{◌∙◌, ap, sym, Some, None}
 use Rattle.slab.specs.Slab.{get as at_key}
 use Rattle.iova_clients.specs.Registry.{is_serial}
 use Rattle.iova_clients.specs.Accounts.{listed}
@@ -8,14 +8,17 @@ use Rattle.iova_clients.proofs.ledgers.Ledgers.remove.Goals as goal
 pub invariant_of-self : goal.invariant_of-self
 invariant_of-self c =
     let i = c.self.inside in
-    rw (c.remove.ensures.entries, remove_entry_at)
-    (keyed_removed (at_key i.slab) (at_key c.try_remove.new.self) (is_serial c.args.id) c.in-Some.key i.keys.entries
-    c.self.invariant (sym (lookup_at c.args.id i.keys.entries) ∙ sym c.in-Some.ensures.value) c.try_remove.ensures.updates.others)
+    record {
+      keyed = rw (c.remove.ensures.entries, remove_entry_at)
+          (keyed_removed (at_key i.slab) (at_key c.try_remove.new.self) (is_serial c.args.id) c.in-Some.key i.keys.entries
+          c.self.invariant.keyed (sym (lookup_at c.args.id i.keys.entries) ∙ sym c.in-Some.ensures.value) c.try_remove.ensures.updates.others);
+      remembered = tt;
+    }
 
 pub returns-in-Some-clause-value : goal.returns-in-Some-clause-value
 returns-in-Some-clause-value c =
     let i = c.self.inside in
-    rw (← c.self.view_is) (c.try_remove.ensures.value ∙ sym (get_listed (at_key i.slab) c.args.id i.keys.entries (Some c.in-Some.key) c.self.invariant (sym c.in-Some.ensures.value)))
+    rw (← c.self.view_is) (c.try_remove.ensures.value ∙ sym (get_listed (at_key i.slab) c.args.id i.keys.entries (Some c.in-Some.key) c.self.invariant.keyed (sym c.in-Some.ensures.value)))
 
 pub returns-in-Some-clause-left : goal.returns-in-Some-clause-left
 returns-in-Some-clause-left c =
@@ -23,18 +26,18 @@ returns-in-Some-clause-left c =
     let left =
     ap (listed (at_key c.try_remove.new.self)) (c.remove.ensures.entries ∙ remove_entry_at c.args.id i.keys.entries)
     ∙ listed_removed (at_key i.slab) (at_key c.try_remove.new.self) (is_serial c.args.id) c.in-Some.key i.keys.entries
-    c.self.invariant (sym (lookup_at c.args.id i.keys.entries) ∙ sym c.in-Some.ensures.value) c.try_remove.ensures.updates.others in
+    c.self.invariant.keyed (sym (lookup_at c.args.id i.keys.entries) ∙ sym c.in-Some.ensures.value) c.try_remove.ensures.updates.others in
     rw (← c.self.view_is) left
 
 pub returns-in-None-clause-value : goal.returns-in-None-clause-value
 returns-in-None-clause-value c =
     let i = c.self.inside in
-    rw (← c.self.view_is) (sym (get_listed (at_key i.slab) c.args.id i.keys.entries None c.self.invariant (sym c.in-None.ensures.value)))
+    rw (← c.self.view_is) (sym (get_listed (at_key i.slab) c.args.id i.keys.entries None c.self.invariant.keyed (sym c.in-None.ensures.value)))
 
 pub returns-in-None-clause-left : goal.returns-in-None-clause-left
 returns-in-None-clause-left c =
     let i = c.self.inside in
-    let none = get_listed (at_key i.slab) c.args.id i.keys.entries None c.self.invariant (sym c.in-None.ensures.value) in
+    let none = get_listed (at_key i.slab) c.args.id i.keys.entries None c.self.invariant.keyed (sym c.in-None.ensures.value) in
     let left =
     ap (listed (at_key i.slab)) c.in-None.ensures.unchanged ∙ sym (none_removed (is_serial c.args.id) (listed (at_key i.slab) i.keys.entries) none) in
     rw (← c.self.view_is) left
