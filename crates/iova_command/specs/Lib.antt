@@ -1,0 +1,4 @@
+pub mod Asks
+pub mod Commands
+pub mod Numbers
+pub mod Usage
