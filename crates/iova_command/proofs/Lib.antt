@@ -1,2 +1,3 @@
 mod Builders
 mod Getters
+mod Names

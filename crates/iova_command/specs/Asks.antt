@@ -32,3 +32,9 @@ abbrev pub Asks : Option (Text × List Row) → Asked → Type 0
 Asks None (Replay path has_report) = (path.now ≡ codes "-") × (has_report ≡ false)
 Asks None other = ⊥
 Asks (Some matched) asked = AsksOf matched.0 matched.1 asked
+
+-- a replay, and no daemon
+abbrev pub IsReplay : Asked → Type 0
+IsReplay (Replay path has_report) = Unit {0}
+IsReplay (Serve plan) = ⊥
+IsReplay (Ask path) = ⊥

@@ -17,10 +17,7 @@ pub fn iovad_command<'a>(alloc: Global) -> Result<Command<'a>, AllocError>
 }
 
 /// The same command, with those of the daemon.
-pub fn daemon_commands<'a>(
-    alloc: Global,
-    command: Command<'a>,
-) -> Result<Command<'a>, AllocError>
+pub fn daemon_commands<'a>(alloc: Global, command: Command<'a>) -> Result<Command<'a>, AllocError>
     requires { IsCommand iovad_app command }
     ensures { IfOk result (IsCommand (with_daemon iovad_app)) }
 {
@@ -52,13 +49,41 @@ fn serve_command<'a>(alloc: Global) -> Result<Command<'a>, AllocError>
 {
     Command::new(alloc, "serve")
         .about("Serves sessions on a socket, then prints the domain's report")
-        .arg(path(alloc, "socket", "PATH", "The socket's path, where nothing stands yet"))?
-        .arg(number(alloc, "workers", 1, MAX_WORKERS, "How many sessions are served at a time"))?
-        .arg(number(alloc, "domain", 0, MAX_DOMAINS - 1, "The number of the domain"))?
+        .arg(path(
+            alloc,
+            "socket",
+            "PATH",
+            "The socket's path, where nothing stands yet",
+        ))?
+        .arg(number(
+            alloc,
+            "workers",
+            1,
+            MAX_WORKERS,
+            "How many sessions are served at a time",
+        ))?
+        .arg(number(
+            alloc,
+            "domain",
+            0,
+            MAX_DOMAINS - 1,
+            "The number of the domain",
+        ))?
         .arg(number(alloc, "start", 1, TOP, "The first frame that may be given"))?
         .arg(number(alloc, "last", 1, TOP, "The last frame that may be given"))?
-        .arg(path(alloc, "sink", "FILE", "The file that the records of flushes are appended to"))?
-        .arg(number(alloc, "sessions", 1, MAX_SESSIONS, "How many sessions are served"))
+        .arg(path(
+            alloc,
+            "sink",
+            "FILE",
+            "The file that the records of flushes are appended to",
+        ))?
+        .arg(number(
+            alloc,
+            "sessions",
+            1,
+            MAX_SESSIONS,
+            "How many sessions are served",
+        ))
 }
 
 fn ask_command<'a>(alloc: Global) -> Result<Command<'a>, AllocError>

@@ -1,14 +1,11 @@
 //! Words that are not understood, or that ask for help.
-ghost use Rattle.std.specs.Prelude.{◌≡◌, IfErr, OnErr};
-ghost use Rattle.clap.specs.Values.{kind_of};
-ghost use Rattle.clap.specs.declared.error.kind.ErrorKind.TheVariants.{OutOfMemory};
-ghost use Rattle.iova_command.specs.Usage.{words_status};
+ghost use Rattle.std.specs.Prelude.{◌≡◌};
 
 use clap::Error;
 use clap::error::ErrorKind;
 use std::alloc::AllocError;
-use std::io;
 use std::marker::Model;
+use std::{fmt, io};
 
 /// The text for whoever wrote the words: what is wrong with them and the usage, or the help that they ask for. A contract
 /// sees the status that the process ends with. Own.
@@ -38,6 +35,12 @@ impl Usage {
     /// Prints help on standard output, and what is wrong on standard error.
     pub fn print<R: Print + Eprint>(&self, rt: &R) -> io::Result<()> {
         self.error.print(rt)
+    }
+}
+
+impl fmt::Display for Usage {
+    fn fmt<W: fmt::Write>(&self, f: &mut fmt::Formatter<W>) -> fmt::Result {
+        write!(f, "{}", self.error)
     }
 }
 

@@ -1,8 +1,9 @@
 //! The process's words, and what they ask for.
-ghost use Rattle.std.specs.Prelude.{◌≡◌, IfOk, IfSome, map, true};
-ghost use Rattle.clap.specs.Words.{app_of, found_of, is_simple, rows_of, subcommand_of, subcommand_rows_of};
-ghost use Rattle.iova_command.specs.Asks.{Asks, AsksOf};
+ghost use Rattle.std.specs.Prelude.{◌≡◌, IfErr, IfOk, IfSome, map, true};
+ghost use Rattle.clap.specs.Words.{app_of, fault_of, found_of, is_simple, is_simple_and_free, rows_of, subcommand_of, subcommand_rows_of};
+ghost use Rattle.iova_command.specs.Asks.{Asks, AsksOf, IsReplay};
 ghost use Rattle.iova_command.specs.Commands.{iovad_app};
+ghost use Rattle.iova_command.specs.Refuses.{IsNotUnderstood, RefusesBy};
 
 use crate::asked::Asked;
 use crate::command::iovad_command;
@@ -19,7 +20,9 @@ use std::{env, io};
 pub const STANDARD_INPUT: &str = "-";
 
 /// The process's words, its name first. Refused where a word is not UTF-8, and by `NoMemory`.
-pub fn words<R: Env + AllocGlobal>(rt: &R) -> Result<Vec<String>, WordsFault> {
+pub fn words<R: Env + AllocGlobal>(rt: &R) -> Result<Vec<String>, WordsFault>
+    ensures { IfErr result IsNotUnderstood }
+{
     match env::args(rt) {
         Ok(words) => Ok(words.collect(rt.alloc())?),
         Err(error) if error.kind() == io::ErrorKind::OutOfMemory => Err(WordsFault::NoMemory),
@@ -29,7 +32,11 @@ pub fn words<R: Env + AllocGlobal>(rt: &R) -> Result<Vec<String>, WordsFault> {
 
 /// What these words ask for, the program's name first; no word but that asks for a replay of standard input.
 pub fn asked<'a, S: AsStr>(alloc: Global, words: &'a [S]) -> Result<Asked<'a>, WordsFault>
-    ensures { IfOk result (λ a. Asks (subcommand_of iovad_app (map S.text words.entry.now)) a) }
+    ensures asks { IfOk result (λ a. Asks (subcommand_of iovad_app (map S.text words.entry.now)) a) }
+    ensures refused { RefusesBy (fault_of iovad_app (map S.text words.entry.now)) result }
+
+    // no words ask for the daemon yet
+    ensures replays { IfOk result IsReplay }
 {
     asked_of(alloc, iovad_command(alloc)?, words)
 }
@@ -40,7 +47,10 @@ pub(crate) fn asked_of<'a, S: AsStr>(
     command: Command<'a>,
     words: &'a [S],
 ) -> Result<Asked<'a>, WordsFault>
-    ensures { IfOk result (λ a. is_simple (app_of command.entry) ≡ true → Asks (subcommand_of (app_of command.entry) (map S.text words.entry.now)) a) }
+    ensures asks { is_simple (app_of command.entry) ≡ true
+        → IfOk result (λ a. Asks (subcommand_of (app_of command.entry) (map S.text words.entry.now)) a) }
+    ensures refused { is_simple_and_free (app_of command.entry) ≡ true
+        → RefusesBy (fault_of (app_of command.entry) (map S.text words.entry.now)) result }
 {
     let matches = command.try_get_matches_from(words)?;
     match asked_by(&matches) {
@@ -79,7 +89,9 @@ fn asked_of_command<'a>(name: &str, found: &ArgMatches<'a>) -> Option<Asked<'a>>
 }
 
 /// Words that are not understood, for this reason.
-fn fault(alloc: Global, reason: &str) -> WordsFault {
+fn fault(alloc: Global, reason: &str) -> WordsFault
+    ensures { IsNotUnderstood result }
+{
     match iovad_command(alloc) {
         Ok(mut command) => match command.error(ErrorKind::InvalidValue, reason) {
             Ok(error) => WordsFault::from(error),

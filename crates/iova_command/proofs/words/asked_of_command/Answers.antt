@@ -9,7 +9,9 @@ returns-in_ok-get_str-in-ask c =
     (search rules, text_read (found_of c.args.found.now) _ c.get_str.result c.in_ok-get_str-in-ask.field-0 c.get_str.ensures c.in_ok-get_str-in-ask.was)
 
 pub returns-in_ok-get_str-in_default : goal.returns-in_ok-get_str-in_default
-returns-in_ok-get_str-in_default c =
-    (search rules, search rules,
-    text_read (found_of c.args.found.now) _ c.get_str-in_default.result c.in_ok-get_str-in_default.field-0 c.get_str-in_default.ensures c.in_ok-get_str-in_default.was,
-    flag_read (found_of c.args.found.now) _ c.get_flag.result c.get_flag.ensures.value c.get_flag.ensures.other)
+returns-in_ok-get_str-in_default c = (
+  search rules,
+  search rules,
+  text_read (found_of c.args.found.now) _ c.get_str-in_default.result c.in_ok-get_str-in_default.field-0 c.get_str-in_default.ensures c.in_ok-get_str-in_default.was,
+  flag_read (found_of c.args.found.now) _ c.get_flag.result c.get_flag.ensures.value c.get_flag.ensures.other,
+)
