@@ -1,15 +1,10 @@
 //! What keeps a run from its end, the line that it says then, and the status.
-ghost use Rattle.std.specs.Prelude.{◌≡◌, ◌≢◌, ◌⊎◌, ℕ};
+ghost use Rattle.std.specs.Prelude.{◌≡◌, ◌⊎◌, ℕ};
 ghost use Rattle.std.specs.Process.{exit_status};
-ghost use Rattle.iovad.specs.Faults.{fault_text, fault_status};
-ghost use Rattle.iovad.specs.declared.fault.Fault.TheVariants.{Words, NoMemory as WantsMemory};
-ghost use Rattle.clap.specs.Values.{kind_of};
-ghost use Rattle.clap.specs.declared.error.kind.ErrorKind.TheVariants.{OutOfMemory};
+ghost use Rattle.iovad.specs.Faults.{Tells, fault_text, fault_status};
 
-use clap::Error;
-use clap::error::ErrorKind;
+use iova_command::usage::{Usage, WordsFault};
 use iova_trace::fault::ReplayFault;
-use std::alloc::AllocError;
 use std::fmt;
 use std::process::ExitCode;
 
@@ -17,7 +12,7 @@ use std::process::ExitCode;
 #[derive(Drop)]
 pub enum Fault<'a> {
     /// The words are not understood, or ask for help.
-    Words(Error),
+    Words(Usage),
     /// The line with this number, counted from 1, is no line of a trace, or one too many.
     TraceRefused(u64),
     /// The file of this name cannot be opened or read; `-` is standard input.
@@ -50,8 +45,7 @@ impl<'a> Fault<'a> {
         ensures { result ≡ fault_status self.now }
     {
         match self {
-            Fault::Words(error) if !error.use_stderr() => 0,
-            Fault::Words(_) => 2,
+            Fault::Words(usage) => usage.status(),
             Fault::TraceRefused(_) => 3,
             Fault::CannotRead(_) | Fault::CannotWrite => 4,
             Fault::NoMemory => 5,
@@ -64,7 +58,7 @@ impl<'a> Fault<'a> {
         ensures { (exit_status result ≡ fault_status self.now) ⊎ ((fault_status self.now ≡ 0) × (exit_status result ≡ fault_status Fault.CannotWrite)) }
     {
         let told = match self {
-            Fault::Words(error) => error.print(rt),
+            Fault::Words(usage) => usage.print(rt),
             fault => eprintln!(rt; "{fault}"),
         };
         if told.is_err() && self.status() == 0 {
@@ -76,24 +70,14 @@ impl<'a> Fault<'a> {
     }
 }
 
-/// Words that could not be read for want of memory are told as such.
-impl<'a> From<Error> for Fault<'a> {
-    ghost from_gives = { λ error fault. (kind_of error ≡ OutOfMemory → fault ≡ WantsMemory) × (kind_of error ≢ OutOfMemory → fault ≡ Words error) };
+impl<'a> From<WordsFault> for Fault<'a> {
+    ghost from_gives = { Tells };
 
-    fn from(error: Error) -> Fault<'a> {
-        if error.kind() == ErrorKind::OutOfMemory {
-            Fault::NoMemory
-        } else {
-            Fault::Words(error)
+    fn from(fault: WordsFault) -> Fault<'a> {
+        match fault {
+            WordsFault::Usage(usage) => Fault::Words(usage),
+            WordsFault::NoMemory => Fault::NoMemory,
         }
-    }
-}
-
-impl<'a> From<AllocError> for Fault<'a> {
-    ghost from_gives = { λ _ fault. fault ≡ WantsMemory };
-
-    fn from(_error: AllocError) -> Fault<'a> {
-        Fault::NoMemory
     }
 }
 
@@ -103,7 +87,7 @@ impl<'a> fmt::Display for Fault<'a> {
 
     fn fmt<W: fmt::Write>(&self, f: &mut fmt::Formatter<W>) -> fmt::Result {
         match self {
-            Fault::Words(error) => write!(f, "{error}"),
+            Fault::Words(usage) => write!(f, "{usage}"),
             Fault::TraceRefused(line) => write!(f, "iovad: trace refused at line {line}"),
             Fault::CannotRead(path) => write!(f, "iovad: cannot read {path}"),
             Fault::CannotWrite => f.write_str("iovad: cannot write the output"),

@@ -5,19 +5,19 @@ mod answer;
 mod fault;
 #[cfg(test)]
 mod tests;
-mod words;
 
 use answer::answer;
 use fault::Fault;
+use iova_command::asked::Asked;
+use iova_command::words::{STANDARD_INPUT, asked, words};
 use std::fs::File;
 use std::io::Read;
 use std::process::ExitCode;
-use words::{Replay, STANDARD_INPUT, asked, words};
 
 fn main(rt: HostRuntime) -> ExitCode {
     let words = match words(&rt) {
         Ok(words) => words,
-        Err(fault) => return fault.tell(&rt),
+        Err(fault) => return Fault::from(fault).tell(&rt),
     };
     match run(&rt, &words) {
         Ok(()) => ExitCode::SUCCESS,
@@ -26,13 +26,21 @@ fn main(rt: HostRuntime) -> ExitCode {
 }
 
 fn run<'a>(rt: &HostRuntime, words: &'a [String]) -> Result<(), Fault<'a>> {
-    let replay = asked(rt.alloc(), words)?;
-    if replay.path == STANDARD_INPUT {
-        return print(rt, &mut rt.stdin(), &replay);
+    match asked(rt.alloc(), words)? {
+        Asked::Replay { path, has_report } => replay(rt, path, has_report),
+        // no words ask for the daemon yet
+        Asked::Serve(_) | Asked::Ask { path: _ } => unreachable!(),
     }
-    match File::open(rt, replay.path) {
-        Ok(mut file) => print(rt, &mut file, &replay),
-        Err(_) => Err(Fault::CannotRead(replay.path)),
+}
+
+/// Replays the trace of this name to standard output.
+fn replay<'a>(rt: &HostRuntime, path: &'a str, has_report: bool) -> Result<(), Fault<'a>> {
+    if path == STANDARD_INPUT {
+        return print(rt, &mut rt.stdin(), path, has_report);
+    }
+    match File::open(rt, path) {
+        Ok(mut file) => print(rt, &mut file, path, has_report),
+        Err(_) => Err(Fault::CannotRead(path)),
     }
 }
 
@@ -40,10 +48,11 @@ fn run<'a>(rt: &HostRuntime, words: &'a [String]) -> Result<(), Fault<'a>> {
 fn print<'a, R: Read>(
     rt: &HostRuntime,
     reader: &mut R,
-    replay: &Replay<'a>,
+    path: &'a str,
+    has_report: bool,
 ) -> Result<(), Fault<'a>> {
-    match answer(rt.alloc(), reader, &mut rt.stdout(), replay.has_report) {
+    match answer(rt.alloc(), reader, &mut rt.stdout(), has_report) {
         Ok(()) => Ok(()),
-        Err(fault) => Err(Fault::of_replay(fault, replay.path)),
+        Err(fault) => Err(Fault::of_replay(fault, path)),
     }
 }

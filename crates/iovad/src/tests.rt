@@ -1,7 +1,6 @@
-//! The command line, fault texts and statuses, and the report behind the replies.
+//! Fault texts and statuses, and the report behind the replies.
 use crate::answer::answer;
 use crate::fault::Fault;
-use crate::words::asked;
 use iova_trace::fault::ReplayFault;
 use std::alloc::Global;
 use std::io;
@@ -126,61 +125,6 @@ fn each_fault_has_its_line_and_its_status(rt: HostRuntime) -> Result<(), Fail> {
     ] {
         assert_eq!(rt; fault.to_string(rt.alloc())?.as_str(), line);
         assert_eq!(rt; fault.status(), status);
-    }
-    Ok(())
-}
-
-#[test]
-fn the_words_say_what_is_replayed(rt: HostRuntime) -> Result<(), Fail> {
-    for (words, path, has_report) in [
-        (["iovad"].as_slice(), "-", false),
-        (["iovad", "replay", "-"].as_slice(), "-", false),
-        (["iovad", "replay", "a.trace"].as_slice(), "a.trace", false),
-        (["iovad", "replay", "--report", "-"].as_slice(), "-", true),
-        (
-            ["iovad", "replay", "a.trace", "--report"].as_slice(),
-            "a.trace",
-            true,
-        ),
-        (
-            ["iovad", "replay", "--", "--report"].as_slice(),
-            "--report",
-            false,
-        ),
-    ] {
-        match asked(rt.alloc(), words) {
-            Ok(replay) => {
-                assert_eq!(rt; replay.path, path);
-                assert_eq!(rt; replay.has_report, has_report);
-            }
-            Err(fault) => assert_eq!(rt; fault.status(), 5),
-        }
-    }
-    Ok(())
-}
-
-#[test]
-fn words_that_are_not_understood_and_help(rt: HostRuntime) -> Result<(), Fail> {
-    for (words, status) in [
-        (["iovad", "word"].as_slice(), 2),
-        (["iovad", "--report"].as_slice(), 2),
-        (["iovad", "-"].as_slice(), 2),
-        (["iovad", "replay"].as_slice(), 2),
-        (["iovad", "replay", "--report"].as_slice(), 2),
-        (["iovad", "replay", "a", "b"].as_slice(), 2),
-        (["iovad", "replay", "--reports", "a"].as_slice(), 2),
-        (
-            ["iovad", "replay", "--report", "--report", "a"].as_slice(),
-            2,
-        ),
-        (["iovad", "--help"].as_slice(), 0),
-        (["iovad", "replay", "--help"].as_slice(), 0),
-        (["iovad", "help", "replay"].as_slice(), 0),
-    ] {
-        match asked(rt.alloc(), words) {
-            Ok(replay) => assert_eq!(rt; replay.path, "none"),
-            Err(fault) => assert_eq!(rt; fault.status(), status),
-        }
     }
     Ok(())
 }

@@ -1,0 +1,65 @@
+-- A command is made by one argument or subcommand after another.
+use Rattle.std.proofs.Common.{ℕ, ◌≡◌, ◌∙◌, ◌<◌, ◌-◌, ◌^◌, ◌||◌, false, List, Result, Ok, Err, IfOk, Some, refl, sym, ap, ap₂, arith, pos, ℤ, w64, subst}
+use Rattle.std.proofs.lemmas.Int.{ints}
+use Rattle.std.specs.Ordering.{nat_cmp, ord_max, ord_min}
+use Rattle.std.specs.Int.{saturate_unsigned}
+use Rattle.std.proofs.lemmas.Grind.{common_steps}
+use Rattle.std.specs.Borrow.{Bor}
+use Rattle.clap.specs.Simple.{app_of_fields}
+use Rattle.clap.specs.declared.builder.command.Command.TheOpen.{Command-F}
+use Rattle.clap.specs.declared.builder.command.Command.TheViews.{out-Command}
+use Rattle.clap.specs.Words.{NarrowsTo, AddsArg, AddsSubcommand, App, Rule, Text, app_of, new_app, rule_of, with_rule, with_subcommand}
+use Rattle.clap.specs.declared.builder.arg.Arg.{Arg}
+use Rattle.clap.specs.declared.builder.command.Command.{Command}
+use Rattle.clap.specs.declared.builder.value_parser.ValueParser.{ValueParser}
+use Rattle.clap.specs.declared.builder.value_parser.ValueParser.TheVariants as parser
+use Rattle.iova_command.specs.Commands.{IsCommand}
+
+-- a new command with a text about it
+pub new_command : (name : Text) (old new : Command) (text : Bor Text) → app_of old ≡ new_app name → (out-Command old).has_globals ≡ false
+    → out-Command new ≡ record (out-Command old) { about = Some text } → IsCommand (new_app name) new
+new_command name old new text app local fields = record {
+  app = ap app_of_fields fields ∙ app;
+  local = ap (λ (f : Command-F Command). f.has_globals) fields ∙ local;
+}
+
+pub with_arg : (app : App) (rule : Rule) (old new : Command) (a : Arg) → IsCommand app old → rule_of a ≡ rule → a.global ≡ false
+    → AddsArg old a new → IsCommand (with_rule app rule) new
+with_arg app rule old new a is rule_is local adds = record {
+  app = adds.shape local ∙ ap₂ with_rule is.app rule_is;
+  local = adds.globals ∙ ap₂ (λ x y. x || y) is.local local;
+}
+
+pub with_last_arg : {E : Type 0} (app : App) (rule : Rule) (old : Command) (a : Arg) (r : Result Command E) → IsCommand app old → rule_of a ≡ rule
+    → a.global ≡ false → IfOk r (λ new. AddsArg old a new) → IfOk r (IsCommand (with_rule app rule))
+with_last_arg app rule old a (Ok new) is rule_is local adds = with_arg app rule old new a is rule_is local adds
+with_last_arg app rule old a (Err e) is rule_is local adds = tt
+
+pub with_command : (app sub_app : App) (old sub new : Command) → IsCommand app old → IsCommand sub_app sub
+    → AddsSubcommand old sub new → IsCommand (with_subcommand app sub_app.top) new
+with_command app sub_app old sub new is sub_is adds = record {
+  app = adds.shape sub_is.local ∙ ap₂ with_subcommand is.app (ap (λ (a : App). a.top) sub_is.app);
+  local = adds.globals ∙ ap₂ (λ x y. x || y) is.local sub_is.local;
+}
+
+pub with_last_command : {E : Type 0} (app sub_app : App) (old sub : Command) (r : Result Command E) → IsCommand app old → IsCommand sub_app sub
+    → IfOk r (λ new. AddsSubcommand old sub new) → IfOk r (IsCommand (with_subcommand app sub_app.top))
+with_last_command app sub_app old sub (Ok new) is sub_is adds = with_command app sub_app old sub new is sub_is adds
+with_last_command app sub_app old sub (Err e) is sub_is adds = tt
+
+-- no number is below the least that a parser of 64 bits has
+pub max_zero : (n : ℕ) → ord_max nat_cmp 0 n ≡ n
+max_zero n = grind (arith, common_steps)
+
+pub min_most : (n : ℕ) → n < 2 ^ 63 → ord_min nat_cmp 18446744073709551615 n ≡ n
+min_most n small = grind (arith, common_steps)
+
+-- bounds below 2^63 are the bounds of the parser
+pub narrowed : (low high : ℕ) (q p : ValueParser) (first last : ℤ) → q ≡ parser.Unsigned 0 18446744073709551615 → first ≡ pos low → last ≡ pos high
+    → low < 2 ^ 63 → high < 2 ^ 63 → NarrowsTo q (Some first) (Some last) p → p ≡ parser.Unsigned low high
+narrowed low high q p first last q_is first_is last_is low_fits high_fits made =
+    let same : saturate_unsigned w64 (pos low) ≡ low = grind (arith, ints, common_steps) in
+    let from_q = subst (λ (x : ValueParser). NarrowsTo x (Some first) (Some last) p) q_is made in
+    let from_first = subst (λ (x : ℤ). NarrowsTo (parser.Unsigned 0 18446744073709551615) (Some x) (Some last) p) first_is from_q in
+    let all = subst (λ (x : ℤ). NarrowsTo (parser.Unsigned 0 18446744073709551615) (Some (pos low)) (Some x) p) last_is from_first in
+    all ∙ ap₂ parser.Unsigned (max_zero (saturate_unsigned w64 (pos low)) ∙ same) (min_most high high_fits)

@@ -1,0 +1,34 @@
+-- What the getters of matches read, by the rows.
+use Rattle.std.proofs.Common.{ℕ, ◌≡◌, ◌∙◌, Bool, true, false, codes, List, Option, Some, None, Result, refl, sym, ap, subst}
+use Rattle.std.specs.Option.{option_map}
+use Rattle.std.specs.Borrow.{Bor}
+use Rattle.std.specs.Str.Parse.{ParsesUnsigned, ExplainsUnsignedError, HasUnsignedDigitsIfOk}
+use Rattle.std.specs.declared.num.ParseIntError.{ParseIntError}
+use Rattle.clap.specs.Words.{ReadsOne, Text, one_text, first_value, rows_of, first_of, one_of}
+use Rattle.clap.specs.declared.parser.matches.Found.{Found}
+use Rattle.clap.proofs.WalkLemmas.{first_value-rows, one_text-rows}
+use Rattle.iova_command.specs.Asks.{HasFlag}
+use Rattle.iova_command.specs.Numbers.{HasNumber}
+
+-- what `parse` gives for a number of 64 bits
+abbrev pub Parses : List ℕ → Result ℕ ParseIntError → Type 0
+Parses text r = ParsesUnsigned 64 10 text r × ExplainsUnsignedError 10 text r × HasUnsignedDigitsIfOk text r
+
+pub number_read : (f : Found) (id : Text) (r : Option ℕ) (n : ℕ) → r ≡ Some n → (one_text f id ≡ None → r ≡ None)
+    → ((text : Text) → one_text f id ≡ Some text → ReadsOne Parses text r) → HasNumber (rows_of f) id n
+number_read f id r n is none value = go (one_text f id) refl
+  where
+    go : (o : Option Text) → one_text f id ≡ o → HasNumber (rows_of f) id n
+    go None e =
+        let bad : None ≡ Some n = sym (none e) ∙ is in
+        cc
+    go (Some text) e = (text, sym (one_text-rows f id) ∙ e, (subst (λ (o : Option ℕ). ReadsOne Parses text o) is (value text e)).0)
+
+pub text_read : (f : Found) (id : Text) (r : Option (Bor Text)) (s : Bor Text) → option_map (λ b. b.now) r ≡ first_value f id → r ≡ Some s
+    → first_of id (rows_of f) ≡ Some s.now
+text_read f id r s reads is =
+    sym (first_value-rows f id) ∙ sym reads ∙ ap (option_map (λ b. b.now)) is
+
+pub flag_read : (f : Found) (id : Text) (flag : Bool) → (one_text f id ≡ Some (codes "true") → flag ≡ true) → (one_text f id ≡ Some (codes "false") → flag ≡ false)
+    → HasFlag (rows_of f) id flag
+flag_read f id flag set unset = (λ e. set (one_text-rows f id ∙ e), λ e. unset (one_text-rows f id ∙ e))

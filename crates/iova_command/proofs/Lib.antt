@@ -1,0 +1,3 @@
+mod Builders
+mod Getters
+mod Names

@@ -1,0 +1,15 @@
+use Rattle.std.proofs.Common.{rules, codes}
+use Rattle.clap.specs.Words.{new_app}
+use Rattle.iova_command.proofs.Builders.{new_command, with_arg, with_last_arg}
+use Rattle.iova_command.proofs.command.serve_command.Goals as goal
+
+pub returns : goal.returns
+returns c =
+    let new_is = new_command (codes "serve") c.new.result c.about.result _ c.new.ensures.app c.new.ensures.local c.about.ensures in
+    let socket = with_arg _ _ c.about.result c.in_ok-arg.field-0 c.path.result new_is c.path.ensures.rule c.path.ensures.local c.in_ok-arg.ensures in
+    let workers = with_arg _ _ c.in_ok-arg.field-0 c.in_ok-arg-2.field-0 c.number.result socket c.number.ensures.rule c.number.ensures.local c.in_ok-arg-2.ensures in
+    let domain = with_arg _ _ c.in_ok-arg-2.field-0 c.in_ok-arg-3.field-0 c.number-2.result workers c.number-2.ensures.rule c.number-2.ensures.local c.in_ok-arg-3.ensures in
+    let start = with_arg _ _ c.in_ok-arg-3.field-0 c.in_ok-arg-4.field-0 c.number-3.result domain c.number-3.ensures.rule c.number-3.ensures.local c.in_ok-arg-4.ensures in
+    let last = with_arg _ _ c.in_ok-arg-4.field-0 c.in_ok-arg-5.field-0 c.number-4.result start c.number-4.ensures.rule c.number-4.ensures.local c.in_ok-arg-5.ensures in
+    let sink = with_arg _ _ c.in_ok-arg-5.field-0 c.in_ok-arg-6.field-0 c.path-2.result last c.path-2.ensures.rule c.path-2.ensures.local c.in_ok-arg-6.ensures in
+    with_last_arg _ _ c.in_ok-arg-6.field-0 c.number-5.result c.arg-7.result sink c.number-5.ensures.rule c.number-5.ensures.local c.arg-7.ensures

@@ -1,0 +1,14 @@
+use Rattle.clap.specs.Words.{found_of}
+use Rattle.iova_command.proofs.Getters.{text_read}
+use Rattle.iova_command.proofs.plan.Plan.of.Goals as goal
+
+pub returns : goal.returns
+returns c = record {
+  socket = text_read (found_of c.args.found.now) _ c.get_str.result c.in_ok-get_str.field-0 c.get_str.ensures c.in_ok-get_str.was;
+  workers = c.in_ok-number.ensures.read;
+  domain = c.in_ok-number-2.ensures.read;
+  start = c.in_ok-number-3.ensures.read;
+  last = c.in_ok-number-4.ensures.read;
+  sink = text_read (found_of c.args.found.now) _ c.get_str-2.result c.in_ok-get_str-2.field-0 c.get_str-2.ensures c.in_ok-get_str-2.was;
+  sessions = c.in_ok-number-5.ensures.read;
+}

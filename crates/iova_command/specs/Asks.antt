@@ -1,0 +1,40 @@
+-- What matched words ask for. Own.
+use Rattle.std.specs.Prelude.{ℕ, ◌≡◌, ◌≢◌, Bool, true, false, List, [], Option, Some, None, Result, Ok, Err, codes, unwrap_or}
+use Rattle.clap.specs.Words.{Row, Text, first_of, one_of}
+use Rattle.iova_command.specs.Numbers.{HasNumber}
+use Rattle.iova_command.specs.declared.asked.Asked.{Asked}
+use Rattle.iova_command.specs.declared.asked.Asked.TheVariants.{Replay, Serve, Ask}
+use Rattle.iova_command.specs.declared.plan.Plan.{Plan}
+
+-- the flag is there
+abbrev pub HasFlag : List Row → Text → Bool → Type 0
+HasFlag rows id flag = (one_of id rows ≡ Some (codes "true") → flag ≡ true) × (one_of id rows ≡ Some (codes "false") → flag ≡ false)
+
+-- each part of the plan is the option of its name
+pub record Plans (rows : List Row) (plan : Plan) : Type 0 where
+  pub socket : first_of (codes "socket") rows ≡ Some plan.socket.now
+  pub workers : HasNumber rows (codes "workers") plan.workers
+  pub domain : HasNumber rows (codes "domain") plan.domain
+  pub start : HasNumber rows (codes "start") plan.start
+  pub last : HasNumber rows (codes "last") plan.last
+  pub sink : first_of (codes "sink") rows ≡ Some plan.sink.now
+  pub sessions : HasNumber rows (codes "sessions") plan.sessions
+
+-- a subcommand of this name and what it matched ask for this
+abbrev pub AsksOf : Text → List Row → Asked → Type 0
+AsksOf name rows (Replay path has_report) =
+    (name ≢ codes "serve") × (name ≢ codes "ask") × (first_of (codes "file") rows ≡ Some path.now) × HasFlag rows (codes "report") has_report
+AsksOf name rows (Serve plan) = (name ≡ codes "serve") × Plans rows plan
+AsksOf name rows (Ask path) = (name ≡ codes "ask") × (first_of (codes "path") rows ≡ Some path.now)
+
+-- what matched words ask for; no subcommand asks for a replay of standard input
+abbrev pub Asks : Option (Text × List Row) → Asked → Type 0
+Asks None (Replay path has_report) = (path.now ≡ codes "-") × (has_report ≡ false)
+Asks None other = ⊥
+Asks (Some matched) asked = AsksOf matched.0 matched.1 asked
+
+-- a replay, and no daemon
+abbrev pub IsReplay : Asked → Type 0
+IsReplay (Replay path has_report) = Unit {0}
+IsReplay (Serve plan) = ⊥
+IsReplay (Ask path) = ⊥

@@ -1,0 +1,53 @@
+-- The commands of the program, as `clap` reads them: names, options and what each option takes. Own.
+use Rattle.std.specs.Prelude.{ℕ, ◌≡◌, ◌-◌, true, false, Some, codes}
+use Rattle.clap.specs.Words.{App, app_of, Rule, Text, new_app, new_rule, with_rule, with_subcommand}
+use Rattle.clap.specs.declared.builder.command.Command.{Command}
+use Rattle.clap.specs.declared.builder.command.Command.TheViews.{out-Command}
+use Rattle.clap.specs.declared.builder.action.ArgAction.TheVariants.{Set, SetTrue}
+use Rattle.clap.specs.declared.builder.value_parser.ValueParser.TheVariants as parser
+use Rattle.iova_range.specs.declared.limits.TheConstants.{MAX_WORKERS, MAX_DOMAINS, MAX_SESSIONS, TOP}
+
+-- an argument that must be there, named by its place
+abbrev pub place_rule : Text → Rule
+place_rule id = record (new_rule id) { action = Some Set; value_names = 1; required = true }
+
+-- an option that must be there
+abbrev pub option_rule : Text → Rule
+option_rule id = record (place_rule id) { long = Some id }
+
+-- one with a number from `low` to `high`
+abbrev pub number_rule : Text → ℕ → ℕ → Rule
+number_rule id low high = record (option_rule id) { parser = Some (parser.Unsigned low high) }
+
+abbrev pub report_rule : Rule
+report_rule = record (new_rule (codes "report")) { long = Some (codes "report"); action = Some SetTrue }
+
+abbrev pub replay_app : App
+replay_app = with_rule (with_rule (new_app (codes "replay")) report_rule) (place_rule (codes "file"))
+
+abbrev pub serve_app : App
+serve_app =
+    with_rule (with_rule (with_rule (with_rule (with_rule (with_rule (with_rule (new_app (codes "serve"))
+    (option_rule (codes "socket")))
+    (number_rule (codes "workers") 1 MAX_WORKERS))
+    (number_rule (codes "domain") 0 (MAX_DOMAINS - 1)))
+    (number_rule (codes "start") 1 TOP))
+    (number_rule (codes "last") 1 TOP))
+    (option_rule (codes "sink")))
+    (number_rule (codes "sessions") 1 MAX_SESSIONS)
+
+abbrev pub ask_app : App
+ask_app = with_rule (new_app (codes "ask")) (place_rule (codes "path"))
+
+-- the program that replays
+abbrev pub iovad_app : App
+iovad_app = with_subcommand (new_app (codes "iovad")) replay_app.top
+
+-- with the daemon's commands
+abbrev pub with_daemon : App → App
+with_daemon app = with_subcommand (with_subcommand app serve_app.top) ask_app.top
+
+-- a command that is read so, with no option for all of its subcommands
+pub record IsCommand (read : App) (c : Command) : Type 0 where
+  pub app : app_of c ≡ read
+  pub local : (out-Command c).has_globals ≡ false

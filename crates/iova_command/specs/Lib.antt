@@ -1,0 +1,5 @@
+pub mod Asks
+pub mod Commands
+pub mod Numbers
+pub mod Refuses
+pub mod Usage

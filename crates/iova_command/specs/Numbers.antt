@@ -1,0 +1,9 @@
+-- The number that an option has. Own.
+use Rattle.std.specs.Prelude.{ℕ, ◌≡◌, List, Some, Ok}
+use Rattle.std.specs.declared.num.ParseIntError.{ParseIntError}
+use Rattle.std.specs.Str.Parse.{ParsesUnsigned}
+use Rattle.clap.specs.Words.{Row, Text, one_of}
+
+-- the option has a text, which is the number in decimal digits
+abbrev pub HasNumber : List Row → Text → ℕ → Type 0
+HasNumber rows id n = (text : Text) × (one_of id rows ≡ Some text) × ParsesUnsigned {E = ParseIntError} 64 10 text (Ok n)

@@ -1,0 +1,10 @@
+-- How words that ask for nothing end the process. Own.
+use Rattle.std.specs.Prelude.{ℕ, ◌≡◌, ◌⊎◌, List, [], ◌∷◌, Result, Ok, Err}
+use Rattle.clap.specs.declared.error.kind.ErrorKind.{ErrorKind}
+use Rattle.clap.specs.declared.error.kind.ErrorKind.TheVariants as kind
+
+-- help is no fault
+abbrev pub words_status : ErrorKind → ℕ
+words_status kind.DisplayHelp = 0
+words_status kind.DisplayVersion = 0
+words_status other = 2

@@ -1,0 +1,21 @@
+//! What the words of the command line ask for.
+use crate::plan::Plan;
+
+/// What the words ask for. Own.
+#[derive(Drop)]
+pub enum Asked<'a> {
+    /// The replay of a trace.
+    Replay {
+        /// The trace's file, or `-` for standard input.
+        path: &'a str,
+        /// Whether the report follows the replies.
+        has_report: bool,
+    },
+    /// A daemon.
+    Serve(Plan<'a>),
+    /// Lines sent to a daemon, and its answers.
+    Ask {
+        /// The path of the daemon's socket.
+        path: &'a str,
+    },
+}

@@ -1,0 +1,129 @@
+//! The command and its help.
+ghost use Rattle.std.specs.Prelude.{◌≡◌, ◌<◌, ◌^◌, IfOk, false};
+ghost use Rattle.clap.specs.Words.{rule_of};
+ghost use Rattle.iova_command.specs.Commands.{IsCommand, option_rule, number_rule, replay_app, serve_app, ask_app, iovad_app, with_daemon};
+
+use clap::{Arg, ArgAction, Command, value_parser};
+use iova_range::limits::{MAX_DOMAINS, MAX_SESSIONS, MAX_WORKERS, TOP};
+use std::alloc::{AllocError, Global};
+
+/// The program that replays.
+pub fn iovad_command<'a>(alloc: Global) -> Result<Command<'a>, AllocError>
+    ensures { IfOk result (IsCommand iovad_app) }
+{
+    Command::new(alloc, "iovad")
+        .about("Hands out I/O virtual addresses; with no word, replays a trace from standard input")
+        .subcommand(replay_command(alloc)?)
+}
+
+/// The same command, with those of the daemon.
+pub fn daemon_commands<'a>(alloc: Global, command: Command<'a>) -> Result<Command<'a>, AllocError>
+    requires { IsCommand iovad_app command }
+    ensures { IfOk result (IsCommand (with_daemon iovad_app)) }
+{
+    command
+        .subcommand(serve_command(alloc)?)?
+        .subcommand(ask_command(alloc)?)
+}
+
+fn replay_command<'a>(alloc: Global) -> Result<Command<'a>, AllocError>
+    ensures { IfOk result (IsCommand replay_app) }
+{
+    let report = Arg::new(alloc, "report")
+        .long("report")
+        .action(ArgAction::SetTrue)
+        .help("Prints the domain's report behind the replies");
+    let file = Arg::new(alloc, "file")
+        .value_name("FILE")
+        .required(true)
+        .action(ArgAction::Set)
+        .help("The trace's file, or - for standard input");
+    Command::new(alloc, "replay")
+        .about("Replays a trace and prints the reply to each of its steps")
+        .arg(report)?
+        .arg(file)
+}
+
+fn serve_command<'a>(alloc: Global) -> Result<Command<'a>, AllocError>
+    ensures { IfOk result (IsCommand serve_app) }
+{
+    Command::new(alloc, "serve")
+        .about("Serves sessions on a socket, then prints the domain's report")
+        .arg(path(
+            alloc,
+            "socket",
+            "PATH",
+            "The socket's path, where nothing stands yet",
+        ))?
+        .arg(number(
+            alloc,
+            "workers",
+            1,
+            MAX_WORKERS,
+            "How many sessions are served at a time",
+        ))?
+        .arg(number(
+            alloc,
+            "domain",
+            0,
+            MAX_DOMAINS - 1,
+            "The number of the domain",
+        ))?
+        .arg(number(alloc, "start", 1, TOP, "The first frame that may be given"))?
+        .arg(number(alloc, "last", 1, TOP, "The last frame that may be given"))?
+        .arg(path(
+            alloc,
+            "sink",
+            "FILE",
+            "The file that the records of flushes are appended to",
+        ))?
+        .arg(number(
+            alloc,
+            "sessions",
+            1,
+            MAX_SESSIONS,
+            "How many sessions are served",
+        ))
+}
+
+fn ask_command<'a>(alloc: Global) -> Result<Command<'a>, AllocError>
+    ensures { IfOk result (IsCommand ask_app) }
+{
+    let path = Arg::new(alloc, "path")
+        .value_name("PATH")
+        .required(true)
+        .action(ArgAction::Set)
+        .help("The socket's path");
+    Command::new(alloc, "ask")
+        .about("Sends lines from standard input to a socket and prints the answers")
+        .arg(path)
+}
+
+/// A required option with a path.
+fn path<'a>(alloc: Global, name: &'a str, value: &'a str, help: &'a str) -> Arg<'a>
+    ensures rule { rule_of result ≡ option_rule name.entry.now }
+    ensures local { result.global ≡ false }
+{
+    Arg::new(alloc, name)
+        .long(name)
+        .value_name(value)
+        .required(true)
+        .action(ArgAction::Set)
+        .help(help)
+}
+
+/// A required option with a number from `low` to `high`.
+fn number<'a>(alloc: Global, name: &'a str, low: u64, high: u64, help: &'a str) -> Arg<'a>
+    requires low { low < 2 ^ 63 }
+    requires high { high < 2 ^ 63 }
+    ensures rule { rule_of result ≡ number_rule name.entry.now low high }
+    ensures local { result.global ≡ false }
+{
+    Arg::new(alloc, name)
+        .long(name)
+        .value_name("N")
+        .required(true)
+        .action(ArgAction::Set)
+        .value_parser(value_parser!(u64).range(low as i64..=high as i64))
+        .help(help)
+}

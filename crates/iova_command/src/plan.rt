@@ -1,0 +1,63 @@
+//! What a daemon is to serve.
+ghost use Rattle.std.specs.Prelude.{◌≡◌, ◌<◌, ◌≤◌, IfSome};
+ghost use Rattle.clap.specs.Words.{rows_of, found_of};
+ghost use Rattle.iova_command.specs.Numbers.{HasNumber};
+ghost use Rattle.iova_range.specs.declared.limits.TheConstants.{MAX_WORKERS, MAX_DOMAINS, MAX_SESSIONS, TOP};
+
+use clap::ArgMatches;
+use iova_range::limits::{MAX_DOMAINS, MAX_SESSIONS, MAX_WORKERS, TOP};
+
+/// The options of `serve`, each in its range. Own.
+#[derive(Drop)]
+pub struct Plan<'a> {
+    /// The path of the socket.
+    pub socket: &'a str,
+    /// How many workers there are.
+    pub workers: u64,
+    /// The number of the domain.
+    pub domain: u64,
+    /// The first frame that may be given.
+    pub start: u64,
+    /// The last frame that may be given; it may be below the first one.
+    pub last: u64,
+    /// The path of the file that the records of flushes are appended to.
+    pub sink: &'a str,
+    /// How many sessions are served.
+    pub sessions: u64,
+    pub ghost workers_in_range: { (1 ≤ workers) × (workers ≤ MAX_WORKERS) },
+    pub ghost domain_in_range: { domain < MAX_DOMAINS },
+    pub ghost start_in_range: { (1 ≤ start) × (start ≤ TOP) },
+    pub ghost last_in_range: { (1 ≤ last) × (last ≤ TOP) },
+    pub ghost sessions_in_range: { (1 ≤ sessions) × (sessions ≤ MAX_SESSIONS) },
+}
+
+impl<'a> Plan<'a> {
+    ghost use Rattle.iova_command.specs.Asks.{Plans};
+
+    /// What the matches of `serve` say. None where an option is missing, or its number is outside its range.
+    pub(crate) fn of(found: &ArgMatches<'a>) -> Option<Plan<'a>>
+        ensures { IfSome result (λ p. Plans (rows_of (found_of found.now)) p) }
+    {
+        Some(Plan {
+            socket: found.get_str("socket")?,
+            workers: number(found, "workers", 1, MAX_WORKERS)?,
+            domain: number(found, "domain", 0, MAX_DOMAINS - 1)?,
+            start: number(found, "start", 1, TOP)?,
+            last: number(found, "last", 1, TOP)?,
+            sink: found.get_str("sink")?,
+            sessions: number(found, "sessions", 1, MAX_SESSIONS)?,
+        })
+    }
+}
+
+/// The number of an option, where it is from `low` to `high`.
+fn number(found: &ArgMatches<'_>, name: &str, low: u64, high: u64) -> Option<u64>
+    ensures range { IfSome result (λ n. (low ≤ n) × (n ≤ high)) }
+    ensures read { IfSome result (λ n. HasNumber (rows_of (found_of found.now)) name.now n) }
+{
+    let n = found.get_one::<u64>(name)?;
+    if n < low || n > high {
+        return None;
+    }
+    Some(n)
+}

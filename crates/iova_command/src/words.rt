@@ -1,0 +1,102 @@
+//! The process's words, and what they ask for.
+ghost use Rattle.std.specs.Prelude.{◌≡◌, IfErr, IfOk, IfSome, map, true};
+ghost use Rattle.clap.specs.Words.{app_of, fault_of, found_of, is_simple, is_simple_and_free, rows_of, subcommand_of, subcommand_rows_of};
+ghost use Rattle.iova_command.specs.Asks.{Asks, AsksOf, IsReplay};
+ghost use Rattle.iova_command.specs.Commands.{iovad_app};
+ghost use Rattle.iova_command.specs.Refuses.{IsNotUnderstood, RefusesBy};
+
+use crate::asked::Asked;
+use crate::command::iovad_command;
+use crate::plan::Plan;
+use crate::usage::WordsFault;
+use clap::error::ErrorKind;
+use clap::{ArgMatches, Command};
+use std::alloc::Global;
+use std::convert::AsStr;
+use std::rt::Env;
+use std::{env, io};
+
+/// The name that stands for standard input.
+pub const STANDARD_INPUT: &str = "-";
+
+/// The process's words, its name first. Refused where a word is not UTF-8, and by `NoMemory`.
+pub fn words<R: Env + AllocGlobal>(rt: &R) -> Result<Vec<String>, WordsFault>
+    ensures { IfErr result IsNotUnderstood }
+{
+    match env::args(rt) {
+        Ok(words) => Ok(words.collect(rt.alloc())?),
+        Err(error) if error.kind() == io::ErrorKind::OutOfMemory => Err(WordsFault::NoMemory),
+        Err(_) => Err(fault(rt.alloc(), "a word is not UTF-8")),
+    }
+}
+
+/// What these words ask for, the program's name first; no word but that asks for a replay of standard input.
+pub fn asked<'a, S: AsStr>(alloc: Global, words: &'a [S]) -> Result<Asked<'a>, WordsFault>
+    ensures asks { IfOk result (λ a. Asks (subcommand_of iovad_app (map S.text words.entry.now)) a) }
+    ensures refused { RefusesBy (fault_of iovad_app (map S.text words.entry.now)) result }
+
+    // no words ask for the daemon yet
+    ensures replays { IfOk result IsReplay }
+{
+    asked_of(alloc, iovad_command(alloc)?, words)
+}
+
+/// What these words ask for of this command.
+pub(crate) fn asked_of<'a, S: AsStr>(
+    alloc: Global,
+    command: Command<'a>,
+    words: &'a [S],
+) -> Result<Asked<'a>, WordsFault>
+    ensures asks { is_simple (app_of command.entry) ≡ true
+        → IfOk result (λ a. Asks (subcommand_of (app_of command.entry) (map S.text words.entry.now)) a) }
+    ensures refused { is_simple_and_free (app_of command.entry) ≡ true
+        → RefusesBy (fault_of (app_of command.entry) (map S.text words.entry.now)) result }
+{
+    let matches = command.try_get_matches_from(words)?;
+    match asked_by(&matches) {
+        Some(asked) => Ok(asked),
+        None => Err(fault(alloc, "an option is missing or outside its range")),
+    }
+}
+
+/// What the matched words ask for. None where an option is missing, or its number is outside its range.
+fn asked_by<'a>(matches: &ArgMatches<'a>) -> Option<Asked<'a>>
+    ensures { IfSome result (λ a. Asks (subcommand_rows_of matches.now) a) }
+{
+    match matches.subcommand() {
+        Some((name, found)) => asked_of_command(name, found),
+        None => Some(Asked::Replay {
+            path: STANDARD_INPUT,
+            has_report: false,
+        }),
+    }
+}
+
+/// What the command of this name asks for, by what it matched.
+fn asked_of_command<'a>(name: &str, found: &ArgMatches<'a>) -> Option<Asked<'a>>
+    ensures { IfSome result (λ a. AsksOf name.now (rows_of (found_of found.now)) a) }
+{
+    match name {
+        "serve" => Some(Asked::Serve(Plan::of(found)?)),
+        "ask" => Some(Asked::Ask {
+            path: found.get_str("path")?,
+        }),
+        _ => Some(Asked::Replay {
+            path: found.get_str("file")?,
+            has_report: found.get_flag("report"),
+        }),
+    }
+}
+
+/// Words that are not understood, for this reason.
+fn fault(alloc: Global, reason: &str) -> WordsFault
+    ensures { IsNotUnderstood result }
+{
+    match iovad_command(alloc) {
+        Ok(mut command) => match command.error(ErrorKind::InvalidValue, reason) {
+            Ok(error) => WordsFault::from(error),
+            Err(error) => WordsFault::from(error),
+        },
+        Err(error) => WordsFault::from(error),
+    }
+}
