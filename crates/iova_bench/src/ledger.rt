@@ -21,6 +21,7 @@ const FRAMES: usize = 90;
 
 /// The rounds of one run: so many orders, so often.
 const ORDERS: usize = 100;
+
 const TIMES: u64 = 100;
 
 /// Which of the frames, in the order in which they were given, is unmapped first, and which next.

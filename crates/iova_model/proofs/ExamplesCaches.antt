@@ -143,8 +143,8 @@ freed_where_not_cached = refl
 -- both magazines of order 2 are full, the depot takes none: 8 and 12 are sent out, of four frames each
 freed_where_sent_out :
     freed_by_puts (record { mag = 2; depot = 0; top = 1023 })
-        (record { workers = (no_magazines ∷ no_magazines ∷ record { loaded = 8 ∷ 12 ∷ []; previous = 16 ∷ 20 ∷ [] } ∷ []) ∷ []; depots = replicate 6 [] })
-        0 (at 24 4 ∷ [])
+    (record { workers = (no_magazines ∷ no_magazines ∷ record { loaded = 8 ∷ 12 ∷ []; previous = 16 ∷ 20 ∷ [] } ∷ []) ∷ []; depots = replicate 6 [] })
+    0 (at 24 4 ∷ [])
     ≡ at 8 4 ∷ at 12 4 ∷ []
 freed_where_sent_out = refl
 

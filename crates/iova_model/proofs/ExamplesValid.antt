@@ -208,5 +208,6 @@ no_reuse_after_a_failed_flush law = never (law 0 3 9 (omega arith) (record { pai
     no_end (suc zero) n m lt e = cc (ap ends_well e)
     no_end (suc (suc zero)) n m lt e = cc (ap ends_well e)
     no_end (suc (suc (suc d))) n m lt e = absurd (omega arith)
+
     never : IsFlushedBetween flush_failed 0 3 → ⊥
     never f = no_end f.done f.whole.number f.whole.end_point f.earlier f.whole.ends
