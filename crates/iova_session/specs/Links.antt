@@ -1,14 +1,34 @@
 -- What contracts see of links.
-use Rattle.std.specs.Prelude.{ℕ, List}
+use Rattle.std.specs.Prelude.{ℕ, ◌≡◌, ◌+◌, ◌<◌, List, Option, Result, MatchResult, take}
+use Rattle.std.specs.Io.KnownBytes.{Appends}
 
--- a link in memory: the bytes that are left and those that were written, how many it moves at a time, the call that fails, and
--- how many calls there were, reads among them, failures, and reads that found the end
+-- how the failures are counted at a call that answers this
+abbrev pub CountsFailures : {A : Type 0} {E : Type 0} → Result A E → ℕ → ℕ → Type 0
+CountsFailures result old new = MatchResult result (λ v. new ≡ old) (λ e. new ≡ old + 1)
+
+-- how the ends are counted at a read that answers this, where there is room for so many bytes
+abbrev pub CountsEnds : {E : Type 0} → Result ℕ E → ℕ → ℕ → ℕ → Type 0
+CountsEnds result room old new =
+    MatchResult result (λ n. (0 < n → new ≡ old) × (n ≡ 0 → 0 < room → new ≡ old + 1)) (λ e. new ≡ old)
+
+-- a front of these bytes was written
+abbrev pub AppendsFront : Option (List ℕ) → Option (List ℕ) → List ℕ → Type 0
+AppendsFront old new bytes = (n : ℕ) × Appends old new (take n bytes)
+
+-- a link in memory: the bytes that are left and those that were written, how many it moves at a time, the call that
+-- fails, and how many calls there were, reads among them, failures, and reads that found the end
 pub record Wire : Type 0 where
   pub left : List ℕ
   pub sent : List ℕ
   pub most : ℕ
   pub fail_at : ℕ
   pub calls : ℕ
+  pub reads : ℕ
+  pub failures : ℕ
+  pub ends : ℕ
+
+-- a link whose bytes are not known: how many reads there were, failures, and reads that found the end
+pub record Counted : Type 0 where
   pub reads : ℕ
   pub failures : ℕ
   pub ends : ℕ

@@ -1,5 +1,5 @@
 -- Requests and their answers. Own.
-use Rattle.std.specs.Prelude.{ℕ, List, [], ◌∷◌, ◌++◌, Option, Some, None, map, flat_map}
+use Rattle.std.specs.Prelude.{ℕ, ◌≡◌, List, [], ◌∷◌, ◌++◌, Option, Some, None, map, flat_map, take}
 use Rattle.std.specs.declared.snapshot.Snapshot.{Snapshot}
 use Rattle.iova_proto.specs.declared.answer.Answer.{Answer}
 use Rattle.iova_proto.specs.declared.request.Request.{Request}
@@ -31,3 +31,9 @@ requests_text rs = flat_map request_text rs
 -- the texts of these answers
 unfoldable pub answers_text : List Answer → List ℕ
 answers_text as_told = flat_map answer_text as_told
+
+-- A front of so many of the requests was asked: their pairs stand behind those before, and their answers behind
+-- those before.
+abbrev pub AsksFront : ℕ → List Request → List Pair → List Pair → List Answer → List Answer → Type 0
+AsksFront n requests old new before answers =
+    (ps : List Pair) × (new ≡ old ++ ps) × (asked ps ≡ take n requests) × (answers ≡ before ++ told ps)

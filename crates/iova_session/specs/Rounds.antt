@@ -6,7 +6,7 @@ use Rattle.iova_proto.specs.Feeds.{BeginsBad}
 use Rattle.iova_proto.specs.Requests.{IsRequest}
 use Rattle.iova_proto.specs.declared.request.Request.{Request}
 use Rattle.iova_session.specs.Pairs.{Pair, asked, told, requests_text, answers_text}
-use Rattle.iova_session.specs.Sessions.{HasNoBye, EndsInBye, BeginsRequest, Serves}
+use Rattle.iova_session.specs.Sessions.{HasNoBye, EndsInBye, BeginsRequest, Serves, failures_at}
 use Rattle.iova_session.specs.declared.end.End.{End}
 use Rattle.iova_session.specs.declared.end.End.TheVariants as ends
 use Rattle.iova_session.specs.declared.gathering.Stop.{Stop}
@@ -23,13 +23,15 @@ pub record GoesOn (bytes : List ℕ) (ps : List Pair) (next written : List ℕ) 
   pub byes : HasNoBye (asked ps)
   pub answered : written ≡ answers_text (told ps)
 
--- What gathering gives behind the bytes that are kept: the requests, how much of the piece they take, what is kept then.
+-- What gathering gives behind the bytes that are kept: the requests, how much of the piece they take, what is kept
+-- then.
 abbrev pub Gathers : ℕ → List ℕ → List ℕ → List Request → ℕ → Stop → Option (List ℕ) → Type 0
 Gathers left kept piece rs used stops.More new =
     HasNoBye rs × ((next : List ℕ) × IsLines (kept ++ piece) rs next × IsUnended next × (new ≡ Some next))
 Gathers left kept piece rs used stops.Full new = HasNoBye rs × IsLines (kept ++ take used piece) rs [] × (new ≡ Some [])
 Gathers left kept piece rs used stops.Bye new = EndsInBye rs × IsLines (kept ++ take used piece) rs []
-Gathers left kept piece rs used stops.Bad new = HasNoBye rs × ((rest : List ℕ) × IsLines (kept ++ piece) rs rest × BeginsBad rest)
+Gathers left kept piece rs used stops.Bad new =
+    HasNoBye rs × ((rest : List ℕ) × IsLines (kept ++ piece) rs rest × BeginsBad rest)
 Gathers left kept piece rs used stops.Limit new =
     HasNoBye rs × (length rs ≡ left) × ((rest : List ℕ) × IsLines (kept ++ piece) rs rest × BeginsRequest rest)
 
@@ -37,11 +39,18 @@ Gathers left kept piece rs used stops.Limit new =
 abbrev pub IsCut : End → Type 0
 IsCut end = (end ≡ ends.LinkFault) ⊎ (end ≡ ends.NoMemory)
 
--- What asking a run of requests gives: all are asked and answered, or the first ones, and a front of the answers is written.
+-- What asking a run of requests gives: all are asked and answered, or the first ones, and a front of the answers is
+-- written.
 abbrev pub Asks : List Request → List Pair → List ℕ → Result Unit End → Type 0
 Asks rs ps written (Ok u) = (asked ps ≡ rs) × (written ≡ answers_text (told ps))
 Asks rs ps written (Err end) =
-    IsCut end × ((more : List Request) × (rs ≡ asked ps ++ more)) × ((n : ℕ) × (written ≡ take n (answers_text (told ps))))
+    IsCut end × ((more : List Request) × (rs ≡ asked ps ++ more))
+    × ((n : ℕ) × (written ≡ take n (answers_text (told ps))))
+
+-- how the failures of the link are counted where a part of a session answers this
+abbrev pub CountsFault : Result Unit End → ℕ → ℕ → Type 0
+CountsFault (Ok u) old new = new ≡ old
+CountsFault (Err end) old new = new ≡ old + failures_at end
 
 -- What a piece gives behind what was kept: the session goes on with so many requests left, or it ends.
 abbrev pub Takes : ℕ → List ℕ → List Pair → List ℕ → ℕ → Option (List ℕ) → Result Unit End → Type 0

@@ -41,8 +41,8 @@ pub record BeginsRequest (bytes : List ℕ) : Type 0 where
   pub good : IsRequest request
   pub whole : bytes ≡ request_text request ++ more
 
--- The bytes begin with the lines of these requests, each a line of the protocol, and the rest follows. They are no more than the
--- most that may be asked, and none of them stands behind a bye.
+-- The bytes begin with the lines of these requests, each a line of the protocol, and the rest follows. They are no
+-- more than the most that may be asked, and none of them stands behind a bye.
 pub record BeginsWith (most : ℕ) (bytes : List ℕ) (rs : List Request) (rest : List ℕ) : Type 0 where
   pub good : AllByRecursion IsRequest rs
   pub whole : bytes ≡ requests_text rs ++ rest
@@ -54,14 +54,15 @@ abbrev pub IsPastLimit : ℕ → List Request → List ℕ → ℕ → Type 0
 IsPastLimit most rs rest reads =
     ((length rs ≡ most) × BeginsRequest rest) ⊎ ((reads ≡ MAX_SESSION_READS) × IsUnended rest)
 
--- Which line of its own a session may write at last: none; that a line is bad, where a bad one follows; that a limit is passed.
+-- Which line of its own a session may write at last: none; that a line is bad, where a bad one follows; that a
+-- limit is passed.
 abbrev pub IsLastLine : ℕ → List Request → List ℕ → ℕ → List ℕ → Type 0
 IsLastLine most rs rest reads line = (line ≡ [])
     ⊎ ((line ≡ bad_line) × HasNoBye rs × BeginsBad rest)
     ⊎ ((line ≡ too_many) × HasNoBye rs × IsPastLimit most rs rest reads)
 
--- What each end says, of the most that may be asked, the requests that were asked, what follows them in the bytes that were
--- taken, the number of reads, the text of the answers, and what was written.
+-- What each end says, of the most that may be asked, the requests that were asked, what follows them in the bytes
+-- that were taken, the number of reads, the text of the answers, and what was written.
 abbrev pub EndsSo : ℕ → List Request → List ℕ → ℕ → List ℕ → List ℕ → End → Type 0
 EndsSo most rs rest reads text written ends.Bye = EndsInBye rs × (written ≡ text)
 EndsSo most rs rest reads text written ends.Closed = HasNoBye rs × IsUnended rest × (written ≡ text)
@@ -72,8 +73,9 @@ EndsSo most rs rest reads text written ends.LinkFault =
     (line : List ℕ) × (n : ℕ) × IsLastLine most rs rest reads line × (written ≡ take n (text ++ line))
 EndsSo most rs rest reads text written ends.NoMemory = (n : ℕ) × (written ≡ take n text)
 
--- A session: the bytes that it took, the requests that it asked with their answers, the bytes that it wrote, the number of its
--- reads, and its end. The requests are the first ones that stand in the bytes, and all of them but at LinkFault and NoMemory.
+-- A session: the bytes that it took, the requests that it asked with their answers, the bytes that it wrote, the
+-- number of its reads, and its end. The requests are the first ones that stand in the bytes, and all of them but at
+-- LinkFault and NoMemory.
 pub record Serves (most : ℕ) (taken : List ℕ) (ps : List Pair) (written : List ℕ) (reads : ℕ) (end : End) : Type 0 where
   pub rest : List ℕ
   pub requests : BeginsWith most taken (asked ps) rest

@@ -1,9 +1,10 @@
 //! Requests asked, and their answers written.
 ghost use Rattle.std.specs.Prelude.{◌≡◌, ◌≢◌, ℕ, ◌+◌, ◌≤◌, ◌++◌, List, MatchResult, OnOk, OnErr, IfErr, ◌⊎◌, length, take};
 ghost use Rattle.std.specs.Io.KnownBytes.{Appends};
+ghost use Rattle.iova_session.specs.Links.{CountsFailures, AppendsFront};
 ghost use Rattle.iova_session.specs.Pairs.{Pair, answers_text};
 ghost use Rattle.iova_session.specs.Sessions.{failures_at, ends_at};
-ghost use Rattle.iova_session.specs.Rounds.{Asks, IsCut};
+ghost use Rattle.iova_session.specs.Rounds.{Asks, IsCut, CountsFault};
 
 use crate::desk::Desk;
 use crate::end::End;
@@ -25,7 +26,7 @@ pub(crate) fn ask_all<L: Link, D: Desk>(
     ensures left { L.left link.new ≡ L.left link.old }
     ensures reads { L.reads link.new ≡ L.reads link.old }
     ensures ends { L.ends link.new ≡ L.ends link.old }
-    ensures failures { MatchResult result (λ u. L.failures link.new ≡ L.failures link.old) (λ e. L.failures link.new ≡ L.failures link.old + failures_at e) }
+    ensures failures { CountsFault result (L.failures link.old) (L.failures link.new) }
     ensures asked { (ps : List Pair) × (written : List ℕ) × (D.pairs desk.new ≡ D.pairs desk.old ++ ps)
         × Appends (L.sent link.old) (L.sent link.new) written × Asks run.now ps written result }
 {
@@ -46,9 +47,10 @@ fn tell<L: Link>(link: &mut L, answers: &[Answer], out: &mut Vec<u8>) -> Result<
     ensures left { L.left link.new ≡ L.left link.old }
     ensures reads { L.reads link.new ≡ L.reads link.old }
     ensures ends { L.ends link.new ≡ L.ends link.old }
-    ensures failures { MatchResult result (λ u. L.failures link.new ≡ L.failures link.old) (λ e. L.failures link.new ≡ L.failures link.old + failures_at e) }
+    ensures failures { CountsFault result (L.failures link.old) (L.failures link.new) }
     ensures ok { OnOk result (Appends (L.sent link.old) (L.sent link.new) (answers_text answers.now)) }
-    ensures err { IfErr result (λ e. IsCut e × ((n : ℕ) × Appends (L.sent link.old) (L.sent link.new) (take n (answers_text answers.now)))) }
+    ensures err { IfErr result (λ e. IsCut e
+        × AppendsFront (L.sent link.old) (L.sent link.new) (answers_text answers.now)) }
 {
     out.clear();
     for answer in answers {
@@ -72,7 +74,7 @@ pub(crate) fn refuse<L: Link>(link: &mut L, line: &[u8], end: End) -> End
     ensures failures { L.failures link.new ≡ L.failures link.old + failures_at result }
     ensures open { ends_at result ≡ 0 }
     ensures told { ((result ≡ end) × Appends (L.sent link.old) (L.sent link.new) line.now)
-        ⊎ ((result ≡ End.LinkFault) × ((n : ℕ) × Appends (L.sent link.old) (L.sent link.new) (take n line.now))) }
+        ⊎ ((result ≡ End.LinkFault) × AppendsFront (L.sent link.old) (L.sent link.new) line.now) }
 {
     match put_all(link, line) {
         Ok(()) => end,
@@ -85,9 +87,9 @@ fn put_all<L: Link>(link: &mut L, bytes: &[u8]) -> Result<(), LinkFault>
     ensures left { L.left link.new ≡ L.left link.old }
     ensures reads { L.reads link.new ≡ L.reads link.old }
     ensures ends { L.ends link.new ≡ L.ends link.old }
-    ensures failures { MatchResult result (λ u. L.failures link.new ≡ L.failures link.old) (λ e. L.failures link.new ≡ L.failures link.old + 1) }
+    ensures failures { CountsFailures result (L.failures link.old) (L.failures link.new) }
     ensures ok { OnOk result (Appends (L.sent link.old) (L.sent link.new) bytes.now) }
-    ensures err { OnErr result ((n : ℕ) × Appends (L.sent link.old) (L.sent link.new) (take n bytes.now)) }
+    ensures err { OnErr result (AppendsFront (L.sent link.old) (L.sent link.new) bytes.now) }
 {
     let mut done = 0;
     while done < bytes.len() {

@@ -23,8 +23,8 @@ pub(crate) enum Stop {
     Limit,
 }
 
-/// The requests whose lines stand at the front of the piece, at most 16 and at most `left`. Gives how many bytes of the piece
-/// they take, and why there are no more. Copies no line that lies whole in the piece.
+/// The requests whose lines stand at the front of the piece, at most 16 and at most `left`. Gives how many bytes of
+/// the piece they take, and why there are no more. Copies no line that lies whole in the piece.
 pub(crate) fn gather(
     lines: &mut Lines,
     piece: &[u8],
@@ -37,7 +37,8 @@ pub(crate) fn gather(
     ensures most { length run.new.items ≤ MAX_RUN }
     ensures within { length run.new.items ≤ left }
     ensures full { result.1 ≡ Stop.Full → length run.new.items ≡ MAX_RUN }
-    ensures gathered { IfSome lines.old (λ kept. Gathers left kept piece.now run.new.items result.0 result.1 lines.new) }
+    ensures gathered { IfSome lines.old
+        (λ kept. Gathers left kept piece.now run.new.items result.0 result.1 lines.new) }
 {
     let mut used = 0;
     'gathering: loop {

@@ -9,5 +9,6 @@ pub mod link;
 pub mod memory_link;
 pub mod pairs;
 pub mod serve;
+pub mod socket_link;
 #[cfg(test)]
 mod tests;

@@ -1,6 +1,7 @@
 //! What a session reads from and writes to.
-ghost use Rattle.std.specs.Prelude.{◌≡◌, ◌+◌, ◌<◌, ◌≤◌, ℕ, List, Option, IfOk, MatchResult, length};
+ghost use Rattle.std.specs.Prelude.{◌≡◌, ◌+◌, ◌<◌, ◌≤◌, ℕ, List, Option, IfOk, length};
 ghost use Rattle.std.specs.Io.KnownBytes.{ReadConsumes, WriteAppends};
+ghost use Rattle.iova_session.specs.Links.{CountsFailures, CountsEnds};
 
 use thiserror::Error;
 
@@ -9,8 +10,8 @@ use thiserror::Error;
 #[error("the link failed")]
 pub struct LinkFault;
 
-/// A stream of bytes in each direction. Any error of the operating system is a failure, an interruption too, and so is a
-/// write that takes none of a nonempty slice. Own.
+/// A stream of bytes in each direction. Any error of the operating system is a failure, an interruption too, and so
+/// is a write that takes none of a nonempty slice. Own.
 pub trait Link {
     /// The bytes that are still to be read, where they are known.
     ghost left: { Self → Option (List ℕ) };
@@ -27,23 +28,23 @@ pub trait Link {
     /// How many reads found the end.
     ghost ends: { Self → ℕ };
 
-    /// Reads bytes into a front of `buf`, and gives their number. 0 bytes for a nonempty `buf` are the end. A call that
-    /// fails reads none.
+    /// Reads bytes into a front of `buf`, and gives their number. 0 bytes for a nonempty `buf` are the end. A call
+    /// that fails reads none.
     fn read(&mut self, buf: &mut [u8]) -> Result<usize, LinkFault>
         ensures bound { IfOk result (λ n. n ≤ length buf.old) }
         ensures bytes { ReadConsumes (left self.old) (left self.new) result buf.new }
         ensures reads { reads self.new ≡ reads self.old + 1 }
-        ensures failures { MatchResult result (λ n. failures self.new ≡ failures self.old) (λ e. failures self.new ≡ failures self.old + 1) }
-        ensures ends { MatchResult result (λ n. (0 < n → ends self.new ≡ ends self.old) × (n ≡ 0 → 0 < length buf.old → ends self.new ≡ ends self.old + 1)) (λ e. ends self.new ≡ ends self.old) }
+        ensures failures { CountsFailures result (failures self.old) (failures self.new) }
+        ensures ends { CountsEnds result (length buf.old) (ends self.old) (ends self.new) }
         ensures sent { sent self.new ≡ sent self.old };
 
-    /// Writes a front of the bytes, at least one byte where there is one, and gives their number. A call that fails writes
-    /// none.
+    /// Writes a front of the bytes, at least one byte where there is one, and gives their number. A call that fails
+    /// writes none.
     fn write(&mut self, bytes: &[u8]) -> Result<usize, LinkFault>
         ensures bound { IfOk result (λ n. n ≤ length bytes.now) }
         ensures some { IfOk result (λ n. 0 < length bytes.now → 0 < n) }
         ensures bytes { WriteAppends (sent self.old) (sent self.new) result bytes.now }
-        ensures failures { MatchResult result (λ n. failures self.new ≡ failures self.old) (λ e. failures self.new ≡ failures self.old + 1) }
+        ensures failures { CountsFailures result (failures self.old) (failures self.new) }
         ensures left { left self.new ≡ left self.old }
         ensures reads { reads self.new ≡ reads self.old }
         ensures ends { ends self.new ≡ ends self.old };

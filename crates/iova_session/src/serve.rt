@@ -3,7 +3,7 @@ ghost use Rattle.std.specs.Prelude.{◌≡◌, ℕ, ◌+◌, ◌++◌, List, Mat
 ghost use Rattle.std.specs.Io.KnownBytes.{Appends, Consumes};
 ghost use Rattle.iova_session.specs.Pairs.{Pair};
 ghost use Rattle.iova_session.specs.Sessions.{Serves, failures_at, ends_at};
-ghost use Rattle.iova_session.specs.Rounds.{Takes};
+ghost use Rattle.iova_session.specs.Rounds.{Takes, CountsFault};
 
 use crate::answering::{ask_all, refuse};
 use crate::desk::Desk;
@@ -23,11 +23,12 @@ const PIECE: usize = 4096;
 /// How many bytes of answers have room from the start: those of 16 answers, but for `held`.
 const TEXT: usize = 4096;
 
-/// Serves the peer at the other end of the link until the session ends: reads lines, asks the desk in runs of 1 to 16
-/// requests, and writes the answers to each run before the next. It reads no more while a whole request that was read is
-/// not answered. A bad line is answered `no 20 BadLine`, the 65,537th request and the read behind 1,048,576 ones
-/// `no 21 TooMany`, and each of them ends the session; what stands at the end of the link without an LF is dropped. `NoMemory`
-/// comes where a growth was refused, the desk's too: the requests of that run are not asked, or not answered. Own.
+/// Serves the peer at the other end of the link until the session ends: reads lines, asks the desk in runs of 1 to
+/// 16 requests, and writes the answers to each run before the next. It reads no more while a whole request that was
+/// read is not answered. A bad line is answered `no 20 BadLine`, the 65,537th request and the read behind 1,048,576
+/// ones `no 21 TooMany`, and each of them ends the session; what stands at the end of the link without an LF is
+/// dropped. `NoMemory` comes where a growth was refused, the desk's too: the requests of that run are not asked, or
+/// not answered. Own.
 pub fn serve<L: Link, D: Desk>(alloc: Global, link: &mut L, desk: &mut D) -> End
     ensures session { (taken : List ℕ) × (ps : List Pair) × (written : List ℕ) × (reads : ℕ)
         × Consumes (L.left link.old) (L.left link.new) taken
@@ -84,7 +85,7 @@ fn take_piece<L: Link, D: Desk>(
     ensures left { L.left link.new ≡ L.left link.old }
     ensures reads { L.reads link.new ≡ L.reads link.old }
     ensures ends { L.ends link.new ≡ L.ends link.old }
-    ensures failures { MatchResult result (λ u. L.failures link.new ≡ L.failures link.old) (λ e. L.failures link.new ≡ L.failures link.old + failures_at e) }
+    ensures failures { CountsFault result (L.failures link.old) (L.failures link.new) }
     ensures open { IfErr result (λ e. ends_at e ≡ 0) }
     ensures taken { (kept : List ℕ) × (ps : List Pair) × (written : List ℕ) × (lines.old ≡ Some kept)
         × (D.pairs desk.new ≡ D.pairs desk.old ++ ps) × Appends (L.sent link.old) (L.sent link.new) written

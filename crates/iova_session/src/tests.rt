@@ -1,5 +1,5 @@
-//! Whole sessions over memory: however reads and writes are cut, links that fail at each of their calls, desks that take
-//! runs of any length and refuse one, and the limits.
+//! Whole sessions over memory: however reads and writes are cut, links that fail at each of their calls, desks that
+//! take runs of any length and refuse one, and the limits.
 ghost use Rattle.std.specs.Prelude.{◌≡◌, ◌≤◌, ◌+◌, ◌++◌, List, None, length, vec_len, vec_capacity};
 ghost use Rattle.iova_session.specs.Pairs.{Pair, asked, told};
 
@@ -9,14 +9,18 @@ use crate::link::{Link, LinkFault};
 use crate::memory_link::MemoryLink;
 use crate::pairs::Pairs;
 use crate::serve::serve;
+use crate::socket_link::SocketLink;
 use iova_proto::answer::Answer;
 use iova_proto::request::Request;
 use iova_range::refusal::Refusal;
 use iova_sink::count::Count;
+use std::io::{Read, Write};
+use std::net::Shutdown;
+use std::os::unix::net::UnixStream;
 use std::test::Fail;
 
-// Answers `bye` by `Bye` and all else by `no 3 NoClient`. It takes at most `most` requests in a run, at least one, and
-// refuses its `fail_at`-th run (0: none).
+// Answers `bye` by `Bye` and all else by `no 3 NoClient`. It takes at most `most` requests in a run, at least one,
+// and refuses its `fail_at`-th run (0: none).
 #[derive(Drop)]
 struct PlainDesk {
     most: usize,
@@ -46,7 +50,8 @@ fn answer_of(request: Request) -> Answer {
 // Answers all of the requests, for whose answers there is room.
 fn answer_all(pairs: &mut Pairs, requests: &[Request], answers: &mut Vec<Answer>)
     requires { vec_len answers.old + length requests.now ≤ vec_capacity answers.old }
-    ensures { (ps : List Pair) × (pairs.new ≡ pairs.old ++ ps) × (asked ps ≡ requests.now) × (answers.new.items ≡ answers.old.items ++ told ps) }
+    ensures { (ps : List Pair) × (pairs.new ≡ pairs.old ++ ps) × (asked ps ≡ requests.now)
+        × (answers.new.items ≡ answers.old.items ++ told ps) }
 {
     for request in requests {
         let answer = answer_of(*request);
@@ -307,5 +312,49 @@ fn each_line_is_answered_before_the_next_read(rt: HostRuntime) -> Result<(), Fai
     };
     let end = serve(rt.alloc(), &mut link, &mut PlainDesk::new(16, 0));
     assert!(rt; end == End::Bye && link.answers == 18);
+    Ok(())
+}
+
+// It passes whichever growth is refused, and prints where.
+#[test]
+fn a_session_with_a_refused_growth(rt: HostRuntime) -> Result<(), Fail> {
+    let (input, text, _) = SESSIONS[14];
+    let seen = serve_over(&rt, input, text, 128, 0, &mut PlainDesk::new(16, 0));
+    match seen.end {
+        End::NoMemory => println!(rt; "refused at serve")?,
+        End::LinkFault => println!(rt; "refused at write")?,
+        _ => assert!(rt; seen.end == End::Bye),
+    }
+    assert!(rt; seen.is_front && seen.is_whole == (seen.end == End::Bye));
+    let seen = serve_over(&rt, input, text, 128, 0, &mut PlainDesk::new(16, 0));
+    assert!(rt; seen.end == End::Bye && seen.is_whole);
+    Ok(())
+}
+
+#[test]
+fn a_session_over_a_socket(rt: HostRuntime) -> Result<(), Fail> {
+    let (input, text, end) = SESSIONS[0];
+    let (mut peer, stream) = UnixStream::pair(&rt)?;
+    // both fit into what a socket keeps
+    peer.write_all(input)?;
+    peer.shutdown(Shutdown::Write)?;
+    let mut link = SocketLink::new(stream);
+    assert!(rt; serve(rt.alloc(), &mut link, &mut PlainDesk::new(16, 0)) == end);
+    drop(link);
+    let mut seen = Vec::new(rt.alloc());
+    peer.read_to_end(&mut seen)?;
+    assert_eq!(rt; seen.as_slice(), text);
+    Ok(())
+}
+
+// A peer that sends a request and goes: the answer to it finds nobody, or the read behind it the end.
+#[test]
+fn a_peer_that_goes(rt: HostRuntime) -> Result<(), Fail> {
+    let (mut peer, stream) = UnixStream::pair(&rt)?;
+    peer.write_all(b"list\nli")?;
+    drop(peer);
+    let mut link = SocketLink::new(stream);
+    let end = serve(rt.alloc(), &mut link, &mut PlainDesk::new(16, 0));
+    assert!(rt; end == End::LinkFault);
     Ok(())
 }

@@ -1,0 +1,75 @@
+//! A link over a socket.
+ghost use Rattle.std.specs.Prelude.{◌≡◌, None};
+
+use crate::link::{Link, LinkFault};
+use iova_sink::count::Count;
+use std::io::{Read, Write};
+use std::marker::Model;
+use std::os::unix::net::UnixStream;
+
+/// A connected Unix socket. Each call is one call of the operating system, which may wait for the peer, and none is
+/// made again. Contracts see the numbers of its reads, its failures and the reads that found the end; what bytes
+/// come and go, no contract can say. Own.
+#[derive(Drop)]
+pub struct SocketLink {
+    stream: UnixStream,
+    reads: Count,
+    failed: Count,
+    ended: Count,
+}
+
+impl Model for SocketLink {
+    ghost use Rattle.iova_session.specs.Links.{Counted};
+
+    ghost Value = { Counted };
+
+    ghost view = { λ l. record { reads = l.reads; failures = l.failed; ends = l.ended } };
+}
+
+impl SocketLink {
+    /// A link over this socket, of which no call was made.
+    pub fn new(stream: UnixStream) -> SocketLink
+        ensures { result ≡ record { reads = 0; failures = 0; ends = 0 } }
+    {
+        SocketLink {
+            stream,
+            reads: Count::new(),
+            failed: Count::new(),
+            ended: Count::new(),
+        }
+    }
+}
+
+impl Link for SocketLink {
+    ghost left = { λ l. None };
+
+    ghost sent = { λ l. None };
+
+    ghost reads = { λ l. l.reads };
+
+    ghost failures = { λ l. l.failures };
+
+    ghost ends = { λ l. l.ends };
+
+    fn read(&mut self, buf: &mut [u8]) -> Result<usize, LinkFault> {
+        self.reads.up();
+        let Ok(n) = self.stream.read(buf) else {
+            self.failed.up();
+            return Err(LinkFault);
+        };
+        if n == 0 && !buf.is_empty() {
+            self.ended.up();
+        }
+        Ok(n)
+    }
+
+    fn write(&mut self, bytes: &[u8]) -> Result<usize, LinkFault> {
+        match self.stream.write(bytes) {
+            Ok(n) if n > 0 || bytes.is_empty() => Ok(n),
+            _ => {
+                self.failed.up();
+                Err(LinkFault)
+            }
+        }
+    }
+}
