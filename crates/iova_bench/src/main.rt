@@ -2,6 +2,7 @@
 //! the name, how many ranges are live, how many operations were run, and how many nanoseconds one took, the best of three.
 #![tactic(auto)]
 
+mod lines;
 mod machine;
 mod random;
 mod tree;
@@ -21,6 +22,9 @@ fn run(rt: &HostRuntime) -> anyhow::Result<()> {
     let alloc = rt.alloc();
     let words: Vec<String> = env::args(rt)?.collect(alloc)?;
     if words.len() <= 1 {
+        for case in lines::CASES {
+            println!(rt; "{case}")?;
+        }
         for case in machine::CASES {
             println!(rt; "{case}")?;
         }
@@ -29,6 +33,7 @@ fn run(rt: &HostRuntime) -> anyhow::Result<()> {
         }
     }
     for word in words.iter().skip(1) {
+        lines::run(rt, alloc, word.as_str())?;
         machine::run(rt, alloc, word.as_str())?;
         tree::run(rt, alloc, word.as_str())?;
     }
