@@ -18,7 +18,8 @@ pub const CASES: [&str; 3] = ["a", "au", "d"];
 
 const TOP: u64 = 68_719_476_735;
 
-const COUNT: u64 = 1_000_000;
+/// How many operations a case runs.
+pub const COUNT: u64 = 1_000_000;
 
 /// Runs a case of this name three times, and prints the best.
 pub fn run<R: Runtime>(rt: &R, alloc: Global, case: &str) -> anyhow::Result<()> {
@@ -36,8 +37,8 @@ pub fn run<R: Runtime>(rt: &R, alloc: Global, case: &str) -> anyhow::Result<()> 
     Ok(())
 }
 
-// How many nanoseconds an operation took, of so many since then.
-fn nanos_each<R: Runtime>(rt: &R, since: &Instant) -> anyhow::Result<u64> {
+/// How many nanoseconds an operation took, of so many since then.
+pub fn nanos_each<R: Runtime>(rt: &R, since: &Instant) -> anyhow::Result<u64> {
     let nanos = since.elapsed(rt)?.as_nanos().min(1 << 62) as u64;
     Ok(nanos / COUNT)
 }

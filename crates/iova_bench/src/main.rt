@@ -3,6 +3,7 @@
 #![tactic(auto)]
 
 mod ledger;
+mod lines;
 mod machine;
 mod random;
 mod tree;
@@ -22,6 +23,9 @@ fn run(rt: &HostRuntime) -> anyhow::Result<()> {
     let alloc = rt.alloc();
     let words: Vec<String> = env::args(rt)?.collect(alloc)?;
     if words.len() <= 1 {
+        for case in lines::CASES {
+            println!(rt; "{case}")?;
+        }
         for case in machine::CASES {
             println!(rt; "{case}")?;
         }
@@ -33,6 +37,7 @@ fn run(rt: &HostRuntime) -> anyhow::Result<()> {
         }
     }
     for word in words.iter().skip(1) {
+        lines::run(rt, alloc, word.as_str())?;
         machine::run(rt, alloc, word.as_str())?;
         ledger::run(rt, alloc, word.as_str())?;
         tree::run(rt, alloc, word.as_str())?;
