@@ -1,5 +1,5 @@
 -- What each call does to a domain that is known, from s to t.
-use Rattle.std.specs.Prelude.{ℕ, ◌≡◌, ◌++◌, Bool, List, Option, Result, Err, MatchOption, MatchResult}
+use Rattle.std.specs.Prelude.{ℕ, ◌≡◌, ◌+◌, ◌++◌, Bool, List, Option, Result, Err, MatchOption, MatchResult}
 use Rattle.iova_range.specs.declared.refusal.Refusal.{Refusal}
 use Rattle.iova_range.specs.declared.refusal.Refusal.TheVariants as refusal
 use Rattle.iova_range.specs.Frames.{Frames}
@@ -9,6 +9,7 @@ use Rattle.iova_model.specs.declared.step.Reply.{Reply}
 use Rattle.iova_model.specs.declared.totals.Totals.{Totals}
 use Rattle.iova_model.specs.Clients.{client_of}
 use Rattle.iova_model.specs.State.{State, counts}
+use Rattle.iova_model.specs.Laws.{ended_well}
 use Rattle.iova_sink.specs.Calls.{Call}
 use Rattle.iova_lock.specs.declared.ending.Ending.{Ending}
 use Rattle.iova_lock.specs.StepLogs.{Takes}
@@ -51,6 +52,10 @@ ClosesFirst seat left id o begun s t = Does (CloseFirst (step.CloseOne seat.work
 
 abbrev pub ClosesAgain : SeatState → Totals → ℕ → ℕ → Bool → Option Reply → Option Reply → State → State → Type 0
 ClosesAgain seat left id n ok o begun s t = Does (CloseAgain (step.CloseOne seat.worker id) n ok seat.held left o begun) s t
+
+-- a tally rises by the flush that the hold's End ended well, where it wasn't refused
+abbrev pub RaisesByEnd : ℕ → ℕ → ℕ → Bool → State → State → Type 0
+RaisesByEnd old new n ok s t = (r : Reply) × (mid : State) × Takes s (step.End n ok) r mid × (new ≡ old + ended_well (step.End n ok) r)
 
 -- so many holdings are left to the client
 abbrev pub Leaves : ℕ → ℕ → State → State → Type 0

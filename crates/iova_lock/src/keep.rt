@@ -6,7 +6,7 @@ ghost use Rattle.iova_model.specs.State.{State};
 ghost use Rattle.iova_model.specs.Laws.{MovesTotals, IsReplyTo, ended_well};
 ghost use Rattle.iova_lock.specs.Views.{TallyState, SeatState, WhereKnown, IsOpenRefusal, IsAllocRefusal, IsGivenTo, IsUnmapHeard, IsBeginHeard, IsCloseHeard, MovesHeard, Lowers, queued_by, given_or, stat_of};
 ghost use Rattle.iova_lock.specs.Batches.{DoesBatch, TellsAsks};
-ghost use Rattle.iova_lock.specs.Answers.{Opens, Allocs, UnmapsFirst, UnmapsAgain, Begins, Ends, ClosesFirst, ClosesAgain, Leaves, DrainsAll, ReadsHoldings};
+ghost use Rattle.iova_lock.specs.Answers.{Opens, Allocs, UnmapsFirst, UnmapsAgain, Begins, Ends, ClosesFirst, ClosesAgain, Leaves, RaisesByEnd, DrainsAll, ReadsHoldings};
 
 use crate::ask::{Ask, Told};
 use crate::seat::{Seat, Tally};
@@ -101,6 +101,8 @@ pub trait Keep<C: Ledger, F: Ledger, S: Ledger, G: Ledger> {
         ensures worker { seat.new.worker ≡ seat.old.worker }
         ensures good { (seat.old.tally.good ≤ seat.new.tally.good)
             × (seat.new.tally.good ≤ seat.old.tally.good + (if ok then 1 else 0)) }
+        ensures ended { WhereKnown (domain self.old) (domain self.new)
+            (RaisesByEnd seat.old.tally.good seat.new.tally.good no ok) }
         ensures parts { seat.new.tally.parts ≡ seat.old.tally.parts }
         ensures heard { IsUnmapHeard lo result.reply }
         ensures queued { MatchOption result.reply ⊥ (λ r. result.queued ≡ queued_by r) };
@@ -144,6 +146,8 @@ pub trait Keep<C: Ledger, F: Ledger, S: Ledger, G: Ledger> {
         ensures worker { seat.new.worker ≡ seat.old.worker }
         ensures good { (seat.old.tally.good ≤ seat.new.tally.good)
             × (seat.new.tally.good ≤ seat.old.tally.good + (if ok then 1 else 0)) }
+        ensures ended { WhereKnown (domain self.old) (domain self.new)
+            (RaisesByEnd seat.old.tally.good seat.new.tally.good no ok) }
         ensures parts { seat.new.tally.parts ≡ seat.old.tally.parts }
         ensures heard { IsCloseHeard result.reply }
         ensures begun { IsBeginHeard result.reply result.begun }
