@@ -54,21 +54,21 @@ used_once kept piece line other n m within inside e f same =
 
 pub Feeds-once : (kept piece : List ℕ) (f g : Fed) (a b : Option (List ℕ)) → Feeds kept piece f a → Feeds kept piece g b → (f ≡ g) × (a ≡ b)
 Feeds-once kept piece (fed.Request r n) (fed.Request s m) a b x y =
-    let cut = cut_once (request_line r) (drop n piece) (request_line s) (drop m piece) (no_lf_request r x.1.good) (no_lf_request s y.1.good)
-    (sym (rest_behind kept piece (request_text r) n x.1.text) ∙ rest_behind kept piece (request_text s) m y.1.text) in
-    let request : r ≡ s = same_request r s x.1.good y.1.good cut.0 in
-    let used : n ≡ m = used_once kept piece (request_text r) (request_text s) n m x.0 y.0 x.1.text y.1.text (ap whole_line cut.0) in
-    ((cc), x.2 ∙ sym y.2)
+    let cut = cut_once (request_line r) (drop n piece) (request_line s) (drop m piece) (no_lf_request r x.spells.good) (no_lf_request s y.spells.good)
+    (sym (rest_behind kept piece (request_text r) n x.spells.text) ∙ rest_behind kept piece (request_text s) m y.spells.text) in
+    let request : r ≡ s = same_request r s x.spells.good y.spells.good cut.0 in
+    let used : n ≡ m = used_once kept piece (request_text r) (request_text s) n m x.within y.within x.spells.text y.spells.text (ap whole_line cut.0) in
+    ((cc), x.next_is ∙ sym y.next_is)
 Feeds-once kept piece (fed.Request r n) fed.More a b x y =
-    absurd (unended_no_request (kept ++ piece) r (drop n piece) y.0 (rest_behind kept piece (request_text r) n x.1.text))
+    absurd (unended_no_request (kept ++ piece) r (drop n piece) y.0 (rest_behind kept piece (request_text r) n x.spells.text))
 Feeds-once kept piece (fed.Request r n) fed.Bad a b x y =
-    absurd (bad_no_request (kept ++ piece) r (drop n piece) y.0 x.1.good (rest_behind kept piece (request_text r) n x.1.text))
+    absurd (bad_no_request (kept ++ piece) r (drop n piece) y.0 x.spells.good (rest_behind kept piece (request_text r) n x.spells.text))
 Feeds-once kept piece fed.More (fed.Request r n) a b x y =
-    absurd (unended_no_request (kept ++ piece) r (drop n piece) x.0 (rest_behind kept piece (request_text r) n y.1.text))
+    absurd (unended_no_request (kept ++ piece) r (drop n piece) x.0 (rest_behind kept piece (request_text r) n y.spells.text))
 Feeds-once kept piece fed.More fed.More a b x y = (refl, x.1 ∙ sym y.1)
 Feeds-once kept piece fed.More fed.Bad a b x y = absurd (bad_not_unended (kept ++ piece) y.0 x.0)
 Feeds-once kept piece fed.Bad (fed.Request r n) a b x y =
-    absurd (bad_no_request (kept ++ piece) r (drop n piece) x.0 y.1.good (rest_behind kept piece (request_text r) n y.1.text))
+    absurd (bad_no_request (kept ++ piece) r (drop n piece) x.0 y.spells.good (rest_behind kept piece (request_text r) n y.spells.text))
 Feeds-once kept piece fed.Bad fed.More a b x y = absurd (bad_not_unended (kept ++ piece) x.0 y.0)
 Feeds-once kept piece fed.Bad fed.Bad a b x y = (refl, x.1 ∙ sym y.1)
 

@@ -51,8 +51,8 @@ piece_reads (r ∷ rs) kept piece state (used, one, others) =
     let behind = piece_reads rs [] (drop used piece) state others in
     record {
       rest = behind.rest;
-      each = (one.1.good, behind.each);
-      whole = rest_behind kept piece (request_text r) used one.1.text
+      each = (one.spells.good, behind.each);
+      whole = rest_behind kept piece (request_text r) used one.spells.text
           ∙ (ap (λ (x : List ℕ). request_text r ++ x) behind.whole ∙ sym (append_assoc (request_text r) (flat_map request_text rs) behind.rest));
       stands = behind.stands;
     }

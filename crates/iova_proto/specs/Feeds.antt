@@ -18,9 +18,16 @@ pub record BeginsOdd (bytes : List ℕ) : Type 0 where
 abbrev pub BeginsBad : List ℕ → Type 0
 BeginsBad bytes = BeginsOdd bytes ⊎ IsOverlong bytes
 
+-- the bytes that are kept and so many of the piece, one at least, are the line of this request, and nothing is kept behind it
+pub record EndsLine (kept piece : List ℕ) (r : Request) (used : ℕ) (next : Option (List ℕ)) : Type 0 where
+  pub some : 1 ≤ used
+  pub within : used ≤ length piece
+  pub spells : Spells (kept ++ take used piece) r
+  pub next_is : next ≡ Some []
+
 -- What a piece gives behind these bytes of a line that has not ended, and what is kept then: nothing more behind a bad line.
 abbrev pub Feeds : List ℕ → List ℕ → Fed → Option (List ℕ) → Type 0
-Feeds kept piece (fed.Request r used) next = (used ≤ length piece) × Spells (kept ++ take used piece) r × (next ≡ Some [])
+Feeds kept piece (fed.Request r used) next = EndsLine kept piece r used next
 Feeds kept piece fed.More next = IsUnended (kept ++ piece) × (next ≡ Some (kept ++ piece))
 Feeds kept piece fed.Bad next = BeginsBad (kept ++ piece) × (next ≡ None)
 

@@ -4,3 +4,8 @@ mod Joins
 mod Gathered
 mod Runs
 mod Taken
+mod InTurn
+mod ToldPairs
+mod EndedClients
+mod Retrying
+mod Others

@@ -2,13 +2,22 @@
 #![tactic(auto)]
 
 mod answering;
+mod asking;
 pub mod desk;
 pub mod end;
 mod gathering;
+mod keeper_desk;
 pub mod link;
 pub mod memory_link;
 pub mod pairs;
+pub mod post;
+pub mod retry;
+pub mod run;
 pub mod serve;
+mod session;
 pub mod socket_link;
+mod together;
+#[cfg(test)]
+mod post_tests;
 #[cfg(test)]
 mod tests;

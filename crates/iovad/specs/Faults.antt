@@ -8,20 +8,31 @@ use Rattle.iovad.specs.declared.fault.Fault.TheVariants as fault
 -- the one line of a fault, without its LF; what is not understood, and help, are told in the words of the command line
 abbrev pub fault_text : Fault → Option (List ℕ)
 fault_text (fault.Words usage) = None
+fault_text fault.StartAboveLast = Some (codes "iovad: start is above last")
 fault_text (fault.TraceRefused line) = Some (codes "iovad: trace refused at line " ++ decimal line)
 fault_text (fault.CannotRead path) = Some (codes "iovad: cannot read " ++ path.now)
 fault_text fault.CannotWrite = Some (codes "iovad: cannot write the output")
+fault_text fault.SocketFault = Some (codes "iovad: socket fault")
+fault_text fault.CannotOpenSink = Some (codes "iovad: cannot open the sink")
 fault_text fault.NoMemory = Some (codes "iovad: no memory")
 
 -- the status of the process
 abbrev pub fault_status : Fault → ℕ
 fault_status (fault.Words status) = status
+fault_status fault.StartAboveLast = 2
 fault_status (fault.TraceRefused line) = 3
 fault_status (fault.CannotRead path) = 4
 fault_status fault.CannotWrite = 4
+fault_status fault.SocketFault = 4
+fault_status fault.CannotOpenSink = 4
 fault_status fault.NoMemory = 5
 
 -- the fault of words that ask for nothing
 abbrev pub Tells : WordsFault → Fault → Type 0
 Tells (words.Usage status) told = told ≡ fault.Words status
 Tells words.NoMemory told = told ≡ fault.NoMemory
+
+-- it is the fault of a file that can't be read, of such a name
+abbrev pub IfUnread : Fault → (List ℕ → Type 0) → Type 0
+IfUnread (fault.CannotRead path) P = P path.now
+IfUnread other P = ⊥

@@ -1,2 +1,4 @@
 pub mod Faults
 pub mod Answers
+pub mod Asking
+pub mod Runs

@@ -1,9 +1,11 @@
 //! What keeps a run from its end, the line that it says then, and the status.
-ghost use Rattle.std.specs.Prelude.{◌≡◌, ◌⊎◌, ℕ};
+ghost use Rattle.std.specs.Prelude.{◌≡◌, ◌⊎◌, ℕ, codes};
 ghost use Rattle.std.specs.Process.{exit_status};
-ghost use Rattle.iovad.specs.Faults.{Tells, fault_text, fault_status};
+ghost use Rattle.iovad.specs.Faults.{IfUnread, Tells, fault_text, fault_status};
 
+use crate::ask::fault::AskFault;
 use iova_command::usage::{Usage, WordsFault};
+use iova_command::words::STANDARD_INPUT;
 use iova_trace::fault::ReplayFault;
 use std::fmt;
 use std::process::ExitCode;
@@ -13,12 +15,18 @@ use std::process::ExitCode;
 pub enum Fault<'a> {
     /// The words are not understood, or ask for help.
     Words(Usage),
+    /// The first frame of a plan is above the last one.
+    StartAboveLast,
     /// The line with this number, counted from 1, is no line of a trace, or one too many.
     TraceRefused(u64),
     /// The file of this name cannot be opened or read; `-` is standard input.
     CannotRead(&'a str),
     /// Standard output cannot be written.
     CannotWrite,
+    /// A socket can't be bound or connected, a link of `ask` failed, or a thread can't be started.
+    SocketFault,
+    /// The file that the records of flushes are appended to can't be opened.
+    CannotOpenSink,
     /// A growth was refused memory.
     NoMemory,
 }
@@ -39,15 +47,34 @@ impl<'a> Fault<'a> {
         }
     }
 
-    /// The status that the process ends with: 0 where help was asked for, 2 where the words are not understood, 3 for a trace
+    /// The fault of lines asked from standard input.
+    pub fn of_ask(fault: AskFault) -> Fault<'static>
+        ensures unread { fault ≡ AskFault.Read → IfUnread result (λ path. path ≡ codes "-") }
+        ensures unwritten { fault ≡ AskFault.Write → result ≡ Fault.CannotWrite }
+        ensures link { fault ≡ AskFault.Link → result ≡ Fault.SocketFault }
+        ensures memory { fault ≡ AskFault.NoMemory → result ≡ Fault.NoMemory }
+    {
+        match fault {
+            AskFault::Read => Fault::CannotRead(STANDARD_INPUT),
+            AskFault::Write => Fault::CannotWrite,
+            AskFault::Link => Fault::SocketFault,
+            AskFault::NoMemory => Fault::NoMemory,
+        }
+    }
+
+    /// The status that the process ends with: 0 where help was asked for, 2 where the words are not understood or can't be followed, 3 for a trace
     /// that is refused, 4 for a file that cannot be read or written, 5 for memory.
     pub fn status(&self) -> u8
         ensures { result ≡ fault_status self.now }
     {
         match self {
             Fault::Words(usage) => usage.status(),
+            Fault::StartAboveLast => 2,
             Fault::TraceRefused(_) => 3,
-            Fault::CannotRead(_) | Fault::CannotWrite => 4,
+            Fault::CannotRead(_)
+            | Fault::CannotWrite
+            | Fault::SocketFault
+            | Fault::CannotOpenSink => 4,
             Fault::NoMemory => 5,
         }
     }
@@ -88,9 +115,12 @@ impl<'a> fmt::Display for Fault<'a> {
     fn fmt<W: fmt::Write>(&self, f: &mut fmt::Formatter<W>) -> fmt::Result {
         match self {
             Fault::Words(usage) => write!(f, "{usage}"),
+            Fault::StartAboveLast => f.write_str("iovad: start is above last"),
             Fault::TraceRefused(line) => write!(f, "iovad: trace refused at line {line}"),
             Fault::CannotRead(path) => write!(f, "iovad: cannot read {path}"),
             Fault::CannotWrite => f.write_str("iovad: cannot write the output"),
+            Fault::SocketFault => f.write_str("iovad: socket fault"),
+            Fault::CannotOpenSink => f.write_str("iovad: cannot open the sink"),
             Fault::NoMemory => f.write_str("iovad: no memory"),
         }
     }

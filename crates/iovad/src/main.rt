@@ -2,6 +2,7 @@
 #![tactic(auto)]
 
 mod answer;
+mod ask;
 mod fault;
 #[cfg(test)]
 mod tests;

@@ -120,7 +120,10 @@ fn each_fault_has_its_line_and_its_status(rt: HostRuntime) -> Result<(), Fail> {
             "iovad: cannot read no such file",
             4,
         ),
+        (Fault::StartAboveLast, "iovad: start is above last", 2),
         (Fault::CannotWrite, "iovad: cannot write the output", 4),
+        (Fault::SocketFault, "iovad: socket fault", 4),
+        (Fault::CannotOpenSink, "iovad: cannot open the sink", 4),
         (Fault::NoMemory, "iovad: no memory", 5),
     ] {
         assert_eq!(rt; fault.to_string(rt.alloc())?.as_str(), line);

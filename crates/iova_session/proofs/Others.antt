@@ -1,0 +1,279 @@
+-- Whose holdings the calls of the lock leave as they are.
+use Rattle.std.proofs.Common.{ℕ, ◌≡◌, ◌≢◌, ◌+◌, ◌⊎◌, inl, inr, List, [], ◌∷◌, ◌++◌, Option, Some, None, refl, sym, ap, ◌∙◌, subst, arith}
+use Rattle.std.specs.Prelude.{Result, Ok, Err, Bool, true, false, MatchResult}
+use Rattle.iova_range.specs.declared.refusal.Refusal.{Refusal}
+use Rattle.iova_range.specs.declared.refusal.Refusal.TheVariants as refusal
+use Rattle.iova_range.specs.Frames.{Frames}
+use Rattle.iova_model.specs.declared.step.Step.{Step}
+use Rattle.iova_model.specs.declared.step.Step.TheVariants as step
+use Rattle.iova_model.specs.declared.step.Reply.{Reply}
+use Rattle.iova_model.specs.declared.step.Reply.TheVariants as reply
+use Rattle.iova_model.specs.declared.totals.Totals.{Totals}
+use Rattle.iova_model.specs.State.{State}
+use Rattle.iova_model.specs.Laws.{held_by, client_named, OthersKeepTheirHoldings}
+use Rattle.iova_sink.specs.Calls.{Call}
+use Rattle.iova_lock.specs.declared.ask.Ask.{Ask}
+use Rattle.iova_lock.specs.declared.ask.Ask.TheVariants as ask
+use Rattle.iova_lock.specs.declared.ask.Told.{Told}
+use Rattle.iova_lock.specs.declared.ending.Ending.{Ending}
+use Rattle.iova_lock.specs.declared.ending.Ending.TheVariants as ending
+use Rattle.iova_lock.specs.declared.ending.Why.{Why}
+use Rattle.iova_lock.specs.StepLogs.{Takes}
+use Rattle.iova_lock.specs.Views.{WhereKnown, SeatState, opened_or, left_of}
+use Rattle.iova_lock.specs.Events.{Event, Ran, NotRun, Invalidated, Leads, Does, Unmapping, run, not_run, UnmapFirst, tried, full, UnmapAgain, again, Unmap, once, not_begun, flushed, Flush, refused, done, failed, Closing, stops, queues, CloseFirst, closed, closed_full, CloseAgain, closed_again, full_at_once, full_again, CloseRest, last, another, Answered, ended, unknown, gone, share, sink_failed, overlap, flights_full, worn, EndClient, in_one_hold, in_more, Draining, none_left, drains, DrainAll, drained, no_worker}
+use Rattle.iova_lock.specs.Answers.{DoesUnmap, DoesFlush, DoesEndClient, DrainsAll, Opens}
+use Rattle.iova_lock.specs.Batches.{DoesAsk, DoesAsks, StopsAt, Batched}
+use Rattle.iova_proto.specs.declared.answer.Answer.{Answer}
+use Rattle.iova_proto.specs.declared.answer.Answer.TheVariants as answer
+use Rattle.iova_proto.specs.declared.request.Request.{Request}
+use Rattle.iova_proto.specs.declared.request.Request.TheVariants as request
+use Rattle.iova_session.specs.Desks.{IsClientAnswer, client_behind, client_after}
+use Rattle.iova_session.specs.Domains.{KeepsOthers, IsLeft, LeavesOthers}
+
+-- what is told of a client's end is what it came to, or nothing
+abbrev pub TellsAtMost : Option Ending → Result Ending Refusal → Type 0
+TellsAtMost None result = Unit {0}
+TellsAtMost (Some told) result = result ≡ Ok told
+
+abbrev left_in_or : ℕ → Result Ending Refusal → ℕ
+left_in_or d (Ok (ending.Waiting n why)) = n
+left_in_or d (Ok (ending.Ended n)) = d
+left_in_or d (Err e) = d
+
+left_same : {m n : ℕ} {v w : Why} → ◌≡◌ {A = Result Ending Refusal} (Ok (ending.Waiting m v)) (Ok (ending.Waiting n w)) → n ≡ m
+left_same {m = m} e = sym (ap (left_in_or m) e)
+
+answered_left : {queued left n : ℕ} {why : Why} {flushed : Option Bool} {o b : Option Reply} {result : Result Ending Refusal} → result ≡ Ok (ending.Waiting n why) → Answered queued left flushed o b result → n ≡ left
+answered_left e ended = absurd cc
+answered_left e (unknown x known none) = absurd cc
+answered_left e (gone x known some) = absurd cc
+answered_left e share = left_same e
+answered_left e (sink_failed f) = left_same e
+answered_left e (overlap f) = left_same e
+answered_left e flights_full = left_same e
+answered_left e worn = left_same e
+
+told_left : {st : Step} {held left : Totals} {remains n : ℕ} {why : Why} {es : List Event} → EndClient st held left remains (Ok (ending.Waiting n why)) es → n ≡ remains
+told_left (in_one_hold queued o b result es e c a) = answered_left refl a
+told_left (in_more queued k ok mid o b result es fs e c r a) = answered_left refl a
+
+-- What two calls of a keeper do, and one.
+
+pub known_both : (a b c : Option State) (P Q R : State → State → Type 0) → WhereKnown a b P → WhereKnown b c Q → ((s m t : State) → P s m → Q m t → R s t) → WhereKnown a c R
+known_both None b c P Q R p q f = tt
+known_both (Some s) None c P Q R p q f = absurd p
+known_both (Some s) (Some m) None P Q R p q f = absurd q
+known_both (Some s) (Some m) (Some t) P Q R p q f = f s m t p q
+
+pub known_one : (a b : Option State) (P R : State → State → Type 0) → WhereKnown a b P → ((s t : State) → P s t → R s t) → WhereKnown a b R
+known_one None b P R p f = tt
+known_one (Some s) None P R p f = absurd p
+known_one (Some s) (Some t) P R p f = f s t p
+
+pub same_known : (client : Option ℕ) (a b : Option State) → b ≡ a → WhereKnown a b (KeepsOthers client)
+same_known client None b e = tt
+same_known client (Some s) b e = subst (λ (o : Option State). WhereKnown (Some s) o (KeepsOthers client)) (sym e) (λ id other. refl)
+
+pub both_keep : (client : Option ℕ) (a b c : Option State) → WhereKnown a b (KeepsOthers client) → WhereKnown b c (KeepsOthers client) → WhereKnown a c (KeepsOthers client)
+both_keep client a b c p q = known_both a b c (KeepsOthers client) (KeepsOthers client) (KeepsOthers client) p q (λ s m t x y id other. y id other ∙ x id other)
+
+-- where no client's holdings changed, none but this one's did
+pub any_keep : (client : Option ℕ) (a b : Option State) → WhereKnown a b (KeepsOthers None) → WhereKnown a b (KeepsOthers client)
+any_keep client a b p = known_one a b (KeepsOthers None) (KeepsOthers client) p (λ s t x id other. x id (λ e. absurd cc))
+
+-- the number in it
+abbrev number_in : ℕ → Option ℕ → ℕ
+number_in d None = d
+number_in d (Some n) = n
+
+some_same : {id other : ℕ} → Some id ≡ Some other → other ≡ id
+some_same {id = id} e = sym (ap (number_in id) e)
+
+-- the steps name no client but this one
+abbrev NamesOnly : ℕ → Step → Type 0
+NamesOnly id st = (other : ℕ) → client_named st ≡ Some other → other ≡ id
+
+abbrev AllName : ℕ → List Event → Type 0
+AllName id [] = Unit {0}
+AllName id (Ran st r ∷ es) = NamesOnly id st × AllName id es
+AllName id (NotRun st held ∷ es) = AllName id es
+AllName id (Invalidated n ok ∷ es) = AllName id es
+
+takes_keep : OthersKeepTheirHoldings → (s : State) (st : Step) (r : Reply) (t : State) → Takes s st r t → (id : ℕ) → (client_named st ≡ Some id → ⊥) → held_by id t.clients ≡ held_by id s.clients
+unfolding Takes
+takes_keep law s st r t h id other = ap (λ (x : State). held_by id x.clients) h.2 ∙ law s st h.0 id other
+
+leads_keep : OthersKeepTheirHoldings → (id : ℕ) (es : List Event) (s t : State) → AllName id es → Leads s es t → KeepsOthers (Some id) s t
+leads_keep law id [] s t n l = λ other ne. ap (λ (x : State). held_by other x.clients) l
+leads_keep law id (Ran st r ∷ es) s t n l = λ other ne.
+    leads_keep law id es l.0 t n.1 l.2 other ne ∙ takes_keep law s st r l.0 l.1 other (λ e. ne (ap Some (sym (n.0 other e))))
+leads_keep law id (NotRun st held ∷ es) s t n l = leads_keep law id es s t n l.1
+leads_keep law id (Invalidated n ok ∷ es) s t m l = leads_keep law id es s t m l
+
+names_join : (id : ℕ) (es fs : List Event) → AllName id es → AllName id fs → AllName id (es ++ fs)
+names_join id [] fs n m = m
+names_join id (Ran st r ∷ es) fs n m = (n.0, names_join id es fs n.1 m)
+names_join id (NotRun st held ∷ es) fs n m = names_join id es fs n m
+names_join id (Invalidated k ok ∷ es) fs n m = names_join id es fs n m
+
+begin_names : (id : ℕ) → NamesOnly id step.Begin
+begin_names id other e = absurd cc
+
+end_names : (id n : ℕ) (ok : Bool) → NamesOnly id (step.End n ok)
+end_names id n ok other e = absurd cc
+
+drain_names : (id q by : ℕ) → NamesOnly id (step.Drain q by)
+drain_names id q by other e = absurd cc
+
+unmapping_names : (id : ℕ) {st : Step} {held : Totals} {r : Reply} {es : List Event} → NamesOnly id st → Unmapping st held r es → AllName id es
+unmapping_names id n (run r) = (n, tt)
+unmapping_names id n not_run = tt
+
+first_names : (id : ℕ) {st : Step} {held : Totals} {o b : Option Reply} {es : List Event} → NamesOnly id st → UnmapFirst st held o b es → AllName id es
+first_names id n (tried r es other u) = unmapping_names id n u
+first_names id n (full begin) = (n, (begin_names id, tt))
+
+again_names : (id : ℕ) {st : Step} {held : Totals} {k : ℕ} {ok : Bool} {o : Option Reply} {es : List Event} → NamesOnly id st → UnmapAgain st held k ok o es → AllName id es
+again_names id {k = k} {ok = ok} n (again end r es u) = (end_names id k ok, unmapping_names id n u)
+
+unmap_names : (id : ℕ) {st : Step} {held : Totals} {r : Reply} {es : List Event} → NamesOnly id st → Unmap st held r es → AllName id es
+unmap_names id n (once r es u) = first_names id n u
+unmap_names id n (not_begun e) = (n, (begin_names id, tt))
+unmap_names id n (flushed k ok r es u) = (n, (begin_names id, again_names id n u))
+
+flush_names : (id : ℕ) {result : Result ℕ Refusal} {es : List Event} → Flush result es → AllName id es
+flush_names id (refused e) = (begin_names id, tt)
+flush_names id (done n end) = (begin_names id, (end_names id n true, tt))
+flush_names id (failed n end) = (begin_names id, (end_names id n false, tt))
+
+draining_names : (id by : ℕ) {rings : List ℕ} {freed : ℕ} {es : List Event} → Draining by rings freed es → AllName id es
+draining_names id by none_left = tt
+draining_names id by (drains q rings n more es d) = (drain_names id q by, draining_names id by d)
+
+drain_all_names : (id workers by : ℕ) {result : Result ℕ Refusal} {es : List Event} → DrainAll workers by result es → AllName id es
+drain_all_names id workers by (drained freed es lt d) = draining_names id by d
+drain_all_names id workers by (no_worker le) = (drain_names id 0 by, tt)
+
+closing_names : (id : ℕ) {st : Step} {held left : Totals} {r : Reply} {es : List Event} → NamesOnly id st → Closing st held left r es → AllName id es
+closing_names id n (stops held left r es same other u) = unmapping_names id n u
+closing_names id n (queues held mid left q r es e k) = (n, closing_names id n k)
+
+close_first_names : (id : ℕ) {st : Step} {held left : Totals} {o b : Option Reply} {es : List Event} → NamesOnly id st → CloseFirst st held left o b es → AllName id es
+close_first_names id n (closed r es other k) = closing_names id n k
+close_first_names id n (closed_full begin es k) = names_join id es (Ran step.Begin begin ∷ []) (closing_names id n k) (begin_names id, tt)
+
+close_again_names : (id : ℕ) {st : Step} {m : ℕ} {ok : Bool} {held left : Totals} {o b : Option Reply} {es : List Event} → NamesOnly id st → CloseAgain st m ok held left o b es → AllName id es
+close_again_names id {m = m} {ok = ok} n (closed_again end r es other k) = (end_names id m ok, closing_names id n k)
+close_again_names id {m = m} {ok = ok} n (full_at_once end es same k) = (end_names id m ok, closing_names id n k)
+close_again_names id {m = m} {ok = ok} n (full_again end begin es less k) = (end_names id m ok, names_join id es (Ran step.Begin begin ∷ []) (closing_names id n k) (begin_names id, tt))
+
+close_rest_names : (id : ℕ) {st : Step} {m : ℕ} {held left : Totals} {ok : Bool} {o b : Option Reply} {es : List Event} → NamesOnly id st → CloseRest st m held left ok o b es → AllName id es
+close_rest_names id n (last m ok held left o b es k) = close_again_names id n k
+close_rest_names id n (another k m ok well held mid left o b es fs a c) = names_join id es fs (close_again_names id n a) (close_rest_names id n c)
+
+end_client_names : (id : ℕ) {st : Step} {held left : Totals} {remains : ℕ} {result : Result Ending Refusal} {es : List Event} → NamesOnly id st → EndClient st held left remains result es → AllName id es
+end_client_names id n (in_one_hold queued o b result es e c a) = close_first_names id n c
+end_client_names id n (in_more queued k ok mid o b result es fs e c r a) = names_join id es fs (close_first_names id n c) (close_rest_names id n r)
+
+-- Each call.
+
+pub open_keeps : OthersKeepTheirHoldings → (w : ℕ) (sac : Bool) (result : Result ℕ Refusal) (a b : Option State) → WhereKnown a b (Opens w sac result) → WhereKnown a b (KeepsOthers None)
+open_keeps law w sac result a b h = known_one a b (Opens w sac result) (KeepsOthers None) h (λ s t x id other. takes_keep law s (step.Open w sac) (opened_or result) t x id (λ e. absurd cc))
+
+pub unmap_keeps : OthersKeepTheirHoldings → (seat : SeatState) (id lo : ℕ) (result : Result Frames Refusal) (number : ℕ) (before now : List Call) (a b : Option State)
+    → WhereKnown a b (DoesUnmap seat id lo result number before now) → WhereKnown a b (KeepsOthers (Some id))
+unmap_keeps law seat id lo result number before now a b h =
+    known_one a b (DoesUnmap seat id lo result number before now) (KeepsOthers (Some id)) h (λ s t x. leads_keep law id x.events s t (unmap_names id (λ other e. some_same e) x.allowed.0) x.leads)
+
+-- steps that name no client leave the holdings of all
+leads_keep_all : OthersKeepTheirHoldings → (es : List Event) (s t : State) → ((id : ℕ) → AllName id es) → Leads s es t → KeepsOthers None s t
+leads_keep_all law es s t n l = λ other ne.
+    leads_keep law (other + 1) es s t (n (other + 1)) l other (λ e. absurd (let same : other ≡ other + 1 = some_same e in omega (arith, same)))
+
+pub flush_keeps : OthersKeepTheirHoldings → (result : Result ℕ Refusal) (number : ℕ) (before now : List Call) (a b : Option State)
+    → WhereKnown a b (DoesFlush result number before now) → WhereKnown a b (KeepsOthers None)
+flush_keeps law result number before now a b h =
+    known_one a b (DoesFlush result number before now) (KeepsOthers None) h (λ s t x. leads_keep_all law x.events s t (λ id. flush_names id x.allowed.0) x.leads)
+
+pub drain_keeps : OthersKeepTheirHoldings → (by : ℕ) (result : Result ℕ Refusal) (a b : Option State) → WhereKnown a b (DrainsAll by result) → WhereKnown a b (KeepsOthers None)
+drain_keeps law by result a b h =
+    known_one a b (DrainsAll by result) (KeepsOthers None) h (λ s t x. leads_keep_all law x.events s t (λ id. drain_all_names id s.workers by x.allowed) x.leads)
+
+-- what is left to a client whose end waits
+left_told : (id : ℕ) (seat : SeatState) (left : Totals) (told : Option Ending) (result : Result Ending Refusal) (number : ℕ) (before now : List Call) (s t : State) → TellsAtMost told result
+    → DoesEndClient seat left id result number before now s t → IsLeft (Some id) told t
+left_told id seat left None result number before now s t h d = tt
+left_told id seat left (Some (ending.Ended queued)) result number before now s t h d = tt
+left_told id seat left (Some (ending.Waiting n why)) result number before now s t h d = told_left (subst (λ (r : Result Ending Refusal). EndClient (step.CloseOne seat.worker id) seat.held left (left_of id t) r d.events) h d.allowed.0)
+
+pub end_keeps : OthersKeepTheirHoldings → (seat : SeatState) (left : Totals) (id : ℕ) (told : Option Ending) (result : Result Ending Refusal) (number : ℕ) (before now : List Call) (a b : Option State)
+    → TellsAtMost told result → WhereKnown a b (DoesEndClient seat left id result number before now) → WhereKnown a b (LeavesOthers (Some id) told)
+end_keeps law seat left id told result number before now a b m h =
+    known_one a b (DoesEndClient seat left id result number before now) (LeavesOthers (Some id) told) h
+      (λ s t x. (leads_keep law id x.events s t (end_client_names id (λ other e. some_same e) x.allowed.0) x.leads, left_told id seat left told result number before now s t m x))
+
+ask_keeps : OthersKeepTheirHoldings → (w id : ℕ) (a : Ask) (x : Told) (held : Totals) (s t : State) → DoesAsk w id a x held s t → KeepsOthers (Some id) s t
+ask_keeps law w id (ask.Alloc frames limit) x held s t h = λ other ne. takes_keep law s (step.Alloc w id frames limit) h.0 t h.2 other (λ e. ne e)
+ask_keeps law w id (ask.Free lo) x held s t h = leads_keep law id h.3.events s t (unmapping_names id (λ other e. some_same e) h.3.allowed) h.3.leads
+ask_keeps law w id ask.Stat x held s t h = λ other ne. ap (λ (y : State). held_by other y.clients) h.1
+
+stop_keeps : OthersKeepTheirHoldings → (w id : ℕ) (asks : List Ask) (held : Totals) (s t : State) → StopsAt w id asks held s t → KeepsOthers (Some id) s t
+stop_keeps law w id [] held s t h = λ other ne. ap (λ (y : State). held_by other y.clients) h
+stop_keeps law w id (ask.Free lo ∷ asks) held s t h = leads_keep law id h.events s t (unmapping_names id (λ other e. some_same e) h.allowed) h.leads
+stop_keeps law w id (ask.Alloc frames limit ∷ asks) held s t h = absurd h
+stop_keeps law w id (ask.Stat ∷ asks) held s t h = absurd h
+
+asks_keep : OthersKeepTheirHoldings → (w id : ℕ) (asks : List Ask) (xs : List Told) (held left : Totals) (s t : State) → DoesAsks w id asks xs held left s t → KeepsOthers (Some id) s t
+asks_keep law w id asks [] held left s t h = stop_keeps law w id asks held s t h.0
+asks_keep law w id [] (x ∷ xs) held left s t h = absurd h
+asks_keep law w id (a ∷ asks) (x ∷ xs) held left s t h = λ other ne.
+    asks_keep law w id asks xs h.1 left h.0 t h.4 other ne ∙ ask_keeps law w id a x held s h.0 h.2 other ne
+
+pub batch_keeps : OthersKeepTheirHoldings → (w id : ℕ) (asks : List Ask) (before now : List Told) (result : Result ℕ Refusal) (held left : Totals) (a b : Option State)
+    → WhereKnown a b (λ s t. MatchResult result (λ n. Batched w id asks before now n held left s t) (λ e. t ≡ s)) → WhereKnown a b (KeepsOthers (Some id))
+batch_keeps law w id asks before now (Ok n) held left a b h =
+    known_one a b (λ s t. Batched w id asks before now n held left s t) (KeepsOthers (Some id)) h (λ s t x. asks_keep law w id asks x.more held left s t x.does)
+batch_keeps law w id asks before now (Err e) held left a b h =
+    known_one a b (λ s t. t ≡ s) (KeepsOthers (Some id)) h (λ s t x other ne. ap (λ (y : State). held_by other y.clients) x)
+
+-- a session's client is found once, and stays
+pub wider : (c d : Option ℕ) (a b : Option State) → (c ≡ None) ⊎ (d ≡ c) → WhereKnown a b (KeepsOthers c) → WhereKnown a b (KeepsOthers d)
+wider c d a b (inl e) h = any_keep d a b (subst (λ (o : Option ℕ). WhereKnown a b (KeepsOthers o)) e h)
+wider c d a b (inr e) h = subst (λ (o : Option ℕ). WhereKnown a b (KeepsOthers o)) (sym e) h
+
+pub then_keeps : (c d : Option ℕ) (o a b : Option State) → (c ≡ None) ⊎ (d ≡ c) → WhereKnown o a (KeepsOthers c) → WhereKnown a b (KeepsOthers d) → WhereKnown o b (KeepsOthers d)
+then_keeps c d o a b e h k = both_keep d o a b (wider c d o a e h) k
+
+-- an answer to a session with a client opens none
+pub client_stays : (listed id : ℕ) (r : Request) (a : Answer) → IsClientAnswer listed r a → client_behind (Some id) a ≡ Some id
+client_stays listed id (request.Hello domain sac) a h = ap (client_behind (Some id)) h
+client_stays listed id request.Bye a h = ap (client_behind (Some id)) h
+client_stays listed id (request.Alloc frames limit) (answer.Opened n) h = absurd h
+client_stays listed id (request.Free lo) (answer.Opened n) h = absurd h
+client_stays listed id request.List (answer.Opened n) h = absurd h
+client_stays listed id request.Flush (answer.Opened n) h = absurd h
+client_stays listed id request.Stat (answer.Opened n) h = absurd h
+client_stays listed id r (answer.Given q) h = refl
+client_stays listed id r (answer.Queued q) h = refl
+client_stays listed id r (answer.Freed q) h = refl
+client_stays listed id r (answer.Held q) h = refl
+client_stays listed id r (answer.Flushed n freed) h = refl
+client_stays listed id r (answer.Stat x) h = refl
+client_stays listed id r answer.Bye h = refl
+client_stays listed id r (answer.Refused x) h = refl
+
+pub opened_keeps : (client : Option ℕ) (told : Option Ending) (o a b : Option State) (id : ℕ) → client ≡ Some id → WhereKnown o a (KeepsOthers client) → WhereKnown a b (LeavesOthers (Some id) told) → WhereKnown o b (LeavesOthers client told)
+opened_keeps client told o a b id e h k =
+    subst (λ (c : Option ℕ). WhereKnown o b (LeavesOthers c told)) (sym e)
+      (known_both o a b (KeepsOthers (Some id)) (LeavesOthers (Some id) told) (LeavesOthers (Some id) told) (subst (λ (c : Option ℕ). WhereKnown o a (KeepsOthers c)) e h) k
+        (λ s m t x y. ((λ other ne. y.0 other ne ∙ x other ne), y.1)))
+
+pub unopened_keeps : (client : Option ℕ) (o a : Option State) → client ≡ None → WhereKnown o a (KeepsOthers client) → WhereKnown o a (LeavesOthers client None)
+unopened_keeps client o a e h =
+    subst (λ (c : Option ℕ). WhereKnown o a (LeavesOthers c None)) (sym e)
+      (known_one o a (KeepsOthers None) (LeavesOthers None None) (subst (λ (c : Option ℕ). WhereKnown o a (KeepsOthers c)) e h) (λ s t x. (x, tt)))
+
+pub nothing_left : (o : Option State) → WhereKnown o o (LeavesOthers (client_after None []) None)
+unfolding client_after
+nothing_left None = tt
+nothing_left (Some s) = ((λ id other. refl), tt)

@@ -1,0 +1,209 @@
+-- What a batch tells, as pairs, and how the shares move by it.
+use Rattle.std.proofs.Common.{ℕ, ◌≡◌, ◌+◌, ◌≤◌, List, [], ◌∷◌, ◌++◌, Option, Some, None, refl, sym, ap, ◌∙◌, arith, subst, length-append, append-nil, append_assoc, rules, ◌<◌, drop, get_or, inl, inr}
+use Rattle.std.proofs.lemmas.Grind.{common_steps}
+use Rattle.std.proofs.lemmas.List.{drop_more}
+use Rattle.iova_range.specs.declared.refusal.Refusal.{Refusal}
+use Rattle.iova_range.specs.declared.refusal.Refusal.TheVariants as refusal
+use Rattle.iova_lock.specs.Views.{SeatState}
+use Rattle.std.specs.Prelude.{IsSome, IfOk, IfErr, Result, Ok, Err, length, take, map, flat_map, sum_by}
+use Rattle.std.proofs.lemmas.List.Sums.{sum_by-append}
+use Rattle.iova_range.specs.Frames.{Frames}
+use Rattle.iova_model.specs.declared.totals.Totals.{Totals}
+use Rattle.iova_model.specs.Clients.{totals_of}
+use Rattle.iova_model.specs.Laws.{add_totals, MovesTotals}
+use Rattle.iova_lock.specs.declared.ask.Ask.{Ask}
+use Rattle.iova_lock.specs.declared.ask.Ask.TheVariants as ask
+use Rattle.iova_lock.specs.declared.ask.Told.{Told}
+use Rattle.iova_lock.specs.declared.ask.Told.TheVariants as lock_told
+use Rattle.iova_lock.specs.Batches.{ToldOfAsks, TellsAsks, MovesTold, MayStop, IsToldOf}
+use Rattle.iova_proto.specs.declared.answer.Answer.{Answer}
+use Rattle.iova_proto.specs.declared.request.Request.{Request}
+use Rattle.iova_proto.specs.declared.request.Request.TheVariants as request
+use Rattle.iova_session.specs.Pairs.{Pair, asked, told}
+use Rattle.iova_session.specs.Desks.{given_by, taken_by, given_in, taken_in, MovesBy, asks_in, ask_of, ask_then, answer_of, told_pairs, IsToldTo, AreTold, IsFirstAlone, IsAnswer, SessionState, Answers}
+
+same_totals : (a b : Totals) → a.count ≡ b.count → a.frames ≡ b.frames → a.sum_lo ≡ b.sum_lo → a ≡ b
+same_totals a b count frames sum_lo = λ i. record { count = count i; frames = frames i; sum_lo = sum_lo i }
+
+-- moves, one after another
+pub moves_on : (g h t u : List Frames) (a b c : Totals) → MovesBy g t a b → MovesBy h u b c → MovesBy (g ++ h) (t ++ u) a c
+moves_on g h t u a b c x y =
+    same_totals (add_totals c (totals_of (t ++ u))) (add_totals a (totals_of (g ++ h)))
+      (let e = ap (λ (t : Totals). t.count) x in let f = ap (λ (t : Totals). t.count) y in omega (arith, e, f, length-append g h, length-append t u))
+      (let e = ap (λ (t : Totals). t.frames) x in let f = ap (λ (t : Totals). t.frames) y in omega (arith, e, f, sum_by-append (λ (r : Frames). r.len) g h, sum_by-append (λ (r : Frames). r.len) t u))
+      (let e = ap (λ (t : Totals). t.sum_lo) x in let f = ap (λ (t : Totals). t.sum_lo) y in omega (arith, e, f, sum_by-append (λ (r : Frames). r.lo) g h, sum_by-append (λ (r : Frames). r.lo) t u))
+
+pub no_move : (a b : Totals) → b ≡ a → MovesBy [] [] a b
+no_move a b e = ap (λ (t : Totals). add_totals t (totals_of [])) e
+
+-- what is told moves the shares as its answer says
+pub told_moves : (x : Told) (a b : Totals) → MovesTold x a b → MovesBy (given_by (answer_of x)) (taken_by (answer_of x)) a b
+told_moves (lock_told.Given r) a b m =
+    same_totals (add_totals b (totals_of [])) (add_totals a (totals_of (r ∷ [])))
+      (let e = ap (λ (t : Totals). t.count) m in omega (arith, e))
+      (let e = ap (λ (t : Totals). t.frames) m in omega (arith, e))
+      (let e = ap (λ (t : Totals). t.sum_lo) m in omega (arith, e))
+told_moves (lock_told.Queued r) a b m =
+    same_totals (add_totals b (totals_of (r ∷ []))) (add_totals a (totals_of []))
+      (let e = ap (λ (t : Totals). t.count) m in omega (arith, e))
+      (let e = ap (λ (t : Totals). t.frames) m in omega (arith, e))
+      (let e = ap (λ (t : Totals). t.sum_lo) m in omega (arith, e))
+told_moves (lock_told.Stat x) a b m = no_move a b m
+told_moves (lock_told.Refused e) a b m = no_move a b m
+
+-- what is told of a batch of the requests at the front
+pub record FromBatch (rs : List Request) (xs : List Told) (held left : Totals) : Type 0 where
+  pub each : AreTold rs xs
+  pub short : length xs ≤ length rs
+  pub asked : asked (told_pairs rs xs) ≡ take (length xs) rs
+  pub told : told (told_pairs rs xs) ≡ map answer_of xs
+  pub shares : MovesBy (given_in (told_pairs rs xs)) (taken_in (told_pairs rs xs)) held left
+
+none_taken : (rs : List Request) → [] ≡ take 0 rs
+none_taken rs = search rules
+
+from_next : (r : Request) (o : Option Ask) → ask_of r ≡ o → (rs : List Request) (x : Told) (xs : List Told) (held left : Totals)
+    → ((mid : Totals) → ToldOfAsks (asks_in rs) xs mid left → FromBatch rs xs mid left) → ToldOfAsks (ask_then o (asks_in rs)) (x ∷ xs) held left → FromBatch (r ∷ rs) (x ∷ xs) held left
+unfolding asked told given_in taken_in
+from_next r None e rs x xs held left next h = absurd h
+from_next r (Some a) e rs x xs held left next h =
+    let more = next h.0 h.3 in
+    record {
+      each = (subst (λ (o : Option Ask). IsToldTo o x) (sym e) h.1, more.each);
+      short = omega (arith, more.short);
+      asked = ap (λ (qs : List Request). r ∷ qs) more.asked;
+      told = ap (λ (as_told : List Answer). answer_of x ∷ as_told) more.told;
+      shares = moves_on (given_by (answer_of x)) (given_in (told_pairs rs xs)) (taken_by (answer_of x)) (taken_in (told_pairs rs xs)) held h.0 left (told_moves x held h.0 h.2) more.shares;
+    }
+
+pub from_batch : (rs : List Request) (xs : List Told) (held left : Totals) → ToldOfAsks (asks_in rs) xs held left → FromBatch rs xs held left
+unfolding asked told given_in taken_in
+from_batch rs [] held left h = record { each = tt; short = omega arith; asked = none_taken rs; told = refl; shares = no_move held left h.1 }
+from_batch [] (x ∷ xs) held left h = absurd h
+from_batch (r ∷ rs) (x ∷ xs) held left h = from_next r (ask_of r) refl rs x xs held left (λ mid t. from_batch rs xs mid left t) h
+
+-- where a batch stops at once, the first request is asked alone
+pub first_alone : (rs : List Request) → MayStop (asks_in rs) → IsFirstAlone rs
+first_alone [] h = tt
+first_alone (request.Alloc frames limit ∷ rs) h = absurd h
+first_alone (request.Stat ∷ rs) h = absurd h
+first_alone (request.Hello domain sac ∷ rs) h = tt
+first_alone (request.Free lo ∷ rs) h = tt
+first_alone (request.List ∷ rs) h = tt
+first_alone (request.Flush ∷ rs) h = tt
+first_alone (request.Bye ∷ rs) h = tt
+
+length0 : (xs : List Told) → length xs ≡ 0 → xs ≡ []
+length0 [] e = refl
+length0 (x ∷ xs) e = absurd (omega (arith, e))
+
+-- the pairs of a batch whose room for what is told was empty
+pub from_told : (rs : List Request) (asks : List Ask) (before now : List Told) (count : ℕ) (held left : Totals) → asks ≡ asks_in rs → before ≡ [] → TellsAsks asks before now count held left
+    → FromBatch rs now held left × (length now ≡ count)
+from_told rs asks before now count held left e none h =
+    let all : now ≡ h.more = h.appended ∙ ap (λ (xs : List Told). xs ++ h.more) none in
+    let t : ToldOfAsks (asks_in rs) now held left = subst (λ (xs : List Told). ToldOfAsks (asks_in rs) xs held left) (sym all) (subst (λ (qs : List Ask). ToldOfAsks qs h.more held left) e h.told) in
+    (from_batch rs now held left t, ap (λ (xs : List Told). length xs) all ∙ h.counted)
+
+-- where nothing is told, the batch stopped at once
+pub stopped_at_once : (rs : List Request) (asks : List Ask) (before now : List Told) (count : ℕ) (held left : Totals) → asks ≡ asks_in rs → before ≡ [] → count ≡ 0 → TellsAsks asks before now count held left
+    → IsFirstAlone rs × (left ≡ held) × (now ≡ [])
+stopped_at_once rs asks before now count held left e none zero h =
+    let all : now ≡ h.more = h.appended ∙ ap (λ (xs : List Told). xs ++ h.more) none in
+    let nothing : h.more ≡ [] = length0 h.more (h.counted ∙ zero) in
+    let t : ToldOfAsks (asks_in rs) [] held left = subst (λ (xs : List Told). ToldOfAsks (asks_in rs) xs held left) nothing (subst (λ (qs : List Ask). ToldOfAsks qs h.more held left) e h.told) in
+    (first_alone rs t.0, t.1, all ∙ nothing)
+
+pub told_short : (rs : List Request) (xs : List Told) → AreTold rs xs → length xs ≤ length rs
+told_short rs [] h = omega arith
+told_short [] (x ∷ xs) h = absurd h
+told_short (r ∷ rs) (x ∷ xs) h = omega (arith, told_short rs xs h.1)
+
+told_first : (rs : List Request) (xs : List Told) (r : Request) (x : Told) (ss : List Request) (ys : List Told) → rs ≡ r ∷ ss → xs ≡ x ∷ ys → AreTold rs xs → IsToldTo (ask_of r) x
+told_first rs xs r x ss ys e f h = (subst (λ (vs : List Told). AreTold (r ∷ ss) vs) f (subst (λ (qs : List Request). AreTold qs xs) e h)).0
+
+-- what is told at a place is told of the request there
+pub told_at : (rs : List Request) (xs : List Told) (i : ℕ) (r : Request) (x : Told) → i < length xs → length xs ≤ length rs → AreTold (drop i rs) (drop i xs)
+    → IsToldTo (ask_of (get_or rs i r)) (get_or xs i x)
+told_at rs xs i r x lt short h =
+    told_first (drop i rs) (drop i xs) (get_or rs i r) (get_or xs i x) (drop (i + 1) rs) (drop (i + 1) xs) (drop_more rs i r (omega (arith, lt, short))) (drop_more xs i x lt) h
+
+-- and it is an answer to it
+pub told_answers : (number : ℕ) (client : Option ℕ) (listed : ℕ) (r : Request) (x : Told) → IsSome client → IsToldTo (ask_of r) x → IsAnswer number client listed r (answer_of x)
+told_answers number None listed r x some h = absurd cc
+told_answers number (Some id) listed (request.Alloc frames limit) (lock_told.Given q) some h = h
+told_answers number (Some id) listed (request.Alloc frames limit) (lock_told.Refused e) some h = h
+told_answers number (Some id) listed (request.Alloc frames limit) (lock_told.Queued q) some h = absurd h
+told_answers number (Some id) listed (request.Alloc frames limit) (lock_told.Stat q) some h = absurd h
+told_answers number (Some id) listed (request.Free lo) (lock_told.Queued q) some h = h
+told_answers number (Some id) listed (request.Free lo) (lock_told.Refused e) some h = h.0
+told_answers number (Some id) listed (request.Free lo) (lock_told.Given q) some h = absurd h
+told_answers number (Some id) listed (request.Free lo) (lock_told.Stat q) some h = absurd h
+told_answers number (Some id) listed request.Stat (lock_told.Stat q) some h = tt
+told_answers number (Some id) listed request.Stat (lock_told.Refused e) some h = absurd h
+told_answers number (Some id) listed request.Stat (lock_told.Given q) some h = absurd h
+told_answers number (Some id) listed request.Stat (lock_told.Queued q) some h = absurd h
+told_answers number (Some id) listed (request.Hello domain sac) x some h = absurd h
+told_answers number (Some id) listed request.List x some h = absurd h
+told_answers number (Some id) listed request.Flush x some h = absurd h
+told_answers number (Some id) listed request.Bye x some h = absurd h
+
+-- nothing is asked
+pub none_asked : (rs : List Request) (s : SessionState) (answers : List Answer) (held : Totals) → Answers rs 0 s s answers answers held held
+unfolding asked told given_in taken_in
+none_asked rs s answers held = record {
+  pairs = [];
+  same = refl;
+  added = sym (append-nil s.pairs);
+  asked = none_taken rs;
+  told = sym (append-nil answers);
+  shares = refl;
+}
+
+first_of : (rs : List Request) (d : Request) → 1 ≤ length rs → get_or rs 0 d ∷ [] ≡ take 1 rs
+first_of [] d some = absurd (omega (arith, some))
+first_of (r ∷ rs) d some = search rules
+
+-- one request is asked
+pub one_asked : (rs : List Request) (d : Request) (a : Answer) (s t : SessionState) (before behind : List Answer) (held left : Totals) → 1 ≤ length rs
+    → t.number ≡ s.number → t.pairs ≡ s.pairs ++ record { request = get_or rs 0 d; answer = a } ∷ [] → behind ≡ before ++ a ∷ [] → MovesBy (given_by a) (taken_by a) held left
+    → Answers rs 1 s t before behind held left
+unfolding asked told given_in taken_in
+one_asked rs d a s t before behind held left some same added more moved = record {
+  pairs = record { request = get_or rs 0 d; answer = a } ∷ [];
+  same = same;
+  added = added;
+  asked = first_of rs d some;
+  told = more;
+  shares = subst (λ (g : List Frames). MovesBy g (taken_by a ++ []) held left) (sym (append-nil (given_by a))) (subst (λ (t : List Frames). MovesBy (given_by a) t held left) (sym (append-nil (taken_by a))) moved);
+}
+
+pub given_join : (ps qs : List Pair) → given_in (ps ++ qs) ≡ given_in ps ++ given_in qs
+unfolding given_in
+given_join ps qs = search (rules, common_steps)
+
+pub taken_join : (ps qs : List Pair) → taken_in (ps ++ qs) ≡ taken_in ps ++ taken_in qs
+unfolding taken_in
+taken_join ps qs = search (rules, common_steps)
+
+-- a session's pairs move the shares on
+pub moved_on : (rs : List Request) (count : ℕ) (s t : SessionState) (before behind : List Answer) (first held left : Totals) → MovesBy (given_in s.pairs) (taken_in s.pairs) first held
+    → Answers rs count s t before behind held left → MovesBy (given_in t.pairs) (taken_in t.pairs) first left
+moved_on rs count s t before behind first held left m a =
+    let all = moves_on (given_in s.pairs) (given_in a.pairs) (taken_in s.pairs) (taken_in a.pairs) first held left m a.shares in
+    let g = ap given_in a.added ∙ given_join s.pairs a.pairs in
+    let k = ap taken_in a.added ∙ taken_join s.pairs a.pairs in
+    subst (λ (x : List Frames). MovesBy x (taken_in t.pairs) first left) (sym g) (subst (λ (x : List Frames). MovesBy (given_in s.pairs ++ given_in a.pairs) x first left) (sym k) all)
+
+pub moved_none : (s : SessionState) (first : Totals) → s.pairs ≡ [] → MovesBy (given_in s.pairs) (taken_in s.pairs) first first
+unfolding given_in taken_in
+moved_none s first none = rw none (no_move first first refl)
+
+-- whether they were asked or not
+pub moved_either : (result : Result ℕ Refusal) (rs : List Request) (s t : SessionState) (before behind : List Answer) (first : Totals) (old new : SeatState) → MovesBy (given_in s.pairs) (taken_in s.pairs) first old.held
+    → IfOk result (λ n. Answers rs n s t before behind old.held new.held) → IfErr result (λ e. (e ≡ refusal.NoMemory) × (t ≡ s) × (behind ≡ before) × (new ≡ old))
+    → MovesBy (given_in t.pairs) (taken_in t.pairs) first new.held
+moved_either (Ok n) rs s t before behind first old new m ok err = moved_on rs n s t before behind first old.held new.held m ok
+moved_either (Err e) rs s t before behind first old new m ok err =
+    subst (λ (x : SessionState). MovesBy (given_in x.pairs) (taken_in x.pairs) first new.held) (sym err.1)
+      (subst (λ (x : SeatState). MovesBy (given_in s.pairs) (taken_in s.pairs) first x.held) (sym err.3) m)

@@ -1,0 +1,18 @@
+use Rattle.std.proofs.Common.{◌≡◌, ◌≤◌, ◌++◌, ℕ, List, Option, length, take, drop}
+use Rattle.iova_model.specs.State.{State}
+use Rattle.iova_sink.specs.Calls.{Call}
+use Rattle.iova_lock.specs.Views.{SeatState, WhereKnown}
+use Rattle.iova_session.specs.Desks.{KeepsPlace}
+use Rattle.iova_session.specs.Posts.{Retries}
+use Rattle.iova_session.proofs.Retrying.{Tried}
+use Rattle.iova_session.proofs.retry.retry.Given as goal
+
+abbrev pub invariant-trying : goal.invariant-trying
+invariant-trying g l = record {
+  tried : Tried l.initial.post.waiting.items l.post.waiting.items l.at l.left;
+  number : g.K.Keep.domain_number l.keeper ≡ g.K.Keep.domain_number l.initial.keeper;
+  place : KeepsPlace l.initial.post.seat l.post.seat (g.D.Sink.calls l.initial.sink) (g.D.Sink.calls l.sink);
+  goes_on : (more : List ℕ) (left : SeatState) (now : List Call) (o : Option State)
+      → WhereKnown (g.K.Keep.domain l.keeper) o (Retries (g.K.Keep.domain_number l.initial.keeper) (drop l.at l.initial.post.waiting.items) more l.post.seat left (g.D.Sink.calls l.sink) now)
+      → WhereKnown (g.K.Keep.domain l.initial.keeper) o (Retries (g.K.Keep.domain_number l.initial.keeper) l.initial.post.waiting.items (take l.left l.post.waiting.items ++ more) l.initial.post.seat left (g.D.Sink.calls l.initial.sink) now);
+}

@@ -1,0 +1,15 @@
+use Rattle.std.proofs.Common.{◌≡◌, ap, subst}
+use Rattle.iova_lock.specs.Views.{SeatState}
+use Rattle.iova_session.specs.Desks.{SessionState, MovesBy, given_in, taken_in}
+use Rattle.iova_session.proofs.ToldPairs.{moved_none}
+use Rattle.iova_session.proofs.Others.{same_known}
+use Rattle.iova_session.proofs.run.serve_lent.Goals as goal
+
+pub invariant_of-desk-clause-shares : goal.invariant_of-desk-clause-shares
+invariant_of-desk-clause-shares g c =
+    let none = ap (λ (s : SessionState). s.pairs) c.new-session.ensures in
+    subst (λ (x : SeatState). MovesBy (given_in c.new-session.result.pairs) (taken_in c.new-session.result.pairs) x.held c.args.lent.seat.now.held) c.requires.seat
+      (moved_none c.new-session.result c.args.lent.seat.now.held none)
+
+pub invariant_of-desk-clause-others : goal.invariant_of-desk-clause-others
+invariant_of-desk-clause-others g c = same_known _ _ _ c.requires.domain

@@ -1,0 +1,54 @@
+use Rattle.std.proofs.Common.{◌≡◌, ◌+◌, ◌≤◌, sym, subst, refl, ap, ◌∙◌, arith, rules, append-nil}
+use Rattle.std.specs.Prelude.{length, take, List, ◌++◌}
+use Rattle.iova_session.specs.Pairs.{Pair}
+use Rattle.iova_session.specs.Desks.{SessionState, Answers, told_pairs, given_in, taken_in}
+use Rattle.iova_session.proofs.ToldPairs.{from_told, stopped_at_once, no_move, none_asked}
+use Rattle.iova_session.proofs.Others.{batch_keeps}
+use Rattle.iova_session.proofs.together.ask_together.Goals as goal
+
+pub returns-then-most-eq0-clause-ok : goal.returns-then-most-eq0-clause-ok
+returns-then-most-eq0-clause-ok g c = none_asked _ _ _ _
+
+pub tell_all-requires-clause-told : goal.tell_all-requires-clause-told
+tell_all-requires-clause-told g c =
+    let h = from_told c.args.requests.now _ _ _ _ _ _ c.asks_of-most.ensures.asks c.clear.ensures.items c.in_ok-count.ensures.told in
+    rw c.as_slice.ensures.value h.0.each
+
+pub tell_all-requires-clause-room : goal.tell_all-requires-clause-room
+tell_all-requires-clause-room g c =
+    let h = from_told c.args.requests.now _ _ _ _ _ _ c.asks_of-most.ensures.asks c.clear.ensures.items c.in_ok-count.ensures.told in
+    rw c.as_slice.ensures.value (omega (arith, h.0.short, c.requires.room))
+
+pub returns-clause-most : goal.returns-clause-most
+returns-clause-most g c =
+    let h = from_told c.args.requests.now _ _ _ _ _ _ c.asks_of-most.ensures.asks c.clear.ensures.items c.in_ok-count.ensures.told in
+    omega (arith, h.0.short, h.1)
+
+pub returns-clause-alone : goal.returns-clause-alone
+returns-clause-alone g c = λ zero.
+    (stopped_at_once c.args.requests.now _ _ _ _ _ _ c.asks_of-most.ensures.asks c.clear.ensures.items zero c.in_ok-count.ensures.told).0
+
+pub returns-clause-none : goal.returns-clause-none
+returns-clause-none g c = λ zero.
+    let h = stopped_at_once c.args.requests.now _ _ _ _ _ _ c.asks_of-most.ensures.asks c.clear.ensures.items zero c.in_ok-count.ensures.told in
+    let none = c.as_slice.ensures.value ∙ h.2 in
+    let s = rw none at c.tell_all.ensures.session in
+    let a = rw none at c.tell_all.ensures.answers in
+    (s ∙ ap (λ (ps : List Pair). record c.args.session.now { pairs = ps }) (append-nil c.args.session.now.pairs), a ∙ append-nil c.args.answers.now.items, h.1)
+
+pub returns-clause-ok : goal.returns-clause-ok
+returns-clause-ok g c =
+    let h = from_told c.args.requests.now _ _ _ _ _ _ c.asks_of-most.ensures.asks c.clear.ensures.items c.in_ok-count.ensures.told in
+    let s = rw c.as_slice.ensures.value at c.tell_all.ensures.session in
+    let a = rw c.as_slice.ensures.value at c.tell_all.ensures.answers in
+    record {
+      pairs = told_pairs c.args.requests.now c.batch.new.told.items;
+      same = ap (λ (x : SessionState). x.number) s;
+      added = ap (λ (x : SessionState). x.pairs) s;
+      asked = h.0.asked ∙ ap (λ n. take n c.args.requests.now) h.1;
+      told = a ∙ ap (λ more. c.args.answers.now.items ++ more) (sym h.0.told);
+      shares = h.0.shares;
+    }
+
+pub returns-clause-domain : goal.returns-clause-domain
+returns-clause-domain g c = batch_keeps c.others_keep_their_holdings.ensures _ c.args.id _ _ _ c.batch.result _ _ _ _ c.batch.ensures.domain

@@ -1,0 +1,36 @@
+-- What a session leaves of a domain that is known. Own.
+use Rattle.std.specs.Prelude.{ℕ, ◌≡◌, ◌≢◌, List, Option, Some, None, refl}
+use Rattle.std.specs.Coded.{Coded, Coded-set, code_by, coded×, coded_ℕ, coded_list, Π_prop, →_prop, Unit-prop}
+use Rattle.iova_range.specs.Frames.{Frames}
+use Rattle.iova_model.specs.State.{State}
+use Rattle.iova_model.specs.Laws.{held_by}
+use Rattle.iova_lock.specs.declared.ending.Ending.{Ending}
+use Rattle.iova_lock.specs.declared.ending.Ending.TheVariants as ending
+use Rattle.iova_lock.specs.Views.{WhereKnown, left_of}
+
+-- no client but this one has other holdings than before
+abbrev pub KeepsOthers : Option ℕ → State → State → Type 0
+KeepsOthers client s t = (id : ℕ) → client ≢ Some id → held_by id t.clients ≡ held_by id s.clients
+
+-- of a client that waits is told how many holdings are left to it
+abbrev pub IsLeft : Option ℕ → Option Ending → State → Type 0
+IsLeft (Some id) (Some (ending.Waiting left why)) t = left ≡ left_of id t
+IsLeft (Some id) (Some (ending.Ended queued)) t = Unit {0}
+IsLeft (Some id) None t = Unit {0}
+IsLeft None told t = Unit {0}
+
+-- what a session leaves, of whose client this is told
+abbrev pub LeavesOthers : Option ℕ → Option Ending → State → State → Type 0
+LeavesOthers client told s t = KeepsOthers client s t × IsLeft client told t
+
+-- two proofs of this are equal
+abbrev pub frames_code : Coded Frames
+frames_code = code_by (ℕ × ℕ) (coded× coded_ℕ coded_ℕ) (λ r. (r.lo, r.len)) (λ p. record { lo = p.0; len = p.1 }) (λ _. refl)
+
+pub KeepsOthers-prop : (client : Option ℕ) (s t : State) → IsProp (KeepsOthers client s t)
+KeepsOthers-prop client s t = Π_prop (λ id. →_prop (Coded-set (coded_list frames_code) (held_by id t.clients) (held_by id s.clients)))
+
+pub known_keeps-prop : (before now : Option State) (client : Option ℕ) → IsProp (WhereKnown before now (KeepsOthers client))
+known_keeps-prop None now client = Unit-prop
+known_keeps-prop (Some s) None client = λ x y. absurd x
+known_keeps-prop (Some s) (Some t) client = KeepsOthers-prop client s t

@@ -1,0 +1,56 @@
+-- How a session ends at a post. Own.
+use Rattle.std.specs.Prelude.{ℕ, ◌≡◌, ◌+◌, ◌⊎◌, List, [], ◌∷◌, ◌++◌, length, Option, Some, None, Result, Ok, Err, Bool, true, false}
+use Rattle.iova_range.specs.declared.refusal.Refusal.{Refusal}
+use Rattle.iova_model.specs.declared.totals.Totals.{Totals}
+use Rattle.iova_model.specs.State.{State}
+use Rattle.iova_sink.specs.Calls.{Call}
+use Rattle.iova_lock.specs.Answers.{DoesEndClient}
+use Rattle.iova_lock.specs.Views.{SeatState}
+use Rattle.iova_lock.specs.declared.ending.Ending.{Ending}
+use Rattle.iova_lock.specs.declared.ending.Ending.TheVariants as ending
+use Rattle.iova_session.specs.Pairs.{Pair}
+use Rattle.iova_session.specs.Desks.{client_after, given_in, taken_in}
+
+-- What is told of the end of a session's client, by the shares of the seat before the session and behind it, and the clients that
+-- wait. Where it ended, the shares are as before, and what its end queued is what was given to it and not taken back. Where it
+-- waits, the count is greater by what it has left, and it is the last of those that wait.
+abbrev pub EndsClientOf : Option ℕ → List Pair → Option Ending → Totals → Totals → List ℕ → List ℕ → Type 0
+EndsClientOf None ps told old new was now = (told ≡ None) × (new ≡ old) × (now ≡ was)
+EndsClientOf (Some id) ps (Some (ending.Ended queued)) old new was now = (new ≡ old) × (queued + length (taken_in ps) ≡ length (given_in ps)) × (now ≡ was)
+EndsClientOf (Some id) ps (Some (ending.Waiting left why)) old new was now = (new.count ≡ old.count + left) × (now ≡ was ++ id ∷ [])
+EndsClientOf (Some id) ps None old new was now = (now ≡ was) ⊎ (now ≡ was ++ id ∷ [])
+
+-- the client is the one that a hello among the pairs opened
+abbrev pub EndsClient : List Pair → Option Ending → Totals → Totals → List ℕ → List ℕ → Type 0
+EndsClient ps told old new was now = EndsClientOf (client_after None ps) ps told old new was now
+
+-- The same of the end of that client alone, which had these shares of before the session to come back to: it began at `held`.
+abbrev pub EndsFrom : ℕ → Option Ending → Totals → Totals → Totals → List ℕ → List ℕ → Type 0
+EndsFrom id (Some (ending.Ended queued)) old held new was now = (new ≡ old) × (held.count ≡ new.count + queued) × (now ≡ was)
+EndsFrom id (Some (ending.Waiting left why)) old held new was now = (new.count ≡ old.count + left) × (now ≡ was ++ id ∷ [])
+EndsFrom id None old held new was now = (now ≡ was) ⊎ (now ≡ was ++ id ∷ [])
+
+-- some of a list, in its order
+abbrev pub IsSublist : List ℕ → List ℕ → Type 0
+IsSublist [] ys = Unit {0}
+IsSublist (x ∷ xs) [] = ⊥
+IsSublist (x ∷ xs) (y ∷ ys) = ((x ≡ y) × IsSublist xs ys) ⊎ IsSublist (x ∷ xs) ys
+
+-- a client is left after its end was tried
+abbrev pub still_waits : Result Ending Refusal → Bool
+still_waits (Ok (ending.Ended queued)) = false
+still_waits (Ok (ending.Waiting left why)) = true
+still_waits (Err e) = false
+
+-- and then it is kept
+abbrev pub kept_if : Bool → ℕ → List ℕ
+kept_if true id = id ∷ []
+kept_if false id = []
+
+-- Each of the clients is tried once, in their order, and those that wait still are kept: in a domain of this number, from s to t.
+abbrev pub Retries : ℕ → List ℕ → List ℕ → SeatState → SeatState → List Call → List Call → State → State → Type 0
+Retries number [] kept seat left before now s t = (kept ≡ []) × (left ≡ seat) × (now ≡ before) × (t ≡ s)
+Retries number (id ∷ ids) kept seat left before now s t =
+    (result : Result Ending Refusal) × (mid : SeatState) × (calls : List Call) × (here : State) × (more : List ℕ)
+    × DoesEndClient seat mid.held id result number before calls s here × (kept ≡ kept_if (still_waits result) id ++ more)
+    × Retries number ids more mid left calls now here t

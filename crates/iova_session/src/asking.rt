@@ -1,0 +1,150 @@
+//! What a session's requests are answered, over any keeper: the checks of the session's own, and then the calls of the lock.
+ghost use Rattle.std.specs.Prelude.{◌≡◌, ◌≢◌, ℕ, ◌+◌, ◌≤◌, None, Some};
+ghost use Rattle.iova_range.specs.declared.limits.TheConstants.{MAX_LISTED};
+ghost use Rattle.iova_sink.specs.Calls.{good_calls};
+ghost use Rattle.iova_lock.specs.Views.{WhereKnown};
+ghost use Rattle.iova_session.specs.Domains.{KeepsOthers};
+ghost use Rattle.iova_session.specs.Desks.{IsFirstAnswer, IsClientAnswer, MovesBy, given_by, taken_by};
+
+use iova_core::ClientId;
+use iova_laws::replies::others_keep_their_holdings;
+use iova_lock::calls::{flush, unmap};
+use iova_lock::keep::Keep;
+use iova_lock::seat::Seat;
+use iova_proto::answer::Answer;
+use iova_proto::held::HeldRanges;
+use iova_proto::request::Request;
+use iova_range::limits::MAX_LISTED;
+use iova_range::refusal::Refusal;
+use iova_sink::sink::Sink;
+use std::alloc::Global;
+use std::sync::ledger::Ledger;
+
+/// What a request is answered before there is a client: `hello` opens one, in the domain of the keeper's number alone.
+pub(crate) fn ask_first<C: Ledger, F: Ledger, S: Ledger, G: Ledger, K: Keep<C, F, S, G>>(
+    keeper: &mut K,
+    seat: &mut Seat<C, F, S, G>,
+    request: Request,
+) -> Answer
+    ensures number { K.domain_number keeper.new ≡ K.domain_number keeper.old }
+    ensures domain { WhereKnown (K.domain keeper.old) (K.domain keeper.new) (KeepsOthers None) }
+    ensures answer { IsFirstAnswer (K.domain_number keeper.old) request result }
+    ensures shares { MovesBy (given_by result) (taken_by result) seat.old.held seat.new.held }
+    ensures seat { seat.new ≡ seat.old }
+{
+    others_keep_their_holdings();
+    match request {
+        Request::Hello { domain, sac } => {
+            if domain != keeper.number() {
+                return Answer::Refused(Refusal::NoDomain);
+            }
+            match keeper.open(seat, sac) {
+                Ok(id) => Answer::Opened(id),
+                Err(refusal) => Answer::Refused(refusal),
+            }
+        }
+        Request::Bye => Answer::Bye,
+        _ => Answer::Refused(Refusal::NoClient),
+    }
+}
+
+/// What a request is answered that isn't asked together with others, of a session with a client that was told `listed` ranges
+/// in lists.
+pub(crate) fn ask_alone<
+    C: Ledger,
+    F: Ledger,
+    S: Ledger,
+    G: Ledger,
+    K: Keep<C, F, S, G>,
+    D: Sink,
+>(
+    alloc: Global,
+    keeper: &mut K,
+    seat: &mut Seat<C, F, S, G>,
+    sink: &mut D,
+    id: ClientId,
+    listed: u64,
+    request: Request,
+) -> Answer
+    requires listed { listed ≤ MAX_LISTED }
+    requires alloc { (frames : ℕ) → (limit : ℕ) → request ≢ Request.Alloc frames limit }
+    requires stat { request ≢ Request.Stat }
+    ensures number { K.domain_number keeper.new ≡ K.domain_number keeper.old }
+    ensures domain { WhereKnown (K.domain keeper.old) (K.domain keeper.new) (KeepsOthers (Some id)) }
+    ensures answer { IsClientAnswer listed request result }
+    ensures shares { MovesBy (given_by result) (taken_by result) seat.old.held seat.new.held }
+    ensures worker { seat.new.worker ≡ seat.old.worker }
+    ensures tally { seat.new.tally.good + good_calls (D.calls sink.old) ≤ seat.old.tally.good + good_calls (D.calls sink.new) }
+    ensures parts { seat.new.tally.parts ≡ seat.old.tally.parts }
+{
+    others_keep_their_holdings();
+    match request {
+        Request::Hello { domain: _, sac: _ } => Answer::Refused(Refusal::Twice),
+        Request::Free { lo } => match unmap(keeper, seat, sink, id, lo) {
+            Ok(range) => Answer::Queued(range),
+            Err(refusal) => Answer::Refused(refusal),
+        },
+        Request::List => list(alloc, keeper, seat, id, listed),
+        Request::Flush => flush_and_drain(keeper, seat, sink),
+        Request::Bye => Answer::Bye,
+        Request::Alloc { frames: _, limit: _ } | Request::Stat => unreachable!(),
+    }
+}
+
+/// What the client holds. Refused by `NoClient`, `NoMemory`, and `TooMany` where the ranges listed so far and these pass
+/// 1,048,576.
+fn list<C: Ledger, F: Ledger, S: Ledger, G: Ledger, K: Keep<C, F, S, G>>(
+    alloc: Global,
+    keeper: &K,
+    seat: &Seat<C, F, S, G>,
+    id: ClientId,
+    listed: u64,
+) -> Answer
+    requires { listed ≤ MAX_LISTED }
+    ensures answer { IsClientAnswer listed Request.List result }
+    ensures shares { MovesBy (given_by result) (taken_by result) seat.now.held seat.now.held }
+{
+    let mut ranges = Vec::new(alloc);
+    match keeper.holdings(seat, id, &mut ranges) {
+        Err(refusal) => Answer::Refused(refusal),
+        Ok(()) => {
+            if ranges.len() as u64 > MAX_LISTED - listed {
+                Answer::Refused(Refusal::TooMany)
+            } else {
+                Answer::Held(HeldRanges::new(ranges))
+            }
+        }
+    }
+}
+
+/// Flushes, and where that ended well drains all rings into the magazines of the seat's worker. Refused by `FlightsFull`,
+/// `Worn` and `SinkFault`; then nothing is drained.
+fn flush_and_drain<
+    C: Ledger,
+    F: Ledger,
+    S: Ledger,
+    G: Ledger,
+    K: Keep<C, F, S, G>,
+    D: Sink,
+>(
+    keeper: &mut K,
+    seat: &mut Seat<C, F, S, G>,
+    sink: &mut D,
+) -> Answer
+    ensures number { K.domain_number keeper.new ≡ K.domain_number keeper.old }
+    ensures domain { WhereKnown (K.domain keeper.old) (K.domain keeper.new) (KeepsOthers None) }
+    ensures answer { IsClientAnswer 0 Request.Flush result }
+    ensures shares { MovesBy (given_by result) (taken_by result) seat.old.held seat.new.held }
+    ensures worker { seat.new.worker ≡ seat.old.worker }
+    ensures tally { seat.new.tally.good + good_calls (D.calls sink.old) ≤ seat.old.tally.good + good_calls (D.calls sink.new) }
+    ensures parts { seat.new.tally.parts ≡ seat.old.tally.parts }
+{
+    others_keep_their_holdings();
+    match flush(keeper, seat.tally(), sink) {
+        Err(refusal) => Answer::Refused(refusal),
+        Ok(no) => match keeper.drain_all(seat.worker()) {
+            Ok(freed) => Answer::Flushed { no, freed },
+            Err(refusal) => Answer::Refused(refusal),
+        },
+    }
+}

@@ -1,0 +1,250 @@
+//! A session at a post, from its first byte to the end of its client.
+ghost use Rattle.std.specs.Prelude.{◌≡◌, ℕ, ◌+◌, ◌++◌, ◌≤◌, List, None, Some, vec_len, vec_capacity};
+ghost use Rattle.std.specs.Io.KnownBytes.{Appends, Consumes};
+ghost use Rattle.iova_range.specs.declared.limits.TheConstants.{MAX_REQUESTS};
+ghost use Rattle.iova_sink.specs.Calls.{Call};
+ghost use Rattle.iova_lock.specs.Views.{WhereKnown};
+ghost use Rattle.iova_session.specs.Domains.{KeepsOthers, LeavesOthers};
+ghost use Rattle.iova_session.specs.Pairs.{Pair};
+ghost use Rattle.iova_session.specs.Sessions.{Serves};
+ghost use Rattle.iova_session.specs.Desks.{AreAnswers, KeepsPlace, MovesBy, given_in, taken_in, client_after};
+ghost use Rattle.iova_session.specs.Posts.{EndsClient, EndsFrom};
+
+use crate::end::End;
+use crate::keeper_desk::{KeeperDesk, Lent, Opening};
+use crate::link::Link;
+use crate::post::Post;
+use crate::serve::serve;
+use crate::session::Session;
+use iova_core::ClientId;
+use iova_laws::replies::others_keep_their_holdings;
+use iova_lock::closing::end_client;
+use iova_lock::ending::Ending;
+use iova_lock::keep::Keep;
+use iova_lock::seat::Seat;
+use iova_model::totals::Totals;
+use iova_range::limits::MAX_REQUESTS;
+use iova_sink::sink::Sink;
+use std::alloc::Global;
+use std::marker::{Brand, PhantomData};
+use std::sync::ledger::Ledger;
+
+/// How a session ended, and its client. Own.
+#[derive(Clone, Copy, Debug, PartialEq, Eq)]
+pub struct SessionEnd {
+    /// Why the session ended.
+    pub end: End,
+    /// What the end of the client came to that a `hello` opened; none where none was opened.
+    pub client: Option<Ending>,
+}
+
+/// What serving came to, and what it was lent.
+#[derive(Drop)]
+struct Served<
+    'a,
+    C: Ledger,
+    F: Ledger,
+    S: Ledger,
+    G: Ledger,
+    K: Keep<C, F, S, G>,
+    D: Sink,
+> {
+    end: End,
+    client: Option<ClientId>,
+    lent: Lent<'a, C, F, S, G, K, D>,
+}
+
+/// Serves a session, and gives back what it was lent.
+fn serve_lent<
+    'a,
+    C: Ledger,
+    F: Ledger,
+    S: Ledger,
+    G: Ledger,
+    K: Keep<C, F, S, G>,
+    D: Sink,
+    L: Link,
+    O: Opening,
+>(
+    alloc: Global,
+    link: &mut L,
+    lent: Lent<'a, C, F, S, G, K, D>,
+) -> Served<'a, C, F, S, G, K, D>
+    requires names { (lent.keeper.ghost_name ≡ O.keeper_name) × (lent.seat.ghost_name ≡ O.seat_name) × (lent.sink.ghost_name ≡ O.sink_name) }
+    requires number { K.domain_number lent.keeper.now ≡ O.number }
+    requires domain { K.domain lent.keeper.now ≡ O.domain }
+    requires seat { lent.seat.now ≡ O.seat }
+    requires calls { D.calls lent.sink.now ≡ O.calls }
+    ensures names { (result.lent.keeper.ghost_name ≡ lent.entry.keeper.ghost_name) × (result.lent.seat.ghost_name ≡ lent.entry.seat.ghost_name) × (result.lent.sink.ghost_name ≡ lent.entry.sink.ghost_name) }
+    ensures number { K.domain_number result.lent.keeper.now ≡ K.domain_number lent.entry.keeper.now }
+    ensures domain { WhereKnown (K.domain lent.entry.keeper.now) (K.domain result.lent.keeper.now) (KeepsOthers result.client) }
+    ensures session { (taken : List ℕ) × (ps : List Pair) × (written : List ℕ) × (reads : ℕ)
+        × Consumes (L.left link.old) (L.left link.new) taken
+        × Appends (L.sent link.old) (L.sent link.new) written
+        × (L.reads link.new ≡ L.reads link.old + reads)
+        × Serves MAX_REQUESTS taken ps written reads result.end
+        × AreAnswers (K.domain_number lent.entry.keeper.now) None 0 ps
+        × (result.client ≡ client_after None ps)
+        × MovesBy (given_in ps) (taken_in ps) lent.entry.seat.now.held result.lent.seat.now.held }
+    ensures place { KeepsPlace lent.entry.seat.now result.lent.seat.now (D.calls lent.entry.sink.now) (D.calls result.lent.sink.now) }
+{
+    let session = Session::new(lent.keeper.number());
+    let mut desk: KeeperDesk<'a, C, F, S, G, K, D, O> = KeeperDesk {
+        alloc,
+        lent,
+        session,
+        told: Vec::new(alloc),
+        opening: PhantomData,
+    };
+    let end = serve(alloc, link, &mut desk);
+    let client = desk.session.client();
+    let KeeperDesk {
+        alloc: _,
+        lent,
+        session: _,
+        told: _,
+        opening: _,
+    } = desk;
+    Served { end, client, lent }
+}
+
+/// Serves a session of the seat's worker, and gives how it ended and the client that it opened.
+fn serve_at<
+    C: Ledger,
+    F: Ledger,
+    S: Ledger,
+    G: Ledger,
+    K: Keep<C, F, S, G>,
+    D: Sink,
+    L: Link,
+>(
+    alloc: Global,
+    link: &mut L,
+    keeper: &mut K,
+    seat: &mut Seat<C, F, S, G>,
+    sink: &mut D,
+) -> (End, Option<ClientId>)
+    ensures number { K.domain_number keeper.new ≡ K.domain_number keeper.old }
+    ensures domain { WhereKnown (K.domain keeper.old) (K.domain keeper.new) (KeepsOthers result.1) }
+    ensures session { (taken : List ℕ) × (ps : List Pair) × (written : List ℕ) × (reads : ℕ)
+        × Consumes (L.left link.old) (L.left link.new) taken
+        × Appends (L.sent link.old) (L.sent link.new) written
+        × (L.reads link.new ≡ L.reads link.old + reads)
+        × Serves MAX_REQUESTS taken ps written reads result.0
+        × AreAnswers (K.domain_number keeper.old) None 0 ps
+        × (result.1 ≡ client_after None ps)
+        × MovesBy (given_in ps) (taken_in ps) seat.old.held seat.new.held }
+    ensures place { KeepsPlace seat.old seat.new (D.calls sink.old) (D.calls sink.new) }
+{
+    let Served {
+        end,
+        client,
+        lent: Lent {
+            keeper: _,
+            seat: _,
+            sink: _,
+        },
+    } = serve_lent::<C, F, S, G, K, D, L, Brand>(alloc, link, Lent { keeper, seat, sink });
+    (end, client)
+}
+
+/// Serves one session at the post, and then ends the client that its `hello` opened, whatever ended the session. A client
+/// that waits is put on the post's list, last. `NoMemory` without a byte read where there is no room for that. `client` is
+/// none where no client was opened; so it would be where the seat's shares weren't as they have to be, but no run comes to
+/// that. Own.
+pub fn run_session<
+    C: Ledger,
+    F: Ledger,
+    S: Ledger,
+    G: Ledger,
+    L: Link,
+    K: Keep<C, F, S, G>,
+    D: Sink,
+>(
+    alloc: Global,
+    link: &mut L,
+    keeper: &mut K,
+    post: &mut Post<C, F, S, G>,
+    sink: &mut D,
+) -> SessionEnd
+    ensures number { K.domain_number keeper.new ≡ K.domain_number keeper.old }
+    ensures session { (taken : List ℕ) × (ps : List Pair) × (written : List ℕ) × (reads : ℕ)
+        × Consumes (L.left link.old) (L.left link.new) taken
+        × Appends (L.sent link.old) (L.sent link.new) written
+        × (L.reads link.new ≡ L.reads link.old + reads)
+        × Serves MAX_REQUESTS taken ps written reads result.end
+        × AreAnswers (K.domain_number keeper.old) None 0 ps
+        × EndsClient ps result.client post.old.seat.held post.new.seat.held post.old.waiting.items post.new.waiting.items
+        × WhereKnown (K.domain keeper.old) (K.domain keeper.new) (LeavesOthers (client_after None ps) result.client) }
+    ensures place { KeepsPlace post.old.seat post.new.seat (D.calls sink.old) (D.calls sink.new) }
+{
+    if post.waiting.try_reserve(1).is_err() {
+        return SessionEnd {
+            end: End::NoMemory,
+            client: None,
+        };
+    }
+    let before = shares_of(&post.seat);
+    let (end, opened) = serve_at(alloc, link, keeper, &mut post.seat, sink);
+    let client = match opened {
+        None => None,
+        Some(id) => end_opened(keeper, post, sink, id, before),
+    };
+    SessionEnd { end, client }
+}
+
+/// Ends the client that a session opened, and puts it on the list where it waits. `before` are the shares of before the
+/// session: none where those of after it aren't as they have to be.
+fn end_opened<
+    C: Ledger,
+    F: Ledger,
+    S: Ledger,
+    G: Ledger,
+    K: Keep<C, F, S, G>,
+    D: Sink,
+>(
+    keeper: &mut K,
+    post: &mut Post<C, F, S, G>,
+    sink: &mut D,
+    id: ClientId,
+    before: Totals,
+) -> Option<Ending>
+    requires { vec_len post.old.waiting + 1 ≤ vec_capacity post.old.waiting }
+    ensures number { K.domain_number keeper.new ≡ K.domain_number keeper.old }
+    ensures domain { WhereKnown (K.domain keeper.old) (K.domain keeper.new) (LeavesOthers (Some id) result) }
+    ensures ended { EndsFrom id result before post.old.seat.held post.new.seat.held post.old.waiting.items post.new.waiting.items }
+    ensures place { KeepsPlace post.old.seat post.new.seat (D.calls sink.old) (D.calls sink.new) }
+{
+    others_keep_their_holdings();
+    match end_client(keeper, &mut post.seat, sink, id) {
+        Err(_) => None,
+        Ok(Ending::Ended(queued)) => {
+            if shares_of(&post.seat) == before {
+                Some(Ending::Ended(queued))
+            } else {
+                None
+            }
+        }
+        Ok(Ending::Waiting(left, why)) => {
+            let Ok(()) = post.waiting.push(id) else {
+                unreachable!();
+            };
+            if post.seat.count().checked_sub(before.count) == Some(left) {
+                Some(Ending::Waiting(left, why))
+            } else {
+                None
+            }
+        }
+    }
+}
+
+/// The seat's three shares.
+fn shares_of<C: Ledger, F: Ledger, S: Ledger, G: Ledger>(seat: &Seat<C, F, S, G>) -> Totals
+    ensures { result ≡ seat.now.held }
+{
+    Totals {
+        count: seat.count(),
+        frames: seat.frames(),
+        sum_lo: seat.sum_lo(),
+    }
+}

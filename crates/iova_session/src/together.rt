@@ -1,0 +1,127 @@
+//! Requests that are asked together, in one hold of the lock.
+ghost use Rattle.std.specs.Prelude.{◌≡◌, ◌+◌, ◌≤◌, ◌++◌, ◌∷◌, [], Some, IsSome, IfOk, IfErr, length, map, take, vec_len, vec_capacity};
+ghost use Rattle.iova_lock.specs.Views.{WhereKnown};
+ghost use Rattle.iova_session.specs.Domains.{KeepsOthers};
+ghost use Rattle.iova_session.specs.Desks.{SessionState, ask_of as the_ask_of, asks_in, answer_of as the_answer_of, told_pairs, AreTold, IsFirstAlone, Answers};
+
+use crate::session::Session;
+use iova_core::ClientId;
+use iova_laws::replies::others_keep_their_holdings;
+use iova_lock::ask::{Ask, Told};
+use iova_lock::keep::Keep;
+use iova_lock::seat::Seat;
+use iova_proto::answer::Answer;
+use iova_proto::request::Request;
+use iova_range::limits::MAX_RUN;
+use iova_range::refusal::Refusal;
+use std::sync::ledger::Ledger;
+
+/// Asks the longest front of `alloc`, `free` and `stat` in one hold, up to the first free whose ring is full, and gives how
+/// many were asked. `told` is room for what the lock tells. Refused by `NoMemory` where that has to grow and can't; then
+/// nothing was asked.
+pub(crate) fn ask_together<
+    C: Ledger,
+    F: Ledger,
+    S: Ledger,
+    G: Ledger,
+    K: Keep<C, F, S, G>,
+>(
+    keeper: &mut K,
+    seat: &mut Seat<C, F, S, G>,
+    session: &mut Session,
+    id: ClientId,
+    requests: &[Request],
+    told: &mut Vec<Told>,
+    answers: &mut Vec<Answer>,
+) -> Result<usize, Refusal>
+    requires client { session.old.client ≡ Some id }
+    requires most { length requests.now ≤ MAX_RUN }
+    requires room { vec_len answers.old + length requests.now ≤ vec_capacity answers.old }
+    ensures number { K.domain_number keeper.new ≡ K.domain_number keeper.old }
+    ensures domain { WhereKnown (K.domain keeper.old) (K.domain keeper.new) (KeepsOthers (Some id)) }
+    ensures most { IfOk result (λ n. n ≤ length requests.now) }
+    ensures ok { IfOk result (λ n. Answers requests.now n session.old session.new answers.old.items answers.new.items seat.old.held seat.new.held) }
+    ensures client { session.new.client ≡ session.old.client }
+    ensures alone { IfOk result (λ n. n ≡ 0 → IsFirstAlone requests.now) }
+    ensures err { IfErr result (λ e. (e ≡ Refusal.NoMemory) × (session.new ≡ session.old) × (answers.new.items ≡ answers.old.items) × (seat.new ≡ seat.old)) }
+    ensures none { IfOk result (λ n. n ≡ 0 → (session.new ≡ session.old) × (answers.new.items ≡ answers.old.items) × (seat.new.held ≡ seat.old.held)) }
+    ensures rest { (seat.new.worker ≡ seat.old.worker) × (seat.new.tally ≡ seat.old.tally) }
+    ensures kept { IfOk result (λ n. vec_capacity answers.old ≤ vec_capacity answers.new) }
+{
+    others_keep_their_holdings();
+    let mut asks = [Ask::Stat; MAX_RUN];
+    let most = asks_of(requests, &mut asks);
+    if most == 0 {
+        return Ok(0);
+    }
+    told.clear();
+    let count = keeper.batch(seat, id, &asks[..most], told)?;
+    tell_all(session, requests, told.as_slice(), answers);
+    Ok(count)
+}
+
+/// Writes the asks at the front of the requests, and gives how many they are.
+fn asks_of(requests: &[Request], asks: &mut [Ask]) -> usize
+    requires { length requests.now ≤ length asks.old }
+    ensures asks { take result asks.new ≡ asks_in requests.now }
+    ensures most { result ≤ length requests.now }
+{
+    for (i, request) in requests.iter().enumerate() {
+        let Some(ask) = ask_of(*request) else {
+            return i;
+        };
+        asks[i] = ask;
+    }
+    requests.len()
+}
+
+/// The request as an ask of the lock, where it can be asked with others.
+fn ask_of(request: Request) -> Option<Ask>
+    ensures { result ≡ the_ask_of request }
+{
+    match request {
+        Request::Alloc { frames, limit } => Some(Ask::Alloc { frames, limit }),
+        Request::Free { lo } => Some(Ask::Free { lo }),
+        Request::Stat => Some(Ask::Stat),
+        _ => None,
+    }
+}
+
+/// What was told as an answer.
+fn answer_of(told: Told) -> Answer
+    ensures { result ≡ the_answer_of told }
+{
+    match told {
+        Told::Given(range) => Answer::Given(range),
+        Told::Queued(range) => Answer::Queued(range),
+        Told::Stat(stat) => Answer::Stat(stat),
+        Told::Refused(refusal) => Answer::Refused(refusal),
+    }
+}
+
+/// Notes and answers the requests at the front, as they were told.
+fn tell_all(session: &mut Session, requests: &[Request], told: &[Told], answers: &mut Vec<Answer>)
+    requires client { IsSome session.old.client }
+    requires told { AreTold requests.now told.now }
+    requires room { vec_len answers.old + length told.now ≤ vec_capacity answers.old }
+    ensures session { session.new ≡ record session.old { pairs = session.old.pairs ++ told_pairs requests.now told.now } }
+    ensures answers { answers.new.items ≡ answers.old.items ++ map the_answer_of told.now }
+    ensures kept { vec_capacity answers.old ≤ vec_capacity answers.new }
+{
+    for (i, told) in told.iter().enumerate() {
+        let answer = answer_of(*told);
+        session.add(requests[i], &answer);
+        push(answers, answer);
+    }
+}
+
+/// Appends the answer, for which there is room.
+pub(crate) fn push(answers: &mut Vec<Answer>, answer: Answer)
+    requires { vec_len answers.old + 1 ≤ vec_capacity answers.old }
+    ensures items { answers.new.items ≡ answers.old.items ++ answer ∷ [] }
+    ensures kept { vec_capacity answers.old ≤ vec_capacity answers.new }
+{
+    let Ok(()) = answers.push(answer) else {
+        unreachable!();
+    };
+}

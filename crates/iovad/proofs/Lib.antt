@@ -1,0 +1,4 @@
+mod Copying
+mod Lined
+mod PutMore
+mod SentParts
