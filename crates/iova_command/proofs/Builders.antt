@@ -1,5 +1,5 @@
 -- A command is made by one argument or subcommand after another.
-use Rattle.std.proofs.Common.{ℕ, ◌≡◌, ◌∙◌, ◌<◌, ◌-◌, ◌^◌, ◌||◌, false, List, Result, Ok, Err, IfOk, Some, refl, sym, ap, ap₂, arith, pos, ℤ, w64, subst}
+use Rattle.std.proofs.Common.{ℕ, ◌≡◌, ◌∙◌, ◌<◌, ◌^◌, ◌||◌, false, Result, Ok, Err, IfOk, Some, ap, ap₂, arith, pos, ℤ, w64, subst}
 use Rattle.std.proofs.lemmas.Int.{ints}
 use Rattle.std.specs.Ordering.{nat_cmp, ord_max, ord_min}
 use Rattle.std.specs.Int.{saturate_unsigned}

@@ -1,3 +1,3 @@
+mod Apps
 mod Builders
 mod Getters
-mod Names

@@ -1,5 +1,5 @@
 -- What matched words ask for. Own.
-use Rattle.std.specs.Prelude.{ℕ, ◌≡◌, ◌≢◌, Bool, true, false, List, [], Option, Some, None, Result, Ok, Err, codes, unwrap_or}
+use Rattle.std.specs.Prelude.{◌≡◌, ◌≢◌, Bool, true, false, List, Option, Some, None, codes}
 use Rattle.clap.specs.Words.{Row, Text, first_of, one_of}
 use Rattle.iova_command.specs.Numbers.{HasNumber}
 use Rattle.iova_command.specs.declared.asked.Asked.{Asked}
@@ -32,9 +32,3 @@ abbrev pub Asks : Option (Text × List Row) → Asked → Type 0
 Asks None (Replay path has_report) = (path.now ≡ codes "-") × (has_report ≡ false)
 Asks None other = ⊥
 Asks (Some matched) asked = AsksOf matched.0 matched.1 asked
-
--- a replay, and no daemon
-abbrev pub IsReplay : Asked → Type 0
-IsReplay (Replay path has_report) = Unit {0}
-IsReplay (Serve plan) = ⊥
-IsReplay (Ask path) = ⊥

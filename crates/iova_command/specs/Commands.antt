@@ -39,13 +39,10 @@ serve_app =
 abbrev pub ask_app : App
 ask_app = with_rule (new_app (codes "ask")) (place_rule (codes "path"))
 
--- the program that replays
+-- the program
 abbrev pub iovad_app : App
-iovad_app = with_subcommand (new_app (codes "iovad")) replay_app.top
-
--- with the daemon's commands
-abbrev pub with_daemon : App → App
-with_daemon app = with_subcommand (with_subcommand app serve_app.top) ask_app.top
+iovad_app =
+    with_subcommand (with_subcommand (with_subcommand (new_app (codes "iovad")) replay_app.top) serve_app.top) ask_app.top
 
 -- a command that is read so, with no option for all of its subcommands
 pub record IsCommand (read : App) (c : Command) : Type 0 where

@@ -1,27 +1,19 @@
 //! The command and its help.
 ghost use Rattle.std.specs.Prelude.{◌≡◌, ◌<◌, ◌^◌, IfOk, false};
 ghost use Rattle.clap.specs.Words.{rule_of};
-ghost use Rattle.iova_command.specs.Commands.{IsCommand, option_rule, number_rule, replay_app, serve_app, ask_app, iovad_app, with_daemon};
+ghost use Rattle.iova_command.specs.Commands.{IsCommand, option_rule, number_rule, replay_app, serve_app, ask_app, iovad_app};
 
 use clap::{Arg, ArgAction, Command, value_parser};
 use iova_range::limits::{MAX_DOMAINS, MAX_SESSIONS, MAX_WORKERS, TOP};
 use std::alloc::{AllocError, Global};
 
-/// The program that replays.
+/// The program's command.
 pub fn iovad_command<'a>(alloc: Global) -> Result<Command<'a>, AllocError>
     ensures { IfOk result (IsCommand iovad_app) }
 {
     Command::new(alloc, "iovad")
         .about("Hands out I/O virtual addresses; with no word, replays a trace from standard input")
-        .subcommand(replay_command(alloc)?)
-}
-
-/// The same command, with those of the daemon.
-pub fn daemon_commands<'a>(alloc: Global, command: Command<'a>) -> Result<Command<'a>, AllocError>
-    requires { IsCommand iovad_app command }
-    ensures { IfOk result (IsCommand (with_daemon iovad_app)) }
-{
-    command
+        .subcommand(replay_command(alloc)?)?
         .subcommand(serve_command(alloc)?)?
         .subcommand(ask_command(alloc)?)
 }
@@ -32,7 +24,7 @@ fn replay_command<'a>(alloc: Global) -> Result<Command<'a>, AllocError>
     let report = Arg::new(alloc, "report")
         .long("report")
         .action(ArgAction::SetTrue)
-        .help("Prints the domain's report behind the replies");
+        .help("Prints the domain's report after the replies");
     let file = Arg::new(alloc, "file")
         .value_name("FILE")
         .required(true)

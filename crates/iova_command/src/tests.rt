@@ -1,17 +1,9 @@
 //! Words in, what they ask for out.
 use crate::asked::Asked;
-use crate::command::{daemon_commands, iovad_command};
 use crate::usage::WordsFault;
-use crate::words::{asked, asked_of};
-use std::alloc::Global;
+use crate::words::asked;
 use std::process::Abort;
 use std::test::Fail;
-
-/// What these words ask of the program with the daemon's commands.
-fn daemon_asked<'a>(alloc: Global, words: &'a [&'a str]) -> Result<Asked<'a>, WordsFault> {
-    let command = daemon_commands(alloc, iovad_command(alloc)?)?;
-    asked_of(alloc, command, words)
-}
 
 /// The words are refused with this status, or for want of memory.
 fn assert_refused<R: Abort>(
@@ -46,21 +38,14 @@ fn a_replay(rt: HostRuntime) -> Result<(), Fail> {
             false,
         ),
     ] {
-        for with_daemon in [false, true] {
-            let outcome = if with_daemon {
-                daemon_asked(rt.alloc(), words)
-            } else {
-                asked(rt.alloc(), words)
-            };
-            match outcome {
-                Ok(Asked::Replay { path, has_report }) => {
-                    assert_eq!(rt; path, file);
-                    assert_eq!(rt; has_report, wants_report);
-                }
-                Ok(_) => assert!(rt; false, "{words:?} ask for the daemon"),
-                Err(WordsFault::Usage(_)) => assert!(rt; false, "{words:?} are refused"),
-                Err(WordsFault::NoMemory) => {}
+        match asked(rt.alloc(), words) {
+            Ok(Asked::Replay { path, has_report }) => {
+                assert_eq!(rt; path, file);
+                assert_eq!(rt; has_report, wants_report);
             }
+            Ok(_) => assert!(rt; false, "{words:?} ask for the daemon"),
+            Err(WordsFault::Usage(_)) => assert!(rt; false, "{words:?} are refused"),
+            Err(WordsFault::NoMemory) => {}
         }
     }
     Ok(())
@@ -88,15 +73,6 @@ fn words_that_are_not_understood_and_help(rt: HostRuntime) -> Result<(), Fail> {
         (["iovad", "help", "replay"].as_slice(), 0),
     ] {
         assert_refused(&rt, &asked(rt.alloc(), words), status, words);
-        assert_refused(&rt, &daemon_asked(rt.alloc(), words), status, words);
-    }
-    // the daemon isn't there yet
-    for words in [
-        ["iovad", "ask", "a.socket"].as_slice(),
-        ["iovad", "help", "ask"].as_slice(),
-        ["iovad", "serve", "--help"].as_slice(),
-    ] {
-        assert_refused(&rt, &asked(rt.alloc(), words), 2, words);
     }
     Ok(())
 }
@@ -132,7 +108,7 @@ fn with_word(place: usize, word: &'static str) -> [&'static str; 16] {
 
 #[test]
 fn a_daemon(rt: HostRuntime) -> Result<(), Fail> {
-    match daemon_asked(rt.alloc(), SERVE.as_slice()) {
+    match asked(rt.alloc(), SERVE.as_slice()) {
         Ok(Asked::Serve(plan)) => {
             assert_eq!(rt; plan.socket, "a.socket");
             assert_eq!(rt; plan.workers, 4);
@@ -146,7 +122,7 @@ fn a_daemon(rt: HostRuntime) -> Result<(), Fail> {
         Err(WordsFault::Usage(_)) => assert!(rt; false, "refused"),
         Err(WordsFault::NoMemory) => {}
     }
-    match daemon_asked(rt.alloc(), ["iovad", "ask", "a.socket"].as_slice()) {
+    match asked(rt.alloc(), ["iovad", "ask", "a.socket"].as_slice()) {
         Ok(Asked::Ask { path }) => assert_eq!(rt; path, "a.socket"),
         Ok(_) => assert!(rt; false, "not asked"),
         Err(WordsFault::Usage(_)) => assert!(rt; false, "refused"),
@@ -185,7 +161,7 @@ fn each_number_has_its_range(rt: HostRuntime) -> Result<(), Fail> {
         (15, "65537", false),
     ] {
         let words = with_word(place, word);
-        match daemon_asked(rt.alloc(), words.as_slice()) {
+        match asked(rt.alloc(), words.as_slice()) {
             Ok(_) => assert!(rt; is_good, "{place} {word}"),
             Err(WordsFault::Usage(usage)) => {
                 assert!(rt; !is_good, "{place} {word}");
@@ -221,9 +197,9 @@ fn each_option_is_wanted_once(rt: HostRuntime) -> Result<(), Fail> {
         twice.push(name)?;
         twice.push("1")?;
         let words = without.as_slice();
-        assert_refused(&rt, &daemon_asked(rt.alloc(), words), 2, words);
+        assert_refused(&rt, &asked(rt.alloc(), words), 2, words);
         let words = twice.as_slice();
-        assert_refused(&rt, &daemon_asked(rt.alloc(), words), 2, words);
+        assert_refused(&rt, &asked(rt.alloc(), words), 2, words);
     }
     for words in [
         ["iovad", "ask"].as_slice(),
@@ -231,7 +207,7 @@ fn each_option_is_wanted_once(rt: HostRuntime) -> Result<(), Fail> {
         ["iovad", "serve"].as_slice(),
         ["iovad", "serve", "a.socket"].as_slice(),
     ] {
-        assert_refused(&rt, &daemon_asked(rt.alloc(), words), 2, words);
+        assert_refused(&rt, &asked(rt.alloc(), words), 2, words);
     }
     for words in [
         ["iovad", "serve", "--help"].as_slice(),
@@ -239,7 +215,7 @@ fn each_option_is_wanted_once(rt: HostRuntime) -> Result<(), Fail> {
         ["iovad", "ask", "-h"].as_slice(),
         ["iovad", "help", "ask"].as_slice(),
     ] {
-        assert_refused(&rt, &daemon_asked(rt.alloc(), words), 0, words);
+        assert_refused(&rt, &asked(rt.alloc(), words), 0, words);
     }
     Ok(())
 }

@@ -1,7 +1,7 @@
 //! The process's words, and what they ask for.
 ghost use Rattle.std.specs.Prelude.{◌≡◌, IfErr, IfOk, IfSome, map, true};
 ghost use Rattle.clap.specs.Words.{app_of, fault_of, found_of, is_simple, is_simple_and_free, rows_of, subcommand_of, subcommand_rows_of};
-ghost use Rattle.iova_command.specs.Asks.{Asks, AsksOf, IsReplay};
+ghost use Rattle.iova_command.specs.Asks.{Asks, AsksOf};
 ghost use Rattle.iova_command.specs.Commands.{iovad_app};
 ghost use Rattle.iova_command.specs.Refuses.{IsNotUnderstood, RefusesBy};
 
@@ -34,15 +34,12 @@ pub fn words<R: Env + AllocGlobal>(rt: &R) -> Result<Vec<String>, WordsFault>
 pub fn asked<'a, S: AsStr>(alloc: Global, words: &'a [S]) -> Result<Asked<'a>, WordsFault>
     ensures asks { IfOk result (λ a. Asks (subcommand_of iovad_app (map S.text words.entry.now)) a) }
     ensures refused { RefusesBy (fault_of iovad_app (map S.text words.entry.now)) result }
-
-    // no words ask for the daemon yet
-    ensures replays { IfOk result IsReplay }
 {
     asked_of(alloc, iovad_command(alloc)?, words)
 }
 
 /// What these words ask for of this command.
-pub(crate) fn asked_of<'a, S: AsStr>(
+fn asked_of<'a, S: AsStr>(
     alloc: Global,
     command: Command<'a>,
     words: &'a [S],

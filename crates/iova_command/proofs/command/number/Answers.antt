@@ -1,8 +1,5 @@
-use Rattle.std.proofs.Common.{rules, ◌≡◌, ◌∙◌, ap, Some, w64}
+use Rattle.std.proofs.Common.{rules, ◌∙◌, ap, Some, w64}
 use Rattle.std.proofs.Math.Facts.{to_z_pos}
-use Rattle.clap.specs.Words.{rule_of}
-use Rattle.clap.specs.declared.builder.value_parser.ValueParser.TheVariants as parser
-use Rattle.iova_command.specs.Commands.{number_rule}
 use Rattle.iova_command.proofs.Builders.{narrowed}
 use Rattle.iova_command.proofs.command.number.Goals as goal
 

@@ -1,5 +1,5 @@
 use Rattle.std.proofs.Common.{rules, ◌≡◌, codes}
-use Rattle.clap.specs.Words.{new_app, rule_of}
+use Rattle.clap.specs.Words.{rule_of}
 use Rattle.iova_command.specs.Commands.{place_rule, report_rule}
 use Rattle.iova_command.proofs.Builders.{new_command, with_arg, with_last_arg}
 use Rattle.iova_command.proofs.command.replay_command.Goals as goal

@@ -1,5 +1,4 @@
-use Rattle.std.proofs.Common.{rules, codes}
-use Rattle.clap.specs.Words.{new_app}
+use Rattle.std.proofs.Common.{codes}
 use Rattle.iova_command.proofs.Builders.{new_command, with_arg, with_last_arg}
 use Rattle.iova_command.proofs.command.serve_command.Goals as goal
 

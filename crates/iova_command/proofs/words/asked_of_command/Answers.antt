@@ -1,6 +1,5 @@
-use Rattle.std.proofs.Common.{rules, ◌≡◌, sym}
-use Rattle.clap.specs.Words.{found_of, one_of, one_text, rows_of, Text}
-use Rattle.clap.proofs.WalkLemmas.{one_text-rows}
+use Rattle.std.proofs.Common.{rules}
+use Rattle.clap.specs.Words.{found_of}
 use Rattle.iova_command.proofs.Getters.{text_read, flag_read}
 use Rattle.iova_command.proofs.words.asked_of_command.Goals as goal
 
