@@ -1,4 +1,5 @@
 mod Copying
+mod Gathering
 mod Lined
 mod PutMore
 mod SentParts

@@ -2,3 +2,5 @@ pub mod Faults
 pub mod Answers
 pub mod Asking
 pub mod Runs
+pub mod Serving
+pub mod Outcomes

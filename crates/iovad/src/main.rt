@@ -1,19 +1,39 @@
-//! `iovad`, the address service: today it replays traces.
+//! `iovad`, the address service: it replays traces, serves sessions on a socket, and asks lines of such a service.
 #![tactic(auto)]
 
+mod accept;
 mod answer;
 mod ask;
+mod daemon;
 mod fault;
+mod outcome;
+mod pause;
+mod serving;
+mod socket;
 #[cfg(test)]
 mod tests;
 
 use answer::answer;
+use ask::ask_lines;
+use daemon::serve;
 use fault::Fault;
 use iova_command::asked::Asked;
+use iova_command::plan::Plan;
 use iova_command::words::{STANDARD_INPUT, asked, words};
+use iova_range::limits::TALLY_PARTS;
+use iova_session::socket_link::SocketLink;
+use log::Log;
 use std::fs::File;
+use std::io;
 use std::io::Read;
+use std::marker::Brand;
+use std::net::Net;
+use std::os::unix::net::UnixStream;
 use std::process::ExitCode;
+use std::rt::{Files, Runtime};
+use std::sync::Wait;
+use std::sync::ledger::Blank;
+use std::thread::Threads;
 
 fn main(rt: HostRuntime) -> ExitCode {
     let words = match words(&rt) {
@@ -26,18 +46,25 @@ fn main(rt: HostRuntime) -> ExitCode {
     }
 }
 
-fn run<'a>(rt: &HostRuntime, words: &'a [String]) -> Result<(), Fault<'a>> {
+/// Does what the words ask for.
+fn run<'a, R>(rt: &R, words: &'a [String]) -> Result<(), Fault<'a>>
+where
+    R: Runtime + AllocGlobal + Net + Threads + Wait + Sync + Files<File = File> + Log,
+{
     match asked(rt.alloc(), words)? {
         Asked::Replay { path, has_report } => replay(rt, path, has_report),
-        // no words ask for the daemon yet
-        Asked::Serve(_) | Asked::Ask { path: _ } => unreachable!(),
+        Asked::Serve(plan) => serve_plan(rt, &plan),
+        Asked::Ask { path } => ask(rt, path),
     }
 }
 
 /// Replays the trace of this name to standard output.
-fn replay<'a>(rt: &HostRuntime, path: &'a str, has_report: bool) -> Result<(), Fault<'a>> {
+fn replay<'a, R>(rt: &R, path: &'a str, has_report: bool) -> Result<(), Fault<'a>>
+where
+    R: Runtime + AllocGlobal + Files<File = File>,
+{
     if path == STANDARD_INPUT {
-        return print(rt, &mut rt.stdin(), path, has_report);
+        return print(rt, &mut rt.reader(), path, has_report);
     }
     match File::open(rt, path) {
         Ok(mut file) => print(rt, &mut file, path, has_report),
@@ -46,14 +73,44 @@ fn replay<'a>(rt: &HostRuntime, path: &'a str, has_report: bool) -> Result<(), F
 }
 
 /// Replays the trace from this reader to standard output.
-fn print<'a, R: Read>(
-    rt: &HostRuntime,
-    reader: &mut R,
+fn print<'a, R: Runtime + AllocGlobal, I: Read>(
+    rt: &R,
+    reader: &mut I,
     path: &'a str,
     has_report: bool,
 ) -> Result<(), Fault<'a>> {
-    match answer(rt.alloc(), reader, &mut rt.stdout(), has_report) {
+    match answer(rt.alloc(), reader, &mut io::writer(rt), has_report) {
         Ok(()) => Ok(()),
         Err(fault) => Err(Fault::of_replay(fault, path)),
+    }
+}
+
+/// Serves what the plan says. The four ledgers of the domain get their names here.
+fn serve_plan<R>(rt: &R, plan: &Plan<'_>) -> Result<(), Fault<'static>>
+where
+    R: Runtime + AllocGlobal + Net + Threads + Wait + Sync + Files<File = File> + Log,
+{
+    serve::<R, Brand, Brand, Brand, Brand>(
+        rt,
+        plan,
+        Blank::new(plan.workers),
+        Blank::new(plan.workers),
+        Blank::new(plan.workers),
+        Blank::new(TALLY_PARTS * plan.workers),
+    )
+}
+
+/// Asks the lines of standard input of the socket at this path, and prints the answers.
+fn ask<R>(rt: &R, path: &str) -> Result<(), Fault<'static>>
+where
+    R: Runtime + AllocGlobal + Net,
+{
+    let Ok(stream) = UnixStream::connect(rt, path) else {
+        return Err(Fault::SocketFault);
+    };
+    let mut link = SocketLink::new(stream);
+    match ask_lines(rt.alloc(), &mut rt.reader(), &mut io::writer(rt), &mut link) {
+        Ok(_sent) => Ok(()),
+        Err(fault) => Err(Fault::of_ask(fault)),
     }
 }

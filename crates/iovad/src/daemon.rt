@@ -1,0 +1,182 @@
+//! A daemon: the sessions of a plan, served on a socket, and the report of what they leave.
+ghost use Rattle.std.specs.Prelude.{◌≡◌, ◌<◌, ◌*◌, ◌↔◌, Err, IfOk, map, vec_len};
+ghost use Rattle.iova_range.specs.declared.limits.TheConstants.{TALLY_PARTS};
+
+use crate::fault::Fault;
+use crate::outcome::print_domain;
+use crate::pause::Ticks;
+use crate::serving::{Served, serve_on};
+use crate::socket::SocketAccept;
+use iova_command::plan::Plan;
+use iova_lock::seat::Seat;
+use iova_lock::shared::Shared;
+use iova_range::bounds::Bounds;
+use iova_range::limits::TALLY_PARTS;
+use iova_range::refusal::Refusal;
+use iova_session::post::Post;
+use iova_session::retry::retry;
+use iova_session::socket_link::SocketLink;
+use iova_sink::file::FileDevice;
+use iova_sink::record::RecordSink;
+use log::Log;
+use std::alloc::Global;
+use std::fs;
+use std::fs::File;
+use std::io;
+use std::net::Net;
+use std::os::unix::net::UnixListener;
+use std::rt::{Files, Runtime};
+use std::sync::Wait;
+use std::sync::ledger::{Blank, Ledger};
+use std::thread::Threads;
+
+/// Serves the plan's sessions on its socket, and then prints a line with the domain's number and the domain's report. The
+/// socket's file is removed once the sessions are over, also where no thread could be started. Clients that still wait then
+/// are tried once more.
+///
+/// Faults come in this order: `StartAboveLast`; `NoMemory` for the domain; `CannotOpenSink`; `SocketFault` where the socket
+/// can't be bound, as where something stands at its path, or a thread can't be started; `NoMemory` for the report;
+/// `CannotWrite`. Own.
+pub fn serve<R, C, F, S, G>(
+    rt: &R,
+    plan: &Plan<'_>,
+    count: Blank,
+    frames: Blank,
+    sum_lo: Blank,
+    good: Blank,
+) -> Result<(), Fault<'static>>
+where
+    R: Runtime + AllocGlobal + Net + Threads + Wait + Sync + Files<File = File> + Log,
+    C: Ledger + Send + Sync,
+    F: Ledger + Send + Sync,
+    S: Ledger + Send + Sync,
+    G: Ledger + Send + Sync,
+    requires count { (count.name ≡ C.name) × (count.parts ≡ C.parts) × (count.parts ≡ plan.now.workers) }
+    requires frames { (frames.name ≡ F.name) × (frames.parts ≡ F.parts) × (frames.parts ≡ plan.now.workers) }
+    requires sum_lo { (sum_lo.name ≡ S.name) × (sum_lo.parts ≡ S.parts) × (sum_lo.parts ≡ plan.now.workers) }
+    requires good { (good.name ≡ G.name) × (good.parts ≡ G.parts) × (good.parts ≡ TALLY_PARTS * plan.now.workers) }
+    ensures order { plan.now.last < plan.now.start → result ≡ Err Fault.StartAboveLast }
+{
+    let alloc = rt.alloc();
+    let Ok(bounds) = Bounds::new(plan.start, plan.last) else {
+        return Err(Fault::StartAboveLast);
+    };
+    let Ok((shared, seats)) = Shared::<&R, C, F, S, G>::new(
+        rt,
+        alloc,
+        plan.domain,
+        bounds,
+        plan.workers,
+        count,
+        frames,
+        sum_lo,
+        good,
+    ) else {
+        return Err(Fault::NoMemory);
+    };
+    let posts = posts_of(alloc, seats)?;
+    let sinks = open_sinks(rt, alloc, plan.sink, posts.len() + 1)?;
+    let Ok(listener) = UnixListener::bind(rt, plan.socket) else {
+        return Err(Fault::SocketFault);
+    };
+    let accept = SocketAccept::new(rt, rt, listener);
+    let served = serve_on::<R, &R, R, C, F, S, G, SocketLink, SocketAccept<'_, R, R>, RecordSink<FileDevice>, Ticks<'_, R>>(
+        rt,
+        alloc,
+        rt,
+        shared,
+        posts,
+        sinks,
+        &accept,
+        Ticks::new(rt),
+        plan.sessions,
+    );
+    // where it can't be removed, what is left of it keeps nobody from the report
+    let _ = fs::remove_file(rt, plan.socket);
+    match served {
+        Ok(Served { shared, posts }) => {
+            let seats = seats_of(rt, alloc, plan.sink, &shared, posts)?;
+            let Ok(_totals) = shared.gather(seats) else {
+                unreachable!();
+            };
+            print_domain(alloc, plan.domain, &shared.into_domain(), &mut io::writer(rt))
+        }
+        Err(Refusal::NoMemory) => Err(Fault::NoMemory),
+        Err(_) => Err(Fault::SocketFault),
+    }
+}
+
+/// A post at each seat, in their order. Refused by `NoMemory`.
+fn posts_of<C: Ledger, F: Ledger, S: Ledger, G: Ledger>(
+    alloc: Global,
+    seats: Vec<Seat<C, F, S, G>>,
+) -> Result<Vec<Post<C, F, S, G>>, Fault<'static>>
+    ensures { IfOk result (λ v. map (λ p. p.seat) v.items ≡ seats.items) }
+{
+    let Ok(mut posts) = Vec::with_capacity(alloc, seats.len()) else {
+        return Err(Fault::NoMemory);
+    };
+    for seat in seats {
+        let Ok(()) = posts.push(Post::new(alloc, seat)) else {
+            unreachable!();
+        };
+    }
+    Ok(posts)
+}
+
+/// So many sinks, each with this file opened for appending. Refused by `NoMemory` and by `CannotOpenSink`.
+fn open_sinks<R: Files<File = File>>(
+    rt: &R,
+    alloc: Global,
+    path: &str,
+    count: usize,
+) -> Result<Vec<RecordSink<FileDevice>>, Fault<'static>>
+    ensures { IfOk result (λ v. vec_len v ≡ count) }
+{
+    let Ok(mut sinks) = Vec::with_capacity(alloc, count) else {
+        return Err(Fault::NoMemory);
+    };
+    for _ in 0..count {
+        let Ok(device) = FileDevice::open(rt, path) else {
+            return Err(Fault::CannotOpenSink);
+        };
+        let Ok(()) = sinks.push(RecordSink::new(device)) else {
+            unreachable!();
+        };
+    }
+    Ok(sinks)
+}
+
+/// The posts' seats, in their order, once the clients that still wait were tried again. Refused by `NoMemory`.
+fn seats_of<R, Q, C, F, S, G>(
+    rt: &R,
+    alloc: Global,
+    path: &str,
+    shared: &Shared<Q, C, F, S, G>,
+    posts: Vec<Post<C, F, S, G>>,
+) -> Result<Vec<Seat<C, F, S, G>>, Fault<'static>>
+where
+    R: Files<File = File>,
+    Q: Wait,
+    C: Ledger,
+    F: Ledger,
+    S: Ledger,
+    G: Ledger,
+    ensures { IfOk result (λ v. map (λ s. s.worker) v.items ≡ map (λ p. p.seat.worker) posts.items) }
+{
+    let Ok(mut seats) = Vec::with_capacity(alloc, posts.len()) else {
+        return Err(Fault::NoMemory);
+    };
+    let mut keeper = shared;
+    for post in posts {
+        let mut post = post;
+        if !post.waiting.is_empty() && let Ok(device) = FileDevice::open(rt, path) {
+            let _left = retry(&mut keeper, &mut post, &mut RecordSink::new(device));
+        }
+        let Post { seat, waiting: _ } = post;
+        let Ok(()) = seats.push(seat) else {
+            unreachable!();
+        };
+    }
+    Ok(seats)
+}
