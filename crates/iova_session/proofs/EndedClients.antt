@@ -13,7 +13,7 @@ use Rattle.iova_proto.specs.declared.request.Request.TheVariants as request
 use Rattle.iova_session.specs.declared.end.End.TheVariants as ends
 use Rattle.iova_session.specs.Sessions.{Serves, StopsAtBye}
 use Rattle.iova_session.specs.Pairs.{Pair, asked, told, requests_text, answers_text}
-use Rattle.iova_session.specs.Desks.{client_after, given_in, taken_in, given_by, taken_by, MovesBy, AreAnswers, IsFirstAnswer, client_behind, count_listed}
+use Rattle.iova_session.specs.Desks.{client_after, given_in, taken_in, given_by, taken_by, MovesBy, AreAnswers, IsFirstAnswer, next_client, count_listed}
 use Rattle.iova_session.specs.Posts.{EndsClientOf, EndsClient, EndsFrom}
 
 ended : (id : ℕ) (ps : List Pair) (told : Option Ending) (old held new : Totals) (was now : List ℕ) → MovesBy (given_in ps) (taken_in ps) old held → EndsFrom id told old held new was now
@@ -30,7 +30,7 @@ ended_opened id ps opened told old held new was now e some moved ends =
     subst (λ (o : Option ℕ). EndsClientOf o ps told old new was now) (sym some ∙ e) (ended id ps told old held new was now moved ends)
 
 -- without a client nothing is given or taken
-nothing_first : (number : ℕ) (r : Request) (a : Answer) → IsFirstAnswer number r a → client_behind None a ≡ None → (given_by a ≡ []) × (taken_by a ≡ [])
+nothing_first : (number : ℕ) (r : Request) (a : Answer) → IsFirstAnswer number r a → next_client None a ≡ None → (given_by a ≡ []) × (taken_by a ≡ [])
 nothing_first number (request.Hello domain sac) (answer.Opened id) h e = absurd cc
 nothing_first number (request.Hello domain sac) (answer.Refused x) h e = (refl, refl)
 nothing_first number (request.Hello domain sac) (answer.Given q) h e = absurd h
@@ -47,7 +47,7 @@ nothing_first number request.Flush a h e = (ap given_by h, ap taken_by h)
 nothing_first number request.Stat a h e = (ap given_by h, ap taken_by h)
 nothing_first number request.Bye a h e = (ap given_by h, ap taken_by h)
 
-still_some : (o : Option ℕ) (a : Answer) → IsSome o → IsSome (client_behind o a)
+still_some : (o : Option ℕ) (a : Answer) → IsSome o → IsSome (next_client o a)
 still_some o (answer.Opened id) some = refl
 still_some o (answer.Given q) some = some
 still_some o (answer.Queued q) some = some
@@ -59,21 +59,21 @@ still_some o answer.Bye some = some
 still_some o (answer.Refused x) some = some
 
 -- a session that has a client keeps one
-some_behind : (o : Option ℕ) (ps : List Pair) → IsSome o → client_after o ps ≡ None → ⊥
+some_after : (o : Option ℕ) (ps : List Pair) → IsSome o → client_after o ps ≡ None → ⊥
 unfolding client_after
-some_behind None ps some e = absurd cc
-some_behind (Some id) [] some e = absurd cc
-some_behind (Some id) (p ∷ ps) some e = some_behind (client_behind (Some id) p.answer) ps (still_some (Some id) p.answer some) e
+some_after None ps some e = absurd cc
+some_after (Some id) [] some e = absurd cc
+some_after (Some id) (p ∷ ps) some e = some_after (next_client (Some id) p.answer) ps (still_some (Some id) p.answer some) e
 
 none_first : (o : Option ℕ) (ps : List Pair) → client_after o ps ≡ None → o ≡ None
 none_first None ps e = refl
-none_first (Some id) ps e = absurd (some_behind (Some id) ps refl e)
+none_first (Some id) ps e = absurd (some_after (Some id) ps refl e)
 
 pub nothing_moved : (number listed : ℕ) (ps : List Pair) → AreAnswers number None listed ps → client_after None ps ≡ None → (given_in ps ≡ []) × (taken_in ps ≡ [])
 unfolding AreAnswers client_after given_in taken_in
 nothing_moved number listed [] h e = (refl, refl)
 nothing_moved number listed (p ∷ ps) h e =
-    let still = none_first (client_behind None p.answer) ps e in
+    let still = none_first (next_client None p.answer) ps e in
     let first = nothing_first number p.request p.answer h.0 still in
     let rest = nothing_moved number (listed + count_listed p.answer) ps (subst (λ (o : Option ℕ). AreAnswers number o (listed + count_listed p.answer) ps) still h.1) (subst (λ (o : Option ℕ). client_after o ps ≡ None) still e) in
     (rw first.0 rest.0, rw first.1 rest.1)
@@ -84,10 +84,10 @@ none_opened number ps opened old new was e none answers moved =
     let n = nothing_moved number 0 ps answers (sym e ∙ none) in
     let m = rw (n.0, n.1) at moved in
     let same : new ≡ old =
-      let count : new.count ≡ old.count = let c = ap (λ (t : Totals). t.count) m in omega (arith, c) in
-      let frames : new.frames ≡ old.frames = let c = ap (λ (t : Totals). t.frames) m in omega (arith, c) in
-      let sum_lo : new.sum_lo ≡ old.sum_lo = let c = ap (λ (t : Totals). t.sum_lo) m in omega (arith, c) in
-      λ i. record { count = count i; frames = frames i; sum_lo = sum_lo i } in
+    let count : new.count ≡ old.count = let c = ap (λ (t : Totals). t.count) m in omega (arith, c) in
+    let frames : new.frames ≡ old.frames = let c = ap (λ (t : Totals). t.frames) m in omega (arith, c) in
+    let sum_lo : new.sum_lo ≡ old.sum_lo = let c = ap (λ (t : Totals). t.sum_lo) m in omega (arith, c) in
+    λ i. record { count = count i; frames = frames i; sum_lo = sum_lo i } in
     subst (λ (o : Option ℕ). EndsClientOf o ps None old new was was) (sym none ∙ e) (refl, same, refl)
 
 -- a session of which nothing was read

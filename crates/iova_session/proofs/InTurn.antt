@@ -8,12 +8,12 @@ use Rattle.iova_proto.specs.declared.answer.Answer.TheVariants as answer
 use Rattle.iova_proto.specs.declared.request.Request.{Request}
 use Rattle.iova_proto.specs.declared.request.Request.TheVariants as request
 use Rattle.iova_session.specs.Pairs.{Pair}
-use Rattle.iova_session.specs.Desks.{client_behind, count_listed, client_after, listed_after, AreAnswers, IsAnswer, given_by, taken_by, given_in, taken_in}
+use Rattle.iova_session.specs.Desks.{next_client, count_listed, client_after, listed_after, AreAnswers, IsAnswer, given_by, taken_by, given_in, taken_in}
 
-pub client_after_more : (client : Option ℕ) (ps : List Pair) (p : Pair) → client_after client (ps ++ p ∷ []) ≡ client_behind (client_after client ps) p.answer
+pub client_after_more : (client : Option ℕ) (ps : List Pair) (p : Pair) → client_after client (ps ++ p ∷ []) ≡ next_client (client_after client ps) p.answer
 unfolding client_after
 client_after_more client [] p = refl
-client_after_more client (q ∷ ps) p = client_after_more (client_behind client q.answer) ps p
+client_after_more client (q ∷ ps) p = client_after_more (next_client client q.answer) ps p
 
 pub listed_after_more : (listed : ℕ) (ps : List Pair) (p : Pair) → listed_after listed (ps ++ p ∷ []) ≡ listed_after listed ps + count_listed p.answer
 unfolding listed_after
@@ -24,7 +24,7 @@ pub answers_more : (number : ℕ) (client : Option ℕ) (listed : ℕ) (ps : Lis
     → IsAnswer number (client_after client ps) (listed_after listed ps) p.request p.answer → AreAnswers number client listed (ps ++ p ∷ [])
 unfolding client_after listed_after AreAnswers
 answers_more number client listed [] p h a = (a, tt)
-answers_more number client listed (q ∷ ps) p h a = (h.0, answers_more number (client_behind client q.answer) (listed + count_listed q.answer) ps p h.1 a)
+answers_more number client listed (q ∷ ps) p h a = (h.0, answers_more number (next_client client q.answer) (listed + count_listed q.answer) ps p h.1 a)
 
 -- what a list may have keeps the limit
 pub list_fits : (number : ℕ) (client : Option ℕ) (listed : ℕ) (r : Request) (a : Answer) → listed ≤ MAX_LISTED → IsAnswer number client listed r a → listed + count_listed a ≤ MAX_LISTED

@@ -27,7 +27,7 @@ use Rattle.iova_proto.specs.declared.answer.Answer.{Answer}
 use Rattle.iova_proto.specs.declared.answer.Answer.TheVariants as answer
 use Rattle.iova_proto.specs.declared.request.Request.{Request}
 use Rattle.iova_proto.specs.declared.request.Request.TheVariants as request
-use Rattle.iova_session.specs.Desks.{IsClientAnswer, client_behind, client_after}
+use Rattle.iova_session.specs.Desks.{IsClientAnswer, next_client, client_after}
 use Rattle.iova_session.specs.Domains.{KeepsOthers, IsLeft, LeavesOthers}
 
 -- what is told of a client's end is what it came to, or nothing
@@ -210,7 +210,7 @@ pub end_keeps : OthersKeepTheirHoldings → (seat : SeatState) (left : Totals) (
     → TellsAtMost told result → WhereKnown a b (DoesEndClient seat left id result number before now) → WhereKnown a b (LeavesOthers (Some id) told)
 end_keeps law seat left id told result number before now a b m h =
     known_one a b (DoesEndClient seat left id result number before now) (LeavesOthers (Some id) told) h
-      (λ s t x. (leads_keep law id x.events s t (end_client_names id (λ other e. some_same e) x.allowed.0) x.leads, left_told id seat left told result number before now s t m x))
+    (λ s t x. (leads_keep law id x.events s t (end_client_names id (λ other e. some_same e) x.allowed.0) x.leads, left_told id seat left told result number before now s t m x))
 
 ask_keeps : OthersKeepTheirHoldings → (w id : ℕ) (a : Ask) (x : Told) (held : Totals) (s t : State) → DoesAsk w id a x held s t → KeepsOthers (Some id) s t
 ask_keeps law w id (ask.Alloc frames limit) x held s t h = λ other ne. takes_keep law s (step.Alloc w id frames limit) h.0 t h.2 other (λ e. ne e)
@@ -245,9 +245,9 @@ pub then_keeps : (c d : Option ℕ) (o a b : Option State) → (c ≡ None) ⊎ 
 then_keeps c d o a b e h k = both_keep d o a b (wider c d o a e h) k
 
 -- an answer to a session with a client opens none
-pub client_stays : (listed id : ℕ) (r : Request) (a : Answer) → IsClientAnswer listed r a → client_behind (Some id) a ≡ Some id
-client_stays listed id (request.Hello domain sac) a h = ap (client_behind (Some id)) h
-client_stays listed id request.Bye a h = ap (client_behind (Some id)) h
+pub client_stays : (listed id : ℕ) (r : Request) (a : Answer) → IsClientAnswer listed r a → next_client (Some id) a ≡ Some id
+client_stays listed id (request.Hello domain sac) a h = ap (next_client (Some id)) h
+client_stays listed id request.Bye a h = ap (next_client (Some id)) h
 client_stays listed id (request.Alloc frames limit) (answer.Opened n) h = absurd h
 client_stays listed id (request.Free lo) (answer.Opened n) h = absurd h
 client_stays listed id request.List (answer.Opened n) h = absurd h
@@ -265,13 +265,13 @@ client_stays listed id r (answer.Refused x) h = refl
 pub opened_keeps : (client : Option ℕ) (told : Option Ending) (o a b : Option State) (id : ℕ) → client ≡ Some id → WhereKnown o a (KeepsOthers client) → WhereKnown a b (LeavesOthers (Some id) told) → WhereKnown o b (LeavesOthers client told)
 opened_keeps client told o a b id e h k =
     subst (λ (c : Option ℕ). WhereKnown o b (LeavesOthers c told)) (sym e)
-      (known_both o a b (KeepsOthers (Some id)) (LeavesOthers (Some id) told) (LeavesOthers (Some id) told) (subst (λ (c : Option ℕ). WhereKnown o a (KeepsOthers c)) e h) k
-        (λ s m t x y. ((λ other ne. y.0 other ne ∙ x other ne), y.1)))
+    (known_both o a b (KeepsOthers (Some id)) (LeavesOthers (Some id) told) (LeavesOthers (Some id) told) (subst (λ (c : Option ℕ). WhereKnown o a (KeepsOthers c)) e h) k
+    (λ s m t x y. ((λ other ne. y.0 other ne ∙ x other ne), y.1)))
 
 pub unopened_keeps : (client : Option ℕ) (o a : Option State) → client ≡ None → WhereKnown o a (KeepsOthers client) → WhereKnown o a (LeavesOthers client None)
 unopened_keeps client o a e h =
     subst (λ (c : Option ℕ). WhereKnown o a (LeavesOthers c None)) (sym e)
-      (known_one o a (KeepsOthers None) (LeavesOthers None None) (subst (λ (c : Option ℕ). WhereKnown o a (KeepsOthers c)) e h) (λ s t x. (x, tt)))
+    (known_one o a (KeepsOthers None) (LeavesOthers None None) (subst (λ (c : Option ℕ). WhereKnown o a (KeepsOthers c)) e h) (λ s t x. (x, tt)))
 
 pub nothing_left : (o : Option State) → WhereKnown o o (LeavesOthers (client_after None []) None)
 unfolding client_after

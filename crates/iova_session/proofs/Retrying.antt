@@ -26,7 +26,7 @@ left_out (x ∷ xs) [] y h = absurd h
 left_out (x ∷ xs) (z ∷ ys) y (inl h) = inl (h.0, left_out xs ys y h.1)
 left_out (x ∷ xs) (z ∷ ys) y (inr h) = inr (left_out (x ∷ xs) ys y h)
 
--- one client is tried, and then those behind it
+-- one client is tried, and then those after it
 pub tried_first : (number : ℕ) (ids : List ℕ) (at id : ℕ) (result : Result Ending Refusal) (more : List ℕ) (seat mid left : SeatState) (before calls now : List Call) (o p q : Option State)
     → at < length ids → id ≡ get_or ids at id
     → WhereKnown o p (DoesEndClient seat mid.held id result number before calls)

@@ -29,9 +29,9 @@ same_totals a b count frames sum_lo = λ i. record { count = count i; frames = f
 pub moves_on : (g h t u : List Frames) (a b c : Totals) → MovesBy g t a b → MovesBy h u b c → MovesBy (g ++ h) (t ++ u) a c
 moves_on g h t u a b c x y =
     same_totals (add_totals c (totals_of (t ++ u))) (add_totals a (totals_of (g ++ h)))
-      (let e = ap (λ (t : Totals). t.count) x in let f = ap (λ (t : Totals). t.count) y in omega (arith, e, f, length-append g h, length-append t u))
-      (let e = ap (λ (t : Totals). t.frames) x in let f = ap (λ (t : Totals). t.frames) y in omega (arith, e, f, sum_by-append (λ (r : Frames). r.len) g h, sum_by-append (λ (r : Frames). r.len) t u))
-      (let e = ap (λ (t : Totals). t.sum_lo) x in let f = ap (λ (t : Totals). t.sum_lo) y in omega (arith, e, f, sum_by-append (λ (r : Frames). r.lo) g h, sum_by-append (λ (r : Frames). r.lo) t u))
+    (let e = ap (λ (t : Totals). t.count) x in let f = ap (λ (t : Totals). t.count) y in omega (arith, e, f, length-append g h, length-append t u))
+    (let e = ap (λ (t : Totals). t.frames) x in let f = ap (λ (t : Totals). t.frames) y in omega (arith, e, f, sum_by-append (λ (r : Frames). r.len) g h, sum_by-append (λ (r : Frames). r.len) t u))
+    (let e = ap (λ (t : Totals). t.sum_lo) x in let f = ap (λ (t : Totals). t.sum_lo) y in omega (arith, e, f, sum_by-append (λ (r : Frames). r.lo) g h, sum_by-append (λ (r : Frames). r.lo) t u))
 
 pub no_move : (a b : Totals) → b ≡ a → MovesBy [] [] a b
 no_move a b e = ap (λ (t : Totals). add_totals t (totals_of [])) e
@@ -40,14 +40,14 @@ no_move a b e = ap (λ (t : Totals). add_totals t (totals_of [])) e
 pub told_moves : (x : Told) (a b : Totals) → MovesTold x a b → MovesBy (given_by (answer_of x)) (taken_by (answer_of x)) a b
 told_moves (lock_told.Given r) a b m =
     same_totals (add_totals b (totals_of [])) (add_totals a (totals_of (r ∷ [])))
-      (let e = ap (λ (t : Totals). t.count) m in omega (arith, e))
-      (let e = ap (λ (t : Totals). t.frames) m in omega (arith, e))
-      (let e = ap (λ (t : Totals). t.sum_lo) m in omega (arith, e))
+    (let e = ap (λ (t : Totals). t.count) m in omega (arith, e))
+    (let e = ap (λ (t : Totals). t.frames) m in omega (arith, e))
+    (let e = ap (λ (t : Totals). t.sum_lo) m in omega (arith, e))
 told_moves (lock_told.Queued r) a b m =
     same_totals (add_totals b (totals_of (r ∷ []))) (add_totals a (totals_of []))
-      (let e = ap (λ (t : Totals). t.count) m in omega (arith, e))
-      (let e = ap (λ (t : Totals). t.frames) m in omega (arith, e))
-      (let e = ap (λ (t : Totals). t.sum_lo) m in omega (arith, e))
+    (let e = ap (λ (t : Totals). t.count) m in omega (arith, e))
+    (let e = ap (λ (t : Totals). t.frames) m in omega (arith, e))
+    (let e = ap (λ (t : Totals). t.sum_lo) m in omega (arith, e))
 told_moves (lock_told.Stat x) a b m = no_move a b m
 told_moves (lock_told.Refused e) a b m = no_move a b m
 
@@ -165,11 +165,11 @@ first_of [] d some = absurd (omega (arith, some))
 first_of (r ∷ rs) d some = search rules
 
 -- one request is asked
-pub one_asked : (rs : List Request) (d : Request) (a : Answer) (s t : SessionState) (before behind : List Answer) (held left : Totals) → 1 ≤ length rs
-    → t.number ≡ s.number → t.pairs ≡ s.pairs ++ record { request = get_or rs 0 d; answer = a } ∷ [] → behind ≡ before ++ a ∷ [] → MovesBy (given_by a) (taken_by a) held left
-    → Answers rs 1 s t before behind held left
+pub one_asked : (rs : List Request) (d : Request) (a : Answer) (s t : SessionState) (before later : List Answer) (held left : Totals) → 1 ≤ length rs
+    → t.number ≡ s.number → t.pairs ≡ s.pairs ++ record { request = get_or rs 0 d; answer = a } ∷ [] → later ≡ before ++ a ∷ [] → MovesBy (given_by a) (taken_by a) held left
+    → Answers rs 1 s t before later held left
 unfolding asked told given_in taken_in
-one_asked rs d a s t before behind held left some same added more moved = record {
+one_asked rs d a s t before later held left some same added more moved = record {
   pairs = record { request = get_or rs 0 d; answer = a } ∷ [];
   same = same;
   added = added;
@@ -187,9 +187,9 @@ unfolding taken_in
 taken_join ps qs = search (rules, common_steps)
 
 -- a session's pairs move the shares on
-pub moved_on : (rs : List Request) (count : ℕ) (s t : SessionState) (before behind : List Answer) (first held left : Totals) → MovesBy (given_in s.pairs) (taken_in s.pairs) first held
-    → Answers rs count s t before behind held left → MovesBy (given_in t.pairs) (taken_in t.pairs) first left
-moved_on rs count s t before behind first held left m a =
+pub moved_on : (rs : List Request) (count : ℕ) (s t : SessionState) (before later : List Answer) (first held left : Totals) → MovesBy (given_in s.pairs) (taken_in s.pairs) first held
+    → Answers rs count s t before later held left → MovesBy (given_in t.pairs) (taken_in t.pairs) first left
+moved_on rs count s t before later first held left m a =
     let all = moves_on (given_in s.pairs) (given_in a.pairs) (taken_in s.pairs) (taken_in a.pairs) first held left m a.shares in
     let g = ap given_in a.added ∙ given_join s.pairs a.pairs in
     let k = ap taken_in a.added ∙ taken_join s.pairs a.pairs in
@@ -200,10 +200,10 @@ unfolding given_in taken_in
 moved_none s first none = rw none (no_move first first refl)
 
 -- whether they were asked or not
-pub moved_either : (result : Result ℕ Refusal) (rs : List Request) (s t : SessionState) (before behind : List Answer) (first : Totals) (old new : SeatState) → MovesBy (given_in s.pairs) (taken_in s.pairs) first old.held
-    → IfOk result (λ n. Answers rs n s t before behind old.held new.held) → IfErr result (λ e. (e ≡ refusal.NoMemory) × (t ≡ s) × (behind ≡ before) × (new ≡ old))
+pub moved_either : (result : Result ℕ Refusal) (rs : List Request) (s t : SessionState) (before later : List Answer) (first : Totals) (old new : SeatState) → MovesBy (given_in s.pairs) (taken_in s.pairs) first old.held
+    → IfOk result (λ n. Answers rs n s t before later old.held new.held) → IfErr result (λ e. (e ≡ refusal.NoMemory) × (t ≡ s) × (later ≡ before) × (new ≡ old))
     → MovesBy (given_in t.pairs) (taken_in t.pairs) first new.held
-moved_either (Ok n) rs s t before behind first old new m ok err = moved_on rs n s t before behind first old.held new.held m ok
-moved_either (Err e) rs s t before behind first old new m ok err =
+moved_either (Ok n) rs s t before later first old new m ok err = moved_on rs n s t before later first old.held new.held m ok
+moved_either (Err e) rs s t before later first old new m ok err =
     subst (λ (x : SessionState). MovesBy (given_in x.pairs) (taken_in x.pairs) first new.held) (sym err.1)
-      (subst (λ (x : SeatState). MovesBy (given_in s.pairs) (taken_in s.pairs) first x.held) (sym err.3) m)
+    (subst (λ (x : SeatState). MovesBy (given_in s.pairs) (taken_in s.pairs) first x.held) (sym err.3) m)

@@ -22,16 +22,16 @@ use Rattle.iova_lock.specs.Batches.{IsToldOf}
 use Rattle.iova_session.specs.Pairs.{Pair, asked, told}
 
 -- The client of a session: the one that hello opened.
-abbrev pub client_behind : Option ℕ → Answer → Option ℕ
-client_behind client (answer.Opened id) = Some id
-client_behind client (answer.Given r) = client
-client_behind client (answer.Queued r) = client
-client_behind client (answer.Freed r) = client
-client_behind client (answer.Held ranges) = client
-client_behind client (answer.Flushed number freed) = client
-client_behind client (answer.Stat stat) = client
-client_behind client answer.Bye = client
-client_behind client (answer.Refused e) = client
+abbrev pub next_client : Option ℕ → Answer → Option ℕ
+next_client client (answer.Opened id) = Some id
+next_client client (answer.Given r) = client
+next_client client (answer.Queued r) = client
+next_client client (answer.Freed r) = client
+next_client client (answer.Held ranges) = client
+next_client client (answer.Flushed number freed) = client
+next_client client (answer.Stat stat) = client
+next_client client answer.Bye = client
+next_client client (answer.Refused e) = client
 
 -- how many ranges an answer lists
 abbrev pub count_listed : Answer → ℕ
@@ -69,10 +69,10 @@ taken_by (answer.Stat stat) = []
 taken_by answer.Bye = []
 taken_by (answer.Refused e) = []
 
--- the client behind these pairs, and how many ranges they list
+-- the client after these pairs, and how many ranges they list
 unfoldable pub client_after : Option ℕ → List Pair → Option ℕ
 client_after client [] = client
-client_after client (p ∷ ps) = client_after (client_behind client p.answer) ps
+client_after client (p ∷ ps) = client_after (next_client client p.answer) ps
 
 unfoldable pub listed_after : ℕ → List Pair → ℕ
 listed_after listed [] = listed
@@ -134,7 +134,7 @@ IsAnswer number (Some id) listed r a = IsClientAnswer listed r a
 unfoldable pub AreAnswers : ℕ → Option ℕ → ℕ → List Pair → Type 0
 AreAnswers number client listed [] = Unit {0}
 AreAnswers number client listed (p ∷ ps) =
-    IsAnswer number client listed p.request p.answer × AreAnswers number (client_behind client p.answer) (listed + count_listed p.answer) ps
+    IsAnswer number client listed p.request p.answer × AreAnswers number (next_client client p.answer) (listed + count_listed p.answer) ps
 
 -- The shares, raised by what was given and lowered by what was taken.
 abbrev pub MovesBy : List Frames → List Frames → Totals → Totals → Type 0
@@ -211,12 +211,12 @@ IsFirstAlone (request.Bye ∷ rs) = Unit {0}
 
 -- so many requests at the front were asked and answered: the session and the answers have the pairs more, and the shares moved
 -- by them
-pub record Answers (rs : List Request) (count : ℕ) (was now : SessionState) (before behind : List Answer) (old new : Totals) : Type 0 where
+pub record Answers (rs : List Request) (count : ℕ) (was now : SessionState) (before later : List Answer) (old new : Totals) : Type 0 where
   pub pairs : List Pair
   pub same : now.number ≡ was.number
   pub added : now.pairs ≡ was.pairs ++ pairs
   pub asked : asked pairs ≡ take count rs
-  pub told : behind ≡ before ++ told pairs
+  pub told : later ≡ before ++ told pairs
   pub shares : MovesBy (given_in pairs) (taken_in pairs) old new
 
 -- what a session leaves at a seat: its worker, its parts of the ledger, and a tally that grew by no more than the good calls of

@@ -11,7 +11,7 @@ use Rattle.iova_lock.specs.declared.ending.Ending.TheVariants as ending
 use Rattle.iova_session.specs.Pairs.{Pair}
 use Rattle.iova_session.specs.Desks.{client_after, given_in, taken_in}
 
--- What is told of the end of a session's client, by the shares of the seat before the session and behind it, and the clients that
+-- What is told of the end of a session's client, by the shares of the seat before the session and after it, and the clients that
 -- wait. Where it ended, the shares are as before, and what its end queued is what was given to it and not taken back. Where it
 -- waits, the count is greater by what it has left, and it is the last of those that wait.
 abbrev pub EndsClientOf : Option ℕ → List Pair → Option Ending → Totals → Totals → List ℕ → List ℕ → Type 0

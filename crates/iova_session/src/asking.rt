@@ -50,14 +50,7 @@ pub(crate) fn ask_first<C: Ledger, F: Ledger, S: Ledger, G: Ledger, K: Keep<C, F
 
 /// What a request is answered that isn't asked together with others, of a session with a client that was told `listed` ranges
 /// in lists.
-pub(crate) fn ask_alone<
-    C: Ledger,
-    F: Ledger,
-    S: Ledger,
-    G: Ledger,
-    K: Keep<C, F, S, G>,
-    D: Sink,
->(
+pub(crate) fn ask_alone<C: Ledger, F: Ledger, S: Ledger, G: Ledger, K: Keep<C, F, S, G>, D: Sink>(
     alloc: Global,
     keeper: &mut K,
     seat: &mut Seat<C, F, S, G>,
@@ -87,7 +80,11 @@ pub(crate) fn ask_alone<
         Request::List => list(alloc, keeper, seat, id, listed),
         Request::Flush => flush_and_drain(keeper, seat, sink),
         Request::Bye => Answer::Bye,
-        Request::Alloc { frames: _, limit: _ } | Request::Stat => unreachable!(),
+        Request::Alloc {
+            frames: _,
+            limit: _,
+        }
+        | Request::Stat => unreachable!(),
     }
 }
 
@@ -119,14 +116,7 @@ fn list<C: Ledger, F: Ledger, S: Ledger, G: Ledger, K: Keep<C, F, S, G>>(
 
 /// Flushes, and where that ended well drains all rings into the magazines of the seat's worker. Refused by `FlightsFull`,
 /// `Worn` and `SinkFault`; then nothing is drained.
-fn flush_and_drain<
-    C: Ledger,
-    F: Ledger,
-    S: Ledger,
-    G: Ledger,
-    K: Keep<C, F, S, G>,
-    D: Sink,
->(
+fn flush_and_drain<C: Ledger, F: Ledger, S: Ledger, G: Ledger, K: Keep<C, F, S, G>, D: Sink>(
     keeper: &mut K,
     seat: &mut Seat<C, F, S, G>,
     sink: &mut D,

@@ -15,8 +15,8 @@ use iova_lock::keep::Keep;
 use iova_lock::seat::Seat;
 use iova_proto::answer::Answer;
 use iova_proto::request::Request;
-use iova_range::refusal::Refusal;
 use iova_range::limits::MAX_RUN;
+use iova_range::refusal::Refusal;
 use iova_sink::sink::Sink;
 use std::alloc::Global;
 use std::marker::{Brand, PhantomData};
@@ -103,11 +103,14 @@ pub(crate) struct KeeperDesk<
 }
 
 impl<'a, C: Ledger, F: Ledger, S: Ledger, G: Ledger, K: Keep<C, F, S, G>, D: Sink, O: Opening> Desk
-    for KeeperDesk<'a, C, F, S, G, K, D, O>
-{
+    for KeeperDesk<'a, C, F, S, G, K, D, O> {
     ghost pairs = { λ d. d.session.pairs };
 
-    fn ask_run(&mut self, requests: &[Request], answers: &mut Vec<Answer>) -> Result<usize, Refusal> {
+    fn ask_run(
+        &mut self,
+        requests: &[Request],
+        answers: &mut Vec<Answer>,
+    ) -> Result<usize, Refusal> {
         ask_lent(
             self.alloc,
             &mut self.lent,
@@ -120,14 +123,7 @@ impl<'a, C: Ledger, F: Ledger, S: Ledger, G: Ledger, K: Keep<C, F, S, G>, D: Sin
 }
 
 /// `ask_front` over what the session is lent.
-fn ask_lent<
-    C: Ledger,
-    F: Ledger,
-    S: Ledger,
-    G: Ledger,
-    K: Keep<C, F, S, G>,
-    D: Sink,
->(
+fn ask_lent<C: Ledger, F: Ledger, S: Ledger, G: Ledger, K: Keep<C, F, S, G>, D: Sink>(
     alloc: Global,
     lent: &mut Lent<'_, C, F, S, G, K, D>,
     session: &mut Session,
@@ -148,20 +144,20 @@ fn ask_lent<
     ensures place { KeepsPlace lent.old.seat.now lent.new.seat.now (D.calls lent.old.sink.now) (D.calls lent.new.sink.now) }
 {
     ask_front(
-        alloc, lent.keeper, lent.seat, lent.sink, session, told, requests, answers,
+        alloc,
+        lent.keeper,
+        lent.seat,
+        lent.sink,
+        session,
+        told,
+        requests,
+        answers,
     )
 }
 
 /// Asks a front of the requests, at least one of them: with a client those that can be asked in one hold, else the first alone.
 /// Refused by `NoMemory` where there is no room for the answers; then nothing was asked.
-pub(crate) fn ask_front<
-    C: Ledger,
-    F: Ledger,
-    S: Ledger,
-    G: Ledger,
-    K: Keep<C, F, S, G>,
-    D: Sink,
->(
+pub(crate) fn ask_front<C: Ledger, F: Ledger, S: Ledger, G: Ledger, K: Keep<C, F, S, G>, D: Sink>(
     alloc: Global,
     keeper: &mut K,
     seat: &mut Seat<C, F, S, G>,

@@ -5,19 +5,23 @@ mod answering;
 mod asking;
 pub mod desk;
 pub mod end;
+#[cfg(test)]
+mod fault_tests;
+#[cfg(test)]
+mod fresh;
 mod gathering;
 mod keeper_desk;
 pub mod link;
 pub mod memory_link;
 pub mod pairs;
 pub mod post;
+#[cfg(test)]
+mod post_tests;
 pub mod retry;
 pub mod run;
 pub mod serve;
 mod session;
 pub mod socket_link;
-mod together;
-#[cfg(test)]
-mod post_tests;
 #[cfg(test)]
 mod tests;
+mod together;

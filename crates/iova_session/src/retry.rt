@@ -14,14 +14,7 @@ use std::sync::ledger::Ledger;
 
 /// Tries once to end each client that waits, in the order of the list, and gives how many are left. One that is gone leaves
 /// the list, and so does one that isn't known any more. Takes no memory. Own.
-pub fn retry<
-    C: Ledger,
-    F: Ledger,
-    S: Ledger,
-    G: Ledger,
-    K: Keep<C, F, S, G>,
-    D: Sink,
->(
+pub fn retry<C: Ledger, F: Ledger, S: Ledger, G: Ledger, K: Keep<C, F, S, G>, D: Sink>(
     keeper: &mut K,
     post: &mut Post<C, F, S, G>,
     sink: &mut D,

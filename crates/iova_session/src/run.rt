@@ -40,15 +40,7 @@ pub struct SessionEnd {
 
 /// What serving came to, and what it was lent.
 #[derive(Drop)]
-struct Served<
-    'a,
-    C: Ledger,
-    F: Ledger,
-    S: Ledger,
-    G: Ledger,
-    K: Keep<C, F, S, G>,
-    D: Sink,
-> {
+struct Served<'a, C: Ledger, F: Ledger, S: Ledger, G: Ledger, K: Keep<C, F, S, G>, D: Sink> {
     end: End,
     client: Option<ClientId>,
     lent: Lent<'a, C, F, S, G, K, D>,
@@ -65,11 +57,7 @@ fn serve_lent<
     D: Sink,
     L: Link,
     O: Opening,
->(
-    alloc: Global,
-    link: &mut L,
-    lent: Lent<'a, C, F, S, G, K, D>,
-) -> Served<'a, C, F, S, G, K, D>
+>(alloc: Global, link: &mut L, lent: Lent<'a, C, F, S, G, K, D>) -> Served<'a, C, F, S, G, K, D>
     requires names { (lent.keeper.ghost_name ≡ O.keeper_name) × (lent.seat.ghost_name ≡ O.seat_name) × (lent.sink.ghost_name ≡ O.sink_name) }
     requires number { K.domain_number lent.keeper.now ≡ O.number }
     requires domain { K.domain lent.keeper.now ≡ O.domain }
@@ -109,15 +97,7 @@ fn serve_lent<
 }
 
 /// Serves a session of the seat's worker, and gives how it ended and the client that it opened.
-fn serve_at<
-    C: Ledger,
-    F: Ledger,
-    S: Ledger,
-    G: Ledger,
-    K: Keep<C, F, S, G>,
-    D: Sink,
-    L: Link,
->(
+fn serve_at<C: Ledger, F: Ledger, S: Ledger, G: Ledger, K: Keep<C, F, S, G>, D: Sink, L: Link>(
     alloc: Global,
     link: &mut L,
     keeper: &mut K,
@@ -195,14 +175,7 @@ pub fn run_session<
 
 /// Ends the client that a session opened, and puts it on the list where it waits. `before` are the shares of before the
 /// session: none where those of after it aren't as they have to be.
-fn end_opened<
-    C: Ledger,
-    F: Ledger,
-    S: Ledger,
-    G: Ledger,
-    K: Keep<C, F, S, G>,
-    D: Sink,
->(
+fn end_opened<C: Ledger, F: Ledger, S: Ledger, G: Ledger, K: Keep<C, F, S, G>, D: Sink>(
     keeper: &mut K,
     post: &mut Post<C, F, S, G>,
     sink: &mut D,

@@ -25,7 +25,7 @@ const TEXT: usize = 4096;
 
 /// Serves the peer at the other end of the link until the session ends: reads lines, asks the desk in runs of 1 to
 /// 16 requests, and writes the answers to each run before the next. It reads no more while a whole request that was
-/// read is not answered. A bad line is answered `no 20 BadLine`, the 65,537th request and the read behind 1,048,576
+/// read is not answered. A bad line is answered `no 20 BadLine`, the 65,537th request and the read after 1,048,576
 /// ones `no 21 TooMany`, and each of them ends the session; what stands at the end of the link without an LF is
 /// dropped. `NoMemory` comes where a growth was refused, the desk's too: the requests of that run are not asked, or
 /// not answered. Own.

@@ -1,6 +1,6 @@
 //! What a session has come to: its client, how many ranges it was told in lists, and its requests with their answers.
 ghost use Rattle.std.specs.Prelude.{◌≡◌, ◌+◌, ◌++◌, ◌∷◌, [], None};
-ghost use Rattle.iova_session.specs.Desks.{SessionState, IsAnswer, client_behind as behind, count_listed as listed_in};
+ghost use Rattle.iova_session.specs.Desks.{SessionState, IsAnswer, next_client as the_next_client, count_listed as listed_in};
 
 use crate::pairs::Pairs;
 use iova_core::ClientId;
@@ -67,23 +67,23 @@ impl Session {
     pub(crate) fn add(&mut self, request: Request, answer: &Answer)
         requires { IsAnswer self.old.number self.old.client self.old.listed request answer.now }
         ensures { self.new ≡ record {
-            number = self.old.number;
-            client = behind self.old.client answer.now;
-            listed = self.old.listed + listed_in answer.now;
-            pairs = self.old.pairs ++ record { request = request; answer = answer.now } ∷ [];
+          number = self.old.number;
+          client = the_next_client self.old.client answer.now;
+          listed = self.old.listed + listed_in answer.now;
+          pairs = self.old.pairs ++ record { request = request; answer = answer.now } ∷ [];
         } }
     {
         let listed = self.listed + count_listed(answer);
-        let client = client_behind(self.client, answer);
+        let client = next_client(self.client, answer);
         self.log.add(request, answer);
         self.listed = listed;
         self.client = client;
     }
 }
 
-/// The session's client behind this answer.
-fn client_behind(client: Option<ClientId>, answer: &Answer) -> Option<ClientId>
-    ensures { result ≡ behind client answer.now }
+/// The session's client after this answer.
+fn next_client(client: Option<ClientId>, answer: &Answer) -> Option<ClientId>
+    ensures { result ≡ the_next_client client answer.now }
 {
     match answer {
         Answer::Opened(id) => Some(*id),

@@ -347,7 +347,7 @@ fn a_session_over_a_socket(rt: HostRuntime) -> Result<(), Fail> {
     Ok(())
 }
 
-// A peer that sends a request and goes: the answer to it finds nobody, or the read behind it the end.
+// A peer that sends a request and goes: the answer to it finds nobody, or the read after it the end.
 #[test]
 fn a_peer_that_goes(rt: HostRuntime) -> Result<(), Fail> {
     let (mut peer, stream) = UnixStream::pair(&rt)?;

@@ -19,13 +19,7 @@ use std::sync::ledger::Ledger;
 /// Asks the longest front of `alloc`, `free` and `stat` in one hold, up to the first free whose ring is full, and gives how
 /// many were asked. `told` is room for what the lock tells. Refused by `NoMemory` where that has to grow and can't; then
 /// nothing was asked.
-pub(crate) fn ask_together<
-    C: Ledger,
-    F: Ledger,
-    S: Ledger,
-    G: Ledger,
-    K: Keep<C, F, S, G>,
->(
+pub(crate) fn ask_together<C: Ledger, F: Ledger, S: Ledger, G: Ledger, K: Keep<C, F, S, G>>(
     keeper: &mut K,
     seat: &mut Seat<C, F, S, G>,
     session: &mut Session,

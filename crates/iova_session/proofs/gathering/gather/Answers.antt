@@ -42,7 +42,7 @@ returns-then-len-left-clause-gathered c =
       (
         inv.next ++ rest,
         IsLines-rest inv.kept c.args.piece.now inv.next c.gathering.run.items c.gathering.used inv.lines,
-        begins_request inv.next rest c.in-Request.request c.in-Request.more f.1,
+        begins_request inv.next rest c.in-Request.request c.in-Request.more f.spells,
       ),
     )
 
@@ -57,7 +57,7 @@ returns-then-is_bye-clause-gathered c =
     if_kept c.args.lines.now inv.kept P inv.began (
       rw c.push.ensures.items one,
       IsLines-one inv.kept c.args.piece.now inv.next c.gathering.run.items after c.in-Request.request c.gathering.used c.in-Request.more
-          inv.used inv.lines f.1 c.push.ensures.items,
+          inv.used inv.lines f.spells c.push.ensures.items,
     )
 
 pub returns-then-len-eq-MAX_RUN-clause-gathered : goal.returns-then-len-eq-MAX_RUN-clause-gathered
@@ -70,8 +70,8 @@ returns-then-len-eq-MAX_RUN-clause-gathered c =
     if_kept c.args.lines.now inv.kept P inv.began (
       no_bye_more c.gathering.run.items after c.in-Request.request inv.none (λ e. let t = c.is_bye.ensures.1 e in cc) c.push.ensures.items,
       IsLines-one inv.kept c.args.piece.now inv.next c.gathering.run.items after c.in-Request.request c.gathering.used c.in-Request.more
-          inv.used inv.lines f.1 c.push.ensures.items,
-      f.2,
+          inv.used inv.lines f.spells c.push.ensures.items,
+      f.next_is,
     )
 
 pub gathering-preserved : goal.gathering-preserved
@@ -81,7 +81,7 @@ gathering-preserved c =
     let after = c.push.new.self.items in
     let f : Feeds inv.next rest (fed.Request c.in-Request.request c.in-Request.more) c.feed.new.self = rw inv.now at c.in-Request.ensures.fed in
     let grown : length after ≡ length c.gathering.run.items + 1 = ap length c.push.ensures.items ∙ grind (arith, length-append) in
-    let fits : c.in-Request.more ≤ length rest = f.0 in record {
+    let fits : c.in-Request.more ≤ length rest = f.within in record {
       used = omega (arith, length-take {A = ℕ}, length-drop {A = ℕ}, fits, inv.used);
       room = omega arith;
       within = omega arith;
@@ -89,7 +89,7 @@ gathering-preserved c =
       kept = inv.kept;
       next = [];
       began = inv.began;
-      now = f.2;
+      now = f.next_is;
       lines = IsLines-one inv.kept c.args.piece.now inv.next c.gathering.run.items after c.in-Request.request c.gathering.used c.in-Request.more
-          inv.used inv.lines f.1 c.push.ensures.items;
+          inv.used inv.lines f.spells c.push.ensures.items;
     }

@@ -17,37 +17,37 @@ trying-preserved g c =
     let there : id ≡ get_or old c.trying.at id = kept_there old c.trying.post.waiting.items c.trying.at c.trying.left id lt c.index-id.ensures i.tried in
     let does = rw i.number at n.domain in
     elim c.if-waits.branch [
-      then-waits w ↦
-        let yes = sym c.waits.ensures ∙ w.if-waits.true in
-        let next = one_kept old c.trying.post.waiting.items c.trying.at c.trying.left id lt c.index-id.ensures i.tried in
-        let seat : c.if-waits.post.seat ≡ c.end_client.new.seat = rw w.post-is refl in
-        record {
-          tried = rw (w.post-is, w.left-is) next;
-          number = n.number ∙ i.number;
-          place = rw seat (record { worker = n.worker ∙ i.place.worker; parts = n.parts ∙ i.place.parts; tally = omega (arith, n.tally, i.place.tally) });
-          goes_on = λ more left now o k.
-            let first = tried_first _ old c.trying.at id c.end_client.result more c.trying.post.seat c.end_client.new.seat left _ _ now _ _ o lt there does (rw seat at k) in
-            let kept = rw yes at first in
-            let before = i.goes_on (id ∷ more) left now o kept in
-            let here : c.trying.left < length c.trying.post.waiting.items = omega (arith, lt, i.tried.few, i.tried.long) in
-            let same = kept_more c.trying.post.waiting.items more c.trying.left id here in
-            let moved = rw same at before in
-            rw (w.post-is, w.left-is) moved;
-        }
-    | else-waits w ↦
-        let no = sym c.waits.ensures ∙ w.if-waits.false in
-        let next = one_gone old c.trying.post.waiting.items c.trying.at c.trying.left id lt i.tried in
-        let seat : c.if-waits.post.seat ≡ c.end_client.new.seat = rw w.post-is refl in
-        record {
-          tried = rw (w.post-is, w.left-is) next;
-          number = n.number ∙ i.number;
-          place = rw seat (record { worker = n.worker ∙ i.place.worker; parts = n.parts ∙ i.place.parts; tally = omega (arith, n.tally, i.place.tally) });
-          goes_on = λ more left now o k.
-            let first = tried_first _ old c.trying.at id c.end_client.result more c.trying.post.seat c.end_client.new.seat left _ _ now _ _ o lt there does (rw seat at k) in
-            let kept = rw no at first in
-            let before = i.goes_on more left now o kept in
-            rw (w.post-is, w.left-is) before;
-        }
+      | then-waits w ↦
+          let yes = sym c.waits.ensures ∙ w.if-waits.true in
+          let next = one_kept old c.trying.post.waiting.items c.trying.at c.trying.left id lt c.index-id.ensures i.tried in
+          let seat : c.if-waits.post.seat ≡ c.end_client.new.seat = rw w.post-is refl in
+          record {
+            tried = rw (w.post-is, w.left-is) next;
+            number = n.number ∙ i.number;
+            place = rw seat (record { worker = n.worker ∙ i.place.worker; parts = n.parts ∙ i.place.parts; tally = omega (arith, n.tally, i.place.tally) });
+            goes_on = λ more left now o k.
+                let first = tried_first _ old c.trying.at id c.end_client.result more c.trying.post.seat c.end_client.new.seat left _ _ now _ _ o lt there does (rw seat at k) in
+                let kept = rw yes at first in
+                let before = i.goes_on (id ∷ more) left now o kept in
+                let here : c.trying.left < length c.trying.post.waiting.items = omega (arith, lt, i.tried.few, i.tried.long) in
+                let same = kept_more c.trying.post.waiting.items more c.trying.left id here in
+                let moved = rw same at before in
+                rw (w.post-is, w.left-is) moved;
+          }
+      | else-waits w ↦
+          let no = sym c.waits.ensures ∙ w.if-waits.false in
+          let next = one_gone old c.trying.post.waiting.items c.trying.at c.trying.left id lt i.tried in
+          let seat : c.if-waits.post.seat ≡ c.end_client.new.seat = rw w.post-is refl in
+          record {
+            tried = rw (w.post-is, w.left-is) next;
+            number = n.number ∙ i.number;
+            place = rw seat (record { worker = n.worker ∙ i.place.worker; parts = n.parts ∙ i.place.parts; tally = omega (arith, n.tally, i.place.tally) });
+            goes_on = λ more left now o k.
+                let first = tried_first _ old c.trying.at id c.end_client.result more c.trying.post.seat c.end_client.new.seat left _ _ now _ _ o lt there does (rw seat at k) in
+                let kept = rw no at first in
+                let before = i.goes_on more left now o kept in
+                rw (w.post-is, w.left-is) before;
+          }
     ]
 
 pub returns-clause-domain : goal.returns-clause-domain

@@ -17,7 +17,7 @@ returns-else-eq-clause-domain g c = end_keeps c.others_keep_their_holdings.ensur
 pub returns-then-eq-2-clause-domain : goal.returns-then-eq-2-clause-domain
 returns-then-eq-2-clause-domain g c =
     end_keeps c.others_keep_their_holdings.ensures c.args.post.now.seat _ c.args.id (Some (ending.Waiting c.in-Ok-Waiting.left c.in-Ok-Waiting.why)) c.end_client.result _ _ _ _ _
-      (c.in-Ok-Waiting.is ∙ ap Ok c.in-Ok-Waiting.field-0-is) c.end_client.ensures.domain
+    (c.in-Ok-Waiting.is ∙ ap Ok c.in-Ok-Waiting.field-0-is) c.end_client.ensures.domain
 
 pub returns-else-eq-2-clause-domain : goal.returns-else-eq-2-clause-domain
 returns-else-eq-2-clause-domain g c = end_keeps c.others_keep_their_holdings.ensures c.args.post.now.seat _ c.args.id None c.end_client.result _ _ _ _ _ tt c.end_client.ensures.domain

@@ -11,14 +11,33 @@ returns-then-is_err-clause-session g c =
 
 pub returns-in-None-clause-session : goal.returns-in-None-clause-session
 returns-in-None-clause-session g c =
-    let h = c.serve_at-end.ensures.session in
-    (h.0, h.1, h.2, h.3, h.4, h.5, h.6, h.7, h.8,
+    let h = c.serve_at-end.ensures.session in (
+      h.0,
+      h.1,
+      h.2,
+      h.3,
+      h.4,
+      h.5,
+      h.6,
+      h.7,
+      h.8,
       rw c.try_reserve.ensures.items (none_opened _ h.1 c.serve_at-end.result.1 _ _ _ h.9 c.in-None.is h.8 h.10),
-      unopened_keeps (client_after None h.1) _ _ (sym h.9 ∙ c.in-None.is) (rw h.9 at c.serve_at-end.ensures.domain))
+      unopened_keeps (client_after None h.1) _ _ (sym h.9 ∙ c.in-None.is) (rw h.9 at c.serve_at-end.ensures.domain),
+    )
 
 pub returns-in-Some-clause-session : goal.returns-in-Some-clause-session
 returns-in-Some-clause-session g c =
     let h = c.serve_at-end.ensures.session in
-    let ended = rw (c.shares_of-before.ensures, c.try_reserve.ensures.items) at c.end_opened-client.ensures.ended in
-    (h.0, h.1, h.2, h.3, h.4, h.5, h.6, h.7, h.8, ended_opened c.in-Some.id h.1 c.serve_at-end.result.1 _ _ _ _ _ _ h.9 c.in-Some.is h.10 ended,
-      opened_keeps (client_after None h.1) c.end_opened-client.result _ _ _ c.in-Some.id (sym h.9 ∙ c.in-Some.is) (rw h.9 at c.serve_at-end.ensures.domain) c.end_opened-client.ensures.domain)
+    let ended = rw (c.shares_of-before.ensures, c.try_reserve.ensures.items) at c.end_opened-client.ensures.ended in (
+      h.0,
+      h.1,
+      h.2,
+      h.3,
+      h.4,
+      h.5,
+      h.6,
+      h.7,
+      h.8,
+      ended_opened c.in-Some.id h.1 c.serve_at-end.result.1 _ _ _ _ _ _ h.9 c.in-Some.is h.10 ended,
+      opened_keeps (client_after None h.1) c.end_opened-client.result _ _ _ c.in-Some.id (sym h.9 ∙ c.in-Some.is) (rw h.9 at c.serve_at-end.ensures.domain) c.end_opened-client.ensures.domain,
+    )

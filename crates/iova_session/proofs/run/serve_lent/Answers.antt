@@ -9,7 +9,7 @@ pub invariant_of-desk-clause-shares : goal.invariant_of-desk-clause-shares
 invariant_of-desk-clause-shares g c =
     let none = ap (λ (s : SessionState). s.pairs) c.new-session.ensures in
     subst (λ (x : SeatState). MovesBy (given_in c.new-session.result.pairs) (taken_in c.new-session.result.pairs) x.held c.args.lent.seat.now.held) c.requires.seat
-      (moved_none c.new-session.result c.args.lent.seat.now.held none)
+    (moved_none c.new-session.result c.args.lent.seat.now.held none)
 
 pub invariant_of-desk-clause-others : goal.invariant_of-desk-clause-others
 invariant_of-desk-clause-others g c = same_known _ _ _ c.requires.domain

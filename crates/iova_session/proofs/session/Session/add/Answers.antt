@@ -1,6 +1,6 @@
 use Rattle.std.proofs.Common.{◌≡◌, ◌+◌, ◌≤◌, ◌<◌, ◌^◌, None, refl, sym, ap, ◌∙◌, subst, arith, rules}
 use Rattle.iova_range.specs.declared.limits.TheConstants.{MAX_LISTED}
-use Rattle.iova_session.specs.Desks.{SessionState, IsAnswer, client_behind, count_listed, client_after, listed_after, AreAnswers}
+use Rattle.iova_session.specs.Desks.{SessionState, IsAnswer, next_client, count_listed, client_after, listed_after, AreAnswers}
 use Rattle.iova_session.specs.Pairs.{Pair}
 use Rattle.iova_session.proofs.InTurn.{client_after_more, listed_after_more, answers_more, list_fits}
 use Rattle.iova_session.proofs.session.Session.add.Goals as goal
@@ -19,7 +19,8 @@ invariant_of-self c =
     let fits = list_fits c.self.inside.number c.self.inside.client c.self.inside.listed _ _ c.self.invariant.2 ok in
     let turn = rw (c.self.invariant.0, c.self.invariant.1) at ok in
     rw c.add.ensures (
-      c.client_behind-client.ensures ∙ ap (λ x. client_behind x c.args.answer.now) c.self.invariant.0 ∙ sym (client_after_more None c.self.inside.log p),
+      c.next_client-client.ensures ∙ ap (λ x. next_client x c.args.answer.now) c.self.invariant.0 ∙ sym (client_after_more None c.self.inside.log p),
       ap (λ n. c.self.inside.listed + n) c.count_listed.ensures ∙ ap (λ n. n + count_listed c.args.answer.now) c.self.invariant.1 ∙ sym (listed_after_more 0 c.self.inside.log p),
       rw c.count_listed.ensures fits,
-      answers_more c.self.inside.number None 0 c.self.inside.log p c.self.invariant.3 turn)
+      answers_more c.self.inside.number None 0 c.self.inside.log p c.self.invariant.3 turn,
+    )

@@ -1,0 +1,191 @@
+//! One session at a post of a fresh domain, for tests: over a book, and under a lock.
+ghost use Rattle.std.specs.Prelude.{◌≡◌, ◌≤◌};
+ghost use Rattle.iova_range.specs.declared.limits.TheConstants.{TALLY_PARTS};
+
+use crate::memory_link::MemoryLink;
+use crate::post::Post;
+use crate::retry::retry;
+use crate::run::{SessionEnd, run_session};
+use iova_core::domain::Domain;
+use iova_lock::book::Book;
+use iova_lock::keep::Keep;
+use iova_lock::shared::Shared;
+use iova_range::bounds::Bounds;
+use iova_range::refusal::Refusal;
+use iova_range::stat::Stat;
+use iova_sink::memory::MemorySink;
+use std::alloc::Global;
+use std::marker::Brand;
+use std::sync::Wait;
+use std::sync::ledger::{Blank, Ledger};
+
+/// What a peer sends before it ends, how many bytes a call moves, and which call of the link and of the sink fails (0:
+/// none).
+#[derive(Clone, Copy)]
+pub(crate) struct Script<'a> {
+    pub(crate) input: &'a [u8],
+    pub(crate) most: usize,
+    pub(crate) fail_at: u64,
+    pub(crate) sink_fail_at: u64,
+}
+
+/// What a session came to: what it was answered, its end, the seat's shares and the domain's numbers after it, how many
+/// clients wait, and how many wait still once they were tried again, with the numbers then.
+#[derive(Drop)]
+pub(crate) struct Seen {
+    pub(crate) sent: Vec<u8>,
+    pub(crate) end: SessionEnd,
+    pub(crate) shares: (u64, u64, u64),
+    pub(crate) stat: Stat,
+    pub(crate) waiting: u64,
+    pub(crate) left: u64,
+    pub(crate) left_shares: (u64, u64, u64),
+    pub(crate) left_stat: Stat,
+}
+
+/// The seat's shares.
+pub(crate) fn shares_of<C: Ledger, F: Ledger, S: Ledger, G: Ledger>(
+    post: &Post<C, F, S, G>,
+) -> (u64, u64, u64) {
+    (post.seat.count(), post.seat.frames(), post.seat.sum_lo())
+}
+
+/// Runs a session, and then tries the clients that wait.
+pub(crate) fn one_session<C: Ledger, F: Ledger, S: Ledger, G: Ledger, K: Keep<C, F, S, G>>(
+    alloc: Global,
+    keeper: &mut K,
+    post: &mut Post<C, F, S, G>,
+    script: Script<'_>,
+) -> Result<Seen, Refusal>
+    requires { 1 ≤ script.most }
+{
+    let mut link = MemoryLink::new(alloc, script.input, script.most, script.fail_at);
+    let mut sink = MemorySink::new(script.sink_fail_at);
+    let end = run_session(alloc, &mut link, keeper, post, &mut sink);
+    let shares = shares_of(post);
+    let stat = keeper.stat();
+    let waiting = post.waiting.len() as u64;
+    let left = retry(keeper, post, &mut sink);
+    let Ok(sent) = Vec::from_slice(alloc, link.sent()) else {
+        return Err(Refusal::NoMemory);
+    };
+    Ok(Seen {
+        sent,
+        end,
+        shares,
+        stat,
+        waiting,
+        left,
+        left_shares: shares_of(post),
+        left_stat: keeper.stat(),
+    })
+}
+
+fn in_book<C: Ledger, F: Ledger, S: Ledger, G: Ledger>(
+    alloc: Global,
+    bounds: Bounds,
+    count: Blank,
+    frames: Blank,
+    sum_lo: Blank,
+    good: Blank,
+    script: Script<'_>,
+) -> Result<Seen, Refusal>
+    requires count { (count.name ≡ C.name) × (count.parts ≡ C.parts) × (count.parts ≡ 1) }
+    requires frames { (frames.name ≡ F.name) × (frames.parts ≡ F.parts) × (frames.parts ≡ 1) }
+    requires sum_lo { (sum_lo.name ≡ S.name) × (sum_lo.parts ≡ S.parts) × (sum_lo.parts ≡ 1) }
+    requires good { (good.name ≡ G.name) × (good.parts ≡ G.parts) × (good.parts ≡ TALLY_PARTS) }
+    requires most { 1 ≤ script.most }
+{
+    let (mut book, mut seats) = Book::<C, F, S, G>::new(
+        alloc, 0, bounds, 1, count, frames, sum_lo, good,
+    )?;
+    let Some(seat) = seats.pop() else {
+        return Err(Refusal::NoWorker);
+    };
+    let mut post = Post::new(alloc, seat);
+    one_session(alloc, &mut book, &mut post, script)
+}
+
+/// One session in a book of domain 0 with frames 1 to `last` and one worker.
+pub(crate) fn session_in_book(alloc: Global, last: u64, script: Script<'_>) -> Result<Seen, Refusal>
+    requires { 1 ≤ script.most }
+{
+    in_book::<Brand, Brand, Brand, Brand>(
+        alloc,
+        Bounds::new(1, last)?,
+        Blank::new(1),
+        Blank::new(1),
+        Blank::new(1),
+        Blank::new(256),
+        script,
+    )
+}
+
+// By value, so that the keeper is lent whatever it is.
+fn session_of<C: Ledger, F: Ledger, S: Ledger, G: Ledger, K: Keep<C, F, S, G> + Drop>(
+    alloc: Global,
+    mut keeper: K,
+    mut post: Post<C, F, S, G>,
+    script: Script<'_>,
+) -> Result<(Seen, Post<C, F, S, G>), Refusal>
+    requires { 1 ≤ script.most }
+{
+    let seen = one_session(alloc, &mut keeper, &mut post, script)?;
+    Ok((seen, post))
+}
+
+fn in_shared<C: Ledger, F: Ledger, S: Ledger, G: Ledger, R: Wait>(
+    rt: &R,
+    alloc: Global,
+    bounds: Bounds,
+    count: Blank,
+    frames: Blank,
+    sum_lo: Blank,
+    good: Blank,
+    script: Script<'_>,
+) -> Result<(Seen, Domain), Refusal>
+    requires count { (count.name ≡ C.name) × (count.parts ≡ C.parts) × (count.parts ≡ 1) }
+    requires frames { (frames.name ≡ F.name) × (frames.parts ≡ F.parts) × (frames.parts ≡ 1) }
+    requires sum_lo { (sum_lo.name ≡ S.name) × (sum_lo.parts ≡ S.parts) × (sum_lo.parts ≡ 1) }
+    requires good { (good.name ≡ G.name) × (good.parts ≡ G.parts) × (good.parts ≡ TALLY_PARTS) }
+    requires most { 1 ≤ script.most }
+{
+    let (shared, mut seats) = Shared::<&R, C, F, S, G>::new(
+        rt, alloc, 0, bounds, 1, count, frames, sum_lo, good,
+    )?;
+    let Some(seat) = seats.pop() else {
+        return Err(Refusal::NoWorker);
+    };
+    let lent = &shared;
+    let (seen, post) = session_of(alloc, lent, Post::new(alloc, seat), script)?;
+    let Post { seat, waiting: _ } = post;
+    seats.push(seat).or(Err(Refusal::NoMemory))?;
+    // the seat's shares are the totals under the lock
+    match shared.gather(seats) {
+        Ok(totals) if (totals.count, totals.frames, totals.sum_lo) == seen.left_shares => {}
+        _ => return Err(Refusal::NotHeld),
+    }
+    Ok((seen, shared.into_domain()))
+}
+
+/// One session under a lock round domain 0 with frames 1 to `last` and one worker. Then the seat is gathered: refused by
+/// `NotHeld` where its shares aren't the totals.
+pub(crate) fn session_under_lock<R: Wait>(
+    rt: &R,
+    alloc: Global,
+    last: u64,
+    script: Script<'_>,
+) -> Result<(Seen, Domain), Refusal>
+    requires { 1 ≤ script.most }
+{
+    in_shared::<Brand, Brand, Brand, Brand, R>(
+        rt,
+        alloc,
+        Bounds::new(1, last)?,
+        Blank::new(1),
+        Blank::new(1),
+        Blank::new(1),
+        Blank::new(256),
+        script,
+    )
+}
