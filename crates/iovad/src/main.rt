@@ -54,7 +54,7 @@ where
     match asked(rt.alloc(), words)? {
         Asked::Replay { path, has_report } => replay(rt, path, has_report),
         Asked::Serve(plan) => serve_plan(rt, &plan),
-        Asked::Ask { path } => ask(rt, path),
+        Asked::Ask { path } => ask_at(rt, path),
     }
 }
 
@@ -101,7 +101,7 @@ where
 }
 
 /// Asks the lines of standard input of the socket at this path, and prints the answers.
-fn ask<R>(rt: &R, path: &str) -> Result<(), Fault<'static>>
+fn ask_at<R>(rt: &R, path: &str) -> Result<(), Fault<'static>>
 where
     R: Runtime + AllocGlobal + Net,
 {

@@ -1,7 +1,9 @@
 //! A daemon's threads: a worker for each post, and a flusher beside them.
-ghost use Rattle.std.specs.Prelude.{◌≡◌, ◌+◌, ◌≤◌, IfOk, IfErr, ForSome, map, vec_len, slice_get};
+ghost use Rattle.std.specs.Prelude.{◌≡◌, ◌+◌, ◌≤◌, IfOk, IfErr, map, vec_len, slice_get};
+ghost use Rattle.std.specs.Option.{ForSome};
 ghost use Rattle.iovad.specs.Serving.{IsServeRefusal};
 
+mod crossing;
 mod flusher;
 mod noting;
 #[cfg(test)]
@@ -13,7 +15,6 @@ mod worker;
 use crate::accept::Accept;
 use crate::pause::Pause;
 use flusher::flush_on;
-use iova_lock::crossing::books_are_send;
 use iova_lock::seat::Tally;
 use iova_lock::shared::Shared;
 use iova_range::refusal::Refusal;
@@ -68,7 +69,7 @@ where
     F: Ledger + Send + Sync,
     S: Ledger + Send + Sync,
     G: Ledger + Send + Sync,
-    L: Link + Drop,
+    L: Link + Send + Drop,
     A: Accept<L> + Sync,
     D: Sink + Send + Drop,
     P: Pause + Drop,
@@ -114,7 +115,7 @@ where
     F: Ledger + Send + Sync,
     S: Ledger + Send + Sync,
     G: Ledger + Send + Sync,
-    L: Link + Drop,
+    L: Link + Send + Drop,
     A: Accept<L> + Sync,
     D: Sink + Send + Drop,
     P: Pause + Drop,
@@ -125,8 +126,6 @@ where
     ensures shared { IfOk result (λ s. s.shared ≡ shared) }
     ensures refusal { IfErr result IsServeRefusal }
 {
-    // for the proof: a book may go to another thread
-    books_are_send::<C, F, S, G>();
     let mut posts = posts;
     let tally = posts[0].seat.tally().split();
     let turns = Turns::new(sessions);
@@ -158,7 +157,7 @@ where
     F: Ledger + Send + Sync,
     S: Ledger + Send + Sync,
     G: Ledger + Send + Sync,
-    L: Link + Drop,
+    L: Link + Send + Drop,
     A: Accept<L> + Sync,
     D: Sink + Send + Drop,
     P: Pause + Drop,
@@ -166,15 +165,13 @@ where
     ensures posts { IfOk result (λ v. map (λ p. p.seat.worker) v.items ≡ map (λ p. p.seat.worker) posts.items) }
     ensures refusal { IfErr result IsServeRefusal }
 {
-    // for the proof: a book may go to another thread
-    books_are_send::<C, F, S, G>();
     thread::scope(
         thread::scope_env(),
         rt,
         move |scope| -> Result<Vec<Post<C, F, S, G>>, Refusal>
             requires { vec_len sinks ≡ vec_len posts + 1 }
-            ensures { IfOk result (λ v. map (λ p. p.seat.worker) v.items ≡ map (λ p. p.seat.worker) posts.items) }
-            ensures { IfErr result IsServeRefusal }
+            ensures posts { IfOk result (λ v. map (λ p. p.seat.worker) v.items ≡ map (λ p. p.seat.worker) posts.items) }
+            ensures refusal { IfErr result IsServeRefusal }
         {
             run_all::<_, R, Q, N, C, F, S, G, L, A, D, P>(
                 scope, rt, alloc, notices, shared, posts, sinks, tally, accept, pause, turns, most,
@@ -207,7 +204,7 @@ where
     F: Ledger + Send + Sync + 's,
     S: Ledger + Send + Sync + 's,
     G: Ledger + Send + Sync + 's,
-    L: Link + Drop + 's,
+    L: Link + Send + Drop + 's,
     A: Accept<L> + Sync + 's,
     D: Sink + Send + Drop + 's,
     P: Pause + Drop,

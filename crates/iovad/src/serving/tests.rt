@@ -12,9 +12,11 @@ use doubles::{Counted, Row, Rows, Stops, Yields};
 use iova_lock::keep::Keep;
 use iova_model::totals::Totals;
 use iova_range::bounds::Bounds;
+use iova_range::limits::MAX_WORKERS;
 use iova_range::stat::Stat;
 use iova_sink::gate::{Flag, GateSink};
 use iova_sink::memory::MemorySink;
+use std::alloc::AllocError;
 use std::io::{ErrorKind, Read, Write};
 use std::marker::Brand;
 use std::net::Net;
@@ -24,6 +26,7 @@ use std::rt::Clock;
 use std::sync::ledger::Blank;
 use std::test::*;
 use std::{env, fs, io, process};
+use thiserror::Error;
 
 /// What serving left: the workers of the posts, what the domain holds, and the gathered totals.
 #[derive(Drop)]
@@ -33,7 +36,18 @@ struct Seen {
     totals: Totals,
 }
 
-/// Serves on a new domain 0 with so many workers; none where that was refused.
+/// Why a test's daemon didn't serve.
+#[derive(Clone, Copy, Debug, PartialEq, Eq, Error)]
+enum Unserved {
+    #[error("refused: {0}")]
+    Refused(Refusal),
+    #[error("not prepared")]
+    Unprepared,
+    #[error("a seat is missing")]
+    SeatMissing,
+}
+
+/// Serves on a new domain 0 with so many workers.
 fn serve_new<R, N, C, F, S, G, L, A, D, P>(
     rt: &R,
     alloc: Global,
@@ -49,7 +63,7 @@ fn serve_new<R, N, C, F, S, G, L, A, D, P>(
     pause: P,
     sessions: u64,
     most: usize,
-) -> Result<Result<Seen, Refusal>, Fail>
+) -> Result<Seen, Unserved>
 where
     R: Threads + Wait + Sync,
     N: Log + Sync,
@@ -57,7 +71,7 @@ where
     F: Ledger + Send + Sync,
     S: Ledger + Send + Sync,
     G: Ledger + Send + Sync,
-    L: Link + Drop,
+    L: Link + Send + Drop,
     A: Accept<L> + Sync,
     D: Sink + Send + Drop,
     P: Pause + Drop,
@@ -67,62 +81,74 @@ where
     requires sum_lo { (sum_lo.name ≡ S.name) × (sum_lo.parts ≡ S.parts) × (sum_lo.parts ≡ workers) }
     requires good { (good.name ≡ G.name) × (good.parts ≡ G.parts) × (good.parts ≡ TALLY_PARTS * workers) }
 {
-    let (shared, seats) = Shared::<&R, C, F, S, G>::new(
+    let Ok((shared, seats)) = Shared::<&R, C, F, S, G>::new(
         rt, alloc, 0, bounds, workers, count, frames, sum_lo, good,
-    )?;
+    ) else {
+        return Err(Unserved::Unprepared);
+    };
     let mut posts = Vec::new(alloc);
     for seat in seats {
-        posts.push(Post::new(alloc, seat))?;
+        let Ok(()) = posts.push(Post::new(alloc, seat)) else {
+            return Err(Unserved::Unprepared);
+        };
     }
     if posts.is_empty() || sinks.len() != posts.len() + 1 || posts[0].seat.tally().parts() < 2 {
-        return Err(Fail::from("as many sinks as workers, and one"));
+        return Err(Unserved::Unprepared);
     }
     let served = serve_most::<R, &R, N, C, F, S, G, L, A, D, P>(
         rt, alloc, notices, shared, posts, sinks, accept, pause, sessions, most,
     );
     let Served { shared, posts } = match served {
         Ok(served) => served,
-        Err(refusal) => return Ok(Err(refusal)),
+        Err(refusal) => return Err(Unserved::Refused(refusal)),
     };
     let mut workers = Vec::new(alloc);
     let mut seats = Vec::new(alloc);
     for post in posts {
-        workers.push(post.seat.worker())?;
-        seats.push(post.seat)?;
+        let Ok(()) = workers.push(post.seat.worker()) else {
+            return Err(Unserved::SeatMissing);
+        };
+        let Ok(()) = seats.push(post.seat) else {
+            return Err(Unserved::SeatMissing);
+        };
     }
     let stat = (&shared).stat();
     let Ok(totals) = shared.gather(seats) else {
-        return Err(Fail::from("a seat is missing"));
+        return Err(Unserved::SeatMissing);
     };
-    Ok(Ok(Seen {
+    Ok(Seen {
         workers,
         stat,
         totals,
-    }))
+    })
 }
 
-/// As `serve_new`, on ledgers of its own.
-fn serve_fresh<R, N, L, A, D, P>(
+/// Serves on frames 1 to 4095 with a worker for each sink but the last, and starts no more threads than `most`.
+fn serve_few<R, N, L, A, D, P>(
     rt: &R,
     alloc: Global,
     notices: &N,
-    bounds: Bounds,
-    workers: u64,
     sinks: Vec<D>,
     accept: &A,
     pause: P,
     sessions: u64,
     most: usize,
-) -> Result<Result<Seen, Refusal>, Fail>
+) -> Result<Seen, Unserved>
 where
     R: Threads + Wait + Sync,
     N: Log + Sync,
-    L: Link + Drop,
+    L: Link + Send + Drop,
     A: Accept<L> + Sync,
     D: Sink + Send + Drop,
     P: Pause + Drop,
-    requires { (1 ≤ workers) × (workers ≤ MAX_WORKERS) }
 {
+    let workers = sinks.len().saturating_sub(1) as u64;
+    let Ok(bounds) = Bounds::new(1, 4095) else {
+        return Err(Unserved::Unprepared);
+    };
+    if workers == 0 || workers > MAX_WORKERS {
+        return Err(Unserved::Unprepared);
+    }
     serve_new::<R, N, Brand, Brand, Brand, Brand, L, A, D, P>(
         rt,
         alloc,
@@ -141,6 +167,36 @@ where
     )
 }
 
+/// As `serve_few`, with as many threads as it takes.
+fn serve_fresh<R, N, L, A, D, P>(
+    rt: &R,
+    alloc: Global,
+    notices: &N,
+    sinks: Vec<D>,
+    accept: &A,
+    pause: P,
+    sessions: u64,
+) -> Result<Seen, Unserved>
+where
+    R: Threads + Wait + Sync,
+    N: Log + Sync,
+    L: Link + Send + Drop,
+    A: Accept<L> + Sync,
+    D: Sink + Send + Drop,
+    P: Pause + Drop,
+{
+    serve_few::<R, N, L, A, D, P>(
+        rt,
+        alloc,
+        notices,
+        sinks,
+        accept,
+        pause,
+        sessions,
+        usize::MAX,
+    )
+}
+
 const NOTHING: Totals = Totals {
     count: 0,
     frames: 0,
@@ -151,7 +207,7 @@ const NOTHING: Totals = Totals {
 const LEAVES_A_FRAME: &[u8] = b"hello iova1 0 dac\nalloc 1 9\nfree 9\nbye\n";
 
 /// Good sinks, so many.
-fn good_sinks(alloc: Global, n: u64) -> Result<Vec<MemorySink>, Fail> {
+fn good_sinks(alloc: Global, n: u64) -> Result<Vec<MemorySink>, AllocError> {
     let mut sinks = Vec::new(alloc);
     for _ in 0..n {
         sinks.push(MemorySink::new(0))?;
@@ -195,19 +251,7 @@ fn overlap(rt: HostRuntime) -> Result<(), Fail> {
     let notices = Counted::new();
     let accept = Rows::new(rt.alloc(), 0, &rows);
     let sinks = gate_sinks(rt.alloc(), 3, &inside, &open)?;
-    let bounds = Bounds::new(1, 1023)?;
-    let seen = serve_fresh(
-        &rt,
-        rt.alloc(),
-        &notices,
-        bounds,
-        2,
-        sinks,
-        &accept,
-        Stops,
-        2,
-        usize::MAX,
-    )??;
+    let seen = serve_fresh(&rt, rt.alloc(), &notices, sinks, &accept, Stops, 2)?;
     assert!(rt; flushed.is_raised());
     assert!(rt; open.is_raised());
     assert_eq!(rt; seen.workers.as_slice(), [0, 1].as_slice());
@@ -224,20 +268,8 @@ fn a_thread_that_cannot_be_started(rt: HostRuntime) -> Result<(), Fail> {
         let notices = Counted::new();
         let accept = Rows::new(rt.alloc(), 0, &[]);
         let sinks = good_sinks(rt.alloc(), 4)?;
-        let bounds = Bounds::new(1, 1023)?;
-        let seen = serve_fresh(
-            &rt,
-            rt.alloc(),
-            &notices,
-            bounds,
-            3,
-            sinks,
-            &accept,
-            Yields,
-            20,
-            most,
-        )?;
-        assert!(rt; matches!(seen, Err(Refusal::LinkFault)));
+        let seen = serve_few(&rt, rt.alloc(), &notices, sinks, &accept, Yields, 20, most);
+        assert!(rt; matches!(seen, Err(Unserved::Refused(Refusal::LinkFault))));
         assert_eq!(rt; accept.calls(), 0);
     }
     Ok(())
@@ -257,19 +289,7 @@ fn accepts_that_fail(rt: HostRuntime) -> Result<(), Fail> {
     let notices = Counted::new();
     let accept = Rows::new(rt.alloc(), 17, &rows);
     let sinks = good_sinks(rt.alloc(), 4)?;
-    let bounds = Bounds::new(1, 1023)?;
-    let seen = serve_fresh(
-        &rt,
-        rt.alloc(),
-        &notices,
-        bounds,
-        3,
-        sinks,
-        &accept,
-        Yields,
-        20,
-        usize::MAX,
-    )??;
+    let seen = serve_fresh(&rt, rt.alloc(), &notices, sinks, &accept, Yields, 20)?;
     assert_eq!(rt; accept.calls(), 20);
     assert!(rt; first.is_raised() && second.is_raised() && third.is_raised());
     assert_eq!(rt; seen.workers.as_slice(), [0, 1, 2].as_slice());
@@ -295,19 +315,7 @@ fn the_flusher_drains(rt: HostRuntime) -> Result<(), Fail> {
     let notices = Counted::new();
     let accept = Rows::new(rt.alloc(), 0, &rows);
     let sinks = gate_sinks(rt.alloc(), 2, &inside, &open)?;
-    let bounds = Bounds::new(1, 1023)?;
-    let seen = serve_fresh(
-        &rt,
-        rt.alloc(),
-        &notices,
-        bounds,
-        1,
-        sinks,
-        &accept,
-        Yields,
-        2,
-        usize::MAX,
-    )??;
+    let seen = serve_fresh(&rt, rt.alloc(), &notices, sinks, &accept, Yields, 2)?;
     assert!(rt; first.is_raised() && second.is_raised() && inside.is_raised());
     let stat = seen.stat;
     assert_eq!(rt;
@@ -336,19 +344,7 @@ fn a_round_that_is_refused(rt: HostRuntime) -> Result<(), Fail> {
     let notices = Counted::new();
     let accept = Rows::new(rt.alloc(), 0, &rows);
     let sinks = gate_sinks(rt.alloc(), 2, &inside, &open)?;
-    let bounds = Bounds::new(1, 1023)?;
-    let seen = serve_fresh(
-        &rt,
-        rt.alloc(),
-        &notices,
-        bounds,
-        1,
-        sinks,
-        &accept,
-        Yields,
-        2,
-        usize::MAX,
-    )??;
+    let seen = serve_fresh(&rt, rt.alloc(), &notices, sinks, &accept, Yields, 2)?;
     assert!(rt; first.is_raised() && second.is_raised() && inside.is_raised());
     assert_eq!(rt;
         (seen.stat.ring, seen.stat.start, seen.stat.finish),
@@ -378,19 +374,7 @@ fn sinks_and_links_that_fail(rt: HostRuntime) -> Result<(), Fail> {
     let mut sinks = Vec::new(rt.alloc());
     sinks.push(MemorySink::new(1))?;
     sinks.push(MemorySink::new(0))?;
-    let bounds = Bounds::new(1, 1023)?;
-    let seen = serve_fresh(
-        &rt,
-        rt.alloc(),
-        &notices,
-        bounds,
-        1,
-        sinks,
-        &accept,
-        Stops,
-        3,
-        usize::MAX,
-    )??;
+    let seen = serve_fresh(&rt, rt.alloc(), &notices, sinks, &accept, Stops, 3)?;
     assert!(rt; first.is_raised() && !second.is_raised() && third.is_raised());
     assert_eq!(rt; notices.count(), 2);
     assert_eq!(rt; seen.totals, NOTHING);
@@ -412,19 +396,7 @@ fn waiting_clients_are_tried_again(rt: HostRuntime) -> Result<(), Fail> {
     let mut sinks = Vec::new(rt.alloc());
     sinks.push(MemorySink::new(1))?;
     sinks.push(MemorySink::new(0))?;
-    let bounds = Bounds::new(1, 4095)?;
-    let seen = serve_fresh(
-        &rt,
-        rt.alloc(),
-        &notices,
-        bounds,
-        1,
-        sinks,
-        &accept,
-        Stops,
-        1,
-        usize::MAX,
-    )??;
+    let seen = serve_fresh(&rt, rt.alloc(), &notices, sinks, &accept, Stops, 1)?;
     assert_eq!(rt; seen.totals, NOTHING);
     assert_eq!(rt; (seen.stat.start, seen.stat.finish), (2, 2));
     assert_eq!(rt; notices.count(), 1);
@@ -435,7 +407,7 @@ fn waiting_clients_are_tried_again(rt: HostRuntime) -> Result<(), Fail> {
 fn ask_beside<R: Net>(
     rt: &R,
     alloc: Global,
-    path: &Path,
+    path: Path<'_>,
     answered: &Flag,
     other: &Flag,
 ) -> io::Result<Vec<u8>> {
@@ -458,7 +430,7 @@ fn ask_beside<R: Net>(
 fn ask_twice<R: Net + Threads + Sync>(
     rt: &R,
     alloc: Global,
-    path: &Path,
+    path: Path<'_>,
 ) -> (io::Result<Vec<u8>>, io::Result<Vec<u8>>) {
     let first = Flag::new();
     let second = Flag::new();
@@ -469,32 +441,17 @@ fn ask_twice<R: Net + Threads + Sync>(
     )
 }
 
-/// Serves two sessions over a listener by two workers; none where that was refused.
+/// Serves two sessions over a listener by two workers.
 fn serve_socket<R: Threads + Wait + Sync + Clock>(
     rt: &R,
     alloc: Global,
-    bounds: Bounds,
     sinks: Vec<MemorySink>,
     listener: UnixListener,
     notices: &Counted,
-) -> Option<Seen> {
+) -> Result<Seen, Unserved> {
     let accept = SocketAccept::new(rt, notices, listener);
     let pause = Ticks::new(rt);
-    match serve_fresh(
-        rt,
-        alloc,
-        notices,
-        bounds,
-        2,
-        sinks,
-        &accept,
-        pause,
-        2,
-        usize::MAX,
-    ) {
-        Ok(Ok(seen)) => Some(seen),
-        Ok(Err(_)) | Err(_) => None,
-    }
+    serve_fresh(rt, alloc, notices, sinks, &accept, pause, 2)
 }
 
 // Two peers at once, each over a connection to a listening socket: what both were given is given back.
@@ -503,7 +460,6 @@ fn two_peers_over_a_socket(rt: HostRuntime) -> Result<(), Fail> {
     let name = format!(in rt.alloc(); "iovad-test-{}", process::id(rt.process()))?;
     let path = env::temp_dir(&rt)?.join(rt.alloc(), name.as_str())?;
     let listener = UnixListener::bind(&rt, path.as_path())?;
-    let bounds = Bounds::new(1, 1023)?;
     let sinks = good_sinks(rt.alloc(), 3)?;
     let notices = Counted::new();
     let alloc = rt.alloc();
@@ -512,7 +468,7 @@ fn two_peers_over_a_socket(rt: HostRuntime) -> Result<(), Fail> {
     let told = &notices;
     let (seen, (first, second)) = thread::join(
         lent,
-        move || serve_socket(lent, alloc, bounds, sinks, listener, told),
+        move || serve_socket(lent, alloc, sinks, listener, told),
         move || ask_twice(lent, alloc, at),
     );
     fs::remove_file(&rt, path.as_path())?;
@@ -522,12 +478,30 @@ fn two_peers_over_a_socket(rt: HostRuntime) -> Result<(), Fail> {
     for text in [first.as_slice(), second.as_slice()] {
         assert!(rt; text.starts_with(b"opened ") && text.ends_with(b" 4\nbye\n"));
     }
-    let Some(seen) = seen else {
-        return Err(Fail::from("refused"));
-    };
+    let seen = seen?;
     assert_eq!(rt; seen.totals, NOTHING);
     assert_eq!(rt; seen.workers.as_slice(), [0, 1].as_slice());
     assert_eq!(rt; seen.stat.client, 0);
     assert_eq!(rt; notices.count(), 0);
+    Ok(())
+}
+
+// Where memory is refused no thread is started, so nothing is accepted.
+#[test]
+fn a_refused_growth_of_serving(rt: HostRuntime) -> Result<(), Fail> {
+    let notices = Counted::new();
+    let accept = Rows::new(rt.alloc(), 0, &[]);
+    let sinks = good_sinks(rt.alloc(), 3)?;
+    let served = serve_fresh(&rt, rt.alloc(), &notices, sinks, &accept, Stops, 4);
+    match served {
+        Ok(seen) => assert_eq!(rt; (accept.calls(), seen.workers.len()), (4, 2)),
+        Err(Unserved::Refused(refusal)) => {
+            assert!(rt; refusal == Refusal::NoMemory);
+            assert_eq!(rt; accept.calls(), 0);
+            println!(rt; "refused at serve_on")?;
+        }
+        Err(Unserved::Unprepared) => println!(rt; "refused before it")?,
+        Err(Unserved::SeatMissing) => println!(rt; "refused behind it")?,
+    }
     Ok(())
 }

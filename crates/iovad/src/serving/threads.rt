@@ -2,9 +2,9 @@
 ghost use Rattle.std.specs.Prelude.{◌≡◌, ◌≤◌, [], map, vec_len, vec_capacity, true};
 
 use crate::accept::Accept;
+use crate::serving::crossing::{domains_are_sync, posts_are_send, turns_are_sync};
 use crate::serving::turns::Turns;
 use crate::serving::worker::work_on;
-use iova_lock::crossing::books_are_send;
 use iova_lock::shared::Shared;
 use iova_session::link::Link;
 use iova_session::post::Post;
@@ -47,7 +47,7 @@ where
     F: Ledger + Send + Sync + 's,
     S: Ledger + Send + Sync + 's,
     G: Ledger + Send + Sync + 's,
-    L: Link + Drop + 's,
+    L: Link + Send + Drop + 's,
     A: Accept<L> + Sync + 's,
     D: Sink + Send + Drop + 's,
     requires empty { started.old.items ≡ [] }
@@ -56,8 +56,10 @@ where
     ensures fits { vec_len started.new ≤ vec_len posts }
     ensures whole { result ≡ true → map (λ h. h.promise.0) started.new.items ≡ map (λ p. p.seat.worker) posts.items }
 {
-    // for the proof: a book may go to another thread
-    books_are_send::<C, F, S, G>();
+    // for the proof: what a worker is lent and given may go to its thread
+    posts_are_send::<C, F, S, G>();
+    domains_are_sync::<Q, C, F, S, G>();
+    turns_are_sync();
     let mut sinks = sinks.into_iter();
     for post in posts {
         let Some(sink) = sinks.next() else {
