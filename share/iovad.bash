@@ -1,0 +1,27 @@
+# Completion of iovad's words for bash.
+_iovad() {
+  local word=${COMP_WORDS[COMP_CWORD]} before=${COMP_WORDS[COMP_CWORD-1]} command=${COMP_WORDS[1]}
+  COMPREPLY=()
+  if [ "$COMP_CWORD" = 1 ]; then
+    mapfile -t COMPREPLY < <(compgen -W "replay serve ask help --help" -- "$word")
+    return
+  fi
+  case $before in
+    --socket | --sink)
+      mapfile -t COMPREPLY < <(compgen -f -- "$word")
+      return
+      ;;
+    --workers | --domain | --start | --last | --sessions) return ;;
+  esac
+  case $command in
+    replay) mapfile -t COMPREPLY < <(compgen -W "--report --help" -- "$word"; compgen -f -- "$word") ;;
+    serve)
+      mapfile -t COMPREPLY < <(
+        compgen -W "--socket --workers --domain --start --last --sink --sessions --help" -- "$word"
+      )
+      ;;
+    ask) mapfile -t COMPREPLY < <(compgen -W "--help" -- "$word"; compgen -f -- "$word") ;;
+    help) mapfile -t COMPREPLY < <(compgen -W "replay serve ask" -- "$word") ;;
+  esac
+}
+complete -o filenames -F _iovad iovad
