@@ -1,9 +1,8 @@
 //! Sessions at a post whose link or sink fails, clients that wait, and growths that are refused.
-ghost use Rattle.std.specs.Prelude.{◌≤◌, None};
-
 use crate::end::End;
-use crate::fresh::{Script, Seen, session_under_lock};
+use crate::fresh::{Script, session_over, session_under_lock};
 use crate::post_tests::{SESSIONS, repeated};
+use crate::tests::LineByLine;
 use iova_lock::ending::{Ending, Why};
 use iova_model::place::Place;
 use std::test::*;
@@ -46,8 +45,8 @@ fn queued(client: Option<Ending>) -> Option<u64> {
     }
 }
 
-// Whatever call of the link fails: what was written is a front of the answers, the client is ended, nothing is the peer's
-// any more, and the seat's shares are the totals (the seat is gathered each time).
+// Whatever call of the link fails: what was written is a front of the answers, the client is ended, nothing is the
+// peer's any more, and the seat's shares are the totals (the seat is gathered each time).
 #[test]
 fn a_link_that_fails_at_each_call(rt: HostRuntime) -> Result<(), Fail> {
     for (input, text) in [
@@ -106,43 +105,97 @@ fn a_flush_that_fails(rt: HostRuntime) -> Result<(), Fail> {
     Ok(())
 }
 
-// A session that is given 600 single frames and ends: its end makes two flushes. The sink fails at the k-th.
+// A session that is given so many single frames and ends, and the call of the sink that fails: with 600 its end makes
+// two flushes.
+static DYING: [(u32, u64, Ending); 6] = [
+    (256, 1, Ending::Waiting(1, Why::SinkFailed)),
+    (256, 2, Ending::Ended(256)),
+    (600, 0, Ending::Ended(600)),
+    (600, 1, Ending::Waiting(345, Why::SinkFailed)),
+    (600, 2, Ending::Waiting(90, Why::SinkFailed)),
+    (600, 3, Ending::Ended(600)),
+];
+
+// A client that waits is kept while the sink fails, and gone once it doesn't. The seat is gathered each time.
 #[test]
 fn a_sink_that_fails_at_each_call(rt: HostRuntime) -> Result<(), Fail> {
-    let input = repeated(
-        rt.alloc(),
-        &[(b"hello iova1 0 dac\n", 1), (b"alloc 1 4095\n", 600)],
-    )?;
-    let ends = [
-        Ending::Ended(600),
-        Ending::Waiting(345, Why::SinkFailed),
-        Ending::Waiting(90, Why::SinkFailed),
-        Ending::Ended(600),
-    ];
-    for (sink_fail_at, end) in ends.iter().enumerate() {
+    for (holdings, sink_fail_at, end) in DYING {
+        let input = repeated(
+            rt.alloc(),
+            &[(b"hello iova1 0 dac\n", 1), (b"alloc 1 4095\n", holdings)],
+        )?;
         let script = Script {
             input: input.as_slice(),
             most: 4096,
             fail_at: 0,
-            sink_fail_at: sink_fail_at as u64,
+            sink_fail_at,
         };
         let (seen, domain) = session_under_lock(&rt, rt.alloc(), 4095, script)?;
         assert!(rt; seen.end.end == End::Closed);
-        assert!(rt; seen.end.client == Some(*end), "{sink_fail_at}");
+        assert!(rt; seen.end.client == Some(end), "{holdings} {sink_fail_at}");
         let left = match end {
             Ending::Ended(_) => 0,
-            Ending::Waiting(left, _) => *left,
+            Ending::Waiting(left, _) => left,
         };
         assert_eq!(rt; (seen.shares.0, seen.shares.1), (left, left));
-        assert_eq!(rt; seen.waiting, left.min(1));
+        assert_eq!(rt; (seen.waiting, seen.kept), (left.min(1), left.min(1)));
         assert_eq!(rt; seen.stat.client, left);
         assert_eq!(rt; (seen.left, seen.left_shares), (0, (0, 0, 0)));
-        // nothing is lost on the way
         assert_eq!(rt; (domain.clients(), domain.counts().client), (0, 0));
-        assert_eq!(rt;
-            seen.left_stat.magazine + seen.left_stat.depot + seen.left_stat.ring,
-            600
-        );
+        // none of the ranges is lost
+        assert_eq!(rt; domain.counts().free, 4095 - holdings as u64);
+    }
+    Ok(())
+}
+
+// A line in a read, and the next one only once it is answered.
+#[test]
+fn each_line_is_answered_in_turn(rt: HostRuntime) -> Result<(), Fail> {
+    let mut link = LineByLine::new(SESSIONS[11].0);
+    let (end, shares) = session_over(rt.alloc(), &mut link)?;
+    assert!(rt; end.end == End::Bye && end.client == Some(Ending::Ended(0)));
+    assert_eq!(rt; (link.lines, link.answers, shares), (8, 8, (0, 0, 0)));
+    Ok(())
+}
+
+// It passes whichever growth is refused, and prints where.
+#[test]
+fn a_post_with_a_refused_growth(rt: HostRuntime) -> Result<(), Fail> {
+    let input = b"hello iova1 0 dac\nalloc 1 9\nlist\nfree 9\nstat\nbye\n".as_slice();
+    let mut link = LineByLine::new(input);
+    let Ok((end, shares)) = session_over(rt.alloc(), &mut link) else {
+        println!(rt; "refused before")?;
+        return Ok(());
+    };
+    match (end.end, link.lines, link.refused_at) {
+        (End::NoMemory, 0, _) => {
+            println!(rt; "refused at run_session")?;
+            assert!(rt; end.client == None);
+        }
+        (End::NoMemory, _, 0) => {
+            println!(rt; "refused at ask_run")?;
+            // the hello before was answered, and the run was not asked
+            assert!(rt; link.answers + 1 == link.lines);
+            assert!(rt; end.client == Some(Ending::Ended(0)));
+        }
+        (End::Bye, 6, refused_at) => {
+            match refused_at {
+                0 => {}
+                1 => println!(rt; "refused at open")?,
+                2 => println!(rt; "refused at alloc")?,
+                3 => println!(rt; "refused at list")?,
+                _ => assert!(rt; false),
+            }
+            assert_eq!(rt; link.answers, 6);
+            assert_eq!(rt; end.client.is_some(), refused_at != 1);
+        }
+        _ => assert!(rt; false),
+    }
+    assert_eq!(rt; shares, (0, 0, 0));
+    let mut again = LineByLine::new(input);
+    if let Ok((end, _)) = session_over(rt.alloc(), &mut again) {
+        let one = link.refused_at > 0 || link.lines < 6;
+        assert!(rt; !one || (end.end == End::Bye && again.refused_at == 0));
     }
     Ok(())
 }

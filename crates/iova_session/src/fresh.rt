@@ -2,6 +2,7 @@
 ghost use Rattle.std.specs.Prelude.{◌≡◌, ◌≤◌};
 ghost use Rattle.iova_range.specs.declared.limits.TheConstants.{TALLY_PARTS};
 
+use crate::link::Link;
 use crate::memory_link::MemoryLink;
 use crate::post::Post;
 use crate::retry::retry;
@@ -13,7 +14,9 @@ use iova_lock::shared::Shared;
 use iova_range::bounds::Bounds;
 use iova_range::refusal::Refusal;
 use iova_range::stat::Stat;
+use iova_sink::calls::Calls;
 use iova_sink::memory::MemorySink;
+use iova_sink::sink::{Sink, SinkFault};
 use std::alloc::Global;
 use std::marker::Brand;
 use std::sync::Wait;
@@ -29,8 +32,9 @@ pub(crate) struct Script<'a> {
     pub(crate) sink_fail_at: u64,
 }
 
-/// What a session came to: what it was answered, its end, the seat's shares and the domain's numbers after it, how many
-/// clients wait, and how many wait still once they were tried again, with the numbers then.
+/// What a session came to: what it was answered, its end, the seat's shares and the domain's numbers after it, how
+/// many clients wait, how many wait still once they were tried with a sink that fails, and how many once they were
+/// tried with the session's own, with the numbers then.
 #[derive(Drop)]
 pub(crate) struct Seen {
     pub(crate) sent: Vec<u8>,
@@ -38,9 +42,25 @@ pub(crate) struct Seen {
     pub(crate) shares: (u64, u64, u64),
     pub(crate) stat: Stat,
     pub(crate) waiting: u64,
+    pub(crate) kept: u64,
     pub(crate) left: u64,
     pub(crate) left_shares: (u64, u64, u64),
     pub(crate) left_stat: Stat,
+}
+
+// Fails at each call.
+#[derive(Drop)]
+struct BrokenSink {
+    calls: Calls,
+}
+
+impl Sink for BrokenSink {
+    ghost calls = { λ s. s.calls };
+
+    fn invalidate(&mut self, domain: u64, no: u64) -> Result<(), SinkFault> {
+        self.calls.add(domain, no, false);
+        Err(SinkFault)
+    }
 }
 
 /// The seat's shares.
@@ -65,6 +85,10 @@ pub(crate) fn one_session<C: Ledger, F: Ledger, S: Ledger, G: Ledger, K: Keep<C,
     let shares = shares_of(post);
     let stat = keeper.stat();
     let waiting = post.waiting.len() as u64;
+    let mut broken = BrokenSink {
+        calls: Calls::new(),
+    };
+    let kept = retry(keeper, post, &mut broken);
     let left = retry(keeper, post, &mut sink);
     let Ok(sent) = Vec::from_slice(alloc, link.sent()) else {
         return Err(Refusal::NoMemory);
@@ -75,6 +99,7 @@ pub(crate) fn one_session<C: Ledger, F: Ledger, S: Ledger, G: Ledger, K: Keep<C,
         shares,
         stat,
         waiting,
+        kept,
         left,
         left_shares: shares_of(post),
         left_stat: keeper.stat(),
@@ -104,6 +129,49 @@ fn in_book<C: Ledger, F: Ledger, S: Ledger, G: Ledger>(
     };
     let mut post = Post::new(alloc, seat);
     one_session(alloc, &mut book, &mut post, script)
+}
+
+fn over_link<C: Ledger, F: Ledger, S: Ledger, G: Ledger, L: Link>(
+    alloc: Global,
+    bounds: Bounds,
+    count: Blank,
+    frames: Blank,
+    sum_lo: Blank,
+    good: Blank,
+    link: &mut L,
+) -> Result<(SessionEnd, (u64, u64, u64)), Refusal>
+    requires count { (count.name ≡ C.name) × (count.parts ≡ C.parts) × (count.parts ≡ 1) }
+    requires frames { (frames.name ≡ F.name) × (frames.parts ≡ F.parts) × (frames.parts ≡ 1) }
+    requires sum_lo { (sum_lo.name ≡ S.name) × (sum_lo.parts ≡ S.parts) × (sum_lo.parts ≡ 1) }
+    requires good { (good.name ≡ G.name) × (good.parts ≡ G.parts) × (good.parts ≡ TALLY_PARTS) }
+{
+    let (mut book, mut seats) = Book::<C, F, S, G>::new(
+        alloc, 0, bounds, 1, count, frames, sum_lo, good,
+    )?;
+    let Some(seat) = seats.pop() else {
+        return Err(Refusal::NoWorker);
+    };
+    let mut post = Post::new(alloc, seat);
+    let mut sink = MemorySink::new(0);
+    let end = run_session(alloc, link, &mut book, &mut post, &mut sink);
+    Ok((end, shares_of(&post)))
+}
+
+/// One session over this link in a book of domain 0 with frames 1 to 1,023 and one worker: its end, and the seat's
+/// shares then.
+pub(crate) fn session_over<L: Link>(
+    alloc: Global,
+    link: &mut L,
+) -> Result<(SessionEnd, (u64, u64, u64)), Refusal> {
+    over_link::<Brand, Brand, Brand, Brand, L>(
+        alloc,
+        Bounds::new(1, 1023)?,
+        Blank::new(1),
+        Blank::new(1),
+        Blank::new(1),
+        Blank::new(256),
+        link,
+    )
 }
 
 /// One session in a book of domain 0 with frames 1 to `last` and one worker.
@@ -168,8 +236,8 @@ fn in_shared<C: Ledger, F: Ledger, S: Ledger, G: Ledger, R: Wait>(
     Ok((seen, shared.into_domain()))
 }
 
-/// One session under a lock round domain 0 with frames 1 to `last` and one worker. Then the seat is gathered: refused by
-/// `NotHeld` where its shares aren't the totals.
+/// One session under a lock round domain 0 with frames 1 to `last` and one worker. Then the seat is gathered: refused
+/// by `NotHeld` where its shares aren't the totals.
 pub(crate) fn session_under_lock<R: Wait>(
     rt: &R,
     alloc: Global,

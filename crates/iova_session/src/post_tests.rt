@@ -6,6 +6,8 @@ use crate::fresh::{Script, Seen, session_in_book, session_under_lock};
 use iova_lock::ending::Ending;
 use iova_range::refusal::Refusal;
 use std::alloc::{AllocError, Global};
+use std::process::Abort;
+use std::sync::Wait;
 use std::test::*;
 
 // The files of tests/sessions: what the peer sends before it ends, what it is answered, and how the session ends.
@@ -70,7 +72,13 @@ pub(crate) static SESSIONS: [(&[u8], &[u8], End); 12] = [
 ];
 
 // A session in a book and under a lock, where no call of the link or of the sink fails: both are answered alike.
-fn answered(rt: &HostRuntime, last: u64, input: &[u8], most: usize) -> Result<Seen, Fail>
+fn answered<R: Abort + Wait>(
+    rt: &R,
+    alloc: Global,
+    last: u64,
+    input: &[u8],
+    most: usize,
+) -> Result<Seen, Fail>
     requires { 1 ≤ most }
 {
     let script = Script {
@@ -79,8 +87,8 @@ fn answered(rt: &HostRuntime, last: u64, input: &[u8], most: usize) -> Result<Se
         fail_at: 0,
         sink_fail_at: 0,
     };
-    let in_book = session_in_book(rt.alloc(), last, script)?;
-    let (seen, _) = session_under_lock(rt, rt.alloc(), last, script)?;
+    let in_book = session_in_book(alloc, last, script)?;
+    let (seen, _) = session_under_lock(rt, alloc, last, script)?;
     assert_eq!(rt; in_book.sent.as_slice(), seen.sent.as_slice());
     assert!(rt; in_book.end == seen.end);
     assert_eq!(rt; in_book.stat, seen.stat);
@@ -92,7 +100,7 @@ fn answered(rt: &HostRuntime, last: u64, input: &[u8], most: usize) -> Result<Se
 fn sessions_are_answered(rt: HostRuntime) -> Result<(), Fail> {
     for (input, text, end) in SESSIONS {
         for most in [1, 7, 128] {
-            let seen = answered(&rt, 1023, input, most)?;
+            let seen = answered(&rt, rt.alloc(), 1023, input, most)?;
             assert_eq!(rt; seen.sent.as_slice(), text);
             assert!(rt; seen.end.end == end);
             assert_eq!(rt;
@@ -153,7 +161,7 @@ fn second_lines_of_a_session(rt: HostRuntime) -> Result<(), Fail> {
         let input = repeated(rt.alloc(), &[(HELLO, 1), (line, 1)])?;
         let answers = repeated(rt.alloc(), &[(b"opened 1\n", 1), (text, 1)])?;
         for most in [1, 2, 7, 128, 5000] {
-            let seen = answered(&rt, 1023, input.as_slice(), most)?;
+            let seen = answered(&rt, rt.alloc(), 1023, input.as_slice(), most)?;
             assert_eq!(rt; seen.sent.as_slice(), answers.as_slice());
             assert!(rt; seen.end.end == end);
         }
@@ -174,7 +182,13 @@ pub(crate) fn repeated(alloc: Global, parts: &[(&[u8], u32)]) -> Result<Vec<u8>,
 #[test]
 fn the_limits_of_a_session(rt: HostRuntime) -> Result<(), Fail> {
     let flushes = repeated(rt.alloc(), &[(b"flush\n", 65_537)])?;
-    let seen = answered(&rt, 1023, flushes.as_slice(), 4096)?;
+    let script = Script {
+        input: flushes.as_slice(),
+        most: 4096,
+        fail_at: 0,
+        sink_fail_at: 0,
+    };
+    let (seen, _) = session_under_lock(&rt, rt.alloc(), 1023, script)?;
     assert!(rt; seen.end.end == End::TooMany);
     assert!(rt; seen.end.client == None);
     let text = repeated(
@@ -191,7 +205,11 @@ fn the_limits_of_a_session(rt: HostRuntime) -> Result<(), Fail> {
             (b"bye\n", 1),
         ],
     )?;
-    let seen = answered(&rt, 8191, lists.as_slice(), 4096)?;
+    let script = Script {
+        input: lists.as_slice(),
+        ..script
+    };
+    let (seen, _) = session_under_lock(&rt, rt.alloc(), 8191, script)?;
     assert!(rt; seen.end.end == End::Bye);
     assert!(rt; seen.end.client == Some(Ending::Ended(4096)));
     assert_eq!(rt;
@@ -207,6 +225,7 @@ fn the_limits_of_a_session(rt: HostRuntime) -> Result<(), Fail> {
 }
 
 // Numbers that look random, from a fixed seed.
+#[derive(Drop)]
 struct Random {
     state: u64,
 }
@@ -237,13 +256,13 @@ fn long_session(alloc: Global) -> Result<Vec<u8>, Fail> {
     Ok(text)
 }
 
-const LONG: u64 = 250;
+const LONG: u64 = 100;
 
 // However a long session is cut off, what it was answered is a front of what the whole is answered.
 #[test]
 fn each_front_of_a_long_session(rt: HostRuntime) -> Result<(), Fail> {
     let input = long_session(rt.alloc())?;
-    let whole = answered(&rt, 63, input.as_slice(), 128)?;
+    let whole = answered(&rt, rt.alloc(), 63, input.as_slice(), 128)?;
     assert!(rt; whole.end.end == End::Closed);
     for name in NAMES {
         assert!(rt;
