@@ -21,12 +21,11 @@ fn a_link_that_fails_at_some_calls(rt: HostRuntime) -> Result<(), Fail> {
     ];
     for (fail_at, sent, client, place) in rows {
         let script = Script {
-            input: CUT,
             most: 1,
             fail_at,
             sink_fail_at: 0,
         };
-        let (seen, domain) = session_under_lock(&rt, rt.alloc(), 1023, script)?;
+        let (seen, domain) = session_under_lock(&rt, rt.alloc(), 1023, CUT, script)?;
         assert_eq!(rt; seen.sent.as_slice(), sent);
         assert!(rt; seen.end.end == End::LinkFault);
         assert!(rt; seen.end.client == client);
@@ -59,12 +58,11 @@ fn a_link_that_fails_at_each_call(rt: HostRuntime) -> Result<(), Fail> {
             let mut is_opened = false;
             for fail_at in 1..600 {
                 let script = Script {
-                    input,
                     most,
                     fail_at,
                     sink_fail_at: 0,
                 };
-                let (seen, _) = session_under_lock(&rt, rt.alloc(), 1023, script)?;
+                let (seen, _) = session_under_lock(&rt, rt.alloc(), 1023, input, script)?;
                 assert!(rt; text.starts_with(seen.sent.as_slice()));
                 assert_eq!(rt; (seen.shares, seen.waiting), ((0, 0, 0), 0));
                 assert_eq!(rt; seen.stat.client, 0);
@@ -90,13 +88,13 @@ fn a_link_that_fails_at_each_call(rt: HostRuntime) -> Result<(), Fail> {
 
 #[test]
 fn a_flush_that_fails(rt: HostRuntime) -> Result<(), Fail> {
+    let input = b"hello iova1 0 dac\nalloc 1 9\nfree 9\nflush\nstat\nflush\nbye\n";
     let script = Script {
-        input: b"hello iova1 0 dac\nalloc 1 9\nfree 9\nflush\nstat\nflush\nbye\n",
         most: 128,
         fail_at: 0,
         sink_fail_at: 1,
     };
-    let (seen, _) = session_under_lock(&rt, rt.alloc(), 1023, script)?;
+    let (seen, _) = session_under_lock(&rt, rt.alloc(), 1023, input, script)?;
     assert_eq!(rt;
         seen.sent.as_slice(),
         b"opened 1\ngiven 9 1\nqueued 9 1\nno 18 SinkFault\nstat 1022 0 0 0 0 1 1 0\nflushed 2 1\nbye\n".as_slice()
@@ -125,12 +123,11 @@ fn a_sink_that_fails_at_each_call(rt: HostRuntime) -> Result<(), Fail> {
             &[(b"hello iova1 0 dac\n", 1), (b"alloc 1 4095\n", holdings)],
         )?;
         let script = Script {
-            input: input.as_slice(),
             most: 4096,
             fail_at: 0,
             sink_fail_at,
         };
-        let (seen, domain) = session_under_lock(&rt, rt.alloc(), 4095, script)?;
+        let (seen, domain) = session_under_lock(&rt, rt.alloc(), 4095, input.as_slice(), script)?;
         assert!(rt; seen.end.end == End::Closed);
         assert!(rt; seen.end.client == Some(end), "{holdings} {sink_fail_at}");
         let left = match end {

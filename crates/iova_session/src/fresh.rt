@@ -22,11 +22,9 @@ use std::marker::Brand;
 use std::sync::Wait;
 use std::sync::ledger::{Blank, Ledger};
 
-/// What a peer sends before it ends, how many bytes a call moves, and which call of the link and of the sink fails (0:
-/// none).
+/// How many bytes a call of the link moves at most, and which call of it and of the sink fails (0: none).
 #[derive(Clone, Copy)]
-pub(crate) struct Script<'a> {
-    pub(crate) input: &'a [u8],
+pub(crate) struct Script {
     pub(crate) most: usize,
     pub(crate) fail_at: u64,
     pub(crate) sink_fail_at: u64,
@@ -75,11 +73,12 @@ pub(crate) fn one_session<C: Ledger, F: Ledger, S: Ledger, G: Ledger, K: Keep<C,
     alloc: Global,
     keeper: &mut K,
     post: &mut Post<C, F, S, G>,
-    script: Script<'_>,
+    input: &[u8],
+    script: Script,
 ) -> Result<Seen, Refusal>
     requires { 1 ≤ script.most }
 {
-    let mut link = MemoryLink::new(alloc, script.input, script.most, script.fail_at);
+    let mut link = MemoryLink::new(alloc, input, script.most, script.fail_at);
     let mut sink = MemorySink::new(script.sink_fail_at);
     let end = run_session(alloc, &mut link, keeper, post, &mut sink);
     let shares = shares_of(post);
@@ -113,7 +112,8 @@ fn in_book<C: Ledger, F: Ledger, S: Ledger, G: Ledger>(
     frames: Blank,
     sum_lo: Blank,
     good: Blank,
-    script: Script<'_>,
+    input: &[u8],
+    script: Script,
 ) -> Result<Seen, Refusal>
     requires count { (count.name ≡ C.name) × (count.parts ≡ C.parts) × (count.parts ≡ 1) }
     requires frames { (frames.name ≡ F.name) × (frames.parts ≡ F.parts) × (frames.parts ≡ 1) }
@@ -128,7 +128,7 @@ fn in_book<C: Ledger, F: Ledger, S: Ledger, G: Ledger>(
         return Err(Refusal::NoWorker);
     };
     let mut post = Post::new(alloc, seat);
-    one_session(alloc, &mut book, &mut post, script)
+    one_session(alloc, &mut book, &mut post, input, script)
 }
 
 fn over_link<C: Ledger, F: Ledger, S: Ledger, G: Ledger, L: Link>(
@@ -175,7 +175,12 @@ pub(crate) fn session_over<L: Link>(
 }
 
 /// One session in a book of domain 0 with frames 1 to `last` and one worker.
-pub(crate) fn session_in_book(alloc: Global, last: u64, script: Script<'_>) -> Result<Seen, Refusal>
+pub(crate) fn session_in_book(
+    alloc: Global,
+    last: u64,
+    input: &[u8],
+    script: Script,
+) -> Result<Seen, Refusal>
     requires { 1 ≤ script.most }
 {
     in_book::<Brand, Brand, Brand, Brand>(
@@ -185,6 +190,7 @@ pub(crate) fn session_in_book(alloc: Global, last: u64, script: Script<'_>) -> R
         Blank::new(1),
         Blank::new(1),
         Blank::new(256),
+        input,
         script,
     )
 }
@@ -194,11 +200,12 @@ fn session_of<C: Ledger, F: Ledger, S: Ledger, G: Ledger, K: Keep<C, F, S, G> + 
     alloc: Global,
     mut keeper: K,
     mut post: Post<C, F, S, G>,
-    script: Script<'_>,
+    input: &[u8],
+    script: Script,
 ) -> Result<(Seen, Post<C, F, S, G>), Refusal>
     requires { 1 ≤ script.most }
 {
-    let seen = one_session(alloc, &mut keeper, &mut post, script)?;
+    let seen = one_session(alloc, &mut keeper, &mut post, input, script)?;
     Ok((seen, post))
 }
 
@@ -210,7 +217,8 @@ fn in_shared<C: Ledger, F: Ledger, S: Ledger, G: Ledger, R: Wait>(
     frames: Blank,
     sum_lo: Blank,
     good: Blank,
-    script: Script<'_>,
+    input: &[u8],
+    script: Script,
 ) -> Result<(Seen, Domain), Refusal>
     requires count { (count.name ≡ C.name) × (count.parts ≡ C.parts) × (count.parts ≡ 1) }
     requires frames { (frames.name ≡ F.name) × (frames.parts ≡ F.parts) × (frames.parts ≡ 1) }
@@ -225,7 +233,7 @@ fn in_shared<C: Ledger, F: Ledger, S: Ledger, G: Ledger, R: Wait>(
         return Err(Refusal::NoWorker);
     };
     let lent = &shared;
-    let (seen, post) = session_of(alloc, lent, Post::new(alloc, seat), script)?;
+    let (seen, post) = session_of(alloc, lent, Post::new(alloc, seat), input, script)?;
     let Post { seat, waiting: _ } = post;
     seats.push(seat).or(Err(Refusal::NoMemory))?;
     // the seat's shares are the totals under the lock
@@ -242,7 +250,8 @@ pub(crate) fn session_under_lock<R: Wait>(
     rt: &R,
     alloc: Global,
     last: u64,
-    script: Script<'_>,
+    input: &[u8],
+    script: Script,
 ) -> Result<(Seen, Domain), Refusal>
     requires { 1 ≤ script.most }
 {
@@ -254,6 +263,7 @@ pub(crate) fn session_under_lock<R: Wait>(
         Blank::new(1),
         Blank::new(1),
         Blank::new(256),
+        input,
         script,
     )
 }

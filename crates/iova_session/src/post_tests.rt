@@ -82,13 +82,12 @@ fn answered<R: Abort + Wait>(
     requires { 1 ≤ most }
 {
     let script = Script {
-        input,
         most,
         fail_at: 0,
         sink_fail_at: 0,
     };
-    let in_book = session_in_book(alloc, last, script)?;
-    let (seen, _) = session_under_lock(rt, alloc, last, script)?;
+    let in_book = session_in_book(alloc, last, input, script)?;
+    let (seen, _) = session_under_lock(rt, alloc, last, input, script)?;
     assert_eq!(rt; in_book.sent.as_slice(), seen.sent.as_slice());
     assert!(rt; in_book.end == seen.end);
     assert_eq!(rt; in_book.stat, seen.stat);
@@ -183,12 +182,11 @@ pub(crate) fn repeated(alloc: Global, parts: &[(&[u8], u32)]) -> Result<Vec<u8>,
 fn the_limits_of_a_session(rt: HostRuntime) -> Result<(), Fail> {
     let flushes = repeated(rt.alloc(), &[(b"flush\n", 65_537)])?;
     let script = Script {
-        input: flushes.as_slice(),
         most: 4096,
         fail_at: 0,
         sink_fail_at: 0,
     };
-    let (seen, _) = session_under_lock(&rt, rt.alloc(), 1023, script)?;
+    let (seen, _) = session_under_lock(&rt, rt.alloc(), 1023, flushes.as_slice(), script)?;
     assert!(rt; seen.end.end == End::TooMany);
     assert!(rt; seen.end.client == None);
     let text = repeated(
@@ -205,11 +203,7 @@ fn the_limits_of_a_session(rt: HostRuntime) -> Result<(), Fail> {
             (b"bye\n", 1),
         ],
     )?;
-    let script = Script {
-        input: lists.as_slice(),
-        ..script
-    };
-    let (seen, _) = session_under_lock(&rt, rt.alloc(), 8191, script)?;
+    let (seen, _) = session_under_lock(&rt, rt.alloc(), 8191, lists.as_slice(), script)?;
     assert!(rt; seen.end.end == End::Bye);
     assert!(rt; seen.end.client == Some(Ending::Ended(4096)));
     assert_eq!(rt;
@@ -274,12 +268,11 @@ fn each_front_of_a_long_session(rt: HostRuntime) -> Result<(), Fail> {
     for n in 0..input.len() {
         for most in [1, 128] {
             let script = Script {
-                input: &input[..n],
                 most,
                 fail_at: 0,
                 sink_fail_at: 0,
             };
-            let (seen, _) = session_under_lock(&rt, rt.alloc(), 63, script)?;
+            let (seen, _) = session_under_lock(&rt, rt.alloc(), 63, &input[..n], script)?;
             assert!(rt; seen.end.end == End::Closed);
             assert!(rt;
                 whole.sent.as_slice().starts_with(seen.sent.as_slice()),
