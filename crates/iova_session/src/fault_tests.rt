@@ -1,10 +1,13 @@
 //! Sessions at a post whose link or sink fails, clients that wait, and growths that are refused.
 use crate::end::End;
-use crate::fresh::{Script, session_over, session_under_lock};
+use crate::fresh::{Script, in_shared, session_in_book, session_over};
 use crate::post_tests::{SESSIONS, repeated};
 use crate::tests::LineByLine;
 use iova_lock::ending::{Ending, Why};
 use iova_model::place::Place;
+use iova_range::bounds::Bounds;
+use std::marker::Brand;
+use std::sync::ledger::Blank;
 use std::test::*;
 
 const CUT: &[u8] = b"hello iova1 0 dac\nalloc 1 9\nfr";
@@ -25,7 +28,17 @@ fn a_link_that_fails_at_some_calls(rt: HostRuntime) -> Result<(), Fail> {
             fail_at,
             sink_fail_at: 0,
         };
-        let (seen, domain) = session_under_lock(&rt, rt.alloc(), 1023, CUT, script)?;
+        let (seen, domain) = in_shared::<Brand, Brand, Brand, Brand, _>(
+            &rt,
+            rt.alloc(),
+            Bounds::new(1, 1023)?,
+            Blank::new(1),
+            Blank::new(1),
+            Blank::new(1),
+            Blank::new(256),
+            CUT,
+            script,
+        )?;
         assert_eq!(rt; seen.sent.as_slice(), sent);
         assert!(rt; seen.end.end == End::LinkFault);
         assert!(rt; seen.end.client == client);
@@ -62,7 +75,17 @@ fn a_link_that_fails_at_each_call(rt: HostRuntime) -> Result<(), Fail> {
                     fail_at,
                     sink_fail_at: 0,
                 };
-                let (seen, _) = session_under_lock(&rt, rt.alloc(), 1023, input, script)?;
+                let (seen, _) = in_shared::<Brand, Brand, Brand, Brand, _>(
+                    &rt,
+                    rt.alloc(),
+                    Bounds::new(1, 1023)?,
+                    Blank::new(1),
+                    Blank::new(1),
+                    Blank::new(1),
+                    Blank::new(256),
+                    input,
+                    script,
+                )?;
                 assert!(rt; text.starts_with(seen.sent.as_slice()));
                 assert_eq!(rt; (seen.shares, seen.waiting), ((0, 0, 0), 0));
                 assert_eq!(rt; seen.stat.client, 0);
@@ -94,7 +117,8 @@ fn a_flush_that_fails(rt: HostRuntime) -> Result<(), Fail> {
         fail_at: 0,
         sink_fail_at: 1,
     };
-    let (seen, _) = session_under_lock(&rt, rt.alloc(), 1023, input, script)?;
+    let input = Vec::from_slice(rt.alloc(), input)?;
+    let seen = session_in_book(rt.alloc(), 1023, input, script)?;
     assert_eq!(rt;
         seen.sent.as_slice(),
         b"opened 1\ngiven 9 1\nqueued 9 1\nno 18 SinkFault\nstat 1022 0 0 0 0 1 1 0\nflushed 2 1\nbye\n".as_slice()
@@ -127,7 +151,17 @@ fn a_sink_that_fails_at_each_call(rt: HostRuntime) -> Result<(), Fail> {
             fail_at: 0,
             sink_fail_at,
         };
-        let (seen, domain) = session_under_lock(&rt, rt.alloc(), 4095, input.as_slice(), script)?;
+        let (seen, domain) = in_shared::<Brand, Brand, Brand, Brand, _>(
+            &rt,
+            rt.alloc(),
+            Bounds::new(1, 4095)?,
+            Blank::new(1),
+            Blank::new(1),
+            Blank::new(1),
+            Blank::new(256),
+            input.as_slice(),
+            script,
+        )?;
         assert!(rt; seen.end.end == End::Closed);
         assert!(rt; seen.end.client == Some(end), "{holdings} {sink_fail_at}");
         let left = match end {
@@ -148,19 +182,18 @@ fn a_sink_that_fails_at_each_call(rt: HostRuntime) -> Result<(), Fail> {
 // A line in a read, and the next one only once it is answered.
 #[test]
 fn each_line_is_answered_in_turn(rt: HostRuntime) -> Result<(), Fail> {
-    let mut link = LineByLine::new(SESSIONS[11].0);
-    let (end, shares) = session_over(rt.alloc(), &mut link)?;
+    let (end, shares, link) = session_over(rt.alloc(), LineByLine::new(SESSIONS[11].0))?;
     assert!(rt; end.end == End::Bye && end.client == Some(Ending::Ended(0)));
     assert_eq!(rt; (link.lines, link.answers, shares), (8, 8, (0, 0, 0)));
     Ok(())
 }
 
+const ALL: &[u8] = b"hello iova1 0 dac\nalloc 1 9\nlist\nfree 9\nstat\nbye\n";
+
 // It passes whichever growth is refused, and prints where.
 #[test]
 fn a_post_with_a_refused_growth(rt: HostRuntime) -> Result<(), Fail> {
-    let input = b"hello iova1 0 dac\nalloc 1 9\nlist\nfree 9\nstat\nbye\n".as_slice();
-    let mut link = LineByLine::new(input);
-    let Ok((end, shares)) = session_over(rt.alloc(), &mut link) else {
+    let Ok((end, shares, link)) = session_over(rt.alloc(), LineByLine::new(ALL)) else {
         println!(rt; "refused before")?;
         return Ok(());
     };
@@ -189,8 +222,7 @@ fn a_post_with_a_refused_growth(rt: HostRuntime) -> Result<(), Fail> {
         _ => assert!(rt; false),
     }
     assert_eq!(rt; shares, (0, 0, 0));
-    let mut again = LineByLine::new(input);
-    if let Ok((end, _)) = session_over(rt.alloc(), &mut again) {
+    if let Ok((end, _, again)) = session_over(rt.alloc(), LineByLine::new(ALL)) {
         let one = link.refused_at > 0 || link.lines < 6;
         assert!(rt; !one || (end.end == End::Bye && again.refused_at == 0));
     }

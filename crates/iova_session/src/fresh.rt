@@ -7,6 +7,7 @@ use crate::memory_link::MemoryLink;
 use crate::post::Post;
 use crate::retry::retry;
 use crate::run::{SessionEnd, run_session};
+use crate::tests::LineByLine;
 use iova_core::domain::Domain;
 use iova_lock::book::Book;
 use iova_lock::keep::Keep;
@@ -157,28 +158,30 @@ fn over_link<C: Ledger, F: Ledger, S: Ledger, G: Ledger, L: Link>(
     Ok((end, shares_of(&post)))
 }
 
-/// One session over this link in a book of domain 0 with frames 1 to 1,023 and one worker: its end, and the seat's
-/// shares then.
-pub(crate) fn session_over<L: Link>(
+/// One session over this link in a book of domain 0 with frames 1 to 1,023 and one worker: its end, the seat's shares
+/// then, and the link.
+pub(crate) fn session_over(
     alloc: Global,
-    link: &mut L,
-) -> Result<(SessionEnd, (u64, u64, u64)), Refusal> {
-    over_link::<Brand, Brand, Brand, Brand, L>(
+    link: LineByLine<'static>,
+) -> Result<(SessionEnd, (u64, u64, u64), LineByLine<'static>), Refusal> {
+    let mut link = link;
+    let (end, shares) = over_link::<Brand, Brand, Brand, Brand, LineByLine<'static>>(
         alloc,
         Bounds::new(1, 1023)?,
         Blank::new(1),
         Blank::new(1),
         Blank::new(1),
         Blank::new(256),
-        link,
-    )
+        &mut link,
+    )?;
+    Ok((end, shares, link))
 }
 
 /// One session in a book of domain 0 with frames 1 to `last` and one worker.
 pub(crate) fn session_in_book(
     alloc: Global,
     last: u64,
-    input: &[u8],
+    input: Vec<u8>,
     script: Script,
 ) -> Result<Seen, Refusal>
     requires { 1 ≤ script.most }
@@ -190,7 +193,7 @@ pub(crate) fn session_in_book(
         Blank::new(1),
         Blank::new(1),
         Blank::new(256),
-        input,
+        input.as_slice(),
         script,
     )
 }
@@ -209,7 +212,9 @@ fn session_of<C: Ledger, F: Ledger, S: Ledger, G: Ledger, K: Keep<C, F, S, G> + 
     Ok((seen, post))
 }
 
-fn in_shared<C: Ledger, F: Ledger, S: Ledger, G: Ledger, R: Wait>(
+/// One session under a lock round domain 0 with these bounds and one worker. Then the seat is gathered: refused by
+/// `NotHeld` where its shares aren't the totals.
+pub(crate) fn in_shared<C: Ledger, F: Ledger, S: Ledger, G: Ledger, R: Wait>(
     rt: &R,
     alloc: Global,
     bounds: Bounds,
@@ -242,28 +247,4 @@ fn in_shared<C: Ledger, F: Ledger, S: Ledger, G: Ledger, R: Wait>(
         _ => return Err(Refusal::NotHeld),
     }
     Ok((seen, shared.into_domain()))
-}
-
-/// One session under a lock round domain 0 with frames 1 to `last` and one worker. Then the seat is gathered: refused
-/// by `NotHeld` where its shares aren't the totals.
-pub(crate) fn session_under_lock<R: Wait>(
-    rt: &R,
-    alloc: Global,
-    last: u64,
-    input: &[u8],
-    script: Script,
-) -> Result<(Seen, Domain), Refusal>
-    requires { 1 ≤ script.most }
-{
-    in_shared::<Brand, Brand, Brand, Brand, R>(
-        rt,
-        alloc,
-        Bounds::new(1, last)?,
-        Blank::new(1),
-        Blank::new(1),
-        Blank::new(1),
-        Blank::new(256),
-        input,
-        script,
-    )
 }
