@@ -6,6 +6,7 @@ mod ledger;
 mod lines;
 mod machine;
 mod random;
+mod session;
 mod tree;
 
 use std::env;
@@ -26,6 +27,9 @@ fn run(rt: &HostRuntime) -> anyhow::Result<()> {
         for case in lines::CASES {
             println!(rt; "{case}")?;
         }
+        for case in session::CASES {
+            println!(rt; "{case}")?;
+        }
         for case in machine::CASES {
             println!(rt; "{case}")?;
         }
@@ -38,6 +42,7 @@ fn run(rt: &HostRuntime) -> anyhow::Result<()> {
     }
     for word in words.iter().skip(1) {
         lines::run(rt, alloc, word.as_str())?;
+        session::run(rt, alloc, word.as_str())?;
         machine::run(rt, alloc, word.as_str())?;
         ledger::run(rt, alloc, word.as_str())?;
         tree::run(rt, alloc, word.as_str())?;

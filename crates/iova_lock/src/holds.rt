@@ -66,6 +66,11 @@ impl<C: Ledger, F: Ledger, S: Ledger, G: Ledger> Keep<C, F, S, G> for Book<C, F,
         self.number_of()
     }
 
+    fn domain_is_kept(&self) {
+        // for the proof: what every book keeps
+        self.is_kept();
+    }
+
     fn open(&mut self, seat: &mut Seat<C, F, S, G>, sac: bool) -> Result<ClientId, Refusal> {
         let worker = seat.worker();
         match self.run(seat, Step::Open { worker, sac }) {

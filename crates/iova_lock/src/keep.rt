@@ -4,7 +4,7 @@ ghost use Rattle.iova_range.specs.Frames.{Frames};
 ghost use Rattle.iova_model.specs.Clients.{totals};
 ghost use Rattle.iova_model.specs.State.{State};
 ghost use Rattle.iova_model.specs.Laws.{MovesTotals, IsReplyTo, ended_well};
-ghost use Rattle.iova_lock.specs.Views.{TallyState, SeatState, WhereKnown, IsOpenRefusal, IsAllocRefusal, IsGivenTo, IsUnmapHeard, IsBeginHeard, IsCloseHeard, MovesHeard, Lowers, queued_by, given_or, stat_of};
+ghost use Rattle.iova_lock.specs.Views.{TallyState, SeatState, WhereKnown, IsOpenRefusal, IsAllocRefusal, IsGivenTo, IsUnmapHeard, IsBeginHeard, IsCloseHeard, MovesHeard, Lowers, queued_by, given_or, stat_of, IsKept};
 ghost use Rattle.iova_lock.specs.Batches.{DoesBatch, TellsAsks};
 ghost use Rattle.iova_lock.specs.Answers.{Opens, Allocs, UnmapsFirst, UnmapsAgain, Begins, Ends, ClosesFirst, ClosesAgain, Leaves, RaisesByEnd, DrainsAll, ReadsHoldings};
 
@@ -46,6 +46,10 @@ pub trait Keep<C: Ledger, F: Ledger, S: Ledger, G: Ledger> {
     /// The domain's number. It takes no hold.
     fn number(&self) -> u64
         ensures { result ≡ domain_number self.now };
+
+    /// A domain that is known keeps what each domain keeps. It takes no hold, and does nothing: it is there for proofs.
+    fn domain_is_kept(&self)
+        ensures { IfSome (domain self.now) IsKept };
 
     /// Opens a client of the seat's worker, which is first sought places below 4 GiB where it is `sac`. Refused by `Worn`,
     /// `ClientsFull` and `NoMemory`; then nothing has changed.

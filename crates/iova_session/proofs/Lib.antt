@@ -7,5 +7,6 @@ mod Taken
 mod InTurn
 mod ToldPairs
 mod EndedClients
+mod Gone
 mod Retrying
 mod Others

@@ -1,6 +1,6 @@
 -- Whose holdings the calls of the lock leave as they are.
 use Rattle.std.proofs.Common.{ℕ, ◌≡◌, ◌≢◌, ◌+◌, ◌⊎◌, inl, inr, List, [], ◌∷◌, ◌++◌, Option, Some, None, refl, sym, ap, ◌∙◌, subst, arith}
-use Rattle.std.specs.Prelude.{Result, Ok, Err, Bool, true, false, MatchResult}
+use Rattle.std.specs.Prelude.{Result, Ok, Err, Bool, true, false, MatchResult, IfSome}
 use Rattle.iova_range.specs.declared.refusal.Refusal.{Refusal}
 use Rattle.iova_range.specs.declared.refusal.Refusal.TheVariants as refusal
 use Rattle.iova_range.specs.Frames.{Frames}
@@ -10,7 +10,7 @@ use Rattle.iova_model.specs.declared.step.Reply.{Reply}
 use Rattle.iova_model.specs.declared.step.Reply.TheVariants as reply
 use Rattle.iova_model.specs.declared.totals.Totals.{Totals}
 use Rattle.iova_model.specs.State.{State}
-use Rattle.iova_model.specs.Laws.{held_by, client_named, OthersKeepTheirHoldings}
+use Rattle.iova_model.specs.Laws.{held_by, client_named, OthersKeepTheirHoldings, StepsKeepValidity}
 use Rattle.iova_sink.specs.Calls.{Call}
 use Rattle.iova_lock.specs.declared.ask.Ask.{Ask}
 use Rattle.iova_lock.specs.declared.ask.Ask.TheVariants as ask
@@ -19,7 +19,7 @@ use Rattle.iova_lock.specs.declared.ending.Ending.{Ending}
 use Rattle.iova_lock.specs.declared.ending.Ending.TheVariants as ending
 use Rattle.iova_lock.specs.declared.ending.Why.{Why}
 use Rattle.iova_lock.specs.StepLogs.{Takes}
-use Rattle.iova_lock.specs.Views.{WhereKnown, SeatState, opened_or, left_of}
+use Rattle.iova_lock.specs.Views.{WhereKnown, SeatState, IsKept, opened_or, left_of}
 use Rattle.iova_lock.specs.Events.{Event, Ran, NotRun, Invalidated, Leads, Does, Unmapping, run, not_run, UnmapFirst, tried, full, UnmapAgain, again, Unmap, once, not_begun, flushed, Flush, refused, done, failed, Closing, stops, queues, CloseFirst, closed, closed_full, CloseAgain, closed_again, full_at_once, full_again, CloseRest, last, another, Answered, ended, unknown, gone, share, sink_failed, overlap, flights_full, worn, EndClient, in_one_hold, in_more, Draining, none_left, drains, DrainAll, drained, no_worker}
 use Rattle.iova_lock.specs.Answers.{DoesUnmap, DoesFlush, DoesEndClient, DrainsAll, Opens}
 use Rattle.iova_lock.specs.Batches.{DoesAsk, DoesAsks, StopsAt, Batched}
@@ -29,6 +29,7 @@ use Rattle.iova_proto.specs.declared.request.Request.{Request}
 use Rattle.iova_proto.specs.declared.request.Request.TheVariants as request
 use Rattle.iova_session.specs.Desks.{IsClientAnswer, next_client, client_after}
 use Rattle.iova_session.specs.Domains.{KeepsOthers, IsLeft, LeavesOthers}
+use Rattle.iova_session.proofs.Gone.{ended_is_gone}
 
 -- what is told of a client's end is what it came to, or nothing
 abbrev pub TellsAtMost : Option Ending → Result Ending Refusal → Type 0
@@ -199,18 +200,25 @@ pub drain_keeps : OthersKeepTheirHoldings → (by : ℕ) (result : Result ℕ Re
 drain_keeps law by result a b h =
     known_one a b (DrainsAll by result) (KeepsOthers None) h (λ s t x. leads_keep_all law x.events s t (λ id. drain_all_names id s.workers by x.allowed) x.leads)
 
--- what is left to a client whose end waits
-left_told : (id : ℕ) (seat : SeatState) (left : Totals) (told : Option Ending) (result : Result Ending Refusal) (number : ℕ) (before now : List Call) (s t : State) → TellsAtMost told result
+-- what is left of a client whose end was tried
+left_told : StepsKeepValidity → (id : ℕ) (seat : SeatState) (left : Totals) (told : Option Ending) (result : Result Ending Refusal) (number : ℕ) (before now : List Call) (s t : State) → IsKept s → TellsAtMost told result
     → DoesEndClient seat left id result number before now s t → IsLeft (Some id) told t
-left_told id seat left None result number before now s t h d = tt
-left_told id seat left (Some (ending.Ended queued)) result number before now s t h d = tt
-left_told id seat left (Some (ending.Waiting n why)) result number before now s t h d = told_left (subst (λ (r : Result Ending Refusal). EndClient (step.CloseOne seat.worker id) seat.held left (left_of id t) r d.events) h d.allowed.0)
+left_told law id seat left None result number before now s t kept h d = tt
+left_told law id seat left (Some (ending.Ended queued)) result number before now s t kept h d = ended_is_gone law seat.worker id s t h d.allowed.0 kept.valid d.leads
+left_told law id seat left (Some (ending.Waiting n why)) result number before now s t kept h d =
+    told_left (subst (λ (r : Result Ending Refusal). EndClient (step.CloseOne seat.worker id) seat.held left (left_of id t) r d.events) h d.allowed.0)
 
-pub end_keeps : OthersKeepTheirHoldings → (seat : SeatState) (left : Totals) (id : ℕ) (told : Option Ending) (result : Result Ending Refusal) (number : ℕ) (before now : List Call) (a b : Option State)
-    → TellsAtMost told result → WhereKnown a b (DoesEndClient seat left id result number before now) → WhereKnown a b (LeavesOthers (Some id) told)
-end_keeps law seat left id told result number before now a b m h =
-    known_one a b (DoesEndClient seat left id result number before now) (LeavesOthers (Some id) told) h
-    (λ s t x. (leads_keep law id x.events s t (end_client_names id (λ other e. some_same e) x.allowed.0) x.leads, left_told id seat left told result number before now s t m x))
+-- what is known of a domain before two calls do something, and what they do
+known_first : (a b : Option State) (Q : State → Type 0) (P R : State → State → Type 0) → IfSome a Q → WhereKnown a b P → ((s t : State) → Q s → P s t → R s t) → WhereKnown a b R
+known_first None b Q P R q p f = tt
+known_first (Some s) None Q P R q p f = absurd p
+known_first (Some s) (Some t) Q P R q p f = f s t q p
+
+pub end_keeps : OthersKeepTheirHoldings → StepsKeepValidity → (seat : SeatState) (left : Totals) (id : ℕ) (told : Option Ending) (result : Result Ending Refusal) (number : ℕ) (before now : List Call) (a b : Option State)
+    → IfSome a IsKept → TellsAtMost told result → WhereKnown a b (DoesEndClient seat left id result number before now) → WhereKnown a b (LeavesOthers (Some id) told)
+end_keeps law valid seat left id told result number before now a b kept m h =
+    known_first a b IsKept (DoesEndClient seat left id result number before now) (LeavesOthers (Some id) told) kept h
+    (λ s t k x. (leads_keep law id x.events s t (end_client_names id (λ other e. some_same e) x.allowed.0) x.leads, left_told valid id seat left told result number before now s t k m x))
 
 ask_keeps : OthersKeepTheirHoldings → (w id : ℕ) (a : Ask) (x : Told) (held : Totals) (s t : State) → DoesAsk w id a x held s t → KeepsOthers (Some id) s t
 ask_keeps law w id (ask.Alloc frames limit) x held s t h = λ other ne. takes_keep law s (step.Alloc w id frames limit) h.0 t h.2 other (λ e. ne e)

@@ -2,6 +2,7 @@
 use Rattle.std.specs.Prelude.{ℕ, ◌≡◌, ◌≢◌, List, Option, Some, None, refl}
 use Rattle.std.specs.Coded.{Coded, Coded-set, code_by, coded×, coded_ℕ, coded_list, Π_prop, →_prop, Unit-prop}
 use Rattle.iova_range.specs.Frames.{Frames}
+use Rattle.iova_model.specs.Clients.{client_with}
 use Rattle.iova_model.specs.State.{State}
 use Rattle.iova_model.specs.Laws.{held_by}
 use Rattle.iova_lock.specs.declared.ending.Ending.{Ending}
@@ -12,10 +13,10 @@ use Rattle.iova_lock.specs.Views.{WhereKnown, left_of}
 abbrev pub KeepsOthers : Option ℕ → State → State → Type 0
 KeepsOthers client s t = (id : ℕ) → client ≢ Some id → held_by id t.clients ≡ held_by id s.clients
 
--- of a client that waits is told how many holdings are left to it
+-- a client that has ended is gone, and of one that waits is told how many holdings are left to it
 abbrev pub IsLeft : Option ℕ → Option Ending → State → Type 0
 IsLeft (Some id) (Some (ending.Waiting left why)) t = left ≡ left_of id t
-IsLeft (Some id) (Some (ending.Ended queued)) t = Unit {0}
+IsLeft (Some id) (Some (ending.Ended queued)) t = client_with id t.clients ≡ None
 IsLeft (Some id) None t = Unit {0}
 IsLeft None told t = Unit {0}
 

@@ -1,4 +1,5 @@
-//! What a session's requests are answered, over any keeper: the checks of the session's own, and then the calls of the lock.
+//! What a session's requests are answered, over any keeper: the checks of the session's own, and then the calls of
+//! the lock.
 ghost use Rattle.std.specs.Prelude.{◌≡◌, ◌≢◌, ℕ, ◌+◌, ◌≤◌, None, Some};
 ghost use Rattle.iova_range.specs.declared.limits.TheConstants.{MAX_LISTED};
 ghost use Rattle.iova_sink.specs.Calls.{good_calls};
@@ -48,8 +49,8 @@ pub(crate) fn ask_first<C: Ledger, F: Ledger, S: Ledger, G: Ledger, K: Keep<C, F
     }
 }
 
-/// What a request is answered that isn't asked together with others, of a session with a client that was told `listed` ranges
-/// in lists.
+/// What a request is answered that isn't asked together with others, of a session with a client that was told
+/// `listed` ranges in lists.
 pub(crate) fn ask_alone<C: Ledger, F: Ledger, S: Ledger, G: Ledger, K: Keep<C, F, S, G>, D: Sink>(
     alloc: Global,
     keeper: &mut K,
@@ -67,7 +68,8 @@ pub(crate) fn ask_alone<C: Ledger, F: Ledger, S: Ledger, G: Ledger, K: Keep<C, F
     ensures answer { IsClientAnswer listed request result }
     ensures shares { MovesBy (given_by result) (taken_by result) seat.old.held seat.new.held }
     ensures worker { seat.new.worker ≡ seat.old.worker }
-    ensures tally { seat.new.tally.good + good_calls (D.calls sink.old) ≤ seat.old.tally.good + good_calls (D.calls sink.new) }
+    ensures tally { seat.new.tally.good + good_calls (D.calls sink.old) ≤ seat.old.tally.good + good_calls
+        (D.calls sink.new) }
     ensures parts { seat.new.tally.parts ≡ seat.old.tally.parts }
 {
     others_keep_their_holdings();
@@ -88,8 +90,8 @@ pub(crate) fn ask_alone<C: Ledger, F: Ledger, S: Ledger, G: Ledger, K: Keep<C, F
     }
 }
 
-/// What the client holds. Refused by `NoClient`, `NoMemory`, and `TooMany` where the ranges listed so far and these pass
-/// 1,048,576.
+/// What the client holds. Refused by `NoClient`, `NoMemory`, and `TooMany` where the ranges listed so far and these
+/// pass 1,048,576.
 fn list<C: Ledger, F: Ledger, S: Ledger, G: Ledger, K: Keep<C, F, S, G>>(
     alloc: Global,
     keeper: &K,
@@ -114,8 +116,8 @@ fn list<C: Ledger, F: Ledger, S: Ledger, G: Ledger, K: Keep<C, F, S, G>>(
     }
 }
 
-/// Flushes, and where that ended well drains all rings into the magazines of the seat's worker. Refused by `FlightsFull`,
-/// `Worn` and `SinkFault`; then nothing is drained.
+/// Flushes, and where that ended well drains all rings into the magazines of the seat's worker. Refused by
+/// `FlightsFull`, `Worn` and `SinkFault`; then nothing is drained.
 fn flush_and_drain<C: Ledger, F: Ledger, S: Ledger, G: Ledger, K: Keep<C, F, S, G>, D: Sink>(
     keeper: &mut K,
     seat: &mut Seat<C, F, S, G>,
@@ -126,7 +128,8 @@ fn flush_and_drain<C: Ledger, F: Ledger, S: Ledger, G: Ledger, K: Keep<C, F, S, 
     ensures answer { IsClientAnswer 0 Request.Flush result }
     ensures shares { MovesBy (given_by result) (taken_by result) seat.old.held seat.new.held }
     ensures worker { seat.new.worker ≡ seat.old.worker }
-    ensures tally { seat.new.tally.good + good_calls (D.calls sink.old) ≤ seat.old.tally.good + good_calls (D.calls sink.new) }
+    ensures tally { seat.new.tally.good + good_calls (D.calls sink.old) ≤ seat.old.tally.good + good_calls
+        (D.calls sink.new) }
     ensures parts { seat.new.tally.parts ≡ seat.old.tally.parts }
 {
     others_keep_their_holdings();

@@ -1,11 +1,13 @@
 //! Sessions at a post whose link or sink fails, clients that wait, and growths that are refused.
-ghost use Rattle.std.specs.Prelude.{◌≤◌, None};
-
 use crate::end::End;
-use crate::fresh::{Script, Seen, session_under_lock};
+use crate::fresh::{Script, in_shared, session_in_book, session_over};
 use crate::post_tests::{SESSIONS, repeated};
+use crate::tests::LineByLine;
 use iova_lock::ending::{Ending, Why};
 use iova_model::place::Place;
+use iova_range::bounds::Bounds;
+use std::marker::Brand;
+use std::sync::ledger::Blank;
 use std::test::*;
 
 const CUT: &[u8] = b"hello iova1 0 dac\nalloc 1 9\nfr";
@@ -22,12 +24,21 @@ fn a_link_that_fails_at_some_calls(rt: HostRuntime) -> Result<(), Fail> {
     ];
     for (fail_at, sent, client, place) in rows {
         let script = Script {
-            input: CUT,
             most: 1,
             fail_at,
             sink_fail_at: 0,
         };
-        let (seen, domain) = session_under_lock(&rt, rt.alloc(), 1023, script)?;
+        let (seen, domain) = in_shared::<Brand, Brand, Brand, Brand, _>(
+            &rt,
+            rt.alloc(),
+            Bounds::new(1, 1023)?,
+            Blank::new(1),
+            Blank::new(1),
+            Blank::new(1),
+            Blank::new(256),
+            CUT,
+            script,
+        )?;
         assert_eq!(rt; seen.sent.as_slice(), sent);
         assert!(rt; seen.end.end == End::LinkFault);
         assert!(rt; seen.end.client == client);
@@ -46,8 +57,8 @@ fn queued(client: Option<Ending>) -> Option<u64> {
     }
 }
 
-// Whatever call of the link fails: what was written is a front of the answers, the client is ended, nothing is the peer's
-// any more, and the seat's shares are the totals (the seat is gathered each time).
+// Whatever call of the link fails: what was written is a front of the answers, the client is ended, nothing is the
+// peer's any more, and the seat's shares are the totals (the seat is gathered each time).
 #[test]
 fn a_link_that_fails_at_each_call(rt: HostRuntime) -> Result<(), Fail> {
     for (input, text) in [
@@ -60,12 +71,21 @@ fn a_link_that_fails_at_each_call(rt: HostRuntime) -> Result<(), Fail> {
             let mut is_opened = false;
             for fail_at in 1..600 {
                 let script = Script {
-                    input,
                     most,
                     fail_at,
                     sink_fail_at: 0,
                 };
-                let (seen, _) = session_under_lock(&rt, rt.alloc(), 1023, script)?;
+                let (seen, _) = in_shared::<Brand, Brand, Brand, Brand, _>(
+                    &rt,
+                    rt.alloc(),
+                    Bounds::new(1, 1023)?,
+                    Blank::new(1),
+                    Blank::new(1),
+                    Blank::new(1),
+                    Blank::new(256),
+                    input,
+                    script,
+                )?;
                 assert!(rt; text.starts_with(seen.sent.as_slice()));
                 assert_eq!(rt; (seen.shares, seen.waiting), ((0, 0, 0), 0));
                 assert_eq!(rt; seen.stat.client, 0);
@@ -91,13 +111,14 @@ fn a_link_that_fails_at_each_call(rt: HostRuntime) -> Result<(), Fail> {
 
 #[test]
 fn a_flush_that_fails(rt: HostRuntime) -> Result<(), Fail> {
+    let input = b"hello iova1 0 dac\nalloc 1 9\nfree 9\nflush\nstat\nflush\nbye\n";
     let script = Script {
-        input: b"hello iova1 0 dac\nalloc 1 9\nfree 9\nflush\nstat\nflush\nbye\n",
         most: 128,
         fail_at: 0,
         sink_fail_at: 1,
     };
-    let (seen, _) = session_under_lock(&rt, rt.alloc(), 1023, script)?;
+    let input = Vec::from_slice(rt.alloc(), input)?;
+    let seen = session_in_book(rt.alloc(), 1023, input, script)?;
     assert_eq!(rt;
         seen.sent.as_slice(),
         b"opened 1\ngiven 9 1\nqueued 9 1\nno 18 SinkFault\nstat 1022 0 0 0 0 1 1 0\nflushed 2 1\nbye\n".as_slice()
@@ -106,43 +127,104 @@ fn a_flush_that_fails(rt: HostRuntime) -> Result<(), Fail> {
     Ok(())
 }
 
-// A session that is given 600 single frames and ends: its end makes two flushes. The sink fails at the k-th.
+// A session that is given so many single frames and ends, and the call of the sink that fails: with 600 its end makes
+// two flushes.
+static DYING: [(u32, u64, Ending); 6] = [
+    (256, 1, Ending::Waiting(1, Why::SinkFailed)),
+    (256, 2, Ending::Ended(256)),
+    (600, 0, Ending::Ended(600)),
+    (600, 1, Ending::Waiting(345, Why::SinkFailed)),
+    (600, 2, Ending::Waiting(90, Why::SinkFailed)),
+    (600, 3, Ending::Ended(600)),
+];
+
+// A client that waits is kept while the sink fails, and gone once it doesn't. The seat is gathered each time.
 #[test]
 fn a_sink_that_fails_at_each_call(rt: HostRuntime) -> Result<(), Fail> {
-    let input = repeated(
-        rt.alloc(),
-        &[(b"hello iova1 0 dac\n", 1), (b"alloc 1 4095\n", 600)],
-    )?;
-    let ends = [
-        Ending::Ended(600),
-        Ending::Waiting(345, Why::SinkFailed),
-        Ending::Waiting(90, Why::SinkFailed),
-        Ending::Ended(600),
-    ];
-    for (sink_fail_at, end) in ends.iter().enumerate() {
+    for (holdings, sink_fail_at, end) in DYING {
+        let input = repeated(
+            rt.alloc(),
+            &[(b"hello iova1 0 dac\n", 1), (b"alloc 1 4095\n", holdings)],
+        )?;
         let script = Script {
-            input: input.as_slice(),
             most: 4096,
             fail_at: 0,
-            sink_fail_at: sink_fail_at as u64,
+            sink_fail_at,
         };
-        let (seen, domain) = session_under_lock(&rt, rt.alloc(), 4095, script)?;
+        let (seen, domain) = in_shared::<Brand, Brand, Brand, Brand, _>(
+            &rt,
+            rt.alloc(),
+            Bounds::new(1, 4095)?,
+            Blank::new(1),
+            Blank::new(1),
+            Blank::new(1),
+            Blank::new(256),
+            input.as_slice(),
+            script,
+        )?;
         assert!(rt; seen.end.end == End::Closed);
-        assert!(rt; seen.end.client == Some(*end), "{sink_fail_at}");
+        assert!(rt; seen.end.client == Some(end), "{holdings} {sink_fail_at}");
         let left = match end {
             Ending::Ended(_) => 0,
-            Ending::Waiting(left, _) => *left,
+            Ending::Waiting(left, _) => left,
         };
         assert_eq!(rt; (seen.shares.0, seen.shares.1), (left, left));
-        assert_eq!(rt; seen.waiting, left.min(1));
+        assert_eq!(rt; (seen.waiting, seen.kept), (left.min(1), left.min(1)));
         assert_eq!(rt; seen.stat.client, left);
         assert_eq!(rt; (seen.left, seen.left_shares), (0, (0, 0, 0)));
-        // nothing is lost on the way
         assert_eq!(rt; (domain.clients(), domain.counts().client), (0, 0));
-        assert_eq!(rt;
-            seen.left_stat.magazine + seen.left_stat.depot + seen.left_stat.ring,
-            600
-        );
+        // none of the ranges is lost
+        assert_eq!(rt; domain.counts().free, 4095 - holdings as u64);
+    }
+    Ok(())
+}
+
+// A line in a read, and the next one only once it is answered.
+#[test]
+fn each_line_is_answered_in_turn(rt: HostRuntime) -> Result<(), Fail> {
+    let (end, shares, link) = session_over(rt.alloc(), LineByLine::new(SESSIONS[11].0))?;
+    assert!(rt; end.end == End::Bye && end.client == Some(Ending::Ended(0)));
+    assert_eq!(rt; (link.lines, link.answers, shares), (8, 8, (0, 0, 0)));
+    Ok(())
+}
+
+const ALL: &[u8] = b"hello iova1 0 dac\nalloc 1 9\nlist\nfree 9\nstat\nbye\n";
+
+// It passes whichever growth is refused, and prints where.
+#[test]
+fn a_post_with_a_refused_growth(rt: HostRuntime) -> Result<(), Fail> {
+    let Ok((end, shares, link)) = session_over(rt.alloc(), LineByLine::new(ALL)) else {
+        println!(rt; "refused before")?;
+        return Ok(());
+    };
+    match (end.end, link.lines, link.refused_at) {
+        (End::NoMemory, 0, _) => {
+            println!(rt; "refused at run_session")?;
+            assert!(rt; end.client == None);
+        }
+        (End::NoMemory, _, 0) => {
+            println!(rt; "refused at ask_run")?;
+            // the hello before was answered, and the run was not asked
+            assert!(rt; link.answers + 1 == link.lines);
+            assert!(rt; end.client == Some(Ending::Ended(0)));
+        }
+        (End::Bye, 6, refused_at) => {
+            match refused_at {
+                0 => {}
+                1 => println!(rt; "refused at open")?,
+                2 => println!(rt; "refused at alloc")?,
+                3 => println!(rt; "refused at list")?,
+                _ => assert!(rt; false),
+            }
+            assert_eq!(rt; link.answers, 6);
+            assert_eq!(rt; end.client.is_some(), refused_at != 1);
+        }
+        _ => assert!(rt; false),
+    }
+    assert_eq!(rt; shares, (0, 0, 0));
+    if let Ok((end, _, again)) = session_over(rt.alloc(), LineByLine::new(ALL)) {
+        let one = link.refused_at > 0 || link.lines < 6;
+        assert!(rt; !one || (end.end == End::Bye && again.refused_at == 0));
     }
     Ok(())
 }

@@ -2,10 +2,12 @@
 ghost use Rattle.std.specs.Prelude.{◌≡◌, ◌≤◌};
 ghost use Rattle.iova_range.specs.declared.limits.TheConstants.{TALLY_PARTS};
 
+use crate::link::Link;
 use crate::memory_link::MemoryLink;
 use crate::post::Post;
 use crate::retry::retry;
 use crate::run::{SessionEnd, run_session};
+use crate::tests::LineByLine;
 use iova_core::domain::Domain;
 use iova_lock::book::Book;
 use iova_lock::keep::Keep;
@@ -13,24 +15,25 @@ use iova_lock::shared::Shared;
 use iova_range::bounds::Bounds;
 use iova_range::refusal::Refusal;
 use iova_range::stat::Stat;
+use iova_sink::calls::Calls;
 use iova_sink::memory::MemorySink;
+use iova_sink::sink::{Sink, SinkFault};
 use std::alloc::Global;
 use std::marker::Brand;
 use std::sync::Wait;
 use std::sync::ledger::{Blank, Ledger};
 
-/// What a peer sends before it ends, how many bytes a call moves, and which call of the link and of the sink fails (0:
-/// none).
+/// How many bytes a call of the link moves at most, and which call of it and of the sink fails (0: none).
 #[derive(Clone, Copy)]
-pub(crate) struct Script<'a> {
-    pub(crate) input: &'a [u8],
+pub(crate) struct Script {
     pub(crate) most: usize,
     pub(crate) fail_at: u64,
     pub(crate) sink_fail_at: u64,
 }
 
-/// What a session came to: what it was answered, its end, the seat's shares and the domain's numbers after it, how many
-/// clients wait, and how many wait still once they were tried again, with the numbers then.
+/// What a session came to: what it was answered, its end, the seat's shares and the domain's numbers after it, how
+/// many clients wait, how many wait still once they were tried with a sink that fails, and how many once they were
+/// tried with the session's own, with the numbers then.
 #[derive(Drop)]
 pub(crate) struct Seen {
     pub(crate) sent: Vec<u8>,
@@ -38,9 +41,25 @@ pub(crate) struct Seen {
     pub(crate) shares: (u64, u64, u64),
     pub(crate) stat: Stat,
     pub(crate) waiting: u64,
+    pub(crate) kept: u64,
     pub(crate) left: u64,
     pub(crate) left_shares: (u64, u64, u64),
     pub(crate) left_stat: Stat,
+}
+
+// Fails at each call.
+#[derive(Drop)]
+struct BrokenSink {
+    calls: Calls,
+}
+
+impl Sink for BrokenSink {
+    ghost calls = { λ s. s.calls };
+
+    fn invalidate(&mut self, domain: u64, no: u64) -> Result<(), SinkFault> {
+        self.calls.add(domain, no, false);
+        Err(SinkFault)
+    }
 }
 
 /// The seat's shares.
@@ -55,16 +74,21 @@ pub(crate) fn one_session<C: Ledger, F: Ledger, S: Ledger, G: Ledger, K: Keep<C,
     alloc: Global,
     keeper: &mut K,
     post: &mut Post<C, F, S, G>,
-    script: Script<'_>,
+    input: &[u8],
+    script: Script,
 ) -> Result<Seen, Refusal>
     requires { 1 ≤ script.most }
 {
-    let mut link = MemoryLink::new(alloc, script.input, script.most, script.fail_at);
+    let mut link = MemoryLink::new(alloc, input, script.most, script.fail_at);
     let mut sink = MemorySink::new(script.sink_fail_at);
     let end = run_session(alloc, &mut link, keeper, post, &mut sink);
     let shares = shares_of(post);
     let stat = keeper.stat();
     let waiting = post.waiting.len() as u64;
+    let mut broken = BrokenSink {
+        calls: Calls::new(),
+    };
+    let kept = retry(keeper, post, &mut broken);
     let left = retry(keeper, post, &mut sink);
     let Ok(sent) = Vec::from_slice(alloc, link.sent()) else {
         return Err(Refusal::NoMemory);
@@ -75,6 +99,7 @@ pub(crate) fn one_session<C: Ledger, F: Ledger, S: Ledger, G: Ledger, K: Keep<C,
         shares,
         stat,
         waiting,
+        kept,
         left,
         left_shares: shares_of(post),
         left_stat: keeper.stat(),
@@ -88,7 +113,8 @@ fn in_book<C: Ledger, F: Ledger, S: Ledger, G: Ledger>(
     frames: Blank,
     sum_lo: Blank,
     good: Blank,
-    script: Script<'_>,
+    input: &[u8],
+    script: Script,
 ) -> Result<Seen, Refusal>
     requires count { (count.name ≡ C.name) × (count.parts ≡ C.parts) × (count.parts ≡ 1) }
     requires frames { (frames.name ≡ F.name) × (frames.parts ≡ F.parts) × (frames.parts ≡ 1) }
@@ -103,11 +129,61 @@ fn in_book<C: Ledger, F: Ledger, S: Ledger, G: Ledger>(
         return Err(Refusal::NoWorker);
     };
     let mut post = Post::new(alloc, seat);
-    one_session(alloc, &mut book, &mut post, script)
+    one_session(alloc, &mut book, &mut post, input, script)
+}
+
+fn over_link<C: Ledger, F: Ledger, S: Ledger, G: Ledger, L: Link>(
+    alloc: Global,
+    bounds: Bounds,
+    count: Blank,
+    frames: Blank,
+    sum_lo: Blank,
+    good: Blank,
+    link: &mut L,
+) -> Result<(SessionEnd, (u64, u64, u64)), Refusal>
+    requires count { (count.name ≡ C.name) × (count.parts ≡ C.parts) × (count.parts ≡ 1) }
+    requires frames { (frames.name ≡ F.name) × (frames.parts ≡ F.parts) × (frames.parts ≡ 1) }
+    requires sum_lo { (sum_lo.name ≡ S.name) × (sum_lo.parts ≡ S.parts) × (sum_lo.parts ≡ 1) }
+    requires good { (good.name ≡ G.name) × (good.parts ≡ G.parts) × (good.parts ≡ TALLY_PARTS) }
+{
+    let (mut book, mut seats) = Book::<C, F, S, G>::new(
+        alloc, 0, bounds, 1, count, frames, sum_lo, good,
+    )?;
+    let Some(seat) = seats.pop() else {
+        return Err(Refusal::NoWorker);
+    };
+    let mut post = Post::new(alloc, seat);
+    let mut sink = MemorySink::new(0);
+    let end = run_session(alloc, link, &mut book, &mut post, &mut sink);
+    Ok((end, shares_of(&post)))
+}
+
+/// One session over this link in a book of domain 0 with frames 1 to 1,023 and one worker: its end, the seat's shares
+/// then, and the link.
+pub(crate) fn session_over(
+    alloc: Global,
+    link: LineByLine<'static>,
+) -> Result<(SessionEnd, (u64, u64, u64), LineByLine<'static>), Refusal> {
+    let mut link = link;
+    let (end, shares) = over_link::<Brand, Brand, Brand, Brand, LineByLine<'static>>(
+        alloc,
+        Bounds::new(1, 1023)?,
+        Blank::new(1),
+        Blank::new(1),
+        Blank::new(1),
+        Blank::new(256),
+        &mut link,
+    )?;
+    Ok((end, shares, link))
 }
 
 /// One session in a book of domain 0 with frames 1 to `last` and one worker.
-pub(crate) fn session_in_book(alloc: Global, last: u64, script: Script<'_>) -> Result<Seen, Refusal>
+pub(crate) fn session_in_book(
+    alloc: Global,
+    last: u64,
+    input: Vec<u8>,
+    script: Script,
+) -> Result<Seen, Refusal>
     requires { 1 ≤ script.most }
 {
     in_book::<Brand, Brand, Brand, Brand>(
@@ -117,6 +193,7 @@ pub(crate) fn session_in_book(alloc: Global, last: u64, script: Script<'_>) -> R
         Blank::new(1),
         Blank::new(1),
         Blank::new(256),
+        input.as_slice(),
         script,
     )
 }
@@ -126,15 +203,18 @@ fn session_of<C: Ledger, F: Ledger, S: Ledger, G: Ledger, K: Keep<C, F, S, G> + 
     alloc: Global,
     mut keeper: K,
     mut post: Post<C, F, S, G>,
-    script: Script<'_>,
+    input: &[u8],
+    script: Script,
 ) -> Result<(Seen, Post<C, F, S, G>), Refusal>
     requires { 1 ≤ script.most }
 {
-    let seen = one_session(alloc, &mut keeper, &mut post, script)?;
+    let seen = one_session(alloc, &mut keeper, &mut post, input, script)?;
     Ok((seen, post))
 }
 
-fn in_shared<C: Ledger, F: Ledger, S: Ledger, G: Ledger, R: Wait>(
+/// One session under a lock round domain 0 with these bounds and one worker. Then the seat is gathered: refused by
+/// `NotHeld` where its shares aren't the totals.
+pub(crate) fn in_shared<C: Ledger, F: Ledger, S: Ledger, G: Ledger, R: Wait>(
     rt: &R,
     alloc: Global,
     bounds: Bounds,
@@ -142,7 +222,8 @@ fn in_shared<C: Ledger, F: Ledger, S: Ledger, G: Ledger, R: Wait>(
     frames: Blank,
     sum_lo: Blank,
     good: Blank,
-    script: Script<'_>,
+    input: &[u8],
+    script: Script,
 ) -> Result<(Seen, Domain), Refusal>
     requires count { (count.name ≡ C.name) × (count.parts ≡ C.parts) × (count.parts ≡ 1) }
     requires frames { (frames.name ≡ F.name) × (frames.parts ≡ F.parts) × (frames.parts ≡ 1) }
@@ -157,7 +238,7 @@ fn in_shared<C: Ledger, F: Ledger, S: Ledger, G: Ledger, R: Wait>(
         return Err(Refusal::NoWorker);
     };
     let lent = &shared;
-    let (seen, post) = session_of(alloc, lent, Post::new(alloc, seat), script)?;
+    let (seen, post) = session_of(alloc, lent, Post::new(alloc, seat), input, script)?;
     let Post { seat, waiting: _ } = post;
     seats.push(seat).or(Err(Refusal::NoMemory))?;
     // the seat's shares are the totals under the lock
@@ -166,26 +247,4 @@ fn in_shared<C: Ledger, F: Ledger, S: Ledger, G: Ledger, R: Wait>(
         _ => return Err(Refusal::NotHeld),
     }
     Ok((seen, shared.into_domain()))
-}
-
-/// One session under a lock round domain 0 with frames 1 to `last` and one worker. Then the seat is gathered: refused by
-/// `NotHeld` where its shares aren't the totals.
-pub(crate) fn session_under_lock<R: Wait>(
-    rt: &R,
-    alloc: Global,
-    last: u64,
-    script: Script<'_>,
-) -> Result<(Seen, Domain), Refusal>
-    requires { 1 ≤ script.most }
-{
-    in_shared::<Brand, Brand, Brand, Brand, R>(
-        rt,
-        alloc,
-        Bounds::new(1, last)?,
-        Blank::new(1),
-        Blank::new(1),
-        Blank::new(1),
-        Blank::new(256),
-        script,
-    )
 }

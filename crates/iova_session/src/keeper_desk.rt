@@ -76,7 +76,8 @@ pub(crate) struct Lent<
     pub(crate) sink: &'a mut D,
 }
 
-/// The desk of a session that began so. What it was asked has moved the seat's shares, and nothing else of it but its tally.
+/// The desk of a session that began so. What it was asked has moved the seat's shares, and nothing else of it but its
+/// tally.
 #[derive(Drop)]
 pub(crate) struct KeeperDesk<
     'a,
@@ -93,13 +94,15 @@ pub(crate) struct KeeperDesk<
     pub(crate) session: Session,
     pub(crate) told: Vec<Told>,
     pub(crate) opening: PhantomData<O>,
-    ghost names: { (lent.keeper.ghost_name ≡ O.keeper_name) × (lent.seat.ghost_name ≡ O.seat_name) × (lent.sink.ghost_name ≡ O.sink_name) },
+    ghost names: { (lent.keeper.ghost_name ≡ O.keeper_name) × (lent.seat.ghost_name ≡ O.seat_name)
+        × (lent.sink.ghost_name ≡ O.sink_name) },
     ghost number: { (session.number ≡ O.number) × (K.domain_number lent.keeper.now ≡ O.number) },
     ghost others: { WhereKnown O.domain (K.domain lent.keeper.now) (KeepsOthers session.client) } by { known_keeps-prop O.domain (K.domain lent.keeper.now) session.client },
     ghost shares: { MovesBy (given_in session.pairs) (taken_in session.pairs) O.seat.held lent.seat.now.held } by { MovesBy-prop (given_in session.pairs) (taken_in session.pairs) O.seat.held lent.seat.now.held },
     ghost worker: { lent.seat.now.worker ≡ O.seat.worker },
     ghost parts: { lent.seat.now.tally.parts ≡ O.seat.tally.parts },
-    ghost tally: { lent.seat.now.tally.good + good_calls O.calls ≤ O.seat.tally.good + good_calls (D.calls lent.sink.now) },
+    ghost tally: { lent.seat.now.tally.good + good_calls O.calls ≤ O.seat.tally.good + good_calls
+        (D.calls lent.sink.now) },
 }
 
 impl<'a, C: Ledger, F: Ledger, S: Ledger, G: Ledger, K: Keep<C, F, S, G>, D: Sink, O: Opening> Desk
@@ -134,14 +137,21 @@ fn ask_lent<C: Ledger, F: Ledger, S: Ledger, G: Ledger, K: Keep<C, F, S, G>, D: 
     requires some { 1 ≤ length requests.now }
     requires most { length requests.now ≤ MAX_RUN }
     requires number { session.old.number ≡ K.domain_number lent.old.keeper.now }
-    ensures names { (lent.new.keeper.ghost_name ≡ lent.old.keeper.ghost_name) × (lent.new.seat.ghost_name ≡ lent.old.seat.ghost_name) × (lent.new.sink.ghost_name ≡ lent.old.sink.ghost_name) }
+    ensures names { (lent.new.keeper.ghost_name ≡ lent.old.keeper.ghost_name)
+        × (lent.new.seat.ghost_name ≡ lent.old.seat.ghost_name)
+        × (lent.new.sink.ghost_name ≡ lent.old.sink.ghost_name) }
     ensures number { K.domain_number lent.new.keeper.now ≡ K.domain_number lent.old.keeper.now }
-    ensures domain { WhereKnown (K.domain lent.old.keeper.now) (K.domain lent.new.keeper.now) (KeepsOthers session.new.client) }
+    ensures domain { WhereKnown (K.domain lent.old.keeper.now) (K.domain lent.new.keeper.now)
+        (KeepsOthers session.new.client) }
     ensures client { (session.old.client ≡ None) ⊎ (session.new.client ≡ session.old.client) }
     ensures count { IfOk result (λ n. (1 ≤ n) × (n ≤ length requests.now)) }
-    ensures ok { IfOk result (λ n. Answers requests.now n session.old session.new answers.old.items answers.new.items lent.old.seat.now.held lent.new.seat.now.held) }
-    ensures err { IfErr result (λ e. (e ≡ Refusal.NoMemory) × (session.new ≡ session.old) × (answers.new.items ≡ answers.old.items) × (lent.new.seat.now ≡ lent.old.seat.now)) }
-    ensures place { KeepsPlace lent.old.seat.now lent.new.seat.now (D.calls lent.old.sink.now) (D.calls lent.new.sink.now) }
+    ensures ok { IfOk result
+        (λ n. Answers requests.now n session.old session.new answers.old.items answers.new.items
+        lent.old.seat.now.held lent.new.seat.now.held) }
+    ensures err { IfErr result (λ e. (e ≡ Refusal.NoMemory) × (session.new ≡ session.old)
+        × (answers.new.items ≡ answers.old.items) × (lent.new.seat.now ≡ lent.old.seat.now)) }
+    ensures place { KeepsPlace lent.old.seat.now lent.new.seat.now (D.calls lent.old.sink.now)
+        (D.calls lent.new.sink.now) }
 {
     ask_front(
         alloc,
@@ -155,8 +165,8 @@ fn ask_lent<C: Ledger, F: Ledger, S: Ledger, G: Ledger, K: Keep<C, F, S, G>, D: 
     )
 }
 
-/// Asks a front of the requests, at least one of them: with a client those that can be asked in one hold, else the first alone.
-/// Refused by `NoMemory` where there is no room for the answers; then nothing was asked.
+/// Asks a front of the requests, at least one of them: with a client those that can be asked in one hold, else the
+/// first alone. Refused by `NoMemory` where there is no room for the answers; then nothing was asked.
 pub(crate) fn ask_front<C: Ledger, F: Ledger, S: Ledger, G: Ledger, K: Keep<C, F, S, G>, D: Sink>(
     alloc: Global,
     keeper: &mut K,
@@ -174,8 +184,11 @@ pub(crate) fn ask_front<C: Ledger, F: Ledger, S: Ledger, G: Ledger, K: Keep<C, F
     ensures domain { WhereKnown (K.domain keeper.old) (K.domain keeper.new) (KeepsOthers session.new.client) }
     ensures client { (session.old.client ≡ None) ⊎ (session.new.client ≡ session.old.client) }
     ensures count { IfOk result (λ n. (1 ≤ n) × (n ≤ length requests.now)) }
-    ensures ok { IfOk result (λ n. Answers requests.now n session.old session.new answers.old.items answers.new.items seat.old.held seat.new.held) }
-    ensures err { IfErr result (λ e. (e ≡ Refusal.NoMemory) × (session.new ≡ session.old) × (answers.new.items ≡ answers.old.items) × (seat.new ≡ seat.old)) }
+    ensures ok { IfOk result
+        (λ n. Answers requests.now n session.old session.new answers.old.items answers.new.items seat.old.held
+        seat.new.held) }
+    ensures err { IfErr result (λ e. (e ≡ Refusal.NoMemory) × (session.new ≡ session.old)
+        × (answers.new.items ≡ answers.old.items) × (seat.new ≡ seat.old)) }
     ensures place { KeepsPlace seat.old seat.new (D.calls sink.old) (D.calls sink.new) }
 {
     if answers.try_reserve(requests.len()).is_err() {

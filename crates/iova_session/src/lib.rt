@@ -13,6 +13,8 @@ mod gathering;
 mod keeper_desk;
 pub mod link;
 pub mod memory_link;
+#[cfg(test)]
+mod overlap_tests;
 pub mod pairs;
 pub mod post;
 #[cfg(test)]

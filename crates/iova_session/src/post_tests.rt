@@ -2,10 +2,13 @@
 ghost use Rattle.std.specs.Prelude.{◌≤◌};
 
 use crate::end::End;
-use crate::fresh::{Script, Seen, session_in_book, session_under_lock};
+use crate::fresh::{Script, Seen, in_shared, session_in_book};
 use iova_lock::ending::Ending;
+use iova_range::bounds::Bounds;
 use iova_range::refusal::Refusal;
 use std::alloc::{AllocError, Global};
+use std::marker::Brand;
+use std::sync::ledger::Blank;
 use std::test::*;
 
 // The files of tests/sessions: what the peer sends before it ends, what it is answered, and how the session ends.
@@ -69,36 +72,52 @@ pub(crate) static SESSIONS: [(&[u8], &[u8], End); 12] = [
     ),
 ];
 
-// A session in a book and under a lock, where no call of the link or of the sink fails: both are answered alike.
-fn answered(rt: &HostRuntime, last: u64, input: &[u8], most: usize) -> Result<Seen, Fail>
+// A session in a book, where no call of the link or of the sink fails.
+fn answered(alloc: Global, last: u64, input: Vec<u8>, most: usize) -> Result<Seen, Refusal>
     requires { 1 ≤ most }
 {
     let script = Script {
-        input,
         most,
         fail_at: 0,
         sink_fail_at: 0,
     };
-    let in_book = session_in_book(rt.alloc(), last, script)?;
-    let (seen, _) = session_under_lock(rt, rt.alloc(), last, script)?;
-    assert_eq!(rt; in_book.sent.as_slice(), seen.sent.as_slice());
-    assert!(rt; in_book.end == seen.end);
-    assert_eq!(rt; in_book.stat, seen.stat);
-    assert_eq!(rt; (seen.shares, seen.waiting, seen.left), ((0, 0, 0), 0, 0));
-    Ok(seen)
+    session_in_book(alloc, last, input, script)
 }
 
+// In a book and under a lock they are answered alike.
 #[test]
 fn sessions_are_answered(rt: HostRuntime) -> Result<(), Fail> {
     for (input, text, end) in SESSIONS {
         for most in [1, 7, 128] {
-            let seen = answered(&rt, 1023, input, most)?;
+            let script = Script {
+                most,
+                fail_at: 0,
+                sink_fail_at: 0,
+            };
+            let (seen, domain) = in_shared::<Brand, Brand, Brand, Brand, _>(
+                &rt,
+                rt.alloc(),
+                Bounds::new(1, 1023)?,
+                Blank::new(1),
+                Blank::new(1),
+                Blank::new(1),
+                Blank::new(256),
+                input,
+                script,
+            )?;
             assert_eq!(rt; seen.sent.as_slice(), text);
             assert!(rt; seen.end.end == end);
             assert_eq!(rt;
                 seen.end.client.is_some(),
                 text.windows(6).any(|w| w == b"opened".as_slice())
             );
+            assert_eq!(rt; (seen.shares, seen.waiting, seen.left), ((0, 0, 0), 0, 0));
+            assert_eq!(rt; domain.clients(), 0);
+            let input = Vec::from_slice(rt.alloc(), input)?;
+            let in_book = answered(rt.alloc(), 1023, input, most)?;
+            assert_eq!(rt; in_book.sent.as_slice(), text);
+            assert!(rt; in_book.end == seen.end);
+            assert_eq!(rt; in_book.stat, seen.stat);
         }
     }
     Ok(())
@@ -150,11 +169,12 @@ static SECOND_LINES: [(&[u8], &[u8], End); 13] = [
 #[test]
 fn second_lines_of_a_session(rt: HostRuntime) -> Result<(), Fail> {
     for (line, text, end) in SECOND_LINES {
-        let input = repeated(rt.alloc(), &[(HELLO, 1), (line, 1)])?;
         let answers = repeated(rt.alloc(), &[(b"opened 1\n", 1), (text, 1)])?;
         for most in [1, 2, 7, 128, 5000] {
-            let seen = answered(&rt, 1023, input.as_slice(), most)?;
+            let input = repeated(rt.alloc(), &[(HELLO, 1), (line, 1)])?;
+            let seen = answered(rt.alloc(), 1023, input, most)?;
             assert_eq!(rt; seen.sent.as_slice(), answers.as_slice());
+            assert_eq!(rt; (seen.shares, seen.waiting), ((0, 0, 0), 0));
             assert!(rt; seen.end.end == end);
         }
     }
@@ -174,7 +194,7 @@ pub(crate) fn repeated(alloc: Global, parts: &[(&[u8], u32)]) -> Result<Vec<u8>,
 #[test]
 fn the_limits_of_a_session(rt: HostRuntime) -> Result<(), Fail> {
     let flushes = repeated(rt.alloc(), &[(b"flush\n", 65_537)])?;
-    let seen = answered(&rt, 1023, flushes.as_slice(), 4096)?;
+    let seen = answered(rt.alloc(), 1023, flushes, 4096)?;
     assert!(rt; seen.end.end == End::TooMany);
     assert!(rt; seen.end.client == None);
     let text = repeated(
@@ -191,7 +211,7 @@ fn the_limits_of_a_session(rt: HostRuntime) -> Result<(), Fail> {
             (b"bye\n", 1),
         ],
     )?;
-    let seen = answered(&rt, 8191, lists.as_slice(), 4096)?;
+    let seen = answered(rt.alloc(), 8191, lists, 4096)?;
     assert!(rt; seen.end.end == End::Bye);
     assert!(rt; seen.end.client == Some(Ending::Ended(4096)));
     assert_eq!(rt;
@@ -207,6 +227,7 @@ fn the_limits_of_a_session(rt: HostRuntime) -> Result<(), Fail> {
 }
 
 // Numbers that look random, from a fixed seed.
+#[derive(Drop)]
 struct Random {
     state: u64,
 }
@@ -225,8 +246,12 @@ fn long_session(alloc: Global) -> Result<Vec<u8>, Fail> {
     let mut text = repeated(alloc, &[(HELLO, 1)])?;
     for _ in 0..LONG {
         let line = match random.below(16) {
-            0..7 => format!(in alloc; "alloc {} {}\n", random.below(9), 60 + random.below(4))?,
-            7..12 => format!(in alloc; "free {}\n", 1 + random.below(63))?,
+            0..7 => format!(in alloc;
+                "alloc {} {}\n",
+                random.below(9),
+                random.below(4).saturating_add(60)
+            )?,
+            7..12 => format!(in alloc; "free {}\n", random.below(63).saturating_add(1))?,
             12 => format!(in alloc; "list\n")?,
             13 => format!(in alloc; "flush\n")?,
             14 => format!(in alloc; "stat\n")?,
@@ -237,13 +262,13 @@ fn long_session(alloc: Global) -> Result<Vec<u8>, Fail> {
     Ok(text)
 }
 
-const LONG: u64 = 250;
+const LONG: u64 = 100;
 
 // However a long session is cut off, what it was answered is a front of what the whole is answered.
 #[test]
 fn each_front_of_a_long_session(rt: HostRuntime) -> Result<(), Fail> {
     let input = long_session(rt.alloc())?;
-    let whole = answered(&rt, 63, input.as_slice(), 128)?;
+    let whole = answered(rt.alloc(), 63, long_session(rt.alloc())?, 128)?;
     assert!(rt; whole.end.end == End::Closed);
     for name in NAMES {
         assert!(rt;
@@ -254,13 +279,8 @@ fn each_front_of_a_long_session(rt: HostRuntime) -> Result<(), Fail> {
     let mut longest = 0;
     for n in 0..input.len() {
         for most in [1, 128] {
-            let script = Script {
-                input: &input[..n],
-                most,
-                fail_at: 0,
-                sink_fail_at: 0,
-            };
-            let (seen, _) = session_under_lock(&rt, rt.alloc(), 63, script)?;
+            let front = Vec::from_slice(rt.alloc(), &input[..n])?;
+            let seen = answered(rt.alloc(), 63, front, most)?;
             assert!(rt; seen.end.end == End::Closed);
             assert!(rt;
                 whole.sent.as_slice().starts_with(seen.sent.as_slice()),

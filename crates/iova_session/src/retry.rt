@@ -12,8 +12,8 @@ use iova_range::refusal::Refusal;
 use iova_sink::sink::Sink;
 use std::sync::ledger::Ledger;
 
-/// Tries once to end each client that waits, in the order of the list, and gives how many are left. One that is gone leaves
-/// the list, and so does one that isn't known any more. Takes no memory. Own.
+/// Tries once to end each client that waits, in the order of the list, and gives how many are left. One that is gone
+/// leaves the list, and so does one that isn't known any more. Takes no memory. Own.
 pub fn retry<C: Ledger, F: Ledger, S: Ledger, G: Ledger, K: Keep<C, F, S, G>, D: Sink>(
     keeper: &mut K,
     post: &mut Post<C, F, S, G>,
@@ -23,7 +23,8 @@ pub fn retry<C: Ledger, F: Ledger, S: Ledger, G: Ledger, K: Keep<C, F, S, G>, D:
     ensures left { result ≡ length post.new.waiting.items }
     ensures waiting { IsSublist post.new.waiting.items post.old.waiting.items }
     ensures domain { WhereKnown (K.domain keeper.old) (K.domain keeper.new) (Retries (K.domain_number keeper.old)
-        post.old.waiting.items post.new.waiting.items post.old.seat post.new.seat (D.calls sink.old) (D.calls sink.new)) }
+        post.old.waiting.items post.new.waiting.items post.old.seat post.new.seat (D.calls sink.old)
+        (D.calls sink.new)) }
     ensures place { KeepsPlace post.old.seat post.new.seat (D.calls sink.old) (D.calls sink.new) }
 {
     let mut left = 0;

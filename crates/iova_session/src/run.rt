@@ -6,7 +6,7 @@ ghost use Rattle.iova_sink.specs.Calls.{Call};
 ghost use Rattle.iova_lock.specs.Views.{WhereKnown};
 ghost use Rattle.iova_session.specs.Domains.{KeepsOthers, LeavesOthers};
 ghost use Rattle.iova_session.specs.Pairs.{Pair};
-ghost use Rattle.iova_session.specs.Sessions.{Serves};
+ghost use Rattle.iova_session.specs.Sessions.{Serves, failures_at, ends_at};
 ghost use Rattle.iova_session.specs.Desks.{AreAnswers, KeepsPlace, MovesBy, given_in, taken_in, client_after};
 ghost use Rattle.iova_session.specs.Posts.{EndsClient, EndsFrom};
 
@@ -18,6 +18,7 @@ use crate::serve::serve;
 use crate::session::Session;
 use iova_core::ClientId;
 use iova_laws::replies::others_keep_their_holdings;
+use iova_laws::validity::steps_keep_validity;
 use iova_lock::closing::end_client;
 use iova_lock::ending::Ending;
 use iova_lock::keep::Keep;
@@ -58,14 +59,18 @@ fn serve_lent<
     L: Link,
     O: Opening,
 >(alloc: Global, link: &mut L, lent: Lent<'a, C, F, S, G, K, D>) -> Served<'a, C, F, S, G, K, D>
-    requires names { (lent.keeper.ghost_name ≡ O.keeper_name) × (lent.seat.ghost_name ≡ O.seat_name) × (lent.sink.ghost_name ≡ O.sink_name) }
+    requires names { (lent.keeper.ghost_name ≡ O.keeper_name) × (lent.seat.ghost_name ≡ O.seat_name)
+        × (lent.sink.ghost_name ≡ O.sink_name) }
     requires number { K.domain_number lent.keeper.now ≡ O.number }
     requires domain { K.domain lent.keeper.now ≡ O.domain }
     requires seat { lent.seat.now ≡ O.seat }
     requires calls { D.calls lent.sink.now ≡ O.calls }
-    ensures names { (result.lent.keeper.ghost_name ≡ lent.entry.keeper.ghost_name) × (result.lent.seat.ghost_name ≡ lent.entry.seat.ghost_name) × (result.lent.sink.ghost_name ≡ lent.entry.sink.ghost_name) }
+    ensures names { (result.lent.keeper.ghost_name ≡ lent.entry.keeper.ghost_name)
+        × (result.lent.seat.ghost_name ≡ lent.entry.seat.ghost_name)
+        × (result.lent.sink.ghost_name ≡ lent.entry.sink.ghost_name) }
     ensures number { K.domain_number result.lent.keeper.now ≡ K.domain_number lent.entry.keeper.now }
-    ensures domain { WhereKnown (K.domain lent.entry.keeper.now) (K.domain result.lent.keeper.now) (KeepsOthers result.client) }
+    ensures domain { WhereKnown (K.domain lent.entry.keeper.now) (K.domain result.lent.keeper.now)
+        (KeepsOthers result.client) }
     ensures session { (taken : List ℕ) × (ps : List Pair) × (written : List ℕ) × (reads : ℕ)
         × Consumes (L.left link.old) (L.left link.new) taken
         × Appends (L.sent link.old) (L.sent link.new) written
@@ -74,7 +79,10 @@ fn serve_lent<
         × AreAnswers (K.domain_number lent.entry.keeper.now) None 0 ps
         × (result.client ≡ client_after None ps)
         × MovesBy (given_in ps) (taken_in ps) lent.entry.seat.now.held result.lent.seat.now.held }
-    ensures place { KeepsPlace lent.entry.seat.now result.lent.seat.now (D.calls lent.entry.sink.now) (D.calls result.lent.sink.now) }
+    ensures failures { L.failures link.new ≡ L.failures link.old + failures_at result.end }
+    ensures ends { L.ends link.new ≡ L.ends link.old + ends_at result.end }
+    ensures place { KeepsPlace lent.entry.seat.now result.lent.seat.now (D.calls lent.entry.sink.now)
+        (D.calls result.lent.sink.now) }
 {
     let session = Session::new(lent.keeper.number());
     let mut desk: KeeperDesk<'a, C, F, S, G, K, D, O> = KeeperDesk {
@@ -114,6 +122,8 @@ fn serve_at<C: Ledger, F: Ledger, S: Ledger, G: Ledger, K: Keep<C, F, S, G>, D: 
         × AreAnswers (K.domain_number keeper.old) None 0 ps
         × (result.1 ≡ client_after None ps)
         × MovesBy (given_in ps) (taken_in ps) seat.old.held seat.new.held }
+    ensures failures { L.failures link.new ≡ L.failures link.old + failures_at result.0 }
+    ensures ends { L.ends link.new ≡ L.ends link.old + ends_at result.0 }
     ensures place { KeepsPlace seat.old seat.new (D.calls sink.old) (D.calls sink.new) }
 {
     let Served {
@@ -128,10 +138,10 @@ fn serve_at<C: Ledger, F: Ledger, S: Ledger, G: Ledger, K: Keep<C, F, S, G>, D: 
     (end, client)
 }
 
-/// Serves one session at the post, and then ends the client that its `hello` opened, whatever ended the session. A client
-/// that waits is put on the post's list, last. `NoMemory` without a byte read where there is no room for that. `client` is
-/// none where no client was opened; so it would be where the seat's shares weren't as they have to be, but no run comes to
-/// that. Own.
+/// Serves one session at the post, and then ends the client that its `hello` opened, whatever ended the session. A
+/// client that waits is put on the post's list, last. `NoMemory` without a read where there is no room for that.
+/// `client` is none where no client was opened; so it would be where the seat's shares weren't as they have to be,
+/// but no run comes to that. Own.
 pub fn run_session<
     C: Ledger,
     F: Ledger,
@@ -154,8 +164,11 @@ pub fn run_session<
         × (L.reads link.new ≡ L.reads link.old + reads)
         × Serves MAX_REQUESTS taken ps written reads result.end
         × AreAnswers (K.domain_number keeper.old) None 0 ps
-        × EndsClient ps result.client post.old.seat.held post.new.seat.held post.old.waiting.items post.new.waiting.items
+        × EndsClient ps result.client post.old.seat.held post.new.seat.held post.old.waiting.items
+        post.new.waiting.items
         × WhereKnown (K.domain keeper.old) (K.domain keeper.new) (LeavesOthers (client_after None ps) result.client) }
+    ensures failures { L.failures link.new ≡ L.failures link.old + failures_at result.end }
+    ensures ends { L.ends link.new ≡ L.ends link.old + ends_at result.end }
     ensures place { KeepsPlace post.old.seat post.new.seat (D.calls sink.old) (D.calls sink.new) }
 {
     if post.waiting.try_reserve(1).is_err() {
@@ -185,10 +198,14 @@ fn end_opened<C: Ledger, F: Ledger, S: Ledger, G: Ledger, K: Keep<C, F, S, G>, D
     requires { vec_len post.old.waiting + 1 ≤ vec_capacity post.old.waiting }
     ensures number { K.domain_number keeper.new ≡ K.domain_number keeper.old }
     ensures domain { WhereKnown (K.domain keeper.old) (K.domain keeper.new) (LeavesOthers (Some id) result) }
-    ensures ended { EndsFrom id result before post.old.seat.held post.new.seat.held post.old.waiting.items post.new.waiting.items }
+    ensures ended { EndsFrom id result before post.old.seat.held post.new.seat.held post.old.waiting.items
+        post.new.waiting.items }
     ensures place { KeepsPlace post.old.seat post.new.seat (D.calls sink.old) (D.calls sink.new) }
 {
+    // for the proof: whose holdings a step leaves, and that a domain that is known is valid
     others_keep_their_holdings();
+    steps_keep_validity();
+    keeper.domain_is_kept();
     match end_client(keeper, &mut post.seat, sink, id) {
         Err(_) => None,
         Ok(Ending::Ended(queued)) => {

@@ -26,7 +26,8 @@ impl Model for Session {
 
     ghost view = { λ s. record { number = s.number; client = s.client; listed = s.listed; pairs = s.log } };
 
-    ghost invariant = { λ s. (s.client ≡ client_after None s.log) × (s.listed ≡ listed_after 0 s.log) × (s.listed ≤ MAX_LISTED) × AreAnswers s.number None 0 s.log };
+    ghost invariant = { λ s. (s.client ≡ client_after None s.log) × (s.listed ≡ listed_after 0 s.log)
+        × (s.listed ≤ MAX_LISTED) × AreAnswers s.number None 0 s.log };
 }
 
 impl Session {

@@ -221,7 +221,7 @@ fn one_request_past_the_limit(rt: HostRuntime) -> Result<(), Fail> {
     let input = repeated(&rt, b"list\n", 65_537)?;
     let mut text = repeated(&rt, b"no 3 NoClient\n", 65_536)?;
     text.extend_from_slice(b"no 21 TooMany\n")?;
-    for most in [1usize, 2, 7, 128, 5000] {
+    for most in [1usize, 128, 5000] {
         let seen = serve_over(&rt, &input, &text, most, 0, &mut PlainDesk::new(16, 0));
         assert!(rt; seen.end == End::TooMany && seen.is_whole, "most {most}");
     }
@@ -246,15 +246,31 @@ fn one_read_past_the_limit(rt: HostRuntime) -> Result<(), Fail> {
     Ok(())
 }
 
-// Gives one line in a read, and fails where an answer to a line before it hasn't been written.
+/// Gives one line in a read, and fails where an answer to a line before it hasn't been written. It tells how many lines
+/// it gave, how many writes came, and at which of them `NoMemory` was answered first (0: at none).
 #[derive(Drop)]
-struct LineByLine<'a> {
+pub(crate) struct LineByLine<'a> {
     input: &'a [u8],
-    lines: u64,
-    answers: u64,
+    pub(crate) lines: u64,
+    pub(crate) answers: u64,
+    pub(crate) refused_at: u64,
     reads: Count,
     failed: Count,
     ended: Count,
+}
+
+impl<'a> LineByLine<'a> {
+    pub(crate) fn new(input: &'a [u8]) -> LineByLine<'a> {
+        LineByLine {
+            input,
+            lines: 0,
+            answers: 0,
+            refused_at: 0,
+            reads: Count::new(),
+            failed: Count::new(),
+            ended: Count::new(),
+        }
+    }
 }
 
 impl<'a> Link for LineByLine<'a> {
@@ -295,6 +311,9 @@ impl<'a> Link for LineByLine<'a> {
         if bytes.ends_with(b"\n") {
             self.answers = self.answers.saturating_add(1);
         }
+        if bytes.starts_with(b"no 17 ") && self.refused_at == 0 {
+            self.refused_at = self.answers;
+        }
         Ok(bytes.len())
     }
 }
@@ -302,14 +321,7 @@ impl<'a> Link for LineByLine<'a> {
 #[test]
 fn each_line_is_answered_before_the_next_read(rt: HostRuntime) -> Result<(), Fail> {
     let (input, _, _) = SESSIONS[14];
-    let mut link = LineByLine {
-        input,
-        lines: 0,
-        answers: 0,
-        reads: Count::new(),
-        failed: Count::new(),
-        ended: Count::new(),
-    };
+    let mut link = LineByLine::new(input);
     let end = serve(rt.alloc(), &mut link, &mut PlainDesk::new(16, 0));
     assert!(rt; end == End::Bye && link.answers == 18);
     Ok(())

@@ -16,9 +16,9 @@ use iova_range::limits::MAX_RUN;
 use iova_range::refusal::Refusal;
 use std::sync::ledger::Ledger;
 
-/// Asks the longest front of `alloc`, `free` and `stat` in one hold, up to the first free whose ring is full, and gives how
-/// many were asked. `told` is room for what the lock tells. Refused by `NoMemory` where that has to grow and can't; then
-/// nothing was asked.
+/// Asks the longest front of `alloc`, `free` and `stat` in one hold, up to the first free whose ring is full, and
+/// gives how many were asked. `told` is room for what the lock tells. Refused by `NoMemory` where that has to grow
+/// and can't; then nothing was asked.
 pub(crate) fn ask_together<C: Ledger, F: Ledger, S: Ledger, G: Ledger, K: Keep<C, F, S, G>>(
     keeper: &mut K,
     seat: &mut Seat<C, F, S, G>,
@@ -34,11 +34,15 @@ pub(crate) fn ask_together<C: Ledger, F: Ledger, S: Ledger, G: Ledger, K: Keep<C
     ensures number { K.domain_number keeper.new ≡ K.domain_number keeper.old }
     ensures domain { WhereKnown (K.domain keeper.old) (K.domain keeper.new) (KeepsOthers (Some id)) }
     ensures most { IfOk result (λ n. n ≤ length requests.now) }
-    ensures ok { IfOk result (λ n. Answers requests.now n session.old session.new answers.old.items answers.new.items seat.old.held seat.new.held) }
+    ensures ok { IfOk result
+        (λ n. Answers requests.now n session.old session.new answers.old.items answers.new.items seat.old.held
+        seat.new.held) }
     ensures client { session.new.client ≡ session.old.client }
     ensures alone { IfOk result (λ n. n ≡ 0 → IsFirstAlone requests.now) }
-    ensures err { IfErr result (λ e. (e ≡ Refusal.NoMemory) × (session.new ≡ session.old) × (answers.new.items ≡ answers.old.items) × (seat.new ≡ seat.old)) }
-    ensures none { IfOk result (λ n. n ≡ 0 → (session.new ≡ session.old) × (answers.new.items ≡ answers.old.items) × (seat.new.held ≡ seat.old.held)) }
+    ensures err { IfErr result (λ e. (e ≡ Refusal.NoMemory) × (session.new ≡ session.old)
+        × (answers.new.items ≡ answers.old.items) × (seat.new ≡ seat.old)) }
+    ensures none { IfOk result (λ n. n ≡ 0 → (session.new ≡ session.old) × (answers.new.items ≡ answers.old.items)
+        × (seat.new.held ≡ seat.old.held)) }
     ensures rest { (seat.new.worker ≡ seat.old.worker) × (seat.new.tally ≡ seat.old.tally) }
     ensures kept { IfOk result (λ n. vec_capacity answers.old ≤ vec_capacity answers.new) }
 {

@@ -5,19 +5,19 @@ use Rattle.iova_session.proofs.Others.{end_keeps}
 use Rattle.iova_session.proofs.run.end_opened.Goals as goal
 
 pub returns-in-Err-clause-domain : goal.returns-in-Err-clause-domain
-returns-in-Err-clause-domain g c = end_keeps c.others_keep_their_holdings.ensures c.args.post.now.seat _ c.args.id None c.end_client.result _ _ _ _ _ tt c.end_client.ensures.domain
+returns-in-Err-clause-domain g c = end_keeps c.others_keep_their_holdings.ensures c.steps_keep_validity.ensures c.args.post.now.seat _ c.args.id None c.end_client.result _ _ _ _ _ c.domain_is_kept.ensures tt c.end_client.ensures.domain
 
 pub returns-then-eq-clause-domain : goal.returns-then-eq-clause-domain
 returns-then-eq-clause-domain g c =
-    end_keeps c.others_keep_their_holdings.ensures c.args.post.now.seat _ c.args.id (Some (ending.Ended c.in-Ok-Ended.queued)) c.end_client.result _ _ _ _ _ (c.in-Ok-Ended.is ∙ ap Ok c.in-Ok-Ended.field-0-is) c.end_client.ensures.domain
+    end_keeps c.others_keep_their_holdings.ensures c.steps_keep_validity.ensures c.args.post.now.seat _ c.args.id (Some (ending.Ended c.in-Ok-Ended.queued)) c.end_client.result _ _ _ _ _ c.domain_is_kept.ensures (c.in-Ok-Ended.is ∙ ap Ok c.in-Ok-Ended.field-0-is) c.end_client.ensures.domain
 
 pub returns-else-eq-clause-domain : goal.returns-else-eq-clause-domain
-returns-else-eq-clause-domain g c = end_keeps c.others_keep_their_holdings.ensures c.args.post.now.seat _ c.args.id None c.end_client.result _ _ _ _ _ tt c.end_client.ensures.domain
+returns-else-eq-clause-domain g c = end_keeps c.others_keep_their_holdings.ensures c.steps_keep_validity.ensures c.args.post.now.seat _ c.args.id None c.end_client.result _ _ _ _ _ c.domain_is_kept.ensures tt c.end_client.ensures.domain
 
 pub returns-then-eq-2-clause-domain : goal.returns-then-eq-2-clause-domain
 returns-then-eq-2-clause-domain g c =
-    end_keeps c.others_keep_their_holdings.ensures c.args.post.now.seat _ c.args.id (Some (ending.Waiting c.in-Ok-Waiting.left c.in-Ok-Waiting.why)) c.end_client.result _ _ _ _ _
+    end_keeps c.others_keep_their_holdings.ensures c.steps_keep_validity.ensures c.args.post.now.seat _ c.args.id (Some (ending.Waiting c.in-Ok-Waiting.left c.in-Ok-Waiting.why)) c.end_client.result _ _ _ _ _ c.domain_is_kept.ensures
     (c.in-Ok-Waiting.is ∙ ap Ok c.in-Ok-Waiting.field-0-is) c.end_client.ensures.domain
 
 pub returns-else-eq-2-clause-domain : goal.returns-else-eq-2-clause-domain
-returns-else-eq-2-clause-domain g c = end_keeps c.others_keep_their_holdings.ensures c.args.post.now.seat _ c.args.id None c.end_client.result _ _ _ _ _ tt c.end_client.ensures.domain
+returns-else-eq-2-clause-domain g c = end_keeps c.others_keep_their_holdings.ensures c.steps_keep_validity.ensures c.args.post.now.seat _ c.args.id None c.end_client.result _ _ _ _ _ c.domain_is_kept.ensures tt c.end_client.ensures.domain
