@@ -76,6 +76,10 @@ where
     };
     let posts = posts_of(alloc, seats)?;
     let sinks = open_sinks(rt, alloc, plan.sink, posts.len() + 1)?;
+    // the system would take an empty path for a socket without a name
+    if plan.socket.is_empty() {
+        return Err(Fault::SocketFault);
+    }
     let Ok(listener) = UnixListener::bind(rt, plan.socket) else {
         return Err(Fault::SocketFault);
     };
