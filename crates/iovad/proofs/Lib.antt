@@ -1,4 +1,5 @@
 mod Copying
 mod Lined
 mod PutMore
+mod Sends
 mod SentParts

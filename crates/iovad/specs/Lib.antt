@@ -2,3 +2,4 @@ pub mod Faults
 pub mod Answers
 pub mod Asking
 pub mod Runs
+pub mod Serving

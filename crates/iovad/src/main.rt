@@ -1,9 +1,13 @@
 //! `iovad`, the address service: today it replays traces.
 #![tactic(auto)]
 
+mod accept;
 mod answer;
 mod ask;
 mod fault;
+mod pause;
+mod serving;
+mod socket;
 #[cfg(test)]
 mod tests;
 

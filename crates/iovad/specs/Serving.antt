@@ -1,0 +1,8 @@
+-- Why nothing was served. Own.
+use Rattle.std.specs.Prelude.{[], ◌∷◌}
+use Rattle.iova_range.specs.declared.refusal.Refusal.{Refusal}
+use Rattle.iova_range.specs.declared.refusal.Refusal.TheVariants as refusal
+use Rattle.iova_model.specs.Laws.{IsAmong}
+
+abbrev pub IsServeRefusal : Refusal → Type 0
+IsServeRefusal e = IsAmong e (refusal.NoMemory ∷ refusal.LinkFault ∷ [])

@@ -1,0 +1,29 @@
+//! A sink whose failures are notices.
+use iova_sink::sink::{Sink, SinkFault};
+use log::{Log, warn};
+
+/// A sink, each of whose failures is a notice.
+#[derive(Drop)]
+pub struct NotingSink<'a, D, N> {
+    sink: D,
+    notices: &'a N,
+}
+
+impl<'a, D, N> NotingSink<'a, D, N> {
+    /// This sink, with notices told here.
+    pub fn new(sink: D, notices: &'a N) -> NotingSink<'a, D, N> {
+        NotingSink { sink, notices }
+    }
+}
+
+impl<'a, D: Sink, N: Log> Sink for NotingSink<'a, D, N> {
+    ghost calls = { λ s. D.calls s.sink };
+
+    fn invalidate(&mut self, domain: u64, no: u64) -> Result<(), SinkFault> {
+        let told = self.sink.invalidate(domain, no);
+        if told.is_err() {
+            warn!(self.notices; "flush {no}: the sink failed");
+        }
+        told
+    }
+}

@@ -1,0 +1,188 @@
+//! Links that wait for one another, accepts that fail, pauses without time, and notices that are counted.
+ghost use Rattle.std.specs.Prelude.{Some, None};
+
+use crate::accept::Accept;
+use crate::pause::Pause;
+use iova_session::link::{Link, LinkFault};
+use iova_session::memory_link::MemoryLink;
+use iova_sink::gate::Flag;
+use log::kv::Source;
+use log::span::Spans;
+use log::{Log, Metadata, Record};
+use std::alloc::Global;
+use std::fmt::Display;
+use std::sync::atomic::{AtomicU64, Ordering};
+use std::thread;
+
+/// A session that is to come: what its peer sends, once a flag is raised if it waits for one, at which call its link fails (0:
+/// at none), what it is to be answered, and the flag that is raised once it has been.
+#[derive(Clone, Copy)]
+pub struct Row<'a> {
+    input: &'a [u8],
+    before: Option<&'a Flag>,
+    fail_at: u64,
+    answers: &'a [u8],
+    answered: &'a Flag,
+}
+
+impl<'a> Row<'a> {
+    /// A session that waits for nothing, and whose link doesn't fail.
+    pub fn new(input: &'a [u8], answers: &'a [u8], answered: &'a Flag) -> Row<'a> {
+        Row {
+            input,
+            before: None,
+            fail_at: 0,
+            answers,
+            answered,
+        }
+    }
+
+    /// The same, but its peer sends once the flag is raised.
+    pub fn waits_for(self, flag: &'a Flag) -> Row<'a> {
+        Row {
+            before: Some(flag),
+            ..self
+        }
+    }
+
+    /// The same, but its link fails at this call.
+    pub fn fails_at(self, call: u64) -> Row<'a> {
+        Row {
+            fail_at: call,
+            ..self
+        }
+    }
+}
+
+/// A link of such a session.
+#[derive(Drop)]
+pub struct RowLink<'a> {
+    row: Row<'a>,
+    wire: MemoryLink<'a>,
+}
+
+impl<'a> Link for RowLink<'a> {
+    ghost left = { λ l. Some l.wire.left };
+
+    ghost sent = { λ l. Some l.wire.sent };
+
+    ghost reads = { λ l. l.wire.reads };
+
+    ghost failures = { λ l. l.wire.failures };
+
+    ghost ends = { λ l. l.wire.ends };
+
+    fn read(&mut self, buf: &mut [u8]) -> Result<usize, LinkFault> {
+        if let Some(before) = self.row.before {
+            before.wait();
+        }
+        self.wire.read(buf)
+    }
+
+    fn write(&mut self, bytes: &[u8]) -> Result<usize, LinkFault> {
+        let written = self.wire.write(bytes);
+        if self.wire.sent() == self.row.answers {
+            self.row.answered.raise();
+        }
+        written
+    }
+}
+
+/// Fails at its first calls, and then accepts the sessions of a list in turn; behind its end each accept fails. How often it
+/// was called is counted.
+#[derive(Drop)]
+pub struct Rows<'a> {
+    alloc: Global,
+    failing: u64,
+    rows: &'a [Row<'a>],
+    calls: AtomicU64,
+}
+
+impl<'a> Rows<'a> {
+    /// Accepts these sessions once so many calls have failed.
+    pub fn new(alloc: Global, failing: u64, rows: &'a [Row<'a>]) -> Rows<'a> {
+        Rows {
+            alloc,
+            failing,
+            rows,
+            calls: AtomicU64::new(0),
+        }
+    }
+
+    /// How often it was called.
+    pub fn calls(&self) -> u64 {
+        self.calls.load(Ordering::SeqCst)
+    }
+}
+
+impl<'a> Accept<RowLink<'a>> for Rows<'a> {
+    fn accept(&self) -> Result<RowLink<'a>, LinkFault> {
+        let call = self.calls.fetch_add(1, Ordering::SeqCst);
+        let Some(at) = call.checked_sub(self.failing) else {
+            return Err(LinkFault);
+        };
+        let Some(row) = self.rows.get(at as usize) else {
+            return Err(LinkFault);
+        };
+        Ok(RowLink {
+            row: *row,
+            wire: MemoryLink::new(self.alloc, row.input, 4096, row.fail_at),
+        })
+    }
+}
+
+/// No round at all.
+#[derive(Drop)]
+pub struct Stops;
+
+impl Pause for Stops {
+    fn pause(&mut self) -> bool {
+        false
+    }
+}
+
+/// Rounds as fast as they come.
+#[derive(Drop)]
+pub struct Yields;
+
+impl Pause for Yields {
+    fn pause(&mut self) -> bool {
+        thread::yield_now();
+        true
+    }
+}
+
+/// Counts notices, and prints none.
+#[derive(Drop)]
+pub struct Counted {
+    records: AtomicU64,
+}
+
+impl Counted {
+    pub fn new() -> Counted {
+        Counted {
+            records: AtomicU64::new(0),
+        }
+    }
+
+    /// How many there were.
+    pub fn count(&self) -> u64 {
+        self.records.load(Ordering::SeqCst)
+    }
+}
+
+impl Log for Counted {
+    fn enabled(&self, _metadata: &Metadata<'_>) -> bool {
+        true
+    }
+
+    fn log<D: Display, K: Source, S: Spans>(&self, _record: &Record<'_, D, K, S>) {
+        self.records.fetch_add(1, Ordering::SeqCst);
+    }
+
+    fn flush(&self) {}
+
+    fn target(&self) -> &str {
+        ""
+    }
+}
