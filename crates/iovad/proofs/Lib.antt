@@ -2,4 +2,5 @@ mod Copying
 mod Gathering
 mod Lined
 mod PutMore
+mod Sends
 mod SentParts

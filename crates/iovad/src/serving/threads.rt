@@ -4,7 +4,7 @@ ghost use Rattle.std.specs.Prelude.{◌≡◌, ◌≤◌, [], map, vec_len, vec_
 use crate::accept::Accept;
 use crate::serving::crossing::{domains_are_sync, posts_are_send, turns_are_sync};
 use crate::serving::turns::Turns;
-use crate::serving::worker::work_on;
+use crate::serving::worker::{Worker, work_on};
 use iova_lock::shared::Shared;
 use iova_session::link::Link;
 use iova_session::post::Post;
@@ -56,7 +56,7 @@ where
     ensures fits { vec_len started.new ≤ vec_len posts }
     ensures whole { result ≡ true → map (λ h. h.promise.0) started.new.items ≡ map (λ p. p.seat.worker) posts.items }
 {
-    // for the proof: what a worker is lent and given may go to its thread
+    // for the proof: what a worker has may go to its thread
     posts_are_send::<C, F, S, G>();
     domains_are_sync::<Q, C, F, S, G>();
     turns_are_sync();
@@ -69,13 +69,19 @@ where
             return false;
         }
         let promise = WorkerIs(post.seat.worker());
-        let work = move || -> Post<C, F, S, G>
-            ensures { result.seat.worker ≡ post.seat.worker }
-        {
-            work_on::<R, Q, N, C, F, S, G, L, A, D>(
-                rt, alloc, notices, shared, post, sink, accept, turns,
-            )
+        let worker = Worker {
+            rt,
+            alloc,
+            notices,
+            shared,
+            post,
+            sink,
+            accept,
+            turns,
         };
+        let work = move || -> Post<C, F, S, G>
+            ensures { result.seat.worker ≡ worker.entry.post.seat.worker }
+        { work_on::<R, Q, N, C, F, S, G, L, A, D>(worker) };
         let Ok(handle) = scope.spawn_with(promise, work) else {
             return false;
         };

@@ -16,17 +16,24 @@ use std::alloc::Global;
 use std::sync::Wait;
 use std::sync::ledger::Ledger;
 
+/// What a worker has: a post with its sink, and references to what it is lent. Each is a parameter, so that one short law says
+/// that a worker may go to another thread where each of them may.
+#[derive(Drop)]
+pub struct Worker<R, N, K, P, D, A, T> {
+    pub rt: R,
+    pub alloc: Global,
+    pub notices: N,
+    pub shared: K,
+    pub post: P,
+    pub sink: D,
+    pub accept: A,
+    pub turns: T,
+}
+
 /// Waits at the gate, and then serves sessions at the post until no number is left. Its waiting clients are tried again
 /// before each number is taken.
-pub fn work_on<R, Q, N, C, F, S, G, L, A, D>(
-    rt: &R,
-    alloc: Global,
-    notices: &N,
-    shared: &Shared<Q, C, F, S, G>,
-    post: Post<C, F, S, G>,
-    sink: D,
-    accept: &A,
-    turns: &Turns,
+pub fn work_on<'s, R, Q, N, C, F, S, G, L, A, D>(
+    worker: Worker<&'s R, &'s N, &'s Shared<Q, C, F, S, G>, Post<C, F, S, G>, D, &'s A, &'s Turns>,
 ) -> Post<C, F, S, G>
 where
     R: Wait,
@@ -39,10 +46,19 @@ where
     L: Link + Drop,
     A: Accept<L>,
     D: Sink + Drop,
-    ensures { result.seat.worker ≡ post.seat.worker }
+    ensures { result.seat.worker ≡ worker.entry.post.seat.worker }
 {
+    let Worker {
+        rt,
+        alloc,
+        notices,
+        shared,
+        mut post,
+        sink,
+        accept,
+        turns,
+    } = worker;
     let mut keeper = shared;
-    let mut post = post;
     let mut sink = NotingSink::new(sink, notices);
     if *turns.gate.lock(rt) {
         'sessions: for _ in rt.forever() {
