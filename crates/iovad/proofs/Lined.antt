@@ -80,7 +80,14 @@ gathered_push bytes rest l behind len n g cut one short not = record {
 pub run_of : (bytes rest : List ℕ) (len n : ℕ) → IsGathered bytes rest len n → n ≤ MAX_RUN → (n ≡ 0 → IsStuck rest)
     → IsRun bytes record { len = len; lines = n; is_last = false }
 run_of bytes rest len n g few stuck = record {
-  lines = g.lines; rest = rest; whole = g.whole; len = g.len_is; count = g.count_is; few = few; byes = g.good; stuck = stuck;
+  lines = g.lines;
+  rest = rest;
+  whole = g.whole;
+  len = g.len_is;
+  count = g.count_is;
+  few = few;
+  byes = g.good;
+  stuck = stuck;
 }
 
 pub run_by_bye : (bytes rest l behind : List ℕ) (len n : ℕ) → IsGathered bytes rest len n → rest ≡ whole_line l ++ behind → l ≡ bye → n + 1 ≤ MAX_RUN
@@ -200,5 +207,5 @@ pub some_sent : (p q r : Option (List ℕ)) (ls ms : List (List ℕ)) (n : ℕ) 
     → Appends p r (take (length (lines_text ls) + n) (lines_text (ls ++ ms)))
 some_sent p q r ls ms n a b =
     let front : take (length (lines_text ls) + n) (lines_text (ls ++ ms)) ≡ lines_text ls ++ take n (lines_text ms) =
-        ap (take (length (lines_text ls) + n)) (lines_text-append ls ms) ∙ take_past (lines_text ls) (lines_text ms) n in
+    ap (take (length (lines_text ls) + n)) (lines_text-append ls ms) ∙ take_past (lines_text ls) (lines_text ms) n in
     subst (Appends p r) (sym front) (Appends-trans p q r (lines_text ls) (take n (lines_text ms)) a b)

@@ -73,9 +73,12 @@ sends_broken taken mid new before now left p q r ls fault.NoMemory a sent h =
 
 pub sends_bye : (taken mid new : List ℕ) (before now : ℕ) (left p q r : Option (List ℕ)) (ls : List (List ℕ)) → AreLinesAnd taken mid ls
     → Appends p q (lines_text ls) → before ≡ length ls → Asks mid new before now q r (Ok true) → Sends taken left p r (Ok now)
-sends_bye taken mid new before now left p q r ls a sent count h =
-    (ls ++ h.0, inl (more_bye ls h.0 a.good h.1, more_begin taken mid ls h.0 a.whole h.2), more_sent p q r ls h.0 sent h.3,
-    length_more ls h.0 before now count h.4)
+sends_bye taken mid new before now left p q r ls a sent count h = (
+  ls ++ h.0,
+  inl (more_bye ls h.0 a.good h.1, more_begin taken mid ls h.0 a.whole h.2),
+  more_sent p q r ls h.0 sent h.3,
+  length_more ls h.0 before now count h.4,
+)
 
 -- the rest of an input
 begins_rest : (taken rest : List ℕ) (ls : List (List ℕ)) → AreLinesAnd taken rest ls → BeginWith (taken ++ 10 ∷ []) (ls ++ rest ∷ [])
@@ -96,7 +99,7 @@ sends_rest taken rest before left p q r ls (Ok n) a sent count end (inl h) =
     (ls, inr (end, inl done), text, h.1 ∙ count)
 sends_rest taken rest before left p q r ls (Ok n) a sent count end (inr h) =
     let text : Appends p r (lines_text (ls ++ rest ∷ [])) =
-        subst (Appends p r) (sym (lines_text-push ls rest)) (Appends-trans p q r (lines_text ls) (whole_line rest) sent h.2) in
+    subst (Appends p r) (sym (lines_text-push ls rest)) (Appends-trans p q r (lines_text ls) (whole_line rest) sent h.2) in
     (ls ++ rest ∷ [], inr (end, inr (rest, ls, a, h.0, refl)), text, length_more ls (rest ∷ []) before n count h.1)
 sends_rest taken rest before left p q r ls (Err fault.Read) a sent count end h = absurd h
 sends_rest taken rest before left p q r ls (Err fault.Write) a sent count end h =

@@ -16,8 +16,8 @@ use crate::ask::answers::copy_answers;
 use crate::ask::buffer::{Buffer, PIECE};
 use crate::ask::fault::AskFault;
 use crate::ask::gather::gather;
-use iova_session::link::{Link, LinkFault};
 use iova_range::limits::{MAX_LINE, MAX_READS};
+use iova_session::link::{Link, LinkFault};
 use std::alloc::Global;
 use std::io;
 use std::io::{Read, Write};
@@ -91,7 +91,13 @@ fn ask_whole<W: Write, L: Link>(
             }
             return Ok(false);
         }
-        match ask_some(&input.as_slice()[..run.len], run.lines, writer, link, answers) {
+        match ask_some(
+            &input.as_slice()[..run.len],
+            run.lines,
+            writer,
+            link,
+            answers,
+        ) {
             Ok(()) => {}
             Err(fault) => return Err(fault),
         }

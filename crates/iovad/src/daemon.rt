@@ -20,15 +20,14 @@ use iova_sink::file::FileDevice;
 use iova_sink::record::RecordSink;
 use log::Log;
 use std::alloc::Global;
-use std::fs;
 use std::fs::File;
-use std::io;
 use std::net::Net;
 use std::os::unix::net::UnixListener;
 use std::rt::{Files, Runtime};
 use std::sync::Wait;
 use std::sync::ledger::{Blank, Ledger};
 use std::thread::Threads;
+use std::{fs, io};
 
 /// Serves the plan's sessions on its socket, and then prints a line with the domain's number and the domain's report. The
 /// socket's file is removed once the sessions are over, also where no thread could be started. Clients that still wait then
@@ -84,7 +83,19 @@ where
         return Err(Fault::SocketFault);
     };
     let accept = SocketAccept::new(rt, rt, listener);
-    let served = serve_on::<R, &R, R, C, F, S, G, SocketLink, SocketAccept<'_, R, R>, RecordSink<FileDevice>, Ticks<'_, R>>(
+    let served = serve_on::<
+        R,
+        &R,
+        R,
+        C,
+        F,
+        S,
+        G,
+        SocketLink,
+        SocketAccept<'_, R, R>,
+        RecordSink<FileDevice>,
+        Ticks<'_, R>,
+    >(
         rt,
         alloc,
         rt,
@@ -103,7 +114,12 @@ where
             let Ok(_totals) = shared.gather(seats) else {
                 unreachable!();
             };
-            print_domain(alloc, plan.domain, &shared.into_domain(), &mut io::writer(rt))
+            print_domain(
+                alloc,
+                plan.domain,
+                &shared.into_domain(),
+                &mut io::writer(rt),
+            )
         }
         Err(Refusal::NoMemory) => Err(Fault::NoMemory),
         Err(_) => Err(Fault::SocketFault),
@@ -174,7 +190,9 @@ where
     let mut keeper = shared;
     for post in posts {
         let mut post = post;
-        if !post.waiting.is_empty() && let Ok(device) = FileDevice::open(rt, path) {
+        if !post.waiting.is_empty()
+            && let Ok(device) = FileDevice::open(rt, path)
+        {
             let _left = retry(&mut keeper, &mut post, &mut RecordSink::new(device));
         }
         let Post { seat, waiting: _ } = post;

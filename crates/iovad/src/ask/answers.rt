@@ -5,8 +5,8 @@ ghost use Rattle.iovad.specs.Asking.{Breaks, Copies, Moves};
 
 use crate::ask::buffer::{Buffer, PIECE};
 use crate::ask::fault::AskFault;
-use iova_session::link::{Link, LinkFault};
 use iova_range::limits::MAX_LINE;
+use iova_session::link::{Link, LinkFault};
 use iova_text::line::cut_line;
 use iova_text::number::number;
 use iova_text::write::write_all;

@@ -129,7 +129,10 @@ fn a_link_that_fails(rt: HostRuntime) -> Result<(), Fail> {
     for fail_at in 1..=24u64 {
         let found = asked(rt.alloc(), input, answers, 1, fail_at, 4096)?;
         assert_eq!(rt; found.outcome, Err(AskFault::Link), "{fail_at}");
-        assert!(rt; b"list\nbye\n".starts_with(found.sent.as_slice()), "{fail_at}");
+        assert!(rt;
+            b"list\nbye\n".starts_with(found.sent.as_slice()),
+            "{fail_at}"
+        );
         assert!(rt; answers.starts_with(found.written.as_slice()), "{fail_at}");
     }
     let found = asked(rt.alloc(), input, answers, 1, 25, 4096)?;
@@ -197,7 +200,13 @@ fn answers_that_are_cut_short(rt: HostRuntime) -> Result<(), Fail> {
     ] {
         for most in [1usize, 4096] {
             let found = asked(rt.alloc(), b"list\n", answers.as_bytes(), most, 0, 4096)?;
-            assert_told(&rt, &found, written.as_bytes(), b"list\n", Err(AskFault::Link));
+            assert_told(
+                &rt,
+                &found,
+                written.as_bytes(),
+                b"list\n",
+                Err(AskFault::Link),
+            );
         }
     }
     // no number of ranges
@@ -243,7 +252,14 @@ fn many_lines(rt: HostRuntime) -> Result<(), Fail> {
         input.extend_from_slice(b"alloc 1 9\n")?;
         answers.extend_from_slice(b"given 9 1\n")?;
     }
-    let found = asked(alloc, input.as_slice(), answers.as_slice(), 4096, 0, 100_000)?;
+    let found = asked(
+        alloc,
+        input.as_slice(),
+        answers.as_slice(),
+        4096,
+        0,
+        100_000,
+    )?;
     assert_told(&rt, &found, answers.as_slice(), input.as_slice(), Ok(3000));
     Ok(())
 }

@@ -40,9 +40,12 @@ returns-then-len-eq0-clause-sent g c =
     let r2 = g.R.Read.remaining c.read_some.new.reader in
     let got : take c.in-Ok.len c.read_some.new.piece ≡ [] = ap (λ (n : ℕ). take n c.read_some.new.piece) c.if-len-eq0.true in
     let consumed = subst (Consumes r0 r2) (ap (λ (t : List ℕ). a.0 ++ t) got ∙ append-nil a.0)
-        (Consumes-trans r0 (g.R.Read.remaining c.reading.reader) r2 a.0 (take c.in-Ok.len c.read_some.new.piece) a.2 c.in-Ok.ensures.ok) in
-    (a.0, consumed, sends_rest a.0 c.reading.input c.reading.sent r2 (g.L.Link.sent c.args.link.now) (g.L.Link.sent c.reading.link) (g.L.Link.sent c.ask_rest.new.link)
-    a.1 c.ask_rest.result a.3 a.4 a.5 (c.in-Ok.ensures.end c.if-len-eq0.true) c.ask_rest.ensures.asked)
+    (Consumes-trans r0 (g.R.Read.remaining c.reading.reader) r2 a.0 (take c.in-Ok.len c.read_some.new.piece) a.2 c.in-Ok.ensures.ok) in (
+      a.0,
+      consumed,
+      sends_rest a.0 c.reading.input c.reading.sent r2 (g.L.Link.sent c.args.link.now) (g.L.Link.sent c.reading.link) (g.L.Link.sent c.ask_rest.new.link)
+          a.1 c.ask_rest.result a.3 a.4 a.5 (c.in-Ok.ensures.end c.if-len-eq0.true) c.ask_rest.ensures.asked,
+    )
 
 pub returns-then-len-eq0-clause-copied : goal.returns-then-len-eq0-clause-copied
 returns-then-len-eq0-clause-copied g c =
@@ -56,9 +59,12 @@ returns-in-Err-add-clause-sent g c =
     let piece = take c.in-Ok.len c.read_some.new.piece in
     let consumed = Consumes-trans (g.R.Read.remaining c.args.reader.now) (g.R.Read.remaining c.reading.reader) r2 a.0 piece a.2 c.in-Ok.ensures.ok in
     let is : c.in-Err-add.fault ≡ fault.NoMemory = cc (c.in-Err-add.ensures.err) in
-    let lines = add_piece a.0 c.reading.input piece (c.reading.input ++ piece) a.1 a.3 refl in
-    (a.0 ++ piece, consumed, subst (λ (e : AskFault). Sends (a.0 ++ piece) r2 (g.L.Link.sent c.args.link.now) (g.L.Link.sent c.reading.link) (Err e)) (sym is)
-    (sends_refused (a.0 ++ piece) (c.reading.input ++ piece) r2 (g.L.Link.sent c.args.link.now) (g.L.Link.sent c.reading.link) a.1 lines a.4))
+    let lines = add_piece a.0 c.reading.input piece (c.reading.input ++ piece) a.1 a.3 refl in (
+      a.0 ++ piece,
+      consumed,
+      subst (λ (e : AskFault). Sends (a.0 ++ piece) r2 (g.L.Link.sent c.args.link.now) (g.L.Link.sent c.reading.link) (Err e)) (sym is)
+          (sends_refused (a.0 ++ piece) (c.reading.input ++ piece) r2 (g.L.Link.sent c.args.link.now) (g.L.Link.sent c.reading.link) a.1 lines a.4),
+    )
 
 pub returns-then-is_last-clause-sent : goal.returns-then-is_last-clause-sent
 returns-then-is_last-clause-sent g c =
@@ -68,9 +74,12 @@ returns-then-is_last-clause-sent g c =
     let consumed = Consumes-trans (g.R.Read.remaining c.args.reader.now) (g.R.Read.remaining c.reading.reader) r2 a.0 piece a.2 c.in-Ok.ensures.ok in
     let lines = add_piece a.0 c.reading.input piece c.add.new.self a.1 a.3 c.in-Ok-add.ensures.ok in
     let asked = subst (λ (b : Bool). Asks c.add.new.self c.ask_whole.new.input c.reading.sent c.ask_whole.new.sent (g.L.Link.sent c.reading.link) (g.L.Link.sent c.ask_whole.new.link) (Ok b))
-        c.if-is_last.true c.in-Ok-ask_whole.ensures.asked in
-    (a.0 ++ piece, consumed, sends_bye (a.0 ++ piece) c.add.new.self c.ask_whole.new.input c.reading.sent c.ask_whole.new.sent r2
-    (g.L.Link.sent c.args.link.now) (g.L.Link.sent c.reading.link) (g.L.Link.sent c.ask_whole.new.link) a.1 lines a.4 a.5 asked)
+    c.if-is_last.true c.in-Ok-ask_whole.ensures.asked in (
+      a.0 ++ piece,
+      consumed,
+      sends_bye (a.0 ++ piece) c.add.new.self c.ask_whole.new.input c.reading.sent c.ask_whole.new.sent r2
+          (g.L.Link.sent c.args.link.now) (g.L.Link.sent c.reading.link) (g.L.Link.sent c.ask_whole.new.link) a.1 lines a.4 a.5 asked,
+    )
 
 pub returns-then-is_last-clause-copied : goal.returns-then-is_last-clause-copied
 returns-then-is_last-clause-copied g c =
@@ -82,9 +91,12 @@ returns-in-Err-ask_whole-clause-sent g c =
     let r2 = g.R.Read.remaining c.read_some.new.reader in
     let piece = take c.in-Ok.len c.read_some.new.piece in
     let consumed = Consumes-trans (g.R.Read.remaining c.args.reader.now) (g.R.Read.remaining c.reading.reader) r2 a.0 piece a.2 c.in-Ok.ensures.ok in
-    let lines = add_piece a.0 c.reading.input piece c.add.new.self a.1 a.3 c.in-Ok-add.ensures.ok in
-    (a.0 ++ piece, consumed, sends_broken (a.0 ++ piece) c.add.new.self c.ask_whole.new.input c.reading.sent c.ask_whole.new.sent r2
-    (g.L.Link.sent c.args.link.now) (g.L.Link.sent c.reading.link) (g.L.Link.sent c.ask_whole.new.link) a.1 c.in-Err-ask_whole.fault lines a.4 c.in-Err-ask_whole.ensures.asked)
+    let lines = add_piece a.0 c.reading.input piece c.add.new.self a.1 a.3 c.in-Ok-add.ensures.ok in (
+      a.0 ++ piece,
+      consumed,
+      sends_broken (a.0 ++ piece) c.add.new.self c.ask_whole.new.input c.reading.sent c.ask_whole.new.sent r2
+          (g.L.Link.sent c.args.link.now) (g.L.Link.sent c.reading.link) (g.L.Link.sent c.ask_whole.new.link) a.1 c.in-Err-ask_whole.fault lines a.4 c.in-Err-ask_whole.ensures.asked,
+    )
 
 pub returns-in-Err-ask_whole-clause-copied : goal.returns-in-Err-ask_whole-clause-copied
 returns-in-Err-ask_whole-clause-copied g c =
@@ -99,13 +111,25 @@ reading-preserved g c =
     let consumed = Consumes-trans (g.R.Read.remaining c.args.reader.now) (g.R.Read.remaining c.reading.reader) r2 a.0 piece a.2 c.in-Ok.ensures.ok in
     let lines = add_piece a.0 c.reading.input piece c.add.new.self a.1 a.3 c.in-Ok-add.ensures.ok in
     let asked = subst (λ (b : Bool). Asks c.add.new.self c.ask_whole.new.input c.reading.sent c.ask_whole.new.sent (g.L.Link.sent c.reading.link) (g.L.Link.sent c.ask_whole.new.link) (Ok b))
-        c.if-is_last.false c.in-Ok-ask_whole.ensures.asked in
+    c.if-is_last.false c.in-Ok-ask_whole.ensures.asked in
     record {
-      asked = (a.0 ++ piece, a.1 ++ asked.0, consumed, more_lines (a.0 ++ piece) c.add.new.self c.ask_whole.new.input a.1 asked.0 lines asked.1,
-          more_sent (g.L.Link.sent c.args.link.now) (g.L.Link.sent c.reading.link) (g.L.Link.sent c.ask_whole.new.link) a.1 asked.0 a.4 asked.3,
-          length_more a.1 asked.0 c.reading.sent c.ask_whole.new.sent a.5 asked.4);
+      asked = (
+        a.0 ++ piece,
+        a.1 ++ asked.0,
+        consumed,
+        more_lines (a.0 ++ piece) c.add.new.self c.ask_whole.new.input a.1 asked.0 lines asked.1,
+        more_sent (g.L.Link.sent c.args.link.now) (g.L.Link.sent c.reading.link) (g.L.Link.sent c.ask_whole.new.link) a.1 asked.0 a.4 asked.3,
+        length_more a.1 asked.0 c.reading.sent c.ask_whole.new.sent a.5 asked.4,
+      );
       unended = asked.2;
       copied = Copies-trans _ _ _ _ _ _ _ _ _ c.reading.invariant.copied c.in-Ok-ask_whole.ensures.copied;
-      bound = omega (arith, c.reading.invariant.bound, c.in-Ok-ask_whole.ensures.bound, ap length c.in-Ok-add.ensures.ok, length-append c.reading.input piece,
-          length-take c.in-Ok.len c.read_some.new.piece, c.in-Ok.ensures.bound);
+      bound = omega (
+        arith,
+        c.reading.invariant.bound,
+        c.in-Ok-ask_whole.ensures.bound,
+        ap length c.in-Ok-add.ensures.ok,
+        length-append c.reading.input piece,
+        length-take c.in-Ok.len c.read_some.new.piece,
+        c.in-Ok.ensures.bound,
+      );
     }

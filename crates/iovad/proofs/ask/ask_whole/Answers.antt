@@ -38,7 +38,7 @@ returns-in-Err-clause-asked g c =
     let some = c.in-Err.ensures.err.1 in
     let sent : Appends (g.L.Link.sent c.asking.link) (g.L.Link.sent c.ask_some.new.link) (take some.0 (take c.gather-run.result.len c.asking.input)) = search rules in
     let of_lines = subst (λ (t : List ℕ). Appends (g.L.Link.sent c.asking.link) (g.L.Link.sent c.ask_some.new.link) (take some.0 t))
-        (run_text c.asking.input c.gather-run.result run) sent in
+    (run_text c.asking.input c.gather-run.result run) sent in
     asks_broken c.args.input.now c.asking.input c.args.sent.now c.asking.sent (g.L.Link.sent c.args.link.now) (g.L.Link.sent c.ask_some.new.link) c.in-Err.fault
     c.in-Err.ensures.err.0 (a.0 ++ run.lines) (all_append IsLine a.0 run.lines a.1.good.lines (lines_of_run c.gather-run.result.is_last run.lines run.byes))
     (more_begin c.args.input.now c.asking.input a.0 run.lines a.1.whole (record { rest = run.rest; whole = run.whole })) _
@@ -55,11 +55,13 @@ returns-then-run-clause-asked g c =
     let a = c.asking.invariant.asked in
     let sent : Appends (g.L.Link.sent c.asking.link) (g.L.Link.sent c.ask_some.new.link) (take c.gather-run.result.len c.asking.input) = search rules in
     let of_lines = subst (Appends (g.L.Link.sent c.asking.link) (g.L.Link.sent c.ask_some.new.link)) (run_text c.asking.input c.gather-run.result run) sent in
-    let bye = subst (λ (b : Bool). MatchBool b (EndByBye run.lines) (AreOpen run.lines)) c.if-run.true run.byes in
-    (a.0 ++ run.lines, more_bye a.0 run.lines a.1.good bye,
-    more_begin c.args.input.now c.asking.input a.0 run.lines a.1.whole (record { rest = run.rest; whole = run.whole }),
-    more_sent (g.L.Link.sent c.args.link.now) (g.L.Link.sent c.asking.link) (g.L.Link.sent c.ask_some.new.link) a.0 run.lines a.2 of_lines,
-    omega (arith, a.3, run.count, length-append a.0 run.lines))
+    let bye = subst (λ (b : Bool). MatchBool b (EndByBye run.lines) (AreOpen run.lines)) c.if-run.true run.byes in (
+      a.0 ++ run.lines,
+      more_bye a.0 run.lines a.1.good bye,
+      more_begin c.args.input.now c.asking.input a.0 run.lines a.1.whole (record { rest = run.rest; whole = run.whole }),
+      more_sent (g.L.Link.sent c.args.link.now) (g.L.Link.sent c.asking.link) (g.L.Link.sent c.ask_some.new.link) a.0 run.lines a.2 of_lines,
+      omega (arith, a.3, run.count, length-append a.0 run.lines),
+    )
 
 pub returns-then-run-clause-copied : goal.returns-then-run-clause-copied
 returns-then-run-clause-copied g c = Copies-trans _ _ _ _ _ _ _ _ _ c.asking.invariant.copied c.in-Ok.ensures.copied
@@ -83,8 +85,11 @@ asking-preserved g c =
     let lines = more_open c.args.input.now c.asking.input c.gather-run.result a.0 a.1 run c.if-run.false in
     record {
       copied = Copies-trans _ _ _ _ _ _ _ _ _ c.asking.invariant.copied c.in-Ok.ensures.copied;
-      asked = (a.0 ++ run.lines, rw c.pass.ensures lines,
-          more_sent (g.L.Link.sent c.args.link.now) (g.L.Link.sent c.asking.link) (g.L.Link.sent c.ask_some.new.link) a.0 run.lines a.2 of_lines,
-          omega (arith, a.3, run.count, length-append a.0 run.lines));
+      asked = (
+        a.0 ++ run.lines,
+        rw c.pass.ensures lines,
+        more_sent (g.L.Link.sent c.args.link.now) (g.L.Link.sent c.asking.link) (g.L.Link.sent c.ask_some.new.link) a.0 run.lines a.2 of_lines,
+        omega (arith, a.3, run.count, length-append a.0 run.lines),
+      );
       bound = omega (arith, c.asking.invariant.bound, run_count c.asking.input c.gather-run.result run, run_within c.asking.input c.gather-run.result run, ap length c.pass.ensures, length-drop c.gather-run.result.len c.asking.input);
     }

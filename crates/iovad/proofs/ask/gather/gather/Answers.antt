@@ -23,6 +23,8 @@ returns-then-eq c =
     c.loop-lines.invariant.0 c.in-Some.ensures.cut is (omega arith)
 
 pub loop-lines-preserved : goal.loop-lines-preserved
-loop-lines-preserved c =
-    (gathered_push c.args.bytes.now c.loop-lines.rest.now c.in-Some.line.now c.in-Some.behind.now c.loop-lines.len c.loop-lines.lines
-    c.loop-lines.invariant.0 c.in-Some.ensures.cut c.in-Some.ensures.one c.if-line-ge-MAX_LINE.false (λ is. search rules), omega arith)
+loop-lines-preserved c = (
+  gathered_push c.args.bytes.now c.loop-lines.rest.now c.in-Some.line.now c.in-Some.behind.now c.loop-lines.len c.loop-lines.lines
+      c.loop-lines.invariant.0 c.in-Some.ensures.cut c.in-Some.ensures.one c.if-line-ge-MAX_LINE.false (λ is. search rules),
+  omega arith,
+)
