@@ -7,7 +7,6 @@ use crate::memory_link::MemoryLink;
 use crate::post::Post;
 use crate::retry::retry;
 use crate::run::{SessionEnd, run_session};
-use crate::tests::LineByLine;
 use iova_core::domain::Domain;
 use iova_lock::book::Book;
 use iova_lock::keep::Keep;
@@ -19,7 +18,6 @@ use iova_sink::calls::Calls;
 use iova_sink::memory::MemorySink;
 use iova_sink::sink::{Sink, SinkFault};
 use std::alloc::Global;
-use std::marker::Brand;
 use std::sync::Wait;
 use std::sync::ledger::{Blank, Ledger};
 
@@ -106,7 +104,8 @@ pub(crate) fn one_session<C: Ledger, F: Ledger, S: Ledger, G: Ledger, K: Keep<C,
     })
 }
 
-fn in_book<C: Ledger, F: Ledger, S: Ledger, G: Ledger>(
+/// One session in a book of domain 0 with these bounds and one worker.
+pub(crate) fn in_book<C: Ledger, F: Ledger, S: Ledger, G: Ledger>(
     alloc: Global,
     bounds: Bounds,
     count: Blank,
@@ -132,7 +131,9 @@ fn in_book<C: Ledger, F: Ledger, S: Ledger, G: Ledger>(
     one_session(alloc, &mut book, &mut post, input, script)
 }
 
-fn over_link<C: Ledger, F: Ledger, S: Ledger, G: Ledger, L: Link>(
+/// One session over this link in a book of domain 0 with these bounds and one worker: its end, and the seat's shares
+/// then.
+pub(crate) fn over_link<C: Ledger, F: Ledger, S: Ledger, G: Ledger, L: Link>(
     alloc: Global,
     bounds: Bounds,
     count: Blank,
@@ -156,46 +157,6 @@ fn over_link<C: Ledger, F: Ledger, S: Ledger, G: Ledger, L: Link>(
     let mut sink = MemorySink::new(0);
     let end = run_session(alloc, link, &mut book, &mut post, &mut sink);
     Ok((end, shares_of(&post)))
-}
-
-/// One session over this link in a book of domain 0 with frames 1 to 1,023 and one worker: its end, the seat's shares
-/// then, and the link.
-pub(crate) fn session_over(
-    alloc: Global,
-    link: LineByLine<'static>,
-) -> Result<(SessionEnd, (u64, u64, u64), LineByLine<'static>), Refusal> {
-    let mut link = link;
-    let (end, shares) = over_link::<Brand, Brand, Brand, Brand, LineByLine<'static>>(
-        alloc,
-        Bounds::new(1, 1023)?,
-        Blank::new(1),
-        Blank::new(1),
-        Blank::new(1),
-        Blank::new(256),
-        &mut link,
-    )?;
-    Ok((end, shares, link))
-}
-
-/// One session in a book of domain 0 with frames 1 to `last` and one worker.
-pub(crate) fn session_in_book(
-    alloc: Global,
-    last: u64,
-    input: Vec<u8>,
-    script: Script,
-) -> Result<Seen, Refusal>
-    requires { 1 ≤ script.most }
-{
-    in_book::<Brand, Brand, Brand, Brand>(
-        alloc,
-        Bounds::new(1, last)?,
-        Blank::new(1),
-        Blank::new(1),
-        Blank::new(1),
-        Blank::new(256),
-        input.as_slice(),
-        script,
-    )
 }
 
 // By value, so that the keeper is lent whatever it is.

@@ -1,11 +1,8 @@
 //! Sessions at a post, over a book and under a lock: what they are answered, however they are cut, and their limits.
-ghost use Rattle.std.specs.Prelude.{◌≤◌};
-
 use crate::end::End;
-use crate::fresh::{Script, Seen, in_shared, session_in_book};
+use crate::fresh::{Script, in_book, in_shared};
 use iova_lock::ending::Ending;
 use iova_range::bounds::Bounds;
-use iova_range::refusal::Refusal;
 use std::alloc::{AllocError, Global};
 use std::marker::Brand;
 use std::sync::ledger::Blank;
@@ -72,28 +69,18 @@ pub(crate) static SESSIONS: [(&[u8], &[u8], End); 12] = [
     ),
 ];
 
-// A session in a book, where no call of the link or of the sink fails.
-fn answered(alloc: Global, last: u64, input: Vec<u8>, most: usize) -> Result<Seen, Refusal>
-    requires { 1 ≤ most }
-{
-    let script = Script {
-        most,
-        fail_at: 0,
-        sink_fail_at: 0,
-    };
-    session_in_book(alloc, last, input, script)
-}
+const WHOLE: Script = Script {
+    most: 128,
+    fail_at: 0,
+    sink_fail_at: 0,
+};
 
 // In a book and under a lock they are answered alike.
 #[test]
 fn sessions_are_answered(rt: HostRuntime) -> Result<(), Fail> {
     for (input, text, end) in SESSIONS {
         for most in [1, 7, 128] {
-            let script = Script {
-                most,
-                fail_at: 0,
-                sink_fail_at: 0,
-            };
+            let script = Script { most, ..WHOLE };
             let (seen, domain) = in_shared::<Brand, Brand, Brand, Brand, _>(
                 &rt,
                 rt.alloc(),
@@ -113,11 +100,19 @@ fn sessions_are_answered(rt: HostRuntime) -> Result<(), Fail> {
             );
             assert_eq!(rt; (seen.shares, seen.waiting, seen.left), ((0, 0, 0), 0, 0));
             assert_eq!(rt; domain.clients(), 0);
-            let input = Vec::from_slice(rt.alloc(), input)?;
-            let in_book = answered(rt.alloc(), 1023, input, most)?;
-            assert_eq!(rt; in_book.sent.as_slice(), text);
-            assert!(rt; in_book.end == seen.end);
-            assert_eq!(rt; in_book.stat, seen.stat);
+            let booked = in_book::<Brand, Brand, Brand, Brand>(
+                rt.alloc(),
+                Bounds::new(1, 1023)?,
+                Blank::new(1),
+                Blank::new(1),
+                Blank::new(1),
+                Blank::new(256),
+                input,
+                script,
+            )?;
+            assert_eq!(rt; booked.sent.as_slice(), text);
+            assert!(rt; booked.end == seen.end);
+            assert_eq!(rt; booked.stat, seen.stat);
         }
     }
     Ok(())
@@ -172,7 +167,17 @@ fn second_lines_of_a_session(rt: HostRuntime) -> Result<(), Fail> {
         let answers = repeated(rt.alloc(), &[(b"opened 1\n", 1), (text, 1)])?;
         for most in [1, 2, 7, 128, 5000] {
             let input = repeated(rt.alloc(), &[(HELLO, 1), (line, 1)])?;
-            let seen = answered(rt.alloc(), 1023, input, most)?;
+            let script = Script { most, ..WHOLE };
+            let seen = in_book::<Brand, Brand, Brand, Brand>(
+                rt.alloc(),
+                Bounds::new(1, 1023)?,
+                Blank::new(1),
+                Blank::new(1),
+                Blank::new(1),
+                Blank::new(256),
+                input.as_slice(),
+                script,
+            )?;
             assert_eq!(rt; seen.sent.as_slice(), answers.as_slice());
             assert_eq!(rt; (seen.shares, seen.waiting), ((0, 0, 0), 0));
             assert!(rt; seen.end.end == end);
@@ -194,14 +199,10 @@ pub(crate) fn repeated(alloc: Global, parts: &[(&[u8], u32)]) -> Result<Vec<u8>,
 #[test]
 fn the_limits_of_a_session(rt: HostRuntime) -> Result<(), Fail> {
     let flushes = repeated(rt.alloc(), &[(b"flush\n", 65_537)])?;
-    let seen = answered(rt.alloc(), 1023, flushes, 4096)?;
-    assert!(rt; seen.end.end == End::TooMany);
-    assert!(rt; seen.end.client == None);
-    let text = repeated(
+    let answers = repeated(
         rt.alloc(),
         &[(b"no 3 NoClient\n", 65_536), (b"no 21 TooMany\n", 1)],
     )?;
-    assert!(rt; seen.sent.as_slice() == text.as_slice());
     let lists = repeated(
         rt.alloc(),
         &[
@@ -211,18 +212,40 @@ fn the_limits_of_a_session(rt: HostRuntime) -> Result<(), Fail> {
             (b"bye\n", 1),
         ],
     )?;
-    let seen = answered(rt.alloc(), 8191, lists, 4096)?;
-    assert!(rt; seen.end.end == End::Bye);
-    assert!(rt; seen.end.client == Some(Ending::Ended(4096)));
-    assert_eq!(rt;
-        seen.sent.len(),
-        9 + 4096 * 13 + 256 * (10 + 4096 * 7) + 14 + 4
-    );
-    assert!(rt;
-        seen.sent
-            .as_slice()
-            .ends_with(b"\n8191 1\nno 21 TooMany\nbye\n")
-    );
+    for (input, end, client, length, text) in [
+        (
+            flushes.as_slice(),
+            End::TooMany,
+            None,
+            answers.len(),
+            answers.as_slice(),
+        ),
+        (
+            lists.as_slice(),
+            End::Bye,
+            Some(Ending::Ended(4096)),
+            9 + 4096 * 13 + 256 * (10 + 4096 * 7) + 14 + 4,
+            b"\n8191 1\nno 21 TooMany\nbye\n",
+        ),
+    ] {
+        let script = Script {
+            most: 4096,
+            ..WHOLE
+        };
+        let seen = in_book::<Brand, Brand, Brand, Brand>(
+            rt.alloc(),
+            Bounds::new(1, 8191)?,
+            Blank::new(1),
+            Blank::new(1),
+            Blank::new(1),
+            Blank::new(256),
+            input,
+            script,
+        )?;
+        assert!(rt; seen.end.end == end && seen.end.client == client);
+        assert_eq!(rt; seen.sent.len(), length);
+        assert!(rt; seen.sent.as_slice().ends_with(text));
+    }
     Ok(())
 }
 
@@ -264,36 +287,41 @@ fn long_session(alloc: Global) -> Result<Vec<u8>, Fail> {
 
 const LONG: u64 = 100;
 
-// However a long session is cut off, what it was answered is a front of what the whole is answered.
+// However a long session is cut off, what it was answered is a front of what is answered where more of it comes.
 #[test]
 fn each_front_of_a_long_session(rt: HostRuntime) -> Result<(), Fail> {
     let input = long_session(rt.alloc())?;
-    let whole = answered(rt.alloc(), 63, long_session(rt.alloc())?, 128)?;
-    assert!(rt; whole.end.end == End::Closed);
+    let mut longest = Vec::new(rt.alloc());
+    for n in 0..=input.len() {
+        for most in [1, 128] {
+            let front = &input[..n];
+            let script = Script { most, ..WHOLE };
+            let seen = in_book::<Brand, Brand, Brand, Brand>(
+                rt.alloc(),
+                Bounds::new(1, 63)?,
+                Blank::new(1),
+                Blank::new(1),
+                Blank::new(1),
+                Blank::new(256),
+                front,
+                script,
+            )?;
+            assert!(rt; seen.end.end == End::Closed);
+            // a line that ends here is answered, and else there is nothing new
+            assert!(rt;
+                seen.sent.as_slice().starts_with(longest.as_slice()),
+                "{n} bytes"
+            );
+            let is_more = most == 1 && front.ends_with(b"\n");
+            assert_eq!(rt; seen.sent.len() > longest.len(), is_more, "{n} bytes");
+            longest = seen.sent;
+        }
+    }
     for name in NAMES {
         assert!(rt;
-            whole.sent.windows(name.len()).any(|w| w == name),
+            longest.windows(name.len()).any(|w| w == name),
             "none is {name:?}"
         );
-    }
-    let mut longest = 0;
-    for n in 0..input.len() {
-        for most in [1, 128] {
-            let front = Vec::from_slice(rt.alloc(), &input[..n])?;
-            let seen = answered(rt.alloc(), 63, front, most)?;
-            assert!(rt; seen.end.end == End::Closed);
-            assert!(rt;
-                whole.sent.as_slice().starts_with(seen.sent.as_slice()),
-                "{n} bytes"
-            );
-            assert!(rt; seen.sent.len() >= longest, "{n} bytes");
-            assert_eq!(rt;
-                seen.sent.len() == longest,
-                n == 0 || input[n - 1] != b'\n' || most == 128,
-                "{n} bytes"
-            );
-            longest = seen.sent.len();
-        }
     }
     Ok(())
 }

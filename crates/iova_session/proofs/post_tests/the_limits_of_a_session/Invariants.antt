@@ -1,4 +1,4 @@
-use Rattle.iova_session.proofs.fresh.session_in_book.Given as goal
+use Rattle.iova_session.proofs.post_tests.the_limits_of_a_session.Given as goal
 
 abbrev pub ghosts-in_book-C-Ledger : goal.ghosts-in_book-C-Ledger
 ghosts-in_book-C-Ledger g a = record { name = a.count.name; parts = a.count.parts }

@@ -1,4 +1,4 @@
-use Rattle.iova_session.proofs.fresh.session_over.Given as goal
+use Rattle.iova_session.proofs.fault_tests.each_line_is_answered_in_turn.Given as goal
 
 abbrev pub ghosts-over_link-C-Ledger : goal.ghosts-over_link-C-Ledger
 ghosts-over_link-C-Ledger g a = record { name = a.count.name; parts = a.count.parts }
