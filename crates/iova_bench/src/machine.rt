@@ -73,14 +73,15 @@ fn magazines<R: Runtime>(rt: &R, alloc: Global) -> anyhow::Result<u64> {
     nanos_each(rt, &since)
 }
 
-fn flush(domain: &mut Domain) {
+/// Begins a flush and ends it well.
+pub fn flush(domain: &mut Domain) {
     if let Reply::Begun(no) = domain.step(Step::Begin) {
         domain.step(Step::End { no, ok: true });
     }
 }
 
-// A client is given frames and unmaps them. Where the ring is full, a flush comes first.
-fn give_and_take(domain: &mut Domain, frames: u64) -> Result<(), Refusal> {
+/// A client is given frames and unmaps them. Where the ring is full, a flush comes first.
+pub fn give_and_take(domain: &mut Domain, frames: u64) -> Result<(), Refusal> {
     let asked = domain.step(Step::Alloc {
         worker: 0,
         client: 1,

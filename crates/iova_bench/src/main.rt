@@ -4,25 +4,38 @@
 
 mod ledger;
 mod lines;
+mod lock;
 mod machine;
 mod random;
 mod session;
 mod tree;
 
+use std::alloc::Global;
 use std::env;
 use std::process::ExitCode;
 use std::rt::Runtime;
+use std::sync::Wait;
+use std::thread::Threads;
 
 fn main(rt: HostRuntime) -> ExitCode {
-    match run(&rt) {
-        Ok(()) => ExitCode::SUCCESS,
+    match words(&rt) {
+        Ok(words) => match run(&rt, rt.alloc(), &words) {
+            Ok(()) => ExitCode::SUCCESS,
+            Err(_) => ExitCode::FAILURE,
+        },
         Err(_) => ExitCode::FAILURE,
     }
 }
 
-fn run(rt: &HostRuntime) -> anyhow::Result<()> {
-    let alloc = rt.alloc();
-    let words: Vec<String> = env::args(rt)?.collect(alloc)?;
+fn words(rt: &HostRuntime) -> anyhow::Result<Vec<String>> {
+    Ok(env::args(rt)?.collect(rt.alloc())?)
+}
+
+fn run<R: Runtime + Threads + Wait + Sync>(
+    rt: &R,
+    alloc: Global,
+    words: &[String],
+) -> anyhow::Result<()> {
     if words.len() <= 1 {
         for case in lines::CASES {
             println!(rt; "{case}")?;
@@ -36,6 +49,9 @@ fn run(rt: &HostRuntime) -> anyhow::Result<()> {
         for case in ledger::CASES {
             println!(rt; "{case}")?;
         }
+        for case in lock::CASES {
+            println!(rt; "{case}")?;
+        }
         for case in tree::CASES {
             println!(rt; "{case}")?;
         }
@@ -45,6 +61,7 @@ fn run(rt: &HostRuntime) -> anyhow::Result<()> {
         session::run(rt, alloc, word.as_str())?;
         machine::run(rt, alloc, word.as_str())?;
         ledger::run(rt, alloc, word.as_str())?;
+        lock::run(rt, alloc, word.as_str())?;
         tree::run(rt, alloc, word.as_str())?;
     }
     Ok(())

@@ -33,6 +33,11 @@ pub record BookState : Type 0 where
   pub shares : Totals
   pub ended : ℕ
 
+-- a lock round a book: the domain's number, and how many workers it has
+pub record SharedState : Type 0 where
+  pub number : ℕ
+  pub workers : ℕ
+
 -- a tally: the flushes that it ended well, and its parts
 pub record TallyState : Type 0 where
   pub good : ℕ

@@ -47,7 +47,7 @@ pub fn flush<C: Ledger, F: Ledger, S: Ledger, G: Ledger, K: Keep<C, F, S, G>, D:
         Ok(no) => no,
         Err(refusal) => return Err(refusal),
     };
-    let ok = sink.invalidate(keeper.number(), no).is_ok();
+    let ok = invalidated(sink, keeper.number(), no);
     let _ended = keeper.end(tally, no, ok);
     if ok { Ok(no) } else { Err(Refusal::SinkFault) }
 }
@@ -83,7 +83,7 @@ pub fn unmap<C: Ledger, F: Ledger, S: Ledger, G: Ledger, K: Keep<C, F, S, G>, D:
     let Ok(no) = number(begun) else {
         return answer(lo, reply);
     };
-    let ok = sink.invalidate(keeper.number(), no).is_ok();
+    let ok = invalidated(sink, keeper.number(), no);
     answer(lo, keeper.unmap_again(seat, id, lo, no, ok).reply)
 }
 
@@ -98,12 +98,14 @@ pub fn timeout<C: Ledger, F: Ledger, S: Ledger, G: Ledger, K: Keep<C, F, S, G>, 
 ) -> Result<u64, Refusal>
     ensures domain { WhereKnown (K.domain keeper.old) (K.domain keeper.new)
         (DoesTimeout result (K.domain_number keeper.old) (D.calls sink.old) (D.calls sink.new)) }
+    ensures refusal { IfErr result IsFlushRefusal }
     ensures fault { result ≡ Err Refusal.SinkFault
         → failed_calls (D.calls sink.old) < failed_calls (D.calls sink.new) }
     ensures tally { RisesWithin tally.old.good tally.new.good (D.calls sink.old) (D.calls sink.new) }
     ensures parts { tally.new.parts ≡ tally.old.parts }
     ensures number { K.domain_number keeper.new ≡ K.domain_number keeper.old }
 {
+    // for the proof: that a flush leaves as many workers as there are
     steps_keep_the_domain();
     if keeper.stat().ring == 0 {
         return Ok(0);
@@ -112,6 +114,13 @@ pub fn timeout<C: Ledger, F: Ledger, S: Ledger, G: Ledger, K: Keep<C, F, S, G>, 
         Ok(_no) => keeper.drain_all(0),
         Err(refusal) => Err(refusal),
     }
+}
+
+/// Calls the sink for a flush of the domain. Whether that was good.
+pub(crate) fn invalidated<D: Sink>(sink: &mut D, domain: u64, no: u64) -> bool
+    ensures { D.calls sink.new ≡ D.calls sink.old ++ record { domain = domain; number = no; ok = result } ∷ [] }
+{
+    sink.invalidate(domain, no).is_ok()
 }
 
 /// The number of the flush that began, or why none did.

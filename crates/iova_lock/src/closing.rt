@@ -7,6 +7,7 @@ ghost use Rattle.iova_lock.specs.Views.{TallyState, SeatState, WhereKnown, Rises
 ghost use Rattle.iova_lock.specs.Events.{Answered};
 ghost use Rattle.iova_lock.specs.Answers.{DoesEndClient, DoesRest, Leaves};
 
+use crate::calls::invalidated;
 use crate::ending::{Ending, Why};
 use crate::keep::{Heard, Keep};
 use crate::seat::Seat;
@@ -77,7 +78,7 @@ fn close_rest<C: Ledger, F: Ledger, S: Ledger, G: Ledger, K: Keep<C, F, S, G>, D
     ensures parts { seat.new.tally.parts ≡ seat.old.tally.parts }
     ensures number { K.domain_number keeper.new ≡ K.domain_number keeper.old }
 {
-    let ok = sink.invalidate(keeper.number(), no).is_ok();
+    let ok = invalidated(sink, keeper.number(), no);
     let heard = keeper.close_again(seat, id, no, ok);
     match flush_begun(&heard) {
         None => LastHold { ok, heard },

@@ -19,11 +19,11 @@ returns-clause-domain g c =
     let begun = c.in-Some.is ∙ ap Some c.in-Ok.ensures.is in
     let full = rw begun at h.ensures.begun in
     let same = rw full.0 at h.ensures.seat in
-    let k = rw (c.number-2.ensures, h.ensures.number, ← c.is_ok-ok.ensures.value) at c.invalidate.ensures in
-    known_in_two _ _ _ _ _ c.in-Ok.no c.is_ok-ok.result h.result.reply h.result.begun c.unmap_again.result.reply _ _ _ _ begun c.answer-2.ensures.is k h.ensures.domain (rw (same, h.ensures.rest.0) at c.unmap_again.ensures.domain)
+    let k = rw (c.number-2.ensures, h.ensures.number) at c.invalidated-ok.ensures in
+    known_in_two _ _ _ _ _ c.in-Ok.no c.invalidated-ok.result h.result.reply h.result.begun c.unmap_again.result.reply _ _ _ _ begun c.answer-2.ensures.is k h.ensures.domain (rw (same, h.ensures.rest.0) at c.unmap_again.ensures.domain)
 
 pub returns-clause-tally : goal.returns-clause-tally
 returns-clause-tally g c =
-    let k = rw (← c.is_ok-ok.ensures.value) at c.invalidate.ensures in
+    let k = c.invalidated-ok.ensures in
     let same = ap (λ (p : TallyState). p.good) c.unmap_first-reply.ensures.rest.1 in
-    good_within c.in-Ok.no c.is_ok-ok.result _ _ c.number-2.result _ _ (rw same at c.unmap_again.ensures.good.1) k
+    good_within c.in-Ok.no c.invalidated-ok.result _ _ c.number-2.result _ _ (rw same at c.unmap_again.ensures.good.1) k

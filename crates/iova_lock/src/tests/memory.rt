@@ -1,0 +1,236 @@
+//! Refused growths: each test passes whichever growth is refused, and prints in which call it was.
+ghost use Rattle.std.specs.Prelude.{◌≡◌, ◌*◌, ◌≤◌};
+ghost use Rattle.iova_range.specs.declared.limits.TheConstants.{TALLY_PARTS};
+
+use crate::ask::{Ask, Told};
+use crate::book::Book;
+use crate::keep::Keep;
+use crate::seat::Seat;
+use crate::shared::Shared;
+use iova_range::bounds::Bounds;
+use iova_range::range::Range;
+use iova_range::refusal::Refusal;
+use std::alloc::Global;
+use std::marker::Brand;
+use std::process::Abort;
+use std::sync::Wait;
+use std::sync::ledger::{Blank, Ledger};
+use std::test::*;
+
+// Makes a lock. What is refused is refused for want of memory, or of a worker where there would be 17.
+fn lock_made<C: Ledger, F: Ledger, S: Ledger, G: Ledger, R: Abort + Print>(
+    rt: &R,
+    alloc: Global,
+    bounds: Bounds,
+    workers: u64,
+    count: Blank,
+    frames: Blank,
+    sum_lo: Blank,
+    good: Blank,
+) -> Result<(), Fail>
+    requires count { 1 ≤ workers → workers ≤ 16 → (count.name ≡ C.name) × (count.parts ≡ C.parts) × (count.parts ≡ workers) }
+    requires frames { 1 ≤ workers → workers ≤ 16 → (frames.name ≡ F.name) × (frames.parts ≡ F.parts) × (frames.parts ≡ workers) }
+    requires sum_lo { 1 ≤ workers → workers ≤ 16 → (sum_lo.name ≡ S.name) × (sum_lo.parts ≡ S.parts) × (sum_lo.parts ≡ workers) }
+    requires good { 1 ≤ workers → workers ≤ 16 → (good.name ≡ G.name) × (good.parts ≡ G.parts) × (good.parts ≡ TALLY_PARTS * workers) }
+{
+    match Shared::<&R, C, F, S, G>::new(
+        rt, alloc, 7, bounds, workers, count, frames, sum_lo, good,
+    ) {
+        Ok((_shared, seats)) => assert_eq!(rt; seats.len() as u64, workers),
+        Err(refusal) => {
+            if workers == 17 {
+                assert_eq!(rt; refusal, Refusal::NoWorker);
+            } else {
+                assert_eq!(rt; refusal, Refusal::NoMemory);
+                println!(rt; "refused at Shared::new")?;
+            }
+        }
+    }
+    Ok(())
+}
+
+// The same of a book.
+fn book_made<C: Ledger, F: Ledger, S: Ledger, G: Ledger, R: Abort + Print>(
+    rt: &R,
+    alloc: Global,
+    bounds: Bounds,
+    count: Blank,
+    frames: Blank,
+    sum_lo: Blank,
+    good: Blank,
+) -> Result<(), Fail>
+    requires count { (count.name ≡ C.name) × (count.parts ≡ C.parts) × (count.parts ≡ 1) }
+    requires frames { (frames.name ≡ F.name) × (frames.parts ≡ F.parts) × (frames.parts ≡ 1) }
+    requires sum_lo { (sum_lo.name ≡ S.name) × (sum_lo.parts ≡ S.parts) × (sum_lo.parts ≡ 1) }
+    requires good { (good.name ≡ G.name) × (good.parts ≡ G.parts) × (good.parts ≡ TALLY_PARTS) }
+{
+    match Book::<C, F, S, G>::new(alloc, 7, bounds, 1, count, frames, sum_lo, good) {
+        Ok((_book, seats)) => assert_eq!(rt; seats.len(), 1),
+        Err(refusal) => {
+            assert_eq!(rt; refusal, Refusal::NoMemory);
+            println!(rt; "refused at Book::new")?;
+        }
+    }
+    Ok(())
+}
+
+#[test]
+fn seventeen_workers(rt: HostRuntime) -> Result<(), Fail> {
+    lock_made::<Brand, Brand, Brand, Brand, _>(
+        &rt,
+        rt.alloc(),
+        Bounds::new(1, 1023)?,
+        17,
+        Blank::new(17),
+        Blank::new(17),
+        Blank::new(17),
+        Blank::new(17),
+    )
+}
+
+#[test]
+fn refused_growth_of_a_lock(rt: HostRuntime) -> Result<(), Fail> {
+    lock_made::<Brand, Brand, Brand, Brand, _>(
+        &rt,
+        rt.alloc(),
+        Bounds::new(1, 1023)?,
+        2,
+        Blank::new(2),
+        Blank::new(2),
+        Blank::new(2),
+        Blank::new(512),
+    )
+}
+
+#[test]
+fn refused_growth_of_a_book(rt: HostRuntime) -> Result<(), Fail> {
+    book_made::<Brand, Brand, Brand, Brand, _>(
+        &rt,
+        rt.alloc(),
+        Bounds::new(1, 1023)?,
+        Blank::new(1),
+        Blank::new(1),
+        Blank::new(1),
+        Blank::new(256),
+    )
+}
+
+// The holdings of a client that holds frames 9 and 8 are appended to a list with no room. Where that is refused, the list is
+// what it was, and the same call with memory appends them.
+fn listed<C: Ledger, F: Ledger, S: Ledger, G: Ledger, K: Keep<C, F, S, G>, R: Abort + Print>(
+    rt: &R,
+    alloc: Global,
+    keeper: &K,
+    seat: &Seat<C, F, S, G>,
+    id: u64,
+) -> Result<(), Fail> {
+    let Ok(mut ranges) = Vec::with_capacity(alloc, 1) else {
+        println!(rt; "refused before")?;
+        return Ok(());
+    };
+    ranges.push(Range::new(5, 1))?;
+    if let Err(refusal) = keeper.holdings(seat, id, &mut ranges) {
+        println!(rt; "refused at holdings")?;
+        assert_eq!(rt; refusal, Refusal::NoMemory);
+        assert_eq!(rt; ranges.as_slice(), [Range::new(5, 1)].as_slice());
+        assert_eq!(rt; keeper.holdings(seat, id, &mut ranges), Ok(()));
+    }
+    let all = [Range::new(5, 1), Range::new(8, 1), Range::new(9, 1)];
+    assert_eq!(rt; ranges.as_slice(), all.as_slice());
+    Ok(())
+}
+
+// Two asks of that client, with no room for what is told. Where that is refused, nothing was done and nothing told, and the
+// same call with memory does both.
+fn batched<C: Ledger, F: Ledger, S: Ledger, G: Ledger, K: Keep<C, F, S, G>, R: Abort + Print>(
+    rt: &R,
+    alloc: Global,
+    keeper: &mut K,
+    seat: &mut Seat<C, F, S, G>,
+    id: u64,
+) -> Result<(), Fail> {
+    let Ok(mut told) = Vec::with_capacity(alloc, 1) else {
+        println!(rt; "refused before")?;
+        return Ok(());
+    };
+    let first = Told::Refused(Refusal::Zero);
+    told.push(first)?;
+    let asks = [Ask::Free { lo: 9 }, Ask::Free { lo: 9 }];
+    let before = keeper.stat();
+    if let Err(refusal) = keeper.batch(seat, id, &asks, &mut told) {
+        println!(rt; "refused at batch")?;
+        assert_eq!(rt; refusal, Refusal::NoMemory);
+        assert_eq!(rt; told.as_slice(), [first].as_slice());
+        assert_eq!(rt; keeper.stat(), before);
+        assert_eq!(rt; (seat.count(), seat.sum_lo()), (2, 17));
+        assert_eq!(rt; keeper.batch(seat, id, &asks, &mut told), Ok(2));
+    }
+    let queued = Told::Queued(Range::new(9, 1));
+    let all = [first, queued, Told::Refused(Refusal::NotHeld)];
+    assert_eq!(rt; told.as_slice(), all.as_slice());
+    assert_eq!(rt; (seat.count(), seat.sum_lo()), (1, 8));
+    assert_eq!(rt; keeper.stat().ring, 1);
+    Ok(())
+}
+
+fn asked<C: Ledger, F: Ledger, S: Ledger, G: Ledger, K: Keep<C, F, S, G> + Drop, R: Abort + Print>(
+    rt: &R,
+    alloc: Global,
+    keeper: K,
+    seat: Seat<C, F, S, G>,
+) -> Result<(), Fail> {
+    let mut keeper = keeper;
+    let mut seat = seat;
+    let Ok(id) = keeper.open(&mut seat, false) else {
+        println!(rt; "refused before")?;
+        return Ok(());
+    };
+    for _ in 0..2u64 {
+        if let Err(refusal) = keeper.alloc(&mut seat, id, 1, 9) {
+            println!(rt; "refused at alloc")?;
+            assert_eq!(rt; refusal, Refusal::NoMemory);
+            assert!(rt; keeper.alloc(&mut seat, id, 1, 9).is_ok());
+        }
+    }
+    listed(rt, alloc, &keeper, &seat, id)?;
+    batched(rt, alloc, &mut keeper, &mut seat, id)
+}
+
+fn asked_under_a_lock<C: Ledger, F: Ledger, S: Ledger, G: Ledger, R: Abort + Print + Wait>(
+    rt: &R,
+    alloc: Global,
+    bounds: Bounds,
+    count: Blank,
+    frames: Blank,
+    sum_lo: Blank,
+    good: Blank,
+) -> Result<(), Fail>
+    requires count { (count.name ≡ C.name) × (count.parts ≡ C.parts) × (count.parts ≡ 1) }
+    requires frames { (frames.name ≡ F.name) × (frames.parts ≡ F.parts) × (frames.parts ≡ 1) }
+    requires sum_lo { (sum_lo.name ≡ S.name) × (sum_lo.parts ≡ S.parts) × (sum_lo.parts ≡ 1) }
+    requires good { (good.name ≡ G.name) × (good.parts ≡ G.parts) × (good.parts ≡ TALLY_PARTS) }
+{
+    let Ok((shared, mut seats)) = Shared::<&R, C, F, S, G>::new(
+        rt, alloc, 7, bounds, 1, count, frames, sum_lo, good,
+    ) else {
+        println!(rt; "refused before")?;
+        return Ok(());
+    };
+    let Some(seat) = seats.pop() else {
+        return Err(Fail::from("no seat"));
+    };
+    asked(rt, alloc, &shared, seat)
+}
+
+#[test]
+fn refused_growth_of_calls(rt: HostRuntime) -> Result<(), Fail> {
+    asked_under_a_lock::<Brand, Brand, Brand, Brand, _>(
+        &rt,
+        rt.alloc(),
+        Bounds::new(1, 1023)?,
+        Blank::new(1),
+        Blank::new(1),
+        Blank::new(1),
+        Blank::new(256),
+    )
+}

@@ -1,0 +1,423 @@
+//! Sinks that fail at each of their calls, or wait while other threads call.
+ghost use Rattle.std.specs.Prelude.{◌≡◌, ◌*◌};
+ghost use Rattle.iova_range.specs.declared.limits.TheConstants.{TALLY_PARTS};
+
+use crate::calls;
+use crate::closing::end_client;
+use crate::crossing::books_are_send;
+use crate::ending::{Ending, Why};
+use crate::keep::Keep;
+use crate::seat::{Seat, Tally};
+use crate::shared::Shared;
+use iova_range::bounds::Bounds;
+use iova_range::refusal::Refusal;
+use iova_sink::gate::{Flag, GateSink, MAX_TURNS};
+use iova_sink::memory::MemorySink;
+use std::alloc::{AllocError, Global};
+use std::marker::Brand;
+use std::process::Abort;
+use std::sync::Wait;
+use std::sync::ledger::{Blank, Ledger};
+use std::test::*;
+use std::thread;
+use std::thread::Threads;
+
+// How many calls the sink is made in `calls_of` where none fails: one for an unmap, a flush and a round of the flusher each,
+// and three for the end of a client with 900 holdings.
+const SINK_CALLS: u64 = 6;
+
+// Gives a client so many single frames.
+fn hold<C: Ledger, F: Ledger, S: Ledger, G: Ledger, K: Keep<C, F, S, G>>(
+    keeper: &mut K,
+    seat: &mut Seat<C, F, S, G>,
+    ranges: u64,
+) -> Result<u64, Refusal> {
+    let id = keeper.open(seat, false)?;
+    for _ in 0..ranges {
+        keeper.alloc(seat, id, 1, 4095)?;
+    }
+    Ok(id)
+}
+
+// Unmaps so many ranges of a client that was given 256 frames from 4,095 on down, highest first.
+fn unmap_many<C: Ledger, F: Ledger, S: Ledger, G: Ledger, K: Keep<C, F, S, G>>(
+    keeper: &mut K,
+    seat: &mut Seat<C, F, S, G>,
+    sink: &mut MemorySink,
+    id: u64,
+    ranges: u64,
+) -> Result<(), Refusal> {
+    for i in 0..ranges.min(256) {
+        calls::unmap(keeper, seat, sink, id, 4095 - i)?;
+    }
+    Ok(())
+}
+
+// Each call that makes calls of a sink, over a sink that may fail; after a failure the same call again, which is good.
+// It answers how many calls failed.
+fn calls_of<C: Ledger, F: Ledger, S: Ledger, G: Ledger, K: Keep<C, F, S, G>, R: Abort>(
+    rt: &R,
+    keeper: &mut K,
+    seat: &mut Seat<C, F, S, G>,
+    sink: &mut MemorySink,
+) -> Result<u64, Fail> {
+    let mut failed = 0u64;
+    let id = hold(keeper, seat, 256)?;
+    unmap_many(keeper, seat, sink, id, 255)?;
+    if let Err(refusal) = calls::unmap(keeper, seat, sink, id, 3840) {
+        failed += 1;
+        assert_eq!(rt; refusal, Refusal::RingFull);
+        assert_eq!(rt;
+            (seat.count(), seat.sum_lo(), keeper.stat().ring),
+            (1, 3840, 255)
+        );
+        assert!(rt; calls::unmap(keeper, seat, sink, id, 3840).is_ok());
+    }
+    assert_eq!(rt;
+        (seat.count(), seat.sum_lo(), keeper.stat().ring),
+        (0, 0, 1)
+    );
+    if let Err(refusal) = calls::flush(keeper, seat.tally(), sink) {
+        failed += 1;
+        assert_eq!(rt; refusal, Refusal::SinkFault);
+        assert!(rt; calls::flush(keeper, seat.tally(), sink).is_ok());
+    }
+    if let Err(refusal) = calls::timeout(keeper, seat.tally(), sink) {
+        failed += 1;
+        assert_eq!(rt; refusal, Refusal::SinkFault);
+        assert_eq!(rt; keeper.stat().ring, 1);
+        assert_eq!(rt; calls::timeout(keeper, seat.tally(), sink), Ok(1));
+    }
+    assert_eq!(rt; keeper.stat().ring, 0);
+    let kept = hold(keeper, seat, 3)?;
+    let before = (seat.count(), seat.frames(), seat.sum_lo());
+    let many = hold(keeper, seat, 900)?;
+    match end_client(keeper, seat, sink, many)? {
+        Ending::Ended(queued) => assert_eq!(rt; queued, 900),
+        Ending::Waiting(left, why) => {
+            failed += 1;
+            assert_eq!(rt; why, Why::SinkFailed);
+            assert!(rt; left == 645 || left == 390 || left == 135, "{left} left");
+            assert_eq!(rt;
+                (seat.count(), keeper.stat().ring),
+                (left.saturating_add(3), 255)
+            );
+            assert_eq!(rt;
+                end_client(keeper, seat, sink, many),
+                Ok(Ending::Ended(left))
+            );
+        }
+    }
+    assert_eq!(rt; (seat.count(), seat.frames(), seat.sum_lo()), before);
+    assert!(rt; end_client(keeper, seat, sink, id).is_ok());
+    assert_eq!(rt;
+        end_client(keeper, seat, sink, kept.saturating_add(9)),
+        Err(Refusal::NoClient)
+    );
+    Ok(failed)
+}
+
+fn failing_at<C: Ledger, F: Ledger, S: Ledger, G: Ledger, R: Abort + Wait>(
+    rt: &R,
+    alloc: Global,
+    bounds: Bounds,
+    fail_at: u64,
+    count: Blank,
+    frames: Blank,
+    sum_lo: Blank,
+    good: Blank,
+) -> Result<(), Fail>
+    requires count { (count.name ≡ C.name) × (count.parts ≡ C.parts) × (count.parts ≡ 1) }
+    requires frames { (frames.name ≡ F.name) × (frames.parts ≡ F.parts) × (frames.parts ≡ 1) }
+    requires sum_lo { (sum_lo.name ≡ S.name) × (sum_lo.parts ≡ S.parts) × (sum_lo.parts ≡ 1) }
+    requires good { (good.name ≡ G.name) × (good.parts ≡ G.parts) × (good.parts ≡ TALLY_PARTS) }
+{
+    let (shared, mut seats) = Shared::<&R, C, F, S, G>::new(
+        rt, alloc, 7, bounds, 1, count, frames, sum_lo, good,
+    )?;
+    let mut lent = &shared;
+    let mut sums = (0, 0, 0);
+    let mut ended = 0;
+    for seat in &mut seats {
+        let mut sink = MemorySink::new(fail_at);
+        let failed = calls_of(rt, &mut lent, seat, &mut sink)?;
+        let fails = 1 <= fail_at && fail_at <= SINK_CALLS;
+        assert_eq!(rt; failed, fails as u64, "at call {fail_at}");
+        sums = (seat.count(), seat.frames(), seat.sum_lo());
+        ended = seat.tally().good();
+    }
+    assert_eq!(rt; (sums.0, ended), (3, SINK_CALLS));
+    match shared.gather(seats) {
+        Ok(totals) => assert_eq!(rt; (totals.count, totals.frames, totals.sum_lo), sums),
+        Err(_) => assert!(rt; false),
+    }
+    assert_eq!(rt; shared.into_domain().good(), ended);
+    Ok(())
+}
+
+#[test]
+fn a_sink_that_fails_at_each_call(rt: HostRuntime) -> Result<(), Fail> {
+    for fail_at in 0..SINK_CALLS + 2 {
+        failing_at::<Brand, Brand, Brand, Brand, _>(
+            &rt,
+            rt.alloc(),
+            Bounds::new(1, 4095)?,
+            fail_at,
+            Blank::new(1),
+            Blank::new(1),
+            Blank::new(1),
+            Blank::new(256),
+        )?;
+    }
+    Ok(())
+}
+
+// Waits until so many flushes have begun. Whether they have.
+fn wait_for<C: Ledger, F: Ledger, S: Ledger, G: Ledger, K: Keep<C, F, S, G>>(
+    keeper: &K,
+    flushes: u64,
+) -> bool {
+    for _turn in 0..MAX_TURNS {
+        if keeper.stat().start == flushes {
+            return true;
+        }
+        thread::yield_now();
+    }
+    false
+}
+
+// Flushes, and waits in the sink.
+fn flush_at_the_gate<C: Ledger, F: Ledger, S: Ledger, G: Ledger, K: Keep<C, F, S, G> + Drop>(
+    keeper: K,
+    tally: Tally<G>,
+    inside: &Flag,
+    open: &Flag,
+) -> Result<u64, Refusal> {
+    let mut keeper = keeper;
+    let mut tally = tally;
+    let mut sink = GateSink::new(inside, open);
+    calls::flush(&mut keeper, &mut tally, &mut sink)
+}
+
+// While one flush is in flight, another one's sink fails. Then the gate opens. Whether the first had begun, and what the
+// second was answered.
+fn fail_beside<C: Ledger, F: Ledger, S: Ledger, G: Ledger, K: Keep<C, F, S, G> + Drop>(
+    keeper: K,
+    tally: Tally<G>,
+    open: &Flag,
+) -> (bool, Result<u64, Refusal>) {
+    let mut keeper = keeper;
+    let mut tally = tally;
+    let mut sink = MemorySink::new(1);
+    let begun = wait_for(&keeper, 1);
+    let failed = calls::flush(&mut keeper, &mut tally, &mut sink);
+    open.raise();
+    (begun, failed)
+}
+
+fn owing<
+    C: Ledger + Send + Sync,
+    F: Ledger + Send + Sync,
+    S: Ledger + Send + Sync,
+    G: Ledger + Send + Sync,
+    R: Threads + Wait + Sync + Abort,
+>(
+    rt: &R,
+    alloc: Global,
+    bounds: Bounds,
+    count: Blank,
+    frames: Blank,
+    sum_lo: Blank,
+    good: Blank,
+) -> Result<(), Fail>
+    requires count { (count.name ≡ C.name) × (count.parts ≡ C.parts) × (count.parts ≡ 1) }
+    requires frames { (frames.name ≡ F.name) × (frames.parts ≡ F.parts) × (frames.parts ≡ 1) }
+    requires sum_lo { (sum_lo.name ≡ S.name) × (sum_lo.parts ≡ S.parts) × (sum_lo.parts ≡ 1) }
+    requires good { (good.name ≡ G.name) × (good.parts ≡ G.parts) × (good.parts ≡ TALLY_PARTS) }
+{
+    let (shared, mut seats) = Shared::<&R, C, F, S, G>::new(
+        rt, alloc, 7, bounds, 1, count, frames, sum_lo, good,
+    )?;
+    let lent = &shared;
+    let Some(mut seat) = seats.pop() else {
+        return Err(Fail::from("no seat"));
+    };
+    if seat.tally().parts() < 3 {
+        return Err(Fail::from("too few parts"));
+    }
+    let first = seat.tally().split();
+    let second = seat.tally().split();
+    let inside = Flag::new();
+    let open = Flag::new();
+    let waits = &inside;
+    let opens = &open;
+    books_are_send::<C, F, S, G>();
+    let (flushed, (begun, failed)) = thread::join(
+        rt,
+        move || flush_at_the_gate(lent, first, waits, opens),
+        move || fail_beside(lent, second, opens),
+    );
+    assert!(rt; begun);
+    assert_eq!(rt; failed, Err(Refusal::SinkFault));
+    assert_eq!(rt; flushed, Ok(1));
+    let stat = lent.stat();
+    assert_eq!(rt; (stat.start, stat.finish), (2, 1));
+    Ok(())
+}
+
+// The flush that failed began last: its credit is owed.
+#[test]
+fn a_failed_flush_beside_another(rt: HostRuntime) -> Result<(), Fail> {
+    owing::<Brand, Brand, Brand, Brand, _>(
+        &rt,
+        rt.alloc(),
+        Bounds::new(1, 1023)?,
+        Blank::new(1),
+        Blank::new(1),
+        Blank::new(1),
+        Blank::new(256),
+    )
+}
+
+// What was answered while 32 flushes were in flight and the worker's ring was full.
+#[derive(Drop)]
+struct Answers {
+    begun: bool,
+    flush: Result<u64, Refusal>,
+    unmap: bool,
+    end: Result<Ending, Refusal>,
+}
+
+// Waits for 32 flushes, tries one more, an unmap and the client's end, and opens the gate.
+fn ask_beside<C: Ledger, F: Ledger, S: Ledger, G: Ledger, K: Keep<C, F, S, G> + Drop>(
+    keeper: K,
+    seat: Seat<C, F, S, G>,
+    id: u64,
+    open: &Flag,
+) -> (Seat<C, F, S, G>, Answers) {
+    let mut keeper = keeper;
+    let mut seat = seat;
+    let mut sink = MemorySink::new(0);
+    let begun = wait_for(&keeper, 32);
+    let flush = calls::flush(&mut keeper, seat.tally(), &mut sink);
+    let unmapped = calls::unmap(&mut keeper, &mut seat, &mut sink, id, 3840);
+    let end = end_client(&mut keeper, &mut seat, &mut sink, id);
+    open.raise();
+    let answers = Answers {
+        begun,
+        flush,
+        unmap: unmapped == Err(Refusal::RingFull),
+        end,
+    };
+    (seat, answers)
+}
+
+// Each tally flushes in a thread of its own, and waits in the sink.
+fn all_flush<
+    C: Ledger + Send + Sync,
+    F: Ledger + Send + Sync,
+    S: Ledger + Send + Sync,
+    G: Ledger + Send + Sync,
+    R: Threads + Wait + Sync,
+>(
+    rt: &R,
+    shared: &Shared<&R, C, F, S, G>,
+    tallies: Vec<Tally<G>>,
+    inside: &Flag,
+    open: &Flag,
+) -> Result<Vec<Result<u64, Refusal>>, AllocError> {
+    books_are_send::<C, F, S, G>();
+    thread::map_vec(
+        rt,
+        tallies,
+        &|tally| flush_at_the_gate(shared, tally, inside, open),
+    )
+}
+
+fn split_off<C: Ledger, F: Ledger, S: Ledger, G: Ledger>(
+    alloc: Global,
+    seat: &mut Seat<C, F, S, G>,
+    tallies: u64,
+) -> Result<Vec<Tally<G>>, Fail> {
+    let mut split = Vec::new(alloc);
+    for _ in 0..tallies {
+        if seat.tally().parts() < 2 {
+            return Err(Fail::from("too few parts"));
+        }
+        split.push(seat.tally().split())?;
+    }
+    Ok(split)
+}
+
+fn in_flight<
+    C: Ledger + Send + Sync,
+    F: Ledger + Send + Sync,
+    S: Ledger + Send + Sync,
+    G: Ledger + Send + Sync,
+    R: Threads + Wait + Sync + Abort,
+>(
+    rt: &R,
+    alloc: Global,
+    bounds: Bounds,
+    count: Blank,
+    frames: Blank,
+    sum_lo: Blank,
+    good: Blank,
+) -> Result<(), Fail>
+    requires count { (count.name ≡ C.name) × (count.parts ≡ C.parts) × (count.parts ≡ 1) }
+    requires frames { (frames.name ≡ F.name) × (frames.parts ≡ F.parts) × (frames.parts ≡ 1) }
+    requires sum_lo { (sum_lo.name ≡ S.name) × (sum_lo.parts ≡ S.parts) × (sum_lo.parts ≡ 1) }
+    requires good { (good.name ≡ G.name) × (good.parts ≡ G.parts) × (good.parts ≡ TALLY_PARTS) }
+{
+    let (shared, mut seats) = Shared::<&R, C, F, S, G>::new(
+        rt, alloc, 7, bounds, 1, count, frames, sum_lo, good,
+    )?;
+    let mut lent = &shared;
+    let Some(mut seat) = seats.pop() else {
+        return Err(Fail::from("no seat"));
+    };
+    let tallies = split_off(alloc, &mut seat, 32)?;
+    let mut sink = MemorySink::new(0);
+    let id = hold(&mut lent, &mut seat, 256)?;
+    unmap_many(&mut lent, &mut seat, &mut sink, id, 255)?;
+    let inside = Flag::new();
+    let open = Flag::new();
+    let waits = &inside;
+    let opens = &open;
+    books_are_send::<C, F, S, G>();
+    let (flushed, (seat, answers)) = thread::join(
+        rt,
+        move || all_flush(rt, lent, tallies, waits, opens),
+        move || ask_beside(lent, seat, id, opens),
+    );
+    assert!(rt; answers.begun);
+    assert_eq!(rt; answers.flush, Err(Refusal::FlightsFull));
+    assert!(rt; answers.unmap);
+    assert_eq!(rt; answers.end, Ok(Ending::Waiting(1, Why::FlightsFull)));
+    for flush in &flushed? {
+        assert!(rt; flush.is_ok());
+    }
+    let mut seat = seat;
+    assert_eq!(rt; seat.count(), 1);
+    assert_eq!(rt; calls::timeout(&mut lent, seat.tally(), &mut sink), Ok(255));
+    let stat = lent.stat();
+    assert_eq!(rt; (stat.start, stat.finish, stat.ring), (33, 33, 0));
+    assert_eq!(rt;
+        end_client(&mut lent, &mut seat, &mut sink, id),
+        Ok(Ending::Ended(1))
+    );
+    Ok(())
+}
+
+#[test]
+fn flights(rt: HostRuntime) -> Result<(), Fail> {
+    in_flight::<Brand, Brand, Brand, Brand, _>(
+        &rt,
+        rt.alloc(),
+        Bounds::new(1, 4095)?,
+        Blank::new(1),
+        Blank::new(1),
+        Blank::new(1),
+        Blank::new(256),
+    )
+}
