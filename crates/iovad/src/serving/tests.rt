@@ -413,42 +413,33 @@ fn waiting_clients_are_tried_again(rt: HostRuntime) -> Result<(), Fail> {
     Ok(())
 }
 
-/// What a peer over the socket at this path is answered; it says `bye` once the other peer has its answers too.
-fn ask_beside<R: Net>(
-    rt: &R,
-    alloc: Global,
-    path: Path<'_>,
-    answered: &Flag,
-    other: &Flag,
-) -> io::Result<Vec<u8>> {
+/// A peer over the socket at this path, and what it was answered to a request.
+fn ask_first<R: Net>(rt: &R, path: Path<'_>) -> io::Result<(UnixStream, [u8; 22])> {
     let mut stream = UnixStream::connect(rt, path)?;
     stream.write_all(b"hello iova1 0 dac\nalloc 3 1023\n")?;
     let mut lines = [0u8; 22];
     stream.read_exact(&mut lines)?;
-    answered.raise();
-    if !other.wait() {
-        return Err(io::Error::from(ErrorKind::TimedOut));
-    }
+    Ok((stream, lines))
+}
+
+/// What a peer was answered in all, which says `bye` now.
+fn ask_last(alloc: Global, stream: UnixStream, lines: &[u8]) -> io::Result<Vec<u8>> {
+    let mut stream = stream;
     stream.write_all(b"bye\n")?;
     let mut text = Vec::new(alloc);
-    text.extend_from_slice(&lines)?;
+    text.extend_from_slice(lines)?;
     stream.read_to_end(&mut text)?;
     Ok(text)
 }
 
-/// Two peers over the socket at this path, each with the other beside it.
-fn ask_twice(
-    rt: &HostRuntime,
-    alloc: Global,
-    path: Path<'_>,
-) -> (io::Result<Vec<u8>>, io::Result<Vec<u8>>) {
-    let first = Flag::new();
-    let second = Flag::new();
-    thread::join(
-        rt,
-        || ask_beside(rt, alloc, path, &first, &second),
-        || ask_beside(rt, alloc, path, &second, &first),
-    )
+/// What two peers over the socket at this path were answered, each of which has its answers before the other one ends.
+fn ask_twice<R: Net>(rt: &R, alloc: Global, path: Path<'_>) -> io::Result<(Vec<u8>, Vec<u8>)> {
+    let (first, first_lines) = ask_first(rt, path)?;
+    let (second, second_lines) = ask_first(rt, path)?;
+    Ok((
+        ask_last(alloc, first, &first_lines)?,
+        ask_last(alloc, second, &second_lines)?,
+    ))
 }
 
 /// Serves two sessions over a listener by two workers.
@@ -476,14 +467,13 @@ fn two_peers_over_a_socket(rt: HostRuntime) -> Result<(), Fail> {
     let lent = &rt;
     let at = path.as_path();
     let told = &notices;
-    let (seen, (first, second)) = thread::join(
+    let (seen, asked) = thread::join(
         lent,
         move || serve_socket(lent, alloc, sinks, listener, told),
         move || ask_twice(lent, alloc, at),
     );
     fs::remove_file(&rt, path.as_path())?;
-    let first = first?;
-    let second = second?;
+    let (first, second) = asked?;
     assert!(rt; first.as_slice() != second.as_slice());
     for text in [first.as_slice(), second.as_slice()] {
         assert!(rt; text.starts_with(b"opened ") && text.ends_with(b" 4\nbye\n"));
