@@ -229,31 +229,51 @@ fn gate_sinks<'a>(
     Ok(sinks)
 }
 
+/// The places of the flags of a test in their list.
+const INSIDE: usize = 0;
+
+const OPEN: usize = 1;
+
+const FIRST: usize = 2;
+
+const SECOND: usize = 3;
+
+const THIRD: usize = 4;
+
+/// Flags that aren't raised.
+fn new_flags() -> [Flag; 5] {
+    [
+        Flag::new(),
+        Flag::new(),
+        Flag::new(),
+        Flag::new(),
+        Flag::new(),
+    ]
+}
+
 // The first session's flush waits in its sink until the second session has its answers.
 #[test]
 fn overlap(rt: HostRuntime) -> Result<(), Fail> {
-    let inside = Flag::new();
-    let open = Flag::new();
-    let flushed = Flag::new();
+    let flags = new_flags();
     let rows = [
         Row::new(
             b"hello iova1 0 dac\nflush\n",
             b"opened 1\nflushed 1 0\n",
-            &flushed,
+            FIRST,
         ),
         Row::new(
             b"hello iova1 0 dac\nalloc 1 9\n",
             b"opened 2\ngiven 9 1\n",
-            &open,
+            OPEN,
         )
-        .waits_for(&inside),
+        .waits_for(INSIDE),
     ];
     let notices = Counted::new();
-    let accept = Rows::new(rt.alloc(), 0, &rows);
-    let sinks = gate_sinks(rt.alloc(), 3, &inside, &open)?;
+    let accept = Rows::new(rt.alloc(), 0, &rows, &flags);
+    let sinks = gate_sinks(rt.alloc(), 3, &flags[INSIDE], &flags[OPEN])?;
     let seen = serve_fresh(&rt, rt.alloc(), &notices, sinks, &accept, Stops, 2)?;
-    assert!(rt; flushed.is_raised());
-    assert!(rt; open.is_raised());
+    assert!(rt; flags[FIRST].is_raised());
+    assert!(rt; flags[OPEN].is_raised());
     assert_eq!(rt; seen.workers.as_slice(), [0, 1].as_slice());
     assert_eq!(rt; seen.totals, NOTHING);
     assert_eq!(rt; (seen.stat.start, seen.stat.finish), (1, 1));
@@ -266,7 +286,7 @@ fn overlap(rt: HostRuntime) -> Result<(), Fail> {
 fn a_thread_that_cannot_be_started(rt: HostRuntime) -> Result<(), Fail> {
     for most in 0..3usize {
         let notices = Counted::new();
-        let accept = Rows::new(rt.alloc(), 0, &[]);
+        let accept = Rows::new(rt.alloc(), 0, &[], &[]);
         let sinks = good_sinks(rt.alloc(), 4)?;
         let seen = serve_few(&rt, rt.alloc(), &notices, sinks, &accept, Yields, 20, most);
         assert!(rt; matches!(seen, Err(Unserved::Refused(Refusal::LinkFault))));
@@ -278,20 +298,18 @@ fn a_thread_that_cannot_be_started(rt: HostRuntime) -> Result<(), Fail> {
 // Each accept uses up a number, one that fails too, and no number is left out.
 #[test]
 fn accepts_that_fail(rt: HostRuntime) -> Result<(), Fail> {
-    let first = Flag::new();
-    let second = Flag::new();
-    let third = Flag::new();
+    let flags = new_flags();
     let rows = [
-        Row::new(b"list\nbye\n", b"no 3 NoClient\nbye\n", &first),
-        Row::new(b"list\n", b"no 3 NoClient\n", &second),
-        Row::new(b"bye\n", b"bye\n", &third),
+        Row::new(b"list\nbye\n", b"no 3 NoClient\nbye\n", FIRST),
+        Row::new(b"list\n", b"no 3 NoClient\n", SECOND),
+        Row::new(b"bye\n", b"bye\n", THIRD),
     ];
     let notices = Counted::new();
-    let accept = Rows::new(rt.alloc(), 17, &rows);
+    let accept = Rows::new(rt.alloc(), 17, &rows, &flags);
     let sinks = good_sinks(rt.alloc(), 4)?;
     let seen = serve_fresh(&rt, rt.alloc(), &notices, sinks, &accept, Yields, 20)?;
     assert_eq!(rt; accept.calls(), 20);
-    assert!(rt; first.is_raised() && second.is_raised() && third.is_raised());
+    assert!(rt; flags[FIRST].is_raised() && flags[SECOND].is_raised() && flags[THIRD].is_raised());
     assert_eq!(rt; seen.workers.as_slice(), [0, 1, 2].as_slice());
     Ok(())
 }
@@ -299,24 +317,21 @@ fn accepts_that_fail(rt: HostRuntime) -> Result<(), Fail> {
 // The flusher frees what the first session has left in a ring, and the second one waits for it.
 #[test]
 fn the_flusher_drains(rt: HostRuntime) -> Result<(), Fail> {
-    let inside = Flag::new();
-    let open = Flag::new();
-    let first = Flag::new();
-    let second = Flag::new();
-    open.raise();
+    let flags = new_flags();
+    flags[OPEN].raise();
     let rows = [
         Row::new(
             LEAVES_A_FRAME,
             b"opened 1\ngiven 9 1\nqueued 9 1\nbye\n",
-            &first,
+            FIRST,
         ),
-        Row::new(b"bye\n", b"bye\n", &second).waits_for(&inside),
+        Row::new(b"bye\n", b"bye\n", SECOND).waits_for(INSIDE),
     ];
     let notices = Counted::new();
-    let accept = Rows::new(rt.alloc(), 0, &rows);
-    let sinks = gate_sinks(rt.alloc(), 2, &inside, &open)?;
+    let accept = Rows::new(rt.alloc(), 0, &rows, &flags);
+    let sinks = gate_sinks(rt.alloc(), 2, &flags[INSIDE], &flags[OPEN])?;
     let seen = serve_fresh(&rt, rt.alloc(), &notices, sinks, &accept, Yields, 2)?;
-    assert!(rt; first.is_raised() && second.is_raised() && inside.is_raised());
+    assert!(rt; flags[FIRST].is_raised() && flags[SECOND].is_raised() && flags[INSIDE].is_raised());
     let stat = seen.stat;
     assert_eq!(rt;
         (stat.magazine, stat.ring, stat.start, stat.finish),
@@ -329,23 +344,20 @@ fn the_flusher_drains(rt: HostRuntime) -> Result<(), Fail> {
 // The same with a gate that stays closed: the round is refused, which is a notice, and nothing is drained.
 #[test]
 fn a_round_that_is_refused(rt: HostRuntime) -> Result<(), Fail> {
-    let inside = Flag::new();
-    let open = Flag::new();
-    let first = Flag::new();
-    let second = Flag::new();
+    let flags = new_flags();
     let rows = [
         Row::new(
             LEAVES_A_FRAME,
             b"opened 1\ngiven 9 1\nqueued 9 1\nbye\n",
-            &first,
+            FIRST,
         ),
-        Row::new(b"bye\n", b"bye\n", &second).waits_for(&inside),
+        Row::new(b"bye\n", b"bye\n", SECOND).waits_for(INSIDE),
     ];
     let notices = Counted::new();
-    let accept = Rows::new(rt.alloc(), 0, &rows);
-    let sinks = gate_sinks(rt.alloc(), 2, &inside, &open)?;
+    let accept = Rows::new(rt.alloc(), 0, &rows, &flags);
+    let sinks = gate_sinks(rt.alloc(), 2, &flags[INSIDE], &flags[OPEN])?;
     let seen = serve_fresh(&rt, rt.alloc(), &notices, sinks, &accept, Yields, 2)?;
-    assert!(rt; first.is_raised() && second.is_raised() && inside.is_raised());
+    assert!(rt; flags[FIRST].is_raised() && flags[SECOND].is_raised() && flags[INSIDE].is_raised());
     assert_eq!(rt;
         (seen.stat.ring, seen.stat.start, seen.stat.finish),
         (1, 1, 0)
@@ -357,25 +369,23 @@ fn a_round_that_is_refused(rt: HostRuntime) -> Result<(), Fail> {
 // A sink that fails in a session and a link that fails are a notice each, and the daemon goes on.
 #[test]
 fn sinks_and_links_that_fail(rt: HostRuntime) -> Result<(), Fail> {
-    let first = Flag::new();
-    let second = Flag::new();
-    let third = Flag::new();
+    let flags = new_flags();
     let rows = [
         Row::new(
             b"hello iova1 0 dac\nflush\nbye\n",
             b"opened 1\nno 18 SinkFault\nbye\n",
-            &first,
+            FIRST,
         ),
-        Row::new(b"hello iova1 0 dac\n", b"opened 2\n", &second).fails_at(1),
-        Row::new(b"hello iova1 0 dac\nbye\n", b"opened 2\nbye\n", &third),
+        Row::new(b"hello iova1 0 dac\n", b"opened 2\n", SECOND).fails_at(1),
+        Row::new(b"hello iova1 0 dac\nbye\n", b"opened 2\nbye\n", THIRD),
     ];
     let notices = Counted::new();
-    let accept = Rows::new(rt.alloc(), 0, &rows);
+    let accept = Rows::new(rt.alloc(), 0, &rows, &flags);
     let mut sinks = Vec::new(rt.alloc());
     sinks.push(MemorySink::new(1))?;
     sinks.push(MemorySink::new(0))?;
     let seen = serve_fresh(&rt, rt.alloc(), &notices, sinks, &accept, Stops, 3)?;
-    assert!(rt; first.is_raised() && !second.is_raised() && third.is_raised());
+    assert!(rt; flags[FIRST].is_raised() && !flags[SECOND].is_raised() && flags[THIRD].is_raised());
     assert_eq!(rt; notices.count(), 2);
     assert_eq!(rt; seen.totals, NOTHING);
     Ok(())
@@ -389,10 +399,10 @@ fn waiting_clients_are_tried_again(rt: HostRuntime) -> Result<(), Fail> {
     for _ in 0..256 {
         input.extend_from_slice(b"alloc 1 4095\n")?;
     }
-    let answered = Flag::new();
-    let rows = [Row::new(input.as_slice(), b"", &answered)];
+    let flags = new_flags();
+    let rows = [Row::new(input.as_slice(), b"", FIRST)];
     let notices = Counted::new();
-    let accept = Rows::new(rt.alloc(), 0, &rows);
+    let accept = Rows::new(rt.alloc(), 0, &rows, &flags);
     let mut sinks = Vec::new(rt.alloc());
     sinks.push(MemorySink::new(1))?;
     sinks.push(MemorySink::new(0))?;
@@ -403,42 +413,33 @@ fn waiting_clients_are_tried_again(rt: HostRuntime) -> Result<(), Fail> {
     Ok(())
 }
 
-/// What a peer over the socket at this path is answered; it says `bye` once the other peer has its answers too.
-fn ask_beside<R: Net>(
-    rt: &R,
-    alloc: Global,
-    path: Path<'_>,
-    answered: &Flag,
-    other: &Flag,
-) -> io::Result<Vec<u8>> {
+/// A peer over the socket at this path, and what it was answered to a request.
+fn ask_first<R: Net>(rt: &R, path: Path<'_>) -> io::Result<(UnixStream, [u8; 22])> {
     let mut stream = UnixStream::connect(rt, path)?;
     stream.write_all(b"hello iova1 0 dac\nalloc 3 1023\n")?;
     let mut lines = [0u8; 22];
     stream.read_exact(&mut lines)?;
-    answered.raise();
-    if !other.wait() {
-        return Err(io::Error::from(ErrorKind::TimedOut));
-    }
+    Ok((stream, lines))
+}
+
+/// What a peer was answered in all, which says `bye` now.
+fn ask_last(alloc: Global, stream: UnixStream, lines: &[u8]) -> io::Result<Vec<u8>> {
+    let mut stream = stream;
     stream.write_all(b"bye\n")?;
     let mut text = Vec::new(alloc);
-    text.extend_from_slice(&lines)?;
+    text.extend_from_slice(lines)?;
     stream.read_to_end(&mut text)?;
     Ok(text)
 }
 
-/// Two peers over the socket at this path, each with the other beside it.
-fn ask_twice<R: Net + Threads + Sync>(
-    rt: &R,
-    alloc: Global,
-    path: Path<'_>,
-) -> (io::Result<Vec<u8>>, io::Result<Vec<u8>>) {
-    let first = Flag::new();
-    let second = Flag::new();
-    thread::join(
-        rt,
-        || ask_beside(rt, alloc, path, &first, &second),
-        || ask_beside(rt, alloc, path, &second, &first),
-    )
+/// What two peers over the socket at this path were answered, each of which has its answers before the other one ends.
+fn ask_twice<R: Net>(rt: &R, alloc: Global, path: Path<'_>) -> io::Result<(Vec<u8>, Vec<u8>)> {
+    let (first, first_lines) = ask_first(rt, path)?;
+    let (second, second_lines) = ask_first(rt, path)?;
+    Ok((
+        ask_last(alloc, first, &first_lines)?,
+        ask_last(alloc, second, &second_lines)?,
+    ))
 }
 
 /// Serves two sessions over a listener by two workers.
@@ -466,14 +467,13 @@ fn two_peers_over_a_socket(rt: HostRuntime) -> Result<(), Fail> {
     let lent = &rt;
     let at = path.as_path();
     let told = &notices;
-    let (seen, (first, second)) = thread::join(
+    let (seen, asked) = thread::join(
         lent,
         move || serve_socket(lent, alloc, sinks, listener, told),
         move || ask_twice(lent, alloc, at),
     );
     fs::remove_file(&rt, path.as_path())?;
-    let first = first?;
-    let second = second?;
+    let (first, second) = asked?;
     assert!(rt; first.as_slice() != second.as_slice());
     for text in [first.as_slice(), second.as_slice()] {
         assert!(rt; text.starts_with(b"opened ") && text.ends_with(b" 4\nbye\n"));
@@ -490,7 +490,7 @@ fn two_peers_over_a_socket(rt: HostRuntime) -> Result<(), Fail> {
 #[test]
 fn a_refused_growth_of_serving(rt: HostRuntime) -> Result<(), Fail> {
     let notices = Counted::new();
-    let accept = Rows::new(rt.alloc(), 0, &[]);
+    let accept = Rows::new(rt.alloc(), 0, &[], &[]);
     let sinks = good_sinks(rt.alloc(), 3)?;
     let served = serve_fresh(&rt, rt.alloc(), &notices, sinks, &accept, Stops, 4);
     match served {

@@ -15,19 +15,19 @@ use std::sync::atomic::{AtomicU64, Ordering};
 use std::thread;
 
 /// A session that is to come: what its peer sends, once a flag is raised if it waits for one, at which call its link fails (0:
-/// at none), what it is to be answered, and the flag that is raised once it has been.
+/// at none), what it is to be answered, and the flag that is raised once it has been. Flags are named by their place in a list.
 #[derive(Clone, Copy)]
 pub struct Row<'a> {
     input: &'a [u8],
-    before: Option<&'a Flag>,
+    before: Option<usize>,
     fail_at: u64,
     answers: &'a [u8],
-    answered: &'a Flag,
+    answered: usize,
 }
 
 impl<'a> Row<'a> {
     /// A session that waits for nothing, and whose link doesn't fail.
-    pub fn new(input: &'a [u8], answers: &'a [u8], answered: &'a Flag) -> Row<'a> {
+    pub fn new(input: &'a [u8], answers: &'a [u8], answered: usize) -> Row<'a> {
         Row {
             input,
             before: None,
@@ -38,7 +38,7 @@ impl<'a> Row<'a> {
     }
 
     /// The same, but its peer sends once the flag is raised.
-    pub fn waits_for(self, flag: &'a Flag) -> Row<'a> {
+    pub fn waits_for(self, flag: usize) -> Row<'a> {
         Row {
             before: Some(flag),
             ..self
@@ -58,6 +58,7 @@ impl<'a> Row<'a> {
 #[derive(Drop)]
 pub struct RowLink<'a> {
     row: Row<'a>,
+    flags: &'a [Flag],
     wire: MemoryLink<'a>,
 }
 
@@ -73,16 +74,20 @@ impl<'a> Link for RowLink<'a> {
     ghost ends = { λ l. l.wire.ends };
 
     fn read(&mut self, buf: &mut [u8]) -> Result<usize, LinkFault> {
-        if let Some(before) = self.row.before {
-            before.wait();
+        if let Some(before) = self.row.before
+            && let Some(flag) = self.flags.get(before)
+        {
+            flag.wait();
         }
         self.wire.read(buf)
     }
 
     fn write(&mut self, bytes: &[u8]) -> Result<usize, LinkFault> {
         let written = self.wire.write(bytes);
-        if self.wire.sent() == self.row.answers {
-            self.row.answered.raise();
+        if self.wire.sent() == self.row.answers
+            && let Some(flag) = self.flags.get(self.row.answered)
+        {
+            flag.raise();
         }
         written
     }
@@ -95,16 +100,18 @@ pub struct Rows<'a> {
     alloc: Global,
     failing: u64,
     rows: &'a [Row<'a>],
+    flags: &'a [Flag],
     calls: AtomicU64,
 }
 
 impl<'a> Rows<'a> {
     /// Accepts these sessions once so many calls have failed.
-    pub fn new(alloc: Global, failing: u64, rows: &'a [Row<'a>]) -> Rows<'a> {
+    pub fn new(alloc: Global, failing: u64, rows: &'a [Row<'a>], flags: &'a [Flag]) -> Rows<'a> {
         Rows {
             alloc,
             failing,
             rows,
+            flags,
             calls: AtomicU64::new(0),
         }
     }
@@ -126,6 +133,7 @@ impl<'a> Accept<RowLink<'a>> for Rows<'a> {
         };
         Ok(RowLink {
             row: *row,
+            flags: self.flags,
             wire: MemoryLink::new(self.alloc, row.input, 4096, row.fail_at),
         })
     }
