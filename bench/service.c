@@ -4,8 +4,9 @@
                                                        IN_FLIGHT requests in one write and reads their answers. KIND is
                                                        iova (alloc and free in turn) or ping (redis's PING). A session of
                                                        iova takes 65,536 requests at most, so a client makes several.
-                                                       Prints the requests a second of all clients together, and the
-                                                       median and the 99th of 100 of a write's way there and back.
+                                                       Prints the requests a second of all clients together, the median
+                                                       and the 99th of 100 of a write's way there and back, and how many
+                                                       of 100 requests were refused since a ring was full.
    service floor PATH CLIENTS                          a server with a thread for each of so many clients, which answers
                                                        each line with a line of its length and does nothing else. */
 #define _GNU_SOURCE
@@ -45,7 +46,7 @@ static struct sockaddr_un address(void) {
 struct client {
   pthread_t thread;
   float *ways; /* seconds of each write's way there and back */
-  long count;
+  long count, done, refused;
 };
 
 static void send_all(int fd, const char *bytes, long len) {
@@ -85,30 +86,38 @@ static void *load(void *arg) {
       send_all(fd, "hello iova1 0 dac\n", 18);
       lines(fd, in, sizeof in - 1, 1);
     }
-    int is_held = 0; /* what the last run of requests was given is held */
-    for (long asked = 0; asked + in_flight < SESSION && done < requests; asked += in_flight, done += in_flight) {
-      int len = 0;
-      for (int i = 0; i < in_flight; i++) {
+    int count = 0; /* ranges that are held */
+    for (long asked = 0; asked + in_flight < SESSION && done < requests;) {
+      int len = 0, sent = count ? count : in_flight;
+      for (int i = 0; i < sent; i++) {
         if (!is_iova)
           len += sprintf(out + len, "PING\r\n");
-        else if (!is_held)
+        else if (!count)
           len += sprintf(out + len, "alloc 1 68719476735\n");
         else
           len += sprintf(out + len, "free %lu\n", held[i]);
       }
       double begin = now();
       send_all(fd, out, len);
-      lines(fd, in, sizeof in - 1, in_flight);
+      lines(fd, in, sizeof in - 1, sent);
       me->ways[me->count++] = now() - begin;
-      if (is_iova) {
-        char *line = in;
-        for (int i = 0; i < in_flight; i++, line = strchr(line, '\n') + 1) {
-          if (!is_held && sscanf(line, "given %lu", held + i) != 1)
+      asked += sent, done += sent, me->done += sent;
+      if (!is_iova)
+        continue;
+      char *line = in;
+      if (!count) {
+        for (; count < sent; count++, line = strchr(line, '\n') + 1)
+          if (sscanf(line, "given %lu", held + count) != 1)
             fprintf(stderr, "not given: %s", line), exit(1);
-          if (is_held && strncmp(line, "queued ", 7))
-            fprintf(stderr, "not queued: %s", line), exit(1);
-        }
-        is_held = !is_held;
+        continue;
+      }
+      /* what a full ring refuses while another worker's flush is in flight is held on, and freed again */
+      count = 0;
+      for (int i = 0; i < sent; i++, line = strchr(line, '\n') + 1) {
+        if (!strncmp(line, "no 7 ", 5))
+          held[count++] = held[i], me->refused++;
+        else if (strncmp(line, "queued ", 7))
+          fprintf(stderr, "not queued: %s", line), exit(1);
       }
     }
     if (is_iova) {
@@ -128,13 +137,13 @@ static void run_load(int clients) {
   struct client *all = calloc(clients, sizeof *all);
   double begin = now();
   for (int i = 0; i < clients; i++) {
-    all[i].ways = malloc(sizeof(float) * (requests / in_flight + 1));
+    all[i].ways = malloc(sizeof(float) * (requests + 1));
     pthread_create(&all[i].thread, 0, load, all + i);
   }
-  long count = 0;
+  long count = 0, done = 0, refused = 0;
   for (int i = 0; i < clients; i++) {
     pthread_join(all[i].thread, 0);
-    count += all[i].count;
+    count += all[i].count, done += all[i].done, refused += all[i].refused;
   }
   double took = now() - begin;
   float *ways = malloc(sizeof(float) * count);
@@ -144,7 +153,8 @@ static void run_load(int clients) {
     at += all[i].count;
   }
   qsort(ways, count, sizeof *ways, by_size);
-  printf("%.0f %.1f %.1f\n", count * (double)in_flight / took, ways[count / 2] * 1e6, ways[count * 99 / 100] * 1e6);
+  printf("%.0f %.1f %.1f %.2f\n", done / took, ways[count / 2] * 1e6, ways[count * 99 / 100] * 1e6,
+         refused * 100.0 / done);
 }
 
 static int listener;
