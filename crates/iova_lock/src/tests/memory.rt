@@ -153,20 +153,23 @@ fn batched<C: Ledger, F: Ledger, S: Ledger, G: Ledger, K: Keep<C, F, S, G>, R: A
         println!(rt; "refused before")?;
         return Ok(());
     };
-    let first = Told::Refused(Refusal::Zero);
-    told.push(first)?;
+    told.push(Told::Refused(Refusal::Zero))?;
     let asks = [Ask::Free { lo: 9 }, Ask::Free { lo: 9 }];
     let before = keeper.stat();
     if let Err(refusal) = keeper.batch(seat, id, &asks, &mut told) {
         println!(rt; "refused at batch")?;
         assert_eq!(rt; refusal, Refusal::NoMemory);
-        assert_eq!(rt; told.as_slice(), [first].as_slice());
+        let first = [Told::Refused(Refusal::Zero)];
+        assert_eq!(rt; told.as_slice(), first.as_slice());
         assert_eq!(rt; keeper.stat(), before);
         assert_eq!(rt; (seat.count(), seat.sum_lo()), (2, 17));
         assert_eq!(rt; keeper.batch(seat, id, &asks, &mut told), Ok(2));
     }
-    let queued = Told::Queued(Range::new(9, 1));
-    let all = [first, queued, Told::Refused(Refusal::NotHeld)];
+    let all = [
+        Told::Refused(Refusal::Zero),
+        Told::Queued(Range::new(9, 1)),
+        Told::Refused(Refusal::NotHeld),
+    ];
     assert_eq!(rt; told.as_slice(), all.as_slice());
     assert_eq!(rt; (seat.count(), seat.sum_lo()), (1, 8));
     assert_eq!(rt; keeper.stat().ring, 1);

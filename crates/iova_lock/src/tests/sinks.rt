@@ -11,6 +11,7 @@ use crate::seat::{Seat, Tally};
 use crate::shared::Shared;
 use iova_range::bounds::Bounds;
 use iova_range::refusal::Refusal;
+use iova_range::stat::Stat;
 use iova_sink::gate::{Flag, GateSink, MAX_TURNS};
 use iova_sink::memory::MemorySink;
 use std::alloc::{AllocError, Global};
@@ -135,18 +136,17 @@ fn failing_at<C: Ledger, F: Ledger, S: Ledger, G: Ledger, R: Abort + Wait>(
     let (shared, mut seats) = Shared::<&R, C, F, S, G>::new(
         rt, alloc, 7, bounds, 1, count, frames, sum_lo, good,
     )?;
-    let mut lent = &shared;
-    let mut sums = (0, 0, 0);
-    let mut ended = 0;
-    for seat in &mut seats {
-        let mut sink = MemorySink::new(fail_at);
-        let failed = calls_of(rt, &mut lent, seat, &mut sink)?;
-        let fails = 1 <= fail_at && fail_at <= SINK_CALLS;
-        assert_eq!(rt; failed, fails as u64, "at call {fail_at}");
-        sums = (seat.count(), seat.frames(), seat.sum_lo());
-        ended = seat.tally().good();
-    }
+    let lent = &shared;
+    let Some(seat) = seats.pop() else {
+        return Err(Fail::from("no seat"));
+    };
+    let (mut seat, failed) = run_calls(rt, lent, seat, fail_at)?;
+    let fails = 1 <= fail_at && fail_at <= SINK_CALLS;
+    assert_eq!(rt; failed, fails as u64, "at call {fail_at}");
+    let sums = (seat.count(), seat.frames(), seat.sum_lo());
+    let ended = seat.tally().good();
     assert_eq!(rt; (sums.0, ended), (3, SINK_CALLS));
+    seats.push(seat)?;
     match shared.gather(seats) {
         Ok(totals) => assert_eq!(rt; (totals.count, totals.frames, totals.sum_lo), sums),
         Err(_) => assert!(rt; false),
@@ -170,6 +170,20 @@ fn a_sink_that_fails_at_each_call(rt: HostRuntime) -> Result<(), Fail> {
         )?;
     }
     Ok(())
+}
+
+// The same of a keeper by value, so that it is lent whatever it is. The seat comes back.
+fn run_calls<C: Ledger, F: Ledger, S: Ledger, G: Ledger, K: Keep<C, F, S, G> + Drop, R: Abort>(
+    rt: &R,
+    keeper: K,
+    seat: Seat<C, F, S, G>,
+    fail_at: u64,
+) -> Result<(Seat<C, F, S, G>, u64), Fail> {
+    let mut keeper = keeper;
+    let mut seat = seat;
+    let mut sink = MemorySink::new(fail_at);
+    let failed = calls_of(rt, &mut keeper, &mut seat, &mut sink)?;
+    Ok((seat, failed))
 }
 
 // Waits until so many flushes have begun. Whether they have.
@@ -279,6 +293,34 @@ fn a_failed_flush_beside_another(rt: HostRuntime) -> Result<(), Fail> {
     )
 }
 
+// A client with 256 single frames, of which 255 wait in the ring.
+fn ring_filled<C: Ledger, F: Ledger, S: Ledger, G: Ledger, K: Keep<C, F, S, G> + Drop>(
+    keeper: K,
+    seat: Seat<C, F, S, G>,
+) -> Result<(Seat<C, F, S, G>, u64), Refusal> {
+    let mut keeper = keeper;
+    let mut seat = seat;
+    let mut sink = MemorySink::new(0);
+    let id = hold(&mut keeper, &mut seat, 256)?;
+    unmap_many(&mut keeper, &mut seat, &mut sink, id, 255)?;
+    Ok((seat, id))
+}
+
+// A round of the flusher, how the domain stands after it, and the client's end.
+fn ring_emptied<C: Ledger, F: Ledger, S: Ledger, G: Ledger, K: Keep<C, F, S, G> + Drop>(
+    keeper: K,
+    seat: Seat<C, F, S, G>,
+    id: u64,
+) -> (Result<u64, Refusal>, Stat, Result<Ending, Refusal>) {
+    let mut keeper = keeper;
+    let mut seat = seat;
+    let mut sink = MemorySink::new(0);
+    let freed = calls::timeout(&mut keeper, seat.tally(), &mut sink);
+    let stat = keeper.stat();
+    let end = end_client(&mut keeper, &mut seat, &mut sink, id);
+    (freed, stat, end)
+}
+
 // What was answered while 32 flushes were in flight and the worker's ring was full.
 #[derive(Drop)]
 struct Answers {
@@ -372,14 +414,12 @@ fn in_flight<
     let (shared, mut seats) = Shared::<&R, C, F, S, G>::new(
         rt, alloc, 7, bounds, 1, count, frames, sum_lo, good,
     )?;
-    let mut lent = &shared;
-    let Some(mut seat) = seats.pop() else {
+    let lent = &shared;
+    let Some(seat) = seats.pop() else {
         return Err(Fail::from("no seat"));
     };
+    let (mut seat, id) = ring_filled(lent, seat)?;
     let tallies = split_off(alloc, &mut seat, 32)?;
-    let mut sink = MemorySink::new(0);
-    let id = hold(&mut lent, &mut seat, 256)?;
-    unmap_many(&mut lent, &mut seat, &mut sink, id, 255)?;
     let inside = Flag::new();
     let open = Flag::new();
     let waits = &inside;
@@ -397,15 +437,11 @@ fn in_flight<
     for flush in &flushed? {
         assert!(rt; flush.is_ok());
     }
-    let mut seat = seat;
     assert_eq!(rt; seat.count(), 1);
-    assert_eq!(rt; calls::timeout(&mut lent, seat.tally(), &mut sink), Ok(255));
-    let stat = lent.stat();
+    let (freed, stat, end) = ring_emptied(lent, seat, id);
+    assert_eq!(rt; freed, Ok(255));
     assert_eq!(rt; (stat.start, stat.finish, stat.ring), (33, 33, 0));
-    assert_eq!(rt;
-        end_client(&mut lent, &mut seat, &mut sink, id),
-        Ok(Ending::Ended(1))
-    );
+    assert_eq!(rt; end, Ok(Ending::Ended(1)));
     Ok(())
 }
 
