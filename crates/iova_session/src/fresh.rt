@@ -21,7 +21,7 @@ use std::alloc::Global;
 use std::sync::Wait;
 use std::sync::ledger::{Blank, Ledger};
 
-/// How many bytes a call of the link moves at most, and which call of it and of the sink fails (0: none).
+/// How many bytes a call of the link moves at most, one at least, and which call of it and of the sink fails (0: none).
 #[derive(Clone, Copy)]
 pub(crate) struct Script {
     pub(crate) most: usize,
@@ -75,9 +75,8 @@ pub(crate) fn one_session<C: Ledger, F: Ledger, S: Ledger, G: Ledger, K: Keep<C,
     input: &[u8],
     script: Script,
 ) -> Result<Seen, Refusal>
-    requires { 1 ≤ script.most }
 {
-    let mut link = MemoryLink::new(alloc, input, script.most, script.fail_at);
+    let mut link = MemoryLink::new(alloc, input, script.most.max(1), script.fail_at);
     let mut sink = MemorySink::new(script.sink_fail_at);
     let end = run_session(alloc, &mut link, keeper, post, &mut sink);
     let shares = shares_of(post);
@@ -119,7 +118,6 @@ pub(crate) fn in_book<C: Ledger, F: Ledger, S: Ledger, G: Ledger>(
     requires frames { (frames.name ≡ F.name) × (frames.parts ≡ F.parts) × (frames.parts ≡ 1) }
     requires sum_lo { (sum_lo.name ≡ S.name) × (sum_lo.parts ≡ S.parts) × (sum_lo.parts ≡ 1) }
     requires good { (good.name ≡ G.name) × (good.parts ≡ G.parts) × (good.parts ≡ TALLY_PARTS) }
-    requires most { 1 ≤ script.most }
 {
     let (mut book, mut seats) = Book::<C, F, S, G>::new(
         alloc, 0, bounds, 1, count, frames, sum_lo, good,
@@ -167,7 +165,6 @@ fn session_of<C: Ledger, F: Ledger, S: Ledger, G: Ledger, K: Keep<C, F, S, G> + 
     input: &[u8],
     script: Script,
 ) -> Result<(Seen, Post<C, F, S, G>), Refusal>
-    requires { 1 ≤ script.most }
 {
     let seen = one_session(alloc, &mut keeper, &mut post, input, script)?;
     Ok((seen, post))
@@ -190,7 +187,6 @@ pub(crate) fn in_shared<C: Ledger, F: Ledger, S: Ledger, G: Ledger, R: Wait>(
     requires frames { (frames.name ≡ F.name) × (frames.parts ≡ F.parts) × (frames.parts ≡ 1) }
     requires sum_lo { (sum_lo.name ≡ S.name) × (sum_lo.parts ≡ S.parts) × (sum_lo.parts ≡ 1) }
     requires good { (good.name ≡ G.name) × (good.parts ≡ G.parts) × (good.parts ≡ TALLY_PARTS) }
-    requires most { 1 ≤ script.most }
 {
     let (shared, mut seats) = Shared::<&R, C, F, S, G>::new(
         rt, alloc, 0, bounds, 1, count, frames, sum_lo, good,
