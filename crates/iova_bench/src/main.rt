@@ -7,7 +7,6 @@ mod lines;
 mod lock;
 mod machine;
 mod random;
-mod session;
 mod tree;
 
 use std::alloc::Global;
@@ -40,9 +39,6 @@ fn run<R: Runtime + Threads + Wait + Sync>(
         for case in lines::CASES {
             println!(rt; "{case}")?;
         }
-        for case in session::CASES {
-            println!(rt; "{case}")?;
-        }
         for case in machine::CASES {
             println!(rt; "{case}")?;
         }
@@ -58,7 +54,6 @@ fn run<R: Runtime + Threads + Wait + Sync>(
     }
     for word in words.iter().skip(1) {
         lines::run(rt, alloc, word.as_str())?;
-        session::run(rt, alloc, word.as_str())?;
         machine::run(rt, alloc, word.as_str())?;
         ledger::run(rt, alloc, word.as_str())?;
         lock::run(rt, alloc, word.as_str())?;
