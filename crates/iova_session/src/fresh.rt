@@ -74,8 +74,7 @@ pub(crate) fn one_session<C: Ledger, F: Ledger, S: Ledger, G: Ledger, K: Keep<C,
     post: &mut Post<C, F, S, G>,
     input: &[u8],
     script: Script,
-) -> Result<Seen, Refusal>
-{
+) -> Result<Seen, Refusal> {
     let mut link = MemoryLink::new(alloc, input, script.most.max(1), script.fail_at);
     let mut sink = MemorySink::new(script.sink_fail_at);
     let end = run_session(alloc, &mut link, keeper, post, &mut sink);
@@ -164,8 +163,7 @@ fn session_of<C: Ledger, F: Ledger, S: Ledger, G: Ledger, K: Keep<C, F, S, G> + 
     mut post: Post<C, F, S, G>,
     input: &[u8],
     script: Script,
-) -> Result<(Seen, Post<C, F, S, G>), Refusal>
-{
+) -> Result<(Seen, Post<C, F, S, G>), Refusal> {
     let seen = one_session(alloc, &mut keeper, &mut post, input, script)?;
     Ok((seen, post))
 }
