@@ -3,7 +3,7 @@ _iovad() {
   local word=${COMP_WORDS[COMP_CWORD]} before=${COMP_WORDS[COMP_CWORD-1]} command=${COMP_WORDS[1]}
   COMPREPLY=()
   if [ "$COMP_CWORD" = 1 ]; then
-    mapfile -t COMPREPLY < <(compgen -W "replay serve ask help --help" -- "$word")
+    mapfile -t COMPREPLY < <(compgen -W "replay serve ask help --help --version" -- "$word")
     return
   fi
   case $before in
@@ -11,13 +11,13 @@ _iovad() {
       mapfile -t COMPREPLY < <(compgen -f -- "$word")
       return
       ;;
-    --workers | --domain | --start | --last | --sessions) return ;;
+    --workers | --domain | --start | --last | --sessions | --depot) return ;;
   esac
   case $command in
     replay) mapfile -t COMPREPLY < <(compgen -W "--report --help" -- "$word"; compgen -f -- "$word") ;;
     serve)
       mapfile -t COMPREPLY < <(
-        compgen -W "--socket --workers --domain --start --last --sink --sessions --help" -- "$word"
+        compgen -W "--socket --workers --domain --start --last --sink --sessions --depot --help" -- "$word"
       )
       ;;
     ask) mapfile -t COMPREPLY < <(compgen -W "--help" -- "$word"; compgen -f -- "$word") ;;

@@ -8,7 +8,7 @@ use Rattle.clap.specs.Words.{ReadsOne, Text, one_text, first_value, rows_of, fir
 use Rattle.clap.specs.declared.parser.matches.Found.{Found}
 use Rattle.clap.proofs.WalkLemmas.{first_value-rows, one_text-rows}
 use Rattle.iova_command.specs.Asks.{HasFlag}
-use Rattle.iova_command.specs.Numbers.{HasNumber}
+use Rattle.iova_command.specs.Numbers.{HasNumber, HasOptional}
 
 -- what `parse` gives for a number of 64 bits
 abbrev pub Parses : List ℕ → Result ℕ ParseIntError → Type 0
@@ -23,6 +23,13 @@ number_read f id r n is none value = go (one_text f id) refl
         let bad : None ≡ Some n = sym (none e) ∙ is in
         cc
     go (Some text) e = (text, sym (one_text-rows f id) ∙ e, (subst (λ (o : Option ℕ). ReadsOne Parses text o) is (value text e)).0)
+
+pub optional_read : (f : Found) (id : Text) (r : Option ℕ) → (one_text f id ≡ None → r ≡ None)
+    → ((text : Text) → one_text f id ≡ Some text → ReadsOne Parses text r) → HasOptional (rows_of f) id r
+optional_read f id (Some n) none value = number_read f id (Some n) n refl none value
+optional_read f id None none value = λ n has.
+    let read = value has.0 (one_text-rows f id ∙ has.1) in
+    read.1.0 has.2.0
 
 pub text_read : (f : Found) (id : Text) (r : Option (Bor Text)) (s : Bor Text) → option_map (λ b. b.now) r ≡ first_value f id → r ≡ Some s
     → first_of id (rows_of f) ≡ Some s.now

@@ -1,7 +1,7 @@
 -- What matched words ask for. Own.
 use Rattle.std.specs.Prelude.{◌≡◌, ◌≢◌, Bool, true, false, List, Option, Some, None, codes}
 use Rattle.clap.specs.Words.{Row, Text, first_of, one_of}
-use Rattle.iova_command.specs.Numbers.{HasNumber}
+use Rattle.iova_command.specs.Numbers.{HasNumber, HasOptional}
 use Rattle.iova_command.specs.declared.asked.Asked.{Asked}
 use Rattle.iova_command.specs.declared.asked.Asked.TheVariants.{Replay, Serve, Ask}
 use Rattle.iova_command.specs.declared.plan.Plan.{Plan}
@@ -19,6 +19,7 @@ pub record Plans (rows : List Row) (plan : Plan) : Type 0 where
   pub last : HasNumber rows (codes "last") plan.last
   pub sink : first_of (codes "sink") rows ≡ Some plan.sink.now
   pub sessions : HasNumber rows (codes "sessions") plan.sessions
+  pub depot : HasOptional rows (codes "depot") plan.depot
 
 -- a subcommand of this name and what it matched ask for this
 abbrev pub AsksOf : Text → List Row → Asked → Type 0

@@ -5,7 +5,7 @@ use Rattle.clap.specs.declared.builder.command.Command.{Command}
 use Rattle.clap.specs.declared.builder.command.Command.TheViews.{out-Command}
 use Rattle.clap.specs.declared.builder.action.ArgAction.TheVariants.{Set, SetTrue}
 use Rattle.clap.specs.declared.builder.value_parser.ValueParser.TheVariants as parser
-use Rattle.iova_range.specs.declared.limits.TheConstants.{MAX_WORKERS, MAX_DOMAINS, MAX_SESSIONS, TOP}
+use Rattle.iova_range.specs.declared.limits.TheConstants.{MAX_DEPOT, MAX_WORKERS, MAX_DOMAINS, MAX_SESSIONS, WIDE_TOP}
 
 -- an argument that must be there, named by its place
 abbrev pub place_rule : Text → Rule
@@ -15,9 +15,13 @@ place_rule id = record (new_rule id) { action = Some Set; value_names = 1; requi
 abbrev pub option_rule : Text → Rule
 option_rule id = record (place_rule id) { long = Some id }
 
--- one with a number from `low` to `high`
+-- an option with a number from `low` to `high`, and one that must be there
+abbrev pub optional_number_rule : Text → ℕ → ℕ → Rule
+optional_number_rule id low high =
+    record (new_rule id) { long = Some id; action = Some Set; value_names = 1; parser = Some (parser.Unsigned low high) }
+
 abbrev pub number_rule : Text → ℕ → ℕ → Rule
-number_rule id low high = record (option_rule id) { parser = Some (parser.Unsigned low high) }
+number_rule id low high = record (optional_number_rule id low high) { required = true }
 
 abbrev pub report_rule : Rule
 report_rule = record (new_rule (codes "report")) { long = Some (codes "report"); action = Some SetTrue }
@@ -27,22 +31,27 @@ replay_app = with_rule (with_rule (new_app (codes "replay")) report_rule) (place
 
 abbrev pub serve_app : App
 serve_app =
-    with_rule (with_rule (with_rule (with_rule (with_rule (with_rule (with_rule (new_app (codes "serve"))
+    with_rule (with_rule (with_rule (with_rule (with_rule (with_rule (with_rule (with_rule (new_app (codes "serve"))
     (option_rule (codes "socket")))
     (number_rule (codes "workers") 1 MAX_WORKERS))
     (number_rule (codes "domain") 0 (MAX_DOMAINS - 1)))
-    (number_rule (codes "start") 1 TOP))
-    (number_rule (codes "last") 1 TOP))
+    (number_rule (codes "start") 1 WIDE_TOP))
+    (number_rule (codes "last") 1 WIDE_TOP))
     (option_rule (codes "sink")))
-    (number_rule (codes "sessions") 1 MAX_SESSIONS)
+    (number_rule (codes "sessions") 1 MAX_SESSIONS))
+    (optional_number_rule (codes "depot") 0 MAX_DEPOT)
 
 abbrev pub ask_app : App
 ask_app = with_rule (new_app (codes "ask")) (place_rule (codes "path"))
 
+-- the program's own name; it tells its version
+abbrev pub versioned : App → App
+versioned app = record app { top = record app.top { has_version = true } }
+
 -- the program
 abbrev pub iovad_app : App
 iovad_app =
-    with_subcommand (with_subcommand (with_subcommand (new_app (codes "iovad")) replay_app.top) serve_app.top) ask_app.top
+    with_subcommand (with_subcommand (with_subcommand (versioned (new_app (codes "iovad"))) replay_app.top) serve_app.top) ask_app.top
 
 -- a command that is read so, with no option for all of its subcommands
 pub record IsCommand (read : App) (c : Command) : Type 0 where

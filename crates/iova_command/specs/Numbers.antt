@@ -1,5 +1,5 @@
 -- The number that an option has. Own.
-use Rattle.std.specs.Prelude.{ℕ, ◌≡◌, List, Some, Ok}
+use Rattle.std.specs.Prelude.{ℕ, ◌≡◌, List, Option, Some, None, Ok}
 use Rattle.std.specs.declared.num.ParseIntError.{ParseIntError}
 use Rattle.std.specs.Str.Parse.{ParsesUnsigned}
 use Rattle.clap.specs.Words.{Row, Text, one_of}
@@ -7,3 +7,8 @@ use Rattle.clap.specs.Words.{Row, Text, one_of}
 -- the option has a text, which is the number in decimal digits
 abbrev pub HasNumber : List Row → Text → ℕ → Type 0
 HasNumber rows id n = (text : Text) × (one_of id rows ≡ Some text) × ParsesUnsigned {E = ParseIntError} 64 10 text (Ok n)
+
+-- the number of an option that may be missing
+abbrev pub HasOptional : List Row → Text → Option ℕ → Type 0
+HasOptional rows id (Some n) = HasNumber rows id n
+HasOptional rows id None = (n : ℕ) → ¬ HasNumber rows id n

@@ -1,11 +1,52 @@
 //! The command and its help.
 ghost use Rattle.std.specs.Prelude.{◌≡◌, ◌<◌, ◌^◌, IfOk, false};
 ghost use Rattle.clap.specs.Words.{rule_of};
-ghost use Rattle.iova_command.specs.Commands.{IsCommand, option_rule, number_rule, replay_app, serve_app, ask_app, iovad_app};
+ghost use Rattle.iova_command.specs.Commands.{IsCommand, option_rule, number_rule, optional_number_rule, replay_app, serve_app, ask_app, iovad_app};
 
 use clap::{Arg, ArgAction, Command, value_parser};
-use iova_range::limits::{MAX_DOMAINS, MAX_SESSIONS, MAX_WORKERS, TOP};
+use iova_range::limits::{MAX_DEPOT, MAX_DOMAINS, MAX_SESSIONS, MAX_WORKERS, WIDE_TOP};
 use std::alloc::{AllocError, Global};
+
+/// The program's version, and the kit that it is written for.
+const VERSION: &str = "0.1.0
+rattle-kit-13b logic dac8208d650f15bf";
+
+/// The ways to call the program, which stand in its help and after words that aren't understood.
+const USAGE: &str = "iovad < FILE
+       iovad replay [--report] FILE
+       iovad serve --socket PATH --workers N --domain N --start N --last N --sink FILE --sessions K
+       iovad ask PATH";
+
+const STATUSES: &str = "Statuses:
+  0  done
+  2  the words are not understood, or the bounds are refused
+  3  the trace is refused
+  4  a file or a socket
+  5  no memory";
+
+const LINES_OF_A_TRACE: &str = "Lines of a trace, the first one of these two:
+  iovatrace 1 START LAST WORKERS
+  iovatrace 2 START LAST WORKERS DEPOT
+and then steps:
+  reserve FIRST LAST               keeps frames out of use
+  open WORKER dac|sac              a client; sac asks below 4 GiB first
+  alloc WORKER CLIENT FRAMES LIMIT a range, with no frame above LIMIT
+  unmap WORKER CLIENT FIRST        puts a range into the worker's ring
+  begin                            begins a flush
+  end FLUSH ok|fail                ends it
+  drain RING WORKER                frees what a flush has reached
+  close WORKER CLIENT              marks a client closing
+  closeone WORKER CLIENT           puts its lowest range into the ring";
+
+const REQUESTS: &str = "Requests, a line each, and their answers:
+  hello iova1 DOMAIN dac|sac  opened CLIENT
+  alloc FRAMES LIMIT          given FIRST FRAMES
+  free FIRST                  queued FIRST FRAMES
+  list                        held COUNT, and a line for each range
+  flush                       flushed FLUSH FREED
+  stat                        stat FREE RESERVED CLIENT MAGAZINE DEPOT RING START FINISH
+  bye                         bye
+A request that is refused is answered no NUMBER NAME.";
 
 /// The program's command.
 pub fn iovad_command<'a>(alloc: Global) -> Result<Command<'a>, AllocError>
@@ -13,6 +54,9 @@ pub fn iovad_command<'a>(alloc: Global) -> Result<Command<'a>, AllocError>
 {
     Command::new(alloc, "iovad")
         .about("Hands out I/O virtual addresses; with no word, replays a trace from standard input")
+        .version(VERSION)
+        .override_usage(USAGE)
+        .after_help(STATUSES)
         .subcommand(replay_command(alloc)?)?
         .subcommand(serve_command(alloc)?)?
         .subcommand(ask_command(alloc)?)
@@ -32,6 +76,7 @@ fn replay_command<'a>(alloc: Global) -> Result<Command<'a>, AllocError>
         .help("The trace's file, or - for standard input");
     Command::new(alloc, "replay")
         .about("Replays a trace and prints the reply to each of its steps")
+        .after_help(LINES_OF_A_TRACE)
         .arg(report)?
         .arg(file)
 }
@@ -61,8 +106,20 @@ fn serve_command<'a>(alloc: Global) -> Result<Command<'a>, AllocError>
             MAX_DOMAINS - 1,
             "The number of the domain",
         ))?
-        .arg(number(alloc, "start", 1, TOP, "The first frame that may be given"))?
-        .arg(number(alloc, "last", 1, TOP, "The last frame that may be given"))?
+        .arg(number(
+            alloc,
+            "start",
+            1,
+            WIDE_TOP,
+            "The first frame that may be given",
+        ))?
+        .arg(number(
+            alloc,
+            "last",
+            1,
+            WIDE_TOP,
+            "The last frame that may be given",
+        ))?
         .arg(path(
             alloc,
             "sink",
@@ -75,6 +132,13 @@ fn serve_command<'a>(alloc: Global) -> Result<Command<'a>, AllocError>
             1,
             MAX_SESSIONS,
             "How many sessions are served",
+        ))?
+        .arg(optional_number(
+            alloc,
+            "depot",
+            0,
+            MAX_DEPOT,
+            "Caches of the second profile, with so many magazines in the depot",
         ))
 }
 
@@ -88,6 +152,7 @@ fn ask_command<'a>(alloc: Global) -> Result<Command<'a>, AllocError>
         .help("The socket's path");
     Command::new(alloc, "ask")
         .about("Sends lines from standard input to a socket and prints the answers")
+        .after_help(REQUESTS)
         .arg(path)
 }
 
@@ -111,10 +176,19 @@ fn number<'a>(alloc: Global, name: &'a str, low: u64, high: u64, help: &'a str) 
     ensures rule { rule_of result ≡ number_rule name.entry.now low high }
     ensures local { result.global ≡ false }
 {
+    optional_number(alloc, name, low, high, help).required(true)
+}
+
+/// An option with a number from `low` to `high`.
+fn optional_number<'a>(alloc: Global, name: &'a str, low: u64, high: u64, help: &'a str) -> Arg<'a>
+    requires low { low < 2 ^ 63 }
+    requires high { high < 2 ^ 63 }
+    ensures rule { rule_of result ≡ optional_number_rule name.entry.now low high }
+    ensures local { result.global ≡ false }
+{
     Arg::new(alloc, name)
         .long(name)
         .value_name("N")
-        .required(true)
         .action(ArgAction::Set)
         .value_parser(value_parser!(u64).range(low as i64..=high as i64))
         .help(help)

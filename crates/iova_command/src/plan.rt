@@ -1,11 +1,12 @@
 //! What a daemon is to serve.
 ghost use Rattle.std.specs.Prelude.{◌≡◌, ◌<◌, ◌≤◌, IfSome};
+ghost use Rattle.std.specs.Option.{ForSome};
 ghost use Rattle.clap.specs.Words.{rows_of, found_of};
-ghost use Rattle.iova_command.specs.Numbers.{HasNumber};
-ghost use Rattle.iova_range.specs.declared.limits.TheConstants.{MAX_WORKERS, MAX_DOMAINS, MAX_SESSIONS, TOP};
+ghost use Rattle.iova_command.specs.Numbers.{HasNumber, HasOptional};
+ghost use Rattle.iova_range.specs.declared.limits.TheConstants.{MAX_DEPOT, MAX_WORKERS, MAX_DOMAINS, MAX_SESSIONS, WIDE_TOP};
 
 use clap::ArgMatches;
-use iova_range::limits::{MAX_DOMAINS, MAX_SESSIONS, MAX_WORKERS, TOP};
+use iova_range::limits::{MAX_DEPOT, MAX_DOMAINS, MAX_SESSIONS, MAX_WORKERS, WIDE_TOP};
 
 /// The options of `serve`, each in its range. Own.
 #[derive(Drop)]
@@ -24,11 +25,14 @@ pub struct Plan<'a> {
     pub sink: &'a str,
     /// How many sessions are served.
     pub sessions: u64,
+    /// How many magazines the depot of the second profile takes; none: the domain has the first profile.
+    pub depot: Option<u64>,
     pub ghost workers_in_range: { (1 ≤ workers) × (workers ≤ MAX_WORKERS) },
     pub ghost domain_in_range: { domain < MAX_DOMAINS },
-    pub ghost start_in_range: { (1 ≤ start) × (start ≤ TOP) },
-    pub ghost last_in_range: { (1 ≤ last) × (last ≤ TOP) },
+    pub ghost start_in_range: { (1 ≤ start) × (start ≤ WIDE_TOP) },
+    pub ghost last_in_range: { (1 ≤ last) × (last ≤ WIDE_TOP) },
     pub ghost sessions_in_range: { (1 ≤ sessions) × (sessions ≤ MAX_SESSIONS) },
+    pub ghost depot_in_range: { ForSome depot (λ n. n ≤ MAX_DEPOT) },
 }
 
 impl<'a> Plan<'a> {
@@ -42,10 +46,11 @@ impl<'a> Plan<'a> {
             socket: found.get_str("socket")?,
             workers: number(found, "workers", 1, MAX_WORKERS)?,
             domain: number(found, "domain", 0, MAX_DOMAINS - 1)?,
-            start: number(found, "start", 1, TOP)?,
-            last: number(found, "last", 1, TOP)?,
+            start: number(found, "start", 1, WIDE_TOP)?,
+            last: number(found, "last", 1, WIDE_TOP)?,
             sink: found.get_str("sink")?,
             sessions: number(found, "sessions", 1, MAX_SESSIONS)?,
+            depot: optional(found, "depot", MAX_DEPOT)?,
         })
     }
 }
@@ -60,4 +65,15 @@ fn number(found: &ArgMatches<'_>, name: &str, low: u64, high: u64) -> Option<u64
         return None;
     }
     Some(n)
+}
+
+/// The number of an option that may be missing, where it is at most `high`.
+fn optional(found: &ArgMatches<'_>, name: &str, high: u64) -> Option<Option<u64>>
+    ensures range { IfSome result (λ o. ForSome o (λ n. n ≤ high)) }
+    ensures read { IfSome result (λ o. HasOptional (rows_of (found_of found.now)) name.now o) }
+{
+    match found.get_one::<u64>(name) {
+        Some(n) if n > high => None,
+        number => Some(number),
+    }
 }

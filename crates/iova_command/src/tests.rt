@@ -2,6 +2,7 @@
 use crate::asked::Asked;
 use crate::usage::WordsFault;
 use crate::words::asked;
+use std::alloc::{AllocError, Global};
 use std::process::Abort;
 use std::test::Fail;
 
@@ -70,6 +71,10 @@ fn words_that_are_not_understood_and_help(rt: HostRuntime) -> Result<(), Fail> {
         (["iovad", "-h"].as_slice(), 0),
         (["iovad", "replay", "--help"].as_slice(), 0),
         (["iovad", "help"].as_slice(), 0),
+        (["iovad", "--version"].as_slice(), 0),
+        (["iovad", "-V"].as_slice(), 0),
+        (["iovad", "replay", "--version"].as_slice(), 2),
+        (["iovad", "a.trace"].as_slice(), 2),
         (["iovad", "help", "replay"].as_slice(), 0),
     ] {
         assert_refused(&rt, &asked(rt.alloc(), words), status, words);
@@ -117,6 +122,7 @@ fn a_daemon(rt: HostRuntime) -> Result<(), Fail> {
             assert_eq!(rt; plan.last, 1023);
             assert_eq!(rt; plan.sink, "a.sink");
             assert_eq!(rt; plan.sessions, 9);
+            assert_eq!(rt; plan.depot, None);
         }
         Ok(_) => assert!(rt; false, "no daemon"),
         Err(WordsFault::Usage(_)) => assert!(rt; false, "refused"),
@@ -148,12 +154,12 @@ fn each_number_has_its_range(rt: HostRuntime) -> Result<(), Fail> {
         (7, "8", false),
         (9, "0", false),
         (9, "1", true),
-        (9, "68719476735", true),
-        (9, "68719476736", false),
+        (9, "1099511627775", true),
+        (9, "1099511627776", false),
         (11, "0", false),
         (11, "1", true),
-        (11, "68719476735", true),
-        (11, "68719476736", false),
+        (11, "1099511627775", true),
+        (11, "1099511627776", false),
         (11, "18446744073709551616", false),
         (15, "0", false),
         (15, "1", true),
@@ -165,6 +171,38 @@ fn each_number_has_its_range(rt: HostRuntime) -> Result<(), Fail> {
             Ok(_) => assert!(rt; is_good, "{place} {word}"),
             Err(WordsFault::Usage(usage)) => {
                 assert!(rt; !is_good, "{place} {word}");
+                assert_eq!(rt; usage.status(), 2);
+            }
+            Err(WordsFault::NoMemory) => {}
+        }
+    }
+    Ok(())
+}
+
+/// The words of a daemon, and this depot.
+fn with_depot(alloc: Global, depot: &'static str) -> Result<Vec<&'static str>, AllocError> {
+    let mut words = SERVE.as_slice().to_vec(alloc)?;
+    words.push("--depot")?;
+    words.push(depot)?;
+    Ok(words)
+}
+
+#[test]
+fn a_depot_may_be_missing(rt: HostRuntime) -> Result<(), Fail> {
+    for (word, wanted) in [
+        ("0", Some(0)),
+        ("1", Some(1)),
+        ("32", Some(32)),
+        ("33", None),
+        ("-1", None),
+        ("", None),
+    ] {
+        let words = with_depot(rt.alloc(), word)?;
+        match asked(rt.alloc(), words.as_slice()) {
+            Ok(Asked::Serve(plan)) => assert_eq!(rt; plan.depot, wanted, "{word}"),
+            Ok(_) => assert!(rt; false, "no daemon"),
+            Err(WordsFault::Usage(usage)) => {
+                assert_eq!(rt; wanted, None, "{word}");
                 assert_eq!(rt; usage.status(), 2);
             }
             Err(WordsFault::NoMemory) => {}

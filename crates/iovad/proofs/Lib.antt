@@ -1,6 +1,1 @@
-mod Copying
 mod Gathering
-mod Lined
-mod PutMore
-mod Sends
-mod SentParts

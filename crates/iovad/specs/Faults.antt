@@ -9,6 +9,7 @@ use Rattle.iovad.specs.declared.fault.Fault.TheVariants as fault
 abbrev pub fault_text : Fault → Option (List ℕ)
 fault_text (fault.Words usage) = None
 fault_text fault.StartAboveLast = Some (codes "iovad: start is above last")
+fault_text fault.LastAboveProfile = Some (codes "iovad: last is above the profile")
 fault_text (fault.TraceRefused line) = Some (codes "iovad: trace refused at line " ++ decimal line)
 fault_text (fault.CannotRead path) = Some (codes "iovad: cannot read " ++ path.now)
 fault_text fault.CannotWrite = Some (codes "iovad: cannot write the output")
@@ -20,6 +21,7 @@ fault_text fault.NoMemory = Some (codes "iovad: no memory")
 abbrev pub fault_status : Fault → ℕ
 fault_status (fault.Words status) = status
 fault_status fault.StartAboveLast = 2
+fault_status fault.LastAboveProfile = 2
 fault_status (fault.TraceRefused line) = 3
 fault_status (fault.CannotRead path) = 4
 fault_status fault.CannotWrite = 4

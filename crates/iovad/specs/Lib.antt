@@ -1,6 +1,4 @@
 pub mod Faults
 pub mod Answers
-pub mod Asking
-pub mod Runs
-pub mod Serving
 pub mod Outcomes
+pub mod Plans

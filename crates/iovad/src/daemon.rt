@@ -1,17 +1,19 @@
 //! A daemon: the sessions of a plan, served on a socket, and the report of what they leave.
-ghost use Rattle.std.specs.Prelude.{◌≡◌, ◌<◌, ◌*◌, ◌↔◌, Err, IfOk, map, vec_len};
+ghost use Rattle.std.specs.Prelude.{◌≡◌, ◌<◌, ◌≤◌, ◌*◌, ◌↔◌, Err, IfOk, map, vec_len};
 ghost use Rattle.iova_range.specs.declared.limits.TheConstants.{TALLY_PARTS};
+ghost use Rattle.iovad.specs.Plans.{IsAboveProfile, IsBoundsOf};
 
 use crate::fault::Fault;
 use crate::outcome::print_domain;
-use crate::pause::Ticks;
-use crate::serving::{Served, serve_on};
-use crate::socket::SocketAccept;
 use iova_command::plan::Plan;
+use iova_daemon::pause::Ticks;
+use iova_daemon::socket::SocketAccept;
+use iova_daemon::{Served, serve_on};
 use iova_lock::seat::Seat;
 use iova_lock::shared::Shared;
 use iova_range::bounds::Bounds;
 use iova_range::limits::TALLY_PARTS;
+use iova_range::profile::Profile;
 use iova_range::refusal::Refusal;
 use iova_session::post::Post;
 use iova_session::retry::retry;
@@ -33,7 +35,7 @@ use std::{fs, io};
 /// socket's file is removed once the sessions are over, also where no thread could be started. Clients that still wait then
 /// are tried once more.
 ///
-/// Faults come in this order: `StartAboveLast`; `NoMemory` for the domain; `CannotOpenSink`; `SocketFault` where the socket
+/// Faults come in this order: `StartAboveLast`; `LastAboveProfile`; `NoMemory` for the domain; `CannotOpenSink`; `SocketFault` where the socket
 /// can't be bound, as where something stands at its path, or a thread can't be started; `NoMemory` for the report;
 /// `CannotWrite`. Own.
 pub fn serve<R, C, F, S, G>(
@@ -55,11 +57,10 @@ where
     requires sum_lo { (sum_lo.name ≡ S.name) × (sum_lo.parts ≡ S.parts) × (sum_lo.parts ≡ plan.now.workers) }
     requires good { (good.name ≡ G.name) × (good.parts ≡ G.parts) × (good.parts ≡ TALLY_PARTS * plan.now.workers) }
     ensures order { plan.now.last < plan.now.start → result ≡ Err Fault.StartAboveLast }
+    ensures profile { plan.now.start ≤ plan.now.last → IsAboveProfile plan.now → result ≡ Err Fault.LastAboveProfile }
 {
     let alloc = rt.alloc();
-    let Ok(bounds) = Bounds::new(plan.start, plan.last) else {
-        return Err(Fault::StartAboveLast);
-    };
+    let bounds = bounds_of(plan)?;
     let Ok((shared, seats)) = Shared::<&R, C, F, S, G>::new(
         rt,
         alloc,
@@ -123,6 +124,29 @@ where
         }
         Err(Refusal::NoMemory) => Err(Fault::NoMemory),
         Err(_) => Err(Fault::SocketFault),
+    }
+}
+
+/// The bounds of the plan's domain: in the second profile where the plan has a depot, else in the first. Refused by
+/// `StartAboveLast`, and by `LastAboveProfile`.
+fn bounds_of(plan: &Plan<'_>) -> Result<Bounds, Fault<'static>>
+    ensures ok { IfOk result (λ b. IsBoundsOf plan.now b) }
+    ensures order { plan.now.last < plan.now.start → result ≡ Err Fault.StartAboveLast }
+    ensures profile { plan.now.start ≤ plan.now.last → IsAboveProfile plan.now → result ≡ Err Fault.LastAboveProfile }
+{
+    if plan.start > plan.last {
+        return Err(Fault::StartAboveLast);
+    }
+    let profile = match plan.depot {
+        Some(depot) => match Profile::two(depot) {
+            Ok(profile) => profile,
+            Err(_) => unreachable!(),
+        },
+        None => Profile::one(),
+    };
+    match Bounds::new_in(profile, plan.start, plan.last) {
+        Ok(bounds) => Ok(bounds),
+        Err(_) => Err(Fault::LastAboveProfile),
     }
 }
 

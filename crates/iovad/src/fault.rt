@@ -3,7 +3,7 @@ ghost use Rattle.std.specs.Prelude.{◌≡◌, ◌⊎◌, ℕ, codes};
 ghost use Rattle.std.specs.Process.{exit_status};
 ghost use Rattle.iovad.specs.Faults.{IfUnread, Tells, fault_text, fault_status};
 
-use crate::ask::fault::AskFault;
+use iova_ask::fault::AskFault;
 use iova_command::usage::{Usage, WordsFault};
 use iova_command::words::STANDARD_INPUT;
 use iova_trace::fault::ReplayFault;
@@ -17,6 +17,8 @@ pub enum Fault<'a> {
     Words(Usage),
     /// The first frame of a plan is above the last one.
     StartAboveLast,
+    /// The last frame of a plan is above 2^36 - 1, and the plan has no depot.
+    LastAboveProfile,
     /// The line with this number, counted from 1, is no line of a trace, or one too many.
     TraceRefused(u64),
     /// The file of this name cannot be opened or read; `-` is standard input.
@@ -69,7 +71,7 @@ impl<'a> Fault<'a> {
     {
         match self {
             Fault::Words(usage) => usage.status(),
-            Fault::StartAboveLast => 2,
+            Fault::StartAboveLast | Fault::LastAboveProfile => 2,
             Fault::TraceRefused(_) => 3,
             Fault::CannotRead(_)
             | Fault::CannotWrite
@@ -116,6 +118,7 @@ impl<'a> fmt::Display for Fault<'a> {
         match self {
             Fault::Words(usage) => write!(f, "{usage}"),
             Fault::StartAboveLast => f.write_str("iovad: start is above last"),
+            Fault::LastAboveProfile => f.write_str("iovad: last is above the profile"),
             Fault::TraceRefused(line) => write!(f, "iovad: trace refused at line {line}"),
             Fault::CannotRead(path) => write!(f, "iovad: cannot read {path}"),
             Fault::CannotWrite => f.write_str("iovad: cannot write the output"),

@@ -1,22 +1,17 @@
 //! `iovad`, the address service: it replays traces, serves sessions on a socket, and asks lines of such a service.
 #![tactic(auto)]
 
-mod accept;
 mod answer;
-mod ask;
 mod daemon;
 mod fault;
 mod outcome;
-mod pause;
-mod serving;
-mod socket;
 #[cfg(test)]
 mod tests;
 
 use answer::answer;
-use ask::ask_lines;
 use daemon::serve;
 use fault::Fault;
+use iova_ask::ask_lines;
 use iova_command::asked::Asked;
 use iova_command::plan::Plan;
 use iova_command::words::{STANDARD_INPUT, asked, words};

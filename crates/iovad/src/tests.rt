@@ -121,6 +121,11 @@ fn each_fault_has_its_line_and_its_status(rt: HostRuntime) -> Result<(), Fail> {
             4,
         ),
         (Fault::StartAboveLast, "iovad: start is above last", 2),
+        (
+            Fault::LastAboveProfile,
+            "iovad: last is above the profile",
+            2,
+        ),
         (Fault::CannotWrite, "iovad: cannot write the output", 4),
         (Fault::SocketFault, "iovad: socket fault", 4),
         (Fault::CannotOpenSink, "iovad: cannot open the sink", 4),

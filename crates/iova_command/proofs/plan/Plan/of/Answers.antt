@@ -11,4 +11,5 @@ returns c = record {
   last = c.in_ok-number-4.ensures.read;
   sink = text_read (found_of c.args.found.now) _ c.get_str-2.result c.in_ok-get_str-2.field-0 c.get_str-2.ensures c.in_ok-get_str-2.was;
   sessions = c.in_ok-number-5.ensures.read;
+  depot = c.in_ok-optional.ensures.read;
 }

@@ -1,0 +1,5 @@
+mod Answering
+mod Copying
+mod Lined
+mod PutMore
+mod SentParts

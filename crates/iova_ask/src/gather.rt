@@ -1,0 +1,56 @@
+//! The whole lines at hand.
+ghost use Rattle.iova_ask.specs.Runs.{IsRun};
+
+use iova_range::limits::{MAX_LINE, MAX_RUN};
+use iova_text::line::cut_line;
+
+/// Lines that are sent together.
+#[derive(Clone, Copy)]
+pub struct Run {
+    /// How many bytes they have, with their LFs.
+    pub len: usize,
+    /// How many they are.
+    pub lines: u64,
+    /// Whether the last of them is `bye`.
+    pub is_last: bool,
+}
+
+/// The whole lines at the front of the bytes, at most 16, up to the first `bye`, and before a line of more than 128 bytes.
+pub fn gather(bytes: &[u8]) -> Run
+    ensures { IsRun bytes.now result }
+{
+    let mut rest = bytes;
+    let mut len = 0;
+    let mut lines = 0;
+    while lines < MAX_RUN {
+        let Some((line, behind)) = cut_line(rest) else {
+            return Run {
+                len,
+                lines: lines as u64,
+                is_last: false,
+            };
+        };
+        if line.len() >= MAX_LINE {
+            return Run {
+                len,
+                lines: lines as u64,
+                is_last: false,
+            };
+        }
+        len += line.len() + 1;
+        lines += 1;
+        rest = behind;
+        if line == b"bye".as_slice() {
+            return Run {
+                len,
+                lines: lines as u64,
+                is_last: true,
+            };
+        }
+    }
+    Run {
+        len,
+        lines: lines as u64,
+        is_last: false,
+    }
+}

@@ -1,0 +1,53 @@
+//! That what a worker is lent and given may go to its thread. One `search` doesn't get through all of it, so each law here is of
+//! one type.
+ghost use Rattle.std.specs.Thread.{IsSend, IsSync};
+ghost use Rattle.iova_lock.specs.contracts.shared.Shared as domains;
+ghost use Rattle.iova_session.specs.contracts.post.Post as posts;
+ghost use Rattle.iova_daemon.specs.contracts.turns.Turns as turns;
+
+use crate::turns::Turns;
+use iova_lock::crossing::books_are_send;
+use iova_lock::shared::Shared;
+use iova_session::post::Post;
+use std::sync::ledger::Ledger;
+
+fn is_send<T: Send>()
+    ensures { IsSend T.row }
+{}
+
+fn is_sync<T: Sync>()
+    ensures { IsSync T.row }
+{}
+
+/// A post may go to another thread.
+pub fn posts_are_send<C: Ledger, F: Ledger, S: Ledger, G: Ledger>()
+where
+    C: Send,
+    F: Send,
+    S: Send,
+    G: Send,
+    ensures { IsSend (posts.the_row C.row F.row S.row G.row C.Ledger F.Ledger S.Ledger G.Ledger) }
+{
+    is_send::<Post<C, F, S, G>>();
+}
+
+/// Threads may share a domain under its lock.
+pub fn domains_are_sync<Q, C: Ledger, F: Ledger, S: Ledger, G: Ledger>()
+where
+    Q: Sync,
+    C: Send,
+    F: Send,
+    S: Send,
+    G: Send,
+    ensures { IsSync (domains.the_row Q.row C.row F.row S.row G.row C.Ledger F.Ledger S.Ledger G.Ledger) }
+{
+    books_are_send::<C, F, S, G>();
+    is_sync::<Shared<Q, C, F, S, G>>();
+}
+
+/// Threads may share their turns.
+pub fn turns_are_sync()
+    ensures { IsSync turns.the_row }
+{
+    is_sync::<Turns>();
+}

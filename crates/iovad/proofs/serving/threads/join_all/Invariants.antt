@@ -1,9 +1,0 @@
-use Rattle.std.proofs.Common.{◌≡◌, ◌+◌, ◌≤◌, map, length, vec_len, vec_capacity}
-use Rattle.std.specs.Vec.Iter.{into_iter_len}
-use Rattle.iovad.proofs.serving.threads.join_all.Given as goal
-
-abbrev pub invariant-loop-handle : goal.invariant-loop-handle
-invariant-loop-handle g l =
-    (map (λ p. p.seat.worker) l.back.items ≡ map (λ h. h.promise.0) l.yielded)
-    × (vec_len l.back + into_iter_len l.handle-iterator ≡ vec_len l.fn.started)
-    × (vec_len l.fn.started ≤ vec_capacity l.back)
