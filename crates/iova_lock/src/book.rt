@@ -176,6 +176,13 @@ impl<C: Ledger, F: Ledger, S: Ledger, G: Ledger> Book<C, F, S, G> {
         self.machine.pairs()
     }
 
+    /// The domain, with what is recorded of it.
+    pub(crate) fn machine_of(&self) -> &Machine
+        ensures { (result.now.state ≡ self.now.state) × (result.now.log ≡ self.now.log) }
+    {
+        &self.machine
+    }
+
     pub(crate) fn number_of(&self) -> u64
         ensures { result ≡ self.now.number }
     {

@@ -209,6 +209,13 @@ impl Machine {
         self.domain.workers()
     }
 
+    /// The bounds.
+    pub(crate) fn bounds(&self) -> Bounds
+        ensures { result ≡ self.now.state.bounds }
+    {
+        self.domain.bounds()
+    }
+
     /// The range that a step would queue if the ring had room.
     pub(crate) fn to_queue(&self, step: Step) -> Option<Range>
         ensures { result ≡ to_queue self.now.state step }

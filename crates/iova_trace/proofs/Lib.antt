@@ -3,4 +3,6 @@ mod FirstBad
 mod Headers
 mod LineSteps
 mod Readings
+mod Replaying
+mod Spellings
 mod Streams

@@ -4,3 +4,4 @@ pub mod Lines
 pub mod Whole
 pub mod Replay
 pub mod Progress
+pub mod Recorded

@@ -4,6 +4,7 @@
 
 pub mod fault;
 pub mod line;
+pub mod recorded;
 pub mod replay;
 pub mod reply;
 pub mod trace;

@@ -1,0 +1,73 @@
+//! What a recorded domain has recorded, written as a trace.
+ghost use Rattle.std.specs.Prelude.{◌≡◌, ℕ, List, ◌++◌, Err, IfOk, IfErr, OnOk, OnErr, map, flat_map};
+ghost use Rattle.iova_trace.specs.Lines.{step_line};
+ghost use Rattle.iova_lock.specs.Records.{IsTranscriptOf, pairs_in};
+
+use crate::book::Book;
+use crate::machine::{Machine, Stored};
+use iova_range::refusal::Refusal;
+use iova_trace::line::{write_header, write_step};
+use std::sync::ledger::Ledger;
+
+/// The most steps that a domain may be asked to record. Own.
+pub const MAX_PAIRS: usize = 4_000_000;
+
+impl<C: Ledger, F: Ledger, S: Ledger, G: Ledger> Book<C, F, S, G> {
+    /// Appends what was recorded, as a trace: the header's line and a line for each step; of a domain that isn't recorded the
+    /// header alone. Gives the number of steps. Refused by `NoMemory`, which appends nothing.
+    pub fn transcript(&self, out: &mut Vec<u8>) -> Result<u64, Refusal>
+        ensures ok { IfOk result (IsTranscriptOf self.now.state.bounds self.now.state.workers (pairs_in self.now.log) out.old.items out.new.items) }
+        ensures err { OnErr result ((result ≡ Err Refusal.NoMemory) × (out.new.items ≡ out.old.items)) }
+    {
+        self.machine_of().transcript(out)
+    }
+}
+
+impl Machine {
+    /// The same.
+    pub(crate) fn transcript(&self, out: &mut Vec<u8>) -> Result<u64, Refusal>
+        ensures ok { IfOk result (IsTranscriptOf self.now.state.bounds self.now.state.workers (pairs_in self.now.log) out.old.items out.new.items) }
+        ensures err { OnErr result ((result ≡ Err Refusal.NoMemory) × (out.new.items ≡ out.old.items)) }
+    {
+        let before = out.len();
+        match self.write_record(out) {
+            Ok(steps) => Ok(steps),
+            Err(refusal) => {
+                out.truncate(before);
+                Err(refusal)
+            }
+        }
+    }
+
+    /// The same, but that a part of it may stand in `out` where memory is refused.
+    fn write_record(&self, out: &mut Vec<u8>) -> Result<u64, Refusal>
+        ensures ok { IfOk result (IsTranscriptOf self.now.state.bounds self.now.state.workers (pairs_in self.now.log) out.old.items out.new.items) }
+        ensures err { OnErr result ((result ≡ Err Refusal.NoMemory) × ((part : List ℕ) × (out.new.items ≡ out.old.items ++ part))) }
+    {
+        match write_header(&self.bounds(), self.workers(), out) {
+            Ok(()) => {}
+            Err(refusal) => return Err(refusal),
+        }
+        let Some(pairs) = self.pairs() else {
+            return Ok(0);
+        };
+        match write_steps(pairs, out) {
+            Ok(()) => Ok(pairs.len() as u64),
+            Err(refusal) => Err(refusal),
+        }
+    }
+}
+
+/// Appends a line for each step.
+fn write_steps(pairs: &[Stored], out: &mut Vec<u8>) -> Result<(), Refusal>
+    ensures ok { OnOk result (out.new.items ≡ out.old.items ++ flat_map step_line (map (λ p. p.step) pairs.now)) }
+    ensures err { OnErr result ((result ≡ Err Refusal.NoMemory) × ((part : List ℕ) × (out.new.items ≡ out.old.items ++ part))) }
+{
+    for pair in pairs {
+        match write_step(&pair.step, out) {
+            Ok(()) => {}
+            Err(refusal) => return Err(refusal),
+        }
+    }
+    Ok(())
+}

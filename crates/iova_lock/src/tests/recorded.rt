@@ -1,0 +1,167 @@
+//! Recorded domains: what is recorded of calls, when recording ends, and what its replay prints.
+ghost use Rattle.std.specs.Prelude.{◌≡◌, ◌*◌, ◌≤◌};
+ghost use Rattle.iova_range.specs.declared.limits.TheConstants.{TALLY_PARTS};
+ghost use Rattle.iova_lock.specs.declared.record.TheConstants.{MAX_PAIRS};
+
+use crate::calls;
+use crate::closing::end_client;
+use crate::ending::Ending;
+use crate::keep::Keep;
+use crate::record::MAX_PAIRS;
+use crate::shared::Shared;
+use iova_range::bounds::Bounds;
+use iova_range::refusal::Refusal;
+use iova_sink::memory::MemorySink;
+use iova_trace::replay::replay;
+use std::alloc::Global;
+use std::io;
+use std::io::Write;
+use std::marker::Brand;
+use std::process::Abort;
+use std::sync::Wait;
+use std::sync::ledger::{Blank, Ledger};
+use std::test::*;
+
+/// What the calls below run, as a trace.
+const TRACE: &str = "iovatrace 1 1 1023 1
+open 0 dac
+alloc 0 1 3 1023
+unmap 0 1 1020
+unmap 0 1 1020
+begin
+end 1 ok
+drain 0 0
+closeone 0 1
+";
+
+/// And the replies to it.
+const REPLIES: &str = "opened 1
+given 1020 4
+queued 1020 4
+no 8 NotHeld
+begun 1
+ended
+drained 1
+empty
+";
+
+/// What was written.
+#[derive(Drop)]
+struct Page {
+    text: Vec<u8>,
+}
+
+impl Write for Page {
+    fn write(&mut self, buf: &[u8]) -> io::Result<usize> {
+        self.text.extend_from_slice(buf)?;
+        Ok(buf.len())
+    }
+
+    fn flush(&mut self) -> io::Result<()> {
+        Ok(())
+    }
+}
+
+/// What is left of a trace.
+#[derive(Drop)]
+struct Rest<'a> {
+    text: &'a [u8],
+}
+
+impl<'a> io::Read for Rest<'a> {
+    fn read(&mut self, buf: &mut [u8]) -> io::Result<usize> {
+        let len = buf.len().min(self.text.len());
+        let (front, rest) = self.text.split_at(len);
+        buf[..len].copy_from_slice(front);
+        self.text = rest;
+        Ok(len)
+    }
+}
+
+// What is recorded of a client that opens, is given a range, frees it twice, flushes and ends, where so many pairs have room.
+fn recorded<C: Ledger, F: Ledger, S: Ledger, G: Ledger, R: Abort + Wait>(
+    rt: &R,
+    alloc: Global,
+    bounds: Bounds,
+    pairs: usize,
+    steps: u64,
+    count: Blank,
+    frames: Blank,
+    sum_lo: Blank,
+    good: Blank,
+) -> Result<Vec<u8>, Fail>
+    requires pairs { (1 ≤ pairs) × (pairs ≤ MAX_PAIRS) }
+    requires count { (count.name ≡ C.name) × (count.parts ≡ C.parts) × (count.parts ≡ 1) }
+    requires frames { (frames.name ≡ F.name) × (frames.parts ≡ F.parts) × (frames.parts ≡ 1) }
+    requires sum_lo { (sum_lo.name ≡ S.name) × (sum_lo.parts ≡ S.parts) × (sum_lo.parts ≡ 1) }
+    requires good { (good.name ≡ G.name) × (good.parts ≡ G.parts) × (good.parts ≡ TALLY_PARTS) }
+{
+    let (shared, mut seats) = Shared::<&R, C, F, S, G>::recorded(
+        rt, alloc, 7, bounds, 1, pairs, count, frames, sum_lo, good,
+    )?;
+    let Some(mut seat) = seats.pop() else {
+        return Err(Fail::from("no seat"));
+    };
+    assert!(rt; shared.recording());
+    let mut keeper = &shared;
+    let mut sink = MemorySink::new(0);
+    let id = keeper.open(&mut seat, false)?;
+    let range = keeper.alloc(&mut seat, id, 3, 1023)?;
+    let freed = calls::unmap(&mut keeper, &mut seat, &mut sink, id, 1020);
+    assert_eq!(rt; freed, Ok(range));
+    let again = calls::unmap(&mut keeper, &mut seat, &mut sink, id, 1020);
+    assert_eq!(rt; again, Err(Refusal::NotHeld));
+    assert_eq!(rt; calls::flush(&mut keeper, seat.tally(), &mut sink), Ok(1));
+    assert_eq!(rt; keeper.drain_all(0), Ok(1));
+    let ended = end_client(&mut keeper, &mut seat, &mut sink, id);
+    assert_eq!(rt; ended, Ok(Ending::Ended(0)));
+    let mut text = Vec::new(alloc);
+    assert_eq!(rt; shared.transcript(&mut text), Ok(steps));
+    assert_eq!(rt; shared.recording(), steps < pairs as u64);
+    Ok(text)
+}
+
+// Whether the pairs have just room is known when one more step comes: so a full record still records.
+#[test]
+fn calls_are_recorded(rt: HostRuntime) -> Result<(), Fail> {
+    let text = recorded::<Brand, Brand, Brand, Brand, _>(
+        &rt,
+        rt.alloc(),
+        Bounds::new(1, 1023)?,
+        100,
+        8,
+        Blank::new(1),
+        Blank::new(1),
+        Blank::new(1),
+        Blank::new(256),
+    )?;
+    assert_eq!(rt; text.as_slice(), TRACE.as_bytes());
+    let mut rest = Rest { text: &text };
+    let mut page = Page {
+        text: Vec::new(rt.alloc()),
+    };
+    match replay(rt.alloc(), &mut rest, &mut page) {
+        Ok((_domain, steps)) => assert_eq!(rt; steps, 8),
+        Err(fault) => assert!(rt; false, "{fault:?}"),
+    }
+    assert_eq!(rt; page.text.as_slice(), REPLIES.as_bytes());
+    Ok(())
+}
+
+// The third step ends the recording, and the calls are answered as before.
+#[test]
+fn a_full_record_takes_no_more(rt: HostRuntime) -> Result<(), Fail> {
+    let text = recorded::<Brand, Brand, Brand, Brand, _>(
+        &rt,
+        rt.alloc(),
+        Bounds::new(1, 1023)?,
+        2,
+        2,
+        Blank::new(1),
+        Blank::new(1),
+        Blank::new(1),
+        Blank::new(256),
+    )?;
+    assert_eq!(rt; text.as_slice(), &TRACE.as_bytes()[..49]);
+    Ok(())
+}

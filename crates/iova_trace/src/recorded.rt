@@ -1,0 +1,12 @@
+//! What was recorded is replayed.
+ghost use Rattle.iova_trace.specs.Recorded.{RecordsReplay};
+
+use iova_laws::refusals::points_only_refuse;
+
+/// The text of a transcript from a new domain, its header and its steps, is replayed to the replies of the transcript and the
+/// state that it leaves, wherever memory was refused neither then nor in the replay.
+pub fn records_replay()
+    ensures { RecordsReplay }
+{
+    points_only_refuse();
+}
