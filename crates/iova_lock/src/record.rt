@@ -1,7 +1,7 @@
 //! What a recorded domain has recorded, written as a trace.
 ghost use Rattle.std.specs.Prelude.{◌≡◌, ℕ, List, ◌++◌, Err, IfOk, IfErr, OnOk, OnErr, map, flat_map};
 ghost use Rattle.iova_trace.specs.Lines.{step_line};
-ghost use Rattle.iova_lock.specs.Records.{IsTranscriptOf, pairs_in};
+ghost use Rattle.iova_lock.specs.Records.{HasRecorded, IsTranscriptOf, pairs_in};
 
 use crate::book::Book;
 use crate::machine::{Machine, Stored};
@@ -14,11 +14,14 @@ pub const MAX_PAIRS: usize = 4_000_000;
 
 impl<C: Ledger, F: Ledger, S: Ledger, G: Ledger> Book<C, F, S, G> {
     /// Appends what was recorded, as a trace: the header's line and a line for each step; of a domain that isn't recorded the
-    /// header alone. Gives the number of steps. Refused by `NoMemory`, which appends nothing.
+    /// header alone. Gives the number of steps. What is recorded is a transcript from the new domain, so the promises hold of
+    /// it. Refused by `NoMemory`, which appends nothing.
     pub fn transcript(&self, out: &mut Vec<u8>) -> Result<u64, Refusal>
+        ensures recorded { IfOk result (HasRecorded out.old.items out.new.items) }
         ensures ok { IfOk result (IsTranscriptOf self.now.state.bounds self.now.state.workers (pairs_in self.now.log) out.old.items out.new.items) }
         ensures err { OnErr result ((result ≡ Err Refusal.NoMemory) × (out.new.items ≡ out.old.items)) }
     {
+        self.is_kept();
         self.machine_of().transcript(out)
     }
 }
