@@ -1,5 +1,5 @@
 -- The bounds of a daemon's domain. Own.
-use Rattle.std.specs.Prelude.{◌≡◌, ◌<◌, ◌×◌, Option, Some, None}
+use Rattle.std.specs.Prelude.{ℕ, ◌≡◌, ◌<◌, Option, Some, None}
 use Rattle.iova_range.specs.Bounds.{Capacities, Extent, first_profile, second_profile}
 use Rattle.iova_command.specs.declared.plan.Plan.{Plan}
 
