@@ -14,7 +14,7 @@ rattle-kit-13b logic dac8208d650f15bf";
 /// The ways to call the program, which stand in its help and after words that aren't understood.
 const USAGE: &str = "iovad < FILE
        iovad replay [--report] FILE
-       iovad serve --socket PATH --workers N --domain N --start N --last N --sink FILE --sessions K
+       iovad serve --socket PATH --workers N --domain N --start N --last N --sink FILE --sessions K [--depot N]
        iovad ask PATH";
 
 const STATUSES: &str = "Statuses:
