@@ -36,6 +36,10 @@ pub text_read : (f : Found) (id : Text) (r : Option (Bor Text)) (s : Bor Text) �
 text_read f id r s reads is =
     sym (first_value-rows f id) ∙ sym reads ∙ ap (option_map (λ b. b.now)) is
 
+pub optional_text_read : (f : Found) (id : Text) (r : Option (Bor Text)) → option_map (λ b. b.now) r ≡ first_value f id
+    → first_of id (rows_of f) ≡ option_map (λ b. b.now) r
+optional_text_read f id r reads = sym (first_value-rows f id) ∙ sym reads
+
 pub flag_read : (f : Found) (id : Text) (flag : Bool) → (one_text f id ≡ Some (codes "true") → flag ≡ true) → (one_text f id ≡ Some (codes "false") → flag ≡ false)
     → HasFlag (rows_of f) id flag
 flag_read f id flag set unset = (λ e. set (one_text-rows f id ∙ e), λ e. unset (one_text-rows f id ∙ e))

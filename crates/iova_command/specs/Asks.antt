@@ -1,5 +1,5 @@
 -- What matched words ask for. Own.
-use Rattle.std.specs.Prelude.{◌≡◌, ◌≢◌, Bool, true, false, List, Option, Some, None, codes}
+use Rattle.std.specs.Prelude.{◌≡◌, ◌≢◌, Bool, true, false, List, Option, Some, None, option_map, codes}
 use Rattle.clap.specs.Words.{Row, Text, first_of, one_of}
 use Rattle.iova_command.specs.Numbers.{HasNumber, HasOptional}
 use Rattle.iova_command.specs.declared.asked.Asked.{Asked}
@@ -20,6 +20,8 @@ pub record Plans (rows : List Row) (plan : Plan) : Type 0 where
   pub sink : first_of (codes "sink") rows ≡ Some plan.sink.now
   pub sessions : HasNumber rows (codes "sessions") plan.sessions
   pub depot : HasOptional rows (codes "depot") plan.depot
+  pub strict : HasFlag rows (codes "strict") plan.strict
+  pub record_path : first_of (codes "record") rows ≡ option_map (λ path. path.now) plan.record
 
 -- a subcommand of this name and what it matched ask for this
 abbrev pub AsksOf : Text → List Row → Asked → Type 0

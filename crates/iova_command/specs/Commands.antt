@@ -11,27 +11,31 @@ use Rattle.iova_range.specs.declared.limits.TheConstants.{MAX_DEPOT, MAX_WORKERS
 abbrev pub place_rule : Text → Rule
 place_rule id = record (new_rule id) { action = Some Set; value_names = 1; required = true }
 
--- an option that must be there
+-- an option that is there or not
+abbrev pub flag_rule : Text → Rule
+flag_rule id = record (new_rule id) { long = Some id; action = Some SetTrue }
+
+-- an option with a value, and one that must be there
+abbrev pub optional_rule : Text → Rule
+optional_rule id = record (new_rule id) { long = Some id; action = Some Set; value_names = 1 }
+
 abbrev pub option_rule : Text → Rule
-option_rule id = record (place_rule id) { long = Some id }
+option_rule id = record (optional_rule id) { required = true }
 
 -- an option with a number from `low` to `high`, and one that must be there
 abbrev pub optional_number_rule : Text → ℕ → ℕ → Rule
 optional_number_rule id low high =
-    record (new_rule id) { long = Some id; action = Some Set; value_names = 1; parser = Some (parser.Unsigned low high) }
+    record (optional_rule id) { parser = Some (parser.Unsigned low high) }
 
 abbrev pub number_rule : Text → ℕ → ℕ → Rule
 number_rule id low high = record (optional_number_rule id low high) { required = true }
 
-abbrev pub report_rule : Rule
-report_rule = record (new_rule (codes "report")) { long = Some (codes "report"); action = Some SetTrue }
-
 abbrev pub replay_app : App
-replay_app = with_rule (with_rule (new_app (codes "replay")) report_rule) (place_rule (codes "file"))
+replay_app = with_rule (with_rule (new_app (codes "replay")) (flag_rule (codes "report"))) (place_rule (codes "file"))
 
 abbrev pub serve_app : App
 serve_app =
-    with_rule (with_rule (with_rule (with_rule (with_rule (with_rule (with_rule (with_rule (new_app (codes "serve"))
+    with_rule (with_rule (with_rule (with_rule (with_rule (with_rule (with_rule (with_rule (with_rule (with_rule (new_app (codes "serve"))
     (option_rule (codes "socket")))
     (number_rule (codes "workers") 1 MAX_WORKERS))
     (number_rule (codes "domain") 0 (MAX_DOMAINS - 1)))
@@ -39,7 +43,9 @@ serve_app =
     (number_rule (codes "last") 1 WIDE_TOP))
     (option_rule (codes "sink")))
     (number_rule (codes "sessions") 1 MAX_SESSIONS))
-    (optional_number_rule (codes "depot") 0 MAX_DEPOT)
+    (optional_number_rule (codes "depot") 0 MAX_DEPOT))
+    (flag_rule (codes "strict")))
+    (optional_rule (codes "record"))
 
 abbrev pub ask_app : App
 ask_app = with_rule (new_app (codes "ask")) (place_rule (codes "path"))

@@ -1,7 +1,7 @@
 //! The command and its help.
 ghost use Rattle.std.specs.Prelude.{◌≡◌, ◌<◌, ◌^◌, IfOk, false};
 ghost use Rattle.clap.specs.Words.{rule_of};
-ghost use Rattle.iova_command.specs.Commands.{IsCommand, option_rule, number_rule, optional_number_rule, replay_app, serve_app, ask_app, iovad_app};
+ghost use Rattle.iova_command.specs.Commands.{IsCommand, flag_rule, option_rule, optional_rule, number_rule, optional_number_rule, replay_app, serve_app, ask_app, iovad_app};
 
 use clap::{Arg, ArgAction, Command, value_parser};
 use iova_range::limits::{MAX_DEPOT, MAX_DOMAINS, MAX_SESSIONS, MAX_WORKERS, WIDE_TOP};
@@ -14,7 +14,8 @@ rattle-kit-13b logic dac8208d650f15bf";
 /// The ways to call the program, which stand in its help and after words that aren't understood.
 const USAGE: &str = "iovad < FILE
        iovad replay [--report] FILE
-       iovad serve --socket PATH --workers N --domain N --start N --last N --sink FILE --sessions K [--depot N]
+       iovad serve --socket PATH --workers N --domain N --start N --last N --sink FILE --sessions K
+                   [--depot N] [--strict] [--record FILE]
        iovad ask PATH";
 
 const STATUSES: &str = "Statuses:
@@ -65,10 +66,11 @@ pub fn iovad_command<'a>(alloc: Global) -> Result<Command<'a>, AllocError>
 fn replay_command<'a>(alloc: Global) -> Result<Command<'a>, AllocError>
     ensures { IfOk result (IsCommand replay_app) }
 {
-    let report = Arg::new(alloc, "report")
-        .long("report")
-        .action(ArgAction::SetTrue)
-        .help("Prints the domain's report after the replies");
+    let report = flag(
+        alloc,
+        "report",
+        "Prints the domain's report after the replies",
+    );
     let file = Arg::new(alloc, "file")
         .value_name("FILE")
         .required(true)
@@ -139,6 +141,13 @@ fn serve_command<'a>(alloc: Global) -> Result<Command<'a>, AllocError>
             0,
             MAX_DEPOT,
             "Caches of the second profile, with so many magazines in the depot",
+        ))?
+        .arg(flag(alloc, "strict", "Flushes each range at once that is freed"))?
+        .arg(optional_path(
+            alloc,
+            "record",
+            "FILE",
+            "The file that the domain's first 100000 steps are written to, as a trace",
         ))
 }
 
@@ -156,15 +165,33 @@ fn ask_command<'a>(alloc: Global) -> Result<Command<'a>, AllocError>
         .arg(path)
 }
 
+/// An option that is there or not.
+fn flag<'a>(alloc: Global, name: &'a str, help: &'a str) -> Arg<'a>
+    ensures rule { rule_of result ≡ flag_rule name.entry.now }
+    ensures local { result.global ≡ false }
+{
+    Arg::new(alloc, name)
+        .long(name)
+        .action(ArgAction::SetTrue)
+        .help(help)
+}
+
 /// A required option with a path.
 fn path<'a>(alloc: Global, name: &'a str, value: &'a str, help: &'a str) -> Arg<'a>
     ensures rule { rule_of result ≡ option_rule name.entry.now }
     ensures local { result.global ≡ false }
 {
+    optional_path(alloc, name, value, help).required(true)
+}
+
+/// An option with a path.
+fn optional_path<'a>(alloc: Global, name: &'a str, value: &'a str, help: &'a str) -> Arg<'a>
+    ensures rule { rule_of result ≡ optional_rule name.entry.now }
+    ensures local { result.global ≡ false }
+{
     Arg::new(alloc, name)
         .long(name)
         .value_name(value)
-        .required(true)
         .action(ArgAction::Set)
         .help(help)
 }

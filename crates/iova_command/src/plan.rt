@@ -27,6 +27,10 @@ pub struct Plan<'a> {
     pub sessions: u64,
     /// How many magazines the depot of the second profile takes; none: the domain has the first profile.
     pub depot: Option<u64>,
+    /// Whether a range that is freed is flushed at once.
+    pub strict: bool,
+    /// The path of the file that the record of the domain's steps is written to, where one is wanted.
+    pub record: Option<&'a str>,
     pub ghost workers_in_range: { (1 ≤ workers) × (workers ≤ MAX_WORKERS) },
     pub ghost domain_in_range: { domain < MAX_DOMAINS },
     pub ghost start_in_range: { (1 ≤ start) × (start ≤ WIDE_TOP) },
@@ -51,6 +55,8 @@ impl<'a> Plan<'a> {
             sink: found.get_str("sink")?,
             sessions: number(found, "sessions", 1, MAX_SESSIONS)?,
             depot: optional(found, "depot", MAX_DEPOT)?,
+            strict: found.get_flag("strict"),
+            record: found.get_str("record"),
         })
     }
 }

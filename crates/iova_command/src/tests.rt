@@ -123,6 +123,8 @@ fn a_daemon(rt: HostRuntime) -> Result<(), Fail> {
             assert_eq!(rt; plan.sink, "a.sink");
             assert_eq!(rt; plan.sessions, 9);
             assert_eq!(rt; plan.depot, None);
+            assert!(rt; !plan.strict);
+            assert_eq!(rt; plan.record, None);
         }
         Ok(_) => assert!(rt; false, "no daemon"),
         Err(WordsFault::Usage(_)) => assert!(rt; false, "refused"),
@@ -207,6 +209,24 @@ fn a_depot_may_be_missing(rt: HostRuntime) -> Result<(), Fail> {
             }
             Err(WordsFault::NoMemory) => {}
         }
+    }
+    Ok(())
+}
+
+#[test]
+fn a_strict_daemon_that_records(rt: HostRuntime) -> Result<(), Fail> {
+    let mut words = SERVE.as_slice().to_vec(rt.alloc())?;
+    words.push("--strict")?;
+    words.push("--record")?;
+    words.push("a.record")?;
+    match asked(rt.alloc(), words.as_slice()) {
+        Ok(Asked::Serve(plan)) => {
+            assert!(rt; plan.strict);
+            assert_eq!(rt; plan.record, Some("a.record"));
+        }
+        Ok(_) => assert!(rt; false, "no daemon"),
+        Err(WordsFault::Usage(_)) => assert!(rt; false, "refused"),
+        Err(WordsFault::NoMemory) => {}
     }
     Ok(())
 }

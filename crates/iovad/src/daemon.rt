@@ -1,6 +1,7 @@
 //! A daemon: the sessions of a plan, served on a socket, and the report of what they leave.
 ghost use Rattle.std.specs.Prelude.{◌≡◌, ◌<◌, ◌≤◌, ◌*◌, ◌↔◌, Err, IfOk, map, vec_len};
 ghost use Rattle.iova_range.specs.declared.limits.TheConstants.{TALLY_PARTS};
+ghost use Rattle.iova_lock.specs.Views.{new_seats};
 ghost use Rattle.iovad.specs.Plans.{IsAboveProfile, IsBoundsOf};
 
 use crate::fault::Fault;
@@ -20,6 +21,7 @@ use iova_session::retry::retry;
 use iova_session::socket_link::SocketLink;
 use iova_sink::file::FileDevice;
 use iova_sink::record::RecordSink;
+use iova_text::write::write_all;
 use log::Log;
 use std::alloc::Global;
 use std::fs::File;
@@ -31,13 +33,16 @@ use std::sync::ledger::{Blank, Ledger};
 use std::thread::Threads;
 use std::{fs, io};
 
-/// Serves the plan's sessions on its socket, and then prints a line with the domain's number and the domain's report. The
-/// socket's file is removed once the sessions are over, also where no thread could be started. Clients that still wait then
-/// are tried once more.
+/// How many steps of a domain are recorded: its first ones. Own.
+pub const RECORDED_STEPS: usize = 100_000;
+
+/// Serves the plan's sessions on its socket, writes the record of the domain's steps where one is wanted, and then prints a line
+/// with the domain's number and the domain's report. The socket's file is removed once the sessions are over, also where no
+/// thread could be started. Clients that still wait then are tried once more.
 ///
-/// Faults come in this order: `StartAboveLast`; `LastAboveProfile`; `NoMemory` for the domain; `CannotOpenSink`; `SocketFault` where the socket
-/// can't be bound, as where something stands at its path, or a thread can't be started; `NoMemory` for the report;
-/// `CannotWrite`. Own.
+/// Faults come in this order: `StartAboveLast`; `LastAboveProfile`; `NoMemory` for the domain; `CannotOpenSink`; `SocketFault`
+/// where the socket can't be bound, as where something stands at its path, or a thread can't be started; `NoMemory` or
+/// `CannotWrite` for the record; `NoMemory` for the report; `CannotWrite`. Own.
 pub fn serve<R, C, F, S, G>(
     rt: &R,
     plan: &Plan<'_>,
@@ -61,19 +66,9 @@ where
 {
     let alloc = rt.alloc();
     let bounds = bounds_of(plan)?;
-    let Ok((shared, seats)) = Shared::<&R, C, F, S, G>::new(
-        rt,
-        alloc,
-        plan.domain,
-        bounds,
-        plan.workers,
-        count,
-        frames,
-        sum_lo,
-        good,
-    ) else {
-        return Err(Fault::NoMemory);
-    };
+    let (shared, seats) = new_domain::<R, C, F, S, G>(
+        rt, plan, bounds, count, frames, sum_lo, good,
+    )?;
     let posts = posts_of(alloc, seats)?;
     let sinks = open_sinks(rt, alloc, plan.sink, posts.len() + 1)?;
     // the system would take an empty path for a socket without a name
@@ -115,6 +110,9 @@ where
             let Ok(_totals) = shared.gather(seats) else {
                 unreachable!();
             };
+            if let Some(path) = plan.record {
+                write_record(rt, path, &shared)?;
+            }
             print_domain(
                 alloc,
                 plan.domain,
@@ -147,6 +145,87 @@ fn bounds_of(plan: &Plan<'_>) -> Result<Bounds, Fault<'static>>
     match Bounds::new_in(profile, plan.start, plan.last) {
         Ok(bounds) => Ok(bounds),
         Err(_) => Err(Fault::LastAboveProfile),
+    }
+}
+
+/// The plan's domain under a lock, recorded where the plan says so, and its seats. Refused by `NoMemory`.
+fn new_domain<'a, R, C, F, S, G>(
+    rt: &'a R,
+    plan: &Plan<'_>,
+    bounds: Bounds,
+    count: Blank,
+    frames: Blank,
+    sum_lo: Blank,
+    good: Blank,
+) -> Result<(Shared<&'a R, C, F, S, G>, Vec<Seat<C, F, S, G>>), Fault<'static>>
+where
+    R: AllocGlobal,
+    C: Ledger,
+    F: Ledger,
+    S: Ledger,
+    G: Ledger,
+    requires count { (count.name ≡ C.name) × (count.parts ≡ C.parts) × (count.parts ≡ plan.now.workers) }
+    requires frames { (frames.name ≡ F.name) × (frames.parts ≡ F.parts) × (frames.parts ≡ plan.now.workers) }
+    requires sum_lo { (sum_lo.name ≡ S.name) × (sum_lo.parts ≡ S.parts) × (sum_lo.parts ≡ plan.now.workers) }
+    requires good { (good.name ≡ G.name) × (good.parts ≡ G.parts) × (good.parts ≡ TALLY_PARTS * plan.now.workers) }
+    ensures { IfOk result (λ r. (r.0.workers ≡ plan.now.workers) × (r.1.items ≡ new_seats plan.now.workers)) }
+{
+    let made = if plan.record.is_some() {
+        Shared::<&R, C, F, S, G>::recorded(
+            rt,
+            rt.alloc(),
+            plan.domain,
+            bounds,
+            plan.workers,
+            RECORDED_STEPS,
+            count,
+            frames,
+            sum_lo,
+            good,
+        )
+    } else {
+        Shared::<&R, C, F, S, G>::new(
+            rt,
+            rt.alloc(),
+            plan.domain,
+            bounds,
+            plan.workers,
+            count,
+            frames,
+            sum_lo,
+            good,
+        )
+    };
+    match made {
+        Ok(made) => Ok(made),
+        Err(_) => Err(Fault::NoMemory),
+    }
+}
+
+/// Writes what was recorded to the file at this path, in place of what is there. Refused by `NoMemory` and by `CannotWrite`.
+fn write_record<R, Q, C, F, S, G>(
+    rt: &R,
+    path: &str,
+    shared: &Shared<Q, C, F, S, G>,
+) -> Result<(), Fault<'static>>
+where
+    R: AllocGlobal + Files<File = File>,
+    Q: Wait,
+    C: Ledger,
+    F: Ledger,
+    S: Ledger,
+    G: Ledger,
+{
+    let mut text = Vec::new(rt.alloc());
+    if shared.transcript(&mut text).is_err() {
+        return Err(Fault::NoMemory);
+    }
+    let Ok(mut file) = File::create(rt, path) else {
+        return Err(Fault::CannotWrite);
+    };
+    match write_all(&mut file, &text) {
+        Ok(()) => Ok(()),
+        Err(_) => Err(Fault::CannotWrite),
     }
 }
 

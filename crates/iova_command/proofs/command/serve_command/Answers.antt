@@ -12,4 +12,6 @@ returns c =
     let last = with_arg _ _ c.in_ok-arg-4.field-0 c.in_ok-arg-5.field-0 c.number-4.result start c.number-4.ensures.rule c.number-4.ensures.local c.in_ok-arg-5.ensures in
     let sink = with_arg _ _ c.in_ok-arg-5.field-0 c.in_ok-arg-6.field-0 c.path-2.result last c.path-2.ensures.rule c.path-2.ensures.local c.in_ok-arg-6.ensures in
     let sessions = with_arg _ _ c.in_ok-arg-6.field-0 c.in_ok-arg-7.field-0 c.number-5.result sink c.number-5.ensures.rule c.number-5.ensures.local c.in_ok-arg-7.ensures in
-    with_last_arg _ _ c.in_ok-arg-7.field-0 c.optional_number.result c.arg-8.result sessions c.optional_number.ensures.rule c.optional_number.ensures.local c.arg-8.ensures
+    let depot = with_arg _ _ c.in_ok-arg-7.field-0 c.in_ok-arg-8.field-0 c.optional_number.result sessions c.optional_number.ensures.rule c.optional_number.ensures.local c.in_ok-arg-8.ensures in
+    let strict = with_arg _ _ c.in_ok-arg-8.field-0 c.in_ok-arg-9.field-0 c.flag.result depot c.flag.ensures.rule c.flag.ensures.local c.in_ok-arg-9.ensures in
+    with_last_arg _ _ c.in_ok-arg-9.field-0 c.optional_path.result c.arg-10.result strict c.optional_path.ensures.rule c.optional_path.ensures.local c.arg-10.ensures

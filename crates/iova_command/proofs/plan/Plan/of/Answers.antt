@@ -1,5 +1,5 @@
 use Rattle.clap.specs.Words.{found_of}
-use Rattle.iova_command.proofs.Getters.{text_read}
+use Rattle.iova_command.proofs.Getters.{flag_read, optional_text_read, text_read}
 use Rattle.iova_command.proofs.plan.Plan.of.Goals as goal
 
 pub returns : goal.returns
@@ -12,4 +12,6 @@ returns c = record {
   sink = text_read (found_of c.args.found.now) _ c.get_str-2.result c.in_ok-get_str-2.field-0 c.get_str-2.ensures c.in_ok-get_str-2.was;
   sessions = c.in_ok-number-5.ensures.read;
   depot = c.in_ok-optional.ensures.read;
+  strict = flag_read (found_of c.args.found.now) _ c.get_flag.result c.get_flag.ensures.value c.get_flag.ensures.other;
+  record_path = optional_text_read (found_of c.args.found.now) _ c.get_str-3.result c.get_str-3.ensures;
 }
