@@ -357,3 +357,30 @@ fn long_answers_are_written(rt: HostRuntime) -> Result<(), Fail> {
     );
     Ok(())
 }
+
+// It passes whichever growth is refused, and prints where. Where one is, nothing is appended, and the same call goes well
+// then.
+#[test]
+fn answers_with_a_refused_growth(rt: HostRuntime) -> Result<(), Fail> {
+    let ranges = [Range::new(8, 1), Range::new(1020, 4)];
+    let answer = Answer::Held(held(rt.alloc(), &ranges)?);
+    // room for the first line alone
+    let mut out = match Vec::with_capacity(rt.alloc(), 7) {
+        Ok(out) => out,
+        Err(_) => Vec::with_capacity(rt.alloc(), 7)?,
+    };
+    if let Err(refusal) = encode(&answer, &mut out) {
+        println!(rt; "refused at ranges")?;
+        assert!(rt; refusal == Refusal::NoMemory && out.is_empty());
+        encode(&answer, &mut out)?;
+    }
+    assert_eq!(rt; out.as_slice(), b"held 2\n8 1\n1020 4\n".as_slice());
+    let mut line = Vec::new(rt.alloc());
+    if let Err(refusal) = encode(&Answer::Opened(1), &mut line) {
+        println!(rt; "refused at encode")?;
+        assert!(rt; refusal == Refusal::NoMemory && line.is_empty());
+        encode(&Answer::Opened(1), &mut line)?;
+    }
+    assert_eq!(rt; line.as_slice(), b"opened 1\n".as_slice());
+    Ok(())
+}

@@ -1,7 +1,8 @@
 //! Sessions at a post whose link or sink fails, clients that wait, and growths that are refused.
 use crate::end::End;
 use crate::fresh::{Script, in_book, in_shared, over_link};
-use crate::post_tests::{SESSIONS, repeated};
+use crate::post_tests::repeated;
+use crate::session_files::SESSIONS;
 use crate::tests::LineByLine;
 use iova_lock::ending::{Ending, Why};
 use iova_model::place::Place;
@@ -61,11 +62,8 @@ fn queued(client: Option<Ending>) -> Option<u64> {
 // peer's any more, and the seat's shares are the totals (the seat is gathered each time).
 #[test]
 fn a_link_that_fails_at_each_call(rt: HostRuntime) -> Result<(), Fail> {
-    for (input, text) in [
-        (CUT, SESSIONS[4].1),
-        (SESSIONS[11].0, SESSIONS[11].1),
-        (SESSIONS[7].0, SESSIONS[7].1),
-    ] {
+    for session in [SESSIONS[4], SESSIONS[11], SESSIONS[7]] {
+        let (input, text) = (session.input, session.answers);
         for most in [1, 7, 128] {
             let mut is_whole = false;
             let mut is_opened = false;
@@ -190,10 +188,12 @@ fn a_sink_that_fails_at_each_call(rt: HostRuntime) -> Result<(), Fail> {
 // A line in a read, and the next one only once it is answered.
 #[test]
 fn each_line_is_answered_in_turn(rt: HostRuntime) -> Result<(), Fail> {
-    let mut link = LineByLine::new(SESSIONS[11].0);
-    let (end, shares) = over_link::<Brand, Brand, Brand, Brand, LineByLine<'_>>(
+    let session = SESSIONS[11];
+    let mut link = LineByLine::new(session.input);
+    let (end, shares, _) = over_link::<Brand, Brand, Brand, Brand, LineByLine<'_>>(
         rt.alloc(),
         Bounds::new(1, 1023)?,
+        1,
         Blank::new(1),
         Blank::new(1),
         Blank::new(1),
@@ -202,10 +202,83 @@ fn each_line_is_answered_in_turn(rt: HostRuntime) -> Result<(), Fail> {
     )?;
     assert!(rt; end.end == End::Bye && end.client == Some(Ending::Ended(0)));
     assert_eq!(rt; (link.lines, link.answers, shares), (8, 8, (0, 0, 0)));
+    assert_eq!(rt; link.sent.as_slice(), session.answers);
     Ok(())
 }
 
-const ALL: &[u8] = b"hello iova1 0 dac\nalloc 1 9\nlist\nfree 9\nstat\nbye\n";
+// What its flush drains goes to the session's own worker: the second of two is given the frame that it gave back.
+#[test]
+fn a_session_of_the_second_worker(rt: HostRuntime) -> Result<(), Fail> {
+    let mut link = LineByLine::new(
+        b"hello iova1 0 dac\nalloc 1 9\nfree 9\nflush\nalloc 1 9\nbye\n",
+    );
+    let (end, shares, _) = over_link::<Brand, Brand, Brand, Brand, LineByLine<'_>>(
+        rt.alloc(),
+        Bounds::new(1, 1023)?,
+        2,
+        Blank::new(2),
+        Blank::new(2),
+        Blank::new(2),
+        Blank::new(512),
+        &mut link,
+    )?;
+    assert!(rt; end.end == End::Bye && end.client == Some(Ending::Ended(1)));
+    assert_eq!(rt; shares, (0, 0, 0));
+    assert_eq!(rt;
+        link.sent.as_slice(),
+        b"opened 1\ngiven 9 1\nqueued 9 1\nflushed 1 1\ngiven 9 1\nbye\n".as_slice()
+    );
+    Ok(())
+}
+
+// Each of the requests that take memory comes twice.
+const ALL: &[u8] =
+    b"hello iova1 0 dac\nhello iova1 0 dac\nalloc 1 9\nalloc 1 9\nlist\nlist\nfree 9\nstat\nbye\n";
+
+// Where a growth is refused, how many ranges the session's end queues then, and what it was answered.
+static ANSWERS: [(&str, u64, &[u8]); 7] = [
+    (
+        "nothing",
+        1,
+        b"opened 1\nno 24 Twice\ngiven 9 1\ngiven 8 1\nheld 2\n8 1\n9 1\nheld 2\n8 1\n9 1\nqueued 9 1\nstat 1021 0 1 0 0 1 0 0\nbye\n",
+    ),
+    (
+        "open",
+        1,
+        b"no 17 NoMemory\nopened 1\ngiven 9 1\ngiven 8 1\nheld 2\n8 1\n9 1\nheld 2\n8 1\n9 1\nqueued 9 1\nstat 1021 0 1 0 0 1 0 0\nbye\n",
+    ),
+    ("ask_run", 0, b"opened 1\nno 24 Twice\n"),
+    (
+        "alloc",
+        0,
+        b"opened 1\nno 24 Twice\nno 17 NoMemory\ngiven 9 1\nheld 1\n9 1\nheld 1\n9 1\nqueued 9 1\nstat 1022 0 0 0 0 1 0 0\nbye\n",
+    ),
+    (
+        "next_alloc",
+        0,
+        b"opened 1\nno 24 Twice\ngiven 9 1\nno 17 NoMemory\nheld 1\n9 1\nheld 1\n9 1\nqueued 9 1\nstat 1022 0 0 0 0 1 0 0\nbye\n",
+    ),
+    (
+        "list",
+        1,
+        b"opened 1\nno 24 Twice\ngiven 9 1\ngiven 8 1\nno 17 NoMemory\nheld 2\n8 1\n9 1\nqueued 9 1\nstat 1021 0 1 0 0 1 0 0\nbye\n",
+    ),
+    (
+        "next_list",
+        1,
+        b"opened 1\nno 24 Twice\ngiven 9 1\ngiven 8 1\nheld 2\n8 1\n9 1\nno 17 NoMemory\nqueued 9 1\nstat 1021 0 1 0 0 1 0 0\nbye\n",
+    ),
+];
+
+// The entry of the table with these answers.
+fn answered(text: &[u8]) -> Option<(&'static str, u64)> {
+    for (place, queued, answers) in ANSWERS {
+        if text == answers {
+            return Some((place, queued));
+        }
+    }
+    None
+}
 
 // It passes whichever growth is refused, and prints where. The session is served twice, so once with memory.
 #[test]
@@ -213,9 +286,10 @@ fn a_post_with_a_refused_growth(rt: HostRuntime) -> Result<(), Fail> {
     let mut refused = 0u64;
     for _ in 0..2 {
         let mut link = LineByLine::new(ALL);
-        let Ok((end, shares)) = over_link::<Brand, Brand, Brand, Brand, LineByLine<'_>>(
+        let Ok((end, shares, has_room)) = over_link::<Brand, Brand, Brand, Brand, LineByLine<'_>>(
             rt.alloc(),
             Bounds::new(1, 1023)?,
+            1,
             Blank::new(1),
             Blank::new(1),
             Blank::new(1),
@@ -227,30 +301,24 @@ fn a_post_with_a_refused_growth(rt: HostRuntime) -> Result<(), Fail> {
             continue;
         };
         assert_eq!(rt; shares, (0, 0, 0));
-        match (end.end, link.lines, link.refused_at) {
-            (End::Bye, 6, 0) => {
-                assert!(rt; end.client == Some(Ending::Ended(0)));
-                continue;
-            }
-            (End::NoMemory, 0, _) => {
-                println!(rt; "refused at run_session")?;
-                assert!(rt; end.client == None);
-            }
-            (End::NoMemory, _, 0) => {
-                println!(rt; "refused at ask_run")?;
-                // the line before was answered, and this one was not asked
-                assert!(rt; link.answers.saturating_add(1) == link.lines);
-                assert!(rt; end.client == Some(Ending::Ended(0)));
-            }
-            (End::Bye, 6, 1) => {
-                println!(rt; "refused at open")?;
-                assert!(rt; end.client == None);
-            }
-            (End::Bye, 6, 2) => println!(rt; "refused at alloc")?,
-            (End::Bye, 6, 3) => println!(rt; "refused at list")?,
-            _ => assert!(rt; false),
+        if link.lines == 0 {
+            let place = if has_room { "serve" } else { "run_session" };
+            println!(rt; "refused at {place}")?;
+            assert!(rt; end.end == End::NoMemory && end.client == None && link.answers == 0);
+            refused = refused.saturating_add(1);
+            continue;
         }
-        refused = refused.saturating_add(1);
+        let Some((place, queued)) = answered(link.sent.as_slice()) else {
+            assert!(rt; false);
+            continue;
+        };
+        let is_cut = place == "ask_run";
+        assert!(rt; end.end == if is_cut { End::NoMemory } else { End::Bye });
+        assert!(rt; end.client == Some(Ending::Ended(queued)));
+        if place != "nothing" {
+            println!(rt; "refused at {place}")?;
+            refused = refused.saturating_add(1);
+        }
     }
     assert!(rt; refused <= 1);
     Ok(())

@@ -1,5 +1,5 @@
 //! One session at a post of a fresh domain, for tests: over a book, and under a lock.
-ghost use Rattle.std.specs.Prelude.{◌≡◌, ◌≤◌};
+ghost use Rattle.std.specs.Prelude.{◌≡◌, ◌≤◌, ◌*◌};
 ghost use Rattle.iova_range.specs.declared.limits.TheConstants.{TALLY_PARTS};
 
 use crate::link::Link;
@@ -128,24 +128,25 @@ pub(crate) fn in_book<C: Ledger, F: Ledger, S: Ledger, G: Ledger>(
     one_session(alloc, &mut book, &mut post, input, script)
 }
 
-/// One session over this link in a book of domain 0 with these bounds and one worker: its end, and the seat's shares
-/// then.
+/// One session over this link at the last worker of a book of domain 0 with these bounds and so many workers: its end, the
+/// seat's shares then, and whether there was room on the list of those that wait.
 pub(crate) fn over_link<C: Ledger, F: Ledger, S: Ledger, G: Ledger, L: Link>(
     alloc: Global,
     bounds: Bounds,
+    workers: u64,
     count: Blank,
     frames: Blank,
     sum_lo: Blank,
     good: Blank,
     link: &mut L,
-) -> Result<(SessionEnd, (u64, u64, u64)), Refusal>
-    requires count { (count.name ≡ C.name) × (count.parts ≡ C.parts) × (count.parts ≡ 1) }
-    requires frames { (frames.name ≡ F.name) × (frames.parts ≡ F.parts) × (frames.parts ≡ 1) }
-    requires sum_lo { (sum_lo.name ≡ S.name) × (sum_lo.parts ≡ S.parts) × (sum_lo.parts ≡ 1) }
-    requires good { (good.name ≡ G.name) × (good.parts ≡ G.parts) × (good.parts ≡ TALLY_PARTS) }
+) -> Result<(SessionEnd, (u64, u64, u64), bool), Refusal>
+    requires count { (count.name ≡ C.name) × (count.parts ≡ C.parts) × (count.parts ≡ workers) }
+    requires frames { (frames.name ≡ F.name) × (frames.parts ≡ F.parts) × (frames.parts ≡ workers) }
+    requires sum_lo { (sum_lo.name ≡ S.name) × (sum_lo.parts ≡ S.parts) × (sum_lo.parts ≡ workers) }
+    requires good { (good.name ≡ G.name) × (good.parts ≡ G.parts) × (good.parts ≡ TALLY_PARTS * workers) }
 {
     let (mut book, mut seats) = Book::<C, F, S, G>::new(
-        alloc, 0, bounds, 1, count, frames, sum_lo, good,
+        alloc, 0, bounds, workers, count, frames, sum_lo, good,
     )?;
     let Some(seat) = seats.pop() else {
         return Err(Refusal::NoWorker);
@@ -153,7 +154,7 @@ pub(crate) fn over_link<C: Ledger, F: Ledger, S: Ledger, G: Ledger, L: Link>(
     let mut post = Post::new(alloc, seat);
     let mut sink = MemorySink::new(0);
     let end = run_session(alloc, link, &mut book, &mut post, &mut sink);
-    Ok((end, shares_of(&post)))
+    Ok((end, shares_of(&post), post.waiting.capacity() > 0))
 }
 
 // By value, so that the keeper is lent whatever it is.

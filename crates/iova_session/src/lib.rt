@@ -23,6 +23,8 @@ pub mod retry;
 pub mod run;
 pub mod serve;
 mod session;
+#[cfg(test)]
+mod session_files;
 pub mod socket_link;
 #[cfg(test)]
 mod tests;

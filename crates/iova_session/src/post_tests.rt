@@ -1,73 +1,13 @@
 //! Sessions at a post, over a book and under a lock: what they are answered, however they are cut, and their limits.
 use crate::end::End;
 use crate::fresh::{Script, in_book, in_shared};
+use crate::session_files::SESSIONS;
 use iova_lock::ending::Ending;
 use iova_range::bounds::Bounds;
 use std::alloc::{AllocError, Global};
 use std::marker::Brand;
 use std::sync::ledger::Blank;
 use std::test::*;
-
-// The files of tests/sessions: what the peer sends before it ends, what it is answered, and how the session ends.
-// tests/run_sessions compares them.
-pub(crate) static SESSIONS: [(&[u8], &[u8], End); 12] = [
-    // bad_line
-    (
-        b"hello iova1 0 dac\nalloc 01 5\nbye\n",
-        b"opened 1\nno 20 BadLine\n",
-        End::BadLine,
-    ),
-    // biggest_number
-    (
-        b"hello iova1 0 dac\nalloc 18446744073709551615 0\nbye\n",
-        b"opened 1\nno 2 TooBig\nbye\n",
-        End::Bye,
-    ),
-    // bye_then_more
-    (b"bye\nx\n", b"bye\n", End::Bye),
-    // crlf
-    (b"hello iova1 0 dac\r\n", b"no 20 BadLine\n", End::BadLine),
-    // ends_without_newline
-    (
-        b"hello iova1 0 dac\nalloc 1 9\nfr",
-        b"opened 1\ngiven 9 1\n",
-        End::Closed,
-    ),
-    // half_a_line
-    (b"list", b"", End::Closed),
-    // hello_refusals
-    (
-        b"stat\nhello iova1 8 dac\nhello iova1 0 sac\nhello iova1 0 sac\nbye\n",
-        b"no 3 NoClient\nno 23 NoDomain\nopened 1\nno 24 Twice\nbye\n",
-        End::Bye,
-    ),
-    // in_one_hold
-    (
-        b"hello iova1 0 dac\nalloc 1 9\nalloc 1 9\nfree 9\nstat\nbye\n",
-        b"opened 1\ngiven 9 1\ngiven 8 1\nqueued 9 1\nstat 1021 0 1 0 0 1 0 0\nbye\n",
-        End::Bye,
-    ),
-    // long_line
-    (
-        b"xxxxxxxxxxxxxxxxxxxxxxxxxxxxxxxxxxxxxxxxxxxxxxxxxxxxxxxxxxxxxxxxxxxxxxxxxxxxxxxxxxxxxxxxxxxxxxxxxxxxxxxxxxxxxxxxxxxxxxxxxxxxxxxx",
-        b"no 20 BadLine\n",
-        End::BadLine,
-    ),
-    // long_line_then
-    (
-        b"hello iova1 0 dac\nxxxxxxxxxxxxxxxxxxxxxxxxxxxxxxxxxxxxxxxxxxxxxxxxxxxxxxxxxxxxxxxxxxxxxxxxxxxxxxxxxxxxxxxxxxxxxxxxxxxxxxxxxxxxxxxxxxxxxxxxxxxxxxxxx\n",
-        b"opened 1\nno 20 BadLine\n",
-        End::BadLine,
-    ),
-    // nothing
-    (b"", b"", End::Closed),
-    // one_of_each
-    (
-        b"hello iova1 0 dac\nalloc 3 1023\nlist\nfree 1020\nfree 1020\nflush\nstat\nbye\n",
-        b"opened 1\ngiven 1020 4\nheld 1\n1020 4\nqueued 1020 4\nno 8 NotHeld\nflushed 1 1\nstat 1019 0 0 4 0 0 1 1\nbye\n",
-        End::Bye,
-    ),
-];
 
 const WHOLE: Script = Script {
     most: 128,
@@ -78,7 +18,8 @@ const WHOLE: Script = Script {
 // In a book and under a lock they are answered alike.
 #[test]
 fn sessions_are_answered(rt: HostRuntime) -> Result<(), Fail> {
-    for (input, text, end) in SESSIONS {
+    for session in SESSIONS {
+        let (input, text, end) = (session.input, session.answers, session.end);
         for most in [1, 7, 128] {
             let script = Script { most, ..WHOLE };
             let (seen, domain) = in_shared::<Brand, Brand, Brand, Brand, _>(

@@ -10,6 +10,7 @@ use crate::memory_link::MemoryLink;
 use crate::pairs::Pairs;
 use crate::serve::serve;
 use crate::socket_link::SocketLink;
+use arrayvec::ArrayVec;
 use iova_proto::answer::Answer;
 use iova_proto::request::Request;
 use iova_range::refusal::Refusal;
@@ -247,13 +248,13 @@ fn one_read_past_the_limit(rt: HostRuntime) -> Result<(), Fail> {
 }
 
 /// Gives one line in a read, and fails where an answer to a line before it hasn't been written. It tells how many lines
-/// it gave, how many writes came, and at which of them `NoMemory` was answered first (0: at none).
+/// it gave, how many writes came, and what they wrote, of which it keeps 512 bytes at most. It takes no memory.
 #[derive(Drop)]
 pub(crate) struct LineByLine<'a> {
     input: &'a [u8],
     pub(crate) lines: u64,
     pub(crate) answers: u64,
-    pub(crate) refused_at: u64,
+    pub(crate) sent: ArrayVec<u8, 512>,
     reads: Count,
     failed: Count,
     ended: Count,
@@ -265,7 +266,7 @@ impl<'a> LineByLine<'a> {
             input,
             lines: 0,
             answers: 0,
-            refused_at: 0,
+            sent: ArrayVec::new(),
             reads: Count::new(),
             failed: Count::new(),
             ended: Count::new(),
@@ -308,11 +309,12 @@ impl<'a> Link for LineByLine<'a> {
     }
 
     fn write(&mut self, bytes: &[u8]) -> Result<usize, LinkFault> {
+        if self.sent.try_extend_from_slice(bytes).is_err() {
+            self.failed.up();
+            return Err(LinkFault);
+        }
         if bytes.ends_with(b"\n") {
             self.answers = self.answers.saturating_add(1);
-        }
-        if bytes.starts_with(b"no 17 ") && self.refused_at == 0 {
-            self.refused_at = self.answers;
         }
         Ok(bytes.len())
     }

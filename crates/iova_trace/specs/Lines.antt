@@ -24,6 +24,11 @@ step_line s = whole_line (step_text s)
 abbrev pub trace_text : Trace → List ℕ
 trace_text t = whole_line (header_text t.bounds t.workers) ++ flat_map step_line t.steps
 
+-- these bytes are the text of the trace with this header and these steps
+pub record IsWritten (bytes : List ℕ) (bounds : Extent) (workers : ℕ) (steps : List Step) : Type 0 where
+  pub good : IsTrace (record { bounds = bounds; workers = workers; steps = steps })
+  pub whole : bytes ≡ trace_text (record { bounds = bounds; workers = workers; steps = steps })
+
 -- The good lines at the front of some bytes: none, or the header and some steps, which are a trace themselves.
 
 abbrev pub AreLines : Option Trace → Type 0
