@@ -7,7 +7,7 @@ _iovad() {
     return
   fi
   case $before in
-    --socket | --sink)
+    --socket | --sink | --record)
       mapfile -t COMPREPLY < <(compgen -f -- "$word")
       return
       ;;
@@ -17,7 +17,7 @@ _iovad() {
     replay) mapfile -t COMPREPLY < <(compgen -W "--report --help" -- "$word"; compgen -f -- "$word") ;;
     serve)
       mapfile -t COMPREPLY < <(
-        compgen -W "--socket --workers --domain --start --last --sink --sessions --depot --help" -- "$word"
+        compgen -W "--socket --workers --domain --start --last --sink --sessions --depot --strict --record --help" -- "$word"
       )
       ;;
     ask) mapfile -t COMPREPLY < <(compgen -W "--help" -- "$word"; compgen -f -- "$word") ;;

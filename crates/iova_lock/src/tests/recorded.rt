@@ -165,3 +165,48 @@ fn a_full_record_takes_no_more(rt: HostRuntime) -> Result<(), Fail> {
     assert_eq!(rt; text.as_slice(), &TRACE.as_bytes()[..49]);
     Ok(())
 }
+
+// Makes a recorded lock, and writes what it has recorded. It passes whichever growth is refused, and prints where.
+fn record_made<C: Ledger, F: Ledger, S: Ledger, G: Ledger, R: Abort + Print + Wait>(
+    rt: &R,
+    alloc: Global,
+    bounds: Bounds,
+    count: Blank,
+    frames: Blank,
+    sum_lo: Blank,
+    good: Blank,
+) -> Result<(), Fail>
+    requires count { (count.name ≡ C.name) × (count.parts ≡ C.parts) × (count.parts ≡ 1) }
+    requires frames { (frames.name ≡ F.name) × (frames.parts ≡ F.parts) × (frames.parts ≡ 1) }
+    requires sum_lo { (sum_lo.name ≡ S.name) × (sum_lo.parts ≡ S.parts) × (sum_lo.parts ≡ 1) }
+    requires good { (good.name ≡ G.name) × (good.parts ≡ G.parts) × (good.parts ≡ TALLY_PARTS) }
+{
+    let made = Shared::<&R, C, F, S, G>::recorded(
+        rt, alloc, 7, bounds, 1, 100, count, frames, sum_lo, good,
+    );
+    let Ok((shared, _seats)) = made else {
+        println!(rt; "refused at Shared::recorded")?;
+        return Ok(());
+    };
+    let mut text = Vec::new(alloc);
+    if let Err(refusal) = shared.transcript(&mut text) {
+        assert!(rt; refusal == Refusal::NoMemory && text.is_empty());
+        println!(rt; "refused at transcript")?;
+        assert_eq!(rt; shared.transcript(&mut text), Ok(0));
+    }
+    assert_eq!(rt; text.as_slice(), b"iovatrace 1 1 1023 1\n".as_slice());
+    Ok(())
+}
+
+#[test]
+fn a_refused_growth_of_a_record(rt: HostRuntime) -> Result<(), Fail> {
+    record_made::<Brand, Brand, Brand, Brand, _>(
+        &rt,
+        rt.alloc(),
+        Bounds::new(1, 1023)?,
+        Blank::new(1),
+        Blank::new(1),
+        Blank::new(1),
+        Blank::new(256),
+    )
+}
