@@ -2,7 +2,7 @@
 ghost use Rattle.std.specs.Prelude.{◌≡◌, ◌≢◌, ◌≤◌, ◌<◌, ◌⊎◌, ◌^◌, ℕ, [], take, replicate, sum_by, find, length, Some, IfOk, OnOk, OnErr, IsErr, ◌↔◌, Err, option_map, option_copied};
 ghost use Rattle.iova_model.specs.declared.step.Point.{Point as MemoryPoint};
 ghost use Rattle.iova_model.specs.Fit.{is_covered};
-ghost use Rattle.iova_model.specs.Clients.{Client, client_with, begins_at, totals};
+ghost use Rattle.iova_model.specs.Clients.{Client, client_with, begins_at, share_of, totals};
 ghost use Rattle.iova_range.specs.Frames.{covers};
 ghost use Rattle.iova_model.specs.State.{new_domain, counts, ring_holders, place_in};
 ghost use Rattle.iova_model.specs.Valid.{IsValid};
@@ -398,6 +398,17 @@ impl Domain {
         ensures { result ≡ totals self.now.clients }
     {
         self.clients.totals()
+    }
+
+    /// The count, frames and sum of first frames of the holdings of the clients that this worker opened.
+    #[inline]
+    pub fn share_of(&self, worker: u64) -> Totals
+        requires { worker < self.now.workers }
+        ensures { result ≡ share_of worker self.now.clients }
+    {
+        // for the proof: there are at most 16 workers
+        let _workers = self.workers();
+        self.clients.totals_of(worker)
     }
 
     /// The windows, rising by first frame, at most 64.

@@ -3,7 +3,7 @@ ghost use Rattle.std.specs.Prelude.{◌≡◌, ◌≢◌, ◌+◌, ◌<◌, ◌�
 ghost use Rattle.iova_range.specs.Frames.{Frames};
 ghost use Rattle.iova_model.specs.Clients.{totals, client_of};
 ghost use Rattle.iova_model.specs.State.{State, new_domain};
-ghost use Rattle.iova_model.specs.Laws.{MovesTotals, IsReplyTo, ended_well, to_queue};
+ghost use Rattle.iova_model.specs.Laws.{MovesTotals, IsReplyTo, ended_well, to_queue, worker_of};
 ghost use Rattle.iova_lock.specs.StepLogs.{Takes, StepLog, IsGivenWithin, IsDrainReply, IsRecorded, is_recording};
 ghost use Rattle.iova_lock.specs.Events.{Does, Unmapping, IsShort, Closing, Draining, rings_from};
 ghost use Rattle.iova_lock.specs.Views.{BookState, TallyState, SeatState, Covers, IsSame, by_seat, by_tally, new_book, new_seats, left_of, stat_of, nothing, IsLowered, IsCloseHeard, IsKept, IsBook};
@@ -266,18 +266,34 @@ impl<C: Ledger, F: Ledger, S: Ledger, G: Ledger> Book<C, F, S, G> {
     }
 
     /// Runs a seat's step that may queue a range, unless one of the seat's shares is less than the range.
+    #[inline]
     pub(crate) fn run_within(&mut self, seat: &mut Seat<C, F, S, G>, step: Step) -> Reply
         requires by_seat { by_seat step ≡ true }
+        requires worker { worker_of step ≡ Some seat.old.worker }
         ensures does { Does (Unmapping step seat.old.held result) self.old.state self.new.state }
         ensures same { IsSame self.old self.new }
         ensures kind { (result ≡ Reply.Refused Refusal.NotHeld) ⊎ IsReplyTo step result }
         ensures seat { MovesTotals result seat.old.held seat.new.held }
         ensures rest { (seat.new.worker ≡ seat.old.worker) × (seat.new.tally ≡ seat.old.tally) }
     {
-        if !covers(seat.held(), self.machine.to_queue(step)) {
+        if !self.covers_step(seat.worker(), seat.held(), step) {
             return Reply::Refused(Refusal::NotHeld);
         }
         self.run(seat, step)
+    }
+
+    /// Whether the totals cover what a step of the worker would queue. They do where they are at least the worker's share of
+    /// the domain's totals; only where they aren't the range is sought.
+    #[inline]
+    fn covers_step(&self, worker: u64, held: Totals, step: Step) -> bool
+        requires { worker_of step ≡ Some worker }
+        ensures yes { result ≡ true → (r : Frames) → to_queue self.now.state step ≡ Some r → Covers held r }
+        ensures none { result ≡ false → IsShort held (to_queue self.now.state step) }
+    {
+        if self.machine.share_is_within(worker, held) {
+            return true;
+        }
+        covers(held, self.machine.to_queue(step))
     }
 
     /// Closes the client, range by range, until a step queues none, and answers that step's reply.
@@ -341,6 +357,7 @@ impl<C: Ledger, F: Ledger, S: Ledger, G: Ledger> Book<C, F, S, G> {
     }
 
     /// Runs a seat's step, and moves the seat's shares by what was answered.
+    #[inline]
     pub(crate) fn run(&mut self, seat: &mut Seat<C, F, S, G>, step: Step) -> Reply
         requires by_seat { by_seat step ≡ true }
         requires enough { (r : Frames) → to_queue self.old.state step ≡ Some r → Covers seat.old.held r }

@@ -3,10 +3,11 @@ ghost use Rattle.std.specs.Prelude.{◌≡◌, ◌+◌, ◌<◌, ◌⊎◌, ◌+
 ghost use Rattle.iova_range.specs.Frames.{Frames};
 ghost use Rattle.iova_model.specs.Clients.{totals, client_of};
 ghost use Rattle.iova_model.specs.State.{State, new_domain};
-ghost use Rattle.iova_model.specs.Laws.{MovesTotals, IsReplyTo, ended_well, to_queue};
+ghost use Rattle.iova_model.specs.Laws.{MovesTotals, IsReplyTo, ended_well, to_queue, worker_of};
 ghost use Rattle.iova_model.specs.Transcript.{Pair};
 ghost use Rattle.iova_lock.specs.StepLogs.{Takes, StepLog, MachineState, IsGivenWithin, IsDrainReply, IsRecorded, is_recording};
-ghost use Rattle.iova_lock.specs.Views.{left_of, stat_of, IsKept};
+ghost use Rattle.iova_model.specs.declared.step.Step.{Step};
+ghost use Rattle.iova_lock.specs.Views.{Covers, left_of, stat_of, IsKept};
 
 use iova_core::domain::Domain;
 use iova_core::{Point, Reply, Step};
@@ -128,6 +129,7 @@ impl Machine {
     }
 
     /// Runs one step, and records it where there is room. The first step that finds none ends the recording for good.
+    #[inline]
     pub(crate) fn step(&mut self, step: Step) -> Reply
         ensures takes { Takes self.old.state step result self.new.state }
         ensures moves { MovesTotals result (totals self.old.state.clients) (totals self.new.state.clients) }
@@ -216,6 +218,19 @@ impl Machine {
         self.domain.bounds()
     }
 
+    /// Whether these totals are at least the worker's share of the domain's totals: the sums over all holdings of its clients.
+    #[inline]
+    pub(crate) fn share_is_within(&self, worker: u64, held: Totals) -> bool
+        ensures { result ≡ true → (st : Step) (r : Frames) → worker_of st ≡ Some worker
+            → to_queue self.now.state st ≡ Some r → Covers held r }
+    {
+        if worker >= self.domain.workers() {
+            return false;
+        }
+        let share = self.domain.share_of(worker);
+        share.count <= held.count && share.frames <= held.frames && share.sum_lo <= held.sum_lo
+    }
+
     /// The range that a step would queue if the ring had room.
     pub(crate) fn to_queue(&self, step: Step) -> Option<Range>
         ensures { result ≡ to_queue self.now.state step }
@@ -262,6 +277,7 @@ impl Machine {
     }
 }
 
+#[inline]
 fn pair_of(step: Step, point: Point, reply: Reply) -> Stored
     ensures { result ≡ record { step = step; point = point; reply = reply } }
 {
@@ -269,6 +285,7 @@ fn pair_of(step: Step, point: Point, reply: Reply) -> Stored
 }
 
 /// Stores a pair where there is a log.
+#[inline]
 fn store(log: &mut Option<Log>, pair: Stored)
     ensures none { log.old ≡ None → log.new ≡ None }
     ensures some { (kept : StepLog) → log.old ≡ Some kept

@@ -17,6 +17,7 @@ use iova_range::refusal::Refusal;
 use iova_range::stat::Stat;
 use iova_sink::memory::MemorySink;
 use std::alloc::Global;
+use std::fmt::Debug;
 use std::marker::Brand;
 use std::process::Abort;
 use std::sync::Wait;
@@ -47,30 +48,14 @@ impl Random {
     }
 }
 
-// What a call was answered, or a part of it.
-#[derive(Clone, Copy, PartialEq, Eq, Debug)]
-enum Said {
-    Opened(Result<u64, Refusal>),
-    Given(Result<Range, Refusal>),
-    Unmapped(Result<Range, Refusal>),
-    Flushed(Result<u64, Refusal>),
-    TimedOut(Result<u64, Refusal>),
-    Drained(Result<u64, Refusal>),
-    Ended(Result<Ending, Refusal>),
-    Batched(Result<usize, Refusal>),
-    Told(Told),
-    Listed(Result<(), Refusal>),
-    Held(Range),
-    Stat(Stat),
-}
-
 // A script of calls, made of a fixed seed and of what was answered.
 #[derive(Drop)]
 struct Script {
     alloc: Global,
     random: Random,
     clients: [u64; 4],
-    said: Vec<Said>,
+    // what was answered, a line for each answer
+    said: Vec<String>,
 }
 
 impl Script {
@@ -81,6 +66,12 @@ impl Script {
             clients: [0; 4],
             said: Vec::new(alloc),
         }
+    }
+
+    fn say<T: Debug>(&mut self, call: &str, answer: &T) -> Result<(), Fail> {
+        self.said
+            .push(format!(in self.alloc; "{call} {answer:?}")?)?;
+        Ok(())
     }
 
     // Mostly one of the worker's two clients, else one of all four.
@@ -110,7 +101,7 @@ impl Script {
     {
         let sac = self.random.below(2) == 0;
         let opened = keeper.open(seat, sac);
-        self.said.push(Said::Opened(opened))?;
+        self.say("opened", &opened)?;
         if let Ok(id) = opened {
             self.clients[place] = id;
         }
@@ -130,7 +121,7 @@ impl Script {
             _ => LAST,
         };
         let given = keeper.alloc(seat, id, frames, limit);
-        self.said.push(Said::Given(given))?;
+        self.say("given", &given)?;
         Ok(())
     }
 
@@ -143,12 +134,12 @@ impl Script {
     ) -> Result<u64, Fail> {
         let mut ranges = Vec::new(self.alloc);
         let listed = keeper.holdings(seat, id, &mut ranges);
-        self.said.push(Said::Listed(listed))?;
+        self.say("listed", &listed)?;
         let most = ranges.len() as u64;
         let n = self.random.below(most.saturating_add(1));
         if n < most {
             let range = ranges[n as usize];
-            self.said.push(Said::Held(range))?;
+            self.say("held", &range)?;
             return Ok(range.lo());
         }
         Ok(n)
@@ -163,7 +154,7 @@ impl Script {
         let id = self.client(seat.worker());
         let lo = self.held(keeper, seat, id)?;
         let unmapped = calls::unmap(keeper, seat, sink, id, lo);
-        self.said.push(Said::Unmapped(unmapped))?;
+        self.say("unmapped", &unmapped)?;
         Ok(())
     }
 
@@ -184,9 +175,9 @@ impl Script {
             Ask::Free { lo },
         ];
         let done = keeper.batch(seat, id, &asks, &mut told);
-        self.said.push(Said::Batched(done))?;
+        self.say("batched", &done)?;
         for x in &told {
-            self.said.push(Said::Told(*x))?;
+            self.say("told", x)?;
         }
         Ok(())
     }
@@ -200,11 +191,21 @@ impl Script {
         let place = self.place(seat.worker());
         let id = self.clients[place];
         let ended = end_client(keeper, seat, sink, id);
-        self.said.push(Said::Ended(ended))?;
+        self.say("ended", &ended)?;
         if let Ok(Ending::Ended(_)) = ended {
             self.open(keeper, seat, place)?;
         }
         Ok(())
+    }
+
+    fn drain<C: Ledger, F: Ledger, S: Ledger, G: Ledger, K: Keep<C, F, S, G>>(
+        &mut self,
+        keeper: &mut K,
+        by: u64,
+    ) -> Result<(), Fail> {
+        let freed = keeper.drain_all(by);
+        let call = if freed == Ok(0) { "drained" } else { "freed" };
+        self.say(call, &freed)
     }
 
     fn other<C: Ledger, F: Ledger, S: Ledger, G: Ledger, K: Keep<C, F, S, G>>(
@@ -216,20 +217,16 @@ impl Script {
         match self.random.below(16) {
             0 => {
                 let flushed = calls::flush(keeper, seat.tally(), sink);
-                self.said.push(Said::Flushed(flushed))?;
+                self.say("flushed", &flushed)?;
                 let by = self.random.below(3);
-                let freed = keeper.drain_all(by);
-                self.said.push(Said::Drained(freed))?;
+                self.drain(keeper, by)?;
             }
             1 => {
                 let freed = calls::timeout(keeper, seat.tally(), sink);
-                self.said.push(Said::TimedOut(freed))?;
+                self.say("timed_out", &freed)?;
             }
             2..=8 => self.end(keeper, seat, sink)?,
-            n => {
-                let freed = keeper.drain_all(n % 3);
-                self.said.push(Said::Drained(freed))?;
-            }
+            n => self.drain(keeper, n % 3)?,
         }
         Ok(())
     }
@@ -249,7 +246,7 @@ impl Script {
             n if n < 84 => self.batch(keeper, seat)?,
             _ => self.unmap(keeper, seat, &mut sink)?,
         }
-        self.said.push(Said::Stat(keeper.stat()))?;
+        self.say("stat", &keeper.stat())?;
         Ok(())
     }
 }
@@ -259,7 +256,7 @@ fn said_by<C: Ledger, F: Ledger, S: Ledger, G: Ledger, K: Keep<C, F, S, G> + Dro
     alloc: Global,
     keeper: K,
     seats: Vec<Seat<C, F, S, G>>,
-) -> Result<Vec<Said>, Fail> {
+) -> Result<Vec<String>, Fail> {
     let mut keeper = keeper;
     let mut seats = seats;
     let mut script = Script::new(alloc);
@@ -283,7 +280,7 @@ fn said_by_book<C: Ledger, F: Ledger, S: Ledger, G: Ledger>(
     frames: Blank,
     sum_lo: Blank,
     good: Blank,
-) -> Result<Vec<Said>, Fail>
+) -> Result<Vec<String>, Fail>
     requires count { (count.name ≡ C.name) × (count.parts ≡ C.parts) × (count.parts ≡ 2) }
     requires frames { (frames.name ≡ F.name) × (frames.parts ≡ F.parts) × (frames.parts ≡ 2) }
     requires sum_lo { (sum_lo.name ≡ S.name) × (sum_lo.parts ≡ S.parts) × (sum_lo.parts ≡ 2) }
@@ -301,7 +298,7 @@ fn said_by_lock<C: Ledger, F: Ledger, S: Ledger, G: Ledger, R: Wait>(
     frames: Blank,
     sum_lo: Blank,
     good: Blank,
-) -> Result<Vec<Said>, Fail>
+) -> Result<Vec<String>, Fail>
     requires count { (count.name ≡ C.name) × (count.parts ≡ C.parts) × (count.parts ≡ 2) }
     requires frames { (frames.name ≡ F.name) × (frames.parts ≡ F.parts) × (frames.parts ≡ 2) }
     requires sum_lo { (sum_lo.name ≡ S.name) × (sum_lo.parts ≡ S.parts) × (sum_lo.parts ≡ 2) }
@@ -311,6 +308,16 @@ fn said_by_lock<C: Ledger, F: Ledger, S: Ledger, G: Ledger, R: Wait>(
         rt, alloc, 7, bounds, 2, count, frames, sum_lo, good,
     )?;
     said_by(alloc, &shared, seats)
+}
+
+// Whether a line begins so.
+fn has(said: &Vec<String>, front: &str) -> bool {
+    for line in said {
+        if line.starts_with(front) {
+            return true;
+        }
+    }
+    false
 }
 
 #[test]
@@ -335,16 +342,16 @@ fn a_lock_answers_as_its_book(rt: HostRuntime) -> Result<(), Fail> {
     )?;
     assert_eq!(rt; of_lock.len(), of_book.len());
     for (a, b) in of_lock.iter().zip(of_book.as_slice()) {
-        assert_eq!(rt; *a, *b);
+        assert_eq!(rt; a.as_str(), b.as_str());
     }
     // the script comes to what it is to come to
-    let full = |x: &Said| *x == Said::Unmapped(Err(Refusal::RingFull));
-    assert!(rt; of_book.iter().any(full));
-    let waits = |x: &Said| matches!(*x, Said::Ended(Ok(Ending::Waiting(..))));
-    assert!(rt; of_book.iter().any(waits));
-    let stops = |x: &Said| *x == Said::Batched(Ok(2));
-    assert!(rt; of_book.iter().any(stops));
-    let frees = |x: &Said| matches!(*x, Said::Drained(Ok(n)) if n > 0);
-    assert!(rt; of_book.iter().any(frees));
+    for line in [
+        "unmapped Err(RingFull)",
+        "ended Ok(Waiting(",
+        "batched Ok(2)",
+        "freed Ok(",
+    ] {
+        assert!(rt; has(&of_book, line), "{line}");
+    }
     Ok(())
 }

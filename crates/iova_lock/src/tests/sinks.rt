@@ -54,68 +54,114 @@ fn unmap_many<C: Ledger, F: Ledger, S: Ledger, G: Ledger, K: Keep<C, F, S, G>>(
     Ok(())
 }
 
+// An unmap at a full ring, which is made again where it failed. Whether it failed.
+fn unmap_of<C: Ledger, F: Ledger, S: Ledger, G: Ledger, K: Keep<C, F, S, G>, R: Abort>(
+    rt: &R,
+    keeper: &mut K,
+    seat: &mut Seat<C, F, S, G>,
+    sink: &mut MemorySink,
+    id: u64,
+) -> Result<bool, Fail> {
+    let unmapped = calls::unmap(keeper, seat, sink, id, 3840);
+    let Err(refusal) = unmapped else {
+        return Ok(false);
+    };
+    assert_eq!(rt; refusal, Refusal::RingFull);
+    assert_eq!(rt;
+        (seat.count(), seat.sum_lo(), keeper.stat().ring),
+        (1, 3840, 255)
+    );
+    assert!(rt; calls::unmap(keeper, seat, sink, id, 3840).is_ok());
+    Ok(true)
+}
+
+// The same of a flush.
+fn flush_of<C: Ledger, F: Ledger, S: Ledger, G: Ledger, K: Keep<C, F, S, G>, R: Abort>(
+    rt: &R,
+    keeper: &mut K,
+    seat: &mut Seat<C, F, S, G>,
+    sink: &mut MemorySink,
+) -> Result<bool, Fail> {
+    let Err(refusal) = calls::flush(keeper, seat.tally(), sink) else {
+        return Ok(false);
+    };
+    assert_eq!(rt; refusal, Refusal::SinkFault);
+    assert!(rt; calls::flush(keeper, seat.tally(), sink).is_ok());
+    Ok(true)
+}
+
+// The same of a flusher's round, which frees an entry.
+fn timeout_of<C: Ledger, F: Ledger, S: Ledger, G: Ledger, K: Keep<C, F, S, G>, R: Abort>(
+    rt: &R,
+    keeper: &mut K,
+    seat: &mut Seat<C, F, S, G>,
+    sink: &mut MemorySink,
+) -> Result<bool, Fail> {
+    let Err(refusal) = calls::timeout(keeper, seat.tally(), sink) else {
+        return Ok(false);
+    };
+    assert_eq!(rt; refusal, Refusal::SinkFault);
+    assert_eq!(rt; keeper.stat().ring, 1);
+    assert_eq!(rt; calls::timeout(keeper, seat.tally(), sink), Ok(1));
+    Ok(true)
+}
+
+// The same of the end of a client with 900 holdings, beside three of another one.
+fn end_of<C: Ledger, F: Ledger, S: Ledger, G: Ledger, K: Keep<C, F, S, G>, R: Abort>(
+    rt: &R,
+    keeper: &mut K,
+    seat: &mut Seat<C, F, S, G>,
+    sink: &mut MemorySink,
+) -> Result<bool, Fail> {
+    let many = hold(keeper, seat, 900)?;
+    let (left, why) = match end_client(keeper, seat, sink, many)? {
+        Ending::Ended(queued) => {
+            assert_eq!(rt; queued, 900);
+            return Ok(false);
+        }
+        Ending::Waiting(left, why) => (left, why),
+    };
+    assert_eq!(rt; why, Why::SinkFailed);
+    assert!(rt; left == 645 || left == 390 || left == 135, "{left} left");
+    assert_eq!(rt;
+        (seat.count(), keeper.stat().ring),
+        (left.saturating_add(3), 255)
+    );
+    assert_eq!(rt;
+        end_client(keeper, seat, sink, many),
+        Ok(Ending::Ended(left))
+    );
+    Ok(true)
+}
+
 // Each call that makes calls of a sink, over a sink that may fail; after a failure the same call again, which is good.
-// It answers how many calls failed.
+// It answers which calls failed.
 fn calls_of<C: Ledger, F: Ledger, S: Ledger, G: Ledger, K: Keep<C, F, S, G>, R: Abort>(
     rt: &R,
     keeper: &mut K,
     seat: &mut Seat<C, F, S, G>,
     sink: &mut MemorySink,
-) -> Result<u64, Fail> {
-    let mut failed = 0u64;
+) -> Result<[bool; 4], Fail> {
     let id = hold(keeper, seat, 256)?;
     unmap_many(keeper, seat, sink, id, 255)?;
-    if let Err(refusal) = calls::unmap(keeper, seat, sink, id, 3840) {
-        failed += 1;
-        assert_eq!(rt; refusal, Refusal::RingFull);
-        assert_eq!(rt;
-            (seat.count(), seat.sum_lo(), keeper.stat().ring),
-            (1, 3840, 255)
-        );
-        assert!(rt; calls::unmap(keeper, seat, sink, id, 3840).is_ok());
-    }
+    let unmap = unmap_of(rt, keeper, seat, sink, id)?;
     assert_eq!(rt;
         (seat.count(), seat.sum_lo(), keeper.stat().ring),
         (0, 0, 1)
     );
-    if let Err(refusal) = calls::flush(keeper, seat.tally(), sink) {
-        failed += 1;
-        assert_eq!(rt; refusal, Refusal::SinkFault);
-        assert!(rt; calls::flush(keeper, seat.tally(), sink).is_ok());
-    }
-    if let Err(refusal) = calls::timeout(keeper, seat.tally(), sink) {
-        failed += 1;
-        assert_eq!(rt; refusal, Refusal::SinkFault);
-        assert_eq!(rt; keeper.stat().ring, 1);
-        assert_eq!(rt; calls::timeout(keeper, seat.tally(), sink), Ok(1));
-    }
+    let flush = flush_of(rt, keeper, seat, sink)?;
+    let timeout = timeout_of(rt, keeper, seat, sink)?;
     assert_eq!(rt; keeper.stat().ring, 0);
     let kept = hold(keeper, seat, 3)?;
     let before = (seat.count(), seat.frames(), seat.sum_lo());
-    let many = hold(keeper, seat, 900)?;
-    match end_client(keeper, seat, sink, many)? {
-        Ending::Ended(queued) => assert_eq!(rt; queued, 900),
-        Ending::Waiting(left, why) => {
-            failed += 1;
-            assert_eq!(rt; why, Why::SinkFailed);
-            assert!(rt; left == 645 || left == 390 || left == 135, "{left} left");
-            assert_eq!(rt;
-                (seat.count(), keeper.stat().ring),
-                (left.saturating_add(3), 255)
-            );
-            assert_eq!(rt;
-                end_client(keeper, seat, sink, many),
-                Ok(Ending::Ended(left))
-            );
-        }
-    }
+    let end = end_of(rt, keeper, seat, sink)?;
     assert_eq!(rt; (seat.count(), seat.frames(), seat.sum_lo()), before);
     assert!(rt; end_client(keeper, seat, sink, id).is_ok());
     assert_eq!(rt;
         end_client(keeper, seat, sink, kept.saturating_add(9)),
         Err(Refusal::NoClient)
     );
-    Ok(failed)
+    Ok([unmap, flush, timeout, end])
 }
 
 fn failing_at<C: Ledger, F: Ledger, S: Ledger, G: Ledger, R: Abort + Wait>(
@@ -141,8 +187,9 @@ fn failing_at<C: Ledger, F: Ledger, S: Ledger, G: Ledger, R: Abort + Wait>(
         return Err(Fail::from("no seat"));
     };
     let (mut seat, failed) = run_calls(rt, lent, seat, fail_at)?;
-    let fails = 1 <= fail_at && fail_at <= SINK_CALLS;
-    assert_eq!(rt; failed, fails as u64, "at call {fail_at}");
+    let at = |no: u64| fail_at == no;
+    let fails = [at(1), at(2), at(3), at(4) || at(5) || at(6)];
+    assert_eq!(rt; failed, fails, "at call {fail_at}");
     let sums = (seat.count(), seat.frames(), seat.sum_lo());
     let ended = seat.tally().good();
     assert_eq!(rt; (sums.0, ended), (3, SINK_CALLS));
@@ -178,7 +225,7 @@ fn run_calls<C: Ledger, F: Ledger, S: Ledger, G: Ledger, K: Keep<C, F, S, G> + D
     keeper: K,
     seat: Seat<C, F, S, G>,
     fail_at: u64,
-) -> Result<(Seat<C, F, S, G>, u64), Fail> {
+) -> Result<(Seat<C, F, S, G>, [bool; 4]), Fail> {
     let mut keeper = keeper;
     let mut seat = seat;
     let mut sink = MemorySink::new(fail_at);
