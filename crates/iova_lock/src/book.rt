@@ -1,5 +1,6 @@
 //! The value under the lock.
-ghost use Rattle.std.specs.Prelude.{◌≡◌, ◌≢◌, ◌+◌, ◌<◌, ◌≤◌, ◌*◌, ◌⊎◌, ◌↔◌, Err, IsErr, option_copied, option_map, true, false, if◌then◌else◌, Some, None, [], ◌∷◌, IfOk, MatchResult, MatchOption, List};
+ghost use Rattle.std.specs.Prelude.{◌≡◌, ◌≢◌, ◌+◌, ◌<◌, ◌≤◌, ◌*◌, ◌⊎◌, ◌↔◌, Err, IsErr, option_copied, option_map, true, false, if◌then◌else◌, Some, None, [], ◌∷◌, IfOk, IfSome, MatchResult, MatchOption, List, length};
+ghost use Rattle.iova_range.specs.declared.limits.TheConstants.{MAX_HOLDINGS};
 ghost use Rattle.iova_range.specs.Frames.{Frames};
 ghost use Rattle.iova_model.specs.Clients.{totals, client_of};
 ghost use Rattle.iova_model.specs.State.{State, new_domain};
@@ -221,9 +222,11 @@ impl<C: Ledger, F: Ledger, S: Ledger, G: Ledger> Book<C, F, S, G> {
 
     /// The holdings of the worker's client, rising by first frame.
     pub(crate) fn holdings_of(&self, worker: u64, id: u64) -> Option<&[Range]>
-        ensures { option_copied result ≡ option_map (λ c. c.holdings)
+        ensures is { option_copied result ≡ option_map (λ c. c.holdings)
             (client_of worker id self.now.state.clients) }
+        ensures few { IfSome (option_copied result) (λ held. length held ≤ MAX_HOLDINGS) }
     {
+        self.machine.is_kept();
         self.machine.holdings(worker, id)
     }
 

@@ -1,5 +1,6 @@
 //! What keeps a domain: the book itself, or a lock round it.
 ghost use Rattle.std.specs.Prelude.{◌≡◌, ◌≢◌, ℕ, ◌+◌, ◌<◌, ◌≤◌, ◌++◌, Option, Some, None, List, IfOk, IfErr, IfSome, IsOk, MatchOption, MatchResult, length, ◌⊎◌, if◌then◌else◌};
+ghost use Rattle.iova_range.specs.declared.limits.TheConstants.{MAX_HOLDINGS};
 ghost use Rattle.iova_range.specs.Frames.{Frames};
 ghost use Rattle.iova_model.specs.Clients.{totals};
 ghost use Rattle.iova_model.specs.State.{State};
@@ -184,7 +185,7 @@ pub trait Keep<C: Ledger, F: Ledger, S: Ledger, G: Ledger> {
             × (seat.new ≡ seat.old)) }
         ensures rest { (seat.new.worker ≡ seat.old.worker) × (seat.new.tally ≡ seat.old.tally) };
 
-    /// Appends the holdings of the seat's client, rising by first frame. Refused by `NoClient` and `NoMemory`; then nothing
+    /// Appends the holdings of the seat's client, at most 4,096, rising by first frame. Refused by `NoClient` and `NoMemory`; then nothing
     /// is appended.
     fn holdings(
         &self,
@@ -195,6 +196,7 @@ pub trait Keep<C: Ledger, F: Ledger, S: Ledger, G: Ledger> {
         ensures domain { IfSome (domain self.now)
             (ReadsHoldings seat.now.worker id ranges.old.items ranges.new.items result) }
         ensures ok { IfOk result (λ u. (more : List Frames) × (ranges.new.items ≡ ranges.old.items ++ more)) }
+        ensures most { length ranges.new.items ≤ length ranges.old.items + MAX_HOLDINGS }
         ensures err { IfErr result (λ e. ((e ≡ Refusal.NoClient) ⊎ (e ≡ Refusal.NoMemory))
             × (ranges.new.items ≡ ranges.old.items)) };
 

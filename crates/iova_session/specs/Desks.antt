@@ -1,13 +1,13 @@
 -- What a session may be answered, and what its answers say of it. Own.
-use Rattle.std.specs.Prelude.{ℕ, ◌≡◌, ◌≢◌, ◌+◌, ◌≤◌, ◌⊎◌, List, [], ◌∷◌, ◌++◌, length, take, flat_map, Option, Some, None, refl}
+use Rattle.std.specs.Prelude.{ℕ, ◌≡◌, ◌≢◌, ◌+◌, ◌<◌, ◌≤◌, ◌⊎◌, List, [], ◌∷◌, ◌++◌, length, take, flat_map, Option, Some, None, refl}
 use Rattle.std.specs.Coded.{Coded, Coded-set, code_by, coded×, coded_ℕ}
-use Rattle.iova_range.specs.declared.limits.TheConstants.{MAX_LISTED}
+use Rattle.iova_range.specs.declared.limits.TheConstants.{MAX_LISTED, MAX_HOLDINGS}
 use Rattle.iova_range.specs.declared.refusal.Refusal.{Refusal}
 use Rattle.iova_range.specs.declared.refusal.Refusal.TheVariants as refusal
 use Rattle.iova_range.specs.Frames.{Frames}
 use Rattle.iova_model.specs.declared.totals.Totals.{Totals}
 use Rattle.iova_model.specs.Clients.{totals_of}
-use Rattle.iova_model.specs.Laws.{IsAmong, add_totals}
+use Rattle.iova_model.specs.Laws.{add_totals}
 use Rattle.iova_lock.specs.declared.ask.Ask.{Ask}
 use Rattle.iova_lock.specs.declared.ask.Ask.TheVariants as ask
 use Rattle.iova_lock.specs.declared.ask.Told.{Told}
@@ -91,8 +91,9 @@ taken_in ps = flat_map (λ p. taken_by p.answer) ps
 abbrev pub IsHelloRefusal : ℕ → ℕ → Refusal → Type 0
 IsHelloRefusal number domain e = ((domain ≢ number) × (e ≡ refusal.NoDomain)) ⊎ ((domain ≡ number) × IsOpenRefusal e)
 
-abbrev pub IsListRefusal : Refusal → Type 0
-IsListRefusal e = IsAmong e (refusal.NoClient ∷ refusal.NoMemory ∷ refusal.TooMany ∷ [])
+-- A list where so many ranges were listed before: it passes the limit only where the most that a client can hold would.
+abbrev pub IsListRefusal : ℕ → Refusal → Type 0
+IsListRefusal listed e = (e ≡ refusal.NoClient) ⊎ (e ≡ refusal.NoMemory) ⊎ ((e ≡ refusal.TooMany) × (MAX_LISTED < listed + MAX_HOLDINGS))
 
 -- Without a client.
 abbrev pub IsFirstAnswer : ℕ → Request → Answer → Type 0
@@ -116,7 +117,7 @@ IsClientAnswer listed (request.Free lo) (answer.Queued r) = r.lo ≡ lo
 IsClientAnswer listed (request.Free lo) (answer.Refused e) = IsUnmapRefusal e
 IsClientAnswer listed (request.Free lo) a = ⊥
 IsClientAnswer listed request.List (answer.Held ranges) = listed + length ranges ≤ MAX_LISTED
-IsClientAnswer listed request.List (answer.Refused e) = IsListRefusal e
+IsClientAnswer listed request.List (answer.Refused e) = IsListRefusal listed e
 IsClientAnswer listed request.List a = ⊥
 IsClientAnswer listed request.Flush (answer.Flushed number freed) = Unit {0}
 IsClientAnswer listed request.Flush (answer.Refused e) = IsFlushRefusal e ⊎ (e ≡ refusal.NoWorker)

@@ -1,10 +1,14 @@
 -- What a session leaves of a domain that is known. Own.
-use Rattle.std.specs.Prelude.{ℕ, ◌≡◌, ◌≢◌, List, Option, Some, None, refl}
+use Rattle.std.specs.Prelude.{ℕ, ◌≡◌, ◌≢◌, ◌+◌, ◌<◌, ◌≤◌, ◌⊎◌, List, length, Option, Some, None, MatchOption, refl}
 use Rattle.std.specs.Coded.{Coded, Coded-set, code_by, coded×, coded_ℕ, coded_list, Π_prop, →_prop, Unit-prop}
+use Rattle.iova_range.specs.declared.limits.TheConstants.{MAX_LISTED}
+use Rattle.iova_range.specs.declared.refusal.Refusal.TheVariants as refusal
 use Rattle.iova_range.specs.Frames.{Frames}
-use Rattle.iova_model.specs.Clients.{client_with}
+use Rattle.iova_model.specs.Clients.{client_with, client_of}
 use Rattle.iova_model.specs.State.{State}
 use Rattle.iova_model.specs.Laws.{held_by}
+use Rattle.iova_proto.specs.declared.answer.Answer.{Answer}
+use Rattle.iova_proto.specs.declared.answer.Answer.TheVariants as answer
 use Rattle.iova_lock.specs.declared.ending.Ending.{Ending}
 use Rattle.iova_lock.specs.declared.ending.Ending.TheVariants as ending
 use Rattle.iova_lock.specs.Views.{WhereKnown, left_of}
@@ -23,6 +27,17 @@ IsLeft None told t = Unit {0}
 -- what a session leaves, of whose client this is told
 abbrev pub LeavesOthers : Option ℕ → Option Ending → State → State → Type 0
 LeavesOthers client told s t = KeepsOthers client s t × IsLeft client told t
+
+-- What a list may be answered where the client has these holdings and so many ranges were listed before: them, or that they
+-- pass the limit, or that memory was refused.
+abbrev pub IsListOf : List Frames → ℕ → Answer → Type 0
+IsListOf held listed (answer.Held ranges) = (ranges ≡ held) × (listed + length held ≤ MAX_LISTED)
+IsListOf held listed (answer.Refused e) = (e ≡ refusal.NoMemory) ⊎ ((e ≡ refusal.TooMany) × (MAX_LISTED < listed + length held))
+IsListOf held listed a = ⊥
+
+-- and what it is answered where the client is looked up in this domain, for this worker
+abbrev pub Lists : ℕ → ℕ → ℕ → Answer → State → Type 0
+Lists worker id listed a s = MatchOption (client_of worker id s.clients) (a ≡ answer.Refused refusal.NoClient) (λ c. IsListOf c.holdings listed a)
 
 -- two proofs of this are equal
 abbrev pub frames_code : Coded Frames

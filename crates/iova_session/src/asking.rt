@@ -1,10 +1,10 @@
 //! What a session's requests are answered, over any keeper: the checks of the session's own, and then the calls of
 //! the lock.
-ghost use Rattle.std.specs.Prelude.{◌≡◌, ◌≢◌, ℕ, ◌+◌, ◌≤◌, None, Some};
+ghost use Rattle.std.specs.Prelude.{◌≡◌, ◌≢◌, ℕ, ◌+◌, ◌≤◌, None, Some, IfSome};
 ghost use Rattle.iova_range.specs.declared.limits.TheConstants.{MAX_LISTED};
 ghost use Rattle.iova_sink.specs.Calls.{good_calls};
 ghost use Rattle.iova_lock.specs.Views.{WhereKnown};
-ghost use Rattle.iova_session.specs.Domains.{KeepsOthers};
+ghost use Rattle.iova_session.specs.Domains.{KeepsOthers, Lists};
 ghost use Rattle.iova_session.specs.Desks.{IsFirstAnswer, IsClientAnswer, MovesBy, given_by, taken_by};
 
 use iova_core::ClientId;
@@ -66,6 +66,7 @@ pub(crate) fn ask_alone<C: Ledger, F: Ledger, S: Ledger, G: Ledger, K: Keep<C, F
     ensures number { K.domain_number keeper.new ≡ K.domain_number keeper.old }
     ensures domain { WhereKnown (K.domain keeper.old) (K.domain keeper.new) (KeepsOthers (Some id)) }
     ensures answer { IsClientAnswer listed request result }
+    ensures list { request ≡ Request.List → IfSome (K.domain keeper.old) (Lists seat.old.worker id listed result) }
     ensures shares { MovesBy (given_by result) (taken_by result) seat.old.held seat.new.held }
     ensures worker { seat.new.worker ≡ seat.old.worker }
     ensures tally { seat.new.tally.good + good_calls (D.calls sink.old) ≤ seat.old.tally.good + good_calls
@@ -101,6 +102,7 @@ fn list<C: Ledger, F: Ledger, S: Ledger, G: Ledger, K: Keep<C, F, S, G>>(
 ) -> Answer
     requires { listed ≤ MAX_LISTED }
     ensures answer { IsClientAnswer listed Request.List result }
+    ensures domain { IfSome (K.domain keeper.now) (Lists seat.now.worker id listed result) }
     ensures shares { MovesBy (given_by result) (taken_by result) seat.now.held seat.now.held }
 {
     let mut ranges = Vec::new(alloc);
