@@ -20,8 +20,10 @@ use Rattle.iova_lock.specs.declared.ending.Ending.TheVariants as ending
 use Rattle.iova_lock.specs.declared.ending.Why.{Why}
 use Rattle.iova_lock.specs.StepLogs.{Takes}
 use Rattle.iova_lock.specs.Views.{WhereKnown, SeatState, IsKept, opened_or, left_of}
-use Rattle.iova_lock.specs.Events.{Event, Ran, NotRun, Invalidated, Leads, Does, Unmapping, run, not_run, UnmapFirst, tried, full, UnmapAgain, again, Unmap, once, not_begun, flushed, Flush, refused, done, failed, Closing, stops, queues, CloseFirst, closed, closed_full, CloseAgain, closed_again, full_at_once, full_again, CloseRest, last, another, Answered, ended, unknown, gone, share, sink_failed, overlap, flights_full, worn, EndClient, in_one_hold, in_more, Draining, none_left, drains, DrainAll, drained, no_worker}
-use Rattle.iova_lock.specs.Answers.{DoesUnmap, DoesFlush, DoesEndClient, DrainsAll, Opens}
+use Rattle.iova_lock.specs.Events.{Event, Ran, NotRun, Invalidated, Leads, Does, Unmapping, run, not_run, Flush, refused, done, failed, Closing, stops, queues, CloseFirst, closed, closed_full, CloseAgain, closed_again, full_at_once, full_again, CloseRest, last, another, Answered, ended, unknown, gone, share, sink_failed, overlap, flights_full, worn, EndClient, in_one_hold, in_more, Draining, none_left, drains, DrainAll, drained, no_worker}
+use Rattle.iova_lock.specs.declared.unmapped.Unmapped.{Unmapped}
+use Rattle.iova_lock.specs.Releases.{DoesRelease, ReleaseFirst, no_flush, flush, ReleaseAgain, no_flush_again, flush_again, ReleaseLast, reached, not_reached, not_drained, AfterQueued, stays, freed, not_freed, ReleaseRest, refused_again, queued_again, Release, refused_first, queued_first, ring_was_full}
+use Rattle.iova_lock.specs.Answers.{DoesFlush, DoesEndClient, DrainsAll, Opens}
 use Rattle.iova_lock.specs.Batches.{DoesAsk, DoesAsks, StopsAt, Batched}
 use Rattle.iova_proto.specs.declared.answer.Answer.{Answer}
 use Rattle.iova_proto.specs.declared.answer.Answer.TheVariants as answer
@@ -130,18 +132,6 @@ unmapping_names : (id : ℕ) {st : Step} {held : Totals} {r : Reply} {es : List 
 unmapping_names id n (run r) = (n, tt)
 unmapping_names id n not_run = tt
 
-first_names : (id : ℕ) {st : Step} {held : Totals} {o b : Option Reply} {es : List Event} → NamesOnly id st → UnmapFirst st held o b es → AllName id es
-first_names id n (tried r es other u) = unmapping_names id n u
-first_names id n (full begin) = (n, (begin_names id, tt))
-
-again_names : (id : ℕ) {st : Step} {held : Totals} {k : ℕ} {ok : Bool} {o : Option Reply} {es : List Event} → NamesOnly id st → UnmapAgain st held k ok o es → AllName id es
-again_names id {k = k} {ok = ok} n (again end r es u) = (end_names id k ok, unmapping_names id n u)
-
-unmap_names : (id : ℕ) {st : Step} {held : Totals} {r : Reply} {es : List Event} → NamesOnly id st → Unmap st held r es → AllName id es
-unmap_names id n (once r es u) = first_names id n u
-unmap_names id n (not_begun e) = (n, (begin_names id, tt))
-unmap_names id n (flushed k ok r es u) = (n, (begin_names id, again_names id n u))
-
 flush_names : (id : ℕ) {result : Result ℕ Refusal} {es : List Event} → Flush result es → AllName id es
 flush_names id (refused e) = (begin_names id, tt)
 flush_names id (done n end) = (begin_names id, (end_names id n true, tt))
@@ -176,15 +166,45 @@ end_client_names : (id : ℕ) {st : Step} {held left : Totals} {remains : ℕ} {
 end_client_names id n (in_one_hold queued o b result es e c a) = close_first_names id n c
 end_client_names id n (in_more queued k ok mid o b result es fs e c r a) = names_join id es fs (close_first_names id n c) (close_rest_names id n r)
 
+release_first_names : (id : ℕ) {strict : Bool} {st : Step} {held : Totals} {o b : Option Reply} {es : List Event} → NamesOnly id st → ReleaseFirst strict st held o b es → AllName id es
+release_first_names id n (no_flush r es other u) = unmapping_names id n u
+release_first_names id n (flush r b es goes u) = names_join id es (Ran step.Begin b ∷ []) (unmapping_names id n u) (begin_names id, tt)
+
+release_again_names : (id : ℕ) {strict : Bool} {st : Step} {held : Totals} {k : ℕ} {ok : Bool} {o b : Option Reply} {es : List Event} → NamesOnly id st → ReleaseAgain strict st held k ok o b es → AllName id es
+release_again_names id {k = k} {ok = ok} n (no_flush_again end r es other u) = (end_names id k ok, unmapping_names id n u)
+release_again_names id {k = k} {ok = ok} n (flush_again end r b es goes u) = (end_names id k ok, names_join id es (Ran step.Begin b ∷ []) (unmapping_names id n u) (begin_names id, tt))
+
+release_last_names : (id : ℕ) {w k finish : ℕ} {ok is_freed : Bool} {es : List Event} → ReleaseLast w k ok finish is_freed es → AllName id es
+release_last_names id {w = w} {k = k} {ok = ok} (reached end m le) = (end_names id k ok, (drain_names id w w, tt))
+release_last_names id {w = w} {k = k} {ok = ok} (not_reached end r lt) = (end_names id k ok, (drain_names id w w, tt))
+release_last_names id {w = w} {k = k} {ok = ok} (not_drained end e) = (end_names id k ok, (drain_names id w w, tt))
+
+after_queued_names : (id : ℕ) {w finish : ℕ} {q : Frames} {o : Option ℕ} {u : Unmapped} {es : List Event} → AfterQueued w finish q o u es → AllName id es
+after_queued_names id stays = tt
+after_queued_names id (freed k ok es l) = release_last_names id l
+after_queued_names id (not_freed k ok es l) = release_last_names id l
+
+release_rest_names : (id : ℕ) {strict : Bool} {st : Step} {held : Totals} {w finish k : ℕ} {result : Result Unmapped Refusal} {es : List Event} → NamesOnly id st
+    → ReleaseRest strict st held w finish k result es → AllName id es
+release_rest_names id n (refused_again ok e b es a) = release_again_names id n a
+release_rest_names id n (queued_again ok q b u es fs a f) = names_join id es fs (release_again_names id n a) (after_queued_names id f)
+
+release_names : (id : ℕ) {strict : Bool} {st : Step} {held : Totals} {w finish : ℕ} {result : Result Unmapped Refusal} {es : List Event} → NamesOnly id st
+    → Release strict st held w finish result es → AllName id es
+release_names id n (refused_first e b es f none) = release_first_names id n f
+release_names id n (queued_first q b u es fs f a) = names_join id es fs (release_first_names id n f) (after_queued_names id a)
+release_names id n (ring_was_full k b result es fs f is r) = names_join id es fs (release_first_names id n f) (release_rest_names id n r)
+
 -- Each call.
+
+pub release_keeps : OthersKeepTheirHoldings → (strict : Bool) (seat : SeatState) (id lo : ℕ) (result : Result Unmapped Refusal) (number : ℕ) (before now : List Call) (a b : Option State)
+    → WhereKnown a b (DoesRelease strict seat id lo result number before now) → WhereKnown a b (KeepsOthers (Some id))
+release_keeps law strict seat id lo result number before now a b h =
+    known_one a b (DoesRelease strict seat id lo result number before now) (KeepsOthers (Some id)) h
+    (λ s t x. leads_keep law id x.events s t (release_names id (λ other e. some_same e) x.allowed.0) x.leads)
 
 pub open_keeps : OthersKeepTheirHoldings → (w : ℕ) (sac : Bool) (result : Result ℕ Refusal) (a b : Option State) → WhereKnown a b (Opens w sac result) → WhereKnown a b (KeepsOthers None)
 open_keeps law w sac result a b h = known_one a b (Opens w sac result) (KeepsOthers None) h (λ s t x id other. takes_keep law s (step.Open w sac) (opened_or result) t x id (λ e. absurd cc))
-
-pub unmap_keeps : OthersKeepTheirHoldings → (seat : SeatState) (id lo : ℕ) (result : Result Frames Refusal) (number : ℕ) (before now : List Call) (a b : Option State)
-    → WhereKnown a b (DoesUnmap seat id lo result number before now) → WhereKnown a b (KeepsOthers (Some id))
-unmap_keeps law seat id lo result number before now a b h =
-    known_one a b (DoesUnmap seat id lo result number before now) (KeepsOthers (Some id)) h (λ s t x. leads_keep law id x.events s t (unmap_names id (λ other e. some_same e) x.allowed.0) x.leads)
 
 -- steps that name no client leave the holdings of all
 leads_keep_all : OthersKeepTheirHoldings → (es : List Event) (s t : State) → ((id : ℕ) → AllName id es) → Leads s es t → KeepsOthers None s t

@@ -114,6 +114,7 @@ IsClientAnswer listed (request.Alloc frames limit) (answer.Given r) = IsGivenTo 
 IsClientAnswer listed (request.Alloc frames limit) (answer.Refused e) = IsAllocRefusal e
 IsClientAnswer listed (request.Alloc frames limit) a = ⊥
 IsClientAnswer listed (request.Free lo) (answer.Queued r) = r.lo ≡ lo
+IsClientAnswer listed (request.Free lo) (answer.Freed r) = r.lo ≡ lo
 IsClientAnswer listed (request.Free lo) (answer.Refused e) = IsUnmapRefusal e
 IsClientAnswer listed (request.Free lo) a = ⊥
 IsClientAnswer listed request.List (answer.Held ranges) = listed + length ranges ≤ MAX_LISTED

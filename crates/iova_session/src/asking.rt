@@ -9,9 +9,11 @@ ghost use Rattle.iova_session.specs.Desks.{IsFirstAnswer, IsClientAnswer, MovesB
 
 use iova_core::ClientId;
 use iova_laws::replies::others_keep_their_holdings;
-use iova_lock::calls::{flush, unmap};
+use iova_lock::calls::flush;
 use iova_lock::keep::Keep;
+use iova_lock::release::release;
 use iova_lock::seat::Seat;
+use iova_lock::unmapped::Unmapped;
 use iova_proto::answer::Answer;
 use iova_proto::held::HeldRanges;
 use iova_proto::request::Request;
@@ -76,8 +78,9 @@ pub(crate) fn ask_alone<C: Ledger, F: Ledger, S: Ledger, G: Ledger, K: Keep<C, F
     others_keep_their_holdings();
     match request {
         Request::Hello { domain: _, sac: _ } => Answer::Refused(Refusal::Twice),
-        Request::Free { lo } => match unmap(keeper, seat, sink, id, lo) {
-            Ok(range) => Answer::Queued(range),
+        Request::Free { lo } => match release(keeper, seat, sink, id, lo) {
+            Ok(Unmapped::Queued(range)) => Answer::Queued(range),
+            Ok(Unmapped::Freed(range)) => Answer::Freed(range),
             Err(refusal) => Answer::Refused(refusal),
         },
         Request::List => list(alloc, keeper, seat, id, listed),
