@@ -31,7 +31,7 @@ leads_more s m t (Ran st r ∷ es) fs l d = let rest = l.2 in (l.0, l.1, leads_m
 leads_more s m t (NotRun st held ∷ es) fs l d = (l.0, leads_more s m t es fs l.1 d)
 leads_more s m t (Invalidated n ok ∷ es) fs l d = leads_more s m t es fs l d
 
-sink_calls-more : (number : ℕ) (es fs : List Event) → sink_calls number (es ++ fs) ≡ sink_calls number es ++ sink_calls number fs
+pub sink_calls-more : (number : ℕ) (es fs : List Event) → sink_calls number (es ++ fs) ≡ sink_calls number es ++ sink_calls number fs
 sink_calls-more number [] fs = refl
 sink_calls-more number (Ran st r ∷ es) fs = sink_calls-more number es fs
 sink_calls-more number (NotRun st held ∷ es) fs = sink_calls-more number es fs

@@ -20,6 +20,8 @@ use Rattle.iova_model.specs.State.{State, counts, new_domain}
 use Rattle.iova_model.specs.Laws.{MovesTotals, IsAmong, IsReplyTo, add_totals, CountsAddUp, shares_below}
 use Rattle.iova_lock.specs.declared.ending.Ending.{Ending}
 use Rattle.iova_lock.specs.declared.ending.Ending.TheVariants as ending
+use Rattle.iova_lock.specs.declared.unmapped.Unmapped.{Unmapped}
+use Rattle.iova_lock.specs.declared.unmapped.Unmapped.TheVariants as unmapped
 use Rattle.iova_sink.specs.Calls.{Call, good_calls}
 use Rattle.iova_lock.specs.StepLogs.{StepLog, IsRecorded}
 
@@ -131,6 +133,16 @@ by_tally step.Begin = true
 by_tally (step.End n ok) = true
 by_tally st = false
 
+-- the range that a release unmapped
+abbrev pub range_of : Unmapped → Frames
+range_of (unmapped.Queued r) = r
+range_of (unmapped.Freed r) = r
+
+-- the number of the flush that began in a hold, if one did
+abbrev pub begun_of : Option Reply → Option ℕ
+begun_of (Some (reply.Begun n)) = Some n
+begun_of o = None
+
 -- answers as replies
 abbrev pub opened_or : Result ℕ Refusal → Reply
 opened_or (Ok id) = reply.Opened id
@@ -143,6 +155,10 @@ given_or (Err e) = reply.Refused e
 abbrev pub queued_or : Result Frames Refusal → Reply
 queued_or (Ok r) = reply.Queued r
 queued_or (Err e) = reply.Refused e
+
+abbrev pub unmapped_or : Result Unmapped Refusal → Reply
+unmapped_or (Ok u) = reply.Queued (range_of u)
+unmapped_or (Err e) = reply.Refused e
 
 abbrev pub begun_or : Result ℕ Refusal → Reply
 begun_or (Ok n) = reply.Begun n

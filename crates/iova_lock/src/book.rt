@@ -144,7 +144,7 @@ impl<C: Ledger, F: Ledger, S: Ledger, G: Ledger> Book<C, F, S, G> {
         ))
     }
 
-    /// The domain becomes strict.
+    /// The domain becomes strict: a range that is released there waits for a flush of its own. It takes no memory.
     pub fn strict(self) -> Self
         ensures { result ≡ record self { strict = true } }
     {
@@ -211,6 +211,20 @@ impl<C: Ledger, F: Ledger, S: Ledger, G: Ledger> Book<C, F, S, G> {
     {
         self.machine.is_kept();
         self.machine.workers()
+    }
+
+    /// Whether the domain is strict.
+    pub(crate) fn is_strict(&self) -> bool
+        ensures { result ≡ self.now.strict }
+    {
+        self.strict
+    }
+
+    /// The finish count.
+    pub(crate) fn finish(&self) -> u64
+        ensures { result ≡ self.now.state.flushes.finish }
+    {
+        self.machine.finish()
     }
 
     /// How the domain stands, in numbers.
@@ -488,7 +502,7 @@ fn seats<C: Ledger, F: Ledger, S: Ledger, G: Ledger>(
     Ok((seats, count, frames, sum_lo, good))
 }
 
-fn is_queued(reply: &Reply) -> bool
+pub(crate) fn is_queued(reply: &Reply) -> bool
     ensures yes { result ≡ true → (r : Frames) × (reply.now ≡ Reply.Queued r) }
     ensures none { result ≡ false → (r : Frames) → reply.now ≢ Reply.Queued r }
 {

@@ -33,6 +33,7 @@ pub fn flush<C: Ledger, F: Ledger, S: Ledger, G: Ledger, K: Keep<C, F, S, G>, D:
     ensures tally { RisesWithin tally.old.good tally.new.good (D.calls sink.old) (D.calls sink.new) }
     ensures parts { tally.new.parts ≡ tally.old.parts }
     ensures number { K.domain_number keeper.new ≡ K.domain_number keeper.old }
+    ensures strict { K.strict keeper.new ≡ K.strict keeper.old }
 {
     let Heard {
         reply: _,
@@ -70,6 +71,7 @@ pub fn unmap<C: Ledger, F: Ledger, S: Ledger, G: Ledger, K: Keep<C, F, S, G>, D:
     ensures tally { RisesWithin seat.old.tally.good seat.new.tally.good (D.calls sink.old) (D.calls sink.new) }
     ensures parts { seat.new.tally.parts ≡ seat.old.tally.parts }
     ensures number { K.domain_number keeper.new ≡ K.domain_number keeper.old }
+    ensures strict { K.strict keeper.new ≡ K.strict keeper.old }
 {
     let Heard {
         reply,
@@ -104,6 +106,7 @@ pub fn timeout<C: Ledger, F: Ledger, S: Ledger, G: Ledger, K: Keep<C, F, S, G>, 
     ensures tally { RisesWithin tally.old.good tally.new.good (D.calls sink.old) (D.calls sink.new) }
     ensures parts { tally.new.parts ≡ tally.old.parts }
     ensures number { K.domain_number keeper.new ≡ K.domain_number keeper.old }
+    ensures strict { K.strict keeper.new ≡ K.strict keeper.old }
 {
     // for the proof: that a flush leaves as many workers as there are
     steps_keep_the_domain();
@@ -137,7 +140,7 @@ pub(crate) fn number(begun: Reply) -> Result<u64, Refusal>
 }
 
 /// What an unmap is answered, by what its last hold heard.
-fn answer(lo: u64, heard: Option<Reply>) -> Result<Range, Refusal>
+pub(crate) fn answer(lo: u64, heard: Option<Reply>) -> Result<Range, Refusal>
     requires { IsUnmapHeard lo heard }
     ensures is { heard ≡ Some (queued_or result) }
     ensures answer { MatchResult result (λ r. r.lo ≡ lo) IsUnmapRefusal }

@@ -3,7 +3,7 @@ ghost use Rattle.std.specs.Prelude.{◌≡◌, ◌≢◌, ◌==◌, ℕ, ◌+◌
 ghost use Rattle.iova_range.specs.Frames.{Frames};
 ghost use Rattle.iova_model.specs.Laws.{IsReplyTo};
 ghost use Rattle.iova_sink.specs.Calls.{failed_calls};
-ghost use Rattle.iova_lock.specs.Views.{TallyState, SeatState, WhereKnown, RisesWithin, IsCloseHeard, IsCloseRefusal, IsBeginHeard, LowersTold, IsLowered};
+ghost use Rattle.iova_lock.specs.Views.{TallyState, SeatState, WhereKnown, RisesWithin, IsCloseHeard, IsCloseRefusal, IsBeginHeard, LowersTold, IsLowered, begun_of};
 ghost use Rattle.iova_lock.specs.Events.{Answered};
 ghost use Rattle.iova_lock.specs.Answers.{DoesEndClient, DoesRest, Leaves};
 
@@ -36,6 +36,7 @@ pub fn end_client<C: Ledger, F: Ledger, S: Ledger, G: Ledger, K: Keep<C, F, S, G
     ensures tally { RisesWithin seat.old.tally.good seat.new.tally.good (D.calls sink.old) (D.calls sink.new) }
     ensures parts { seat.new.tally.parts ≡ seat.old.tally.parts }
     ensures number { K.domain_number keeper.new ≡ K.domain_number keeper.old }
+    ensures strict { K.strict keeper.new ≡ K.strict keeper.old }
 {
     let before = seat.count();
     let first = keeper.close_first(seat, id);
@@ -77,6 +78,7 @@ fn close_rest<C: Ledger, F: Ledger, S: Ledger, G: Ledger, K: Keep<C, F, S, G>, D
     ensures tally { RisesWithin seat.old.tally.good seat.new.tally.good (D.calls sink.old) (D.calls sink.new) }
     ensures parts { seat.new.tally.parts ≡ seat.old.tally.parts }
     ensures number { K.domain_number keeper.new ≡ K.domain_number keeper.old }
+    ensures strict { K.strict keeper.new ≡ K.strict keeper.old }
 {
     let ok = invalidated(sink, keeper.number(), no);
     let heard = keeper.close_again(seat, id, no, ok);
@@ -87,7 +89,8 @@ fn close_rest<C: Ledger, F: Ledger, S: Ledger, G: Ledger, K: Keep<C, F, S, G>, D
 }
 
 /// The number of the flush that began in a hold, if one did.
-fn flush_begun(heard: &Heard) -> Option<u64>
+pub(crate) fn flush_begun(heard: &Heard) -> Option<u64>
+    ensures is { result ≡ begun_of heard.now.begun }
     ensures some { IfSome result (λ no. heard.now.begun ≡ Some (Reply.Begun no)) }
     ensures none { IfNone result ((no : ℕ) → heard.now.begun ≢ Some (Reply.Begun no)) }
 {

@@ -1,12 +1,13 @@
 //! The holds of a book.
-ghost use Rattle.std.specs.Prelude.{◌≡◌, ◌≢◌, ℕ, Option, Some, None, MatchBool, List};
+ghost use Rattle.std.specs.Prelude.{◌≡◌, ◌≢◌, ℕ, Option, Some, None, MatchBool, List, true, false};
 ghost use Rattle.iova_range.specs.Frames.{Frames};
 ghost use Rattle.iova_model.specs.State.{State};
+ghost use Rattle.iova_lock.specs.Releases.{QueuedStrictly, FlushFollows};
 ghost use Rattle.iova_lock.specs.Views.{queued_by, Lowers, IsLowered};
 
 use crate::ask::{Ask, Told};
 use crate::batch;
-use crate::book::Book;
+use crate::book::{Book, is_queued};
 use crate::keep::{Heard, Keep};
 use crate::seat::{Seat, Tally};
 use iova_core::{ClientId, Reply, Step};
@@ -57,10 +58,34 @@ pub(crate) fn is_full(reply: &Reply) -> bool
     matches!(reply, Reply::Refused(Refusal::RingFull))
 }
 
+/// Whether a range was queued in a strict domain.
+fn queued_strictly(strict: bool, reply: &Reply) -> bool
+    ensures { MatchBool result (QueuedStrictly strict reply.now) (QueuedStrictly strict reply.now → ⊥) }
+{
+    strict && is_queued(reply)
+}
+
+/// Whether a flush follows the first hold of a release.
+fn flush_follows(strict: bool, reply: &Reply) -> bool
+    ensures { MatchBool result (FlushFollows strict reply.now) (FlushFollows strict reply.now → ⊥) }
+{
+    is_full(reply) || queued_strictly(strict, reply)
+}
+
+/// Whether a ring was drained.
+fn is_drained(reply: &Reply) -> bool
+    ensures yes { result ≡ true → (n : ℕ) × (reply.now ≡ Reply.Drained n) }
+    ensures none { result ≡ false → (n : ℕ) → reply.now ≢ Reply.Drained n }
+{
+    matches!(reply, Reply::Drained(_))
+}
+
 impl<C: Ledger, F: Ledger, S: Ledger, G: Ledger> Keep<C, F, S, G> for Book<C, F, S, G> {
     ghost domain = { λ b. Some b.state };
 
     ghost domain_number = { λ b. b.number };
+
+    ghost strict = { λ b. b.strict };
 
     fn number(&self) -> u64 {
         self.number_of()
@@ -209,6 +234,70 @@ impl<C: Ledger, F: Ledger, S: Ledger, G: Ledger> Keep<C, F, S, G> for Book<C, F,
             begun,
             left: self.left(id),
         }
+    }
+
+    fn release_first(&mut self, seat: &mut Seat<C, F, S, G>, id: ClientId, lo: u64) -> Heard {
+        let worker = seat.worker();
+        let reply = self.run_within(
+            seat,
+            Step::Unmap {
+                worker,
+                client: id,
+                lo,
+            },
+        );
+        let begun = if flush_follows(self.is_strict(), &reply) {
+            Some(self.run_flush(&mut seat.tally, Step::Begin))
+        } else {
+            None
+        };
+        Heard {
+            queued: queued_by(&reply),
+            reply: Some(reply),
+            begun,
+            left: self.left(id),
+        }
+    }
+
+    fn release_again(
+        &mut self,
+        seat: &mut Seat<C, F, S, G>,
+        id: ClientId,
+        lo: u64,
+        no: u64,
+        ok: bool,
+    ) -> Heard {
+        let worker = seat.worker();
+        let _ended = self.run_flush(&mut seat.tally, Step::End { no, ok });
+        let reply = self.run_within(
+            seat,
+            Step::Unmap {
+                worker,
+                client: id,
+                lo,
+            },
+        );
+        let begun = if queued_strictly(self.is_strict(), &reply) {
+            Some(self.run_flush(&mut seat.tally, Step::Begin))
+        } else {
+            None
+        };
+        Heard {
+            queued: queued_by(&reply),
+            reply: Some(reply),
+            begun,
+            left: self.left(id),
+        }
+    }
+
+    fn release_last(&mut self, seat: &mut Seat<C, F, S, G>, no: u64, ok: bool) -> bool {
+        let worker = seat.worker();
+        let _ended = self.run_flush(&mut seat.tally, Step::End { no, ok });
+        let reply = self.run_drain(worker, worker);
+        if self.finish() < no {
+            return false;
+        }
+        is_drained(&reply)
     }
 
     fn drain_all(&mut self, by: u64) -> Result<u64, Refusal> {

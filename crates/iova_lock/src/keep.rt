@@ -1,5 +1,5 @@
 //! What keeps a domain: the book itself, or a lock round it.
-ghost use Rattle.std.specs.Prelude.{◌≡◌, ◌≢◌, ℕ, ◌+◌, ◌<◌, ◌≤◌, ◌++◌, Option, Some, None, List, IfOk, IfErr, IfSome, IsOk, MatchOption, MatchResult, length, ◌⊎◌, if◌then◌else◌};
+ghost use Rattle.std.specs.Prelude.{◌≡◌, ◌≢◌, ℕ, ◌+◌, ◌<◌, ◌≤◌, ◌++◌, Bool, Option, Some, None, List, IfOk, IfErr, IfSome, IsOk, MatchOption, MatchResult, length, ◌⊎◌, if◌then◌else◌};
 ghost use Rattle.iova_range.specs.declared.limits.TheConstants.{MAX_HOLDINGS};
 ghost use Rattle.iova_range.specs.Frames.{Frames};
 ghost use Rattle.iova_model.specs.Clients.{totals};
@@ -7,6 +7,7 @@ ghost use Rattle.iova_model.specs.State.{State};
 ghost use Rattle.iova_model.specs.Laws.{MovesTotals, IsReplyTo, ended_well};
 ghost use Rattle.iova_lock.specs.Views.{TallyState, SeatState, WhereKnown, IsOpenRefusal, IsAllocRefusal, IsGivenTo, IsUnmapHeard, IsBeginHeard, IsCloseHeard, MovesHeard, Lowers, queued_by, given_or, stat_of, IsKept};
 ghost use Rattle.iova_lock.specs.Batches.{DoesBatch, TellsAsks};
+ghost use Rattle.iova_lock.specs.Releases.{ReleasesFirst, ReleasesAgain, ReleasesLast};
 ghost use Rattle.iova_lock.specs.Answers.{Opens, Allocs, UnmapsFirst, UnmapsAgain, Begins, Ends, ClosesFirst, ClosesAgain, Leaves, RaisesByEnd, DrainsAll, ReadsHoldings};
 
 use crate::ask::{Ask, Told};
@@ -44,6 +45,9 @@ pub trait Keep<C: Ledger, F: Ledger, S: Ledger, G: Ledger> {
     /// The domain's number.
     ghost domain_number: { Self → ℕ };
 
+    /// Whether the domain is strict, where it is known.
+    ghost strict: { Self → Bool };
+
     /// The domain's number. It takes no hold.
     fn number(&self) -> u64
         ensures { result ≡ domain_number self.now };
@@ -56,6 +60,7 @@ pub trait Keep<C: Ledger, F: Ledger, S: Ledger, G: Ledger> {
     /// `ClientsFull` and `NoMemory`; then nothing has changed.
     fn open(&mut self, seat: &mut Seat<C, F, S, G>, sac: bool) -> Result<ClientId, Refusal>
         ensures number { domain_number self.new ≡ domain_number self.old }
+        ensures strict { strict self.new ≡ strict self.old }
         ensures domain { WhereKnown (domain self.old) (domain self.new) (Opens seat.old.worker sac result) }
         ensures refusal { IfErr result IsOpenRefusal }
         ensures seat { seat.new ≡ seat.old };
@@ -70,6 +75,7 @@ pub trait Keep<C: Ledger, F: Ledger, S: Ledger, G: Ledger> {
         limit: u64,
     ) -> Result<Range, Refusal>
         ensures number { domain_number self.new ≡ domain_number self.old }
+        ensures strict { strict self.new ≡ strict self.old }
         ensures domain { WhereKnown (domain self.old) (domain self.new)
             (Allocs seat.old.worker id frames limit result) }
         ensures given { MatchResult result (IsGivenTo frames limit) IsAllocRefusal }
@@ -79,6 +85,7 @@ pub trait Keep<C: Ledger, F: Ledger, S: Ledger, G: Ledger> {
     /// The first hold of an unmap: an unmap; where the ring is full, a flush begins.
     fn unmap_first(&mut self, seat: &mut Seat<C, F, S, G>, id: ClientId, lo: u64) -> Heard
         ensures number { domain_number self.new ≡ domain_number self.old }
+        ensures strict { strict self.new ≡ strict self.old }
         ensures domain { WhereKnown (domain self.old) (domain self.new)
             (UnmapsFirst seat.old id lo result.reply result.begun) }
         ensures left { WhereKnown (domain self.old) (domain self.new) (Leaves id result.left) }
@@ -99,6 +106,7 @@ pub trait Keep<C: Ledger, F: Ledger, S: Ledger, G: Ledger> {
         ok: bool,
     ) -> Heard
         ensures number { domain_number self.new ≡ domain_number self.old }
+        ensures strict { strict self.new ≡ strict self.old }
         ensures domain { WhereKnown (domain self.old) (domain self.new)
             (UnmapsAgain seat.old id lo no ok result.reply) }
         ensures left { WhereKnown (domain self.old) (domain self.new) (Leaves id result.left) }
@@ -115,6 +123,7 @@ pub trait Keep<C: Ledger, F: Ledger, S: Ledger, G: Ledger> {
     /// The first hold of a flush: it begins. Refused by `FlightsFull` and `Worn`.
     fn begin(&mut self, tally: &mut Tally<G>) -> Heard
         ensures number { domain_number self.new ≡ domain_number self.old }
+        ensures strict { strict self.new ≡ strict self.old }
         ensures domain { WhereKnown (domain self.old) (domain self.new) (Begins result.begun) }
         ensures tally { tally.new ≡ tally.old }
         ensures heard { MatchOption result.begun ⊥ (λ b. IsReplyTo Step.Begin b) };
@@ -122,6 +131,7 @@ pub trait Keep<C: Ledger, F: Ledger, S: Ledger, G: Ledger> {
     /// The second hold of a flush: it ends, as `ok` says. Refused by `NoFlight`. `ok` is what a sink answered for this flush.
     fn end(&mut self, tally: &mut Tally<G>, no: u64, ok: bool) -> Heard
         ensures number { domain_number self.new ≡ domain_number self.old }
+        ensures strict { strict self.new ≡ strict self.old }
         ensures domain { WhereKnown (domain self.old) (domain self.new) (Ends no ok result.reply) }
         ensures good { MatchOption result.reply ⊥
             (λ r. tally.new.good ≡ tally.old.good + ended_well (Step.End no ok) r) }
@@ -131,6 +141,7 @@ pub trait Keep<C: Ledger, F: Ledger, S: Ledger, G: Ledger> {
     /// the ring is full, a flush begins.
     fn close_first(&mut self, seat: &mut Seat<C, F, S, G>, id: ClientId) -> Heard
         ensures number { domain_number self.new ≡ domain_number self.old }
+        ensures strict { strict self.new ≡ strict self.old }
         ensures domain { WhereKnown (domain self.old) (domain self.new)
             (ClosesFirst seat.old seat.new.held id result.reply result.begun) }
         ensures left { WhereKnown (domain self.old) (domain self.new) (Leaves id result.left) }
@@ -144,6 +155,7 @@ pub trait Keep<C: Ledger, F: Ledger, S: Ledger, G: Ledger> {
     /// before a range was queued, no flush begins. `ok` is what a sink answered for this flush.
     fn close_again(&mut self, seat: &mut Seat<C, F, S, G>, id: ClientId, no: u64, ok: bool) -> Heard
         ensures number { domain_number self.new ≡ domain_number self.old }
+        ensures strict { strict self.new ≡ strict self.old }
         ensures domain { WhereKnown (domain self.old) (domain self.new)
             (ClosesAgain seat.old seat.new.held id no ok result.reply result.begun) }
         ensures left { WhereKnown (domain self.old) (domain self.new) (Leaves id result.left) }
@@ -158,16 +170,69 @@ pub trait Keep<C: Ledger, F: Ledger, S: Ledger, G: Ledger> {
         ensures begun { IsBeginHeard result.reply result.begun }
         ensures goes_on { result.begun ≢ None → seat.new.held.count < seat.old.held.count };
 
+    /// The first hold of a release: an unmap; where the ring is full, or a range was queued in a strict domain, a flush begins.
+    fn release_first(&mut self, seat: &mut Seat<C, F, S, G>, id: ClientId, lo: u64) -> Heard
+        ensures number { domain_number self.new ≡ domain_number self.old }
+        ensures strict { strict self.new ≡ strict self.old }
+        ensures domain { WhereKnown (domain self.old) (domain self.new)
+            (ReleasesFirst (strict self.old) seat.old id lo result.reply result.begun) }
+        ensures left { WhereKnown (domain self.old) (domain self.new) (Leaves id result.left) }
+        ensures seat { MovesHeard result.reply seat.old.held seat.new.held }
+        ensures rest { (seat.new.worker ≡ seat.old.worker) × (seat.new.tally ≡ seat.old.tally) }
+        ensures heard { IsUnmapHeard lo result.reply }
+        ensures queued { MatchOption result.reply ⊥ (λ r. result.queued ≡ queued_by r) };
+
+    /// The hold of a release after a ring that was full: the flush ends, as `ok` says, and the unmap is tried again; where it
+    /// queued a range in a strict domain, a second flush begins. `ok` is what a sink answered for the first one.
+    fn release_again(
+        &mut self,
+        seat: &mut Seat<C, F, S, G>,
+        id: ClientId,
+        lo: u64,
+        no: u64,
+        ok: bool,
+    ) -> Heard
+        ensures number { domain_number self.new ≡ domain_number self.old }
+        ensures strict { strict self.new ≡ strict self.old }
+        ensures domain { WhereKnown (domain self.old) (domain self.new)
+            (ReleasesAgain (strict self.old) seat.old id lo no ok result.reply result.begun) }
+        ensures left { WhereKnown (domain self.old) (domain self.new) (Leaves id result.left) }
+        ensures seat { MovesHeard result.reply seat.old.held seat.new.held }
+        ensures worker { seat.new.worker ≡ seat.old.worker }
+        ensures good { (seat.old.tally.good ≤ seat.new.tally.good)
+            × (seat.new.tally.good ≤ seat.old.tally.good + (if ok then 1 else 0)) }
+        ensures ended { WhereKnown (domain self.old) (domain self.new)
+            (RaisesByEnd seat.old.tally.good seat.new.tally.good no ok) }
+        ensures parts { seat.new.tally.parts ≡ seat.old.tally.parts }
+        ensures heard { IsUnmapHeard lo result.reply }
+        ensures queued { MatchOption result.reply ⊥ (λ r. result.queued ≡ queued_by r) };
+
+    /// The last hold of a release, behind a range that was queued: the flush ends, as `ok` says, and the worker's ring is
+    /// drained. Whether the finish count is at least the flush's number then, and the ring was drained. `ok` is what a sink
+    /// answered for this flush.
+    fn release_last(&mut self, seat: &mut Seat<C, F, S, G>, no: u64, ok: bool) -> bool
+        ensures number { domain_number self.new ≡ domain_number self.old }
+        ensures strict { strict self.new ≡ strict self.old }
+        ensures domain { WhereKnown (domain self.old) (domain self.new) (ReleasesLast seat.old no ok result) }
+        ensures seat { (seat.new.worker ≡ seat.old.worker) × (seat.new.held ≡ seat.old.held) }
+        ensures good { (seat.old.tally.good ≤ seat.new.tally.good)
+            × (seat.new.tally.good ≤ seat.old.tally.good + (if ok then 1 else 0)) }
+        ensures ended { WhereKnown (domain self.old) (domain self.new)
+            (RaisesByEnd seat.old.tally.good seat.new.tally.good no ok) }
+        ensures parts { seat.new.tally.parts ≡ seat.old.tally.parts };
+
     /// Drains every ring, 0 first, into the magazines of worker `by`, and gives how many entries that frees. Refused by
     /// `NoWorker`; then nothing has changed. Worker 0 is there in every domain.
     fn drain_all(&mut self, by: u64) -> Result<u64, Refusal>
         ensures number { domain_number self.new ≡ domain_number self.old }
+        ensures strict { strict self.new ≡ strict self.old }
         ensures domain { WhereKnown (domain self.old) (domain self.new) (DrainsAll by result) }
         ensures refusal { IfErr result (λ e. e ≡ Refusal.NoWorker) }
         ensures first { by ≡ 0 → IsOk result };
 
-    /// Does the asks in order, in one hold, and stops before the first free whose ring is full. It answers how many were
-    /// done, and appends what is told of each. Refused by `NoMemory` where there is no room for that; then nothing was done.
+    /// Does the asks in order, in one hold, and stops before the first free whose ring is full, in a strict domain before the
+    /// first free. It answers how many were done, and appends what is told of each. Refused by `NoMemory` where there is no
+    /// room for that; then nothing was done.
     fn batch(
         &mut self,
         seat: &mut Seat<C, F, S, G>,
@@ -177,8 +242,9 @@ pub trait Keep<C: Ledger, F: Ledger, S: Ledger, G: Ledger> {
     ) -> Result<usize, Refusal>
         requires { (1 ≤ length asks.now) × (length asks.now ≤ MAX_RUN) }
         ensures number { domain_number self.new ≡ domain_number self.old }
+        ensures strict { strict self.new ≡ strict self.old }
         ensures domain { WhereKnown (domain self.old) (domain self.new)
-            (DoesBatch seat.old seat.new.held id asks.now told.old.items told.new.items result) }
+            (DoesBatch (strict self.old) seat.old seat.new.held id asks.now told.old.items told.new.items result) }
         ensures told { IfOk result (λ n. TellsAsks asks.now told.old.items told.new.items n seat.old.held
             seat.new.held) }
         ensures memory { IfErr result (λ e. (e ≡ Refusal.NoMemory) × (told.new.items ≡ told.old.items)

@@ -204,6 +204,13 @@ impl Machine {
         self.domain.good()
     }
 
+    /// The finish count.
+    pub(crate) fn finish(&self) -> u64
+        ensures { result ≡ self.now.state.flushes.finish }
+    {
+        self.domain.finish()
+    }
+
     /// How many workers there are.
     pub(crate) fn workers(&self) -> u64
         ensures { result ≡ self.now.state.workers }

@@ -9,6 +9,7 @@ use crate::calls;
 use crate::closing::end_client;
 use crate::ending::Ending;
 use crate::keep::Keep;
+use crate::release::release;
 use crate::seat::Seat;
 use crate::shared::Shared;
 use iova_range::bounds::Bounds;
@@ -24,7 +25,7 @@ use std::sync::Wait;
 use std::sync::ledger::{Blank, Ledger};
 use std::test::*;
 
-const CALLS: u64 = 40_000;
+const CALLS: u64 = 16_000;
 
 // Two times 4 GiB, in frames.
 const LAST: u64 = 2_097_151;
@@ -158,6 +159,18 @@ impl Script {
         Ok(())
     }
 
+    fn release<C: Ledger, F: Ledger, S: Ledger, G: Ledger, K: Keep<C, F, S, G>>(
+        &mut self,
+        keeper: &mut K,
+        seat: &mut Seat<C, F, S, G>,
+        sink: &mut MemorySink,
+    ) -> Result<(), Fail> {
+        let id = self.client(seat.worker());
+        let lo = self.held(keeper, seat, id)?;
+        let released = release(keeper, seat, sink, id, lo);
+        self.say("released", &released)
+    }
+
     fn batch<C: Ledger, F: Ledger, S: Ledger, G: Ledger, K: Keep<C, F, S, G>>(
         &mut self,
         keeper: &mut K,
@@ -244,6 +257,7 @@ impl Script {
             0 => self.other(keeper, seat, &mut sink)?,
             n if n < 76 => self.give(keeper, seat)?,
             n if n < 84 => self.batch(keeper, seat)?,
+            n if n < 106 => self.release(keeper, seat, &mut sink)?,
             _ => self.unmap(keeper, seat, &mut sink)?,
         }
         self.say("stat", &keeper.stat())?;
@@ -276,6 +290,7 @@ fn said_by<C: Ledger, F: Ledger, S: Ledger, G: Ledger, K: Keep<C, F, S, G> + Dro
 fn said_by_book<C: Ledger, F: Ledger, S: Ledger, G: Ledger>(
     alloc: Global,
     bounds: Bounds,
+    strict: bool,
     count: Blank,
     frames: Blank,
     sum_lo: Blank,
@@ -287,6 +302,7 @@ fn said_by_book<C: Ledger, F: Ledger, S: Ledger, G: Ledger>(
     requires good { (good.name ≡ G.name) × (good.parts ≡ G.parts) × (good.parts ≡ TALLY_PARTS * 2) }
 {
     let (book, seats) = Book::<C, F, S, G>::new(alloc, 7, bounds, 2, count, frames, sum_lo, good)?;
+    let book = if strict { book.strict() } else { book };
     said_by(alloc, book, seats)
 }
 
@@ -294,6 +310,7 @@ fn said_by_lock<C: Ledger, F: Ledger, S: Ledger, G: Ledger, R: Wait>(
     rt: &R,
     alloc: Global,
     bounds: Bounds,
+    strict: bool,
     count: Blank,
     frames: Blank,
     sum_lo: Blank,
@@ -307,6 +324,7 @@ fn said_by_lock<C: Ledger, F: Ledger, S: Ledger, G: Ledger, R: Wait>(
     let (shared, seats) = Shared::<&R, C, F, S, G>::new(
         rt, alloc, 7, bounds, 2, count, frames, sum_lo, good,
     )?;
+    let shared = if strict { shared.strict() } else { shared };
     said_by(alloc, &shared, seats)
 }
 
@@ -323,35 +341,43 @@ fn has(said: &Vec<String>, front: &str) -> bool {
 #[test]
 fn a_lock_answers_as_its_book(rt: HostRuntime) -> Result<(), Fail> {
     let alloc = rt.alloc();
-    let of_book = said_by_book::<Brand, Brand, Brand, Brand>(
-        alloc,
-        Bounds::new(1, LAST)?,
-        Blank::new(2),
-        Blank::new(2),
-        Blank::new(2),
-        Blank::new(512),
-    )?;
-    let of_lock = said_by_lock::<Brand, Brand, Brand, Brand, _>(
-        &rt,
-        alloc,
-        Bounds::new(1, LAST)?,
-        Blank::new(2),
-        Blank::new(2),
-        Blank::new(2),
-        Blank::new(512),
-    )?;
-    assert_eq!(rt; of_lock.len(), of_book.len());
-    for (a, b) in of_lock.iter().zip(of_book.as_slice()) {
-        assert_eq!(rt; a.as_str(), b.as_str());
-    }
-    // the script comes to what it is to come to
-    for line in [
-        "unmapped Err(RingFull)",
-        "ended Ok(Waiting(",
-        "batched Ok(2)",
-        "freed Ok(",
-    ] {
-        assert!(rt; has(&of_book, line), "{line}");
+    for strict in [false, true] {
+        let of_book = said_by_book::<Brand, Brand, Brand, Brand>(
+            alloc,
+            Bounds::new(1, LAST)?,
+            strict,
+            Blank::new(2),
+            Blank::new(2),
+            Blank::new(2),
+            Blank::new(512),
+        )?;
+        let of_lock = said_by_lock::<Brand, Brand, Brand, Brand, _>(
+            &rt,
+            alloc,
+            Bounds::new(1, LAST)?,
+            strict,
+            Blank::new(2),
+            Blank::new(2),
+            Blank::new(2),
+            Blank::new(512),
+        )?;
+        assert_eq!(rt; of_lock.len(), of_book.len());
+        for (a, b) in of_lock.iter().zip(of_book.as_slice()) {
+            assert_eq!(rt; a.as_str(), b.as_str());
+        }
+        // the script comes to what it is to come to
+        for line in ["batched Ok(2)", "freed Ok(", "released Ok(Queued("] {
+            assert!(rt; has(&of_book, line), "{line}");
+        }
+        // a ring that each release drains doesn't fill up
+        for line in [
+            "unmapped Err(RingFull)",
+            "released Err(RingFull)",
+            "ended Ok(Waiting(",
+        ] {
+            assert!(rt; strict || has(&of_book, line), "{line}");
+        }
+        assert_eq!(rt; has(&of_book, "released Ok(Freed("), strict);
     }
     Ok(())
 }

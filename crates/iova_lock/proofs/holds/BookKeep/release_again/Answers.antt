@@ -1,0 +1,18 @@
+use Rattle.std.proofs.Common.{◌≡◌, ◌∙◌, ap}
+use Rattle.iova_lock.specs.Views.{SeatState}
+use Rattle.iova_lock.proofs.Releases.{again_with, again_without}
+use Rattle.iova_lock.proofs.holds.BookKeep.release_again.Goals.{then-queued_strictly, else-queued_strictly}
+use Rattle.iova_lock.proofs.holds.BookKeep.release_again.Goals as goal
+
+pub returns-clause-domain : goal.returns-clause-domain
+returns-clause-domain g c =
+    let held = ap (λ (p : SeatState). p.held) c.seat.view_is in
+    let does = rw (c.worker-worker.ensures, held) at c.run_within-reply.ensures.does in
+    let strictly : c.is_strict.result ≡ c.args.self.now.strict = c.is_strict.ensures ∙ (c.run_within-reply.ensures.same.1 ∙ c.run_flush-ended.ensures.same.1) in
+    let flush = rw strictly at c.queued_strictly.ensures in
+    elim c.if-queued_strictly.branch [
+      | then-queued_strictly w ↦ rw (w.begun-is, w.self-is)
+          (again_with _ _ _ _ _ _ _ _ _ _ _ _ c.run_flush-ended.ensures.takes (rw w.if-queued_strictly.true at flush) does w.run_flush.ensures.takes)
+      | else-queued_strictly w ↦ rw (w.begun-is, w.self-is)
+          (again_without _ _ _ _ _ _ _ _ _ _ c.run_flush-ended.ensures.takes (rw w.if-queued_strictly.false at flush) does)
+    ]

@@ -1,0 +1,14 @@
+use Rattle.std.proofs.Common.{◌≡◌, ◌∙◌}
+use Rattle.iova_lock.proofs.Releases.{first_with, first_without}
+use Rattle.iova_lock.proofs.holds.BookKeep.release_first.Goals.{then-flush_follows, else-flush_follows}
+use Rattle.iova_lock.proofs.holds.BookKeep.release_first.Goals as goal
+
+pub returns-clause-domain : goal.returns-clause-domain
+returns-clause-domain g c =
+    let does = rw c.worker-worker.ensures at c.run_within-reply.ensures.does in
+    let strictly : c.is_strict.result ≡ c.args.self.now.strict = c.is_strict.ensures ∙ c.run_within-reply.ensures.same.1 in
+    let flush = rw strictly at c.flush_follows.ensures in
+    elim c.if-flush_follows.branch [
+      | then-flush_follows w ↦ rw (w.begun-is, w.self-is) (first_with _ _ _ _ _ _ _ _ (rw w.if-flush_follows.true at flush) does w.run_flush.ensures.takes)
+      | else-flush_follows w ↦ rw (w.begun-is, w.self-is) (first_without _ _ _ _ _ _ (rw w.if-flush_follows.false at flush) does)
+    ]
