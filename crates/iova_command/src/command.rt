@@ -42,7 +42,7 @@ and then steps:
 const REQUESTS: &str = "Requests, a line each, and their answers:
   hello iova1 DOMAIN dac|sac  opened CLIENT
   alloc FRAMES LIMIT          given FIRST FRAMES
-  free FIRST                  queued FIRST FRAMES
+  free FIRST                  queued FIRST FRAMES, or freed FIRST FRAMES in a strict domain
   list                        held COUNT, and a line for each range
   flush                       flushed FLUSH FREED
   stat                        stat FREE RESERVED CLIENT MAGAZINE DEPOT RING START FINISH

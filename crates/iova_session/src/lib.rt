@@ -27,5 +27,7 @@ mod session;
 mod session_files;
 pub mod socket_link;
 #[cfg(test)]
+mod strict_tests;
+#[cfg(test)]
 mod tests;
 mod together;

@@ -148,7 +148,7 @@ fn bounds_of(plan: &Plan<'_>) -> Result<Bounds, Fault<'static>>
     }
 }
 
-/// The plan's domain under a lock, recorded where the plan says so, and its seats. Refused by `NoMemory`.
+/// The plan's domain under a lock, recorded and strict where the plan says so, and its seats. Refused by `NoMemory`.
 fn new_domain<'a, R, C, F, S, G>(
     rt: &'a R,
     plan: &Plan<'_>,
@@ -197,7 +197,11 @@ where
         )
     };
     match made {
-        Ok(made) => Ok(made),
+        Ok((shared, seats)) => if plan.strict {
+            Ok((shared.strict(), seats))
+        } else {
+            Ok((shared, seats))
+        },
         Err(_) => Err(Fault::NoMemory),
     }
 }
