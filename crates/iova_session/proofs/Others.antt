@@ -137,12 +137,12 @@ flush_names id (refused e) = (begin_names id, tt)
 flush_names id (done n end) = (begin_names id, (end_names id n true, tt))
 flush_names id (failed n end) = (begin_names id, (end_names id n false, tt))
 
-draining_names : (id by : ℕ) {rings : List ℕ} {freed : ℕ} {es : List Event} → Draining by rings freed es → AllName id es
+draining_names : (id by : ℕ) {rings : List ℕ} {n : ℕ} {es : List Event} → Draining by rings n es → AllName id es
 draining_names id by none_left = tt
 draining_names id by (drains q rings n more es d) = (drain_names id q by, draining_names id by d)
 
 drain_all_names : (id workers by : ℕ) {result : Result ℕ Refusal} {es : List Event} → DrainAll workers by result es → AllName id es
-drain_all_names id workers by (drained freed es lt d) = draining_names id by d
+drain_all_names id workers by (drained n es lt d) = draining_names id by d
 drain_all_names id workers by (no_worker le) = (drain_names id 0 by, tt)
 
 closing_names : (id : ℕ) {st : Step} {held left : Totals} {r : Reply} {es : List Event} → NamesOnly id st → Closing st held left r es → AllName id es
@@ -285,7 +285,7 @@ client_stays listed id r (answer.Given q) h = refl
 client_stays listed id r (answer.Queued q) h = refl
 client_stays listed id r (answer.Freed q) h = refl
 client_stays listed id r (answer.Held q) h = refl
-client_stays listed id r (answer.Flushed n freed) h = refl
+client_stays listed id r (answer.Flushed n m) h = refl
 client_stays listed id r (answer.Stat x) h = refl
 client_stays listed id r answer.Bye h = refl
 client_stays listed id r (answer.Refused x) h = refl

@@ -4,7 +4,10 @@ use Rattle.std.proofs.lemmas.Grind.{common_steps}
 use Rattle.std.proofs.lemmas.List.{drop_more}
 use Rattle.iova_range.specs.declared.refusal.Refusal.{Refusal}
 use Rattle.iova_range.specs.declared.refusal.Refusal.TheVariants as refusal
-use Rattle.iova_lock.specs.Views.{SeatState}
+use Rattle.iova_lock.specs.Views.{SeatState, range_of}
+use Rattle.iova_lock.specs.declared.unmapped.Unmapped.{Unmapped}
+use Rattle.iova_lock.specs.declared.unmapped.Unmapped.TheVariants as unmapped
+use Rattle.iova_model.specs.declared.step.Reply.TheVariants as reply
 use Rattle.std.specs.Prelude.{IsSome, IfOk, IfErr, Result, Ok, Err, length, take, map, flat_map, sum_by}
 use Rattle.std.proofs.lemmas.List.Sums.{sum_by-append}
 use Rattle.iova_range.specs.Frames.{Frames}
@@ -20,7 +23,7 @@ use Rattle.iova_proto.specs.declared.answer.Answer.{Answer}
 use Rattle.iova_proto.specs.declared.request.Request.{Request}
 use Rattle.iova_proto.specs.declared.request.Request.TheVariants as request
 use Rattle.iova_session.specs.Pairs.{Pair, asked, told}
-use Rattle.iova_session.specs.Desks.{given_by, taken_by, given_in, taken_in, MovesBy, asks_in, ask_of, ask_then, answer_of, told_pairs, IsToldTo, AreTold, IsFirstAlone, IsAnswer, SessionState, Answers}
+use Rattle.iova_session.specs.Desks.{IsClientAnswer, released, given_by, taken_by, given_in, taken_in, MovesBy, asks_in, ask_of, ask_then, answer_of, told_pairs, IsToldTo, AreTold, IsFirstAlone, IsAnswer, SessionState, Answers}
 
 same_totals : (a b : Totals) → a.count ≡ b.count → a.frames ≡ b.frames → a.sum_lo ≡ b.sum_lo → a ≡ b
 same_totals a b count frames sum_lo = λ i. record { count = count i; frames = frames i; sum_lo = sum_lo i }
@@ -50,6 +53,15 @@ told_moves (lock_told.Queued r) a b m =
     (let e = ap (λ (t : Totals). t.sum_lo) m in omega (arith, e))
 told_moves (lock_told.Stat x) a b m = no_move a b m
 told_moves (lock_told.Refused e) a b m = no_move a b m
+
+-- and what a release came to
+pub released_moves : (u : Unmapped) (a b : Totals) → MovesTotals (reply.Queued (range_of u)) a b → MovesBy (given_by (released u)) (taken_by (released u)) a b
+released_moves (unmapped.Queued r) a b m = told_moves (lock_told.Queued r) a b m
+released_moves (unmapped.Freed r) a b m = told_moves (lock_told.Queued r) a b m
+
+pub released_answers : (listed lo : ℕ) (u : Unmapped) → (range_of u).lo ≡ lo → IsClientAnswer listed (request.Free lo) (released u)
+released_answers listed lo (unmapped.Queued r) is = is
+released_answers listed lo (unmapped.Freed r) is = is
 
 -- what is told of a batch of the requests at the front
 pub record FromBatch (rs : List Request) (xs : List Told) (held left : Totals) : Type 0 where

@@ -12,6 +12,8 @@ use Rattle.iova_lock.specs.declared.ask.Ask.{Ask}
 use Rattle.iova_lock.specs.declared.ask.Ask.TheVariants as ask
 use Rattle.iova_lock.specs.declared.ask.Told.{Told}
 use Rattle.iova_lock.specs.declared.ask.Told.TheVariants as lock_told
+use Rattle.iova_lock.specs.declared.unmapped.Unmapped.{Unmapped}
+use Rattle.iova_lock.specs.declared.unmapped.Unmapped.TheVariants as unmapped
 use Rattle.iova_lock.specs.Views.{IsOpenRefusal, IsAllocRefusal, IsUnmapRefusal, IsFlushRefusal, IsGivenTo, SeatState}
 use Rattle.iova_proto.specs.declared.answer.Answer.{Answer}
 use Rattle.iova_proto.specs.declared.answer.Answer.TheVariants as answer
@@ -176,6 +178,11 @@ answer_of (lock_told.Given r) = answer.Given r
 answer_of (lock_told.Queued r) = answer.Queued r
 answer_of (lock_told.Stat stat) = answer.Stat stat
 answer_of (lock_told.Refused e) = answer.Refused e
+
+-- what a release came to as an answer
+abbrev pub released : Unmapped → Answer
+released (unmapped.Queued r) = answer.Queued r
+released (unmapped.Freed r) = answer.Freed r
 
 -- the requests at the front, with what is told of them
 abbrev pub told_pairs : List Request → List Told → List Pair

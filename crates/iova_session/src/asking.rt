@@ -5,7 +5,7 @@ ghost use Rattle.iova_range.specs.declared.limits.TheConstants.{MAX_LISTED};
 ghost use Rattle.iova_sink.specs.Calls.{good_calls};
 ghost use Rattle.iova_lock.specs.Views.{WhereKnown};
 ghost use Rattle.iova_session.specs.Domains.{KeepsOthers, Lists};
-ghost use Rattle.iova_session.specs.Desks.{IsFirstAnswer, IsClientAnswer, MovesBy, given_by, taken_by};
+ghost use Rattle.iova_session.specs.Desks.{IsFirstAnswer, IsClientAnswer, MovesBy, given_by, released, taken_by};
 
 use iova_core::ClientId;
 use iova_laws::replies::others_keep_their_holdings;
@@ -79,8 +79,7 @@ pub(crate) fn ask_alone<C: Ledger, F: Ledger, S: Ledger, G: Ledger, K: Keep<C, F
     match request {
         Request::Hello { domain: _, sac: _ } => Answer::Refused(Refusal::Twice),
         Request::Free { lo } => match release(keeper, seat, sink, id, lo) {
-            Ok(Unmapped::Queued(range)) => Answer::Queued(range),
-            Ok(Unmapped::Freed(range)) => Answer::Freed(range),
+            Ok(unmapped) => released(unmapped),
             Err(refusal) => Answer::Refused(refusal),
         },
         Request::List => list(alloc, keeper, seat, id, listed),
@@ -91,6 +90,16 @@ pub(crate) fn ask_alone<C: Ledger, F: Ledger, S: Ledger, G: Ledger, K: Keep<C, F
             limit: _,
         }
         | Request::Stat => unreachable!(),
+    }
+}
+
+/// What a release is answered.
+fn released(unmapped: Unmapped) -> Answer
+    ensures { result ≡ released unmapped }
+{
+    match unmapped {
+        Unmapped::Queued(range) => Answer::Queued(range),
+        Unmapped::Freed(range) => Answer::Freed(range),
     }
 }
 

@@ -1,11 +1,23 @@
+use Rattle.std.proofs.Common.{sym, subst}
+use Rattle.iova_proto.specs.declared.answer.Answer.{Answer}
+use Rattle.iova_proto.specs.declared.request.Request.TheVariants as request
+use Rattle.iova_session.specs.Desks.{IsClientAnswer, MovesBy, given_by, taken_by}
 use Rattle.iova_session.proofs.Others.{release_keeps}
+use Rattle.iova_session.proofs.ToldPairs.{released_answers, released_moves}
 use Rattle.iova_session.proofs.asking.ask_alone.Goals as goal
 
-pub returns-in-Queued-clause-domain : goal.returns-in-Queued-clause-domain
-returns-in-Queued-clause-domain g c = release_keeps c.others_keep_their_holdings.ensures _ c.args.seat.now c.args.id _ c.release.result _ _ _ _ _ c.release.ensures.domain
+pub returns-in-Ok-clause-domain : goal.returns-in-Ok-clause-domain
+returns-in-Ok-clause-domain g c = release_keeps c.others_keep_their_holdings.ensures _ c.args.seat.now c.args.id _ c.release.result _ _ _ _ _ c.release.ensures.domain
 
-pub returns-in-Freed-clause-domain : goal.returns-in-Freed-clause-domain
-returns-in-Freed-clause-domain g c = release_keeps c.others_keep_their_holdings.ensures _ c.args.seat.now c.args.id _ c.release.result _ _ _ _ _ c.release.ensures.domain
+pub returns-in-Ok-clause-answer : goal.returns-in-Ok-clause-answer
+returns-in-Ok-clause-answer g c =
+    subst (IsClientAnswer c.args.listed (request.Free c.in-Free.lo)) (sym c.released.ensures)
+    (released_answers c.args.listed c.in-Free.lo c.in-Ok.unmapped c.in-Ok.ensures.answer)
+
+pub returns-in-Ok-clause-shares : goal.returns-in-Ok-clause-shares
+returns-in-Ok-clause-shares g c =
+    subst (λ (a : Answer). MovesBy (given_by a) (taken_by a) c.args.seat.now.held c.release.new.seat.held) (sym c.released.ensures)
+    (released_moves c.in-Ok.unmapped c.args.seat.now.held c.release.new.seat.held c.in-Ok.ensures.seat)
 
 pub returns-in-Err-clause-domain : goal.returns-in-Err-clause-domain
 returns-in-Err-clause-domain g c = release_keeps c.others_keep_their_holdings.ensures _ c.args.seat.now c.args.id _ c.release.result _ _ _ _ _ c.release.ensures.domain
