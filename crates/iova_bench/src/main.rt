@@ -7,6 +7,7 @@ mod lines;
 mod lock;
 mod machine;
 mod random;
+mod session;
 mod tree;
 
 use std::alloc::Global;
@@ -48,6 +49,9 @@ fn run<R: Runtime + Threads + Wait + Sync>(
         for case in lock::CASES {
             println!(rt; "{case}")?;
         }
+        for case in session::CASES {
+            println!(rt; "{case}")?;
+        }
         for case in tree::CASES {
             println!(rt; "{case}")?;
         }
@@ -57,6 +61,7 @@ fn run<R: Runtime + Threads + Wait + Sync>(
         machine::run(rt, alloc, word.as_str())?;
         ledger::run(rt, alloc, word.as_str())?;
         lock::run(rt, alloc, word.as_str())?;
+        session::run(rt, alloc, word.as_str())?;
         tree::run(rt, alloc, word.as_str())?;
     }
     Ok(())

@@ -206,15 +206,16 @@ fn each_line_is_answered_in_turn(rt: HostRuntime) -> Result<(), Fail> {
     Ok(())
 }
 
-// What its flush drains goes to the session's own worker: the second of two is given the frame that it gave back.
+// What its flush drains goes to the session's own worker: the second of two is given the frame that it gave back. And its
+// client is sought a place below 4 GiB first, as its hello said.
 #[test]
 fn a_session_of_the_second_worker(rt: HostRuntime) -> Result<(), Fail> {
     let mut link = LineByLine::new(
-        b"hello iova1 0 dac\nalloc 1 9\nfree 9\nflush\nalloc 1 9\nbye\n",
+        b"hello iova1 0 sac\nalloc 1 9\nfree 9\nflush\nalloc 1 9\nalloc 1 1048675\nbye\n",
     );
     let (end, shares, _) = over_link::<Brand, Brand, Brand, Brand, LineByLine<'_>>(
         rt.alloc(),
-        Bounds::new(1, 1023)?,
+        Bounds::new(1, 1_048_675)?,
         2,
         Blank::new(2),
         Blank::new(2),
@@ -222,11 +223,11 @@ fn a_session_of_the_second_worker(rt: HostRuntime) -> Result<(), Fail> {
         Blank::new(512),
         &mut link,
     )?;
-    assert!(rt; end.end == End::Bye && end.client == Some(Ending::Ended(1)));
+    assert!(rt; end.end == End::Bye && end.client == Some(Ending::Ended(2)));
     assert_eq!(rt; shares, (0, 0, 0));
     assert_eq!(rt;
         link.sent.as_slice(),
-        b"opened 1\ngiven 9 1\nqueued 9 1\nflushed 1 1\ngiven 9 1\nbye\n".as_slice()
+        b"opened 1\ngiven 9 1\nqueued 9 1\nflushed 1 1\ngiven 9 1\ngiven 1048575 1\nbye\n".as_slice()
     );
     Ok(())
 }

@@ -1,5 +1,6 @@
 use Rattle.std.proofs.Common.{sym, subst}
 use Rattle.iova_proto.specs.declared.answer.Answer.{Answer}
+use Rattle.iova_proto.specs.declared.request.Request.{Request}
 use Rattle.iova_proto.specs.declared.request.Request.TheVariants as request
 use Rattle.iova_session.specs.Desks.{IsClientAnswer, MovesBy, given_by, taken_by}
 use Rattle.iova_session.proofs.Others.{release_keeps}
@@ -11,8 +12,9 @@ returns-in-Ok-clause-domain g c = release_keeps c.others_keep_their_holdings.ens
 
 pub returns-in-Ok-clause-answer : goal.returns-in-Ok-clause-answer
 returns-in-Ok-clause-answer g c =
-    subst (IsClientAnswer c.args.listed (request.Free c.in-Free.lo)) (sym c.released.ensures)
-    (released_answers c.args.listed c.in-Free.lo c.in-Ok.unmapped c.in-Ok.ensures.answer)
+    subst (λ (r : Request). IsClientAnswer c.args.listed r c.released.result) (sym c.in-Free.is)
+    (subst (IsClientAnswer c.args.listed (request.Free c.in-Free.lo)) (sym c.released.ensures)
+    (released_answers c.args.listed c.in-Free.lo c.in-Ok.unmapped c.in-Ok.ensures.answer))
 
 pub returns-in-Ok-clause-shares : goal.returns-in-Ok-clause-shares
 returns-in-Ok-clause-shares g c =
