@@ -157,8 +157,8 @@ pub(crate) fn over_link<C: Ledger, F: Ledger, S: Ledger, G: Ledger, L: Link>(
     Ok((end, shares_of(&post), post.waiting.capacity() > 0))
 }
 
-// By value, so that the keeper is lent whatever it is.
-fn session_of<C: Ledger, F: Ledger, S: Ledger, G: Ledger, K: Keep<C, F, S, G> + Drop>(
+/// By value, so that the keeper is lent whatever it is.
+pub(crate) fn session_of<C: Ledger, F: Ledger, S: Ledger, G: Ledger, K: Keep<C, F, S, G> + Drop>(
     alloc: Global,
     mut keeper: K,
     mut post: Post<C, F, S, G>,

@@ -3,7 +3,7 @@ ghost use Rattle.std.specs.Prelude.{◌≡◌, ◌*◌};
 ghost use Rattle.iova_range.specs.declared.limits.TheConstants.{TALLY_PARTS};
 
 use crate::end::End;
-use crate::fresh::{Script, Seen, one_session};
+use crate::fresh::{Script, Seen, one_session, session_of};
 use crate::post::Post;
 use iova_lock::book::Book;
 use iova_lock::shared::Shared;
@@ -68,9 +68,9 @@ fn under_a_strict_lock<C: Ledger, F: Ledger, S: Ledger, G: Ledger, R: Wait>(
     let Some(seat) = seats.pop() else {
         return Err(Refusal::NoWorker);
     };
-    let mut post = Post::new(alloc, seat);
-    let mut keeper = &shared;
-    one_session(alloc, &mut keeper, &mut post, INPUT.as_bytes(), script)
+    let post = Post::new(alloc, seat);
+    let (seen, _post) = session_of(alloc, &shared, post, INPUT.as_bytes(), script)?;
+    Ok(seen)
 }
 
 // A good sink frees the range, and one that fails leaves it in the ring; byte by byte, and all at once.

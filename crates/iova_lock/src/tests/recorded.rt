@@ -7,7 +7,7 @@ use crate::calls;
 use crate::closing::end_client;
 use crate::ending::Ending;
 use crate::keep::Keep;
-use crate::record::MAX_PAIRS;
+use crate::seat::Seat;
 use crate::shared::Shared;
 use iova_range::bounds::Bounds;
 use iova_range::refusal::Refusal;
@@ -78,7 +78,29 @@ impl<'a> io::Read for Rest<'a> {
     }
 }
 
-// What is recorded of a client that opens, is given a range, frees it twice, flushes and ends, where so many pairs have room.
+// A client opens, is given a range, frees it twice, flushes and ends.
+fn make_calls<C: Ledger, F: Ledger, S: Ledger, G: Ledger, K: Keep<C, F, S, G> + Drop, R: Abort>(
+    rt: &R,
+    keeper: K,
+    seat: Seat<C, F, S, G>,
+) -> Result<(), Fail> {
+    let mut keeper = keeper;
+    let mut seat = seat;
+    let mut sink = MemorySink::new(0);
+    let id = keeper.open(&mut seat, false)?;
+    let range = keeper.alloc(&mut seat, id, 3, 1023)?;
+    let freed = calls::unmap(&mut keeper, &mut seat, &mut sink, id, 1020);
+    assert_eq!(rt; freed, Ok(range));
+    let again = calls::unmap(&mut keeper, &mut seat, &mut sink, id, 1020);
+    assert_eq!(rt; again, Err(Refusal::NotHeld));
+    assert_eq!(rt; calls::flush(&mut keeper, seat.tally(), &mut sink), Ok(1));
+    assert_eq!(rt; keeper.drain_all(0), Ok(1));
+    let ended = end_client(&mut keeper, &mut seat, &mut sink, id);
+    assert_eq!(rt; ended, Ok(Ending::Ended(0)));
+    Ok(())
+}
+
+// What is recorded of these calls, where so many pairs have room.
 fn recorded<C: Ledger, F: Ledger, S: Ledger, G: Ledger, R: Abort + Wait>(
     rt: &R,
     alloc: Global,
@@ -99,22 +121,11 @@ fn recorded<C: Ledger, F: Ledger, S: Ledger, G: Ledger, R: Abort + Wait>(
     let (shared, mut seats) = Shared::<&R, C, F, S, G>::recorded(
         rt, alloc, 7, bounds, 1, pairs, count, frames, sum_lo, good,
     )?;
-    let Some(mut seat) = seats.pop() else {
+    let Some(seat) = seats.pop() else {
         return Err(Fail::from("no seat"));
     };
     assert!(rt; shared.recording());
-    let mut keeper = &shared;
-    let mut sink = MemorySink::new(0);
-    let id = keeper.open(&mut seat, false)?;
-    let range = keeper.alloc(&mut seat, id, 3, 1023)?;
-    let freed = calls::unmap(&mut keeper, &mut seat, &mut sink, id, 1020);
-    assert_eq!(rt; freed, Ok(range));
-    let again = calls::unmap(&mut keeper, &mut seat, &mut sink, id, 1020);
-    assert_eq!(rt; again, Err(Refusal::NotHeld));
-    assert_eq!(rt; calls::flush(&mut keeper, seat.tally(), &mut sink), Ok(1));
-    assert_eq!(rt; keeper.drain_all(0), Ok(1));
-    let ended = end_client(&mut keeper, &mut seat, &mut sink, id);
-    assert_eq!(rt; ended, Ok(Ending::Ended(0)));
+    make_calls(rt, &shared, seat)?;
     let mut text = Vec::new(alloc);
     assert_eq!(rt; shared.transcript(&mut text), Ok(steps));
     assert_eq!(rt; shared.recording(), steps < pairs as u64);
