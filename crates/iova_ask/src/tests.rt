@@ -263,3 +263,25 @@ fn many_lines(rt: HostRuntime) -> Result<(), Fail> {
     assert_told(&rt, &found, answers.as_slice(), input.as_slice(), Ok(3000));
     Ok(())
 }
+
+// Where memory is refused nothing is sent and nothing written, and asked again it goes well. It passes whichever growth is
+// refused, and prints where.
+#[test]
+fn a_refused_growth_of_asking(rt: HostRuntime) -> Result<(), Fail> {
+    let input = b"list\nbye".as_slice();
+    let answers = b"held 1\n9 1\nbye\n".as_slice();
+    let found = asked(rt.alloc(), input, answers, 4096, 0, 4096)?;
+    match found.outcome {
+        Ok(lines) => assert_eq!(rt; lines, 2),
+        Err(AskFault::NoMemory) => {
+            println!(rt; "refused at ask_lines")?;
+            assert_told(&rt, &found, b"", b"", Err(AskFault::NoMemory));
+        }
+        Err(_) => println!(rt; "refused at a link or a writer in memory")?,
+    }
+    let again = asked(rt.alloc(), input, answers, 4096, 0, 4096)?;
+    if found.outcome.is_err() {
+        assert_told(&rt, &again, answers, b"list\nbye\n", Ok(2));
+    }
+    Ok(())
+}
