@@ -8,7 +8,7 @@ use Rattle.std.specs.Cmp.{nat_cmp_is}
 use Rattle.std.specs.declared.cmp.Ordering.TheVariants.{Greater}
 use Rattle.std.proofs.lemmas.Bool.Decides.{nat_tests}
 use Rattle.iova_clients.specs.Registry.{is_serial}
-use Rattle.iova_clients.specs.Accounts.{Account, entry_of, listed, IsApart, AreKeyed}
+use Rattle.iova_clients.specs.Accounts.{Account, entry_of, listed_accounts, IsApart, AreKeyed}
 
 -- The map's test of a key is the serial's.
 
@@ -39,7 +39,7 @@ fresh at key (e ∷ es) h none =
 -- Other keys keep their accounts.
 
 listed_kept : (at new : ℕ → Option Account) (key : ℕ) (es : List (ℕ × ℕ)) → IsApart key es
-    → ((other : ℕ) → other ≢ key → new other ≡ at other) → listed new es ≡ listed at es
+    → ((other : ℕ) → other ≢ key → new other ≡ at other) → listed_accounts new es ≡ listed_accounts at es
 listed_kept at new key [] h kept = refl
 listed_kept at new key (e ∷ es) h kept = rw (kept e.1 h.0) (ap (λ xs. entry_of e.0 (at e.1) ++ xs) (listed_kept at new key es h.1 kept))
 
@@ -50,9 +50,9 @@ keyed_kept at new key (e ∷ es) h kept s = (rw (kept e.1 h.0) s.0, s.1, keyed_k
 
 -- Reads.
 
-pub length-listed : (at : ℕ → Option Account) (es : List (ℕ × ℕ)) → AreKeyed at es → length (listed at es) ≡ length es
-length-listed at [] h = refl
-length-listed at (e ∷ es) h = let some = some_is (at e.1) h.0 in rw some.1 (ap (λ n. suc n) (length-listed at es h.2))
+pub length-listed_accounts : (at : ℕ → Option Account) (es : List (ℕ × ℕ)) → AreKeyed at es → length (listed_accounts at es) ≡ length es
+length-listed_accounts at [] h = refl
+length-listed_accounts at (e ∷ es) h = let some = some_is (at e.1) h.0 in rw some.1 (ap (λ n. suc n) (length-listed_accounts at es h.2))
 
 -- the account at a key that was found
 abbrev pub found : (ℕ → Option Account) → Option ℕ → Option Account
@@ -64,17 +64,17 @@ lookup_step : (b : Bool) (at : ℕ → Option Account) (key : ℕ) (a : Account)
 lookup_step true at key a rest later p q = sym p
 lookup_step false at key a rest later p q = q
 
-pub lookup-listed : (at : ℕ → Option Account) (test : ℕ → Bool) (es : List (ℕ × ℕ)) → AreKeyed at es
-    → lookup test (listed at es) ≡ found at (lookup test es)
-lookup-listed at test [] h = refl
-lookup-listed at test (e ∷ es) h =
+pub lookup-listed_accounts : (at : ℕ → Option Account) (test : ℕ → Bool) (es : List (ℕ × ℕ)) → AreKeyed at es
+    → lookup test (listed_accounts at es) ≡ found at (lookup test es)
+lookup-listed_accounts at test [] h = refl
+lookup-listed_accounts at test (e ∷ es) h =
     let some = some_is (at e.1) h.0 in
-    rw some.1 (lookup_step (test e.0) at e.1 some.0 (lookup test (listed at es)) (lookup test es) some.1 (lookup-listed at test es h.2))
+    rw some.1 (lookup_step (test e.0) at e.1 some.0 (lookup test (listed_accounts at es)) (lookup test es) some.1 (lookup-listed_accounts at test es h.2))
 
 -- what the map finds, at its key
 pub get_listed : (at : ℕ → Option Account) (id : ℕ) (es : List (ℕ × ℕ)) (o : Option ℕ) → AreKeyed at es → lookup (is_at (nat_cmp id)) es ≡ o
-    → lookup (is_serial id) (listed at es) ≡ found at o
-get_listed at id es o h is = lookup-listed at (is_serial id) es h ∙ ap (found at) (sym (lookup_at id es) ∙ is)
+    → lookup (is_serial id) (listed_accounts at es) ≡ found at o
+get_listed at id es o h is = lookup-listed_accounts at (is_serial id) es h ∙ ap (found at) (sym (lookup_at id es) ∙ is)
 
 -- a key that was found has an account
 found_step : (b : Bool) (at : ℕ → Option Account) (key mine : ℕ) (later : Option ℕ) → IsSome (at mine) → (later ≡ Some key → IsSome (at key))
@@ -99,21 +99,21 @@ apart_found test k key (e ∷ es) h q =
 
 -- A serial above all others comes in, under a fresh key.
 
-insert_last : (at : ℕ → Option Account) (id key : ℕ) (es : List (ℕ × ℕ)) → AreKeyed at es → AllByRecursion (λ e. e.0 < id) (listed at es)
+insert_last : (at : ℕ → Option Account) (id key : ℕ) (es : List (ℕ × ℕ)) → AreKeyed at es → AllByRecursion (λ e. e.0 < id) (listed_accounts at es)
     → insert_entry nat_cmp es id key ≡ es ++ (id, key) ∷ []
 insert_last at id key [] h below = refl
 insert_last at id key (e ∷ es) h below =
     let some = some_is (at e.1) h.0 in
-    let all : AllByRecursion (λ e. e.0 < id) ((e.0, some.0) ∷ listed at es) = rw some.1 at below in
+    let all : AllByRecursion (λ e. e.0 < id) ((e.0, some.0) ∷ listed_accounts at es) = rw some.1 at below in
     let after : nat_cmp id e.0 ≡ Greater = sym (nat_cmp_is id e.0 Greater all.0) in
     rw after (ap (λ xs. e ∷ xs) (insert_last at id key es h.2 all.1))
 
 listed_last : (new : ℕ → Option Account) (id key : ℕ) (a : Account) (es : List (ℕ × ℕ)) → new key ≡ Some a
-    → listed new (es ++ (id, key) ∷ []) ≡ listed new es ++ (id, a) ∷ []
+    → listed_accounts new (es ++ (id, key) ∷ []) ≡ listed_accounts new es ++ (id, a) ∷ []
 listed_last new id key a [] h = rw h refl
 listed_last new id key a (e ∷ es) h =
     ap (λ xs. entry_of e.0 (new e.1) ++ xs) (listed_last new id key a es h)
-    ∙ sym (append_assoc (entry_of e.0 (new e.1)) (listed new es) ((id, a) ∷ []))
+    ∙ sym (append_assoc (entry_of e.0 (new e.1)) (listed_accounts new es) ((id, a) ∷ []))
 
 apart_last : (k id key : ℕ) (es : List (ℕ × ℕ)) → IsApart k es → key ≢ k → IsApart k (es ++ (id, key) ∷ [])
 apart_last k id key [] h ne = (ne, tt)
@@ -127,15 +127,15 @@ keyed_last new id key (e ∷ es) h apart some =
     (h.0, apart_last e.1 id key es h.1 ne, keyed_last new id key es h.2 apart.1 some)
 
 pub listed_pushed : (at new : ℕ → Option Account) (id key : ℕ) (a : Account) (es : List (ℕ × ℕ)) → AreKeyed at es
-    → AllByRecursion (λ e. e.0 < id) (listed at es)
+    → AllByRecursion (λ e. e.0 < id) (listed_accounts at es)
     → at key ≡ None → new key ≡ Some a → ((other : ℕ) → other ≢ key → new other ≡ at other)
-    → listed new (insert_entry nat_cmp es id key) ≡ listed at es ++ (id, a) ∷ []
+    → listed_accounts new (insert_entry nat_cmp es id key) ≡ listed_accounts at es ++ (id, a) ∷ []
 listed_pushed at new id key a es h below none some kept =
-    ap (listed new) (insert_last at id key es h below) ∙ listed_last new id key a es some
+    ap (listed_accounts new) (insert_last at id key es h below) ∙ listed_last new id key a es some
     ∙ ap (λ xs. xs ++ (id, a) ∷ []) (listed_kept at new key es (fresh at key es h none) kept)
 
 pub keyed_pushed : (at new : ℕ → Option Account) (id key : ℕ) (a : Account) (es : List (ℕ × ℕ)) → AreKeyed at es
-    → AllByRecursion (λ e. e.0 < id) (listed at es)
+    → AllByRecursion (λ e. e.0 < id) (listed_accounts at es)
     → at key ≡ None → new key ≡ Some a → ((other : ℕ) → other ≢ key → new other ≡ at other)
     → AreKeyed new (insert_entry nat_cmp es id key)
 keyed_pushed at new id key a es h below none some kept =
@@ -149,8 +149,8 @@ keyed_pushed at new id key a es h below none some kept =
 set_step : (b : Bool) (at new : ℕ → Option Account) (test : ℕ → Bool) (key : ℕ) (e : ℕ × ℕ) (a w : Account) (es : List (ℕ × ℕ))
     → at e.1 ≡ Some a → new key ≡ Some w → IsApart e.1 es → ((other : ℕ) → other ≢ key → new other ≡ at other)
     → cond b (Some e.1) (lookup test es) ≡ Some key
-    → (lookup test es ≡ Some key → listed new es ≡ set_value test (listed at es) w)
-    → entry_of e.0 (new e.1) ++ listed new es ≡ cond b ((e.0, w) ∷ listed at es) ((e.0, a) ∷ set_value test (listed at es) w)
+    → (lookup test es ≡ Some key → listed_accounts new es ≡ set_value test (listed_accounts at es) w)
+    → entry_of e.0 (new e.1) ++ listed_accounts new es ≡ cond b ((e.0, w) ∷ listed_accounts at es) ((e.0, a) ∷ set_value test (listed_accounts at es) w)
 set_step true at new test key e a w es p here apart kept q ih =
     let same : e.1 ≡ key = cc in
     let P : ℕ → Type 0 = λ k. IsApart k es in
@@ -163,7 +163,7 @@ set_step false at new test key e a w es p here apart kept q ih =
 
 pub listed_set : (at new : ℕ → Option Account) (test : ℕ → Bool) (key : ℕ) (w : Account) (es : List (ℕ × ℕ)) → AreKeyed at es
     → lookup test es ≡ Some key → new key ≡ Some w → ((other : ℕ) → other ≢ key → new other ≡ at other)
-    → listed new es ≡ set_value test (listed at es) w
+    → listed_accounts new es ≡ set_value test (listed_accounts at es) w
 listed_set at new test key w [] h q here kept = refl
 listed_set at new test key w (e ∷ es) h q here kept =
     let some = some_is (at e.1) h.0 in
@@ -187,8 +187,8 @@ keyed_set at new key w (e ∷ es) h here kept =
 removed_step : (b : Bool) (at new : ℕ → Option Account) (test : ℕ → Bool) (key : ℕ) (e : ℕ × ℕ) (a : Account) (es : List (ℕ × ℕ))
     → at e.1 ≡ Some a → IsApart e.1 es → ((other : ℕ) → other ≢ key → new other ≡ at other)
     → cond b (Some e.1) (lookup test es) ≡ Some key
-    → (lookup test es ≡ Some key → listed new (remove_entry test es) ≡ remove_entry test (listed at es))
-    → listed new (cond b es (e ∷ remove_entry test es)) ≡ cond b (listed at es) ((e.0, a) ∷ remove_entry test (listed at es))
+    → (lookup test es ≡ Some key → listed_accounts new (remove_entry test es) ≡ remove_entry test (listed_accounts at es))
+    → listed_accounts new (cond b es (e ∷ remove_entry test es)) ≡ cond b (listed_accounts at es) ((e.0, a) ∷ remove_entry test (listed_accounts at es))
 removed_step true at new test key e a es p apart kept q ih =
     let same : e.1 ≡ key = cc in
     let P : ℕ → Type 0 = λ k. IsApart k es in
@@ -199,7 +199,7 @@ removed_step false at new test key e a es p apart kept q ih =
 
 pub listed_removed : (at new : ℕ → Option Account) (test : ℕ → Bool) (key : ℕ) (es : List (ℕ × ℕ)) → AreKeyed at es
     → lookup test es ≡ Some key → ((other : ℕ) → other ≢ key → new other ≡ at other)
-    → listed new (remove_entry test es) ≡ remove_entry test (listed at es)
+    → listed_accounts new (remove_entry test es) ≡ remove_entry test (listed_accounts at es)
 listed_removed at new test key [] h q kept = refl
 listed_removed at new test key (e ∷ es) h q kept =
     let some = some_is (at e.1) h.0 in
@@ -249,13 +249,13 @@ none_removed test (e ∷ es) q = none_step (test e.0) e es test q (none_removed 
 -- The first account with a property.
 
 pub find_skipped : (at : ℕ → Option Account) (p : ℕ × Account → Bool) (e : ℕ × ℕ) (es : List (ℕ × ℕ)) → at e.1 ≡ None
-    → find p (listed at (e ∷ es)) ≡ find p (listed at es)
+    → find p (listed_accounts at (e ∷ es)) ≡ find p (listed_accounts at es)
 find_skipped at p e es none = rw none refl
 
 pub find_passed : (at : ℕ → Option Account) (p : ℕ × Account → Bool) (e : ℕ × ℕ) (es : List (ℕ × ℕ)) (a : Account) → at e.1 ≡ Some a → p (e.0, a) ≡ false
-    → find p (listed at (e ∷ es)) ≡ find p (listed at es)
+    → find p (listed_accounts at (e ∷ es)) ≡ find p (listed_accounts at es)
 find_passed at p e es a some fails = rw (some, fails) refl
 
 pub find_here : (at : ℕ → Option Account) (p : ℕ × Account → Bool) (e : ℕ × ℕ) (es : List (ℕ × ℕ)) (a : Account) → at e.1 ≡ Some a → p (e.0, a) ≡ true
-    → find p (listed at (e ∷ es)) ≡ Some (e.0, a)
+    → find p (listed_accounts at (e ∷ es)) ≡ Some (e.0, a)
 find_here at p e es a some holds = rw (some, holds) refl

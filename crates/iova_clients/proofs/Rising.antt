@@ -85,7 +85,7 @@ Rises-rising from (r ∷ rs) h zero (suc j) d lt within =
     let later : r.lo + 1 ≤ (get_or rs j d).lo = get_or-Rises (r.lo + 1) rs j d h.1 (omega arith) in omega arith
 Rises-rising from (r ∷ rs) h (suc i) (suc j) d lt within = Rises-rising (r.lo + 1) rs h.1 i j d (omega arith) (omega arith)
 
--- behind one that begins above, all do
+-- after one that begins above, all do
 pub behind_one : (lo place : ℕ) (rs : List Frames) (x : Frames) → Rises 0 rs → lo < (get_or rs place x).lo → AllBehind place lo rs
 behind_one lo place rs x rises above k d le within =
     let same : get_or rs place x ≡ get_or rs place d = get_or_default rs place x d (omega arith) in

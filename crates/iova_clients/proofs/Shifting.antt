@@ -141,7 +141,7 @@ removed_below cs vs ws n first count less place long some within value part gone
     let all : refill n (with_part first cs ws) cs ≡ with_part first cs ws = refilled (with_part first cs ws) cs n (length-with_part first cs ws (omega arith) ∙ long) in
     rw all (part_from_second first less cs ws (omega arith) (omega arith)) ∙ gone ∙ ap (λ l. remove l place) value
 
--- More cells come behind the others.
+-- More cells come after the others.
 
 pub grown : {X : Type 0} (xs ys : List X) (first count n : ℕ) → length xs ≡ n → first + count ≤ n → take n ys ≡ xs → take count (drop first ys) ≡ take count (drop first xs)
 grown xs ys first count n long within kept =

@@ -7,7 +7,7 @@ use Rattle.iova_range.specs.Frames.{Frames}
 use Rattle.iova_model.specs.declared.totals.Totals.{Totals}
 use Rattle.iova_model.specs.Clients.{Client, has_id, client_with, changed, forgotten, insert_rising, begins_at, remove_at, with_holding, without_holding, totals_of, all_holdings, totals, share_of}
 use Rattle.iova_model.specs.Valid.{IsClient}
-use Rattle.iova_clients.specs.Registry.{Registry, IsLow, HoldsLow, IsRegistry}
+use Rattle.iova_clients.specs.Registry.{Registry, IsBelowTop, HoldsLow, IsRegistry}
 use Rattle.iova_clients.proofs.Kept.{length-insert_rising}
 use Rattle.iova_clients.specs.Sums.{with_one, without_one, HaveRoom, Include}
 
@@ -261,7 +261,7 @@ each_frames (c ∷ cs) h =
     let e : frames_of c ≤ length c.holdings * 1048576 = sum_le (λ r. r.len) 1048576 c.holdings h.0.sized in
     (omega (arith, h.0.room), each_frames cs h.1)
 
-low_first : (hs : List Frames) → AllByRecursion IsLow hs → AllByRecursion (λ r. r.lo ≤ 2 ^ 40) hs
+low_first : (hs : List Frames) → AllByRecursion IsBelowTop hs → AllByRecursion (λ r. r.lo ≤ 2 ^ 40) hs
 low_first [] h = tt
 low_first (r ∷ hs) h = (omega (arith, h.0), low_first hs h.1)
 

@@ -1,8 +1,8 @@
 -- The accounts of the clients, by rising serial, and where they are stored.
-use Rattle.std.specs.Prelude.{◌≡◌, ◌≢◌, ℕ, Bool, List, [], ◌∷◌, ◌++◌, map, Option, None, Some, IsSome}
+use Rattle.std.specs.Prelude.{◌≡◌, ◌≢◌, ◌+◌, ◌-◌, ℕ, Bool, List, [], ◌∷◌, ◌++◌, map, Option, None, Some, IsSome}
 use Rattle.std.specs.Map.{lookup}
 use Rattle.iova_range.specs.Frames.{Frames}
-use Rattle.iova_model.specs.Clients.{Client}
+use Rattle.iova_model.specs.Clients.{Client, insert_rising, remove_at}
 use Rattle.iova_clients.specs.Registry.{is_serial}
 
 -- What `Holdings` are seen as: ranges in a row, and how many more fit without memory
@@ -18,15 +18,22 @@ pub record Account : Type 0 where
   pub holdings : List Frames
   pub spare : ℕ
 
+-- the account with a holding more, for which there is room, and without the one that begins there
+abbrev pub with_held : Frames → Account → Account
+with_held r a = record a { holdings = insert_rising r a.holdings; spare = a.spare - 1 }
+
+abbrev pub without_held : ℕ → Account → Account
+without_held lo a = record a { holdings = remove_at lo a.holdings; spare = a.spare + 1 }
+
 -- a serial with the account that stands there, if one does
 abbrev pub entry_of : ℕ → Option Account → List (ℕ × Account)
 entry_of serial None = []
 entry_of serial (Some account) = (serial, account) ∷ []
 
 -- the accounts that these serials have at their keys
-abbrev pub listed : (ℕ → Option Account) → List (ℕ × ℕ) → List (ℕ × Account)
-listed at [] = []
-listed at (e ∷ es) = entry_of e.0 (at e.1) ++ listed at es
+abbrev pub listed_accounts : (ℕ → Option Account) → List (ℕ × ℕ) → List (ℕ × Account)
+listed_accounts at [] = []
+listed_accounts at (e ∷ es) = entry_of e.0 (at e.1) ++ listed_accounts at es
 
 -- no serial has this key
 abbrev pub IsApart : ℕ → List (ℕ × ℕ) → Type 0

@@ -31,11 +31,11 @@ abbrev pub spare_of : ℕ → Registry → ℕ
 spare_of id r = unwrap_or (lookup (is_serial id) r.spares) 0
 
 -- no frame of a holding is above the greatest that a profile has, 2^40 - 1
-abbrev pub IsLow : Frames → Type 0
-IsLow r = r.lo + r.len ≤ 2 ^ 40
+abbrev pub IsBelowTop : Frames → Type 0
+IsBelowTop r = r.lo + r.len ≤ 2 ^ 40
 
 abbrev pub HoldsLow : Client → Type 0
-HoldsLow c = AllByRecursion IsLow c.holdings
+HoldsLow c = AllByRecursion IsBelowTop c.holdings
 
 -- what is true of all `Clients`, the workers being 0 to 15
 pub record IsRegistry (r : Registry) : Type 0 where
@@ -73,8 +73,8 @@ pub record IsReach (lo : ℕ) (holdings : List Frames) (place : ℕ) : Type 0 wh
   pub before : (k : ℕ) (d : Frames) → k < place → (slice_index_or holdings k d).lo ≤ lo
   pub behind : AllBehind place lo holdings
 
--- the holding at this place begins there
-pub record StandsAt (lo : ℕ) (holdings : List Frames) (place : ℕ) : Type 0 where
+-- the holding that begins there is at this place
+pub record IsPlaceOf (lo : ℕ) (holdings : List Frames) (place : ℕ) : Type 0 where
   pub within : place < length holdings
   pub begins : (d : Frames) → (slice_index_or holdings place d).lo ≡ lo
 
@@ -91,7 +91,7 @@ abbrev pub count_held : Option Client → Result ℕ Refusal
 count_held c = ok_or (option_map (λ c. length c.holdings) c) refusal.NoClient
 
 -- a closing client without holdings
-pub record IsDone (c : Client) : Type 0 where
+pub record CanBeForgotten (c : Client) : Type 0 where
   pub closing : c.closing ≡ true
   pub empty : c.holdings ≡ []
 

@@ -2,7 +2,7 @@
 ghost use Rattle.std.specs.Prelude.{◌≡◌, ◌≢◌, ◌+◌, ◌-◌, ◌^◌, ◌<◌, ◌≤◌, ℕ, [], ◌∷◌, ◌++◌, find, length, option_map, option_copied, option_and_then, IfOk, OnOk, OnErr, Ok, Err, IsOkUnless, IfSome, IfNone, IsSomeAnd, All, IsTrue, ◌↔◌, false};
 ghost use Rattle.iova_model.specs.Fit.{is_covered};
 ghost use Rattle.iova_model.specs.Clients.{new_client, client_with, client_of, begins_at, changed, forgotten, with_holding, without_holding, marked, totals, share_of};
-ghost use Rattle.iova_clients.specs.Registry.{empty_registry, spare_of, IsRegistry, open_refusal, room_refusal, CanBeGiven, held_at, lowest, count_held, marks_of, IsDone, IsHolder};
+ghost use Rattle.iova_clients.specs.Registry.{empty_registry, spare_of, IsRegistry, open_refusal, room_refusal, CanBeGiven, held_at, lowest, count_held, marks_of, CanBeForgotten, IsHolder};
 
 use crate::ledger::Ledger;
 use crate::ledgers::Ledgers;
@@ -39,7 +39,8 @@ impl Model for Clients {
 
     ghost view = { λ c. record { clients = clients_at c.ledgers; serial = c.serial; spares = spares_at c.ledgers } };
 
-    ghost invariant = { λ c. AreBooks (record { clients = clients_at c.ledgers; serial = c.serial; spares = spares_at c.ledgers }) c.sums };
+    ghost invariant = { λ c. AreBooks
+        (record { clients = clients_at c.ledgers; serial = c.serial; spares = spares_at c.ledgers }) c.sums };
 }
 
 impl Clients {
@@ -76,7 +77,8 @@ impl Clients {
     pub fn open(&mut self, worker: u64, sac: bool) -> Result<ClientId, Refusal>
         requires { worker < MAX_WORKERS }
         ensures id { IfOk result (λ id. id ≡ self.old.serial + 1) }
-        ensures clients { OnOk result (self.new.clients ≡ self.old.clients ++ new_client (self.old.serial + 1) worker sac ∷ []) }
+        ensures clients { OnOk result
+            (self.new.clients ≡ self.old.clients ++ new_client (self.old.serial + 1) worker sac ∷ []) }
         ensures serial { OnOk result (self.new.serial ≡ self.old.serial + 1) }
         ensures spares { OnOk result ((id : ℕ) → spare_of id self.new ≡ spare_of id self.old) }
 
@@ -199,8 +201,10 @@ impl Clients {
     /// Refused by `NoClient` where there is no such client, else by `Closing` where it is closing, else by
     /// `HoldingsFull` where it has 4,096 holdings, else by `NoMemory` where it has no spare and memory is refused.
     pub fn room(&mut self, id: ClientId) -> Result<(), Refusal>
-        ensures refused { IfSome (room_refusal (client_with id self.old.clients)) (λ refusal. result ≡ Err refusal) }
-        ensures accepted { IfNone (room_refusal (client_with id self.old.clients)) (IsOkUnless result Refusal.NoMemory) }
+        ensures refused { IfSome (room_refusal (client_with id self.old.clients))
+            (λ refusal. result ≡ Err refusal) }
+        ensures accepted { IfNone (room_refusal (client_with id self.old.clients))
+            (IsOkUnless result Refusal.NoMemory) }
         ensures starved { result ≡ Err Refusal.NoMemory → spare_of id self.old ≡ 0 }
         ensures spare { OnOk result (1 ≤ spare_of id self.new) }
         ensures grows { spare_of id self.old ≤ spare_of id self.new }
@@ -266,7 +270,7 @@ impl Clients {
 
     /// Forgets a client that is closing and has no holding. Its serial is not given again.
     pub fn forget(&mut self, id: ClientId)
-        requires { IsSomeAnd (client_with id self.old.clients) IsDone }
+        requires { IsSomeAnd (client_with id self.old.clients) CanBeForgotten }
         ensures clients { self.new.clients ≡ forgotten id self.old.clients }
         ensures serial { self.new.serial ≡ self.old.serial }
         ensures spare { spare_of id self.new ≡ 0 }

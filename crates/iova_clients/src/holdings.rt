@@ -34,7 +34,10 @@ impl Model for Holdings {
 
     ghost Value = { Row };
 
-    ghost view = { λ h. record { ranges = take h.count (drop h.first h.cells.items); spare = vec_len h.cells - h.count } };
+    ghost view = { λ h. record {
+      ranges = take h.count (drop h.first h.cells.items);
+      spare = vec_len h.cells - h.count;
+    } };
 
     ghost invariant = { λ h. (h.first + h.count ≤ vec_len h.cells) × (vec_len h.cells ≤ MAX_CELLS) };
 }

@@ -1,10 +1,10 @@
 //! The ledger of one client.
-ghost use Rattle.std.specs.Prelude.{◌≡◌, ◌≤◌, ◌+◌, ◌-◌, false, true, [], find, length, Some, Err, OnOk, OnErr, OnSome, IfSome, IfNone, None, IsOkUnless};
+ghost use Rattle.std.specs.Prelude.{◌≡◌, ◌≤◌, ◌-◌, false, true, [], find, length, Some, Err, OnOk, OnErr, OnSome, IfSome, IfNone, None, IsOkUnless};
 ghost use Rattle.iova_model.specs.Fit.{is_covered};
-ghost use Rattle.iova_model.specs.Clients.{insert_rising, begins_at, remove_at};
+ghost use Rattle.iova_model.specs.Clients.{begins_at};
 ghost use Rattle.iova_model.specs.Valid.{Rises};
-ghost use Rattle.iova_clients.specs.Registry.{room_refusal, StandsAt, IsReach, AllBehind};
-ghost use Rattle.iova_clients.specs.Accounts.{client_at};
+ghost use Rattle.iova_clients.specs.Registry.{room_refusal, IsPlaceOf, IsReach, AllBehind};
+ghost use Rattle.iova_clients.specs.Accounts.{client_at, with_held, without_held};
 
 use crate::holdings::Holdings;
 use iova_range::limits::MAX_HOLDINGS;
@@ -39,7 +39,7 @@ impl Model for Ledger {
 /// The least number of holdings that are searched.
 const NEAR: usize = 128;
 
-/// A number of holdings from the first on, behind which none begins there or below. New holdings come in front, so the
+/// A number of holdings from the first on, after which none begins there or below. New holdings come in front, so the
 /// first ones are looked at before all are.
 #[inline]
 fn reach_at_most(holdings: &[Range], lo: u64) -> usize
@@ -97,9 +97,7 @@ impl Ledger {
     pub(crate) fn covers(&self, frame: u64) -> bool
         ensures { result ≡ is_covered frame self.now.holdings }
     {
-        self.holdings()
-            .iter()
-            .any(|range| range.lo() <= frame && frame <= range.hi())
+        self.holdings().iter().any(|range| range.covers(frame))
     }
 
     /// Makes room for one holding more.
@@ -138,7 +136,7 @@ impl Ledger {
     pub(crate) fn add(&mut self, range: Range)
         requires spare { 1 ≤ self.old.spare }
         requires rises { Rises 0 self.old.holdings }
-        ensures { self.new ≡ record self.old { holdings = insert_rising range self.old.holdings; spare = self.old.spare - 1 } }
+        ensures { self.new ≡ with_held range self.old }
     {
         let place = self.reach(range.lo());
         self.holdings.insert(place, range);
@@ -148,7 +146,7 @@ impl Ledger {
     /// gives up its first holding each time.
     fn place_of(&self, lo: u64) -> Option<usize>
         requires { Rises 0 self.now.holdings }
-        ensures held { IfSome result (StandsAt lo self.now.holdings) }
+        ensures held { IfSome result (IsPlaceOf lo self.now.holdings) }
         ensures none { IfNone result (find (begins_at lo) self.now.holdings ≡ None) }
     {
         if let Some(first) = self.holdings().first()
@@ -178,7 +176,7 @@ impl Ledger {
     pub(crate) fn take(&mut self, lo: u64) -> Option<Range>
         requires { Rises 0 self.old.holdings }
         ensures value { result ≡ find (begins_at lo) self.old.holdings }
-        ensures some { OnSome result (self.new ≡ record self.old { holdings = remove_at lo self.old.holdings; spare = self.old.spare + 1 }) }
+        ensures some { OnSome result (self.new ≡ without_held lo self.old) }
         ensures none { IfNone result (self.new ≡ self.old) }
     {
         let place = self.place_of(lo)?;

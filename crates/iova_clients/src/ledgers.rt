@@ -27,12 +27,12 @@ pub(crate) struct Ledgers {
 
 impl Model for Ledgers {
     ghost use Rattle.std.specs.Prelude.{ℕ, List};
-    ghost use Rattle.iova_clients.specs.Accounts.{Account, listed, AreLedgers};
+    ghost use Rattle.iova_clients.specs.Accounts.{Account, listed_accounts, AreLedgers};
     ghost use Rattle.slab.specs.Slab.{get};
 
     ghost Value = { List (ℕ × Account) };
 
-    ghost view = { λ l. listed (get l.slab) l.keys.entries };
+    ghost view = { λ l. listed_accounts (get l.slab) l.keys.entries };
 
     ghost invariant = { λ l. AreLedgers (get l.slab) l.keys.entries l.last };
 }

@@ -24,7 +24,7 @@ pub(crate) fn room_below(cells: &mut [Range], first: usize, count: usize) -> usi
     middle
 }
 
-/// The same, once there is a cell behind the last.
+/// The same, once there is a cell after the last.
 #[inline]
 pub(crate) fn room_above(cells: &mut [Range], first: usize, count: usize) -> usize
     requires within { first + count ≤ length cells.old }
@@ -40,7 +40,7 @@ pub(crate) fn room_above(cells: &mut [Range], first: usize, count: usize) -> usi
     middle
 }
 
-/// As many cells as that, the new ones behind the others. Where memory is refused nothing has changed.
+/// As many cells as that, the new ones after the others. Where memory is refused nothing has changed.
 pub(crate) fn grow(cells: &mut Vec<Range>, count: usize) -> Result<(), AllocError>
     requires { vec_len cells.old ≤ count }
     ensures count { OnOk result (vec_len cells.new ≡ count) }
@@ -82,7 +82,7 @@ pub(crate) fn remove_low(cells: &mut [Range], place: usize)
     cells[..place + 1].rotate_right(1);
 }
 
-/// The range at this place goes. Those behind it move down by one cell, and the last cell is left over.
+/// The range at this place goes. Those after it move down by one cell, and the last cell is left over.
 #[inline]
 pub(crate) fn remove_high(cells: &mut [Range], place: usize)
     requires { place < length cells.old }

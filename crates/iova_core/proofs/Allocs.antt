@@ -17,7 +17,7 @@ use Rattle.iova_model.specs.Next as next
 use Rattle.iova_tree.specs.Space.{Space, RiseApart}
 use Rattle.iova_clients.specs.Registry.{Registry, room_refusal, CanBeGiven}
 use Rattle.iova_depot.specs.Cached.{Cached}
-use Rattle.iova_core.specs.declared.walk.Found.{Found}
+use Rattle.iova_core.specs.declared.walk.Walked.{Walked}
 use Rattle.iova_core.specs.Stock.{Exchanges}
 use Rattle.iova_core.specs.Domain.{Parts, state_of, IsDomain}
 use Rattle.iova_core.specs.Walk.{ArePartsOf, Comes, point_of, placed, found_as}
@@ -91,7 +91,7 @@ begins_itself : (r : Frames) → begins r.lo r ≡ 1
 begins_itself r = let e : (r.lo == r.lo) ≡ true = grind (arith, nat_tests) in rw e refl
 
 -- The walk of a request that may be asked.
-module _ (p : Parts) (h : IsDomain p) (w id frames limit : ℕ) (c : Client) (asked : IsAsked (state_of p) w id frames c) (tree : Space) (cached : Cached) (f : Found)
+module _ (p : Parts) (h : IsDomain p) (w id frames limit : ℕ) (c : Client) (asked : IsAsked (state_of p) w id frames c) (tree : Space) (cached : Cached) (f : Walked)
     (comes : (s : State) → ArePartsOf p.tree p.cached.caches s → Comes (next.walk s w c.sac (need frames) limit (point_of f)) f cached.caches) (elsewhere : point_of f ≢ point.Ledger) (ex : Exchanges p.tree tree p.cached cached (placed f) []) where
   stands : ArePartsOf p.tree p.cached.caches (state_of p)
   stands = record { bounds = refl; windows = refl; cached = refl; tied = h.tied }

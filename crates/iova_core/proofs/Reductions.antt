@@ -9,7 +9,7 @@ use Rattle.iova_model.specs.declared.step.Point.{Point}
 use Rattle.iova_model.specs.declared.step.Point.TheVariants as point
 use Rattle.iova_model.specs.Clients.{Client, client_of}
 use Rattle.iova_model.specs.State.{State}
-use Rattle.iova_model.specs.Next.{Next, refused, unless, first_refusal, no_worker, is_at, open_client, opened, alloc_tests, alloc, alloc_to, given_by, walk}
+use Rattle.iova_model.specs.Next.{Next, refused, unless, first_refusal, no_worker, is_at, open_client, opened, alloc_tests, alloc, alloc_to, given_from, walk}
 use Rattle.iova_model.proofs.Unless.{unless_refused, unless_taken, unless-append}
 
 -- `Open`: refused before memory is asked for
@@ -58,20 +58,20 @@ module _ (s : State) (w id frames limit : ℕ) where
   alloc_no_room m c r is client room =
       let tests = (c.closing, refusal.Closing) ∷ (nat_le 4096 (length c.holdings), refusal.HoldingsFull) ∷ [] in
       let memory = (is_at point.Ledger m, refusal.NoMemory) ∷ [] in
-      let n = given_by (walk s w c.sac (need frames) limit m) id (need frames) in
+      let n = given_from (walk s w c.sac (need frames) limit m) id (need frames) in
       alloc_none m (Some c) is client ∙ (unless-append tests memory s n ∙ unless_refused tests r s (unless memory s n) room)
 
   alloc_room : (m : Point) (c : Client) → first_refusal (alloc_tests s w frames) ≡ None → client_of w id s.clients ≡ Some c → room_refusal_of c ≡ None
-      → alloc s w id frames limit m ≡ unless ((is_at point.Ledger m, refusal.NoMemory) ∷ []) s (given_by (walk s w c.sac (need frames) limit m) id (need frames))
+      → alloc s w id frames limit m ≡ unless ((is_at point.Ledger m, refusal.NoMemory) ∷ []) s (given_from (walk s w c.sac (need frames) limit m) id (need frames))
   alloc_room m c is client room =
       let tests = (c.closing, refusal.Closing) ∷ (nat_le 4096 (length c.holdings), refusal.HoldingsFull) ∷ [] in
       let memory = (is_at point.Ledger m, refusal.NoMemory) ∷ [] in
-      let n = given_by (walk s w c.sac (need frames) limit m) id (need frames) in
+      let n = given_from (walk s w c.sac (need frames) limit m) id (need frames) in
       alloc_none m (Some c) is client ∙ (unless-append tests memory s n ∙ unless_taken tests s (unless memory s n) room)
 
   pub alloc_ledger_no_memory : (c : Client) → first_refusal (alloc_tests s w frames) ≡ None → client_of w id s.clients ≡ Some c → room_refusal_of c ≡ None → alloc s w id frames limit point.Ledger ≡ refused refusal.NoMemory s
   alloc_ledger_no_memory c is client room = alloc_room point.Ledger c is client room
 
   pub alloc_walks : (m : Point) (c : Client) → first_refusal (alloc_tests s w frames) ≡ None → client_of w id s.clients ≡ Some c → room_refusal_of c ≡ None → is_at point.Ledger m ≡ false
-      → alloc s w id frames limit m ≡ given_by (walk s w c.sac (need frames) limit m) id (need frames)
+      → alloc s w id frames limit m ≡ given_from (walk s w c.sac (need frames) limit m) id (need frames)
   alloc_walks m c is client room elsewhere = alloc_room m c is client room ∙ rw elsewhere refl

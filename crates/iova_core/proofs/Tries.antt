@@ -13,8 +13,8 @@ use Rattle.iova_model.specs.Next as next
 use Rattle.iova_model.proofs.Placing.{AreSome, best-from, best-is_best, IsBest-same}
 use Rattle.iova_tree.specs.Space.{Space, IsSpace, RiseApart, ranges_of}
 use Rattle.iova_depot.specs.Cached.{Cached, IsCached}
-use Rattle.iova_core.specs.declared.walk.Found.{Found}
-use Rattle.iova_core.specs.declared.walk.Found.TheVariants as found
+use Rattle.iova_core.specs.declared.walk.Walked.{Walked}
+use Rattle.iova_core.specs.declared.walk.Walked.TheVariants as found
 use Rattle.iova_core.specs.Stock.{HasAll, IsStock, Exchanges}
 use Rattle.iova_core.specs.Tied.{IsTied}
 use Rattle.iova_core.specs.Walk.{get_cached, Places, ArePartsOf, Comes, point_of, placed, found_as, IsPlacedOf, IsTryPoint, IsPointFrom}
@@ -126,7 +126,7 @@ exchanges_got tree c c' size (Some lo) space cached from now = record {
 -- Trees.
 
 -- what a tree gives is inserted
-pub exchanges_placed : (o : Option ℕ) (here : Point) (size : ℕ) (tree tree' : Space) (c : Cached) (f : Found) → IsSpace tree' → IsCached c → Places o here size tree tree' f → Exchanges tree tree' c c (placed f) []
+pub exchanges_placed : (o : Option ℕ) (here : Point) (size : ℕ) (tree tree' : Space) (c : Cached) (f : Walked) → IsSpace tree' → IsCached c → Places o here size tree tree' f → Exchanges tree tree' c c (placed f) []
 exchanges_placed None here size tree tree' c found.Nowhere space cached h = record {
   space = space;
   cached = cached;
@@ -199,7 +199,7 @@ at_here here (inl (inr e)) = rw e (refl, refl)
 at_here here (inr e) = rw e (refl, refl)
 
 -- what the tree gives
-tree_gives : (s : State) (o : Option ℕ) (here : Point) (size : ℕ) (old new : Space) (f : Found) → IsTryPoint here ⊎ (here ≡ point.Last) → Places o here size old new f → Comes (next.from_tree s o (next.is_at here (point_of f))) f s.caches
+tree_gives : (s : State) (o : Option ℕ) (here : Point) (size : ℕ) (old new : Space) (f : Walked) → IsTryPoint here ⊎ (here ≡ point.Last) → Places o here size old new f → Comes (next.from_tree s o (next.is_at here (point_of f))) f s.caches
 tree_gives s None here size old new found.Nowhere own h = record { found = refl; left = refl }
 tree_gives s None here size old new (found.Placed r) own h = absurd h
 tree_gives s None here size old new (found.OutOfMemory m) own h = absurd h
@@ -226,18 +226,18 @@ places_none None here size old new h = (refl, h)
 places_none (Some lo) here size old new h = absurd h
 
 -- the state after the caches were asked
-abbrev pub asked : State → Caches → ℕ → ℕ → ℕ → State
-asked s c w size limit = next.with_caches s (get_cached c w size limit (order_of size)).1
+abbrev pub after_caches : State → Caches → ℕ → ℕ → ℕ → State
+after_caches s c w size limit = next.with_caches s (get_cached c w size limit (order_of size)).1
 
 module _ (s : State) (c : Caches) (w size limit : ℕ) (cached : s.caches ≡ c) (miss : None ≡ (get_cached c w size limit (order_of size)).0) where
   -- what the tree gives at once
-  pub comes_tree : (tree tree' : Space) (emptying : Bool) (here : Point) (f : Found) (left : Caches) → 1 ≤ size → IsSpace tree → ArePartsOf tree (get_cached c w size limit (order_of size)).1 (asked s c w size limit) → left ≡ (get_cached c w size limit (order_of size)).1
+  pub comes_tree : (tree tree' : Space) (emptying : Bool) (here : Point) (f : Walked) (left : Caches) → 1 ≤ size → IsSpace tree → ArePartsOf tree (get_cached c w size limit (order_of size)).1 (after_caches s c w size limit) → left ≡ (get_cached c w size limit (order_of size)).1
       → IsTryPoint here → Places (best tree.bounds (ranges_of tree) size limit) here size tree tree' f → (found_as f ≡ next.Nowhere → emptying ≡ false) → Comes (next.try s w size limit emptying here (point_of f)) f left
   comes_tree tree tree' emptying here f left some space stands now own h ends =
       let m = point_of f in
-      let o = next.best_place (asked s c w size limit) size limit in
-      let gives = tree_gives (asked s c w size limit) o here size tree tree' f (inl own) (rw (best_same tree _ (asked s c w size limit) size limit some space stands) h) in
-      let t = next.from_tree (asked s c w size limit) o (next.is_at here m) in
+      let o = next.best_place (after_caches s c w size limit) size limit in
+      let gives = tree_gives (after_caches s c w size limit) o here size tree tree' f (inl own) (rw (best_same tree _ (after_caches s c w size limit) size limit some space stands) h) in
+      let t = next.from_tree (after_caches s c w size limit) o (next.is_at here m) in
       let e = try_is s c w size limit emptying here m None cached miss ∙ emptied_not t.found t.state size limit emptying (next.is_at point.Last m) (λ x. ends (sym gives.found ∙ x)) in
       record {
         found = ap (λ (x : next.Tried). x.found) e ∙ gives.found;
@@ -245,18 +245,18 @@ module _ (s : State) (c : Caches) (w size limit : ℕ) (cached : s.caches ≡ c)
       }
 
   -- what it gives once the caches are emptied
-  pub comes_emptied : (tree tree' last : Space) (here : Point) (f : Found) (left : Caches) → 1 ≤ size → IsSpace tree → ArePartsOf tree (get_cached c w size limit (order_of size)).1 (asked s c w size limit) → best tree.bounds (ranges_of tree) size limit ≡ None
-      → IsSpace tree' → ArePartsOf tree' (emptied (get_cached c w size limit (order_of size)).1) (next.with_caches (asked s c w size limit) (emptied (get_cached c w size limit (order_of size)).1)) → left ≡ emptied (get_cached c w size limit (order_of size)).1
+  pub comes_emptied : (tree tree' last : Space) (here : Point) (f : Walked) (left : Caches) → 1 ≤ size → IsSpace tree → ArePartsOf tree (get_cached c w size limit (order_of size)).1 (after_caches s c w size limit) → best tree.bounds (ranges_of tree) size limit ≡ None
+      → IsSpace tree' → ArePartsOf tree' (emptied (get_cached c w size limit (order_of size)).1) (next.with_caches (after_caches s c w size limit) (emptied (get_cached c w size limit (order_of size)).1)) → left ≡ emptied (get_cached c w size limit (order_of size)).1
       → Places (best tree'.bounds (ranges_of tree') size limit) point.Last size tree' last f → Comes (next.try s w size limit true here (point_of f)) f left
   comes_emptied tree tree' last here f left some space stands none space' stands' now h =
       let m = point_of f in
-      let bare = next.with_caches (asked s c w size limit) (emptied (get_cached c w size limit (order_of size)).1) in
+      let bare = next.with_caches (after_caches s c w size limit) (emptied (get_cached c w size limit (order_of size)).1) in
       let o = next.best_place bare size limit in
       let gives = tree_gives bare o point.Last size tree' last f (inr refl) (rw (best_same tree' _ bare size limit some space' stands') h) in
-      let nothing : next.best_place (asked s c w size limit) size limit ≡ None = best_same tree _ (asked s c w size limit) size limit some space stands ∙ none in
+      let nothing : next.best_place (after_caches s c w size limit) size limit ≡ None = best_same tree _ (after_caches s c w size limit) size limit some space stands ∙ none in
       let e : next.try s w size limit true here m ≡ next.from_tree bare o (next.is_at point.Last m) =
       try_is s c w size limit true here m None cached miss
-      ∙ ap (λ x. next.or_emptied (next.from_tree (asked s c w size limit) x (next.is_at here m)).found (next.from_tree (asked s c w size limit) x (next.is_at here m)).state size limit true (next.is_at point.Last m)) nothing in
+      ∙ ap (λ x. next.or_emptied (next.from_tree (after_caches s c w size limit) x (next.is_at here m)).found (next.from_tree (after_caches s c w size limit) x (next.is_at here m)).state size limit true (next.is_at point.Last m)) nothing in
       record {
         found = ap (λ (x : next.Tried). x.found) e ∙ gives.found;
         left = ap (λ (x : next.Tried). x.state.caches) e ∙ (gives.left ∙ sym now);
@@ -264,12 +264,12 @@ module _ (s : State) (c : Caches) (w size limit : ℕ) (cached : s.caches ≡ c)
 
 -- What is found, by its case.
 
-pub as_nowhere : (f : Found) → found_as f ≡ next.Nowhere → f ≡ found.Nowhere
+pub as_nowhere : (f : Walked) → found_as f ≡ next.Nowhere → f ≡ found.Nowhere
 as_nowhere found.Nowhere e = refl
 as_nowhere (found.Placed r) e = absurd cc
 as_nowhere (found.OutOfMemory m) e = absurd cc
 
-pub places_size : (o : Option ℕ) (here : Point) (size : ℕ) (old new : Space) (f : Found) → Places o here size old new f → IsPlacedOf size f
+pub places_size : (o : Option ℕ) (here : Point) (size : ℕ) (old new : Space) (f : Walked) → Places o here size old new f → IsPlacedOf size f
 places_size None here size old new found.Nowhere h = tt
 places_size None here size old new (found.Placed r) h = absurd h
 places_size None here size old new (found.OutOfMemory m) h = absurd h
@@ -277,7 +277,7 @@ places_size (Some lo) here size old new found.Nowhere h = absurd h
 places_size (Some lo) here size old new (found.Placed r) h = ap (λ (x : Frames). x.len) h.0
 places_size (Some lo) here size old new (found.OutOfMemory m) h = tt
 
-pub places_point : (o : Option ℕ) (here : Point) (size : ℕ) (old new : Space) (f : Found) → Places o here size old new f → (point_of f ≡ point.Never) ⊎ (point_of f ≡ here)
+pub places_point : (o : Option ℕ) (here : Point) (size : ℕ) (old new : Space) (f : Walked) → Places o here size old new f → (point_of f ≡ point.Never) ⊎ (point_of f ≡ here)
 places_point None here size old new found.Nowhere h = inl refl
 places_point None here size old new (found.Placed r) h = absurd h
 places_point None here size old new (found.OutOfMemory m) h = absurd h
@@ -307,17 +307,17 @@ module _ (tree : Space) (c d : Cached) (w size limit : ℕ) (stock : IsStock tre
       let made : Caches → Cached = λ x. record c { caches = x } in
       exchanges_got tree c d size None stock.space (cached stock.cached) missed (now ∙ ap made (sym left_is))
 
-  pub missed_stands : (s : State) → ArePartsOf tree c.caches s → ArePartsOf tree (get_cached c.caches w size limit (order_of size)).1 (asked s c.caches w size limit)
+  pub missed_stands : (s : State) → ArePartsOf tree c.caches s → ArePartsOf tree (get_cached c.caches w size limit (order_of size)).1 (after_caches s c.caches w size limit)
   missed_stands s stands =
       stands_with tree tree c.caches (get_cached c.caches w size limit (order_of size)).1 s stands refl refl (λ weigh. omega (arith, missed weigh, ap (weight.cached weigh) left_is))
 
   -- and are emptied
   pub emptied_stands : (tree' : Space) (e : Cached) (s : State) → ArePartsOf tree c.caches s → e ≡ record d { caches = emptied d.caches } → Exchanges tree tree' d e [] []
-      → ArePartsOf tree' (emptied (get_cached c.caches w size limit (order_of size)).1) (next.with_caches (asked s c.caches w size limit) (emptied (get_cached c.caches w size limit (order_of size)).1))
+      → ArePartsOf tree' (emptied (get_cached c.caches w size limit (order_of size)).1) (next.with_caches (after_caches s c.caches w size limit) (emptied (get_cached c.caches w size limit (order_of size)).1))
   emptied_stands tree' e s stands is ex =
       let g = (get_cached c.caches w size limit (order_of size)).1 in
       let e_is : e.caches ≡ emptied g = ap (λ (x : Cached). x.caches) is ∙ ap emptied left_is in
-      stands_with tree tree' g (emptied g) (asked s c.caches w size limit) (missed_stands s stands) ex.bounds ex.windows
+      stands_with tree tree' g (emptied g) (after_caches s c.caches w size limit) (missed_stands s stands) ex.bounds ex.windows
       (λ weigh. omega (arith, ex.balance weigh, ap (weight.cached weigh) left_is, ap (weight.cached weigh) e_is, cached_sum weigh d.caches, cached_sum weigh e.caches, weight.ranges_are weigh []))
 
   pub emptied_left : (e : Cached) → e ≡ record d { caches = emptied d.caches } → e.caches ≡ emptied (get_cached c.caches w size limit (order_of size)).1

@@ -10,8 +10,8 @@ use Rattle.iova_model.specs.Next as next
 use Rattle.iova_range.specs.Sizes.{order_of}
 use Rattle.iova_tree.specs.Space.{Space}
 use Rattle.iova_depot.specs.Cached.{Cached}
-use Rattle.iova_core.specs.declared.walk.Found.{Found}
-use Rattle.iova_core.specs.declared.walk.Found.TheVariants as found
+use Rattle.iova_core.specs.declared.walk.Walked.{Walked}
+use Rattle.iova_core.specs.declared.walk.Walked.TheVariants as found
 use Rattle.iova_core.specs.Stock.{Exchanges}
 use Rattle.iova_core.specs.Walk.{ArePartsOf, Comes, point_of, IsPointFrom}
 use Rattle.iova_core.proofs.Stocks.{cached_sum}
@@ -92,18 +92,18 @@ stands_exchanged tree tree' c c' s stands ex =
 
 module _ (s : State) (w : ℕ) (sac : Bool) (size limit : ℕ) where
   -- one try
-  pub comes_plain : (f : Found) (left : Caches) → (sac && nat_lt SAC_LIMIT limit) ≡ false → Comes (next.try s w size limit true point.Second (point_of f)) f left → Comes (next.walk s w sac size limit (point_of f)) f left
+  pub comes_plain : (f : Walked) (left : Caches) → (sac && nat_lt SAC_LIMIT limit) ≡ false → Comes (next.try s w size limit true point.Second (point_of f)) f left → Comes (next.walk s w sac size limit (point_of f)) f left
   comes_plain f left plain h = rw plain h
 
   -- the first of two gave an answer
-  pub comes_first : (f : Found) (left : Caches) → (sac && nat_lt SAC_LIMIT limit) ≡ true → (f ≡ found.Nowhere → ⊥) → Comes (next.try s w size SAC_LIMIT false point.First (point_of f)) f left → Comes (next.walk s w sac size limit (point_of f)) f left
+  pub comes_first : (f : Walked) (left : Caches) → (sac && nat_lt SAC_LIMIT limit) ≡ true → (f ≡ found.Nowhere → ⊥) → Comes (next.try s w size SAC_LIMIT false point.First (point_of f)) f left → Comes (next.walk s w sac size limit (point_of f)) f left
   comes_first f left low answered h =
       let t = next.try s w size SAC_LIMIT false point.First (point_of f) in
       let e = second_not t.found t.state w size limit (point_of f) (λ x. answered (as_nowhere f (sym h.found ∙ x))) in
       rw low (record { found = ap (λ (x : next.Tried). x.found) e ∙ h.found; left = ap (λ (x : next.Tried). x.state.caches) e ∙ h.left })
 
   -- it gave none
-  pub comes_second : (f : Found) (mid left : Caches) → (sac && nat_lt SAC_LIMIT limit) ≡ true → IsPointFrom point.Second (point_of f) → Comes (next.try s w size SAC_LIMIT false point.First point.Never) found.Nowhere mid
+  pub comes_second : (f : Walked) (mid left : Caches) → (sac && nat_lt SAC_LIMIT limit) ≡ true → IsPointFrom point.Second (point_of f) → Comes (next.try s w size SAC_LIMIT false point.First point.Never) found.Nowhere mid
       → Comes (next.try (next.with_caches s mid) w size limit true point.Second (point_of f)) f left → Comes (next.walk s w sac size limit (point_of f)) f left
   comes_second f mid left low own first h =
       let m = point_of f in

@@ -3,6 +3,10 @@ use Rattle.std.specs.Prelude.{ℕ, ◌≡◌, ◌||◌, nat_lt, List, Option, No
 use Rattle.iova_model.specs.declared.entry.Entry.{Entry}
 use Rattle.iova_model.specs.Flushes.{Flushes}
 use Rattle.iova_model.specs.State.{State, place_of}
+use Rattle.iova_model.specs.declared.step.Step.{Step}
+use Rattle.iova_model.specs.declared.step.Reply.{Reply}
+use Rattle.iova_model.specs.declared.step.Point.{Point}
+use Rattle.iova_model.specs.Next.{next}
 use Rattle.iova_model.specs.declared.place.Place.{Place}
 use Rattle.iova_model.specs.Valid.{IsValid}
 use Rattle.iova_tree.specs.Space.{Space, IsSpace, ranges_of}
@@ -41,6 +45,10 @@ pub record IsDomain (p : Parts) : Type 0 where
   pub space : IsSpace p.tree
   pub profile : p.cached.profile ≡ p.tree.bounds.profile
   pub counted : p.reserved ≡ sum_by (λ r. r.len) p.tree.windows
+
+-- the step has this reply and leaves this state, with or without a growth that was refused
+abbrev pub IsStepOf : State → Step → Reply → State → Type 0
+IsStepOf old st reply new = (m : Point) × (reply ≡ (next old st m).reply) × (new ≡ (next old st m).state)
 
 -- where a frame is, inside the bounds
 abbrev pub place_inside : State → ℕ → Option Place

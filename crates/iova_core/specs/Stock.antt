@@ -1,9 +1,18 @@
 -- What a tree and the caches have together, and what a call moves between them and others.
 use Rattle.std.specs.Prelude.{ℕ, ◌≡◌, ◌+◌, ◌≤◌, List, sum_by}
 use Rattle.iova_range.specs.Frames.{Frames}
+use Rattle.iova_range.specs.Sizes.{order_of}
+use Rattle.iova_model.specs.Caches.{put_range, put_all}
 use Rattle.iova_model.specs.Laws.{cached_ranges}
 use Rattle.iova_tree.specs.Space.{Space, IsSpace}
-use Rattle.iova_depot.specs.Cached.{Cached, IsCached}
+use Rattle.iova_depot.specs.Cached.{Cached, IsCached, with_contents}
+
+-- the caches after a range went to a worker's magazines, where its length has an order; and after several did
+abbrev pub with_range : Cached → ℕ → Frames → Cached
+with_range c w r = with_contents c (put_range c.profile c.caches w r (order_of r.len))
+
+abbrev pub with_ranges : Cached → ℕ → List Frames → Cached
+with_ranges c w rs = with_contents c (put_all c.profile c.caches w rs)
 
 -- the tree has all of these ranges: whatever ranges weigh, they weigh no more
 abbrev pub HasAll : Space → List Frames → Type 0

@@ -9,8 +9,8 @@ use Rattle.iova_model.specs.State.{State}
 use Rattle.iova_model.specs.Next as next
 use Rattle.iova_tree.specs.Space.{Space, ranges_of}
 use Rattle.iova_core.specs.Tied.{IsTied}
-use Rattle.iova_core.specs.declared.walk.Found.{Found}
-use Rattle.iova_core.specs.declared.walk.Found.TheVariants as found
+use Rattle.iova_core.specs.declared.walk.Walked.{Walked}
+use Rattle.iova_core.specs.declared.walk.Walked.TheVariants as found
 
 -- what a worker's caches give, by the order of the size if it has one, and what is left of all caches
 abbrev pub get_cached : Caches → ℕ → ℕ → ℕ → Option ℕ → Option ℕ × Caches
@@ -18,7 +18,7 @@ get_cached c w size limit None = (None, c)
 get_cached c w size limit (Some o) = let got = get (shelf_at c w o) limit size in (got.0, with_shelf c w o got.1)
 
 -- Of the tree alone: the range is inserted at the best place, or its growth was refused and nothing is; or nothing fits.
-abbrev pub Places : Option ℕ → Point → ℕ → Space → Space → Found → Type 0
+abbrev pub Places : Option ℕ → Point → ℕ → Space → Space → Walked → Type 0
 Places None here size old new found.Nowhere = new ≡ old
 Places (Some lo) here size old new (found.Placed r) =
     (r ≡ record { lo = lo; len = size }) × (new ≡ record old { inserted = insert_rising r old.inserted })
@@ -33,30 +33,30 @@ pub record ArePartsOf (tree : Space) (caches : Caches) (s : State) : Type 0 wher
   pub tied : IsTied (ranges_of tree) s
 
 -- the growth that was refused
-abbrev pub point_of : Found → Point
+abbrev pub point_of : Walked → Point
 point_of (found.Placed r) = point.Never
 point_of found.Nowhere = point.Never
 point_of (found.OutOfMemory m) = m
 
 -- the ranges that were found
-abbrev pub placed : Found → List Frames
+abbrev pub placed : Walked → List Frames
 placed (found.Placed r) = r ∷ []
 placed found.Nowhere = []
 placed (found.OutOfMemory m) = []
 
 -- the same in the words of the definitions
-abbrev pub found_as : Found → next.Found
+abbrev pub found_as : Walked → next.Found
 found_as (found.Placed r) = next.At r.lo
 found_as found.Nowhere = next.Nowhere
 found_as (found.OutOfMemory m) = next.OutOfMemory
 
 -- a range that was found has this length
-abbrev pub IsPlacedOf : ℕ → Found → Type 0
+abbrev pub IsPlacedOf : ℕ → Walked → Type 0
 IsPlacedOf size (found.Placed r) = r.len ≡ size
 IsPlacedOf size f = Unit {0}
 
 -- what was found, and the caches that are left, are those of a try or a walk of the definitions
-pub record Comes (t : next.Tried) (f : Found) (caches : Caches) : Type 0 where
+pub record Comes (t : next.Tried) (f : Walked) (caches : Caches) : Type 0 where
   pub found : t.found ≡ found_as f
   pub left : t.state.caches ≡ caches
 

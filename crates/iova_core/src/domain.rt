@@ -1,18 +1,17 @@
 //! A domain: its steps, one at a time and in runs, and its readers.
 ghost use Rattle.std.specs.Prelude.{◌≡◌, ◌≢◌, ◌≤◌, ◌<◌, ◌⊎◌, ◌^◌, ℕ, [], take, replicate, sum_by, find, length, Some, IfOk, OnOk, OnErr, IsErr, ◌↔◌, Err, option_map, option_copied};
-ghost use Rattle.iova_model.specs.declared.step.Point.{Point as MemoryPoint};
 ghost use Rattle.iova_model.specs.Fit.{is_covered};
 ghost use Rattle.iova_model.specs.Clients.{Client, client_with, begins_at, share_of, totals};
 ghost use Rattle.iova_range.specs.Frames.{covers};
 ghost use Rattle.iova_model.specs.State.{new_domain, counts, ring_holders, place_in};
 ghost use Rattle.iova_model.specs.Valid.{IsValid};
 ghost use Rattle.iova_model.specs.Promises.{Runs};
-ghost use Rattle.iova_model.specs.Laws.{to_queue, unmapped_of};
+ghost use Rattle.iova_model.specs.Laws.{to_queue};
 ghost use Rattle.iova_model.specs.Next.{next, reserve, open_client, alloc, unmap, unmap_held, begin, end, drain, close, close_one};
-ghost use Rattle.iova_core.specs.Domain.{place_inside, frames_in_rings};
+ghost use Rattle.iova_core.specs.Domain.{IsStepOf, place_inside, frames_in_rings};
 
 use crate::stock::drain;
-use crate::walk::{Found, walk};
+use crate::walk::{Walked, walk};
 use iova_clients::{ClientId, Clients};
 use iova_depot::caches::Caches;
 use iova_depot::spot::Spot;
@@ -56,9 +55,23 @@ impl Model for Domain {
 
     ghost Value = { State };
 
-    ghost view = { λ d. state_of (record { tree = d.tree; clients = d.clients; cached = d.caches; rings = d.rings.items; flushes = d.flights; reserved = d.reserved }) };
+    ghost view = { λ d. state_of (record {
+      tree = d.tree;
+      clients = d.clients;
+      cached = d.caches;
+      rings = d.rings.items;
+      flushes = d.flights;
+      reserved = d.reserved;
+    }) };
 
-    ghost invariant = { λ d. IsDomain (record { tree = d.tree; clients = d.clients; cached = d.caches; rings = d.rings.items; flushes = d.flights; reserved = d.reserved }) };
+    ghost invariant = { λ d. IsDomain (record {
+      tree = d.tree;
+      clients = d.clients;
+      cached = d.caches;
+      rings = d.rings.items;
+      flushes = d.flights;
+      reserved = d.reserved;
+    }) };
 }
 
 fn refused(refusal: Refusal) -> (Reply, Point)
@@ -92,6 +105,7 @@ impl Domain {
         if workers == 0 || workers > MAX_WORKERS {
             return Err(Refusal::NoWorker);
         }
+        // for the proof: a new domain is valid
         new_domains_are_valid();
         let profile = bounds.profile();
         Ok(Domain {
@@ -111,6 +125,7 @@ impl Domain {
         ensures point { result.1 ≢ Point.Never → result.0 ≡ Reply.Refused Refusal.NoMemory }
         ensures memory { result.0 ≡ Reply.Refused Refusal.NoMemory → result.1 ≢ Point.Never }
     {
+        // for the proof: a step is refused by `NoMemory` only where a growth was refused
         no_memory_is_refused();
         match step {
             Step::Reserve { lo, hi } => self.reserve(lo, hi),
@@ -132,7 +147,7 @@ impl Domain {
 
     /// Runs one step, and answers its reply.
     pub fn step(&mut self, step: Step) -> Reply
-        ensures { (m : MemoryPoint) × (result ≡ (next self.old step m).reply) × (self.new ≡ (next self.old step m).state) }
+        ensures { IsStepOf self.old step result self.new }
     {
         self.step_at(step).0
     }
@@ -144,6 +159,7 @@ impl Domain {
         ensures state { self.new ≡ (reserve self.old lo hi result.1).state }
         ensures point { result.1 ≢ Point.Never → result.0 ≡ Reply.Refused Refusal.NoMemory }
     {
+        // for the proof: the state that is left is valid
         steps_keep_validity();
         match self.tree.reserve(lo, hi) {
             Ok(window) => {
@@ -163,6 +179,7 @@ impl Domain {
         if worker >= self.workers() {
             return refused(Refusal::NoWorker);
         }
+        // for the proof: the state that is left is valid
         steps_keep_validity();
         match self.clients.open(worker, sac) {
             Ok(id) => (Reply::Opened(id), Point::Never),
@@ -193,6 +210,7 @@ impl Domain {
             Ok(()) => {}
             Err(refusal) => return refused_at(refusal, Point::Ledger),
         }
+        // for the proof: the state that is left is valid
         steps_keep_validity();
         match walk(
             &mut self.tree,
@@ -202,12 +220,12 @@ impl Domain {
             need(frames),
             limit,
         ) {
-            Found::Placed(range) => {
+            Walked::Placed(range) => {
                 self.clients.add(client, range);
                 (Reply::Given(range), Point::Never)
             }
-            Found::Nowhere => refused(Refusal::NoSpace),
-            Found::OutOfMemory(point) => (Reply::Refused(Refusal::NoMemory), point),
+            Walked::Nowhere => refused(Refusal::NoSpace),
+            Walked::OutOfMemory(point) => (Reply::Refused(Refusal::NoMemory), point),
         }
     }
 
@@ -235,8 +253,10 @@ impl Domain {
     #[inline(always)]
     fn queue(&mut self, worker: u64, client: ClientId, lo: u64) -> (Reply, Point)
         requires { worker < self.old.workers }
-        ensures reply { (c : Client) → client_with client self.old.clients ≡ Some c → result.0 ≡ (unmap_held (find (begins_at lo) c.holdings) self.old worker client).reply }
-        ensures state { (c : Client) → client_with client self.old.clients ≡ Some c → self.new ≡ (unmap_held (find (begins_at lo) c.holdings) self.old worker client).state }
+        ensures reply { (c : Client) → client_with client self.old.clients ≡ Some c
+            → result.0 ≡ (unmap_held (find (begins_at lo) c.holdings) self.old worker client).reply }
+        ensures state { (c : Client) → client_with client self.old.clients ≡ Some c
+            → self.new ≡ (unmap_held (find (begins_at lo) c.holdings) self.old worker client).state }
         ensures point { result.1 ≡ Point.Never }
     {
         let Ok(range) = self.clients.take(client, lo) else {
@@ -372,6 +392,7 @@ impl Domain {
     pub fn counts(&self) -> Counts
         ensures { result ≡ counts self.now }
     {
+        // for the proof: the frames of all places are those of the bounds, so that no difference is below 0
         places_add_up();
         let bounds = self.tree.bounds();
         let client = self.clients.totals().frames;
@@ -568,10 +589,11 @@ impl Domain {
 /// ended well; clients that close give up their holdings lowest first; and a client that is gone stays gone.
 pub fn run(domain: &mut Domain, steps: &[Step], replies: &mut Vec<Reply>) -> Result<(), Refusal>
     ensures ok { OnOk result (Runs domain.old domain.new steps.now replies.old.items replies.new.items) }
-    ensures err { OnErr result ((result ≡ Err Refusal.NoMemory) × ((n : ℕ) × Runs domain.old domain.new (take n steps.now) replies.old.items replies.new.items)) }
+    ensures err { OnErr result ((result ≡ Err Refusal.NoMemory)
+        × ((n : ℕ) × Runs domain.old domain.new (take n steps.now) replies.old.items replies.new.items)) }
 {
+    // for the proof: every run keeps the promises, and the state is valid
     promises_are_kept();
-    // says that the state is valid
     let _workers = domain.workers();
     for step in steps {
         let Ok(()) = replies.reserve(1) else {

@@ -3,10 +3,11 @@
 
 ghost use Rattle.std.specs.Prelude.{◌≡◌, ◌≤◌, ◌<◌, ◌^◌, [], ◌∷◌, length, map, Some};
 ghost use Rattle.iova_range.specs.Sizes.{order_of};
-ghost use Rattle.iova_model.specs.Caches.{of_order, put_range, put_all, emptied};
+ghost use Rattle.iova_model.specs.Caches.{of_order, emptied};
 ghost use Rattle.iova_model.specs.Flushes.{entry_range, flushed, unflushed};
 ghost use Rattle.iova_tree.specs.Space.{IsSpace};
-ghost use Rattle.iova_core.specs.Stock.{HasAll, Frees, IsStock, Exchanges};
+ghost use Rattle.iova_depot.specs.Cached.{with_contents};
+ghost use Rattle.iova_core.specs.Stock.{HasAll, Frees, IsStock, Exchanges, with_range, with_ranges};
 
 use iova_depot::caches::Caches;
 use iova_flush::ring::Ring;
@@ -53,7 +54,7 @@ fn put_back(tree: &mut Tree, caches: &mut Caches, w: usize, range: Range)
     requires worker { w < caches.old.workers }
     requires sized { range.len ≤ MAX_FRAMES }
     requires stock { IsStock tree.old caches.old (range ∷ []) }
-    ensures caches { caches.new ≡ record caches.old { caches = put_range caches.old.profile caches.old.caches w range (order_of range.len) } }
+    ensures caches { caches.new ≡ with_range caches.old w range }
     ensures stock { Exchanges tree.old tree.new caches.old caches.new [] (range ∷ []) }
 {
     let Some(order) = order_of(range.len()) else {
@@ -71,7 +72,7 @@ fn put_full(tree: &mut Tree, caches: &mut Caches, w: usize, order: u8, range: Ra
     requires order { order < ORDERS }
     requires length { order_of range.len ≡ Some order }
     requires stock { IsStock tree.old caches.old (range ∷ []) }
-    ensures caches { caches.new ≡ record caches.old { caches = put_range caches.old.profile caches.old.caches w range (order_of range.len) } }
+    ensures caches { caches.new ≡ with_range caches.old w range }
     ensures stock { Exchanges tree.old tree.new caches.old caches.new [] (range ∷ []) }
 {
     if let Some(magazine) = caches.put(w, order, range.lo()) {
@@ -88,7 +89,7 @@ pub fn drain(tree: &mut Tree, caches: &mut Caches, ring: &mut Ring, w: usize, fi
     requires stock { IsStock tree.old caches.old (map entry_range ring.old) }
     ensures count { result ≡ length (flushed finish ring.old) }
     ensures ring { ring.new ≡ unflushed finish ring.old }
-    ensures caches { caches.new ≡ record caches.old { caches = put_all caches.old.profile caches.old.caches w (map entry_range (flushed finish ring.old)) } }
+    ensures caches { caches.new ≡ with_ranges caches.old w (map entry_range (flushed finish ring.old)) }
     ensures stock { Exchanges tree.old tree.new caches.old caches.new [] (map entry_range (flushed finish ring.old)) }
 {
     let mut count = 0;
@@ -103,7 +104,7 @@ pub fn drain(tree: &mut Tree, caches: &mut Caches, ring: &mut Ring, w: usize, fi
 #[cold]
 pub fn empty(tree: &mut Tree, caches: &mut Caches)
     requires stock { IsStock tree.old caches.old [] }
-    ensures caches { caches.new ≡ record caches.old { caches = emptied caches.old.caches } }
+    ensures caches { caches.new ≡ with_contents caches.old (emptied caches.old.caches) }
     ensures stock { Exchanges tree.old tree.new caches.old caches.new [] [] }
 {
     while let Some((order, lo)) = caches.take_any() {

@@ -7,7 +7,7 @@ ghost use Rattle.iova_model.specs.Next as next;
 ghost use Rattle.iova_model.specs.declared.step.Point.TheVariants.{First, Second};
 ghost use Rattle.iova_range.specs.Sizes.{order_of};
 ghost use Rattle.iova_tree.specs.Space.{IsSpace, ranges_of};
-ghost use Rattle.iova_depot.specs.Cached.{IsCached};
+ghost use Rattle.iova_depot.specs.Cached.{IsCached, with_contents};
 ghost use Rattle.iova_core.specs.Stock.{IsStock, Exchanges};
 ghost use Rattle.iova_core.specs.Walk.{get_cached, Places, ArePartsOf, Comes, point_of, placed, IsPlacedOf, IsTryPoint, IsPointFrom};
 
@@ -21,7 +21,7 @@ use iova_tree::tree::Tree;
 
 /// What a walk of a request comes to.
 #[derive(Clone, Copy, Debug)]
-pub enum Found {
+pub enum Walked {
     /// The range, which the tree has and no cache.
     Placed(Range),
     /// Nothing fits.
@@ -37,7 +37,7 @@ fn from_caches(caches: &mut Caches, w: usize, size: u64, limit: u64) -> Option<u
     requires some { 1 ≤ size }
     requires bounded { size ≤ MAX_FRAMES }
     ensures value { result ≡ (get_cached caches.old.caches w size limit (order_of size)).0 }
-    ensures left { caches.new ≡ record caches.old { caches = (get_cached caches.old.caches w size limit (order_of size)).1 } }
+    ensures left { caches.new ≡ with_contents caches.old (get_cached caches.old.caches w size limit (order_of size)).1 }
     ensures cached { IsCached caches.old → IsCached caches.new }
 {
     let order = order_of(size)?;
@@ -45,19 +45,19 @@ fn from_caches(caches: &mut Caches, w: usize, size: u64, limit: u64) -> Option<u
 }
 
 /// Takes the highest place for `size` frames in the tree, none above `limit`, by a growth that is the point `here`.
-fn from_tree(tree: &mut Tree, size: u64, limit: u64, here: Point) -> Found
+fn from_tree(tree: &mut Tree, size: u64, limit: u64, here: Point) -> Walked
     requires some { 1 ≤ size }
     requires bounded { size ≤ MAX_FRAMES }
     ensures places { Places (best tree.old.bounds (ranges_of tree.old) size limit) here size tree.old tree.new result }
     ensures space { IsSpace tree.old → IsSpace tree.new }
 {
     let Some(lo) = tree.highest(size, limit) else {
-        return Found::Nowhere;
+        return Walked::Nowhere;
     };
     let range = Range::new(lo, size);
     match tree.insert(range) {
-        Ok(()) => Found::Placed(range),
-        Err(_) => Found::OutOfMemory(here),
+        Ok(()) => Walked::Placed(range),
+        Err(_) => Walked::OutOfMemory(here),
     }
 }
 
@@ -72,26 +72,27 @@ fn try_once(
     limit: u64,
     emptying: bool,
     here: Point,
-) -> Found
+) -> Walked
     requires worker { w < caches.old.workers }
     requires some { 1 ≤ size }
     requires bounded { size ≤ MAX_FRAMES }
     requires here { IsTryPoint here }
     requires stock { IsStock tree.old caches.old [] }
-    ensures comes { (s : State) → ArePartsOf tree.old caches.old.caches s → Comes (next.try s w size limit emptying here (point_of result)) result caches.new.caches }
+    ensures comes { (s : State) → ArePartsOf tree.old caches.old.caches s
+        → Comes (next.try s w size limit emptying here (point_of result)) result caches.new.caches }
     ensures size { IsPlacedOf size result }
     ensures point { IsPointFrom here (point_of result) }
     ensures stock { Exchanges tree.old tree.new caches.old caches.new (placed result) [] }
 {
     if let Some(lo) = from_caches(caches, w, size, limit) {
-        return Found::Placed(Range::new(lo, size));
+        return Walked::Placed(Range::new(lo, size));
     }
     match from_tree(tree, size, limit, here) {
-        Found::Nowhere => {}
+        Walked::Nowhere => {}
         found => return found,
     }
     if !emptying {
-        return Found::Nowhere;
+        return Walked::Nowhere;
     }
     empty(tree, caches);
     from_tree(tree, size, limit, Point::Last)
@@ -106,19 +107,20 @@ pub fn walk(
     sac: bool,
     size: u64,
     limit: u64,
-) -> Found
+) -> Walked
     requires worker { w < caches.old.workers }
     requires some { 1 ≤ size }
     requires bounded { size ≤ MAX_FRAMES }
     requires stock { IsStock tree.old caches.old [] }
-    ensures comes { (s : State) → ArePartsOf tree.old caches.old.caches s → Comes (next.walk s w sac size limit (point_of result)) result caches.new.caches }
+    ensures comes { (s : State) → ArePartsOf tree.old caches.old.caches s
+        → Comes (next.walk s w sac size limit (point_of result)) result caches.new.caches }
     ensures size { IsPlacedOf size result }
     ensures point { point_of result ≢ Point.Ledger }
     ensures stock { Exchanges tree.old tree.new caches.old caches.new (placed result) [] }
 {
     if sac && limit > SAC_LIMIT {
         match try_once(tree, caches, w, size, SAC_LIMIT, false, Point::First) {
-            Found::Nowhere => {}
+            Walked::Nowhere => {}
             found => return found,
         }
     }

@@ -13,7 +13,7 @@ use Rattle.iova_model.specs.Caches.{Cache, Caches, no_magazines, cache_at, of_or
 use Rattle.iova_model.specs.State.{Holder, at_place, cache_holders, magazine_holders, list_holders, depot_holders}
 use Rattle.iova_model.specs.Valid.{IsCache, AreWorkerCaches, IsDepotList, IsDepot, AreCaches}
 use Rattle.iova_model.specs.Laws.{frames_of}
-use Rattle.iova_depot.specs.Cached.{with_cache, with_depot}
+use Rattle.iova_depot.specs.Cached.{with_worker_cache, with_depot}
 
 -- what the ranges of holders weigh
 abbrev pub weight_of : (Frames → ℕ) → List Holder → ℕ
@@ -121,16 +121,16 @@ by_depots = record { none = λ k. refl; more = λ k d rest. refl }
 join : (m m' p q a b : ℕ) → m' + p ≡ m + q → q + a ≡ p + b → m' + a ≡ m + b
 join m m' p q a b e f = omega arith
 
-pub frames_of-with_cache : (c : Caches) (w o : ℕ) (cache : Cache) → w < length c.workers → o < length (slice_index_or c.workers w [])
-    → frames_of (magazine_holders 0 (with_cache c w o cache).workers) + 2 ^ o * entries_in (cache_at c w o) ≡ frames_of (magazine_holders 0 c.workers) + 2 ^ o * entries_in cache
-frames_of-with_cache c w o cache in_workers in_orders =
+pub frames_of-with_worker_cache : (c : Caches) (w o : ℕ) (cache : Cache) → w < length c.workers → o < length (slice_index_or c.workers w [])
+    → frames_of (magazine_holders 0 (with_worker_cache c w o cache).workers) + 2 ^ o * entries_in (cache_at c w o) ≡ frames_of (magazine_holders 0 c.workers) + 2 ^ o * entries_in cache
+frames_of-with_worker_cache c w o cache in_workers in_orders =
     let cs = slice_index_or c.workers w [] in
     let ds = slice_set cs o cache in
     let outer = weight_of-set frames_in (λ w cs. cache_holders w 0 cs) magazine_holders by_workers 0 w c.workers [] cs ds in_workers refl in
     let inner = weight_of-set frames_in (pair_holders (0 + w)) (cache_holders (0 + w)) (by_orders (0 + w)) 0 o cs no_magazines (cache_at c w o) cache in_orders refl in
     let zero_first : 0 + o ≡ o = omega arith in
     let inner' = rw (zero_first, frames_of-pair (0 + w) o (cache_at c w o), frames_of-pair (0 + w) o cache) at inner in
-    join (frames_of (magazine_holders 0 c.workers)) (frames_of (magazine_holders 0 (with_cache c w o cache).workers)) (frames_of (cache_holders (0 + w) 0 cs)) (frames_of (cache_holders (0 + w) 0 ds))
+    join (frames_of (magazine_holders 0 c.workers)) (frames_of (magazine_holders 0 (with_worker_cache c w o cache).workers)) (frames_of (cache_holders (0 + w) 0 cs)) (frames_of (cache_holders (0 + w) 0 ds))
     (2 ^ o * entries_in (cache_at c w o)) (2 ^ o * entries_in cache) outer inner'
 
 -- another depot of one order

@@ -42,7 +42,7 @@ skip_step : (frame : ℕ) (h : Holder) (hs others : List Holder) (b : Bool) → 
 skip_step frame h hs others true is none more = absurd cc
 skip_step frame h hs others false is none more = find_step frame h (hs ++ others) false is ∙ more none
 
--- is behind holders that don't have it
+-- is after holders that don't have it
 pub find_behind : (frame : ℕ) (hs others : List Holder) → list_any (has frame) hs ≡ false → find (has frame) (hs ++ others) ≡ find (has frame) others
 find_behind frame [] others none = refl
 find_behind frame (h ∷ hs) others none = skip_step frame h hs others (has frame h) refl none (find_behind frame hs others)

@@ -10,7 +10,7 @@ use Rattle.iova_model.specs.Valid.{IsCache, AreWorkerCaches, IsDepot}
 use Rattle.iova_mag.specs.Workers.{WorkerCache, new_worker}
 use Rattle.iova_depot.specs.Stored.{Stored}
 use Rattle.iova_depot.specs.Cached.{Cached, new_cached}
-use Rattle.iova_depot.specs.Inside.{IsInside}
+use Rattle.iova_depot.specs.Inside.{AreCachesKept}
 use Rattle.iova_depot.proofs.Changes.{all_seen, caches_in}
 
 abbrev pub new_depot : Capacities → Stored
@@ -42,7 +42,7 @@ six_caches p = record {
 empty_depot : (p : Capacities) → IsDepot p []
 empty_depot p = record { room = omega arith; each = tt }
 
-fresh_lists : (profile : Capacities) (n : ℕ) → IsProfile profile → 1 ≤ n → n ≤ 16 → IsInside profile (replicate n (new_worker profile)) (replicate 6 (new_depot profile)) 0 0 0
+fresh_lists : (profile : Capacities) (n : ℕ) → IsProfile profile → 1 ≤ n → n ≤ 16 → AreCachesKept profile (replicate n (new_worker profile)) (replicate 6 (new_depot profile)) 0 0 0
 fresh_lists profile n is_profile some few =
     let len = length-replicate n (new_worker profile) in
     record {
@@ -62,5 +62,5 @@ fresh_lists profile n is_profile some few =
       empty = record { magazines = λ w o w_lt o_lt below. absurd (omega arith); depots = λ o o_lt below. absurd (omega arith) };
     }
 
-pub fresh : (profile : Capacities) (n : ℕ) (ws : List WorkerCache) (ds : List Stored) → IsProfile profile → 1 ≤ n → n ≤ 16 → ws ≡ replicate n (new_worker profile) → ds ≡ replicate 6 (new_depot profile) → IsInside profile ws ds 0 0 0
+pub fresh : (profile : Capacities) (n : ℕ) (ws : List WorkerCache) (ds : List Stored) → IsProfile profile → 1 ≤ n → n ≤ 16 → ws ≡ replicate n (new_worker profile) → ds ≡ replicate 6 (new_depot profile) → AreCachesKept profile ws ds 0 0 0
 fresh profile n ws ds is_profile some few is_ws is_ds = rw (is_ws, is_ds) (fresh_lists profile n is_profile some few)

@@ -9,10 +9,10 @@ use Rattle.iova_range.specs.Bounds.{Capacities}
 use Rattle.iova_model.specs.Caches.{Cache, Caches, Shelf, TakesOutOfDepot, TakesEntry, cache_at, no_magazines, with_shelf, without_list, front, last_or}
 use Rattle.iova_model.specs.Valid.{IsDepot}
 use Rattle.iova_mag.specs.Magazines.{Magazine, IsMagazine}
-use Rattle.iova_mag.specs.Workers.{WorkerCache, with_cache as with_cache_of}
+use Rattle.iova_mag.specs.Workers.{WorkerCache, with_cache}
 use Rattle.iova_depot.specs.Stored.{Stored}
-use Rattle.iova_depot.specs.Cached.{Cached, with_cache}
-use Rattle.iova_depot.specs.Inside.{seen, IsInside}
+use Rattle.iova_depot.specs.Cached.{Cached, with_worker_cache}
+use Rattle.iova_depot.specs.Inside.{seen, AreCachesKept}
 use Rattle.iova_depot.proofs.Counts.{entries_of, pow_of_order, depots_bound}
 use Rattle.iova_depot.proofs.Changes.{all_seen, depot_at-seen, seen-set_depot, all_seen-set_worker}
 use Rattle.iova_depot.proofs.Steps.{shifted, magazine_small, LessInDepot, less-depot, MoreInDepot, more-depot}
@@ -30,7 +30,7 @@ entries_of-front lists more =
     omega arith
 
 -- the last magazine leaves
-pub of_pop : (profile : Capacities) (ws : List WorkerCache) (ds : List Stored) (m d n o len : ℕ) (p q : Stored) (magazine : Magazine) → IsInside profile ws ds m d n
+pub of_pop : (profile : Capacities) (ws : List WorkerCache) (ds : List Stored) (m d n o len : ℕ) (p q : Stored) (magazine : Magazine) → AreCachesKept profile ws ds m d n
     → o < 6 → p ≡ slice_index_or ds o p → q ≡ record p { lists = front p.lists } → IsDepot q.profile q.lists
     → p.lists ≢ [] → magazine ≡ record { profile = p.profile; entries = last_or [] p.lists } → len ≡ length magazine.entries → IsMagazine magazine
     → LessInDepot profile ws ds m d n o q (len * 2 ^ o % 18446744073709551616)
@@ -42,7 +42,7 @@ of_pop profile ws ds m d n o len p q magazine s lt was is sound more value len_i
     less-depot profile ws ds m d n o p q len _ s lt was (ap (λ (q : Stored). q.profile) is) sound (shifted len o (omega arith) lt) (omega arith)
 
 -- a magazine comes last
-pub of_push : (profile : Capacities) (ws : List WorkerCache) (ds : List Stored) (m d n n' o len : ℕ) (p q : Stored) (magazine : Magazine) → IsInside profile ws ds m d n
+pub of_push : (profile : Capacities) (ws : List WorkerCache) (ds : List Stored) (m d n n' o len : ℕ) (p q : Stored) (magazine : Magazine) → AreCachesKept profile ws ds m d n
     → o < 6 → p ≡ slice_index_or ds o p → q ≡ record p { lists = p.lists ++ magazine.entries ∷ [] } → IsDepot q.profile q.lists
     → len ≡ length magazine.entries → IsMagazine magazine → n' ≤ n → n' ≤ length ws * 6 + o → MoreInDepot profile ws ds m d n' o q (len * 2 ^ o % 18446744073709551616)
 of_push profile ws ds m d n n' o len p q magazine s lt was is sound len_is whole le below =
@@ -51,7 +51,7 @@ of_push profile ws ds m d n n' o len p q magazine s lt was is sound len_is whole
     more-depot profile ws ds m d n n' o p q len _ s lt was (ap (λ (q : Stored). q.profile) is) sound (shifted len o (omega arith) lt) (omega arith) (omega arith) le below
 
 -- before it is there, its frames can be added to the count
-pub count_fits : (profile : Capacities) (ws : List WorkerCache) (ds : List Stored) (m d n o len : ℕ) (magazine : Magazine) → IsInside profile ws ds m d n
+pub count_fits : (profile : Capacities) (ws : List WorkerCache) (ds : List Stored) (m d n o len : ℕ) (magazine : Magazine) → AreCachesKept profile ws ds m d n
     → o < 6 → len ≡ length magazine.entries → IsMagazine magazine → d + len * 2 ^ o % 18446744073709551616 < 18446744073709551616
 count_fits profile ws ds m d n o len magazine s lt len_is whole =
     let small = magazine_small magazine whole in
@@ -82,14 +82,14 @@ entries_of-takes lo old new t =
     let left : length t.left ≡ length (remove list t.takes.place) = ap length t.takes.others in
     rw t.others (without_one old t.place t.left (omega arith) (omega arith))
 
-pub of_take : (profile : Capacities) (ws : List WorkerCache) (ds : List Stored) (m d n o lo : ℕ) (p q : Stored) → IsInside profile ws ds m d n
+pub of_take : (profile : Capacities) (ws : List WorkerCache) (ds : List Stored) (m d n o lo : ℕ) (p q : Stored) → AreCachesKept profile ws ds m d n
     → o < 6 → p ≡ slice_index_or ds o p → q.profile ≡ p.profile → IsDepot q.profile q.lists → TakesOutOfDepot lo p.lists q.lists
     → LessInDepot profile ws ds m d n o q (1 * 2 ^ o % 18446744073709551616)
 of_take profile ws ds m d n o lo p q s lt was keeps sound takes =
     less-depot profile ws ds m d n o p q 1 _ s lt was keeps sound (shifted 1 o (omega arith) lt) (entries_of-takes lo p.lists q.lists takes)
 
 -- it was one of the shelf's
-pub takes_from_depot : (profile : Capacities) (ws : List WorkerCache) (ds : List Stored) (m d n o lo : ℕ) (p q : Stored) → IsInside profile ws ds m d n
+pub takes_from_depot : (profile : Capacities) (ws : List WorkerCache) (ds : List Stored) (m d n o lo : ℕ) (p q : Stored) → AreCachesKept profile ws ds m d n
     → o < 6 → p ≡ slice_index_or ds o p → TakesOutOfDepot lo p.lists q.lists → TakesEntry o lo (seen ws ds) (seen ws (slice_set ds o q))
 takes_from_depot profile ws ds m d n o lo p q s lt was takes =
     let all : Caches = seen ws ds in
@@ -107,9 +107,9 @@ takes_from_depot profile ws ds m d n o lo p q s lt was takes =
     }
 
 -- a worker's empty magazines and the last one of the depot, as all is seen when that is loaded
-pub all_seen-reload : (profile : Capacities) (ws : List WorkerCache) (ds : List Stored) (m d n w o : ℕ) (p q : Stored) (u v : WorkerCache) (magazine : Magazine) → IsInside profile ws ds m d n
+pub all_seen-reload : (profile : Capacities) (ws : List WorkerCache) (ds : List Stored) (m d n w o : ℕ) (p q : Stored) (u v : WorkerCache) (magazine : Magazine) → AreCachesKept profile ws ds m d n
     → w < length ws → o < 6 → p ≡ slice_index_or ds o p → q ≡ record p { lists = front p.lists } → magazine ≡ record { profile = p.profile; entries = last_or [] p.lists }
-    → u ≡ slice_index_or ws w u → v ≡ with_cache_of u o (record { loaded = magazine.entries; previous = [] })
+    → u ≡ slice_index_or ws w u → v ≡ with_cache u o (record { loaded = magazine.entries; previous = [] })
     → all_seen profile (slice_set ws w v) (slice_set ds o q)
     ≡ record { profile = profile; workers = length ws; caches = with_shelf (seen ws ds) w o (record { loaded = last_or [] (slice_index_or (seen ws ds).depots o []); previous = []; depot = front (slice_index_or (seen ws ds).depots o []) }) }
 all_seen-reload profile ws ds m d n w o p q u v magazine s lt o_lt was is value was_worker is_worker =
@@ -119,7 +119,7 @@ all_seen-reload profile ws ds m d n w o p q u v magazine s lt o_lt was is value 
     let entries : magazine.entries ≡ last_or [] lists = ap (λ (m : Magazine). m.entries) value ∙ ap (λ (ls : List (List ℕ)). last_or [] ls) (sym at) in
     let all : Caches = seen ws ds in
     let loaded : List ℕ → Cache = λ los. record { loaded = los; previous = [] } in
-    let now : List ℕ → List (List (List ℕ)) → Cached = λ los depots. record { profile = profile; workers = length ws; caches = record { workers = (with_cache all w o (loaded los)).workers; depots = depots } } in
+    let now : List ℕ → List (List (List ℕ)) → Cached = λ los depots. record { profile = profile; workers = length ws; caches = record { workers = (with_worker_cache all w o (loaded los)).workers; depots = depots } } in
     all_seen-set_worker (λ (c : Cache). loaded magazine.entries) profile ws (slice_set ds o q) w o u v lt was_worker is_worker
     ∙ (ap (λ (depots : List (List (List ℕ))). now magazine.entries depots) (ap (λ (c : Caches). c.depots) (seen-set_depot ws ds o q) ∙ ap (λ (ls : List (List ℕ)). slice_set all.depots o ls) left)
     ∙ ap (λ (los : List ℕ). now los (slice_set all.depots o (front lists))) entries)

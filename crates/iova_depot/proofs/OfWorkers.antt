@@ -7,10 +7,10 @@ use Rattle.iova_model.specs.Caches.{Cache, Caches, Shelf, TakesEntry, no_magazin
 use Rattle.iova_mag.specs.declared.worker.Got.{Got}
 use Rattle.iova_mag.specs.declared.worker.Got.TheVariants.{Hit}
 use Rattle.iova_mag.specs.Magazines.{Magazine, IsMagazine}
-use Rattle.iova_mag.specs.Workers.{WorkerCache, IsWorkerCache, AreEmpty, HasRoom, cache_of, with_cache as with_cache_of, shelf_of, pair_of, got, newest, without_newest}
+use Rattle.iova_mag.specs.Workers.{WorkerCache, IsWorkerCache, AreEmpty, HasRoom, cache_of, with_cache, shelf_of, pair_of, got, newest, without_newest}
 use Rattle.iova_depot.specs.Stored.{Stored}
-use Rattle.iova_depot.specs.Cached.{with_cache}
-use Rattle.iova_depot.specs.Inside.{seen, IsInside}
+use Rattle.iova_depot.specs.Cached.{with_worker_cache}
+use Rattle.iova_depot.specs.Inside.{seen, AreCachesKept}
 use Rattle.iova_depot.proofs.Counts.{pow_of_order, magazines_bound}
 use Rattle.iova_depot.proofs.Moves.{hits, entries_in-get, hits-no_hit, entries_in-put, entries_in-newest, takes_newest, without_newest-none}
 use Rattle.std.proofs.lemmas.List.{set-get_or}
@@ -19,21 +19,21 @@ use Rattle.iova_depot.proofs.Steps.{shifted, magazine_small, LessInMagazines, le
 
 -- The worker at place w was p, and is q with these magazines of order o.
 pub record Becomes (profile : Capacities) (ws : List WorkerCache) (ds : List Stored) (m d n w o : ℕ) (p q : WorkerCache) (cache : Cache) : Type 0 where
-  pub inside : IsInside profile ws ds m d n
+  pub inside : AreCachesKept profile ws ds m d n
   pub in_workers : w < length ws
   pub in_orders : o < 6
   pub was : p ≡ slice_index_or ws w p
-  pub is : q ≡ with_cache_of p o cache
+  pub is : q ≡ with_cache p o cache
   pub sound : IsWorkerCache q
 
-pub becomes : (profile : Capacities) (ws : List WorkerCache) (ds : List Stored) (m d n w o : ℕ) (p q : WorkerCache) (cache : Cache) → IsInside profile ws ds m d n
-    → w < length ws → o < 6 → p ≡ slice_index_or ws w p → q ≡ with_cache_of p o cache → IsWorkerCache q → Becomes profile ws ds m d n w o p q cache
+pub becomes : (profile : Capacities) (ws : List WorkerCache) (ds : List Stored) (m d n w o : ℕ) (p q : WorkerCache) (cache : Cache) → AreCachesKept profile ws ds m d n
+    → w < length ws → o < 6 → p ≡ slice_index_or ws w p → q ≡ with_cache p o cache → IsWorkerCache q → Becomes profile ws ds m d n w o p q cache
 becomes profile ws ds m d n w o p q cache s lt o_lt was is sound = record { inside = s; in_workers = lt; in_orders = o_lt; was = was; is = is; sound = sound }
 
 one_shifted : (o : ℕ) → o < 6 → 1 * 2 ^ o % 18446744073709551616 ≡ 2 ^ o * 1
 one_shifted o lt = shifted 1 o (omega arith) lt
 
-no_change : (profile : Capacities) (ws : List WorkerCache) (ds : List Stored) (m d n w : ℕ) (q : WorkerCache) → LessInMagazines profile ws ds m d n w q 0 → IsInside profile (slice_set ws w q) ds m d n
+no_change : (profile : Capacities) (ws : List WorkerCache) (ds : List Stored) (m d n w : ℕ) (q : WorkerCache) → LessInMagazines profile ws ds m d n w q 0 → AreCachesKept profile (slice_set ws w q) ds m d n
 no_change profile ws ds m d n w q l = let e : m - 0 ≡ m = omega arith in rw e at l.inside
 
 pub of_hit : (profile : Capacities) (ws : List WorkerCache) (ds : List Stored) (m d n w o limit lo : ℕ) (p q : WorkerCache) (g : Got)
@@ -46,7 +46,7 @@ of_hit profile ws ds m d n w o limit lo p q g b value hit =
 
 pub of_no_hit : (profile : Capacities) (ws : List WorkerCache) (ds : List Stored) (m d n w o limit : ℕ) (p q : WorkerCache) (g : Got)
     → Becomes profile ws ds m d n w o p q (pair_of (get (shelf_of (cache_of p o)) limit (2 ^ o)).1) → g ≡ got (cache_of p o) limit (2 ^ o) → ((lo : ℕ) → g ≡ Hit lo → ⊥)
-    → IsInside profile (slice_set ws w q) ds m d n
+    → AreCachesKept profile (slice_set ws w q) ds m d n
 of_no_hit profile ws ds m d n w o limit p q g b value miss =
     let counts = entries_in-get (cache_of p o) limit (2 ^ o) in
     let none : hits (got (cache_of p o) limit (2 ^ o)) ≡ 0 = ap hits (sym value) ∙ hits-no_hit g miss in
@@ -69,7 +69,7 @@ of_renew profile ws ds m d n w o len p q magazine b value len_is whole =
     less-worker profile ws ds m d n w o p q _ len _ b.inside b.in_workers b.in_orders b.was b.is b.sound (shifted len o (omega arith) b.in_orders) (omega arith)
 
 -- before a magazine is there, its frames can be added to the count
-pub count_fits : (profile : Capacities) (ws : List WorkerCache) (ds : List Stored) (m d n o len : ℕ) (magazine : Magazine) → IsInside profile ws ds m d n
+pub count_fits : (profile : Capacities) (ws : List WorkerCache) (ds : List Stored) (m d n o len : ℕ) (magazine : Magazine) → AreCachesKept profile ws ds m d n
     → o < 6 → len ≡ length magazine.entries → IsMagazine magazine → m + len * 2 ^ o % 18446744073709551616 < 18446744073709551616
 count_fits profile ws ds m d n o len magazine s lt len_is whole =
     let small = magazine_small magazine whole in
@@ -97,15 +97,15 @@ of_take profile ws ds m d n w o lo p q b some =
     less-worker profile ws ds m d n w o p q _ 1 _ b.inside b.in_workers b.in_orders b.was b.is b.sound (one_shifted o b.in_orders) (omega arith)
 
 -- where nothing was taken, the worker is as it was
-pub same_worker : (ws : List WorkerCache) (w o : ℕ) (p q : WorkerCache) → p ≡ slice_index_or ws w p → q ≡ with_cache_of p o (without_newest (cache_of p o)) → newest (cache_of p o) ≡ None → slice_set ws w q ≡ ws
+pub same_worker : (ws : List WorkerCache) (w o : ℕ) (p q : WorkerCache) → p ≡ slice_index_or ws w p → q ≡ with_cache p o (without_newest (cache_of p o)) → newest (cache_of p o) ≡ None → slice_set ws w q ≡ ws
 same_worker ws w o p q was is none =
     let kept : without_newest (cache_of p o) ≡ cache_of p o = (without_newest-none (cache_of p o) none).1 in
-    let back : with_cache_of p o (cache_of p o) ≡ p = ap (λ (cs : List Cache). let u : WorkerCache = record { profile = p.profile; caches = cs } in u) (set-get_or p.caches o no_magazines) in
-    let same : q ≡ p = is ∙ (ap (λ (c : Cache). with_cache_of p o c) kept ∙ back) in
+    let back : with_cache p o (cache_of p o) ≡ p = ap (λ (cs : List Cache). let u : WorkerCache = record { profile = p.profile; caches = cs } in u) (set-get_or p.caches o no_magazines) in
+    let same : q ≡ p = is ∙ (ap (λ (c : Cache). with_cache p o c) kept ∙ back) in
     ap (λ (u : WorkerCache). slice_set ws w u) (same ∙ was) ∙ set-get_or ws w p
 
-pub of_no_take : (profile : Capacities) (ws : List WorkerCache) (ds : List Stored) (m d n w o : ℕ) (p q : WorkerCache) → IsInside profile ws ds m d n → p ≡ slice_index_or ws w p
-    → q ≡ with_cache_of p o (without_newest (cache_of p o)) → newest (cache_of p o) ≡ None → IsInside profile (slice_set ws w q) ds m d n
+pub of_no_take : (profile : Capacities) (ws : List WorkerCache) (ds : List Stored) (m d n w o : ℕ) (p q : WorkerCache) → AreCachesKept profile ws ds m d n → p ≡ slice_index_or ws w p
+    → q ≡ with_cache p o (without_newest (cache_of p o)) → newest (cache_of p o) ≡ None → AreCachesKept profile (slice_set ws w q) ds m d n
 of_no_take profile ws ds m d n w o p q s was is none = rw (same_worker ws w o p q was is none) s
 
 pub none_in_worker : (ws : List WorkerCache) (ds : List Stored) (w o : ℕ) (p : WorkerCache) → w < length ws → p ≡ slice_index_or ws w p → newest (cache_of p o) ≡ None → AreEmpty (cache_at (seen ws ds) w o)
@@ -113,7 +113,7 @@ none_in_worker ws ds w o p lt was none = rw (cache_at-seen ws ds w o p lt was) (
 
 -- where an entry was, it was one of the shelf's
 pub takes_from_worker : (ws : List WorkerCache) (ds : List Stored) (w o lo : ℕ) (p q : WorkerCache) → w < length ws → p ≡ slice_index_or ws w p
-    → q ≡ with_cache_of p o (without_newest (cache_of p o)) → newest (cache_of p o) ≡ Some lo → TakesEntry o lo (seen ws ds) (seen (slice_set ws w q) ds)
+    → q ≡ with_cache p o (without_newest (cache_of p o)) → newest (cache_of p o) ≡ Some lo → TakesEntry o lo (seen ws ds) (seen (slice_set ws w q) ds)
 takes_from_worker ws ds w o lo p q lt was is some =
     let c = without_newest (cache_of p o) in
     let depot = slice_index_or (seen ws ds).depots o [] in
@@ -124,13 +124,13 @@ takes_from_worker ws ds w o lo p q lt was is some =
       shelf = left;
       takes = rw (cache_at-seen ws ds w o p lt was) ((takes_newest (cache_of p o) lo some).takes depot);
       others = seen-set_worker ws ds w o p q c lt was is
-          ∙ ap (λ (depots : List (List (List ℕ))). let after : Caches = record { workers = (with_cache all w o c).workers; depots = depots } in after) (sym (set-get_or all.depots o []));
+          ∙ ap (λ (depots : List (List (List ℕ))). let after : Caches = record { workers = (with_worker_cache all w o c).workers; depots = depots } in after) (sym (set-get_or all.depots o []));
     }
 
 -- a put, as all is seen
-pub all_seen-put : (profile : Capacities) (ws : List WorkerCache) (ds : List Stored) (m d n w o lo : ℕ) (p q : WorkerCache) → IsInside profile ws ds m d n → w < length ws → p ≡ slice_index_or ws w p
-    → q ≡ with_cache_of p o (pair_of (put p.profile (shelf_of (cache_of p o)) lo))
-    → all_seen profile (slice_set ws w q) ds ≡ record { profile = profile; workers = length ws; caches = with_cache (seen ws ds) w o (pair_of (put profile (shelf_of (cache_at (seen ws ds) w o)) lo)) }
+pub all_seen-put : (profile : Capacities) (ws : List WorkerCache) (ds : List Stored) (m d n w o lo : ℕ) (p q : WorkerCache) → AreCachesKept profile ws ds m d n → w < length ws → p ≡ slice_index_or ws w p
+    → q ≡ with_cache p o (pair_of (put p.profile (shelf_of (cache_of p o)) lo))
+    → all_seen profile (slice_set ws w q) ds ≡ record { profile = profile; workers = length ws; caches = with_worker_cache (seen ws ds) w o (pair_of (put profile (shelf_of (cache_at (seen ws ds) w o)) lo)) }
 all_seen-put profile ws ds m d n w o lo p q s lt was is =
     all_seen-set_worker (λ (cache : Cache). pair_of (put profile (shelf_of cache) lo)) profile ws ds w o p q lt was
-    (is ∙ ap (λ (of : Capacities). with_cache_of p o (pair_of (put of (shelf_of (cache_of p o)) lo))) (profile_at profile ws ds m d n w p s lt was))
+    (is ∙ ap (λ (of : Capacities). with_cache p o (pair_of (put of (shelf_of (cache_of p o)) lo))) (profile_at profile ws ds m d n w p s lt was))

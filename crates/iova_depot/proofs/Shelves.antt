@@ -13,7 +13,7 @@ use Rattle.iova_mag.specs.declared.worker.Got.{Got}
 use Rattle.iova_mag.specs.declared.worker.Got.TheVariants.{Hit, Miss, Empty}
 use Rattle.iova_mag.specs.Magazines.{Magazine}
 use Rattle.iova_mag.specs.Workers.{shelf_of, pair_of, got, AreEmpty, AreFull, HasRoom}
-use Rattle.iova_depot.specs.Cached.{Cached, IsCached, with_cache, with_depot}
+use Rattle.iova_depot.specs.Cached.{Cached, IsCached, with_worker_cache, with_depot}
 use Rattle.iova_depot.proofs.Counts.{sizes_of}
 use Rattle.iova_depot.proofs.Changes.{at_same}
 
@@ -34,10 +34,10 @@ get-own (x ∷ xs) previous depot limit size some = popped-lists (x ∷ xs) prev
 get-own [] (y ∷ ys) depot limit size some = popped-lists (y ∷ ys) [] depot (fitting (y ∷ ys) limit size)
 get-own [] [] depot limit size some = absurd (some refl)
 
-same_depot : (c : Caches) (w o : ℕ) (cache : Cache) → with_shelf c w o (with_lists (shelf_of cache) (slice_index_or c.depots o [])) ≡ with_cache c w o cache
-same_depot c w o cache = ap (λ (depots : List (List (List ℕ))). let after : Caches = record { workers = (with_cache c w o cache).workers; depots = depots } in after) (set-get_or c.depots o [])
+same_depot : (c : Caches) (w o : ℕ) (cache : Cache) → with_shelf c w o (with_lists (shelf_of cache) (slice_index_or c.depots o [])) ≡ with_worker_cache c w o cache
+same_depot c w o cache = ap (λ (depots : List (List (List ℕ))). let after : Caches = record { workers = (with_worker_cache c w o cache).workers; depots = depots } in after) (set-get_or c.depots o [])
 
-pub with_shelf-get : (c : Caches) (w o limit size : ℕ) → got (cache_at c w o) limit size ≢ Empty → with_shelf c w o (get (shelf_at c w o) limit size).1 ≡ with_cache c w o (pair_of (get (shelf_of (cache_at c w o)) limit size).1)
+pub with_shelf-get : (c : Caches) (w o limit size : ℕ) → got (cache_at c w o) limit size ≢ Empty → with_shelf c w o (get (shelf_at c w o) limit size).1 ≡ with_worker_cache c w o (pair_of (get (shelf_of (cache_at c w o)) limit size).1)
 with_shelf-get c w o limit size some =
     ap (λ (s : Shelf). with_shelf c w o s) (get-own (cache_at c w o).loaded (cache_at c w o).previous (slice_index_or c.depots o []) limit size some)
     ∙ same_depot c w o (pair_of (get (shelf_of (cache_at c w o)) limit size).1)
@@ -50,7 +50,7 @@ miss_is_not_empty g is none = let both : Miss ≡ Empty = sym is ∙ none in cc
 
 -- as `get` says it
 pub got_own : (old new : Cached) (w o limit : ℕ) (g : Got) → g ≡ got (cache_at old.caches w o) limit (2 ^ o) → g ≢ Empty
-    → new ≡ record old { caches = with_cache old.caches w o (pair_of (get (shelf_of (cache_at old.caches w o)) limit (2 ^ o)).1) }
+    → new ≡ record old { caches = with_worker_cache old.caches w o (pair_of (get (shelf_of (cache_at old.caches w o)) limit (2 ^ o)).1) }
     → new ≡ record old { caches = with_shelf old.caches w o (get (shelf_at old.caches w o) limit (2 ^ o)).1 }
 got_own old new w o limit g value some is = rw (with_shelf-get old.caches w o limit (2 ^ o) (λ none. some (value ∙ none))) is
 
@@ -68,7 +68,7 @@ inside_sound c w o s w_lt o_lt =
     let six = (All-get_or (AreWorkerCaches c.profile) c.caches.workers w [] in_workers (All-from_recursion (AreWorkerCaches c.profile) c.caches.workers s.caches.magazines)).orders in
     record { in_workers = in_workers; in_orders = rw six o_lt }
 
-pub inside_before : (c : Caches) (w o : ℕ) (cache : Cache) → AreInside (with_cache c w o cache) w o → AreInside c w o
+pub inside_before : (c : Caches) (w o : ℕ) (cache : Cache) → AreInside (with_worker_cache c w o cache) w o → AreInside c w o
 inside_before c w o cache s =
     let cs = slice_set (slice_index_or c.workers w []) o cache in
     let n = length-set c.workers w cs in
@@ -78,8 +78,8 @@ inside_before c w o cache s =
     let b : o < length cs = rw at at s.in_orders in
     record { in_workers = in_workers; in_orders = omega arith }
 
-with_cache-twice : (c : Caches) (w o : ℕ) (a b : Cache) → w < length c.workers → with_cache (with_cache c w o a) w o b ≡ with_cache c w o b
-with_cache-twice c w o a b lt =
+with_worker_cache-twice : (c : Caches) (w o : ℕ) (a b : Cache) → w < length c.workers → with_worker_cache (with_worker_cache c w o a) w o b ≡ with_worker_cache c w o b
+with_worker_cache-twice c w o a b lt =
     let cs = slice_index_or c.workers w [] in
     let xs = slice_set cs o a in
     let inner : slice_set (slice_index_or (slice_set c.workers w xs) w []) o b ≡ slice_set cs o b = rw (get_or-set_same c.workers w xs [] lt) (set-set cs o a b) in
@@ -99,32 +99,32 @@ empty_get [] (y ∷ ys) depot limit size e f = absurd cc
 
 with_shelf-reload : (c : Caches) (w o limit size : ℕ) → AreInside c w o → AreEmpty (cache_at c w o)
     → let depot = slice_index_or c.depots o [] in let loaded : Shelf = record { loaded = last_or [] depot; previous = []; depot = front depot } in let mid = with_shelf c w o loaded in
-    with_cache mid w o (pair_of (get (shelf_of (cache_at mid w o)) limit size).1) ≡ with_shelf c w o (get (shelf_at c w o) limit size).1
+    with_worker_cache mid w o (pair_of (get (shelf_of (cache_at mid w o)) limit size).1) ≡ with_shelf c w o (get (shelf_at c w o) limit size).1
 with_shelf-reload c w o limit size s none =
     let depot = slice_index_or c.depots o [] in
     let first : Cache = record { loaded = last_or [] depot; previous = [] } in
-    let mid = with_depot (with_cache c w o first) o (front depot) in
+    let mid = with_depot (with_worker_cache c w o first) o (front depot) in
     let at : cache_at mid w o ≡ first = at_same c w o first s.in_workers s.in_orders in
     let got : Cache = pair_of (get (shelf_of first) limit size).1 in
     let whole : with_lists (shelf_of got) (front depot) ≡ (get (shelf_at c w o) limit size).1 =
     loaded_get (last_or [] depot) (front depot) limit size ∙ empty_get (cache_at c w o).loaded (cache_at c w o).previous depot limit size none.0 none.1 in
-    ap (λ (cache : Cache). with_cache mid w o (pair_of (get (shelf_of cache) limit size).1)) at
-    ∙ (ap (λ (c' : Caches). with_depot c' o (front depot)) (with_cache-twice c w o first got s.in_workers)
+    ap (λ (cache : Cache). with_worker_cache mid w o (pair_of (get (shelf_of cache) limit size).1)) at
+    ∙ (ap (λ (c' : Caches). with_depot c' o (front depot)) (with_worker_cache-twice c w o first got s.in_workers)
     ∙ ap (λ (s : Shelf). with_shelf c w o s) whole)
 
 -- as `reload_and_get` says it
 pub got_reloaded : (old mid new : Cached) (w o limit : ℕ) → IsCached mid → w < old.workers → o < 6 → AreEmpty (cache_at old.caches w o)
     → mid ≡ record old { caches = with_shelf old.caches w o (record { loaded = last_or [] (slice_index_or old.caches.depots o []); previous = []; depot = front (slice_index_or old.caches.depots o []) }) }
-    → new ≡ record mid { caches = with_cache mid.caches w o (pair_of (get (shelf_of (cache_at mid.caches w o)) limit (2 ^ o)).1) }
+    → new ≡ record mid { caches = with_worker_cache mid.caches w o (pair_of (get (shelf_of (cache_at mid.caches w o)) limit (2 ^ o)).1) }
     → new ≡ record old { caches = with_shelf old.caches w o (get (shelf_at old.caches w o) limit (2 ^ o)).1 }
 got_reloaded old mid new w o limit s w_lt o_lt none is_mid is_new =
     let depot = slice_index_or old.caches.depots o [] in
     let first : Cache = record { loaded = last_or [] depot; previous = [] } in
-    let now : Cached = record old { caches = with_depot (with_cache old.caches w o first) o (front depot) } in
+    let now : Cached = record old { caches = with_depot (with_worker_cache old.caches w o first) o (front depot) } in
     let sound : IsCached now = rw is_mid at s in
     let inside = inside_sound now w o sound w_lt o_lt in
     let before = inside_before old.caches w o first (record { in_workers = inside.in_workers; in_orders = inside.in_orders }) in
-    is_new ∙ (ap (λ (m : Cached). let after : Cached = record m { caches = with_cache m.caches w o (pair_of (get (shelf_of (cache_at m.caches w o)) limit (2 ^ o)).1) } in after) is_mid
+    is_new ∙ (ap (λ (m : Cached). let after : Cached = record m { caches = with_worker_cache m.caches w o (pair_of (get (shelf_of (cache_at m.caches w o)) limit (2 ^ o)).1) } in after) is_mid
     ∙ ap (λ (c : Caches). let after : Cached = record old { caches = c } in after) (with_shelf-reload old.caches w o limit (2 ^ o) before none))
 
 -- A put where both are full.
@@ -150,34 +150,34 @@ put-full p s lo b full full' is =
 with_shelf-put : (p : Capacities) (c : Caches) (w o lo : ℕ) (depots : List (List (List ℕ))) (b : Bool) → 127 ≤ p.mag → AreInside c w o → AreFull p (cache_at c w o)
     → nat_lt (length (slice_index_or c.depots o [])) p.depot ≡ b
     → depots ≡ slice_set c.depots o (cond b (slice_index_or c.depots o [] ++ (cache_at c w o).loaded ∷ []) (slice_index_or c.depots o []))
-    → let mid : Caches = record { workers = (with_cache c w o (emptied (cache_at c w o))).workers; depots = depots } in
-    with_cache mid w o (pair_of (put p (shelf_of (cache_at mid w o)) lo)) ≡ with_shelf c w o (put p (shelf_at c w o) lo)
+    → let mid : Caches = record { workers = (with_worker_cache c w o (emptied (cache_at c w o))).workers; depots = depots } in
+    with_worker_cache mid w o (pair_of (put p (shelf_of (cache_at mid w o)) lo)) ≡ with_shelf c w o (put p (shelf_at c w o) lo)
 with_shelf-put p c w o lo depots b some s full room are =
     let here = cache_at c w o in
     let last : Cache = record { loaded = lo ∷ []; previous = here.previous } in
-    let mid : Caches = record { workers = (with_cache c w o (emptied here)).workers; depots = depots } in
+    let mid : Caches = record { workers = (with_worker_cache c w o (emptied here)).workers; depots = depots } in
     let at : cache_at mid w o ≡ emptied here = at_same c w o (emptied here) s.in_workers s.in_orders in
     let whole = put-full p (shelf_at c w o) lo b full.0 full.1 room in
-    ap (λ (cache : Cache). with_cache mid w o (pair_of (put p (shelf_of cache) lo))) at
-    ∙ (ap (λ (cache : Cache). with_cache mid w o cache) (put_empty p here lo some)
-    ∙ (ap (λ (c' : Caches). let after : Caches = record { workers = c'.workers; depots = depots } in after) (with_cache-twice c w o (emptied here) last s.in_workers)
-    ∙ (ap (λ (ds : List (List (List ℕ))). let after : Caches = record { workers = (with_cache c w o last).workers; depots = ds } in after) are
+    ap (λ (cache : Cache). with_worker_cache mid w o (pair_of (put p (shelf_of cache) lo))) at
+    ∙ (ap (λ (cache : Cache). with_worker_cache mid w o cache) (put_empty p here lo some)
+    ∙ (ap (λ (c' : Caches). let after : Caches = record { workers = c'.workers; depots = depots } in after) (with_worker_cache-twice c w o (emptied here) last s.in_workers)
+    ∙ (ap (λ (ds : List (List (List ℕ))). let after : Caches = record { workers = (with_worker_cache c w o last).workers; depots = ds } in after) are
     ∙ ap (λ (s : Shelf). with_shelf c w o s) (sym whole))))
 
 -- as `put_full` says it: the magazine is renewed, and stored or sent
 put_stored : (old m1 m2 m3 : Cached) (w o lo : ℕ) (depot : List (List ℕ)) (b done : Bool) → IsCached m1 → w < old.workers → o < 6 → AreFull old.profile (cache_at old.caches w o)
-    → m1 ≡ record old { caches = with_cache old.caches w o (emptied (cache_at old.caches w o)) }
+    → m1 ≡ record old { caches = with_worker_cache old.caches w o (emptied (cache_at old.caches w o)) }
     → nat_lt (length (slice_index_or old.caches.depots o [])) old.profile.depot ≡ b
     → depot ≡ cond b (slice_index_or old.caches.depots o [] ++ (cache_at old.caches w o).loaded ∷ []) (slice_index_or old.caches.depots o [])
     → m2 ≡ record m1 { caches = with_depot m1.caches o depot }
     → (HasRoom m2.profile (cache_at m2.caches w o) → done ≡ true)
-    → OnTrue done (m3 ≡ record m2 { caches = with_cache m2.caches w o (pair_of (put m2.profile (shelf_of (cache_at m2.caches w o)) lo)) })
+    → OnTrue done (m3 ≡ record m2 { caches = with_worker_cache m2.caches w o (pair_of (put m2.profile (shelf_of (cache_at m2.caches w o)) lo)) })
     → m3 ≡ record old { caches = with_shelf old.caches w o (put old.profile (shelf_at old.caches w o) lo) }
 put_stored old m1 m2 m3 w o lo depot b done s w_lt o_lt full is1 room depot_is is2 has_room is3 =
     let c = old.caches in
     let here = cache_at c w o in
-    let now1 : Cached = record old { caches = with_cache c w o (emptied here) } in
-    let now2 : Cached = record old { caches = with_depot (with_cache c w o (emptied here)) o depot } in
+    let now1 : Cached = record old { caches = with_worker_cache c w o (emptied here) } in
+    let now2 : Cached = record old { caches = with_depot (with_worker_cache c w o (emptied here)) o depot } in
     let sound : IsCached now1 = rw is1 at s in
     let some : 127 ≤ old.profile.mag = (sizes_of old.profile sound.profile).some in
     let inside = inside_before c w o (emptied here) (inside_sound now1 w o sound w_lt o_lt) in
@@ -186,7 +186,7 @@ put_stored old m1 m2 m3 w o lo depot b done s w_lt o_lt full is1 room depot_is i
     let none : length (cache_at now2.caches w o).loaded ≡ 0 = ap (λ (cache : Cache). length cache.loaded) empty in
     let less : length (cache_at now2.caches w o).loaded < now2.profile.mag = omega arith in
     let free : HasRoom m2.profile (cache_at m2.caches w o) = rw all2 (inl less) in
-    OnTrue_at (has_room free) is3 ∙ (ap (λ (m : Cached). let after : Cached = record m { caches = with_cache m.caches w o (pair_of (put m.profile (shelf_of (cache_at m.caches w o)) lo)) } in after) all2
+    OnTrue_at (has_room free) is3 ∙ (ap (λ (m : Cached). let after : Cached = record m { caches = with_worker_cache m.caches w o (pair_of (put m.profile (shelf_of (cache_at m.caches w o)) lo)) } in after) all2
     ∙ ap (λ (c' : Caches). let after : Cached = record old { caches = c' } in after)
     (with_shelf-put old.profile c w o lo (slice_set c.depots o depot) b some inside full room (ap (λ (d : List (List ℕ)). slice_set c.depots o d) depot_is)))
 
@@ -194,13 +194,13 @@ unchanged : (m : Cached) (o : ℕ) → m ≡ record m { caches = with_depot m.ca
 unchanged m o = ap (λ (ds : List (List (List ℕ))). let after : Cached = record m { caches = record { workers = m.caches.workers; depots = ds } } in after) (sym (set-get_or m.caches.depots o []))
 
 pub put_both_full : (old m1 m2 m3 : Cached) (w o lo : ℕ) (sent : Option Magazine) (magazine : Magazine) (done : Bool) → IsCached m1 → w < old.workers → o < 6 → AreFull old.profile (cache_at old.caches w o)
-    → m1 ≡ record old { caches = with_cache old.caches w o (emptied (cache_at old.caches w o)) }
+    → m1 ≡ record old { caches = with_worker_cache old.caches w o (emptied (cache_at old.caches w o)) }
     → magazine.entries ≡ (cache_at old.caches w o).loaded
     → IfSome sent (λ m. (m ≡ magazine) × (m2 ≡ m1) × (length (slice_index_or m1.caches.depots o []) ≡ m1.profile.depot))
     → IfNone sent (length (slice_index_or m1.caches.depots o []) < m1.profile.depot)
     → IfNone sent (m2 ≡ record m1 { caches = with_depot m1.caches o (slice_index_or m1.caches.depots o [] ++ magazine.entries ∷ []) })
     → (HasRoom m2.profile (cache_at m2.caches w o) → done ≡ true)
-    → OnTrue done (m3 ≡ record m2 { caches = with_cache m2.caches w o (pair_of (put m2.profile (shelf_of (cache_at m2.caches w o)) lo)) })
+    → OnTrue done (m3 ≡ record m2 { caches = with_worker_cache m2.caches w o (pair_of (put m2.profile (shelf_of (cache_at m2.caches w o)) lo)) })
     → m3 ≡ record old { caches = with_shelf old.caches w o (put old.profile (shelf_at old.caches w o) lo) }
 put_both_full old m1 m2 m3 w o lo None magazine done s w_lt o_lt full is1 entries sent room stored has_room is3 =
     let depot = slice_index_or old.caches.depots o [] in

@@ -10,7 +10,7 @@ use Rattle.iova_model.specs.Valid.{AreWorkerCaches, AreCaches}
 use Rattle.iova_mag.specs.Workers.{WorkerCache, AreEmpty, pair_of}
 use Rattle.iova_depot.specs.Stored.{Stored}
 use Rattle.iova_depot.specs.Cached.{Cached}
-use Rattle.iova_depot.specs.Inside.{AreEmptyBelow, seen, IsInside}
+use Rattle.iova_depot.specs.Inside.{AreEmptyBelow, seen, AreCachesKept}
 use Rattle.iova_depot.proofs.Changes.{all_seen}
 
 -- an element of a list after a write is what was written, or as it was
@@ -129,7 +129,7 @@ all_empty profile slot workers c sound le s =
         map_same _ (slice_index_or c.workers w []) no_magazines (λ o o_lt. are_none (cache_at c w o) (s.magazines w o (omega arith) (omega arith) (omega arith)))
 
 -- another first slot
-pub with_first : (profile : Capacities) (ws : List WorkerCache) (ds : List Stored) (m d n n' : ℕ) → IsInside profile ws ds m d n → AreEmptyBelow n' (length ws) (seen ws ds) → IsInside profile ws ds m d n'
+pub with_first : (profile : Capacities) (ws : List WorkerCache) (ds : List Stored) (m d n n' : ℕ) → AreCachesKept profile ws ds m d n → AreEmptyBelow n' (length ws) (seen ws ds) → AreCachesKept profile ws ds m d n'
 with_first profile ws ds m d n n' s empty = record {
   is_profile = s.is_profile;
   some_worker = s.some_worker;
@@ -151,7 +151,7 @@ first_kept profile ws ds n o lo old new seen_is same s takes =
     subst (λ (c : Cached). AreEmptyBelow n c.workers c.caches) (sym seen_is) now
 
 -- and where there is none
-pub nothing_left : (profile : Capacities) (ws : List WorkerCache) (ds : List Stored) (m d n slot : ℕ) (old now : Cached) → IsInside profile ws ds m d n → all_seen profile ws ds ≡ old → now ≡ old
+pub nothing_left : (profile : Capacities) (ws : List WorkerCache) (ds : List Stored) (m d n slot : ℕ) (old now : Cached) → AreCachesKept profile ws ds m d n → all_seen profile ws ds ≡ old → now ≡ old
     → AreEmptyBelow slot now.workers now.caches → (length ws + 1) * 6 ≤ slot → emptied old.caches ≡ old.caches
 nothing_left profile ws ds m d n slot old now s seen_is same empty le =
     let before : AreEmptyBelow slot (length ws) (seen ws ds) = subst (λ (c : Cached). AreEmptyBelow slot c.workers c.caches) (same ∙ sym seen_is) empty in

@@ -7,10 +7,10 @@ use Rattle.iova_range.specs.Bounds.{Capacities}
 use Rattle.iova_model.specs.Caches.{Cache}
 use Rattle.iova_model.specs.Valid.{IsDepot}
 use Rattle.iova_mag.specs.Magazines.{Magazine, IsMagazine}
-use Rattle.iova_mag.specs.Workers.{WorkerCache, IsWorkerCache, AreEmpty, cache_of, with_cache as with_cache_of}
+use Rattle.iova_mag.specs.Workers.{WorkerCache, IsWorkerCache, AreEmpty, cache_of, with_cache}
 use Rattle.iova_depot.specs.Stored.{Stored}
-use Rattle.iova_depot.specs.Inside.{seen, IsInside}
-use Rattle.iova_depot.proofs.Counts.{entries_in, entries_of, pow_of_order, sizes_of, magazines_bound, depots_bound, frames_of-with_cache, frames_of-with_depot}
+use Rattle.iova_depot.specs.Inside.{seen, AreCachesKept}
+use Rattle.iova_depot.proofs.Counts.{entries_in, entries_of, pow_of_order, sizes_of, magazines_bound, depots_bound, frames_of-with_worker_cache, frames_of-with_depot}
 use Rattle.iova_depot.proofs.Changes.{cache_at-seen, orders_at, depot_at-seen, inside-worker, inside-depot}
 
 -- what the code computes by a shift
@@ -52,17 +52,17 @@ part_fits m new t a e e' is counts = let s = times_add t a e' in let counts' = r
 
 pub record LessInMagazines (profile : Capacities) (ws : List WorkerCache) (ds : List Stored) (m d n w : ℕ) (q : WorkerCache) (frames : ℕ) : Type 0 where
   pub fits : frames ≤ m
-  pub inside : IsInside profile (slice_set ws w q) ds (m - frames) d n
+  pub inside : AreCachesKept profile (slice_set ws w q) ds (m - frames) d n
 
-pub less-worker : (profile : Capacities) (ws : List WorkerCache) (ds : List Stored) (m d n w o : ℕ) (p q : WorkerCache) (cache : Cache) (a frames : ℕ) → IsInside profile ws ds m d n
-    → w < length ws → o < 6 → p ≡ slice_index_or ws w p → q ≡ with_cache_of p o cache → IsWorkerCache q
+pub less-worker : (profile : Capacities) (ws : List WorkerCache) (ds : List Stored) (m d n w o : ℕ) (p q : WorkerCache) (cache : Cache) (a frames : ℕ) → AreCachesKept profile ws ds m d n
+    → w < length ws → o < 6 → p ≡ slice_index_or ws w p → q ≡ with_cache p o cache → IsWorkerCache q
     → frames ≡ 2 ^ o * a → entries_in (cache_of p o) ≡ a + entries_in cache → LessInMagazines profile ws ds m d n w q frames
 less-worker profile ws ds m d n w o p q cache a frames s lt o_lt is becomes sound frames_are counts =
     let k : length (seen ws ds).workers ≡ length ws = s.caches.each_worker in
     let w_lt : w < length (seen ws ds).workers = omega arith in
     let in_orders : o < length (slice_index_or (seen ws ds).workers w []) = rw (orders_at profile ws ds m d n w s lt) o_lt in
     let at = cache_at-seen ws ds w o p lt is in
-    let sums = rw (at, ← s.magazines) at (frames_of-with_cache (seen ws ds) w o cache w_lt in_orders) in
+    let sums = rw (at, ← s.magazines) at (frames_of-with_worker_cache (seen ws ds) w o cache w_lt in_orders) in
     let fits : 2 ^ o * a ≤ m = part_fits m _ (2 ^ o) a (entries_in (cache_of p o)) (entries_in cache) counts sums in
     let empty : w * 6 + o < n → AreEmpty cache =
     λ below. (let none = entries_in-empty (cache_of p o) (rw at at (s.empty.magazines w o lt o_lt below)) in no_entries cache (omega arith)) in
@@ -74,14 +74,14 @@ less-worker profile ws ds m d n w o p q cache a frames s lt o_lt is becomes soun
 
 pub record LessInDepot (profile : Capacities) (ws : List WorkerCache) (ds : List Stored) (m d n o : ℕ) (q : Stored) (frames : ℕ) : Type 0 where
   pub fits : frames ≤ d
-  pub inside : IsInside profile ws (slice_set ds o q) m (d - frames) n
+  pub inside : AreCachesKept profile ws (slice_set ds o q) m (d - frames) n
 
 -- lists of a depot that have no entry are none
 no_lists : (p : Capacities) (lists : List (List ℕ)) → IsDepot p lists → entries_of lists ≡ 0 → lists ≡ []
 no_lists p [] is none = refl
 no_lists p (los ∷ rest) is none = let e = sum_by-cons length los rest in let some : 1 ≤ length los = is.each.0.some in absurd (omega arith)
 
-pub less-depot : (profile : Capacities) (ws : List WorkerCache) (ds : List Stored) (m d n o : ℕ) (p q : Stored) (a frames : ℕ) → IsInside profile ws ds m d n
+pub less-depot : (profile : Capacities) (ws : List WorkerCache) (ds : List Stored) (m d n o : ℕ) (p q : Stored) (a frames : ℕ) → AreCachesKept profile ws ds m d n
     → o < 6 → p ≡ slice_index_or ds o p → q.profile ≡ p.profile → IsDepot q.profile q.lists
     → frames ≡ 2 ^ o * a → entries_of p.lists ≡ a + entries_of q.lists → LessInDepot profile ws ds m d n o q frames
 less-depot profile ws ds m d n o p q a frames s o_lt is keeps sound frames_are counts =
@@ -102,10 +102,10 @@ less-depot profile ws ds m d n o p q a frames s o_lt is keeps sound frames_are c
 
 pub record MoreInMagazines (profile : Capacities) (ws : List WorkerCache) (ds : List Stored) (m d n w : ℕ) (q : WorkerCache) (frames : ℕ) : Type 0 where
   pub fits : m + frames < 18446744073709551616
-  pub inside : IsInside profile (slice_set ws w q) ds (m + frames) d n
+  pub inside : AreCachesKept profile (slice_set ws w q) ds (m + frames) d n
 
-pub more-worker : (profile : Capacities) (ws : List WorkerCache) (ds : List Stored) (m d n n' w o : ℕ) (p q : WorkerCache) (cache : Cache) (a frames : ℕ) → IsInside profile ws ds m d n
-    → w < length ws → o < 6 → p ≡ slice_index_or ws w p → q ≡ with_cache_of p o cache → IsWorkerCache q
+pub more-worker : (profile : Capacities) (ws : List WorkerCache) (ds : List Stored) (m d n n' w o : ℕ) (p q : WorkerCache) (cache : Cache) (a frames : ℕ) → AreCachesKept profile ws ds m d n
+    → w < length ws → o < 6 → p ≡ slice_index_or ws w p → q ≡ with_cache p o cache → IsWorkerCache q
     → frames ≡ 2 ^ o * a → a ≤ 4096 → entries_in cache ≡ a + entries_in (cache_of p o) → n' ≤ n → n' ≤ w * 6 + o → MoreInMagazines profile ws ds m d n' w q frames
 more-worker profile ws ds m d n n' w o p q cache a frames s lt o_lt is becomes sound frames_are a_le counts le below_slot =
     let most = magazines_bound profile (length ws) (seen ws ds) s.is_profile s.few_workers s.caches in
@@ -119,9 +119,9 @@ more-worker profile ws ds m d n n' w o p q cache a frames s lt o_lt is becomes s
 
 pub record MoreInDepot (profile : Capacities) (ws : List WorkerCache) (ds : List Stored) (m d n o : ℕ) (q : Stored) (frames : ℕ) : Type 0 where
   pub fits : d + frames < 18446744073709551616
-  pub inside : IsInside profile ws (slice_set ds o q) m (d + frames) n
+  pub inside : AreCachesKept profile ws (slice_set ds o q) m (d + frames) n
 
-pub more-depot : (profile : Capacities) (ws : List WorkerCache) (ds : List Stored) (m d n n' o : ℕ) (p q : Stored) (a frames : ℕ) → IsInside profile ws ds m d n
+pub more-depot : (profile : Capacities) (ws : List WorkerCache) (ds : List Stored) (m d n n' o : ℕ) (p q : Stored) (a frames : ℕ) → AreCachesKept profile ws ds m d n
     → o < 6 → p ≡ slice_index_or ds o p → q.profile ≡ p.profile → IsDepot q.profile q.lists
     → frames ≡ 2 ^ o * a → a ≤ 4096 → entries_of q.lists ≡ a + entries_of p.lists → n' ≤ n → n' ≤ length ws * 6 + o → MoreInDepot profile ws ds m d n' o q frames
 more-depot profile ws ds m d n n' o p q a frames s o_lt is keeps sound frames_are a_le counts le below_slot =

@@ -20,7 +20,7 @@ abbrev pub seen : List WorkerCache → List Stored → Caches
 seen workers depots = record { workers = map (λ w. w.caches) workers; depots = map (λ d. d.lists) depots }
 
 -- all have the profile, the two counts are those of the frames, and there is nothing below the first slot that may be filled
-pub record IsInside (profile : Capacities) (workers : List WorkerCache) (depots : List Stored) (in_magazines in_depot first_filled : ℕ) : Type 0 where
+pub record AreCachesKept (profile : Capacities) (workers : List WorkerCache) (depots : List Stored) (in_magazines in_depot first_filled : ℕ) : Type 0 where
   pub is_profile : IsProfile profile
   pub some_worker : 1 ≤ length workers
   pub few_workers : length workers ≤ MAX_WORKERS

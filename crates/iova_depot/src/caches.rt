@@ -1,13 +1,13 @@
 //! All that is cached in a domain.
-ghost use Rattle.std.specs.Prelude.{◌≡◌, ◌≢◌, ◌+◌, ◌*◌, ◌%◌, ◌-◌, ◌≤◌, ◌<◌, ◌^◌, ◌↔◌, ℕ, [], ◌∷◌, ◌++◌, length, replicate, Some, map, find, option_map, slice_index_or, IsTrue, IfOk, IsErr, IfNone, IfSome, OnOk};
+ghost use Rattle.std.specs.Prelude.{◌≡◌, ◌≢◌, ◌+◌, ◌*◌, ◌%◌, ◌-◌, ◌≤◌, ◌<◌, ◌^◌, ◌↔◌, ℕ, [], length, replicate, Some, find, option_map, IsTrue, IfOk, IsErr, IfNone, IfSome};
 ghost use Rattle.std.specs.Bool.{OnTrue, OnFalse};
 ghost use Rattle.iova_range.specs.Bounds.{first_profile};
-ghost use Rattle.iova_range.specs.Frames.{covers};
-ghost use Rattle.iova_model.specs.Caches.{TakesAny, TakesEntry, emptied, cache_at, shelf_at, with_shelf, get, put, sent_out, last_or, front};
-ghost use Rattle.iova_model.specs.State.{magazine_holders, depot_holders, cached_holders};
+ghost use Rattle.iova_model.specs.Caches.{TakesAny, TakesEntry, emptied, cache_at, shelf_at, get, put};
+ghost use Rattle.iova_model.specs.State.{magazine_holders, depot_holders};
 ghost use Rattle.iova_model.specs.Laws.{frames_of};
-ghost use Rattle.iova_mag.specs.Workers.{AreEmpty, AreFull, HasRoom, shelf_of, pair_of, got, new_worker};
-ghost use Rattle.iova_depot.specs.Cached.{Cached, IsCached, LosesOnly, new_cached, place_at, with_cache, with_depot};
+ghost use Rattle.iova_mag.specs.Magazines.{magazine_of};
+ghost use Rattle.iova_mag.specs.Workers.{AreEmpty, HasRoom, got, new_worker};
+ghost use Rattle.iova_depot.specs.Cached.{Cached, IsCached, IsDepotFull, AreFullAt, LosesOnly, new_cached, place_at, cached_place, cached_frames, depot_at, range_of_entry, after_get, after_put, sent_by_put, after_own_get, after_own_put, after_reload, after_renewal, after_store};
 
 use crate::depot::Depot;
 use crate::spot::Spot;
@@ -38,11 +38,16 @@ impl Model for Caches {
 
     ghost Value = { Cached };
 
-    ghost use Rattle.iova_depot.specs.Inside.{seen, IsInside};
+    ghost use Rattle.iova_depot.specs.Inside.{seen, AreCachesKept};
 
-    ghost view = { λ c. record { profile = c.profile; workers = length c.workers.items; caches = seen c.workers.items c.depots.items } };
+    ghost view = { λ c. record {
+      profile = c.profile;
+      workers = length c.workers.items;
+      caches = seen c.workers.items c.depots.items;
+    } };
 
-    ghost invariant = { λ c. IsInside c.profile c.workers.items c.depots.items c.in_magazines c.in_depot c.first_filled };
+    ghost invariant = { λ c. AreCachesKept
+        c.profile c.workers.items c.depots.items c.in_magazines c.in_depot c.first_filled };
 }
 
 impl Caches {
@@ -63,6 +68,7 @@ impl Caches {
         ensures value { IfOk result (λ c. c ≡ new_cached profile workers) }
         ensures refused { IsErr result → result ≡ Err Refusal.NoMemory }
     {
+        // for the proof: the profile is one of the two
         let _mag = profile.mag();
         let workers = new_workers(alloc, profile, workers)?;
         let Ok(depots) = new_depots(alloc, profile) else {
@@ -105,7 +111,7 @@ impl Caches {
         requires worker { w < self.old.workers }
         requires order { order < ORDERS }
         ensures value { result ≡ (get (shelf_at self.old.caches w order) limit (2 ^ order)).0 }
-        ensures left { self.new ≡ record self.old { caches = with_shelf self.old.caches w order (get (shelf_at self.old.caches w order) limit (2 ^ order)).1 } }
+        ensures left { self.new ≡ after_get self.old w order limit }
         ensures sound { IsCached self.new }
     {
         match self.try_get(w, order, limit) {
@@ -125,9 +131,9 @@ impl Caches {
         requires worker { w < self.old.workers }
         requires order { order < ORDERS }
         requires small { lo < 2 ^ 40 }
-        ensures left { self.new ≡ record self.old { caches = with_shelf self.old.caches w order (put self.old.profile (shelf_at self.old.caches w order) lo) } }
-        ensures none { IfNone result (sent_out self.old.profile (shelf_at self.old.caches w order) ≡ []) }
-        ensures sent { IfSome result (λ m. m ≡ record { profile = self.old.profile; entries = sent_out self.old.profile (shelf_at self.old.caches w order) }) }
+        ensures left { self.new ≡ after_put self.old w order lo }
+        ensures none { IfNone result (sent_by_put self.old w order ≡ []) }
+        ensures sent { IfSome result (λ m. m ≡ magazine_of self.old.profile (sent_by_put self.old w order)) }
         ensures some { IfSome result (λ m. 1 ≤ length m.entries) }
         ensures sound { IsCached self.new }
     {
@@ -146,9 +152,9 @@ impl Caches {
         requires order { order < ORDERS }
         requires small { lo < 2 ^ 40 }
         ensures room { IsTrue result ↔ HasRoom self.old.profile (cache_at self.old.caches w order) }
-        ensures done { OnTrue result (self.new ≡ record self.old { caches = with_shelf self.old.caches w order (put self.old.profile (shelf_at self.old.caches w order) lo) }) }
-        ensures none { OnTrue result (sent_out self.old.profile (shelf_at self.old.caches w order) ≡ []) }
-        ensures refused { OnFalse result ((self.new ≡ self.old) × AreFull self.old.profile (cache_at self.old.caches w order)) }
+        ensures done { OnTrue result (self.new ≡ after_put self.old w order lo) }
+        ensures none { OnTrue result (sent_by_put self.old w order ≡ []) }
+        ensures refused { OnFalse result ((self.new ≡ self.old) × AreFullAt self.old w order) }
         ensures sound { IsCached self.new }
     {
         self.put_in_worker(w, order, lo)
@@ -159,8 +165,9 @@ impl Caches {
     /// form of what Linux 5.15 `drivers/iommu/iova.c` does by magazines: `free_cpu_cached_iovas`, `free_global_cached_iovas`.
     pub fn take_any(&mut self) -> Option<(u8, u64)>
         ensures taken { TakesAny self.old.caches result self.new.caches }
-        ensures loses { IfSome result (λ entry. LosesOnly (record { lo = entry.1; len = 2 ^ entry.0 }) self.old.caches self.new.caches) }
-        ensures fewer { IfSome result (λ entry. frames_of (cached_holders self.new.caches) + 2 ^ entry.0 ≡ frames_of (cached_holders self.old.caches)) }
+        ensures loses { IfSome result (λ entry. LosesOnly (range_of_entry entry) self.old.caches self.new.caches) }
+        ensures fewer { IfSome result
+            (λ entry. cached_frames self.new.caches + 2 ^ entry.0 ≡ cached_frames self.old.caches) }
         ensures emptied { emptied self.new.caches ≡ emptied self.old.caches }
         ensures same { self.new ≡ record self.old { caches = self.new.caches } }
         ensures order { IfSome result (λ entry. entry.0 < ORDERS) }
@@ -191,7 +198,7 @@ impl Caches {
     /// Where a cached range has the frame: the first such place, the magazines by worker and then the depot. None exactly
     /// where no cached range has it. All entries may be looked at. Our own.
     pub fn find(&self, frame: u64) -> Option<Spot>
-        ensures { option_map place_at result ≡ option_map (λ h. h.place) (find (λ h. covers frame h.range) (cached_holders self.now.caches)) }
+        ensures { option_map place_at result ≡ cached_place frame self.now.caches }
     {
         for w in 0..self.workers.len() {
             if self.workers[w].has_frame(frame) {
@@ -212,7 +219,7 @@ impl Caches {
         requires worker { w < self.old.workers }
         requires order { order < ORDERS }
         ensures value { result ≡ got (cache_at self.old.caches w order) limit (2 ^ order) }
-        ensures left { self.new ≡ record self.old { caches = with_cache self.old.caches w order (pair_of (get (shelf_of (cache_at self.old.caches w order)) limit (2 ^ order)).1) } }
+        ensures left { self.new ≡ after_own_get self.old w order limit }
         ensures empty { result ≡ Got.Empty → AreEmpty (cache_at self.old.caches w order) }
         ensures sound { IsCached self.new }
     {
@@ -231,7 +238,7 @@ impl Caches {
         requires order { order < ORDERS }
         requires empty { AreEmpty (cache_at self.old.caches w order) }
         ensures value { result ≡ (get (shelf_at self.old.caches w order) limit (2 ^ order)).0 }
-        ensures left { self.new ≡ record self.old { caches = with_shelf self.old.caches w order (get (shelf_at self.old.caches w order) limit (2 ^ order)).1 } }
+        ensures left { self.new ≡ after_get self.old w order limit }
         ensures sound { IsCached self.new }
     {
         if !self.reload(w, order) {
@@ -248,9 +255,9 @@ impl Caches {
         requires worker { w < self.old.workers }
         requires order { order < ORDERS }
         requires empty { AreEmpty (cache_at self.old.caches w order) }
-        ensures none { OnFalse result ((slice_index_or self.old.caches.depots order [] ≡ []) × (self.new ≡ self.old)) }
-        ensures some { OnTrue result (slice_index_or self.old.caches.depots order [] ≢ []) }
-        ensures moved { OnTrue result (self.new ≡ record self.old { caches = with_shelf self.old.caches w order (record { loaded = last_or [] (slice_index_or self.old.caches.depots order []); previous = []; depot = front (slice_index_or self.old.caches.depots order []) }) }) }
+        ensures none { OnFalse result ((depot_at self.old.caches order ≡ []) × (self.new ≡ self.old)) }
+        ensures some { OnTrue result (depot_at self.old.caches order ≢ []) }
+        ensures moved { OnTrue result (self.new ≡ after_reload self.old w order) }
         ensures sound { IsCached self.new }
     {
         let depot = &mut self.depots[order as usize];
@@ -273,8 +280,8 @@ impl Caches {
         requires order { order < ORDERS }
         requires small { lo < 2 ^ 40 }
         ensures room { IsTrue result ↔ HasRoom self.old.profile (cache_at self.old.caches w order) }
-        ensures done { OnTrue result (self.new ≡ record self.old { caches = with_cache self.old.caches w order (pair_of (put self.old.profile (shelf_of (cache_at self.old.caches w order)) lo)) }) }
-        ensures refused { OnFalse result ((self.new ≡ self.old) × AreFull self.old.profile (cache_at self.old.caches w order)) }
+        ensures done { OnTrue result (self.new ≡ after_own_put self.old w order lo) }
+        ensures refused { OnFalse result ((self.new ≡ self.old) × AreFullAt self.old w order) }
         ensures sound { IsCached self.new }
     {
         let worker = &mut self.workers[w];
@@ -293,10 +300,10 @@ impl Caches {
         requires worker { w < self.old.workers }
         requires order { order < ORDERS }
         requires small { lo < 2 ^ 40 }
-        requires full { AreFull self.old.profile (cache_at self.old.caches w order) }
-        ensures left { self.new ≡ record self.old { caches = with_shelf self.old.caches w order (put self.old.profile (shelf_at self.old.caches w order) lo) } }
-        ensures none { IfNone result (sent_out self.old.profile (shelf_at self.old.caches w order) ≡ []) }
-        ensures sent { IfSome result (λ m. m ≡ record { profile = self.old.profile; entries = sent_out self.old.profile (shelf_at self.old.caches w order) }) }
+        requires full { AreFullAt self.old w order }
+        ensures left { self.new ≡ after_put self.old w order lo }
+        ensures none { IfNone result (sent_by_put self.old w order ≡ []) }
+        ensures sent { IfSome result (λ m. m ≡ magazine_of self.old.profile (sent_by_put self.old w order)) }
         ensures some { IfSome result (λ m. 1 ≤ length m.entries) }
         ensures sound { IsCached self.new }
     {
@@ -311,8 +318,8 @@ impl Caches {
         requires worker { w < self.old.workers }
         requires order { order < ORDERS }
         requires full { length (cache_at self.old.caches w order).loaded ≡ self.old.profile.mag }
-        ensures value { result ≡ record { profile = self.old.profile; entries = (cache_at self.old.caches w order).loaded } }
-        ensures left { self.new ≡ record self.old { caches = with_cache self.old.caches w order (record { loaded = []; previous = (cache_at self.old.caches w order).previous }) } }
+        ensures value { result ≡ magazine_of self.old.profile (cache_at self.old.caches w order).loaded }
+        ensures left { self.new ≡ after_renewal self.old w order }
         ensures sound { IsCached self.new }
     {
         let worker = &mut self.workers[w];
@@ -326,9 +333,9 @@ impl Caches {
         requires order { order < ORDERS }
         requires profile { magazine.profile ≡ self.old.profile }
         requires some { 1 ≤ length magazine.entries }
-        ensures full { IfSome result (λ m. (m ≡ magazine) × (self.new ≡ self.old) × (length (slice_index_or self.old.caches.depots order []) ≡ self.old.profile.depot)) }
-        ensures room { IfNone result (length (slice_index_or self.old.caches.depots order []) < self.old.profile.depot) }
-        ensures stored { IfNone result (self.new ≡ record self.old { caches = with_depot self.old.caches order (slice_index_or self.old.caches.depots order [] ++ magazine.entries ∷ []) }) }
+        ensures full { IfSome result (λ m. (m ≡ magazine) × (self.new ≡ self.old) × IsDepotFull self.old order) }
+        ensures room { IfNone result (length (depot_at self.old.caches order) < self.old.profile.depot) }
+        ensures stored { IfNone result (self.new ≡ after_store self.old order magazine.entries) }
         ensures sound { IsCached self.new }
     {
         let depot = &mut self.depots[order as usize];
@@ -347,8 +354,10 @@ impl Caches {
     fn take_from(&mut self, slot: usize) -> Option<u64>
         requires { slot < (self.old.workers + 1) * ORDERS }
         ensures none { IfNone result (self.new ≡ self.old) }
-        ensures magazines { (w o : ℕ) → w < self.old.workers → o < ORDERS → w * ORDERS + o ≡ slot → IfNone result (AreEmpty (cache_at self.old.caches w o)) }
-        ensures depots { (o : ℕ) → o < ORDERS → self.old.workers * ORDERS + o ≡ slot → IfNone result (slice_index_or self.old.caches.depots o [] ≡ []) }
+        ensures magazines { (w o : ℕ) → w < self.old.workers → o < ORDERS → w * ORDERS + o ≡ slot
+            → IfNone result (AreEmpty (cache_at self.old.caches w o)) }
+        ensures depots { (o : ℕ) → o < ORDERS → self.old.workers * ORDERS + o ≡ slot
+            → IfNone result (depot_at self.old.caches o ≡ []) }
         ensures taken { IfSome result (λ lo. TakesEntry (slot % ORDERS) lo self.old.caches self.new.caches) }
         ensures same { self.new ≡ record self.old { caches = self.new.caches } }
         ensures sound { IsCached self.new }
@@ -377,7 +386,7 @@ impl Caches {
 
     fn take_from_depot(&mut self, order: u8) -> Option<u64>
         requires { order < ORDERS }
-        ensures none { IfNone result ((self.new ≡ self.old) × (slice_index_or self.old.caches.depots order [] ≡ [])) }
+        ensures none { IfNone result ((self.new ≡ self.old) × (depot_at self.old.caches order ≡ [])) }
         ensures taken { IfSome result (λ lo. TakesEntry order lo self.old.caches self.new.caches) }
         ensures same { self.new ≡ record self.old { caches = self.new.caches } }
         ensures sound { IsCached self.new }

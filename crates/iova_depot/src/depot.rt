@@ -5,6 +5,7 @@ ghost use Rattle.iova_range.specs.Frames.{covers};
 ghost use Rattle.iova_model.specs.Caches.{TakesOutOfDepot, front, last_or};
 ghost use Rattle.iova_model.specs.State.{list_holders};
 ghost use Rattle.iova_model.specs.Valid.{IsDepot};
+ghost use Rattle.iova_mag.specs.Magazines.{magazine_of};
 
 use iova_mag::magazine::Magazine;
 use iova_range::limits::ORDERS;
@@ -56,6 +57,7 @@ impl Depot {
         ensures pushed { self.new ≡ record self.old { lists = self.old.lists ++ magazine.entries ∷ [] } }
         ensures sound { IsDepot self.new.profile self.new.lists }
     {
+        // for the proof: the magazine has no more entries than it is full at
         let _len = magazine.len();
         self.magazines.push(magazine).unwrap();
     }
@@ -63,7 +65,8 @@ impl Depot {
     /// Gives the newest magazine, if there is one.
     pub fn pop(&mut self) -> Option<Magazine>
         ensures none { IfNone result (self.old.lists ≡ []) }
-        ensures some { IfSome result (λ m. (self.old.lists ≢ []) × (m ≡ record { profile = self.old.profile; entries = last_or [] self.old.lists })) }
+        ensures some { IfSome result
+            (λ m. (self.old.lists ≢ []) × (m ≡ magazine_of self.old.profile (last_or [] self.old.lists))) }
         ensures left { self.new ≡ record self.old { lists = front self.old.lists } }
         ensures sound { IsDepot self.new.profile self.new.lists }
     {

@@ -34,9 +34,23 @@ impl Model for Flights {
 
     ghost Value = { Flushes };
 
-    ghost view = { λ f. record { start = f.start; finish = f.finish; owed = f.owed; newest = f.newest; good = f.good; in_flight = f.in_flight.items } };
+    ghost view = { λ f. record {
+      start = f.start;
+      finish = f.finish;
+      owed = f.owed;
+      newest = f.newest;
+      good = f.good;
+      in_flight = f.in_flight.items;
+    } };
 
-    ghost invariant = { λ f. AreSound (record { start = f.start; finish = f.finish; owed = f.owed; newest = f.newest; good = f.good; in_flight = f.in_flight.items }) };
+    ghost invariant = { λ f. AreSound (record {
+      start = f.start;
+      finish = f.finish;
+      owed = f.owed;
+      newest = f.newest;
+      good = f.good;
+      in_flight = f.in_flight.items;
+    }) };
 }
 
 impl Flights {

@@ -26,7 +26,7 @@ pub record Closes (id : ℕ) (old : List Frames) (st : Step) (r : Reply) (t : St
   pub not_emptied : Empties id st r → ⊥
 
 -- Or it held nothing, and is gone.
-pub record Leaves (id : ℕ) (old : List Frames) (st : Step) (r : Reply) (t : State) : Type 0 where
+pub record RefusalLeaves (id : ℕ) (old : List Frames) (st : Step) (r : Reply) (t : State) : Type 0 where
   pub gone : client_with id t.clients ≡ None
   pub nothing : old ≡ []
   pub nothing_queued : queued_in id st r ≡ []
@@ -34,7 +34,7 @@ pub record Leaves (id : ℕ) (old : List Frames) (st : Step) (r : Reply) (t : St
 
 -- One of the two.
 abbrev pub ClosesOrLeaves : ℕ → List Frames → Step → Reply → State → Type 0
-ClosesOrLeaves id old st r t = Closes id old st r t ⊎ Leaves id old st r t
+ClosesOrLeaves id old st r t = Closes id old st r t ⊎ RefusalLeaves id old st r t
 
 -- A step that queues nothing of the client and doesn't empty it.
 record IsIdle (id : ℕ) (st : Step) (r : Reply) : Type 0 where

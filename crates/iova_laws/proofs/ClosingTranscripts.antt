@@ -17,7 +17,7 @@ use Rattle.iova_model.specs.Laws.{queued_in, queued_by_closing, Marks, Empties, 
 use Rattle.iova_laws.proofs.ClosingSerials.{serial_grows, gone-next}
 use Rattle.iova_laws.proofs.Serials.{serial_given}
 use Rattle.iova_laws.proofs.Valid.{steps_keep_validity}
-use Rattle.iova_laws.proofs.ClosingSteps.{Closes, Leaves, ClosesOrLeaves, closing_step}
+use Rattle.iova_laws.proofs.ClosingSteps.{Closes, RefusalLeaves, ClosesOrLeaves, closing_step}
 use Rattle.iova_laws.proofs.Outcomes.{Outcome, turned_down, gives, gives_nothing, unmaps, closes, queues_lowest, only_marks, forgets, outcome, found_not_gone}
 use Rattle.iova_laws.proofs.RefusalState.{domain_kept}
 
@@ -127,7 +127,7 @@ closing_more s p ps id old k (inr gone) = inr (record {
 })
 
 -- with the pair that empties it before those
-emptied_first : (s : State) (p : Pair) (ps : List Pair) (id : ℕ) (old : List Frames) → Leaves id old p.step p.reply (next_of s p) → StaysGone (next_of s p) ps id → IsGone id old (p ∷ ps) (after s (p ∷ ps))
+emptied_first : (s : State) (p : Pair) (ps : List Pair) (id : ℕ) (old : List Frames) → RefusalLeaves id old p.step p.reply (next_of s p) → StaysGone (next_of s p) ps id → IsGone id old (p ∷ ps) (after s (p ∷ ps))
 emptied_first s p ps id old l stays = record {
   known = stays.known;
   gone = stays.gone;

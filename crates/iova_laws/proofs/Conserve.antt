@@ -12,7 +12,7 @@ use Rattle.iova_model.specs.Clients.{Client, client_with, marked, begins_at}
 use Rattle.iova_model.specs.Flushes.{begun, ended, unflushed}
 use Rattle.iova_model.specs.State.{State}
 use Rattle.iova_model.specs.Valid.{IsValid}
-use Rattle.iova_model.specs.Next.{Next, refused, Found, At, Nowhere, OutOfMemory, with_caches, from_to, union, reserved, given, given_by, ring_at, drained, queued}
+use Rattle.iova_model.specs.Next.{Next, refused, Found, At, Nowhere, OutOfMemory, with_caches, from_to, union, reserved, given, given_from, ring_at, drained, queued}
 use Rattle.iova_model.specs.Laws.{Moves, MovesInAlloc, Conserves, StepsConserve, freed_by_drain, cached_ranges}
 use Rattle.iova_laws.proofs.Weight as weight
 use Rattle.iova_laws.proofs.WeightHolders.{held_weigh}
@@ -110,7 +110,7 @@ cases s valid =
       on_open = λ w sac may. moved_conserves s (step.Open w sac) _ [] [] (refl, refl) (opened_moved s w sac);
       on_alloc = λ w id frames limit m c own may.
           let size = need frames in
-          walk_cases s w size own.worker c.sac limit m (λ t. Conserves s (step.Alloc w id frames limit) (given_by t id size)) valid.caches (λ found left shape' outcome. given_conserves s w id frames limit size c own found left outcome);
+          walk_cases s w size own.worker c.sac limit m (λ t. Conserves s (step.Alloc w id frames limit) (given_from t id size)) valid.caches (λ found left shape' outcome. given_conserves s w id frames limit size c own found left outcome);
       on_unmap = λ w id lo c r own held room.
           moved_conserves s (step.Unmap w id lo) _ [] (freed_by_drain s w w) (refl, refl) (drained_queued_moved s w id c r shape own.worker own.found (held_at lo r c.holdings held));
       on_begin = λ may. moved_conserves s step.Begin _ [] [] (refl, refl) (flushes_moved s (begun s.flushes));

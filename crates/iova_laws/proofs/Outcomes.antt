@@ -18,7 +18,7 @@ use Rattle.iova_model.specs.Flushes.{is_in_flight, begun, ended, flushed}
 use Rattle.iova_model.specs.Clients.{Client, client_with, client_of, if_owned, changed, forgotten, begins_at, with_holding, marked}
 use Rattle.iova_model.specs.State.{State}
 use Rattle.iova_model.specs.Next
-use Rattle.iova_model.specs.Laws.{Marks, client_named, unknown_refusal, Leaves}
+use Rattle.iova_model.specs.Laws.{Marks, client_named, unknown_refusal, RefusalLeaves}
 use Rattle.iova_model.proofs.Unless.{AllFail, unless_cases}
 use Rattle.iova_laws.proofs.Tests.{unless_each}
 use Rattle.iova_laws.proofs.Walks.{walk_walked}
@@ -33,7 +33,7 @@ pub record IsOwned (w id : ℕ) (clients : List Client) (c : Client) : Type 0 wh
 pub record Refuses (s : State) (st : Step) (r : Refusal) : Type 0 where
   pub unknown : (id : ℕ) → client_named st ≡ Some id → client_with id s.clients ≡ None → r ≡ unknown_refusal s st
   pub unmarked : (id : ℕ) → Marks id st (reply.Refused r) → ⊥
-  pub leaves : Leaves s st r s
+  pub leaves : RefusalLeaves s st r s
 
 -- a step, its reply, and the state after it
 pub data Outcome (s : State) : Step → Reply → State → Type 0 where
@@ -45,7 +45,7 @@ pub data Outcome (s : State) : Step → Reply → State → Type 0 where
       → Outcome s (step.Open w sac) (reply.Opened (s.serial + 1)) (Next.opened s w sac)
   gives : (w id frames limit : ℕ) (c : Client) (r : Frames) (caches : Caches) → IsOwned w id s.clients c → c.closing ≡ false
       → Outcome s (step.Alloc w id frames limit) (reply.Given r) (Next.with_clients (Next.with_caches s caches) (changed id (with_holding r) s.clients))
-  gives_nothing : (w id frames limit : ℕ) (c : Client) (r : Refusal) (caches : Caches) → IsOwned w id s.clients c → Leaves s (step.Alloc w id frames limit) r (Next.with_caches s caches)
+  gives_nothing : (w id frames limit : ℕ) (c : Client) (r : Refusal) (caches : Caches) → IsOwned w id s.clients c → RefusalLeaves s (step.Alloc w id frames limit) r (Next.with_caches s caches)
       → Outcome s (step.Alloc w id frames limit) (reply.Refused r) (Next.with_caches s caches)
   unmaps : (w id lo : ℕ) (c : Client) (r : Frames) → Next.no_worker s w ≡ false → IsOwned w id s.clients c → c.closing ≡ false
       → find (begins_at lo) c.holdings ≡ Some r
@@ -92,11 +92,11 @@ Comes s st n = Outcome s st n.reply n.state
 
 module _ (s : State) where
   -- a refusal of a step that names no client
-  unnamed : (st : Step) (r : Refusal) → client_named st ≡ None → ((id : ℕ) → Marks id st (reply.Refused r) → ⊥) → Leaves s st r s → Comes s st (Next.refused r s)
+  unnamed : (st : Step) (r : Refusal) → client_named st ≡ None → ((id : ℕ) → Marks id st (reply.Refused r) → ⊥) → RefusalLeaves s st r s → Comes s st (Next.refused r s)
   unnamed st r e unmarked leaves = turned_down st r (record { unknown = λ id named. absurd cc; unmarked = unmarked; leaves = leaves })
 
   -- a refusal after the client was found
-  known : (st : Step) (r : Refusal) (w id : ℕ) (c : Client) → client_named st ≡ Some id → IsOwned w id s.clients c → ((other : ℕ) → Marks other st (reply.Refused r) → ⊥) → Leaves s st r s
+  known : (st : Step) (r : Refusal) (w id : ℕ) (c : Client) → client_named st ≡ Some id → IsOwned w id s.clients c → ((other : ℕ) → Marks other st (reply.Refused r) → ⊥) → RefusalLeaves s st r s
       → Comes s st (Next.refused r s)
   known st r w id c e own unmarked leaves = turned_down st r (record {
     unknown = λ other named gone. absurd (found_not_gone w id other s.clients c own (sym e ∙ named) gone);
@@ -105,7 +105,7 @@ module _ (s : State) where
   })
 
   -- a refusal before the client is looked for, or since there is none
-  early : (st : Step) (r : Refusal) → r ≡ unknown_refusal s st → ((id : ℕ) → Marks id st (reply.Refused r) → ⊥) → Leaves s st r s → Comes s st (Next.refused r s)
+  early : (st : Step) (r : Refusal) → r ≡ unknown_refusal s st → ((id : ℕ) → Marks id st (reply.Refused r) → ⊥) → RefusalLeaves s st r s → Comes s st (Next.refused r s)
   early st r unknown unmarked leaves = turned_down st r (record { unknown = λ id named gone. unknown; unmarked = unmarked; leaves = leaves })
 
   -- a step whose worker is asked for first
@@ -148,8 +148,8 @@ module _ (s : State) where
       let own = owned w id s.clients c is in
       let t = Next.walk s w c.sac size limit m in
       let walked = walk_walked s w c.sac size limit m in
-      let known_now = λ (r : Refusal) (leaves : Leaves s st r s) (b : Bool) (e : b ≡ true). known st r w id c refl own (λ id h. let none = h.0 in cc) leaves in
-      unless_each (λ x. Comes s st x) s (Next.ledger_tests c m) (Next.given_by t id size)
+      let known_now = λ (r : Refusal) (leaves : RefusalLeaves s st r s) (b : Bool) (e : b ≡ true). known st r w id c refl own (λ id h. let none = h.0 in cc) leaves in
+      unless_each (λ x. Comes s st x) s (Next.ledger_tests c m) (Next.given_from t id size)
       (known_now refusal.Closing refl _, λ e. (known_now refusal.HoldingsFull refl _, λ f. (known_now refusal.NoMemory refl _, λ g. tt)))
       (λ all. subst (λ u. Comes s st (Next.given t.found u id size)) (sym walked.is) (given_comes t.found w id frames limit size c t.state.caches own all.0 walked.nowhere))
 

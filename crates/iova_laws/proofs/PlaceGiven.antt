@@ -13,7 +13,7 @@ use Rattle.iova_model.specs.Clients.{Client, client_with, with_holding}
 use Rattle.iova_model.specs.Flushes.{entry_range}
 use Rattle.iova_model.specs.State.{State}
 use Rattle.iova_model.specs.Valid.{IsValid}
-use Rattle.iova_model.specs.Next.{Next, Found, At, Nowhere, OutOfMemory, with_caches, given, given_by, next}
+use Rattle.iova_model.specs.Next.{Next, Found, At, Nowhere, OutOfMemory, with_caches, given, given_from, next}
 use Rattle.iova_model.specs.Transcript.{is_ringed}
 use Rattle.iova_laws.proofs.Weight as weight
 use Rattle.iova_laws.proofs.ValidCases.{Cases, next_cases}
@@ -62,7 +62,7 @@ module _ (s : State) (frame : ℕ) (valid : IsValid s) where
     on_open = λ w sac may r e. absurd cc;
     on_alloc = λ w id frames limit m c own may.
         let size = need frames in
-        walk_cases s w size own.worker c.sac limit m (λ t. GivesNoRinged s frame (given_by t id size)) valid.caches (found_not_ringed id size limit c (need_ge frames may.some) (need_le frames may.some may.few) may.room own.found);
+        walk_cases s w size own.worker c.sac limit m (λ t. GivesNoRinged s frame (given_from t id size)) valid.caches (found_not_ringed id size limit c (need_ge frames may.some) (need_le frames may.some may.few) may.room own.found);
     on_unmap = λ w id lo c x own held room r e. absurd cc;
     on_begin = λ may r e. absurd cc;
     on_end = λ n ok flies r e. absurd cc;

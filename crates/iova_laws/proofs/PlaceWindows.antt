@@ -3,11 +3,11 @@ use Rattle.std.proofs.Common.{ℕ, ◌≡◌, ◌+◌, ◌≤◌, Bool, true, fa
 use Rattle.std.specs.List.{list_any}
 use Rattle.std.proofs.lemmas.Bool.Decides.{nat_tests}
 use Rattle.std.proofs.lemmas.Bool.{cond_both, or_parts}
-use Rattle.iova_range.specs.Frames.{Frames, covers, meets}
+use Rattle.iova_range.specs.Frames.{Frames, covers, meets, join}
 use Rattle.iova_range.specs.Bounds.{Extent}
 use Rattle.iova_model.specs.State.{State, Holder, owners}
 use Rattle.iova_model.specs.Valid.{is_inside}
-use Rattle.iova_model.specs.Next.{with_windows, join, union, windows_with, is_taken, from_to}
+use Rattle.iova_model.specs.Next.{with_windows, union, windows_with, is_taken, from_to}
 use Rattle.iova_laws.proofs.Weight as weight
 use Rattle.iova_laws.proofs.WeightHolders.{load, holder_ranges, owners_hold}
 use Rattle.iova_laws.proofs.ValidCases.{MayReserve}

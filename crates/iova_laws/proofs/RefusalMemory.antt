@@ -39,25 +39,25 @@ unless_has : (s : State) (tests : List (Bool × Refusal)) (n : Next.Next) → No
 unless_has s tests n h has = unless_each HasMemory s tests n (none_starves s tests h) (λ all. has)
 
 -- and a try found none wanting
-abbrev Found : Next.Tried → Type 0
-Found t = t.found ≡ Next.OutOfMemory → ⊥
+abbrev FindsMemory : Next.Tried → Type 0
+FindsMemory t = t.found ≡ Next.OutOfMemory → ⊥
 
 -- The walk of a request in which no growth is refused.
 
 -- the tree's growth isn't refused
-tree_found : (s : State) (place : Option ℕ) → Found (Next.from_tree s place false)
+tree_found : (s : State) (place : Option ℕ) → FindsMemory (Next.from_tree s place false)
 tree_found s None = λ e. absurd cc
 tree_found s (Some lo) = λ e. absurd cc
 
 -- nor is it with emptied caches
-emptied_found : (found : Next.Found) (s : State) (size limit : ℕ) (emptying : Bool) → (found ≡ Next.OutOfMemory → ⊥) → Found (Next.or_emptied found s size limit emptying false)
+emptied_found : (found : Next.Found) (s : State) (size limit : ℕ) (emptying : Bool) → (found ≡ Next.OutOfMemory → ⊥) → FindsMemory (Next.or_emptied found s size limit emptying false)
 emptied_found Next.Nowhere s size limit true fine = let s' = Next.with_caches s (emptied s.caches) in tree_found s' (Next.best_place s' size limit)
 emptied_found Next.Nowhere s size limit false fine = λ e. absurd cc
 emptied_found (Next.At lo) s size limit emptying fine = λ e. absurd cc
 emptied_found Next.OutOfMemory s size limit emptying fine = fine
 
 -- at a point that isn't the refused growth
-or_tree_found : (cached : Option ℕ) (s : State) (size limit : ℕ) (emptying : Bool) (here : Point) → Next.is_at here point.Never ≡ false → Found (Next.or_tree cached s size limit emptying here point.Never)
+or_tree_found : (cached : Option ℕ) (s : State) (size limit : ℕ) (emptying : Bool) (here : Point) → Next.is_at here point.Never ≡ false → FindsMemory (Next.or_tree cached s size limit emptying here point.Never)
 or_tree_found (Some lo) s size limit emptying here other = λ e. absurd cc
 or_tree_found None s size limit emptying here other =
     let place = Next.best_place s size limit in
@@ -65,21 +65,21 @@ or_tree_found None s size limit emptying here other =
     rw other (emptied_found t.found t.state size limit emptying (tree_found s place))
 
 -- one try
-try_found : (s : State) (w size limit : ℕ) (emptying : Bool) (here : Point) → Next.is_at here point.Never ≡ false → Found (Next.try s w size limit emptying here point.Never)
+try_found : (s : State) (w size limit : ℕ) (emptying : Bool) (here : Point) → Next.is_at here point.Never ≡ false → FindsMemory (Next.try s w size limit emptying here point.Never)
 try_found s w size limit emptying here other =
     let cached = Next.from_cache s w size limit (order_of size) in or_tree_found cached.0 cached.1 size limit emptying here other
 
 -- a second, where the first found nothing
-second_found : (found : Next.Found) (s : State) (w size limit : ℕ) → (found ≡ Next.OutOfMemory → ⊥) → Found (Next.or_second found s w size limit point.Never)
+second_found : (found : Next.Found) (s : State) (w size limit : ℕ) → (found ≡ Next.OutOfMemory → ⊥) → FindsMemory (Next.or_second found s w size limit point.Never)
 second_found Next.Nowhere s w size limit fine = try_found s w size limit true point.Second refl
 second_found (Next.At lo) s w size limit fine = λ e. absurd cc
 second_found Next.OutOfMemory s w size limit fine = fine
 
 -- all of it
-walk_found : (s : State) (w : ℕ) (sac : Bool) (size limit : ℕ) → Found (Next.walk s w sac size limit point.Never)
+walk_found : (s : State) (w : ℕ) (sac : Bool) (size limit : ℕ) → FindsMemory (Next.walk s w sac size limit point.Never)
 walk_found s w sac size limit =
     let t = Next.try s w size SAC_LIMIT false point.First point.Never in
-    cond_both (sac && nat_lt SAC_LIMIT limit) (Next.or_second t.found t.state w size limit point.Never) (Next.try s w size limit true point.Second point.Never) Found
+    cond_both (sac && nat_lt SAC_LIMIT limit) (Next.or_second t.found t.state w size limit point.Never) (Next.try s w size limit true point.Second point.Never) FindsMemory
     (λ e. second_found t.found t.state w size limit (try_found s w size SAC_LIMIT false point.First refl))
     (λ e. try_found s w size limit true point.Second refl)
 
@@ -96,7 +96,7 @@ alloc_to_has : (o : Option Client) (s : State) (w id size limit : ℕ) → HasMe
 alloc_to_has None s w id size limit = λ e. absurd cc
 alloc_to_has (Some c) s w id size limit =
     let t = Next.walk s w c.sac size limit point.Never in
-    unless_has s (Next.ledger_tests c point.Never) (Next.given_by t id size) ((λ b e. absurd cc), ((λ b e. absurd cc), ((λ b e. absurd cc), tt)))
+    unless_has s (Next.ledger_tests c point.Never) (Next.given_from t id size) ((λ b e. absurd cc), ((λ b e. absurd cc), ((λ b e. absurd cc), tt)))
     (given_has t.found t.state id size (walk_found s w c.sac size limit))
 
 -- a holding that is queued

@@ -12,7 +12,7 @@ use Rattle.iova_model.specs.declared.step.Point.TheVariants as point
 use Rattle.iova_model.specs.Caches.{emptied}
 use Rattle.iova_model.specs.Clients.{Client, client_of}
 use Rattle.iova_model.specs.State.{State}
-use Rattle.iova_model.specs.Next.{Next, refused, unless, Found, At, Nowhere, OutOfMemory, Tried, is_at, with_caches, from_cache, best_place, from_tree, or_emptied, or_tree, try, or_second, walk, given_by, ledger_tests, alloc_to, alloc_tests, from_to, reserve_tests, reserved, open_tests, opened}
+use Rattle.iova_model.specs.Next.{Next, refused, unless, Found, At, Nowhere, OutOfMemory, Tried, is_at, with_caches, from_cache, best_place, from_tree, or_emptied, or_tree, try, or_second, walk, given_from, ledger_tests, alloc_to, alloc_tests, from_to, reserve_tests, reserved, open_tests, opened}
 use Rattle.iova_model.specs.Laws.{PointsOnlyRefuse}
 
 -- one choice between things that are alike
@@ -104,16 +104,16 @@ unless_memory s ((b, r) ∷ tests) no_memory n n' alike =
     cond_alike OnlyRefuses b (refused r s) (refused r s) rest (unless tests s n') (inr refl) (unless_memory s tests no_memory n n' alike)
 
 -- what a walk comes to is answered
-given_alike : (t t' : Tried) (id size : ℕ) → IsAlike t t' → OnlyRefuses (given_by t id size) (given_by t' id size)
+given_alike : (t t' : Tried) (id size : ℕ) → IsAlike t t' → OnlyRefuses (given_from t id size) (given_from t' id size)
 given_alike t t' id size (inl out) = inl (rw out refl)
-given_alike t t' id size (inr same) = inr (ap (λ x. given_by x id size) same)
+given_alike t t' id size (inr same) = inr (ap (λ x. given_from x id size) same)
 
 -- the ledger's growth may be refused before it
 alloc_to_alike : (client : Option Client) (s : State) (w id size limit : ℕ) (m : Point) → OnlyRefuses (alloc_to client s w id size limit m) (alloc_to client s w id size limit point.Never)
 alloc_to_alike None s w id size limit m = inr refl
 alloc_to_alike (Some c) s w id size limit m =
     let walked = λ (p : Point). walk s w c.sac size limit p in
-    unless_memory s (take 2 (ledger_tests c m)) (is_at point.Ledger m) (given_by (walked m) id size) (given_by (walked point.Never) id size)
+    unless_memory s (take 2 (ledger_tests c m)) (is_at point.Ledger m) (given_from (walked m) id size) (given_from (walked point.Never) id size)
     (given_alike (walked m) (walked point.Never) id size (walk_alike s w c.sac size limit m))
 
 -- the steps that take memory have their point after all other tests, and the others have none

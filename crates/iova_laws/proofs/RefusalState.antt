@@ -8,7 +8,7 @@ use Rattle.iova_model.specs.declared.step.Reply.{Reply}
 use Rattle.iova_model.specs.declared.step.Reply.TheVariants as reply
 use Rattle.iova_model.specs.State.{State}
 use Rattle.iova_model.specs.Next.{with_caches}
-use Rattle.iova_model.specs.Laws.{Leaves, RefusalsKeepTheState, StepsKeepTheDomain}
+use Rattle.iova_model.specs.Laws.{RefusalLeaves, RefusalsKeepTheState, StepsKeepTheDomain}
 use Rattle.iova_laws.proofs.Outcomes.{Outcome, turned_down, gives_nothing, only_marks, outcome}
 
 -- the refusals of two equal replies are equal
@@ -16,10 +16,10 @@ same_refusal : (r q : Refusal) → reply.Refused r ≡ reply.Refused q → q ≡
 same_refusal r q e = cc
 
 -- what each outcome leaves where its reply is a refusal
-refused_leaves : (s : State) {st : Step} {r : Reply} {t : State} → Outcome s st r t → (q : Refusal) → r ≡ reply.Refused q → Leaves s st q t
-refused_leaves s (turned_down st r why) q e = subst (λ x. Leaves s st x s) (sym (same_refusal r q e)) why.leaves
-refused_leaves s (gives_nothing w id frames limit c r caches own leaves) q e = subst (λ x. Leaves s (step.Alloc w id frames limit) x (with_caches s caches)) (sym (same_refusal r q e)) leaves
-refused_leaves s {t = t} (only_marks w id c own) q e = subst (λ x. Leaves s (step.CloseOne w id) x t) (sym (same_refusal refusal.RingFull q e)) refl
+refused_leaves : (s : State) {st : Step} {r : Reply} {t : State} → Outcome s st r t → (q : Refusal) → r ≡ reply.Refused q → RefusalLeaves s st q t
+refused_leaves s (turned_down st r why) q e = subst (λ x. RefusalLeaves s st x s) (sym (same_refusal r q e)) why.leaves
+refused_leaves s (gives_nothing w id frames limit c r caches own leaves) q e = subst (λ x. RefusalLeaves s (step.Alloc w id frames limit) x (with_caches s caches)) (sym (same_refusal r q e)) leaves
+refused_leaves s {t = t} (only_marks w id c own) q e = subst (λ x. RefusalLeaves s (step.CloseOne w id) x t) (sym (same_refusal refusal.RingFull q e)) refl
 refused_leaves s o q e = absurd cc
 
 -- so each refused step leaves what the law says

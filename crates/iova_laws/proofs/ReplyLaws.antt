@@ -1,7 +1,6 @@
 -- What a step may be answered, what it queues, and how it moves the number of good flushes.
 use Rattle.std.proofs.Common.{ℕ, ◌≡◌, ◌+◌, ◌==◌, inl, inr, true, false, List, [], ◌∷◌, ◌++◌, Option, Some, None, refl, ap, arith, ◌≢◌, ◌∙◌, Bool}
 use Rattle.std.specs.Prelude.{find, if◌then◌else◌}
-use Rattle.std.proofs.lemmas.Bool.{cond_both}
 use Rattle.std.proofs.lemmas.Bool.Decides.{nat_tests}
 use Rattle.iova_range.specs.declared.refusal.Refusal.{Refusal}
 use Rattle.iova_range.specs.declared.refusal.Refusal.TheVariants as refusal
@@ -105,7 +104,7 @@ module _ (s : State) where
   alloc_to_kind None w id frames limit m = inr (inr (inr (inl refl)))
   alloc_to_kind (Some c) w id frames limit m =
       let size = need frames in
-      unless_each (InKind (step.Alloc w id frames limit)) s (Next.ledger_tests c m) (Next.given_by (Next.walk s w c.sac size limit m) id size)
+      unless_each (InKind (step.Alloc w id frames limit)) s (Next.ledger_tests c m) (Next.given_from (Next.walk s w c.sac size limit m) id size)
       ((λ e. inr (inr (inr (inr (inl refl))))), λ e. ((λ e. inr (inr (inr (inr (inr (inl refl)))))), λ e. ((λ e. inr (inr (inr (inr (inr (inr (inl refl))))))), λ e. tt)))
       (λ all. let t = Next.walk s w c.sac size limit m in given_kind t.found t.state w id frames limit size)
 

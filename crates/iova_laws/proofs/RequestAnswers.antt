@@ -16,8 +16,8 @@ use Rattle.iova_model.specs.Caches.{Caches, emptied}
 use Rattle.iova_model.specs.Clients.{Client}
 use Rattle.iova_model.specs.State.{State, Holder, holders, held_ranges}
 use Rattle.iova_model.specs.Valid.{is_inside, is_aligned, IsValid}
-use Rattle.iova_model.specs.Next.{Next, refused, Found, At, Nowhere, OutOfMemory, with_caches, best_place, given, given_by}
-use Rattle.iova_model.specs.Laws.{IsAnswerTo, Answers, RequestsAreAnswered}
+use Rattle.iova_model.specs.Next.{Next, refused, Found, At, Nowhere, OutOfMemory, with_caches, best_place, given, given_from}
+use Rattle.iova_model.specs.Laws.{IsAnswerTo, AnswersRequest, RequestsAreAnswered}
 use Rattle.iova_model.proofs.Placing.{AreSome, fits-Fits, best-is_best}
 use Rattle.iova_laws.proofs.Walks.{walk_walked}
 use Rattle.iova_laws.proofs.ValidCases.{is_no_space, AreThere, MayAlloc, Cases, next_cases}
@@ -66,7 +66,7 @@ none_fits s size limit valid some none =
 
 -- the step's reply, where it is a request, is what the law says
 abbrev IsAnswered : State → Step → Next → Type 0
-IsAnswered s (step.Alloc w id frames limit) n = Answers s frames limit n.reply
+IsAnswered s (step.Alloc w id frames limit) n = AnswersRequest s frames limit n.reply
 IsAnswered s st n = Unit {0}
 
 -- no test refuses for want of space
@@ -77,7 +77,7 @@ refused_answered s st r other = tt
 module _ (s : State) (valid : IsValid s) (w id frames limit : ℕ) (c : Client) (own : AreThere s w id c) (may : MayAlloc frames c) where
   -- what a walk comes to is answered, where it leaves emptied caches if it finds nothing
   found_answered : (found : Found) (left : Caches) → AreOwn s left → WalkOutcome s true (need frames) limit found left → (found ≡ Nowhere → left ≡ emptied s.caches)
-      → Answers s frames limit (given found (with_caches s left) id (need frames)).reply
+      → AnswersRequest s frames limit (given found (with_caches s left) id (need frames)).reply
   found_answered (At lo) left whole (inl was) nowhere = cached_suits s left frames limit lo valid was
   found_answered (At lo) left whole (inr free) nowhere = free_suits s left frames limit lo free.1
   found_answered OutOfMemory left whole outcome nowhere = tt
@@ -95,7 +95,7 @@ cases s valid = record {
   on_open = λ w sac may. tt;
   on_alloc = λ w id frames limit m c own may.
       let size = need frames in
-      walk_cases s w size own.worker c.sac limit m (λ t. (t.found ≡ Nowhere → t.state.caches ≡ emptied s.caches) → Answers s frames limit (given_by t id size).reply) valid.caches
+      walk_cases s w size own.worker c.sac limit m (λ t. (t.found ≡ Nowhere → t.state.caches ≡ emptied s.caches) → AnswersRequest s frames limit (given_from t id size).reply) valid.caches
       (found_answered s valid w id frames limit c own may) (walk_walked s w c.sac size limit m).nowhere;
   on_unmap = λ w id lo c r own held room. tt;
   on_begin = λ may. tt;

@@ -11,7 +11,7 @@ use Rattle.iova_model.specs.Flushes.{Flushes, AreSound, begun, ended, entry_rang
 use Rattle.iova_model.specs.Clients.{Client, client_with, changed, forgotten, marked, begins_at, with_holding, without_holding, insert_rising}
 use Rattle.iova_model.specs.State.{State, new_domain}
 use Rattle.iova_model.specs.Valid.{is_inside, IsRequestSized, AreClients, IsRing, IsValid}
-use Rattle.iova_model.specs.Next.{Found, At, Nowhere, OutOfMemory, next, with_clients, with_caches, with_flushes, with_windows, opened, union, windows_with, from_to, given, given_by, ring_at, drained, queued}
+use Rattle.iova_model.specs.Next.{Found, At, Nowhere, OutOfMemory, next, with_clients, with_caches, with_flushes, with_windows, opened, union, windows_with, from_to, given, given_from, ring_at, drained, queued}
 use Rattle.iova_model.specs.Transcript.{Pair, after}
 use Rattle.iova_model.specs.Laws.{NewDomainsAreValid, StepsKeepValidity, TranscriptsKeepValidity, freed_by_drain, cached_ranges}
 use Rattle.iova_laws.proofs.Weight as weight
@@ -248,7 +248,7 @@ cases s h = record {
   on_open = λ w sac may. open_valid s w sac h may;
   on_alloc = λ w id frames limit m c own may.
       let size = need frames in
-      walk_cases s w size own.worker c.sac limit m (λ t. IsValid (given_by t id size).state) h.caches (answered_valid s id size limit c h (need_ge frames may.some) (need_le frames may.some may.few) may.room own.found);
+      walk_cases s w size own.worker c.sac limit m (λ t. IsValid (given_from t id size).state) h.caches (answered_valid s id size limit c h (need_ge frames may.some) (need_le frames may.some may.few) may.room own.found);
   on_unmap = λ w id lo c r own held room.
       unmapped_valid s w id c r h own.worker own.found (held_at lo r c.holdings held) room;
   on_begin = λ may. begun_valid s h may;

@@ -15,7 +15,7 @@ use Rattle.iova_model.specs.declared.step.Point.{Point}
 use Rattle.iova_model.specs.Flushes.{is_in_flight, begun, ended, flushed}
 use Rattle.iova_model.specs.Clients.{Client, client_with, client_of, changed, forgotten, marked, begins_at}
 use Rattle.iova_model.specs.State.{State}
-use Rattle.iova_model.specs.Next.{Next, refused, unless, with_clients, with_flushes, from_to, is_taken, windows_with, reserved, opened, given_by, walk, ring_at, drained, queued, worker_tests, reserve_tests, open_tests, alloc_tests, ledger_tests, drain_tests, full_tests, closing_tests, begin_tests, end_tests, alloc_to, unmap_of, unmap_held, close_of, close_one_of, close_lowest, reserve, open_client, alloc, unmap, begin, end, drain, close, close_one, next}
+use Rattle.iova_model.specs.Next.{Next, refused, unless, with_clients, with_flushes, from_to, is_taken, windows_with, reserved, opened, given_from, walk, ring_at, drained, queued, worker_tests, reserve_tests, open_tests, alloc_tests, ledger_tests, drain_tests, full_tests, closing_tests, begin_tests, end_tests, alloc_to, unmap_of, unmap_held, close_of, close_one_of, close_lowest, reserve, open_client, alloc, unmap, begin, end, drain, close, close_one, next}
 use Rattle.iova_model.proofs.Unless.{AllFail, unless_cases}
 use Rattle.iova_laws.proofs.Tests.{EachRefusal, unless_each}
 use Rattle.iova_laws.proofs.Outcomes.{owned}
@@ -68,7 +68,7 @@ pub record Cases (s : State) (P : Step → Next → Type 0) : Type 0 where
   pub on_refused : (st : Step) (r : Refusal) → is_no_space r ≡ false → P st (refused r s)
   pub on_reserve : (lo hi : ℕ) → MayReserve s lo hi → P (step.Reserve lo hi) (reserved s (from_to lo hi))
   pub on_open : (w : ℕ) (sac : Bool) → MayOpen s w → P (step.Open w sac) (record { reply = reply.Opened (s.serial + 1); state = opened s w sac })
-  pub on_alloc : (w id frames limit : ℕ) (m : Point) (c : Client) → AreThere s w id c → MayAlloc frames c → P (step.Alloc w id frames limit) (given_by (walk s w c.sac (need frames) limit m) id (need frames))
+  pub on_alloc : (w id frames limit : ℕ) (m : Point) (c : Client) → AreThere s w id c → MayAlloc frames c → P (step.Alloc w id frames limit) (given_from (walk s w c.sac (need frames) limit m) id (need frames))
   pub on_unmap : (w id lo : ℕ) (c : Client) (r : Frames) → AreThere s w id c → find (begins_at lo) c.holdings ≡ Some r → HasRingRoom s w → P (step.Unmap w id lo) (record { reply = reply.Queued r; state = queued (drained s w w) w id r })
   pub on_begin : MayBegin s → P step.Begin (record { reply = reply.Begun (s.flushes.start + 1); state = with_flushes s (begun s.flushes) })
   pub on_end : (n : ℕ) (ok : Bool) → is_in_flight n s.flushes.in_flight ≡ true → P (step.End n ok) (record { reply = reply.Ended; state = with_flushes s (ended s.flushes n ok) })

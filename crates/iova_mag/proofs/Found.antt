@@ -11,7 +11,7 @@ use Rattle.iova_model.specs.Caches.{Cache, no_magazines, of_order}
 use Rattle.iova_model.specs.State.{Holder, at_place, cache_holders}
 use Rattle.iova_range.specs.Bounds.{Capacities}
 use Rattle.iova_mag.specs.Workers.{Pair}
-use Rattle.iova_mag.specs.Inside.{AreSound}
+use Rattle.iova_mag.specs.Inside.{ArePairsSound}
 use Rattle.iova_mag.proofs.Pairs.{cache_in, cache_of-seen}
 
 or_assoc : (a b c : Bool) → (a || (b || c)) ≡ ((a || b) || c)
@@ -50,7 +50,7 @@ any-cache_holders frame worker order cs c lt is =
     ∙ (rw (list_any-append t (at_place place b) rest, any-at_place frame place a, any-at_place frame place b) (or_assoc (list_any (covers frame) a) (list_any (covers frame) b) (list_any t rest))))
 
 -- the same for a pair, where it is known whether that has the frame
-pub any-pairs : (profile : Capacities) (pairs : List Pair) (frame order : ℕ) (p : Pair) (has : Bool) → AreSound profile pairs → order < 6 → p ≡ slice_index_or pairs order p
+pub any-pairs : (profile : Capacities) (pairs : List Pair) (frame order : ℕ) (p : Pair) (has : Bool) → ArePairsSound profile pairs → order < 6 → p ≡ slice_index_or pairs order p
     → has ≡ (list_any (covers frame) (of_order order p.cache.loaded) || list_any (covers frame) (of_order order p.cache.previous)) → (worker : ℕ)
     → list_any (λ (h : Holder). covers frame h.range) (cache_holders worker order (drop order (map cache_in pairs)))
     ≡ (has || list_any (λ (h : Holder). covers frame h.range) (cache_holders worker (order + 1) (drop (order + 1) (map cache_in pairs))))

@@ -8,6 +8,10 @@ pub record Magazine : Type 0 where
   pub profile : Capacities
   pub entries : List ℕ
 
+-- a magazine of this profile with these entries
+abbrev pub magazine_of : Capacities → List ℕ → Magazine
+magazine_of profile entries = record { profile = profile; entries = entries }
+
 -- It has no more entries than it is full at, each below 2^40.
 pub record IsMagazine (m : Magazine) : Type 0 where
   pub profile : IsProfile m.profile

@@ -1,7 +1,9 @@
 -- One worker's magazines.
-use Rattle.std.specs.Prelude.{ℕ, ◌≡◌, ◌-◌, ◌<◌, ◌&&◌, List, [], length, replicate, Option, Some, None, if◌then◌else◌, slice_get, slice_index_or, slice_set, ◌⊎◌}
+use Rattle.std.specs.Prelude.{ℕ, ◌≡◌, ◌-◌, ◌<◌, ◌&&◌, ◌||◌, Bool, List, [], length, replicate, Option, Some, None, if◌then◌else◌, slice_get, slice_index_or, slice_set, ◌⊎◌}
+use Rattle.std.specs.List.{list_any}
+use Rattle.iova_range.specs.Frames.{covers}
 use Rattle.iova_range.specs.Bounds.{Capacities, IsProfile}
-use Rattle.iova_model.specs.Caches.{Cache, Shelf, no_magazines, is_empty, front, get}
+use Rattle.iova_model.specs.Caches.{Cache, Shelf, no_magazines, is_empty, front, get, put, of_order}
 use Rattle.iova_model.specs.Valid.{AreWorkerCaches}
 use Rattle.iova_mag.specs.declared.worker.Got.{Got}
 use Rattle.iova_mag.specs.declared.worker.Got.TheVariants.{Hit, Miss, Empty}
@@ -40,6 +42,20 @@ shelf_of c = record { loaded = c.loaded; previous = c.previous; depot = [] }
 
 abbrev pub pair_of : Shelf → Cache
 pair_of s = record { loaded = s.loaded; previous = s.previous }
+
+-- what a get leaves of the two magazines, what a put leaves of them, and what they are with an empty one for loaded
+abbrev pub cache_after_get : Cache → ℕ → ℕ → Cache
+cache_after_get c limit size = pair_of (get (shelf_of c) limit size).1
+
+abbrev pub cache_after_put : Capacities → Cache → ℕ → Cache
+cache_after_put p c lo = pair_of (put p (shelf_of c) lo)
+
+abbrev pub renewed_cache : Cache → Cache
+renewed_cache c = record { loaded = []; previous = c.previous }
+
+-- a range of this order that an entry begins has the frame
+abbrev pub has_frame : ℕ → ℕ → Cache → Bool
+has_frame frame order c = list_any (covers frame) (of_order order c.loaded) || list_any (covers frame) (of_order order c.previous)
 
 -- neither has an entry
 abbrev pub AreEmpty : Cache → Type 0

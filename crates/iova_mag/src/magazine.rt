@@ -41,6 +41,7 @@ impl Magazine {
     pub fn new_for(profile: Profile) -> Self
         ensures { result ≡ record { profile = profile; entries = [] } }
     {
+        // for the proof: the profile is one of the two
         let _mag = profile.mag();
         Magazine {
             profile,
@@ -91,7 +92,7 @@ impl Magazine {
         self.entries.len() == self.profile.mag()
     }
 
-    /// Puts the first frame of a range behind the others. The magazine isn't full, and `lo` is below 2^40
+    /// Puts the first frame of a range after the others. The magazine isn't full, and `lo` is below 2^40
     /// (Linux 5.15 `drivers/iommu/iova.c`: `iova_magazine_push`).
     #[inline]
     pub fn push(&mut self, lo: u64)

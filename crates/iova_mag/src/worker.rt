@@ -1,13 +1,13 @@
 //! The magazines of one worker: a loaded and a previous one for each order.
-ghost use Rattle.std.specs.Prelude.{◌≡◌, ◌+◌, ◌-◌, ◌≤◌, ◌<◌, ◌^◌, ◌↔◌, ◌||◌, ℕ, [], length, replicate, IsTrue, IfOk, IsErr};
+ghost use Rattle.std.specs.Prelude.{◌≡◌, ◌-◌, ◌<◌, ◌^◌, ◌↔◌, ◌||◌, ℕ, [], length, replicate, IsTrue, IfOk, IsErr};
 ghost use Rattle.std.specs.Bool.{OnTrue, OnFalse};
 ghost use Rattle.std.specs.List.{list_any};
 ghost use Rattle.iova_range.specs.Bounds.{first_profile};
 ghost use Rattle.iova_range.specs.Frames.{covers};
-ghost use Rattle.iova_model.specs.Caches.{get, put, of_order};
 ghost use Rattle.iova_model.specs.State.{cache_holders};
 ghost use Rattle.iova_model.specs.Valid.{IsCache};
-ghost use Rattle.iova_mag.specs.Workers.{IsWorkerCache, new_pair, new_worker, cache_of, with_cache, shelf_of, pair_of, AreEmpty, AreFull, HasRoom, got, newest, without_newest};
+ghost use Rattle.iova_mag.specs.Magazines.{magazine_of};
+ghost use Rattle.iova_mag.specs.Workers.{IsWorkerCache, new_pair, new_worker, cache_of, with_cache, cache_after_get, cache_after_put, renewed_cache, has_frame, AreEmpty, AreFull, HasRoom, got, newest, without_newest};
 
 use crate::magazine::Magazine;
 use iova_range::limits::ORDERS;
@@ -44,9 +44,14 @@ impl Model for Pair {
 
     ghost Value = { Seen };
 
-    ghost view = { λ p. record { profile = p.loaded.value.profile; cache = record { loaded = p.loaded.value.entries; previous = p.previous.value.entries } } };
+    ghost view = { λ p. record {
+      profile = p.loaded.value.profile;
+      cache = record { loaded = p.loaded.value.entries; previous = p.previous.value.entries };
+    } };
 
-    ghost invariant = { λ p. (p.previous.value.profile ≡ p.loaded.value.profile) × IsCache p.loaded.value.profile (record { loaded = p.loaded.value.entries; previous = p.previous.value.entries }) };
+    ghost invariant = { λ p. (p.previous.value.profile ≡ p.loaded.value.profile)
+        × IsCache p.loaded.value.profile
+        (record { loaded = p.loaded.value.entries; previous = p.previous.value.entries }) };
 }
 
 impl Pair {
@@ -62,7 +67,7 @@ impl Pair {
     fn try_get(&mut self, order: u8, limit: u64) -> Got
         requires { order < ORDERS }
         ensures value { result ≡ got self.old.cache limit (2 ^ order) }
-        ensures left { self.new ≡ record self.old { cache = pair_of (get (shelf_of self.old.cache) limit (2 ^ order)).1 } }
+        ensures left { self.new ≡ record self.old { cache = cache_after_get self.old.cache limit (2 ^ order) } }
         ensures empty { result ≡ Got.Empty → AreEmpty self.old.cache }
         ensures sound { IsCache self.new.profile self.new.cache }
     {
@@ -84,6 +89,7 @@ impl Pair {
         ensures loaded { self.new ≡ record self.old { cache = record { loaded = magazine.entries; previous = [] } } }
         ensures sound { IsCache self.new.profile self.new.cache }
     {
+        // for the proof: the magazine has no more entries than it is full at
         let _len = magazine.len();
         *self.loaded = magazine;
     }
@@ -92,7 +98,8 @@ impl Pair {
     fn try_put(&mut self, lo: u64) -> bool
         requires { lo < 2 ^ 40 }
         ensures room { IsTrue result ↔ HasRoom self.old.profile self.old.cache }
-        ensures done { OnTrue result (self.new ≡ record self.old { cache = pair_of (put self.old.profile (shelf_of self.old.cache) lo) }) }
+        ensures done { OnTrue result
+            (self.new ≡ record self.old { cache = cache_after_put self.old.profile self.old.cache lo }) }
         ensures refused { OnFalse result ((self.new ≡ self.old) × AreFull self.old.profile self.old.cache) }
         ensures same { self.new.profile ≡ self.old.profile }
         ensures sound { IsCache self.new.profile self.new.cache }
@@ -108,8 +115,8 @@ impl Pair {
     }
 
     fn renew(&mut self) -> Magazine
-        ensures value { result ≡ record { profile = self.old.profile; entries = self.old.cache.loaded } }
-        ensures left { self.new ≡ record self.old { cache = record { loaded = []; previous = self.old.cache.previous } } }
+        ensures value { result ≡ magazine_of self.old.profile self.old.cache.loaded }
+        ensures left { self.new ≡ record self.old { cache = renewed_cache self.old.cache } }
         ensures sound { IsCache self.new.profile self.new.cache }
     {
         let empty = Magazine::new_for(self.loaded.profile());
@@ -131,13 +138,13 @@ impl Pair {
 
     fn has_frame(&self, frame: u64, order: u8) -> bool
         requires { order < ORDERS }
-        ensures { result ≡ (list_any (covers frame) (of_order order self.now.cache.loaded) || list_any (covers frame) (of_order order self.now.cache.previous)) }
+        ensures { result ≡ has_frame frame order self.now.cache }
     {
         self.loaded.has_frame(frame, order) || self.previous.has_frame(frame, order)
     }
 }
 
-/// One worker's magazines of the six orders, two of each: gets and puts go to loaded, and previous stands behind it.
+/// One worker's magazines of the six orders, two of each: gets and puts go to loaded, and previous stands after it.
 /// All memory is taken by `new` (Linux 5.15 `drivers/iommu/iova.c`: `struct iova_cpu_rcache`).
 #[derive(Drop)]
 pub struct WorkerCache {
@@ -153,9 +160,9 @@ impl Model for WorkerCache {
 
     ghost view = { λ w. record { profile = w.profile; caches = map (λ (p : SeenPair). p.cache) w.pairs.items } };
 
-    ghost use Rattle.iova_mag.specs.Inside.{AreSound};
+    ghost use Rattle.iova_mag.specs.Inside.{ArePairsSound};
 
-    ghost invariant = { λ w. AreSound w.profile w.pairs.items };
+    ghost invariant = { λ w. ArePairsSound w.profile w.pairs.items };
 }
 
 impl WorkerCache {
@@ -172,6 +179,7 @@ impl WorkerCache {
         ensures value { IfOk result (λ w. w ≡ new_worker profile) }
         ensures refused { IsErr result → result ≡ Err Refusal.NoMemory }
     {
+        // for the proof: the profile is one of the two
         let _mag = profile.mag();
         let Ok(pairs) = new_pairs(alloc, profile) else {
             return Err(Refusal::NoMemory);
@@ -196,7 +204,8 @@ impl WorkerCache {
     pub fn try_get(&mut self, order: u8, limit: u64) -> Got
         requires { order < ORDERS }
         ensures value { result ≡ got (cache_of self.old order) limit (2 ^ order) }
-        ensures left { self.new ≡ with_cache self.old order (pair_of (get (shelf_of (cache_of self.old order)) limit (2 ^ order)).1) }
+        ensures left { self.new
+            ≡ with_cache self.old order (cache_after_get (cache_of self.old order) limit (2 ^ order)) }
         ensures empty { result ≡ Got.Empty → AreEmpty (cache_of self.old order) }
         ensures sound { IsWorkerCache self.new }
     {
@@ -225,7 +234,8 @@ impl WorkerCache {
         requires order { order < ORDERS }
         requires small { lo < 2 ^ 40 }
         ensures room { IsTrue result ↔ HasRoom self.old.profile (cache_of self.old order) }
-        ensures done { OnTrue result (self.new ≡ with_cache self.old order (pair_of (put self.old.profile (shelf_of (cache_of self.old order)) lo))) }
+        ensures done { OnTrue result
+            (self.new ≡ with_cache self.old order (cache_after_put self.old.profile (cache_of self.old order) lo)) }
         ensures refused { OnFalse result ((self.new ≡ self.old) × AreFull self.old.profile (cache_of self.old order)) }
         ensures sound { IsWorkerCache self.new }
     {
@@ -238,8 +248,8 @@ impl WorkerCache {
     pub fn renew(&mut self, order: u8) -> Magazine
         requires order { order < ORDERS }
         requires full { length (cache_of self.old order).loaded ≡ self.old.profile.mag }
-        ensures value { result ≡ record { profile = self.old.profile; entries = (cache_of self.old order).loaded } }
-        ensures left { self.new ≡ with_cache self.old order (record { loaded = []; previous = (cache_of self.old order).previous }) }
+        ensures value { result ≡ magazine_of self.old.profile (cache_of self.old order).loaded }
+        ensures left { self.new ≡ with_cache self.old order (renewed_cache (cache_of self.old order)) }
         ensures sound { IsWorkerCache self.new }
     {
         let pair = &mut self.pairs[order as usize];
@@ -261,7 +271,8 @@ impl WorkerCache {
 
     /// Whether a range that an entry begins has the frame. Our own.
     pub fn has_frame(&self, frame: u64) -> bool
-        ensures { (worker : ℕ) → result ≡ list_any (λ h. covers frame h.range) (cache_holders worker 0 self.now.caches) }
+        ensures { (worker : ℕ) → result
+            ≡ list_any (λ h. covers frame h.range) (cache_holders worker 0 self.now.caches) }
     {
         for order in 0..ORDERS {
             if self.pairs[order].has_frame(frame, order as u8) {

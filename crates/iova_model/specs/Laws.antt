@@ -314,14 +314,14 @@ pub record IsAnswerTo (s : State) (frames limit : ℕ) (r : Frames) : Type 0 whe
   pub start : s.bounds.start ≤ r.lo
   pub last : r.lo + r.len ≤ min limit s.bounds.last + 1
 
-abbrev pub Answers : State → ℕ → ℕ → Reply → Type 0
-Answers s frames limit (reply.Given r) = IsAnswerTo s frames limit r
+abbrev pub AnswersRequest : State → ℕ → ℕ → Reply → Type 0
+AnswersRequest s frames limit (reply.Given r) = IsAnswerTo s frames limit r
 -- nothing fits with all caches emptied
-Answers s frames limit (reply.Refused refusal.NoSpace) = IsBest s.bounds (held_ranges (with_caches s (emptied s.caches))) (need frames) limit None
-Answers s frames limit r = Unit {0}
+AnswersRequest s frames limit (reply.Refused refusal.NoSpace) = IsBest s.bounds (held_ranges (with_caches s (emptied s.caches))) (need frames) limit None
+AnswersRequest s frames limit r = Unit {0}
 
 abbrev pub RequestsAreAnswered : Type 0
-RequestsAreAnswered = (s : State) (w id frames limit : ℕ) (m : Point) → IsValid s → Answers s frames limit (next s (step.Alloc w id frames limit) m).reply
+RequestsAreAnswered = (s : State) (w id frames limit : ℕ) (m : Point) → IsValid s → AnswersRequest s frames limit (next s (step.Alloc w id frames limit) m).reply
 
 -- the greatest place that fits, as the definitions compute it, is that: no greater one fits, and none where there is none
 abbrev pub BestIsGreatest : Type 0
@@ -355,14 +355,14 @@ PointsOnlyRefuse = (s : State) (st : Step) (m : Point) → ((next s st m).reply 
 
 -- what a refused step leaves: the state as it was, but for the caches of a request that found nothing or no memory, and the
 -- mark of a client whose closing finds the ring full
-abbrev pub Leaves : State → Step → Refusal → State → Type 0
-Leaves s (step.Alloc w id frames limit) refusal.NoSpace t = t ≡ with_caches s (emptied s.caches)
-Leaves s (step.Alloc w id frames limit) refusal.NoMemory t = t ≡ with_caches s t.caches
-Leaves s (step.CloseOne w id) refusal.RingFull t = t ≡ with_clients s (changed id marked s.clients)
-Leaves s st r t = t ≡ s
+abbrev pub RefusalLeaves : State → Step → Refusal → State → Type 0
+RefusalLeaves s (step.Alloc w id frames limit) refusal.NoSpace t = t ≡ with_caches s (emptied s.caches)
+RefusalLeaves s (step.Alloc w id frames limit) refusal.NoMemory t = t ≡ with_caches s t.caches
+RefusalLeaves s (step.CloseOne w id) refusal.RingFull t = t ≡ with_clients s (changed id marked s.clients)
+RefusalLeaves s st r t = t ≡ s
 
 abbrev pub RefusalsKeepTheState : Type 0
-RefusalsKeepTheState = (s : State) (st : Step) (m : Point) (r : Refusal) → (next s st m).reply ≡ reply.Refused r → Leaves s st r (next s st m).state
+RefusalsKeepTheState = (s : State) (st : Step) (m : Point) (r : Refusal) → (next s st m).reply ≡ reply.Refused r → RefusalLeaves s st r (next s st m).state
 
 -- no step changes the bounds or the worker count
 abbrev pub StepsKeepTheDomain : Type 0

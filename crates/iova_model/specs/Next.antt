@@ -1,10 +1,10 @@
 -- What each step answers, and what it leaves.
-use Rattle.std.specs.Prelude.{ℕ, ◌+◌, ◌-◌, ◌^◌, ◌==◌, Bool, true, false, not, ◌&&◌, ◌||◌, nat_lt, nat_le, min, max, List, [], ◌∷◌, ◌++◌, length, map, filter, Option, Some, None, slice_index_or, slice_set, if◌then◌else◌, find}
+use Rattle.std.specs.Prelude.{ℕ, ◌+◌, ◌-◌, ◌^◌, ◌==◌, Bool, true, false, not, ◌&&◌, ◌||◌, nat_lt, nat_le, List, [], ◌∷◌, ◌++◌, length, map, filter, Option, Some, None, slice_index_or, slice_set, if◌then◌else◌, find}
 use Rattle.std.specs.List.{list_any}
 use Rattle.iova_range.specs.declared.limits.TheConstants.{MAX_WINDOWS, MAX_SERIAL, MAX_CLIENTS, SAC_LIMIT, MAX_HOLDINGS, MAX_FRAMES, MAX_ENTRIES, MAX_FLIGHTS}
 use Rattle.iova_range.specs.declared.refusal.Refusal.{Refusal}
 use Rattle.iova_range.specs.declared.refusal.Refusal.TheVariants as refusal
-use Rattle.iova_range.specs.Frames.{Frames, meets}
+use Rattle.iova_range.specs.Frames.{Frames, meets, join}
 use Rattle.iova_range.specs.Sizes.{need, order_of}
 use Rattle.iova_model.specs.declared.step.Step.{Step}
 use Rattle.iova_model.specs.declared.step.Step.TheVariants as step
@@ -69,10 +69,6 @@ abbrev pub with_flushes : State → Flushes → State
 with_flushes s flushes = record s { flushes = flushes }
 
 -- Windows: Linux 5.15 drivers/iommu/iova.c: reserve_iova; that there is one window afterwards is our own
-
--- the frames of both and what lies between them
-abbrev pub join : Frames → Frames → Frames
-join a b = let lo = min a.lo b.lo in record { lo = lo; len = max (a.lo + a.len) (b.lo + b.len) - lo }
 
 -- a window and all that overlap it
 abbrev pub union : Frames → List Frames → Frames
@@ -186,8 +182,8 @@ given (At lo) s id size =
     let r : Frames = record { lo = lo; len = size } in
     record { reply = reply.Given r; state = with_clients s (changed id (with_holding r) s.clients) }
 
-abbrev pub given_by : Tried → ℕ → ℕ → Next
-given_by t id size = given t.found t.state id size
+abbrev pub given_from : Tried → ℕ → ℕ → Next
+given_from t id size = given t.found t.state id size
 
 abbrev pub ledger_tests : Client → Point → List (Bool × Refusal)
 ledger_tests c m =
@@ -198,7 +194,7 @@ ledger_tests c m =
 
 abbrev pub alloc_to : Option Client → State → ℕ → ℕ → ℕ → ℕ → Point → Next
 alloc_to None s w id size limit m = refused refusal.NoClient s
-alloc_to (Some c) s w id size limit m = unless (ledger_tests c m) s (given_by (walk s w c.sac size limit m) id size)
+alloc_to (Some c) s w id size limit m = unless (ledger_tests c m) s (given_from (walk s w c.sac size limit m) id size)
 
 abbrev pub alloc_tests : State → ℕ → ℕ → List (Bool × Refusal)
 alloc_tests s w frames =

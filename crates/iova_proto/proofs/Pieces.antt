@@ -18,7 +18,7 @@ all_append : (rs ss : List Request) → AllByRecursion IsRequest rs → AllByRec
 all_append [] ss a b = b
 all_append (r ∷ rs) ss a b = (a.0, all_append rs ss a.1 b)
 
--- a bad line stays bad, whatever comes behind it
+-- a bad line stays bad, whatever comes after it
 bad_more : (bytes more : List ℕ) → BeginsBad bytes → BeginsBad (bytes ++ more)
 bad_more bytes more (inl odd) = inl (record {
   line = odd.line;

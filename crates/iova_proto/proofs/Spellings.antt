@@ -1,14 +1,12 @@
 -- A request has one spelling, and a spelling one request.
 use Rattle.std.proofs.Common.{ℕ, ◌≡◌, ◌+◌, ◌*◌, ◌<◌, ◌≤◌, ◌^◌, Bool, true, false, List, [], ◌∷◌, ◌++◌, length, length-append, get_or, decimal, refl, sym, ap, ◌∙◌, arith}
-use Rattle.std.specs.Char.{is_ascii_digit}
 use Rattle.std.specs.List.{list_all, AllByRecursion}
 use Rattle.iova_range.specs.declared.limits.TheConstants.{MAX_LINE}
 use Rattle.iova_text.specs.Lines.{is_not_lf, HasNoLf}
 use Rattle.iova_text.specs.Reading.{is_not_space}
 use Rattle.iova_text.specs.Words.{spaced_words, kind_text}
 use Rattle.iova_text.proofs.Cuts.{list_all-append, run_once, stops-spaced_words}
-use Rattle.iova_text.proofs.Digits.{decimal-digits, read_on, read_on-decimal}
-use Rattle.iova_text.proofs.WordTexts.{no_lf_decimal, no_lf_words, IsShort, short_decimal, short_words}
+use Rattle.iova_text.proofs.WordTexts.{no_lf_decimal, no_lf_kind, no_lf_words, IsShort, short_decimal, short_kind, short_words, same_front, same_kind}
 use Rattle.iova_proto.specs.declared.request.Request.{Request}
 use Rattle.iova_proto.specs.declared.request.Request.TheVariants as request
 use Rattle.iova_proto.specs.Requests.{request_verb, request_arguments, request_line, IsRequest}
@@ -24,10 +22,6 @@ no_lf_verb request.Flush = refl
 no_lf_verb request.Stat = refl
 no_lf_verb request.Bye = refl
 
-no_lf_kind : (b : Bool) → HasNoLf (kind_text b)
-no_lf_kind true = refl
-no_lf_kind false = refl
-
 no_lf_arguments : (r : Request) → IsRequest r → AllByRecursion HasNoLf (request_arguments r)
 no_lf_arguments (request.Hello domain sac) good = (refl, (no_lf_decimal domain good, (no_lf_kind sac, tt)))
 no_lf_arguments (request.Alloc frames limit) good = (no_lf_decimal frames good.0, (no_lf_decimal limit good.1, tt))
@@ -42,10 +36,6 @@ no_lf_request r good =
     list_all-append is_not_lf (request_verb r) (spaced_words (request_arguments r)) (no_lf_verb r) (no_lf_words (request_arguments r) (no_lf_arguments r good))
 
 -- It is shorter than the longest line.
-
-short_kind : (b : Bool) → IsShort (kind_text b)
-short_kind true = omega arith
-short_kind false = omega arith
 
 short_verb : (r : Request) → length (request_verb r) ≤ 5
 short_verb (request.Hello domain sac) = omega arith
@@ -102,29 +92,6 @@ key-is request.List = refl
 key-is request.Flush = refl
 key-is request.Stat = refl
 key-is request.Bye = refl
-
-same_decimal : (a b : ℕ) → a < 2 ^ 64 → b < 2 ^ 64 → decimal a ≡ decimal b → a ≡ b
-same_decimal a b fits other e = sym (read_on-decimal a fits) ∙ (ap (read_on 0) e ∙ read_on-decimal b other)
-
-same_kind : (a b : Bool) → kind_text a ++ [] ≡ kind_text b ++ [] → a ≡ b
-same_kind true true e = refl
-same_kind true false e = absurd (omega (arith, ap (λ (x : List ℕ). get_or x 0 0) e))
-same_kind false true e = absurd (omega (arith, ap (λ (x : List ℕ). get_or x 0 0) e))
-same_kind false false e = refl
-
--- a number, and what begins by a space or ends
-same_front : (a b : ℕ) (ws vs : List (List ℕ)) → a < 2 ^ 64 → b < 2 ^ 64 → spaced_words (decimal a ∷ ws) ≡ spaced_words (decimal b ∷ vs)
-    → (a ≡ b) × (spaced_words ws ≡ spaced_words vs)
-same_front a b ws vs fits other e =
-    let both : 32 ∷ (decimal a ++ spaced_words ws) ≡ 32 ∷ (decimal b ++ spaced_words vs) = e in
-    let tails : decimal a ++ spaced_words ws ≡ decimal b ++ spaced_words vs = cc in
-    let r = run_once is_ascii_digit (decimal a) (spaced_words ws) (decimal b) (spaced_words vs)
-    (decimal-digits a fits) (no_digit ws) (decimal-digits b other) (no_digit vs) tails in
-    (same_decimal a b fits other r.0, r.1)
-  where
-    no_digit : (us : List (List ℕ)) → Rattle.iova_text.specs.Reading.stops is_ascii_digit (spaced_words us) ≡ true
-    no_digit [] = refl
-    no_digit (u ∷ us) = refl
 
 same_arguments : (r s : Request) → IsRequest r → IsRequest s → key_of r ≡ key_of s
     → spaced_words (request_arguments r) ≡ spaced_words (request_arguments s) → r ≡ s

@@ -1,10 +1,9 @@
 -- The text of answers. Own.
 use Rattle.std.specs.Prelude.{ℕ, List, [], ◌∷◌, ◌++◌, length, codes, decimal, flat_map}
 use Rattle.iova_range.specs.Frames.{Frames}
-use Rattle.iova_range.specs.Refusals.{refusal_number, refusal_name}
 use Rattle.iova_range.specs.declared.stat.Stat.{Stat}
 use Rattle.iova_text.specs.Lines.{whole_line}
-use Rattle.iova_text.specs.Words.{line_text, numbers_line}
+use Rattle.iova_text.specs.Words.{line_text, numbers_line, refusal_line}
 use Rattle.iova_proto.specs.declared.answer.Answer.{Answer}
 use Rattle.iova_proto.specs.declared.answer.Answer.TheVariants as answer
 
@@ -21,9 +20,9 @@ first_line (answer.Held ranges) = whole_line (numbers_line (codes "held") (lengt
 first_line (answer.Flushed number freed) = whole_line (numbers_line (codes "flushed") (number ∷ freed ∷ []))
 first_line (answer.Stat stat) = whole_line (numbers_line (codes "stat") (stat_numbers stat))
 first_line answer.Bye = whole_line (codes "bye")
-first_line (answer.Refused r) = whole_line (line_text (codes "no") (decimal (refusal_number r) ∷ refusal_name r ∷ []))
+first_line (answer.Refused r) = whole_line (refusal_line r)
 
--- the ranges that have a line of their own behind it
+-- the ranges that have a line of their own after it
 abbrev pub listed : Answer → List Frames
 listed (answer.Opened serial) = []
 listed (answer.Given r) = []

@@ -1,4 +1,4 @@
--- What one piece of a stream gives behind what was kept. Own.
+-- What one piece of a stream gives after what was kept. Own.
 use Rattle.std.specs.Prelude.{ℕ, ◌≡◌, ◌≤◌, ◌⊎◌, if◌then◌else◌, Bool, true, false, List, [], ◌++◌, length, take, Option, Some, None}
 use Rattle.iova_text.specs.Lines.{HasNoLf, whole_line, IsUnended, IsOverlong}
 use Rattle.iova_proto.specs.declared.request.Request.{Request}
@@ -18,14 +18,14 @@ pub record BeginsOdd (bytes : List ℕ) : Type 0 where
 abbrev pub BeginsBad : List ℕ → Type 0
 BeginsBad bytes = BeginsOdd bytes ⊎ IsOverlong bytes
 
--- the bytes that are kept and so many of the piece, one at least, are the line of this request, and nothing is kept behind it
+-- the bytes that are kept and so many of the piece, one at least, are the line of this request, and nothing is kept after it
 pub record EndsLine (kept piece : List ℕ) (r : Request) (used : ℕ) (next : Option (List ℕ)) : Type 0 where
   pub some : 1 ≤ used
   pub within : used ≤ length piece
   pub spells : Spells (kept ++ take used piece) r
   pub next_is : next ≡ Some []
 
--- What a piece gives behind these bytes of a line that has not ended, and what is kept then: nothing more behind a bad line.
+-- What a piece gives after these bytes of a line that has not ended, and what is kept then: nothing more after a bad line.
 abbrev pub Feeds : List ℕ → List ℕ → Fed → Option (List ℕ) → Type 0
 Feeds kept piece (fed.Request r used) next = EndsLine kept piece r used next
 Feeds kept piece fed.More next = IsUnended (kept ++ piece) × (next ≡ Some (kept ++ piece))
@@ -36,6 +36,6 @@ is_bad (fed.Request r used) = false
 is_bad fed.More = false
 is_bad fed.Bad = true
 
--- what is kept behind what a piece gave, where the buffer has these bytes
+-- what is kept after what a piece gave, where the buffer has these bytes
 abbrev pub state_behind : Fed → List ℕ → Option (List ℕ)
 state_behind f kept = if is_bad f then None else Some kept

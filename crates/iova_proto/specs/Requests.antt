@@ -1,7 +1,7 @@
 -- The lines of requests: one spelling for each. Own.
 use Rattle.std.specs.Prelude.{ℕ, ◌≡◌, ◌<◌, ◌^◌, List, [], ◌∷◌, codes, decimal}
 use Rattle.iova_text.specs.Lines.{whole_line}
-use Rattle.iova_text.specs.Words.{line_text, kind_text}
+use Rattle.iova_text.specs.Words.{line_text, spaced_words, kind_text}
 use Rattle.iova_proto.specs.declared.request.Request.{Request}
 use Rattle.iova_proto.specs.declared.request.Request.TheVariants as request
 
@@ -47,3 +47,7 @@ IsRequest request.Bye = Unit {0}
 pub record Spells (line : List ℕ) (r : Request) : Type 0 where
   pub good : IsRequest r
   pub text : line ≡ request_text r
+
+-- it is a request of this verb, and these bytes are its other words
+abbrev pub IsSpelledBy : List ℕ → List ℕ → Request → Type 0
+IsSpelledBy verb arguments r = IsRequest r × (request_verb r ≡ verb) × (arguments ≡ spaced_words (request_arguments r))

@@ -7,8 +7,8 @@ use Rattle.iova_proto.specs.declared.fed.Fed.TheVariants as fed
 use Rattle.iova_proto.specs.Requests.{request_text, IsRequest}
 use Rattle.iova_proto.specs.Feeds.{BeginsBad, Feeds}
 
--- A piece is fed whole: behind each request what is left of it is fed again, until no line has ended, or one is bad. The states
--- before and after are what is kept of a line, or none behind a bad line.
+-- A piece is fed whole: after each request what is left of it is fed again, until no line has ended, or one is bad. The states
+-- before and after are what is kept of a line, or none after a bad line.
 abbrev pub FeedsPiece : List Request → Option (List ℕ) → List ℕ → Option (List ℕ) → Type 0
 FeedsPiece [] None piece next = next ≡ None
 FeedsPiece [] (Some kept) piece next = Feeds kept piece fed.More next ⊎ Feeds kept piece fed.Bad next
@@ -23,12 +23,12 @@ FeedsPieces (piece ∷ pieces) state rs next =
     (first : List Request) × (mid : Option (List ℕ)) × (others : List Request) × (rs ≡ first ++ others)
     × FeedsPiece first state piece mid × FeedsPieces pieces mid others next
 
--- how a stream stands behind its whole lines: in a line that has not ended, or at a bad line
+-- how a stream stands after its whole lines: in a line that has not ended, or at a bad line
 abbrev pub StandsAt : List ℕ → Option (List ℕ) → Type 0
 StandsAt rest (Some kept) = (rest ≡ kept) × IsUnended kept
 StandsAt rest None = BeginsBad rest
 
--- the stream is the lines of these requests, and what comes behind them leaves this state
+-- the stream is the lines of these requests, and what comes after them leaves this state
 pub record Reads (stream : List ℕ) (rs : List Request) (state : Option (List ℕ)) : Type 0 where
   pub rest : List ℕ
   pub each : AllByRecursion IsRequest rs

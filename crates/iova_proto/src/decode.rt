@@ -1,8 +1,8 @@
 //! A line read as a request.
-ghost use Rattle.std.specs.Prelude.{◌≡◌, ℕ, Bool, [], ◌∷◌, ◌++◌, Some, Ok, IfSome, IfOk, OnErr, codes};
+ghost use Rattle.std.specs.Prelude.{◌≡◌, ℕ, Bool, [], ◌++◌, Some, Ok, IfSome, IfOk, OnErr, codes};
 ghost use Rattle.iova_text.specs.Words.{spaced_words};
 ghost use Rattle.iova_proto.specs.declared.request.Request.{Request as R};
-ghost use Rattle.iova_proto.specs.Requests.{request_verb, request_arguments, request_line, IsRequest, Spells};
+ghost use Rattle.iova_proto.specs.Requests.{request_verb, request_arguments, request_line, IsRequest, IsSpelledBy, Spells};
 
 use crate::request::Request;
 use iova_text::words::{first_word, kind_of, next_number, next_word, one_number, two_numbers};
@@ -53,9 +53,10 @@ pub(crate) fn request_of(line: &[u8]) -> Option<Request>
 
 /// ` <frames> <limit>`.
 fn alloc_of(arguments: &[u8]) -> Option<Request>
-    ensures spelled { IfSome result (λ r. IsRequest r × (request_verb r ≡ codes "alloc") × (arguments.now ≡ spaced_words (request_arguments r))) }
+    ensures spelled { IfSome result (IsSpelledBy (codes "alloc") arguments.now) }
     ensures read { (frames limit : ℕ) → IsRequest (Request.Alloc frames limit)
-        → arguments.now ≡ spaced_words (request_arguments (Request.Alloc frames limit)) → result ≡ Some (Request.Alloc frames limit) }
+        → arguments.now ≡ spaced_words (request_arguments (Request.Alloc frames limit))
+        → result ≡ Some (Request.Alloc frames limit) }
 {
     let (frames, limit) = two_numbers(arguments)?;
     Some(Request::Alloc { frames, limit })
@@ -63,8 +64,9 @@ fn alloc_of(arguments: &[u8]) -> Option<Request>
 
 /// ` <lo>`.
 fn free_of(arguments: &[u8]) -> Option<Request>
-    ensures spelled { IfSome result (λ r. IsRequest r × (request_verb r ≡ codes "free") × (arguments.now ≡ spaced_words (request_arguments r))) }
-    ensures read { (lo : ℕ) → IsRequest (Request.Free lo) → arguments.now ≡ spaced_words (request_arguments (Request.Free lo))
+    ensures spelled { IfSome result (IsSpelledBy (codes "free") arguments.now) }
+    ensures read { (lo : ℕ) → IsRequest (Request.Free lo)
+        → arguments.now ≡ spaced_words (request_arguments (Request.Free lo))
         → result ≡ Some (Request.Free lo) }
 {
     let lo = one_number(arguments)?;
@@ -73,9 +75,10 @@ fn free_of(arguments: &[u8]) -> Option<Request>
 
 /// ` iova1 <domain> sac` or ` iova1 <domain> dac`.
 fn hello_of(arguments: &[u8]) -> Option<Request>
-    ensures spelled { IfSome result (λ r. IsRequest r × (request_verb r ≡ codes "hello") × (arguments.now ≡ spaced_words (request_arguments r))) }
+    ensures spelled { IfSome result (IsSpelledBy (codes "hello") arguments.now) }
     ensures read { (domain : ℕ) (sac : Bool) → IsRequest (Request.Hello domain sac)
-        → arguments.now ≡ spaced_words (request_arguments (Request.Hello domain sac)) → result ≡ Some (Request.Hello domain sac) }
+        → arguments.now ≡ spaced_words (request_arguments (Request.Hello domain sac))
+        → result ≡ Some (Request.Hello domain sac) }
 {
     let (version, arguments) = next_word(arguments)?;
     if version == b"iova1".as_slice() {
@@ -87,10 +90,10 @@ fn hello_of(arguments: &[u8]) -> Option<Request>
 
 /// ` <domain> sac` or ` <domain> dac`.
 fn client_of(arguments: &[u8]) -> Option<Request>
-    ensures spelled { IfSome result (λ r. IsRequest r × (request_verb r ≡ codes "hello")
-        × (codes " iova1" ++ arguments.now ≡ spaced_words (request_arguments r))) }
+    ensures spelled { IfSome result (IsSpelledBy (codes "hello") (codes " iova1" ++ arguments.now)) }
     ensures read { (domain : ℕ) (sac : Bool) → IsRequest (Request.Hello domain sac)
-        → codes " iova1" ++ arguments.now ≡ spaced_words (request_arguments (Request.Hello domain sac)) → result ≡ Some (Request.Hello domain sac) }
+        → codes " iova1" ++ arguments.now ≡ spaced_words (request_arguments (Request.Hello domain sac))
+        → result ≡ Some (Request.Hello domain sac) }
 {
     let (domain, kind) = next_number(arguments)?;
     let sac = kind_of(kind)?;

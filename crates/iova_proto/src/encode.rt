@@ -1,7 +1,6 @@
 //! Answers written as their text.
-ghost use Rattle.std.specs.Prelude.{◌≡◌, ◌+◌, ◌<◌, ◌≤◌, List, ℕ, ◌++◌, [], ◌∷◌, OnOk, OnErr, length, vec_len, vec_capacity, flat_map, codes, decimal};
-ghost use Rattle.iova_range.specs.Refusals.{refusal_number, refusal_name};
-ghost use Rattle.iova_text.specs.Words.{line_text};
+ghost use Rattle.std.specs.Prelude.{◌≡◌, ◌+◌, ◌<◌, ◌≤◌, List, ℕ, ◌++◌, [], OnOk, OnErr, length, vec_len, vec_capacity, flat_map};
+ghost use Rattle.iova_text.specs.Words.{refusal_line};
 ghost use Rattle.iova_proto.specs.Answers.{first_line, range_line, answer_text};
 
 use crate::answer::Answer;
@@ -69,7 +68,7 @@ pub fn put_first_line<const CAP: usize>(answer: &Answer, out: &mut ArrayVec<u8, 
 
 fn put_refusal<const CAP: usize>(refusal: Refusal, out: &mut ArrayVec<u8, CAP>)
     requires { length out.old.items + MAX_FIRST_LINE ≤ CAP }
-    ensures items { out.new.items ≡ out.old.items ++ line_text (codes "no") (decimal (refusal_number refusal) ∷ refusal_name refusal ∷ []) }
+    ensures items { out.new.items ≡ out.old.items ++ refusal_line refusal }
     ensures short { length out.new.items + 1 ≤ length out.old.items + MAX_FIRST_LINE }
 {
     put_numbers(out, b"no", &[u64::from(refusal.number())]);
@@ -80,7 +79,8 @@ fn put_refusal<const CAP: usize>(refusal: Refusal, out: &mut ArrayVec<u8, CAP>)
 /// Appends a line for each range. Where memory is refused, those before it are appended.
 fn append_ranges(ranges: &[Range], out: &mut Vec<u8>) -> Result<(), Refusal>
     ensures ok { OnOk result (out.new.items ≡ out.old.items ++ flat_map range_line ranges.now) }
-    ensures err { OnErr result ((result ≡ Err Refusal.NoMemory) × ((more : List ℕ) × (out.new.items ≡ out.old.items ++ more))) }
+    ensures err { OnErr result ((result ≡ Err Refusal.NoMemory)
+        × ((more : List ℕ) × (out.new.items ≡ out.old.items ++ more))) }
     ensures full { OnErr result (vec_capacity out.old < vec_len out.old + length (flat_map range_line ranges.now)) }
 {
     for range in ranges {

@@ -14,7 +14,7 @@ use iova_text::line::cut_line;
 use std::marker::Model;
 
 /// What has come of a line that has not ended, or that a bad line has come. Contracts see the bytes that are kept, and none
-/// behind a bad line. Own.
+/// after a bad line. Own.
 #[derive(Drop)]
 pub struct Lines {
     /// What has come of the line.
@@ -48,15 +48,15 @@ impl Lines {
     }
 
     /// Takes the piece up to the end of its first line. That line, with what was kept before the piece, is a request's, or it
-    /// is bad. Where it has not ended, the piece is kept; 128 bytes without LF are bad. Behind a bad line each piece is bad.
+    /// is bad. Where it has not ended, the piece is kept; 128 bytes without LF are bad. After a bad line each piece is bad.
     /// Looks at 128 bytes of the piece at most, copies none where a line lies whole in it, and takes no memory. Own.
     pub fn feed(&mut self, piece: &[u8]) -> Fed
         ensures fed { IfSome self.old (λ kept. Feeds kept piece.now result self.new) }
         ensures bad { self.old ≡ None → (result ≡ Fed.Bad) × (self.new ≡ None) }
 
         // No other answer is right.
-        ensures only { (kept : List ℕ) (other : F) (next : Option (List ℕ)) → self.old ≡ Some kept → Feeds kept piece.now other next
-            → (other ≡ result) × (next ≡ self.new) }
+        ensures only { (kept : List ℕ) (other : F) (next : Option (List ℕ)) → self.old ≡ Some kept
+            → Feeds kept piece.now other next → (other ≡ result) × (next ≡ self.new) }
     {
         if self.is_bad {
             return Fed::Bad;
@@ -67,7 +67,7 @@ impl Lines {
     }
 }
 
-// The first line of the bytes that are kept and the piece. What is kept then is empty behind a line.
+// The first line of the bytes that are kept and the piece. What is kept then is empty after a line.
 
 fn feed_behind(kept: &mut LineBuffer, piece: &[u8]) -> Fed
     requires { IsUnended kept.old.items }
@@ -86,7 +86,8 @@ fn end_line(kept: &mut LineBuffer, line: &[u8]) -> Fed
     requires unended { IsUnended kept.old.items }
     requires one { HasNoLf line.now }
     requires short { length kept.old.items + length line.now < MAX_LINE }
-    ensures fed { (more : List ℕ) → Feeds kept.old.items (whole_line line.now ++ more) result (state_behind result kept.new.items) }
+    ensures fed { (more : List ℕ)
+        → Feeds kept.old.items (whole_line line.now ++ more) result (state_behind result kept.new.items) }
     ensures empty { kept.new.items ≡ [] }
 {
     let request = if kept.is_empty() {

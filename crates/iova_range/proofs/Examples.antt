@@ -3,8 +3,8 @@ use Rattle.std.proofs.Common.{◌≡◌, ◌≤◌, List, [], ◌∷◌, Some, N
 use Rattle.std.specs.Prelude.{codes}
 use Rattle.iova_range.specs.declared.refusal.Refusal.{Refusal}
 use Rattle.iova_range.specs.declared.refusal.Refusal.TheVariants.{Zero, TooBig, NoClient, Closing, HoldingsFull, NoSpace, RingFull, NotHeld, Taken, BadWindow, WindowsFull, NoWorker, FlightsFull, NoFlight, Worn, ClientsFull, NoMemory, SinkFault, LinkFault, BadLine, TooMany, BadTrace, NoDomain, Twice, BadProfile}
-use Rattle.iova_range.specs.declared.limits.TheConstants.{MAX_WORKERS, MAX_CLIENTS, MAX_HOLDINGS, MAX_WINDOWS, MAX_FRAMES, MAX_FLIGHTS, MAX_SERIAL, SAC_LIMIT, ORDERS, MAGAZINE, SMALL_MAGAZINE, MAX_DEPOT, RING_SLOTS, MAX_ENTRIES, MAX_LINE, MAX_STEPS, MAX_READS, MAX_DOMAINS, MAX_REQUESTS, MAX_SESSION_READS, MAX_LISTED, MAX_RUN, MAX_SESSIONS}
-use Rattle.iova_range.specs.Frames.{Frames, covers, meets}
+use Rattle.iova_range.specs.declared.limits.TheConstants.{MAX_WORKERS, MAX_CLIENTS, MAX_HOLDINGS, MAX_WINDOWS, MAX_FRAMES, MAX_FLIGHTS, MAX_SERIAL, SAC_LIMIT, ORDERS, MAGAZINE, SMALL_MAGAZINE, MAX_DEPOT, RING_SLOTS, MAX_ENTRIES, MAX_LINE, MAX_STEPS, MAX_READS, MAX_DOMAINS, MAX_REQUESTS, MAX_SESSION_READS, MAX_LISTED, MAX_RUN, MAX_SESSIONS, TALLY_PARTS, MAX_PAIRS, RECORDED_STEPS, FLUSH_PAUSE, ACCEPT_PAUSE}
+use Rattle.iova_range.specs.Frames.{Frames, covers, meets, join}
 use Rattle.iova_range.specs.Sizes.{need, align_of, order_of}
 use Rattle.iova_range.specs.Bounds.{Capacities, first_profile, second_profile, IsProfile, AreBounds}
 use Rattle.iova_range.specs.Refusals.{refusal_number, refusal_name}
@@ -53,12 +53,16 @@ eleven = record { lo = 10; len = 11 }
 covers_its_ends : map (λ frame. covers frame eleven) (9 ∷ 10 ∷ 20 ∷ 21 ∷ []) ≡ false ∷ true ∷ true ∷ false ∷ []
 covers_its_ends = refl
 
--- one frame each: below, the first, the last, behind
+-- one frame each: below, the first, the last, after
 meets_at_its_ends : map (λ lo. meets eleven (record { lo = lo; len = 1 })) (9 ∷ 10 ∷ 20 ∷ 21 ∷ []) ≡ false ∷ true ∷ true ∷ false ∷ []
 meets_at_its_ends = refl
 
 meets_what_it_is_inside : meets (record { lo = 15; len = 1 }) eleven ≡ true
 meets_what_it_is_inside = refl
+
+-- with a gap of 4 frames, and with what is inside it
+joins_over_a_gap : map (join eleven) (record { lo = 25; len = 2 } ∷ record { lo = 15; len = 1 } ∷ []) ≡ record { lo = 10; len = 17 } ∷ eleven ∷ []
+joins_over_a_gap = refl
 
 -- Limits.
 
@@ -73,6 +77,9 @@ limits_of_traces_and_sessions :
     MAX_LINE ∷ MAX_STEPS ∷ MAX_READS ∷ MAX_DOMAINS ∷ MAX_REQUESTS ∷ MAX_SESSION_READS ∷ MAX_LISTED ∷ MAX_RUN ∷ MAX_SESSIONS ∷ []
     ≡ 128 ∷ 1000000 ∷ 134217728 ∷ 8 ∷ 65536 ∷ 1048576 ∷ 1048576 ∷ 16 ∷ 65536 ∷ []
 limits_of_traces_and_sessions = refl
+
+limits_of_daemons : TALLY_PARTS ∷ MAX_PAIRS ∷ RECORDED_STEPS ∷ FLUSH_PAUSE ∷ ACCEPT_PAUSE ∷ [] ≡ 256 ∷ 4000000 ∷ 100000 ∷ 10 ∷ 100 ∷ []
+limits_of_daemons = refl
 
 -- Profiles and bounds.
 

@@ -28,7 +28,7 @@ pub const MAX_ENTRIES: usize = 255;
 /// The most flushes in flight at a time. Own.
 pub const MAX_FLIGHTS: usize = 32;
 
-/// The last serial of a client, and the last start count: behind it a step is refused by `Worn`. Own.
+/// The last serial of a client, and the last start count: after it a step is refused by `Worn`. Own.
 pub const MAX_SERIAL: u64 = 9_223_372_036_854_775_807;
 
 /// The entries of a magazine in the first profile (`IOVA_MAG_SIZE` of Linux 5.15 `drivers/iommu/iova.c`).
@@ -79,3 +79,18 @@ pub const MAX_SESSIONS: u64 = 65_536;
 
 /// The parts of a worker's new tally: with one part each, so many threads can end flushes at a time. Own.
 pub const TALLY_PARTS: u64 = 256;
+
+/// The most steps that a domain may be asked to record. Own.
+pub const MAX_PAIRS: usize = 4_000_000;
+
+/// How many steps a daemon records: the first ones of its domain. Own.
+pub const RECORDED_STEPS: usize = 100_000;
+
+/// The time between two rounds of a daemon's flusher, in milliseconds: what is unmapped is free again after about as long, and
+/// 100 rounds a second cost next to nothing where no ring has an entry (`IOVA_FQ_TIMEOUT` of Linux 5.15
+/// `include/linux/iova.h`).
+pub const FLUSH_PAUSE: u64 = 10;
+
+/// The time after an accept that failed, in milliseconds. With no descriptor left an accept fails at once, and each one that
+/// fails uses up a session's number. Own.
+pub const ACCEPT_PAUSE: u64 = 100;

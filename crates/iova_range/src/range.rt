@@ -1,6 +1,6 @@
 //! Page frames in a row.
 ghost use Rattle.std.specs.Prelude.{◌≡◌, ◌+◌, ◌≤◌, ◌^◌};
-ghost use Rattle.iova_range.specs.Frames.{covers};
+ghost use Rattle.iova_range.specs.Frames.{covers, meets, join};
 
 use std::marker::Model;
 
@@ -68,6 +68,25 @@ impl Range {
     {
         self.lo <= frame && frame - self.lo < self.len
     }
+
+    /// Whether the two have a frame in common.
+    #[inline]
+    pub fn meets(self, other: Range) -> bool
+        ensures { result ≡ meets self other }
+    {
+        self.lo <= other.hi() && other.lo <= self.hi()
+    }
+
+    /// The frames of both and what lies between them. Neither has frame 0.
+    pub fn join(self, other: Range) -> Range
+        requires first { 1 ≤ self.lo }
+        requires second { 1 ≤ other.lo }
+        ensures { result ≡ join self other }
+    {
+        let lo = self.lo.min(other.lo);
+        let hi = self.hi().max(other.hi());
+        Range::new(lo, hi - lo + 1)
+    }
 }
 
 #[cfg(test)]
@@ -82,5 +101,20 @@ mod tests {
         for (frame, inside) in [(1015, false), (1016, true), (1019, true), (1020, false)] {
             assert_eq!(rt; range.covers(frame), inside, "frame {frame}");
         }
+    }
+
+    #[test]
+    fn neighbours_do_not_meet_but_join(rt: HostRuntime) {
+        let (low, high) = (Range::new(1016, 4), Range::new(1020, 6));
+        assert_eq!(rt; (low.meets(high), high.meets(low)), (false, false));
+        assert_eq!(rt;
+            (low.meets(low), low.meets(Range::new(1019, 2))),
+            (true, true)
+        );
+        assert_eq!(rt;
+            (low.join(high), high.join(low)),
+            (Range::new(1016, 10), Range::new(1016, 10))
+        );
+        assert_eq!(rt; low.join(Range::new(1, 1)), Range::new(1, 1019));
     }
 }

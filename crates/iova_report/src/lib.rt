@@ -38,7 +38,7 @@ pub fn report(domain: &Domain, out: &mut Vec<u8>) -> Result<(), Refusal>
     ensures err { OnErr result ((result ≡ Err Refusal.NoMemory) × (out.new.items ≡ out.old.items)) }
     ensures full { OnErr result (vec_capacity out.old < vec_len out.old + length (report_text domain.now)) }
 {
-    // says that the state is valid, so that there are at most 64 windows
+    // for the proof: the state is valid, so that there are at most 64 windows
     let _bounds = domain.bounds();
     let windows = domain.windows();
     let Ok(()) = out.reserve(12 * FIELD + windows.len() * WINDOW) else {

@@ -60,7 +60,7 @@ fn copied(alloc: Global, bytes: &[u8]) -> Result<Vec<u8>, AllocError> {
     }
 }
 
-// The report behind these bytes. Where a growth is refused, nothing is appended, and the same call then succeeds.
+// The report after these bytes. Where a growth is refused, nothing is appended, and the same call then succeeds.
 fn report_behind(
     rt: &(impl Abort + Print),
     alloc: Global,

@@ -12,7 +12,7 @@ take_plus bs i n =
     let back : drop i (take (i + n) bs) ≡ take n (drop i bs) = drop-take i n bs in
     sym (take-append-drop i (take (i + n) bs)) ∙ (ap (λ (x : List ℕ). x ++ drop i (take (i + n) bs)) front ∙ ap (λ (x : List ℕ). take i bs ++ x) back)
 
--- all that is left behind a place
+-- all that is left after a place
 rest_of : (bs : List ℕ) (i : ℕ) → take (length bs - i) (drop i bs) ≡ drop i bs
 rest_of bs i = take_all (length bs - i) (drop i bs) (omega (arith, length-drop i bs))
 

@@ -9,9 +9,13 @@ pub record Call : Type 0 where
   pub ok : Bool
 
 -- one call more
-abbrev pub after_one : Option (Snapshot (List Call)) → ℕ → ℕ → Bool → List Call
-after_one None domain number ok = []
-after_one (Some before) domain number ok = before.value ++ record { domain = domain; number = number; ok = ok } ∷ []
+abbrev pub with_call : List Call → ℕ → ℕ → Bool → List Call
+with_call calls domain number ok = calls ++ record { domain = domain; number = number; ok = ok } ∷ []
+
+-- the calls that are kept as a snapshot of those before the last
+abbrev pub calls_after : Option (Snapshot (List Call)) → ℕ → ℕ → Bool → List Call
+calls_after None domain number ok = []
+calls_after (Some before) domain number ok = with_call before.value domain number ok
 
 -- how many were good
 abbrev pub good_calls : List Call → ℕ

@@ -1,5 +1,6 @@
 //! The calls of a sink, which only proofs see.
-ghost use Rattle.std.specs.Prelude.{◌≡◌, ◌++◌, ◌∷◌, []};
+ghost use Rattle.std.specs.Prelude.{◌≡◌, []};
+ghost use Rattle.iova_sink.specs.Calls.{with_call};
 
 use std::marker::Model;
 use std::snapshot::Snapshot;
@@ -16,11 +17,11 @@ pub struct Calls {
 
 impl Model for Calls {
     ghost use Rattle.std.specs.Prelude.{List, length};
-    ghost use Rattle.iova_sink.specs.Calls.{Call, after_one};
+    ghost use Rattle.iova_sink.specs.Calls.{Call, calls_after};
 
     ghost Value = { List Call };
 
-    ghost view = { λ c. after_one c.before c.domain c.no c.ok };
+    ghost view = { λ c. calls_after c.before c.domain c.no c.ok };
 
     ghost size = { λ cs. length cs };
 
@@ -44,7 +45,7 @@ impl Calls {
 
     /// One call more, for this domain and this flush, which was good or failed.
     pub fn add(&mut self, domain: u64, no: u64, ok: bool)
-        ensures { self.new ≡ self.old ++ record { domain = domain; number = no; ok = ok } ∷ [] }
+        ensures { self.new ≡ with_call self.old domain no ok }
     {
         let before = Snapshot::of(self);
         self.before = Some(before);

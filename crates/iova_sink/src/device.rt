@@ -1,6 +1,7 @@
 //! What takes the bytes of records.
-ghost use Rattle.std.specs.Prelude.{◌≡◌, ◌+◌, ◌<◌, ◌≤◌, ℕ, List, Option, IfOk, MatchResult, length};
+ghost use Rattle.std.specs.Prelude.{◌<◌, ◌≤◌, ℕ, List, Option, IfOk, length};
 ghost use Rattle.std.specs.Io.KnownBytes.{WriteAppends, Keeps};
+ghost use Rattle.iova_sink.specs.Counts.{CountsFailure};
 
 /// The device failed.
 #[derive(Clone, Copy, PartialEq, Eq, Debug)]
@@ -21,10 +22,10 @@ pub trait Device {
         ensures bound { IfOk result (λ n. n ≤ length bytes.now) }
         ensures some { IfOk result (λ n. 0 < length bytes.now → 0 < n) }
         ensures bytes { WriteAppends (taken self.old) (taken self.new) result bytes.now }
-        ensures failures { MatchResult result (λ n. failures self.new ≡ failures self.old) (λ e. failures self.new ≡ failures self.old + 1) };
+        ensures failures { CountsFailure result (failures self.old) (failures self.new) };
 
     /// Hands on what the device itself kept back.
     fn push_out(&mut self) -> Result<(), DeviceFault>
         ensures bytes { Keeps (taken self.old) (taken self.new) }
-        ensures failures { MatchResult result (λ u. failures self.new ≡ failures self.old) (λ e. failures self.new ≡ failures self.old + 1) };
+        ensures failures { CountsFailure result (failures self.old) (failures self.new) };
 }

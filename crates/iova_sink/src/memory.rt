@@ -1,5 +1,6 @@
 //! A sink that writes nothing.
-ghost use Rattle.std.specs.Prelude.{◌≡◌, ◌+◌, ◌∷◌, ◌++◌, ◌↔◌, [], is_ok, IsErr, length};
+ghost use Rattle.std.specs.Prelude.{◌≡◌, ◌+◌, ◌↔◌, [], is_ok, IsErr, length};
+ghost use Rattle.iova_sink.specs.Calls.{with_call};
 
 use crate::calls::Calls;
 use crate::sink::{Sink, SinkFault};
@@ -42,7 +43,7 @@ impl Sink for MemorySink {
     ghost calls = { λ s. s.calls };
 
     fn invalidate(&mut self, domain: u64, no: u64) -> Result<(), SinkFault>
-        ensures calls { self.new.calls ≡ self.old.calls ++ record { domain = domain; number = no; ok = is_ok result } ∷ [] }
+        ensures calls { self.new.calls ≡ with_call self.old.calls domain no (is_ok result) }
         ensures fails { IsErr result ↔ (length self.old.calls + 1 ≡ self.old.fail_at) }
         ensures same { self.new.fail_at ≡ self.old.fail_at }
     {

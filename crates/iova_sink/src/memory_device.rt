@@ -1,6 +1,7 @@
 //! A device in memory.
 ghost use Rattle.std.specs.Prelude.{◌≡◌, ◌≢◌, ◌+◌, ◌<◌, ◌≤◌, [], Some, IfOk, OnOk, MatchResult, length, min, true, false};
 ghost use Rattle.std.specs.Io.KnownBytes.{WriteAppends};
+ghost use Rattle.iova_sink.specs.Counts.{CountsFailure};
 
 use crate::count::Count;
 use crate::device::{Device, DeviceFault};
@@ -26,7 +27,13 @@ impl Model for MemoryDevice {
 
     ghost Value = { Kept };
 
-    ghost view = { λ d. record { bytes = d.bytes.items; most = d.most; fail_at = d.fail_at; calls = d.calls; failures = d.failed } };
+    ghost view = { λ d. record {
+      bytes = d.bytes.items;
+      most = d.most;
+      fail_at = d.fail_at;
+      calls = d.calls;
+      failures = d.failed;
+    } };
 
     ghost invariant = { λ d. (1 ≤ d.most) × (d.ahead ≡ d.fail_at - d.calls) };
 }
@@ -56,8 +63,10 @@ impl MemoryDevice {
 
     /// One call more. Whether it is one that doesn't fail.
     fn next_call(&mut self) -> bool
-        ensures good { result ≡ true → (self.old.calls + 1 ≢ self.old.fail_at) × (self.new ≡ record self.old { calls = self.old.calls + 1 }) }
-        ensures fails { result ≡ false → (self.old.calls + 1 ≡ self.old.fail_at) × (self.new ≡ record self.old { calls = self.old.calls + 1; failures = self.old.failures + 1 }) }
+        ensures good { result ≡ true → (self.old.calls + 1 ≢ self.old.fail_at)
+            × (self.new ≡ record self.old { calls = self.old.calls + 1 }) }
+        ensures fails { result ≡ false → (self.old.calls + 1 ≡ self.old.fail_at)
+            × (self.new ≡ record self.old { calls = self.old.calls + 1; failures = self.old.failures + 1 }) }
     {
         let good = self.ahead != 1;
         self.ahead = self.ahead.saturating_sub(1);
@@ -78,10 +87,11 @@ impl Device for MemoryDevice {
         ensures bound { IfOk result (λ n. n ≤ length bytes.now) }
         ensures some { IfOk result (λ n. 0 < length bytes.now → 0 < n) }
         ensures bytes { WriteAppends (Some self.old.bytes) (Some self.new.bytes) result bytes.now }
-        ensures failures { MatchResult result (λ n. self.new.failures ≡ self.old.failures) (λ e. self.new.failures ≡ self.old.failures + 1) }
+        ensures failures { CountsFailure result self.old.failures self.new.failures }
         ensures most { IfOk result (λ n. n ≡ min self.old.most (length bytes.now)) }
         ensures turn { OnOk result (self.old.calls + 1 ≢ self.old.fail_at) }
-        ensures same { self.new ≡ record self.old { bytes = self.new.bytes; calls = self.old.calls + 1; failures = self.new.failures } }
+        ensures same { self.new
+            ≡ record self.old { bytes = self.new.bytes; calls = self.old.calls + 1; failures = self.new.failures } }
     {
         if !self.next_call() {
             return Err(DeviceFault);
@@ -98,8 +108,9 @@ impl Device for MemoryDevice {
 
     fn push_out(&mut self) -> Result<(), DeviceFault>
         ensures bytes { self.new.bytes ≡ self.old.bytes }
-        ensures failures { MatchResult result (λ u. self.new.failures ≡ self.old.failures) (λ e. self.new.failures ≡ self.old.failures + 1) }
-        ensures turn { MatchResult result (λ u. self.old.calls + 1 ≢ self.old.fail_at) (λ e. self.old.calls + 1 ≡ self.old.fail_at) }
+        ensures failures { CountsFailure result self.old.failures self.new.failures }
+        ensures turn { MatchResult result (λ u. self.old.calls + 1 ≢ self.old.fail_at)
+            (λ e. self.old.calls + 1 ≡ self.old.fail_at) }
         ensures same { self.new ≡ record self.old { calls = self.old.calls + 1; failures = self.new.failures } }
     {
         if self.next_call() {

@@ -1,7 +1,8 @@
 //! A sink that writes a record of each good invalidation.
-ghost use Rattle.std.specs.Prelude.{◌≡◌, ℕ, ◌+◌, ◌<◌, ◌≤◌, [], ◌∷◌, ◌++◌, is_ok, length, take, decimal, OnOk, OnErr, MatchResult};
+ghost use Rattle.std.specs.Prelude.{◌≡◌, ℕ, ◌+◌, ◌<◌, ◌≤◌, [], ◌∷◌, ◌++◌, is_ok, length, take, decimal, OnOk, OnErr};
 ghost use Rattle.std.specs.Io.KnownBytes.{Appends};
-ghost use Rattle.iova_sink.specs.Calls.{is_last_failed};
+ghost use Rattle.iova_sink.specs.Calls.{is_last_failed, with_call};
+ghost use Rattle.iova_sink.specs.Counts.{CountsFailure};
 ghost use Rattle.iova_sink.specs.Records.{record_text};
 
 use crate::calls::Calls;
@@ -61,10 +62,12 @@ impl<D: Device> Sink for RecordSink<D> {
     /// Writes the record, then hands it on. It fails where the device failed in this call, and nowhere else; some first
     /// bytes of the record may be written then.
     fn invalidate(&mut self, domain: u64, no: u64) -> Result<(), SinkFault>
-        ensures calls { self.new.calls ≡ self.old.calls ++ record { domain = domain; number = no; ok = is_ok result } ∷ [] }
-        ensures written { OnOk result (Appends (D.taken self.old.device) (D.taken self.new.device) (record_text (is_last_failed self.old.calls) domain no)) }
-        ensures cut { OnErr result ((n : ℕ) × Appends (D.taken self.old.device) (D.taken self.new.device) (take n (record_text (is_last_failed self.old.calls) domain no))) }
-        ensures failures { MatchResult result (λ u. D.failures self.new.device ≡ D.failures self.old.device) (λ e. D.failures self.new.device ≡ D.failures self.old.device + 1) }
+        ensures calls { self.new.calls ≡ with_call self.old.calls domain no (is_ok result) }
+        ensures written { OnOk result (Appends (D.taken self.old.device) (D.taken self.new.device)
+            (record_text (is_last_failed self.old.calls) domain no)) }
+        ensures cut { OnErr result ((n : ℕ) × Appends (D.taken self.old.device) (D.taken self.new.device)
+            (take n (record_text (is_last_failed self.old.calls) domain no))) }
+        ensures failures { CountsFailure result (D.failures self.old.device) (D.failures self.new.device) }
     {
         let text = record_of(self.broken, domain, no);
         let ok = put_all(&mut self.device, text.as_slice()).is_ok();
@@ -110,7 +113,7 @@ fn put_number(text: &mut ArrayVec<u8, MAX_RECORD>, number: u64)
 fn put_all<D: Device>(device: &mut D, bytes: &[u8]) -> Result<(), DeviceFault>
     ensures ok { OnOk result (Appends (D.taken device.old) (D.taken device.new) bytes.now) }
     ensures err { OnErr result ((n : ℕ) × Appends (D.taken device.old) (D.taken device.new) (take n bytes.now)) }
-    ensures failures { MatchResult result (λ u. D.failures device.new ≡ D.failures device.old) (λ e. D.failures device.new ≡ D.failures device.old + 1) }
+    ensures failures { CountsFailure result (D.failures device.old) (D.failures device.new) }
 {
     let mut done = 0;
     while done < bytes.len() {

@@ -1,6 +1,6 @@
 //! What is told of each flush.
-ghost use Rattle.std.specs.Prelude.{◌≡◌, ◌++◌, ◌∷◌, [], is_ok, List};
-ghost use Rattle.iova_sink.specs.Calls.{Call};
+ghost use Rattle.std.specs.Prelude.{◌≡◌, is_ok, List};
+ghost use Rattle.iova_sink.specs.Calls.{Call, with_call};
 
 /// The invalidation failed.
 #[derive(Clone, Copy, PartialEq, Eq, Debug)]
@@ -15,5 +15,5 @@ pub trait Sink {
     /// Invalidates what the domain of this number has unmapped, for the flush of this number. `Err` says that it failed:
     /// the flush hasn't ended well then.
     fn invalidate(&mut self, domain: u64, no: u64) -> Result<(), SinkFault>
-        ensures { calls self.new ≡ calls self.old ++ record { domain = domain; number = no; ok = is_ok result } ∷ [] };
+        ensures { calls self.new ≡ with_call (calls self.old) domain no (is_ok result) };
 }

@@ -2,4 +2,4 @@ pub mod Cuts
 pub mod Digits
 pub mod LineEnds
 pub mod WordTexts
-mod Writes
+pub mod Writes

@@ -19,7 +19,7 @@ pub record IsUnended (bytes : List ℕ) : Type 0 where
   pub one : HasNoLf bytes
   pub short : length bytes < MAX_LINE
 
--- as many bytes as the longest line has, and none of them ends a line, whatever comes behind them
+-- as many bytes as the longest line has, and none of them ends a line, whatever comes after them
 pub record IsOverlong (bytes : List ℕ) : Type 0 where
   pub one : HasNoLf (take MAX_LINE bytes)
   pub long : MAX_LINE ≤ length bytes

@@ -14,12 +14,12 @@ pub fn number(text: &[u8]) -> Option<u64>
     if rest.is_empty() { Some(n) } else { None }
 }
 
-/// The number that the digits at the front spell, and the text behind them; behind a `0` no further digit is looked at. None
+/// The number that the digits at the front spell, and the text after them; after a `0` no further digit is looked at. None
 /// where no digit is at the front, or where the digits spell no number below 2^64. Own.
 pub fn leading_number(text: &[u8]) -> Option<(u64, &[u8])>
     ensures spelled { IfSome result (λ p. text.now ≡ decimal p.0 ++ p.1.now) }
-    ensures read { (n : ℕ) (rest : List ℕ) → n < 2 ^ 64 → IsTrue (stops is_ascii_digit rest) → text.now ≡ decimal n ++ rest
-        → IsSomeAnd result (λ p. (p.0 ≡ n) × (p.1.now ≡ rest)) }
+    ensures read { (n : ℕ) (rest : List ℕ) → n < 2 ^ 64 → IsTrue (stops is_ascii_digit rest)
+        → text.now ≡ decimal n ++ rest → IsSomeAnd result (λ p. (p.0 ≡ n) × (p.1.now ≡ rest)) }
 {
     if text.is_empty() {
         return None;
@@ -34,8 +34,8 @@ pub fn leading_number(text: &[u8]) -> Option<(u64, &[u8])>
 fn leading_positive(text: &[u8]) -> Option<(u64, &[u8])>
     requires { slice_index text.now 0 ≢ 48 }
     ensures spelled { IfSome result (λ p. text.now ≡ decimal p.0 ++ p.1.now) }
-    ensures read { (n : ℕ) (rest : List ℕ) → n < 2 ^ 64 → IsTrue (stops is_ascii_digit rest) → text.now ≡ decimal n ++ rest
-        → IsSomeAnd result (λ p. (p.0 ≡ n) × (p.1.now ≡ rest)) }
+    ensures read { (n : ℕ) (rest : List ℕ) → n < 2 ^ 64 → IsTrue (stops is_ascii_digit rest)
+        → text.now ≡ decimal n ++ rest → IsSomeAnd result (λ p. (p.0 ≡ n) × (p.1.now ≡ rest)) }
 {
     let mut n = 0u64;
     let mut len = 0;

@@ -1,4 +1,4 @@
-//! A line cut into words at single spaces, and the numbers behind them.
+//! A line cut into words at single spaces, and the numbers after them.
 ghost use Rattle.std.specs.Prelude.{◌≡◌, ℕ, ◌^◌, ◌<◌, Bool, List, [], ◌∷◌, ◌++◌, Some, IfSome, IsSomeAnd, IsTrue, decimal};
 ghost use Rattle.std.specs.Char.{is_ascii_digit};
 ghost use Rattle.std.specs.List.{list_all};
@@ -10,8 +10,8 @@ use crate::number::leading_number;
 /// The bytes before the first space, all where there is none, and the rest from that space on.
 pub fn first_word(line: &[u8]) -> (&[u8], &[u8])
     ensures whole { line.now ≡ result.0.now ++ result.1.now }
-    ensures read { (word rest : List ℕ) → IsTrue (list_all is_not_space word) → IsTrue (stops is_not_space rest) → line.now ≡ word ++ rest
-        → (result.0.now ≡ word) × (result.1.now ≡ rest) }
+    ensures read { (word rest : List ℕ) → IsTrue (list_all is_not_space word) → IsTrue (stops is_not_space rest)
+        → line.now ≡ word ++ rest → (result.0.now ≡ word) × (result.1.now ≡ rest) }
 {
     let mut len = 0;
     while len < line.len() && line[len] != b' ' {
@@ -20,7 +20,7 @@ pub fn first_word(line: &[u8]) -> (&[u8], &[u8])
     line.split_at(len)
 }
 
-/// A space and the word behind it, which may be empty, and the text from the next space on. None where no space is at the
+/// A space and the word after it, which may be empty, and the text from the next space on. None where no space is at the
 /// front. Own.
 pub fn next_word(text: &[u8]) -> Option<(&[u8], &[u8])>
     ensures spelled { IfSome result (λ p. text.now ≡ 32 ∷ (p.0.now ++ p.1.now)) }
@@ -35,11 +35,11 @@ pub fn next_word(text: &[u8]) -> Option<(&[u8], &[u8])>
     }
 }
 
-/// A space and a number, and the text behind them.
+/// A space and a number, and the text after them.
 pub fn next_number(text: &[u8]) -> Option<(u64, &[u8])>
     ensures spelled { IfSome result (λ p. text.now ≡ 32 ∷ (decimal p.0 ++ p.1.now)) }
-    ensures read { (n : ℕ) (rest : List ℕ) → n < 2 ^ 64 → IsTrue (stops is_ascii_digit rest) → text.now ≡ 32 ∷ (decimal n ++ rest)
-        → IsSomeAnd result (λ p. (p.0 ≡ n) × (p.1.now ≡ rest)) }
+    ensures read { (n : ℕ) (rest : List ℕ) → n < 2 ^ 64 → IsTrue (stops is_ascii_digit rest)
+        → text.now ≡ 32 ∷ (decimal n ++ rest) → IsSomeAnd result (λ p. (p.0 ≡ n) × (p.1.now ≡ rest)) }
 {
     let (first, digits) = text.split_first()?;
     if *first == b' ' {
@@ -49,7 +49,7 @@ pub fn next_number(text: &[u8]) -> Option<(u64, &[u8])>
     }
 }
 
-/// A space and a number, and nothing behind them.
+/// A space and a number, and nothing after them.
 pub fn one_number(text: &[u8]) -> Option<u64>
     ensures spelled { IfSome result (λ a. text.now ≡ spaced_words (decimal a ∷ [])) }
     ensures read { (a : ℕ) → a < 2 ^ 64 → text.now ≡ spaced_words (decimal a ∷ []) → result ≡ Some a }
@@ -58,7 +58,7 @@ pub fn one_number(text: &[u8]) -> Option<u64>
     if rest.is_empty() { Some(a) } else { None }
 }
 
-/// Two numbers, each with a space before it, and nothing behind them.
+/// Two numbers, each with a space before it, and nothing after them.
 pub fn two_numbers(text: &[u8]) -> Option<(u64, u64)>
     ensures spelled { IfSome result (λ p. text.now ≡ spaced_words (decimal p.0 ∷ decimal p.1 ∷ [])) }
     ensures read { (a b : ℕ) → a < 2 ^ 64 → b < 2 ^ 64 → text.now ≡ spaced_words (decimal a ∷ decimal b ∷ [])
@@ -69,18 +69,19 @@ pub fn two_numbers(text: &[u8]) -> Option<(u64, u64)>
     Some((a, b))
 }
 
-/// Three numbers, each with a space before it, and nothing behind them.
+/// Three numbers, each with a space before it, and nothing after them.
 pub fn three_numbers(text: &[u8]) -> Option<(u64, u64, u64)>
     ensures spelled { IfSome result (λ p. text.now ≡ spaced_words (decimal p.0 ∷ decimal p.1 ∷ decimal p.2 ∷ [])) }
     ensures read { (a b c : ℕ) → a < 2 ^ 64 → b < 2 ^ 64 → c < 2 ^ 64
-        → text.now ≡ spaced_words (decimal a ∷ decimal b ∷ decimal c ∷ []) → result ≡ Some (record { 0 = a; 1 = b; 2 = c }) }
+        → text.now ≡ spaced_words (decimal a ∷ decimal b ∷ decimal c ∷ [])
+        → result ≡ Some (record { 0 = a; 1 = b; 2 = c }) }
 {
     let (a, rest) = next_number(text)?;
     let (b, c) = two_numbers(rest)?;
     Some((a, b, c))
 }
 
-/// A space and the kind of a client, and nothing behind it: true for `sac`, false for `dac`. Own.
+/// A space and the kind of a client, and nothing after it: true for `sac`, false for `dac`. Own.
 pub fn kind_of(text: &[u8]) -> Option<bool>
     ensures spelled { IfSome result (λ sac. text.now ≡ spaced_words (kind_text sac ∷ [])) }
     ensures read { (sac : Bool) → text.now ≡ spaced_words (kind_text sac ∷ []) → result ≡ Some sac }

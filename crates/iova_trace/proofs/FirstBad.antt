@@ -1,4 +1,4 @@
--- The first bad line of a text has one number, and what comes behind it does not change it.
+-- The first bad line of a text has one number, and what comes after it does not change it.
 use Rattle.std.proofs.Common.{ℕ, suc, ◌≡◌, ◌+◌, ◌<◌, ◌≤◌, ◌^◌, ◌==◌, ◌⊎◌, inl, inr, Bool, true, false, List, [], ◌∷◌, ◌++◌, Option, Some, None, length, length-append, take, map, decimal, codes, refl, sym, ap, ◌∙◌, subst, arith, append_assoc, append-nil}
 use Rattle.std.specs.Prelude.{flat_map}
 use Rattle.std.specs.List.{list_all, AllByRecursion}
@@ -11,16 +11,16 @@ use Rattle.iova_trace.specs.declared.line.Verb.{Verb}
 use Rattle.iova_trace.specs.declared.line.Verb.TheVariants as verb
 use Rattle.iova_trace.specs.declared.trace.Trace.{Trace}
 use Rattle.iova_text.specs.Words.{spaced_words, kind_text}
-use Rattle.iova_trace.specs.Text.{verb_text, verb_of, outcome_text, arguments_of, step_text, Fits, header_numbers, header_text, IsHeader}
+use Rattle.iova_trace.specs.Text.{verb_text, verb_of, outcome_text, arguments_of, step_text, NumbersFit, header_numbers, header_text, IsHeader}
 use Rattle.iova_trace.specs.LineSteps.{IsStep}
 use Rattle.iova_text.specs.Lines.{is_not_lf, HasNoLf, whole_line, IsOverlong}
-use Rattle.iova_trace.specs.Lines.{step_line, trace_text, lines_text, IsTrace, Begins, IsOther, IsBad, IsCut, MayFollow, IsRefused, next_line_number}
+use Rattle.iova_trace.specs.Lines.{step_line, trace_text, first_lines_text, IsTrace, BeginsWithLines, IsOther, IsBad, IsCutOff, MayFollow, IsRefused, next_line_number}
 use Rattle.iova_trace.specs.Replay.{StopsAtBad}
 use Rattle.iova_text.proofs.LineEnds.{cut_once, no_line, lf_within, first_lf}
-use Rattle.iova_text.proofs.WordTexts.{IsShort, short_decimal, short_words}
+use Rattle.iova_text.proofs.WordTexts.{IsShort, short_decimal, short_kind, short_words}
 use Rattle.iova_trace.proofs.Readings.{IsEnd, end_at, no_lf_step, no_lf_header, header_fits}
 
--- no step that may be the one behind so many begins the bytes
+-- no step that may be the one after so many begins the bytes
 abbrev IsStuckAt : ℕ → List ℕ → Type 0
 IsStuckAt count left = (s : Step) (more : List ℕ) → count < 1000000 → IsStep s → left ≡ whole_line (step_text s) ++ more → ⊥
 
@@ -45,7 +45,7 @@ same_steps count (s ∷ ss) (m ∷ ms) r q a b few most e stop end =
     (λ x more lt is f. stop x more (omega arith) is f) (λ x more lt is f. end x more (omega arith) is f) in
     (ap suc rest.0, rest.1)
 
-same_lines : (text : List ℕ) (f g : Option Trace) (r q : List ℕ) → Begins text f r → Begins text g q → IsEnd f r → IsEnd g q
+same_lines : (text : List ℕ) (f g : Option Trace) (r q : List ℕ) → BeginsWithLines text f r → BeginsWithLines text g q → IsEnd f r → IsEnd g q
     → (next_line_number f ≡ next_line_number g) × (r ≡ q)
 same_lines text None None r q a b stop end = (refl, sym a.whole ∙ b.whole)
 same_lines text None (Some t) r q a b stop end =
@@ -78,22 +78,18 @@ unique_number text n m a b =
 pub refused_none : (text : List ℕ) (n : ℕ) (t : Trace) → IsRefused text n → IsTrace t → text ≡ trace_text t → ⊥
 refused_none text n t a is whole = go a.lines a.begins a.bad
   where
-    go : (lines : Option Trace) → Begins text lines a.rest → IsOther lines a.rest ⊎ IsCut lines a.rest → ⊥
+    go : (lines : Option Trace) → BeginsWithLines text lines a.rest → IsOther lines a.rest ⊎ IsCutOff lines a.rest → ⊥
     go lines begins bad =
-        let mine : Begins text (Some t) [] = record { good = is; whole = whole ∙ sym (append-nil (trace_text t)) } in
+        let mine : BeginsWithLines text (Some t) [] = record { good = is; whole = whole ∙ sym (append-nil (trace_text t)) } in
         let same = same_lines text (Some t) lines [] a.rest mine begins (inr (refl, λ e. cc)) (inl bad) in
         none lines same.0 same.1 bad
       where
-        none : (lines : Option Trace) → next_line_number (Some t) ≡ next_line_number lines → [] ≡ a.rest → IsOther lines a.rest ⊎ IsCut lines a.rest → ⊥
+        none : (lines : Option Trace) → next_line_number (Some t) ≡ next_line_number lines → [] ≡ a.rest → IsOther lines a.rest ⊎ IsCutOff lines a.rest → ⊥
         none None number empty bad = omega arith
         none (Some u) number empty (inl other) = no_line [] other.line other.more refl (empty ∙ other.whole)
         none (Some u) number empty (inr cut) = cut.1 (sym empty)
 
 -- A line that is too long is none of a trace's.
-
-short_kind : (b : Bool) → IsShort (kind_text b)
-short_kind true = omega arith
-short_kind false = omega arith
 
 short_outcome : (b : Bool) → IsShort (outcome_text b)
 short_outcome true = omega arith
@@ -110,7 +106,7 @@ short_verb verb.Drain = omega arith
 short_verb verb.Close = omega arith
 short_verb verb.CloseOne = omega arith
 
-short_arguments : (s : Step) → Fits s → AllByRecursion IsShort (arguments_of s) × (length (arguments_of s) ≤ 4)
+short_arguments : (s : Step) → NumbersFit s → AllByRecursion IsShort (arguments_of s) × (length (arguments_of s) ≤ 4)
 short_arguments (step.Reserve lo hi) f = ((short_decimal lo f.0, (short_decimal hi f.1, tt)), omega arith)
 short_arguments (step.Open worker sac) f = ((short_decimal worker f, (short_kind sac, tt)), omega arith)
 short_arguments (step.Alloc worker client frames limit) f =
@@ -122,7 +118,7 @@ short_arguments (step.Drain ring by) f = ((short_decimal ring f.0, (short_decima
 short_arguments (step.Close worker client) f = ((short_decimal worker f.0, (short_decimal client f.1, tt)), omega arith)
 short_arguments (step.CloseOne worker client) f = ((short_decimal worker f.0, (short_decimal client f.1, tt)), omega arith)
 
-short_step : (s : Step) → Fits s → length (step_text s) < 128
+short_step : (s : Step) → NumbersFit s → length (step_text s) < 128
 short_step s f =
     let a = short_arguments s f in
     omega (arith, length-append (verb_text (verb_of s)) (spaced_words (arguments_of s)), short_verb (verb_of s), short_words (arguments_of s) a.0, a.1)
@@ -151,14 +147,14 @@ short_line : (lines : Option Trace) (line : List ℕ) → MayFollow lines line �
 short_line None line may = omega (arith, short_header may.0 may.1 may.2, ap length may.3)
 short_line (Some t) line may = omega (arith, short_step may.1 may.2.fits, ap length may.3)
 
-overlong_is_bad : (lines : Option Trace) (rest more : List ℕ) → IsOverlong rest → IsOther lines (rest ++ more) ⊎ IsCut lines (rest ++ more)
+overlong_is_bad : (lines : Option Trace) (rest more : List ℕ) → IsOverlong rest → IsOther lines (rest ++ more) ⊎ IsCutOff lines (rest ++ more)
 overlong_is_bad lines rest more long = go lines (first_lf (rest ++ more))
   where
     start : HasNoLf (take 128 (rest ++ more))
     start = ap (list_all is_not_lf) (take-append-le 128 rest more long.long) ∙ long.one
 
     go : (lines : Option Trace) → HasNoLf (rest ++ more) ⊎ ((line : List ℕ) × (left : List ℕ) × ((rest ++ more) ≡ whole_line line ++ left) × HasNoLf line)
-        → IsOther lines (rest ++ more) ⊎ IsCut lines (rest ++ more)
+        → IsOther lines (rest ++ more) ⊎ IsCutOff lines (rest ++ more)
     go None (inl none) = inr none
     go (Some t) (inl none) = inr (none, λ e. omega (arith, length-append rest more, ap length e, long.long))
     go lines (inr (line, left, e, one)) = inl (record {
@@ -169,17 +165,17 @@ overlong_is_bad lines rest more long = go lines (first_lf (rest ++ more))
       bad = λ may. lf_within (rest ++ more) line left (short_line lines line may) e start;
     })
 
--- Where a replay stops at a bad line, the whole input is refused with that number, whatever comes behind.
+-- Where a replay stops at a bad line, the whole input is refused with that number, whatever comes after.
 pub stops_refused : (taken written more : List ℕ) (n : ℕ) → StopsAtBad taken written n → IsRefused (taken ++ more) n
 stops_refused taken written more n s = record {
   lines = s.lines;
   rest = s.rest ++ more;
-  begins = record { good = s.begins.good; whole = ap (λ (x : List ℕ). x ++ more) s.begins.whole ∙ append_assoc (lines_text s.lines) s.rest more };
+  begins = record { good = s.begins.good; whole = ap (λ (x : List ℕ). x ++ more) s.begins.whole ∙ append_assoc (first_lines_text s.lines) s.rest more };
   number_is = s.number_is;
   bad = go s.bad;
 }
   where
-    go : IsBad s.lines s.rest → IsOther s.lines (s.rest ++ more) ⊎ IsCut s.lines (s.rest ++ more)
+    go : IsBad s.lines s.rest → IsOther s.lines (s.rest ++ more) ⊎ IsCutOff s.lines (s.rest ++ more)
     go (inl other) = inl (record {
       line = other.line;
       more = other.more ++ more;

@@ -21,7 +21,7 @@ use Rattle.iova_trace.specs.declared.replay.Progress.{Progress}
 use Rattle.iova_trace.specs.Text.{IsHeader, header_text, step_text, reply_text}
 use Rattle.iova_trace.specs.LineSteps.{IsStep}
 use Rattle.iova_text.specs.Lines.{is_not_lf, HasNoLf, whole_line}
-use Rattle.iova_trace.specs.Lines.{IsTrace, step_line, trace_text, lines_text, count_steps, next_line_number, Begins, AreLines}
+use Rattle.iova_trace.specs.Lines.{IsTrace, step_line, trace_text, first_lines_text, count_steps, next_line_number, BeginsWithLines, AreFirstLines}
 use Rattle.iova_trace.specs.Replay.{IsReplayed}
 use Rattle.iova_trace.specs.Progress.{number_at, Goes, Stops}
 use Rattle.iova_text.proofs.Cuts.{list_all-append}
@@ -76,7 +76,7 @@ pub header_taken : PromisesAreKept → NewDomainsAreValid → (p q : Progress) (
 header_taken law valid p q line h empty none good is kept steps replies domain taken written st =
     let first = no_lines st.lines p.domain st.text none st.replayed in
     let t = header_trace h in
-    let whole : taken ≡ [] = st.begins.whole ∙ (ap (λ (x : Option Trace). lines_text x ++ p.line.items) first.0 ∙ empty) in
+    let whole : taken ≡ [] = st.begins.whole ∙ (ap (λ (x : Option Trace). first_lines_text x ++ p.line.items) first.0 ∙ empty) in
     let text : whole_line line ≡ trace_text t = ap whole_line is ∙ sym (append-nil (whole_line (header_text h.bounds h.workers))) in
     record {
       lines = Some t;
@@ -98,7 +98,7 @@ pub record OneMore (lines : Option Trace) (d : State) (text : List ℕ) (s : Ste
   pub replayed : IsReplayed (Some (with_step trace s)) (Some (next d s m).state) (text ++ reply_text (next d s m).reply)
 
 one_more : PromisesAreKept → NewDomainsAreValid → (lines : Option Trace) (domain : Option State) (d : State) (text : List ℕ) (s : Step) (m : Point)
-    → domain ≡ Some d → AreLines lines → IsReplayed lines domain text → OneMore lines d text s m
+    → domain ≡ Some d → AreFirstLines lines → IsReplayed lines domain text → OneMore lines d text s m
 one_more law valid None domain d text s m e good r = absurd (let P : Option State → Type 0 = λ x. IsReplayed None x text in subst P e r)
 one_more law valid (Some t) domain d text s m e good r =
     let P : Option State → Type 0 = λ x. IsReplayed (Some t) x text in
@@ -117,11 +117,11 @@ one_more law valid (Some t) domain d text s m e good r =
     }
 
 -- the lines with it
-begins_one_more : (taken line : List ℕ) (lines : Option Trace) (t : Trace) (kept : List ℕ) (s : Step) → Begins taken lines kept → lines ≡ Some t → kept ≡ []
-    → length t.steps < 1000000 → IsStep s → line ≡ step_text s → Begins (taken ++ whole_line line) (Some (with_step t s)) []
+begins_one_more : (taken line : List ℕ) (lines : Option Trace) (t : Trace) (kept : List ℕ) (s : Step) → BeginsWithLines taken lines kept → lines ≡ Some t → kept ≡ []
+    → length t.steps < 1000000 → IsStep s → line ≡ step_text s → BeginsWithLines (taken ++ whole_line line) (Some (with_step t s)) []
 begins_one_more taken line lines t kept s b is none lt step spelled =
-    let P : Option Trace → Type 0 = AreLines in
-    let whole : taken ≡ trace_text t = b.whole ∙ (ap (λ (x : Option Trace). lines_text x ++ kept) is ∙ (ap (λ (x : List ℕ). trace_text t ++ x) none ∙ append-nil (trace_text t))) in
+    let P : Option Trace → Type 0 = AreFirstLines in
+    let whole : taken ≡ trace_text t = b.whole ∙ (ap (λ (x : Option Trace). first_lines_text x ++ kept) is ∙ (ap (λ (x : List ℕ). trace_text t ++ x) none ∙ append-nil (trace_text t))) in
     record {
       good = IsTrace-more t s (subst P is b.good) step lt;
       whole = ap (λ (x : List ℕ). x ++ whole_line line) whole ∙ (ap (λ (x : List ℕ). trace_text t ++ whole_line x) spelled
@@ -169,7 +169,7 @@ overlong p bytes number one more long is taken written st =
       lines = st.lines;
       rest = rest;
       state = p.domain;
-      begins = record { good = st.begins.good; whole = ap (λ (x : List ℕ). x ++ bytes) st.begins.whole ∙ append_assoc (lines_text st.lines) p.line.items bytes };
+      begins = record { good = st.begins.good; whole = ap (λ (x : List ℕ). x ++ bytes) st.begins.whole ∙ append_assoc (first_lines_text st.lines) p.line.items bytes };
       replayed = subst P st.gathered st.replayed;
       number_is = is ∙ number_at-is st.lines p.domain p.steps st.text st.replayed st.steps;
       bad = inr (record { one = HasNoLf-take 128 rest whole; long = omega (arith, length-append p.line.items bytes, long) });

@@ -10,12 +10,12 @@ use Rattle.iova_trace.specs.declared.line.Verb.{Verb}
 use Rattle.iova_trace.specs.declared.line.Verb.TheVariants as verb
 use Rattle.iova_trace.specs.declared.trace.Trace.{Trace}
 use Rattle.iova_text.specs.Words.{spaced_words, kind_text}
-use Rattle.iova_trace.specs.Text.{verb_text, verb_of, outcome_text, arguments_of, step_text, Fits, header_numbers, header_text, IsHeader}
+use Rattle.iova_trace.specs.Text.{verb_text, verb_of, outcome_text, arguments_of, step_text, NumbersFit, header_numbers, header_text, IsHeader}
 use Rattle.iova_trace.specs.LineSteps.{IsStep}
 use Rattle.iova_text.specs.Lines.{is_not_lf, HasNoLf, whole_line}
-use Rattle.iova_trace.specs.Lines.{step_line, trace_text, IsTrace, Begins, IsOther, IsCut, MayFollow, IsRefused, next_line_number}
+use Rattle.iova_trace.specs.Lines.{step_line, trace_text, IsTrace, BeginsWithLines, IsOther, IsCutOff, MayFollow, IsRefused, next_line_number}
 use Rattle.iova_text.proofs.LineEnds.{cut_once, no_line}
-use Rattle.iova_text.proofs.WordTexts.{no_lf_decimal, no_lf_words}
+use Rattle.iova_text.proofs.WordTexts.{no_lf_decimal, no_lf_kind, no_lf_words}
 use Rattle.iova_text.proofs.Cuts.{list_all-append}
 use Rattle.iova_trace.proofs.LineSteps.{with_step, trace_text-more}
 
@@ -32,15 +32,11 @@ no_lf_verb verb.Drain = refl
 no_lf_verb verb.Close = refl
 no_lf_verb verb.CloseOne = refl
 
-no_lf_kind : (b : Bool) → HasNoLf (kind_text b)
-no_lf_kind true = refl
-no_lf_kind false = refl
-
 no_lf_outcome : (b : Bool) → HasNoLf (outcome_text b)
 no_lf_outcome true = refl
 no_lf_outcome false = refl
 
-no_lf_arguments : (s : Step) → Fits s → AllByRecursion HasNoLf (arguments_of s)
+no_lf_arguments : (s : Step) → NumbersFit s → AllByRecursion HasNoLf (arguments_of s)
 no_lf_arguments (step.Reserve lo hi) f = (no_lf_decimal lo f.0, (no_lf_decimal hi f.1, tt))
 no_lf_arguments (step.Open worker sac) f = (no_lf_decimal worker f, (no_lf_kind sac, tt))
 no_lf_arguments (step.Alloc worker client frames limit) f = (no_lf_decimal worker f.0, (no_lf_decimal client f.1, (no_lf_decimal frames f.2, (no_lf_decimal limit f.3, tt))))
@@ -80,15 +76,15 @@ no_lf_header bounds workers is =
     list_all-append is_not_lf (codes "iovatrace") (spaced_words (map decimal (header_numbers bounds workers))) refl
     (no_lf_words (map decimal (header_numbers bounds workers)) (no_lf_numbers (header_numbers bounds workers) (header_fits bounds workers is)))
 
--- what ends a reading: a bad line, the end in a line, or the end behind a trace
+-- what ends a reading: a bad line, the end in a line, or the end after a trace
 abbrev pub IsEnd : Option Trace → List ℕ → Type 0
-IsEnd lines rest = (IsOther lines rest ⊎ IsCut lines rest) ⊎ ((rest ≡ []) × (lines ≡ None → ⊥))
+IsEnd lines rest = (IsOther lines rest ⊎ IsCutOff lines rest) ⊎ ((rest ≡ []) × (lines ≡ None → ⊥))
 
 pub record IsReading (bytes : List ℕ) (lines : Option Trace) (rest : List ℕ) : Type 0 where
-  pub begins : Begins bytes lines rest
+  pub begins : BeginsWithLines bytes lines rest
   pub end : IsEnd lines rest
 
--- no line stands behind the lines of a reading
+-- no line stands after the lines of a reading
 pub end_at : (lines : Option Trace) (line more : List ℕ) → HasNoLf line → MayFollow lines line → IsEnd lines (whole_line line ++ more) → ⊥
 end_at lines line more one may (inl (inl other)) =
     let same = cut_once line more other.line other.more one other.one other.whole in
@@ -186,9 +182,9 @@ only_whole text bounds workers steps t only is whole = let g = only (Some t) [] 
     go (m ∷ ms) at none = absurd (no_line [] (step_text m) (flat_map step_line ms ++ []) refl (none ∙ append_assoc (step_line m) (flat_map step_line ms) []))
 
 -- a bad line is none that is not there
-ended : {lines : Option Trace} {rest : List ℕ} {t : Trace} → lines ≡ Some t → [] ≡ rest → IsOther lines rest ⊎ IsCut lines rest → ⊥
+ended : {lines : Option Trace} {rest : List ℕ} {t : Trace} → lines ≡ Some t → [] ≡ rest → IsOther lines rest ⊎ IsCutOff lines rest → ⊥
 ended at none (inl other) = no_line [] other.line other.more refl (none ∙ other.whole)
-ended {lines} {rest} {t} at none (inr cut) = let P : Option Trace → Type 0 = λ x. IsCut x rest in (subst P at cut).1 (sym none)
+ended {lines} {rest} {t} at none (inr cut) = let P : Option Trace → Type 0 = λ x. IsCutOff x rest in (subst P at cut).1 (sym none)
 
 pub only_not_refused : (text : List ℕ) (bounds : Extent) (workers : ℕ) (steps : List Step) (number : ℕ) → IsOnly text bounds workers steps []
     → IsRefused text number → ⊥
@@ -236,7 +232,7 @@ no_header_whole text t none is whole = none t.bounds t.workers (flat_map step_li
 pub no_header_refused : (text : List ℕ) (number : ℕ) → HasNoHeader text → IsRefused text number → number ≡ 1
 no_header_refused text number none r = go r.lines r.begins r.number_is
   where
-    go : (lines : Option Trace) → Begins text lines r.rest → number ≡ next_line_number lines → number ≡ 1
+    go : (lines : Option Trace) → BeginsWithLines text lines r.rest → number ≡ next_line_number lines → number ≡ 1
     go None b e = e
     go (Some t) b e =
         absurd (none t.bounds t.workers (flat_map step_line t.steps ++ r.rest) b.good.header

@@ -1,22 +1,17 @@
 -- Two runs of the same steps are alike where memory was refused in neither.
-use Rattle.std.proofs.Common.{ℕ, ◌≡◌, ◌≢◌, ◌∙◌, List, [], ◌∷◌, map, flat_map, refl, sym, ap, subst, inl, inr, Some}
-use Rattle.std.specs.List.{AllByRecursion}
-use Rattle.iova_range.specs.Bounds.{Extent}
+use Rattle.std.proofs.Common.{◌≡◌, ◌≢◌, ◌∙◌, List, [], ◌∷◌, map, refl, sym, ap, subst, inl, inr, Some}
 use Rattle.iova_range.specs.declared.refusal.Refusal.TheVariants as refusal
 use Rattle.iova_model.specs.declared.step.Step.{Step}
 use Rattle.iova_model.specs.declared.step.Reply.{Reply}
 use Rattle.iova_model.specs.declared.step.Reply.TheVariants as reply
-use Rattle.iova_model.specs.declared.step.Point.{Point}
 use Rattle.iova_model.specs.declared.step.Point.TheVariants as point
 use Rattle.iova_model.specs.Laws.{PointsOnlyRefuse}
 use Rattle.iova_model.specs.Next.{Next, next}
 use Rattle.iova_model.specs.State.{State, new_domain}
 use Rattle.iova_model.specs.Transcript.{Pair, IsTranscript, after}
 use Rattle.iova_trace.specs.declared.trace.Trace.{Trace}
-use Rattle.iova_trace.specs.Lines.{IsTrace, trace_text}
-use Rattle.iova_trace.specs.Recorded.{HadMemory, PrintsStored, RecordsReplay, trace_of}
-use Rattle.iova_trace.specs.Replay.{IsDone, IsReplayed}
-use Rattle.iova_trace.specs.Text.{reply_text}
+use Rattle.iova_trace.specs.Recorded.{HadMemory, RecordsReplay, trace_of}
+use Rattle.iova_trace.specs.Replay.{IsReplayed}
 use Rattle.iova_trace.proofs.Spellings.{same_trace}
 
 abbrev replies_of : List Pair → List Reply

@@ -1,20 +1,19 @@
 -- A step has one spelling, and a spelling one step; and so a trace.
 use Rattle.std.proofs.Common.{ℕ, ◌≡◌, ◌+◌, ◌*◌, ◌<◌, ◌≤◌, ◌^◌, ◌==◌, ◌⊎◌, inl, inr, Bool, true, false, List, [], ◌∷◌, ◌++◌, length, get_or, map, flat_map, decimal, codes, refl, sym, ap, ◌∙◌, arith, append_assoc, subst}
-use Rattle.std.specs.Char.{is_ascii_digit}
 use Rattle.std.specs.List.{list_all, AllByRecursion}
 use Rattle.iova_range.specs.Bounds.{Capacities, Extent, IsProfile, first_profile, second_profile}
 use Rattle.iova_text.specs.Lines.{whole_line}
-use Rattle.iova_text.specs.Reading.{is_not_space, stops}
+use Rattle.iova_text.specs.Reading.{is_not_space}
 use Rattle.iova_text.specs.Words.{spaced_words, kind_text}
 use Rattle.iova_text.proofs.Cuts.{run_once, stops-spaced_words}
-use Rattle.iova_text.proofs.Digits.{decimal-digits, read_on, read_on-decimal}
+use Rattle.iova_text.proofs.WordTexts.{same_front, same_kind}
 use Rattle.iova_text.proofs.LineEnds.{cut_once, no_line}
 use Rattle.iova_model.specs.declared.step.Step.{Step}
 use Rattle.iova_model.specs.declared.step.Step.TheVariants as step
 use Rattle.iova_trace.specs.declared.trace.Trace.{Trace}
 use Rattle.iova_trace.specs.LineSteps.{IsStep}
 use Rattle.iova_trace.specs.Lines.{IsTrace, step_line, trace_text}
-use Rattle.iova_trace.specs.Text.{verb_text, verb_of, outcome_text, arguments_of, step_text, Fits, header_numbers, header_text, IsHeader}
+use Rattle.iova_trace.specs.Text.{verb_text, verb_of, outcome_text, arguments_of, step_text, NumbersFit, header_numbers, header_text, IsHeader}
 use Rattle.iova_trace.proofs.Headers.{header_numbers-first, header_numbers-second}
 use Rattle.iova_trace.proofs.Readings.{header_fits, no_lf_header, no_lf_step}
 
@@ -56,34 +55,11 @@ no_space_verb (step.Drain ring by) = refl
 no_space_verb (step.Close worker client) = refl
 no_space_verb (step.CloseOne worker client) = refl
 
-same_decimal : (a b : ℕ) → a < 2 ^ 64 → b < 2 ^ 64 → decimal a ≡ decimal b → a ≡ b
-same_decimal a b fits other e = sym (read_on-decimal a fits) ∙ (ap (read_on 0) e ∙ read_on-decimal b other)
-
-same_kind : (a b : Bool) → kind_text a ++ [] ≡ kind_text b ++ [] → a ≡ b
-same_kind true true e = refl
-same_kind true false e = absurd (omega (arith, ap (λ (x : List ℕ). get_or x 0 0) e))
-same_kind false true e = absurd (omega (arith, ap (λ (x : List ℕ). get_or x 0 0) e))
-same_kind false false e = refl
-
 same_outcome : (a b : Bool) → outcome_text a ++ [] ≡ outcome_text b ++ [] → a ≡ b
 same_outcome true true e = refl
 same_outcome true false e = absurd (omega (arith, ap (λ (x : List ℕ). get_or x 0 0) e))
 same_outcome false true e = absurd (omega (arith, ap (λ (x : List ℕ). get_or x 0 0) e))
 same_outcome false false e = refl
-
-no_digit : (us : List (List ℕ)) → stops is_ascii_digit (spaced_words us) ≡ true
-no_digit [] = refl
-no_digit (u ∷ us) = refl
-
--- a number, and what begins by a space or ends
-same_front : (a b : ℕ) (ws vs : List (List ℕ)) → a < 2 ^ 64 → b < 2 ^ 64 → spaced_words (decimal a ∷ ws) ≡ spaced_words (decimal b ∷ vs)
-    → (a ≡ b) × (spaced_words ws ≡ spaced_words vs)
-same_front a b ws vs fits other e =
-    let both : 32 ∷ (decimal a ++ spaced_words ws) ≡ 32 ∷ (decimal b ++ spaced_words vs) = e in
-    let tails : decimal a ++ spaced_words ws ≡ decimal b ++ spaced_words vs = cc in
-    let r = run_once is_ascii_digit (decimal a) (spaced_words ws) (decimal b) (spaced_words vs)
-    (decimal-digits a fits) (no_digit ws) (decimal-digits b other) (no_digit vs) tails in
-    (same_decimal a b fits other r.0, r.1)
 
 -- numbers to the end
 same_numbers : (ns ms : List ℕ) → AllByRecursion (λ n. n < 2 ^ 64) ns → AllByRecursion (λ n. n < 2 ^ 64) ms
@@ -97,7 +73,7 @@ same_numbers (n ∷ ns) (m ∷ ms) a b e =
     let rest : ns ≡ ms = same_numbers ns ms a.1 b.1 both.1 in
     cc
 
-same_arguments : (s t : Step) → Fits s → Fits t → key_of s ≡ key_of t → spaced_words (arguments_of s) ≡ spaced_words (arguments_of t) → s ≡ t
+same_arguments : (s t : Step) → NumbersFit s → NumbersFit t → key_of s ≡ key_of t → spaced_words (arguments_of s) ≡ spaced_words (arguments_of t) → s ≡ t
 same_arguments (step.Reserve lo hi) (step.Reserve first last) a b k e =
     let r = same_front lo first (decimal hi ∷ []) (decimal last ∷ []) a.0 b.0 e in
     let q = same_front hi last [] [] a.1 b.1 r.1 in

@@ -10,9 +10,9 @@ use Rattle.iova_trace.specs.declared.fault.ReplayFault.{ReplayFault}
 use Rattle.iova_trace.specs.declared.fault.ReplayFault.TheVariants as fault
 use Rattle.iova_trace.specs.declared.replay.Progress.{Progress}
 use Rattle.iova_text.specs.Lines.{is_not_lf, whole_line, IsUnended}
-use Rattle.iova_trace.specs.Lines.{Begins, IsBad, lines_text}
-use Rattle.iova_trace.specs.Replay.{BreaksOff, IsReplayed, StopsInLine, Tells, Replays}
-use Rattle.iova_trace.specs.Progress.{Stands, Goes, Ends, Stops, Outcome, Takes, Closes}
+use Rattle.iova_trace.specs.Lines.{BeginsWithLines, IsBad, first_lines_text}
+use Rattle.iova_trace.specs.Replay.{BreaksOff, IsReplayed, StopsInLine, TellsOfReplay, Replays}
+use Rattle.iova_trace.specs.Progress.{Stands, Goes, EndsReplay, Stops, Outcome, TakesBytes, Closes}
 
 -- Outcomes
 
@@ -24,14 +24,14 @@ Goes-then a b c p q v w first second taken written st =
 
 pub Stops-then : (a b : Progress) (p q v w : List ℕ) (e : ReplayFault) → Goes a p v b → Stops b q w e → Stops a (p ++ q) (v ++ w) e
 Stops-then a b p q v w e first second taken written st =
-    let P : List ℕ → Type 0 = λ x. Ends x ((written ++ v) ++ w) e in
-    let Q : List ℕ → Type 0 = λ x. Ends (taken ++ (p ++ q)) x e in
+    let P : List ℕ → Type 0 = λ x. EndsReplay x ((written ++ v) ++ w) e in
+    let Q : List ℕ → Type 0 = λ x. EndsReplay (taken ++ (p ++ q)) x e in
     subst Q (append_assoc written v w) (subst P (append_assoc taken p q) (second (taken ++ p) (written ++ v) (first taken written st)))
 
-Begins-more : (taken more rest : List ℕ) (lines : Option Trace) → Begins taken lines rest → Begins (taken ++ more) lines (rest ++ more)
-Begins-more taken more rest lines b = record {
+BeginsWithLines-more : (taken more rest : List ℕ) (lines : Option Trace) → BeginsWithLines taken lines rest → BeginsWithLines (taken ++ more) lines (rest ++ more)
+BeginsWithLines-more taken more rest lines b = record {
   good = b.good;
-  whole = ap (λ (x : List ℕ). x ++ more) b.whole ∙ append_assoc (lines_text lines) rest more;
+  whole = ap (λ (x : List ℕ). x ++ more) b.whole ∙ append_assoc (first_lines_text lines) rest more;
 }
 
 take_front : (n : ℕ) (rest more : List ℕ) → n ≤ length rest → take n (rest ++ more) ≡ take n rest
@@ -51,33 +51,33 @@ IsBad-more lines rest more (inr b) = inr (record {
 })
 
 -- what is not read any more changes nothing
-Ends-more : (taken more written : List ℕ) (e : ReplayFault) → Ends taken written e → Ends (taken ++ more) written e
-Ends-more taken more written (fault.BadTrace number) s = record {
+EndsReplay-more : (taken more written : List ℕ) (e : ReplayFault) → EndsReplay taken written e → EndsReplay (taken ++ more) written e
+EndsReplay-more taken more written (fault.BadTrace number) s = record {
   lines = s.lines;
   rest = s.rest ++ more;
   state = s.state;
-  begins = Begins-more taken more s.rest s.lines s.begins;
+  begins = BeginsWithLines-more taken more s.rest s.lines s.begins;
   replayed = s.replayed;
   number_is = s.number_is;
   bad = IsBad-more s.lines s.rest more s.bad;
 }
-Ends-more taken more written fault.NoMemory s = record {
+EndsReplay-more taken more written fault.NoMemory s = record {
   lines = s.lines;
   rest = s.rest ++ more;
   state = s.state;
   text = s.text;
-  begins = Begins-more taken more s.rest s.lines s.begins;
+  begins = BeginsWithLines-more taken more s.rest s.lines s.begins;
   replayed = s.replayed;
   unwritten = s.unwritten;
   begun = s.begun;
 }
-Ends-more taken more written fault.ReadFault s = absurd s
-Ends-more taken more written fault.WriteFault s = record {
+EndsReplay-more taken more written fault.ReadFault s = absurd s
+EndsReplay-more taken more written fault.WriteFault s = record {
   lines = s.lines;
   rest = s.rest ++ more;
   state = s.state;
   text = s.text;
-  begins = Begins-more taken more s.rest s.lines s.begins;
+  begins = BeginsWithLines-more taken more s.rest s.lines s.begins;
   replayed = s.replayed;
   unwritten = s.unwritten;
   begun = s.begun;
@@ -85,8 +85,8 @@ Ends-more taken more written fault.WriteFault s = record {
 
 pub Stops-more : (p : Progress) (bytes more written : List ℕ) (e : ReplayFault) → Stops p bytes written e → Stops p (bytes ++ more) written e
 Stops-more p bytes more written e s taken before st =
-    let P : List ℕ → Type 0 = λ x. Ends x (before ++ written) e in
-    subst P (append_assoc taken bytes more) (Ends-more (taken ++ bytes) more (before ++ written) e (s taken before st))
+    let P : List ℕ → Type 0 = λ x. EndsReplay x (before ++ written) e in
+    subst P (append_assoc taken bytes more) (EndsReplay-more (taken ++ bytes) more (before ++ written) e (s taken before st))
 
 -- a write that breaks off
 broken : (before more : List ℕ) (n : ℕ) (text unwritten : List ℕ) → text ≡ (before ++ more) ++ unwritten
@@ -94,8 +94,8 @@ broken : (before more : List ℕ) (n : ℕ) (text unwritten : List ℕ) → text
 broken before more n text unwritten e =
     e ∙ (ap (λ (x : List ℕ). (before ++ x) ++ unwritten) (sym (take-append-drop n more)) ∙ simp append_assoc)
 
-Ends-broken : (taken before more : List ℕ) (n : ℕ) (e : ReplayFault) → Ends taken (before ++ more) e → BreaksOff taken (before ++ take n more)
-Ends-broken taken before more n (fault.BadTrace number) s = record {
+EndsReplay-broken : (taken before more : List ℕ) (n : ℕ) (e : ReplayFault) → EndsReplay taken (before ++ more) e → BreaksOff taken (before ++ take n more)
+EndsReplay-broken taken before more n (fault.BadTrace number) s = record {
   lines = s.lines;
   rest = s.rest;
   state = s.state;
@@ -105,7 +105,7 @@ Ends-broken taken before more n (fault.BadTrace number) s = record {
   unwritten = drop n more ++ [];
   begun = broken before more n (before ++ more) [] (sym (append-nil (before ++ more)));
 }
-Ends-broken taken before more n fault.NoMemory s = record {
+EndsReplay-broken taken before more n fault.NoMemory s = record {
   lines = s.lines;
   rest = s.rest;
   state = s.state;
@@ -115,8 +115,8 @@ Ends-broken taken before more n fault.NoMemory s = record {
   unwritten = drop n more ++ s.unwritten;
   begun = broken before more n s.text s.unwritten s.begun;
 }
-Ends-broken taken before more n fault.ReadFault s = absurd s
-Ends-broken taken before more n fault.WriteFault s = record {
+EndsReplay-broken taken before more n fault.ReadFault s = absurd s
+EndsReplay-broken taken before more n fault.WriteFault s = record {
   lines = s.lines;
   rest = s.rest;
   state = s.state;
@@ -129,7 +129,7 @@ Ends-broken taken before more n fault.WriteFault s = record {
 
 -- the fault is that of the write, where the kept replies are not all written
 pub Stops-broken : (p : Progress) (bytes more : List ℕ) (n : ℕ) (e : ReplayFault) → Stops p bytes more e → Stops p bytes (take n more) fault.WriteFault
-Stops-broken p bytes more n e s taken before st = Ends-broken (taken ++ bytes) before more n e (s taken before st)
+Stops-broken p bytes more n e s taken before st = EndsReplay-broken (taken ++ bytes) before more n e (s taken before st)
 
 -- after bytes that were taken the kept replies are not all written
 pub Goes-broken : (p q : Progress) (bytes : List ℕ) (n : ℕ) → Goes p bytes [] q → Stops p bytes (take n q.replies.items) fault.WriteFault
@@ -155,24 +155,24 @@ Goes-written p q r bytes goes line domain steps none taken before st =
     record {
       lines = at.lines;
       text = at.text;
-      begins = record { good = at.begins.good; whole = at.begins.whole ∙ ap (λ (x : List ℕ). lines_text at.lines ++ x) (sym line) };
+      begins = record { good = at.begins.good; whole = at.begins.whole ∙ ap (λ (x : List ℕ). first_lines_text at.lines ++ x) (sym line) };
       replayed = (let P : Option State → Type 0 = λ d. IsReplayed at.lines d at.text in subst P (sym domain) at.replayed);
       steps = steps ∙ at.steps;
       gathered = at.gathered ∙ (ap (λ (x : List ℕ). x ++ q.replies.items) (append-nil before)
           ∙ (sym (append-nil (before ++ q.replies.items)) ∙ ap (λ (x : List ℕ). (before ++ q.replies.items) ++ x) (sym none)));
     }
 
-pub Takes-broken : (p q : Progress) (bytes : List ℕ) (n : ℕ) (r : Result Unit ReplayFault) → Takes p bytes q r → Stops p bytes (take n q.replies.items) fault.WriteFault
-Takes-broken p q bytes n (Ok u) t = Goes-broken p q bytes n t
-Takes-broken p q bytes n (Err e) t =
+pub TakesBytes-broken : (p q : Progress) (bytes : List ℕ) (n : ℕ) (r : Result Unit ReplayFault) → TakesBytes p bytes q r → Stops p bytes (take n q.replies.items) fault.WriteFault
+TakesBytes-broken p q bytes n (Ok u) t = Goes-broken p q bytes n t
+TakesBytes-broken p q bytes n (Err e) t =
     let P : List ℕ → Type 0 = λ x. Stops p bytes (take n x) fault.WriteFault in
     subst P (sym t.1) (Stops-broken p bytes p.replies.items n e t.0)
 
-pub Takes-written : (p q r : Progress) (bytes : List ℕ) (result : Result Unit ReplayFault) → Takes p bytes q result
+pub TakesBytes-written : (p q r : Progress) (bytes : List ℕ) (result : Result Unit ReplayFault) → TakesBytes p bytes q result
     → r ≡ record q { replies = r.replies } → r.replies.items ≡ [] → Outcome p bytes q.replies.items r result
-Takes-written p q r bytes (Ok u) t same none =
+TakesBytes-written p q r bytes (Ok u) t same none =
     Goes-written p q r bytes t (ap (λ (x : Progress). x.line.items) same) (ap (λ (x : Progress). x.domain) same) (ap (λ (x : Progress). x.steps) same) none
-Takes-written p q r bytes (Err e) t same none =
+TakesBytes-written p q r bytes (Err e) t same none =
     let P : List ℕ → Type 0 = λ x. Stops p bytes x e in
     subst P (sym t.1) t.0
 
@@ -183,13 +183,13 @@ Outcome-then a b c p q v w (Err e) first second = Stops-then a b p q v w e first
 -- The line that was kept is whole once its last bytes have come.
 
 fresh_line : (taken written : List ℕ) (q mid : Progress) (st : Stands taken written q) → mid.line.items ≡ [] → mid.domain ≡ q.domain → mid.steps ≡ q.steps
-    → mid.replies.items ≡ q.replies.items → Stands (lines_text st.lines) written mid
+    → mid.replies.items ≡ q.replies.items → Stands (first_lines_text st.lines) written mid
 fresh_line taken written q mid st empty domain steps replies = record {
   lines = st.lines;
   text = st.text;
   begins = record {
     good = st.begins.good;
-    whole = sym (append-nil (lines_text st.lines)) ∙ ap (λ (x : List ℕ). lines_text st.lines ++ x) (sym empty);
+    whole = sym (append-nil (first_lines_text st.lines)) ∙ ap (λ (x : List ℕ). first_lines_text st.lines ++ x) (sym empty);
   };
   replayed = (let P : Option State → Type 0 = λ d. IsReplayed st.lines d st.text in subst P (sym domain) st.replayed);
   steps = steps ∙ st.steps;
@@ -197,30 +197,30 @@ fresh_line taken written q mid st empty domain steps replies = record {
 }
 
 -- the lines, and then the kept line with its LF
-line_whole : (taken bytes kept : List ℕ) (lines : Option Trace) → taken ++ bytes ≡ lines_text lines ++ kept
-    → lines_text lines ++ whole_line kept ≡ taken ++ whole_line bytes
+line_whole : (taken bytes kept : List ℕ) (lines : Option Trace) → taken ++ bytes ≡ first_lines_text lines ++ kept
+    → first_lines_text lines ++ whole_line kept ≡ taken ++ whole_line bytes
 line_whole taken bytes kept lines e =
-    sym (append_assoc (lines_text lines) kept (10 ∷ [])) ∙ (ap (λ (x : List ℕ). x ++ 10 ∷ []) (sym e) ∙ append_assoc taken bytes (10 ∷ []))
+    sym (append_assoc (first_lines_text lines) kept (10 ∷ [])) ∙ (ap (λ (x : List ℕ). x ++ 10 ∷ []) (sym e) ∙ append_assoc taken bytes (10 ∷ []))
 
-ended_text : (taken bytes line kept : List ℕ) (lines : Option Trace) → line ≡ kept → taken ++ bytes ≡ lines_text lines ++ kept
-    → lines_text lines ++ whole_line line ≡ taken ++ whole_line bytes
-ended_text taken bytes line kept lines is e = ap (λ (x : List ℕ). lines_text lines ++ whole_line x) is ∙ line_whole taken bytes kept lines e
+ended_text : (taken bytes line kept : List ℕ) (lines : Option Trace) → line ≡ kept → taken ++ bytes ≡ first_lines_text lines ++ kept
+    → first_lines_text lines ++ whole_line line ≡ taken ++ whole_line bytes
+ended_text taken bytes line kept lines is e = ap (λ (x : List ℕ). first_lines_text lines ++ whole_line x) is ∙ line_whole taken bytes kept lines e
 
-pub Takes-ended : (p q mid new : Progress) (bytes line : List ℕ) (r : Result Unit ReplayFault) → Goes p bytes [] q → q.replies.items ≡ p.replies.items
+pub TakesBytes-ended : (p q mid new : Progress) (bytes line : List ℕ) (r : Result Unit ReplayFault) → Goes p bytes [] q → q.replies.items ≡ p.replies.items
     → mid.line.items ≡ [] → mid.domain ≡ q.domain → mid.steps ≡ q.steps → mid.replies.items ≡ q.replies.items
-    → line ≡ q.line.items → Takes mid (whole_line line) new r → Takes p (whole_line bytes) new r
-Takes-ended p q mid new bytes line (Ok u) goes same empty domain steps replies kept t = λ taken written st.
+    → line ≡ q.line.items → TakesBytes mid (whole_line line) new r → TakesBytes p (whole_line bytes) new r
+TakesBytes-ended p q mid new bytes line (Ok u) goes same empty domain steps replies kept t = λ taken written st.
     let at = goes taken written st in
-    let after = t (lines_text at.lines) (written ++ []) (fresh_line (taken ++ bytes) (written ++ []) q mid at empty domain steps replies) in
+    let after = t (first_lines_text at.lines) (written ++ []) (fresh_line (taken ++ bytes) (written ++ []) q mid at empty domain steps replies) in
     let P : List ℕ → Type 0 = λ x. Stands x ((written ++ []) ++ []) new in
     let Q : List ℕ → Type 0 = λ x. Stands (taken ++ whole_line bytes) x new in
     subst Q (append-nil (written ++ [])) (subst P (ended_text taken bytes line q.line.items at.lines kept at.begins.whole) after)
-Takes-ended p q mid new bytes line (Err e) goes same empty domain steps replies kept t = (
+TakesBytes-ended p q mid new bytes line (Err e) goes same empty domain steps replies kept t = (
   (λ taken written st.
       let at = goes taken written st in
-      let after = t.0 (lines_text at.lines) (written ++ []) (fresh_line (taken ++ bytes) (written ++ []) q mid at empty domain steps replies) in
-      let P : List ℕ → Type 0 = λ x. Ends x ((written ++ []) ++ mid.replies.items) e in
-      let Q : List ℕ → Type 0 = λ x. Ends (taken ++ whole_line bytes) x e in
+      let after = t.0 (first_lines_text at.lines) (written ++ []) (fresh_line (taken ++ bytes) (written ++ []) q mid at empty domain steps replies) in
+      let P : List ℕ → Type 0 = λ x. EndsReplay x ((written ++ []) ++ mid.replies.items) e in
+      let Q : List ℕ → Type 0 = λ x. EndsReplay (taken ++ whole_line bytes) x e in
       let text : (written ++ []) ++ mid.replies.items ≡ written ++ p.replies.items =
       ap (λ (x : List ℕ). x ++ mid.replies.items) (append-nil written) ∙ ap (λ (x : List ℕ). written ++ x) (replies ∙ same) in
       subst Q text (subst P (ended_text taken bytes line q.line.items at.lines kept at.begins.whole) after)),
@@ -250,13 +250,13 @@ Stands-stops taken written p st none unended = record {
   unended = unended;
 }
 
-pub Ends-tells : (taken written : List ℕ) (left : Option (List ℕ)) (e : ReplayFault) → Ends taken written e → Tells taken written left (Err e)
-Ends-tells taken written left (fault.BadTrace number) s = inl s
-Ends-tells taken written left fault.NoMemory s = s
-Ends-tells taken written left fault.ReadFault s = absurd s
-Ends-tells taken written left fault.WriteFault s = s
+pub EndsReplay-tells : (taken written : List ℕ) (left : Option (List ℕ)) (e : ReplayFault) → EndsReplay taken written e → TellsOfReplay taken written left (Err e)
+EndsReplay-tells taken written left (fault.BadTrace number) s = inl s
+EndsReplay-tells taken written left fault.NoMemory s = s
+EndsReplay-tells taken written left fault.ReadFault s = absurd s
+EndsReplay-tells taken written left fault.WriteFault s = s
 
-pub Closes-tells : (taken written : List ℕ) (left : Option (List ℕ)) (r : Result (State × ℕ) ReplayFault) → Closes taken written r → IsAtEnd left → Tells taken written left r
+pub Closes-tells : (taken written : List ℕ) (left : Option (List ℕ)) (r : Result (State × ℕ) ReplayFault) → Closes taken written r → IsAtEnd left → TellsOfReplay taken written left r
 Closes-tells taken written left (Ok done) s end = (s, end)
 Closes-tells taken written left (Err (fault.BadTrace number)) s end = inr (s, end)
 Closes-tells taken written left (Err fault.NoMemory) s end = absurd s
@@ -304,7 +304,7 @@ piece_stops input mid left output filled full p piece more e s consumes appends 
   written = s.written ++ more;
   takes = Consumes-trans input mid left s.taken piece s.takes consumes;
   writes = Appends-trans output filled full s.written more s.writes appends;
-  tells = Ends-tells (s.taken ++ piece) (s.written ++ more) left e (stops s.taken s.written s.stands);
+  tells = EndsReplay-tells (s.taken ++ piece) (s.written ++ more) left e (stops s.taken s.written s.stands);
 }
 
 pub piece_goes : (input mid left output filled full : Option (List ℕ)) (p q : Progress) (piece more : List ℕ)

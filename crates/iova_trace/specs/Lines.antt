@@ -31,32 +31,32 @@ pub record IsWritten (bytes : List ℕ) (bounds : Extent) (workers : ℕ) (steps
 
 -- The good lines at the front of some bytes: none, or the header and some steps, which are a trace themselves.
 
-abbrev pub AreLines : Option Trace → Type 0
-AreLines None = Unit {0}
-AreLines (Some t) = IsTrace t
+abbrev pub AreFirstLines : Option Trace → Type 0
+AreFirstLines None = Unit {0}
+AreFirstLines (Some t) = IsTrace t
 
-abbrev pub lines_text : Option Trace → List ℕ
-lines_text None = []
-lines_text (Some t) = trace_text t
+abbrev pub first_lines_text : Option Trace → List ℕ
+first_lines_text None = []
+first_lines_text (Some t) = trace_text t
 
 abbrev pub count_steps : Option Trace → ℕ
 count_steps None = 0
 count_steps (Some t) = length t.steps
 
--- the number of the line behind them, the header being line 1
+-- the number of the line after them, the header being line 1
 abbrev pub next_line_number : Option Trace → ℕ
 next_line_number None = 1
 next_line_number (Some t) = length t.steps + 2
 
--- this line, which is without its LF, may stand behind them
+-- this line, which is without its LF, may stand after them
 abbrev pub MayFollow : Option Trace → List ℕ → Type 0
 MayFollow None line = (bounds : Extent) × (workers : ℕ) × IsHeader bounds workers × (line ≡ header_text bounds workers)
 MayFollow (Some t) line = (length t.steps < MAX_STEPS) × (s : Step) × IsStep s × (line ≡ step_text s)
 
 -- the bytes are these lines and a rest
-pub record Begins (bytes : List ℕ) (lines : Option Trace) (rest : List ℕ) : Type 0 where
-  pub good : AreLines lines
-  pub whole : bytes ≡ lines_text lines ++ rest
+pub record BeginsWithLines (bytes : List ℕ) (lines : Option Trace) (rest : List ℕ) : Type 0 where
+  pub good : AreFirstLines lines
+  pub whole : bytes ≡ first_lines_text lines ++ rest
 
 -- The first bad line
 
@@ -73,15 +73,15 @@ abbrev pub IsBad : Option Trace → List ℕ → Type 0
 IsBad lines rest = IsOther lines rest ⊎ IsOverlong rest
 
 -- where the bytes end here, they end in a line without its LF, or have no header
-abbrev pub IsCut : Option Trace → List ℕ → Type 0
-IsCut None rest = HasNoLf rest
-IsCut (Some t) rest = HasNoLf rest × (rest ≢ [])
+abbrev pub IsCutOff : Option Trace → List ℕ → Type 0
+IsCutOff None rest = HasNoLf rest
+IsCutOff (Some t) rest = HasNoLf rest × (rest ≢ [])
 
 -- As the whole text of a trace the bytes are refused, and this is the number of the first bad line. One that is too long is bad
 -- in one of these ways too, since no line of a trace is as long.
 pub record IsRefused (bytes : List ℕ) (number : ℕ) : Type 0 where
   pub lines : Option Trace
   pub rest : List ℕ
-  pub begins : Begins bytes lines rest
+  pub begins : BeginsWithLines bytes lines rest
   pub number_is : number ≡ next_line_number lines
-  pub bad : IsOther lines rest ⊎ IsCut lines rest
+  pub bad : IsOther lines rest ⊎ IsCutOff lines rest

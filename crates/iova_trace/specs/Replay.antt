@@ -9,7 +9,7 @@ use Rattle.iova_trace.specs.declared.fault.ReplayFault.{ReplayFault}
 use Rattle.iova_trace.specs.declared.fault.ReplayFault.TheVariants as fault
 use Rattle.iova_trace.specs.Text.{reply_text}
 use Rattle.iova_text.specs.Lines.{IsUnended}
-use Rattle.iova_trace.specs.Lines.{IsTrace, trace_text, next_line_number, Begins, IsBad, IsCut}
+use Rattle.iova_trace.specs.Lines.{IsTrace, trace_text, next_line_number, BeginsWithLines, IsBad, IsCutOff}
 
 -- Lines were replayed: in a new domain, once there is a header, their steps leave this state and are answered by this text.
 -- The transcript of these steps keeps the promises.
@@ -27,12 +27,12 @@ pub record IsDone (taken written : List ℕ) (state : State) (steps : ℕ) : Typ
   pub replayed : IsReplayed (Some trace) (Some state) written
   pub count : steps ≡ length trace.steps
 
--- the replies to the good lines are written, and the line behind them, of this number, is bad
+-- the replies to the good lines are written, and the line after them, of this number, is bad
 pub record StopsAtBad (taken written : List ℕ) (number : ℕ) : Type 0 where
   pub lines : Option Trace
   pub rest : List ℕ
   pub state : Option State
-  pub begins : Begins taken lines rest
+  pub begins : BeginsWithLines taken lines rest
   pub replayed : IsReplayed lines state written
   pub number_is : number ≡ next_line_number lines
   pub bad : IsBad lines rest
@@ -42,17 +42,17 @@ pub record StopsAtCut (taken written : List ℕ) (number : ℕ) : Type 0 where
   pub lines : Option Trace
   pub rest : List ℕ
   pub state : Option State
-  pub begins : Begins taken lines rest
+  pub begins : BeginsWithLines taken lines rest
   pub replayed : IsReplayed lines state written
   pub number_is : number ≡ next_line_number lines
-  pub cut : IsCut lines rest
+  pub cut : IsCutOff lines rest
 
 -- the replies to all whole lines are written, and no bad line has been taken
 pub record StopsInLine (taken written : List ℕ) : Type 0 where
   pub lines : Option Trace
   pub rest : List ℕ
   pub state : Option State
-  pub begins : Begins taken lines rest
+  pub begins : BeginsWithLines taken lines rest
   pub replayed : IsReplayed lines state written
   pub unended : IsUnended rest
 
@@ -62,18 +62,18 @@ pub record BreaksOff (taken written : List ℕ) : Type 0 where
   pub rest : List ℕ
   pub state : Option State
   pub text : List ℕ
-  pub begins : Begins taken lines rest
+  pub begins : BeginsWithLines taken lines rest
   pub replayed : IsReplayed lines state text
   pub unwritten : List ℕ
   pub begun : text ≡ written ++ unwritten
 
 -- what each answer says, where `left` is what the reader has left
-abbrev pub Tells : List ℕ → List ℕ → Option (List ℕ) → Result (State × ℕ) ReplayFault → Type 0
-Tells taken written left (Ok done) = IsDone taken written done.0 done.1 × IsAtEnd left
-Tells taken written left (Err (fault.BadTrace number)) = StopsAtBad taken written number ⊎ (StopsAtCut taken written number × IsAtEnd left)
-Tells taken written left (Err fault.NoMemory) = BreaksOff taken written
-Tells taken written left (Err fault.ReadFault) = StopsInLine taken written
-Tells taken written left (Err fault.WriteFault) = BreaksOff taken written
+abbrev pub TellsOfReplay : List ℕ → List ℕ → Option (List ℕ) → Result (State × ℕ) ReplayFault → Type 0
+TellsOfReplay taken written left (Ok done) = IsDone taken written done.0 done.1 × IsAtEnd left
+TellsOfReplay taken written left (Err (fault.BadTrace number)) = StopsAtBad taken written number ⊎ (StopsAtCut taken written number × IsAtEnd left)
+TellsOfReplay taken written left (Err fault.NoMemory) = BreaksOff taken written
+TellsOfReplay taken written left (Err fault.ReadFault) = StopsInLine taken written
+TellsOfReplay taken written left (Err fault.WriteFault) = BreaksOff taken written
 
 -- A reader and a writer before and after, where they tell their bytes: some were taken from the one and some written to the other.
 pub record Replays (input left output filled : Option (List ℕ)) (answer : Result (State × ℕ) ReplayFault) : Type 0 where
@@ -81,4 +81,4 @@ pub record Replays (input left output filled : Option (List ℕ)) (answer : Resu
   pub written : List ℕ
   pub takes : Consumes input left taken
   pub writes : Appends output filled written
-  pub tells : Tells taken written left answer
+  pub tells : TellsOfReplay taken written left answer

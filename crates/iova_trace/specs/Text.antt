@@ -2,8 +2,7 @@
 -- and the words of a line have one space between them. Own.
 use Rattle.std.specs.Prelude.{ℕ, ◌+◌, ◌-◌, ◌<◌, ◌≤◌, ◌^◌, ◌==◌, Bool, true, false, List, [], ◌∷◌, ◌++◌, codes, decimal, if◌then◌else◌}
 use Rattle.iova_range.specs.Bounds.{Extent, IsExtent, first_profile}
-use Rattle.iova_range.specs.Refusals.{refusal_number, refusal_name}
-use Rattle.iova_text.specs.Words.{line_text, numbers_line, kind_text}
+use Rattle.iova_text.specs.Words.{line_text, numbers_line, refusal_line, kind_text}
 use Rattle.iova_range.specs.declared.limits.TheConstants.{MAX_WORKERS}
 use Rattle.iova_model.specs.declared.step.Step.{Step}
 use Rattle.iova_model.specs.declared.step.Step.TheVariants as step
@@ -56,16 +55,16 @@ abbrev pub step_text : Step → List ℕ
 step_text s = line_text (verb_text (verb_of s)) (arguments_of s)
 
 -- its numbers are those of 64 bits
-abbrev pub Fits : Step → Type 0
-Fits (step.Reserve lo hi) = (lo < 2 ^ 64) × (hi < 2 ^ 64)
-Fits (step.Open worker sac) = worker < 2 ^ 64
-Fits (step.Alloc worker client frames limit) = (worker < 2 ^ 64) × (client < 2 ^ 64) × (frames < 2 ^ 64) × (limit < 2 ^ 64)
-Fits (step.Unmap worker client lo) = (worker < 2 ^ 64) × (client < 2 ^ 64) × (lo < 2 ^ 64)
-Fits step.Begin = Unit {0}
-Fits (step.End number ok) = number < 2 ^ 64
-Fits (step.Drain ring by) = (ring < 2 ^ 64) × (by < 2 ^ 64)
-Fits (step.Close worker client) = (worker < 2 ^ 64) × (client < 2 ^ 64)
-Fits (step.CloseOne worker client) = (worker < 2 ^ 64) × (client < 2 ^ 64)
+abbrev pub NumbersFit : Step → Type 0
+NumbersFit (step.Reserve lo hi) = (lo < 2 ^ 64) × (hi < 2 ^ 64)
+NumbersFit (step.Open worker sac) = worker < 2 ^ 64
+NumbersFit (step.Alloc worker client frames limit) = (worker < 2 ^ 64) × (client < 2 ^ 64) × (frames < 2 ^ 64) × (limit < 2 ^ 64)
+NumbersFit (step.Unmap worker client lo) = (worker < 2 ^ 64) × (client < 2 ^ 64) × (lo < 2 ^ 64)
+NumbersFit step.Begin = Unit {0}
+NumbersFit (step.End number ok) = number < 2 ^ 64
+NumbersFit (step.Drain ring by) = (ring < 2 ^ 64) × (by < 2 ^ 64)
+NumbersFit (step.Close worker client) = (worker < 2 ^ 64) × (client < 2 ^ 64)
+NumbersFit (step.CloseOne worker client) = (worker < 2 ^ 64) × (client < 2 ^ 64)
 
 -- The header
 
@@ -79,6 +78,13 @@ header_numbers bounds workers =
 -- the header's line without its LF
 abbrev pub header_text : Extent → ℕ → List ℕ
 header_text bounds workers = numbers_line (codes "iovatrace") (header_numbers bounds workers)
+
+-- the header's words after its version, in the first version and in the second
+abbrev pub first_words : Extent → ℕ → List (List ℕ)
+first_words bounds workers = decimal bounds.start ∷ decimal bounds.last ∷ decimal workers ∷ []
+
+abbrev pub second_words : Extent → ℕ → List (List ℕ)
+second_words bounds workers = decimal bounds.start ∷ decimal bounds.last ∷ decimal workers ∷ decimal bounds.profile.depot ∷ []
 
 -- good bounds, and a worker count that a domain can have
 pub record IsHeader (bounds : Extent) (workers : ℕ) : Type 0 where
@@ -99,4 +105,4 @@ reply_text (reply.Begun number) = numbers_line (codes "begun") (number ∷ []) +
 reply_text reply.Ended = codes "ended" ++ 10 ∷ []
 reply_text (reply.Drained n) = numbers_line (codes "drained") (n ∷ []) ++ 10 ∷ []
 reply_text (reply.Marked left) = numbers_line (codes "marked") (left ∷ []) ++ 10 ∷ []
-reply_text (reply.Refused r) = line_text (codes "no") (decimal (refusal_number r) ∷ refusal_name r ∷ []) ++ 10 ∷ []
+reply_text (reply.Refused r) = refusal_line r ++ 10 ∷ []

@@ -1,9 +1,10 @@
 //! A step's line and a header's, read and written.
-ghost use Rattle.std.specs.Prelude.{◌≡◌, ◌≢◌, ℕ, ◌+◌, ◌^◌, ◌<◌, ◌≤◌, ◌↔◌, Bool, List, [], ◌∷◌, ◌++◌, Some, IsSome, IfSome, IsNone, OnOk, OnErr, length, decimal, vec_len, vec_capacity};
+ghost use Rattle.std.specs.Prelude.{◌≡◌, ◌≢◌, ℕ, ◌+◌, ◌<◌, ◌≤◌, ◌↔◌, Bool, [], ◌∷◌, ◌++◌, Some, IsSome, IfSome, IsNone, OnOk, OnErr, length, vec_len, vec_capacity};
 ghost use Rattle.iova_range.specs.Bounds.{Extent, AreBounds, first_profile, second_profile};
 ghost use Rattle.iova_model.specs.declared.step.Step.{Step};
 ghost use Rattle.iova_text.specs.Words.{spaced_words};
-ghost use Rattle.iova_trace.specs.Text.{verb_text, verb_of, outcome_text, arguments_of, step_text, Fits, header_text, IsHeader};
+ghost use Rattle.iova_trace.specs.Text.{verb_text, verb_of, outcome_text, arguments_of, step_text, NumbersFit, header_text, first_words, second_words, IsHeader};
+ghost use Rattle.iova_trace.specs.LineSteps.{IsStep};
 ghost use Rattle.iova_trace.specs.declared.line.Verb.{Verb};
 
 use iova_model::step::Step;
@@ -49,8 +50,8 @@ pub struct Header {
 /// The step of this line, which is without its LF. None exactly where the line is no step's. Our own.
 pub fn read_step(line: &[u8]) -> Option<Step>
     ensures spelled { IfSome result (λ s. line.now ≡ step_text s) }
-    ensures read { (s : Step) → Fits s → line.now ≡ step_text s → result ≡ Some s }
-    ensures all { IsNone result → (s : Step) → Fits s → line.now ≢ step_text s }
+    ensures read { (s : Step) → NumbersFit s → line.now ≡ step_text s → result ≡ Some s }
+    ensures all { IsNone result → (s : Step) → NumbersFit s → line.now ≢ step_text s }
 {
     let (word, arguments) = first_word(line);
     let verb = verb_named(word)?;
@@ -65,7 +66,8 @@ pub fn read_header(line: &[u8]) -> Option<Header>
     ensures good { IfSome result (λ h. IsHeader h.bounds h.workers) }
     ensures read { (bounds : Extent) (workers : ℕ) → IsHeader bounds workers → line.now ≡ header_text bounds workers
         → result ≡ Some (record { bounds = bounds; workers = workers }) }
-    ensures all { IsNone result → (bounds : Extent) (workers : ℕ) → IsHeader bounds workers → line.now ≢ header_text bounds workers }
+    ensures all { IsNone result → (bounds : Extent) (workers : ℕ) → IsHeader bounds workers
+        → line.now ≢ header_text bounds workers }
 {
     let (word, numbers) = first_word(line);
     if word != b"iovatrace".as_slice() {
@@ -79,13 +81,16 @@ pub fn read_header(line: &[u8]) -> Option<Header>
     }
 }
 
-/// Appends the step's line with its LF. Refused by `NoMemory`, which appends nothing and comes only where
-/// `out` has to grow. Our own form.
+/// Appends the step's line with its LF: each step is one that a line may say. Refused by `NoMemory`, which appends nothing and
+/// comes only where `out` has to grow. Our own form.
 pub fn write_step(step: &Step, out: &mut Vec<u8>) -> Result<(), Refusal>
     ensures ok { OnOk result (out.new.items ≡ out.old.items ++ (step_text step.now ++ 10 ∷ [])) }
+    ensures step { IsStep step.now }
     ensures err { OnErr result ((result ≡ Err Refusal.NoMemory) × (out.new.items ≡ out.old.items)) }
     ensures full { OnErr result (vec_capacity out.old < vec_len out.old + (length (step_text step.now) + 1)) }
 {
+    // for the proof: the numbers of a step have 64 bits
+    is_step(*step);
     let mut text = LineBuffer::new();
     put_step(step, &mut text);
     append(out, &text)
@@ -96,7 +101,8 @@ pub fn write_step(step: &Step, out: &mut Vec<u8>) -> Result<(), Refusal>
 pub fn write_header(bounds: &Bounds, workers: u64, out: &mut Vec<u8>) -> Result<(), Refusal>
     ensures ok { OnOk result (out.new.items ≡ out.old.items ++ (header_text bounds.now workers ++ 10 ∷ [])) }
     ensures err { OnErr result ((result ≡ Err Refusal.NoMemory) × (out.new.items ≡ out.old.items)) }
-    ensures full { OnErr result (vec_capacity out.old < vec_len out.old + (length (header_text bounds.now workers) + 1)) }
+    ensures full { OnErr result
+        (vec_capacity out.old < vec_len out.old + (length (header_text bounds.now workers) + 1)) }
 {
     let mut text = LineBuffer::new();
     put_header(*bounds, workers, &mut text);
@@ -132,7 +138,8 @@ fn verb_named(word: &[u8]) -> Option<Verb>
 
 fn step_of(verb: Verb, arguments: &[u8]) -> Option<Step>
     ensures spelled { IfSome result (λ s. (verb_of s ≡ verb) × (arguments.now ≡ spaced_words (arguments_of s))) }
-    ensures read { (s : Step) → Fits s → verb_of s ≡ verb → arguments.now ≡ spaced_words (arguments_of s) → result ≡ Some s }
+    ensures read { (s : Step) → NumbersFit s → verb_of s ≡ verb → arguments.now ≡ spaced_words (arguments_of s)
+        → result ≡ Some s }
 {
     match verb {
         Verb::Reserve => {
@@ -205,10 +212,10 @@ fn outcome_of(text: &[u8]) -> Option<bool>
 
 fn first_header(numbers: &[u8]) -> Option<Header>
     ensures profile { IfSome result (λ h. h.bounds.profile ≡ first_profile) }
-    ensures spelled { IfSome result (λ h. numbers.now ≡ spaced_words (decimal h.bounds.start ∷ decimal h.bounds.last ∷ decimal h.workers ∷ [])) }
+    ensures spelled { IfSome result (λ h. numbers.now ≡ spaced_words (first_words h.bounds h.workers)) }
     ensures good { IfSome result (λ h. IsHeader h.bounds h.workers) }
     ensures read { (bounds : Extent) (workers : ℕ) → IsHeader bounds workers → bounds.profile ≡ first_profile
-        → numbers.now ≡ spaced_words (decimal bounds.start ∷ decimal bounds.last ∷ decimal workers ∷ [])
+        → numbers.now ≡ spaced_words (first_words bounds workers)
         → result ≡ Some (record { bounds = bounds; workers = workers }) }
 {
     let (start, last, workers) = three_numbers(numbers)?;
@@ -217,11 +224,11 @@ fn first_header(numbers: &[u8]) -> Option<Header>
 
 fn second_header(numbers: &[u8]) -> Option<Header>
     ensures profile { IfSome result (λ h. h.bounds.profile ≡ second_profile h.bounds.profile.depot) }
-    ensures spelled { IfSome result (λ h. numbers.now
-        ≡ spaced_words (decimal h.bounds.start ∷ decimal h.bounds.last ∷ decimal h.workers ∷ decimal h.bounds.profile.depot ∷ [])) }
+    ensures spelled { IfSome result (λ h. numbers.now ≡ spaced_words (second_words h.bounds h.workers)) }
     ensures good { IfSome result (λ h. IsHeader h.bounds h.workers) }
-    ensures read { (bounds : Extent) (workers : ℕ) → IsHeader bounds workers → bounds.profile ≡ second_profile bounds.profile.depot
-        → numbers.now ≡ spaced_words (decimal bounds.start ∷ decimal bounds.last ∷ decimal workers ∷ decimal bounds.profile.depot ∷ [])
+    ensures read { (bounds : Extent) (workers : ℕ) → IsHeader bounds workers
+        → bounds.profile ≡ second_profile bounds.profile.depot
+        → numbers.now ≡ spaced_words (second_words bounds workers)
         → result ≡ Some (record { bounds = bounds; workers = workers }) }
 {
     let (start, numbers) = next_number(numbers)?;
@@ -233,7 +240,8 @@ fn second_header(numbers: &[u8]) -> Option<Header>
 }
 
 fn header_of(profile: Profile, start: u64, last: u64, workers: u64) -> Option<Header>
-    ensures value { IfSome result (λ h. h ≡ record { bounds = record { start = start; last = last; profile = profile }; workers = workers }) }
+    ensures value { IfSome result (λ h.
+        h ≡ record { bounds = record { start = start; last = last; profile = profile }; workers = workers }) }
     ensures accepted { IsSome result ↔ (AreBounds profile start last × ((1 ≤ workers) × (workers ≤ MAX_WORKERS))) }
 {
     if workers == 0 || workers > MAX_WORKERS {
@@ -244,6 +252,11 @@ fn header_of(profile: Profile, start: u64, last: u64, workers: u64) -> Option<He
         Err(_) => None,
     }
 }
+
+/// Each step is one that a line may say.
+fn is_step(step: Step)
+    ensures { IsStep step }
+{}
 
 fn put_step(step: &Step, out: &mut LineBuffer)
     requires { out.old.items ≡ [] }

@@ -8,5 +8,6 @@ use iova_laws::refusals::points_only_refuse;
 pub fn records_replay()
     ensures { RecordsReplay }
 {
+    // for the proof: a refused growth is answered so, or the step is as it would be with memory
     points_only_refuse();
 }

@@ -37,7 +37,8 @@ pub fn replay<R: Read, W: Write>(
     reader: &mut R,
     writer: &mut W,
 ) -> Result<(Domain, u64), ReplayFault>
-    ensures { Replays (R.remaining reader.old) (R.remaining reader.new) (W.contents writer.old) (W.contents writer.new) result }
+    ensures { Replays (R.remaining reader.old) (R.remaining reader.new)
+        (W.contents writer.old) (W.contents writer.new) result }
 {
     let mut input: Vec<u8> = vec![in alloc; 0u8; BUFFER]?;
     let mut progress = Progress::new(alloc)?;
@@ -67,9 +68,9 @@ struct Progress {
 }
 
 impl Progress {
-    ghost use Rattle.std.specs.Prelude.{List, [], ◌++◌};
+    ghost use Rattle.std.specs.Prelude.{List, []};
     ghost use Rattle.iova_text.specs.Lines.{HasNoLf, whole_line};
-    ghost use Rattle.iova_trace.specs.Progress.{Stands, number_at, Takes, Outcome, Closes};
+    ghost use Rattle.iova_trace.specs.Progress.{Stands, number_at, TakesBytes, Outcome, Closes};
 
     fn new(alloc: Global) -> Result<Self, ReplayFault>
         ensures ok { IfOk result (λ p. Stands [] [] p) }
@@ -130,7 +131,7 @@ impl Progress {
     /// Takes the rest of a line, without its LF.
     fn complete_line(&mut self, end: &[u8]) -> Result<(), ReplayFault>
         requires { HasNoLf end.now }
-        ensures { Takes self.old (whole_line end.now) self.new result }
+        ensures { TakesBytes self.old (whole_line end.now) self.new result }
     {
         if self.line.is_empty() {
             return self.run_line(end);
@@ -143,7 +144,7 @@ impl Progress {
     /// Keeps what has come of a line. One of 128 bytes without an LF is refused.
     fn keep_part(&mut self, bytes: &[u8]) -> Result<(), ReplayFault>
         requires { HasNoLf bytes.now }
-        ensures takes { Takes self.old bytes.now self.new result }
+        ensures takes { TakesBytes self.old bytes.now self.new result }
         ensures replies { self.new.replies.items ≡ self.old.replies.items }
     {
         if self.line.len() + bytes.len() >= MAX_LINE {
@@ -157,7 +158,7 @@ impl Progress {
     fn run_line(&mut self, line: &[u8]) -> Result<(), ReplayFault>
         requires one { HasNoLf line.now }
         requires fresh { self.old.line.items ≡ [] }
-        ensures { Takes self.old (whole_line line.now) self.new result }
+        ensures { TakesBytes self.old (whole_line line.now) self.new result }
     {
         // for the proof: the steps so far keep the promises
         promises_are_kept();
@@ -181,7 +182,7 @@ impl Progress {
         requires one { HasNoLf line.now }
         requires fresh { self.old.line.items ≡ [] }
         requires first { self.old.domain ≡ None }
-        ensures { Takes self.old (whole_line line.now) self.new result }
+        ensures { TakesBytes self.old (whole_line line.now) self.new result }
     {
         // for the proof: so does a new domain
         promises_are_kept();
@@ -243,7 +244,8 @@ fn read_some<R: Read>(reader: &mut R, buffer: &mut [u8]) -> Result<usize, Replay
     ensures ok { IfOk result (λ len. Consumes (R.remaining reader.old) (R.remaining reader.new) (take len buffer.new)) }
     ensures bound { IfOk result (λ len. len ≤ length buffer.new) }
     ensures end { IfOk result (λ len. len ≡ 0 → IsAtEnd (R.remaining reader.new)) }
-    ensures err { OnErr result ((result ≡ Err ReplayFault.ReadFault) × Keeps (R.remaining reader.old) (R.remaining reader.new)) }
+    ensures err { OnErr result ((result ≡ Err ReplayFault.ReadFault)
+        × Keeps (R.remaining reader.old) (R.remaining reader.new)) }
 {
     let read = reader.read(buffer);
     bytes_read(read)

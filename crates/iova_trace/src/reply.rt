@@ -1,7 +1,6 @@
 //! A reply's line, written.
-ghost use Rattle.std.specs.Prelude.{◌≡◌, ◌+◌, ◌<◌, ◌≤◌, [], ◌∷◌, ◌++◌, length, OnOk, OnErr, decimal, codes, vec_len, vec_capacity};
-ghost use Rattle.iova_range.specs.Refusals.{refusal_number, refusal_name};
-ghost use Rattle.iova_text.specs.Words.{line_text};
+ghost use Rattle.std.specs.Prelude.{◌≡◌, ◌+◌, ◌<◌, ◌≤◌, ◌++◌, length, OnOk, OnErr, vec_len, vec_capacity};
+ghost use Rattle.iova_text.specs.Words.{refusal_line};
 ghost use Rattle.iova_trace.specs.Text.{reply_text};
 
 use iova_model::step::Reply;
@@ -47,7 +46,7 @@ pub fn write_reply(reply: &Reply, out: &mut Vec<u8>) -> Result<(), Refusal>
 
 fn put_refusal(refusal: Refusal, out: &mut LineBuffer)
     requires { length out.old.items + MAX_REPLY ≤ MAX_LINE }
-    ensures items { out.new.items ≡ out.old.items ++ line_text (codes "no") (decimal (refusal_number refusal) ∷ refusal_name refusal ∷ []) }
+    ensures items { out.new.items ≡ out.old.items ++ refusal_line refusal }
     ensures short { length out.new.items + 1 ≤ length out.old.items + MAX_REPLY }
 {
     put_numbers(out, b"no", &[u64::from(refusal.number())]);

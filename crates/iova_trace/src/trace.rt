@@ -51,7 +51,7 @@ impl Steps {
     }
 }
 
-/// The step that this line, which is without its LF, says behind so many steps. None exactly where the line may not stand
+/// The step that this line, which is without its LF, says after so many steps. None exactly where the line may not stand
 /// there.
 pub(crate) fn next_step(line: &[u8], steps: u64) -> Option<Step>
     ensures room { IfSome result (λ _. steps < MAX_STEPS) }

@@ -27,7 +27,8 @@ pub fn read_trace(alloc: Global, text: &[u8]) -> Result<Trace, ReplayFault>
 
     // It is the only reading, and the first bad line has one number.
     ensures whole { (trace : T) → IsTrace trace → text.now ≡ trace_text trace → IsUnlessOutOfMemory (Ok trace) result }
-    ensures refused { (number : ℕ) → IsRefused text.now number → IsUnlessOutOfMemory (Err (ReplayFault.BadTrace number)) result }
+    ensures refused { (number : ℕ) → IsRefused text.now number
+        → IsUnlessOutOfMemory (Err (ReplayFault.BadTrace number)) result }
 {
     let Some((line, mut rest)) = cut_line(text) else {
         return Err(ReplayFault::BadTrace(1));
@@ -57,21 +58,22 @@ pub fn read_trace(alloc: Global, text: &[u8]) -> Result<Trace, ReplayFault>
 }
 
 /// The first bad line of a text has one number, and a trace has none. Where a replay has stopped at a bad line, it is that of
-/// the whole input, whatever comes behind what was taken.
+/// the whole input, whatever comes after what was taken.
 pub fn first_bad_line()
     ensures unique_number { (text : List ℕ) (n m : ℕ) → IsRefused text n → IsRefused text m → n ≡ m }
-    ensures no_trace { (text : List ℕ) (n : ℕ) (trace : T) → IsRefused text n → IsTrace trace → text ≢ trace_text trace }
+    ensures no_trace { (text : List ℕ) (n : ℕ) (trace : T) → IsRefused text n → IsTrace trace
+        → text ≢ trace_text trace }
     ensures stops { (taken written more : List ℕ) (n : ℕ) → StopsAtBad taken written n → IsRefused (taken ++ more) n }
 {}
 
 /// What `write_header` writes of good bounds and 1 to 16 workers is the text of a trace without steps, and what `write_step`
-/// writes behind the text of a trace, of fewer than 1,000,000 steps, makes it that of the trace with this step more. So the
+/// writes after the text of a trace, of fewer than 1,000,000 steps, makes it that of the trace with this step more. So the
 /// lines that are written are read back by `read_trace` as that header and those steps.
 pub fn written_lines_are_a_trace()
     ensures header { (bounds : Extent) (workers : ℕ) → IsHeader bounds workers
         → IsWritten (header_text bounds workers ++ 10 ∷ []) bounds workers [] }
-    ensures step { (text : List ℕ) (bounds : Extent) (workers : ℕ) (steps : List S) (step : S) → IsWritten text bounds workers steps
-        → length steps < MAX_STEPS → IsStep step
+    ensures step { (text : List ℕ) (bounds : Extent) (workers : ℕ) (steps : List S) (step : S)
+        → IsWritten text bounds workers steps → length steps < MAX_STEPS → IsStep step
         → IsWritten (text ++ (step_text step ++ 10 ∷ [])) bounds workers (steps ++ step ∷ []) }
 {}
 

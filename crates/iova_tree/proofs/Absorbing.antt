@@ -3,8 +3,8 @@ use Rattle.std.proofs.Common.{ℕ, zero, suc, ◌≡◌, ◌-◌, ◌<◌, ◌�
 use Rattle.std.specs.Prelude.{All, remove}
 use Rattle.std.proofs.Math.Seq.{drop-cons, take-suc, take-length, drop-length}
 use Rattle.std.proofs.lemmas.List.{take-append-le, take-take, drop_at, length-take-le, get_or_append_left, get_or-take, append-nil, append_assoc, length-append, get_or_default}
-use Rattle.iova_range.specs.Frames.{Frames, meets}
-use Rattle.iova_model.specs.Next.{join, union}
+use Rattle.iova_range.specs.Frames.{Frames, meets, join}
+use Rattle.iova_model.specs.Next.{union}
 use Rattle.iova_tree.specs.Space.{clear_of}
 
 -- How far the walk from the last range down has come: from place i on the ranges that meet r have left the list, and `all`

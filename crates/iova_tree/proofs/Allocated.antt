@@ -10,7 +10,7 @@ use Rattle.iova_model.specs.Fit.{is_covered, is_clear}
 use Rattle.iova_model.specs.Clients.{insert_rising, remove_at, begins_at}
 use Rattle.iova_tree.specs.Spans.{Span, range_of_span, all_of, is_kind, of_kind, windows_of, inserted_of, end_after, first_lo, IsRisingFrom, with_span, Holds}
 use Rattle.iova_range.specs.Bounds.{Extent}
-use Rattle.iova_tree.specs.Space.{IsSpace, IsKept, space_of, RiseApart, LieWithin}
+use Rattle.iova_tree.specs.Space.{IsSpace, IsTreeKept, space_of, RiseApart, LieWithin}
 use Rattle.iova_tree.proofs.Apart.{rise_lower}
 use Rattle.iova_tree.proofs.Spans.{rising-weaken, rising-end, rising-front, rising-back}
 
@@ -137,7 +137,7 @@ rising_with e x (y ∷ l) r = split (nat_lt x.lo y.lo) r (λ s. rising_with y.en
     split true r rest = (r.0, r.1)
     split false r rest = let i = rest r.2 in (omega (arith, i.0, r.0, r.1), i.1)
 
--- what rises above a range's first frame stands behind it
+-- what rises above a range's first frame stands after it
 insert_front : (f : Frames) (e : ℕ) (kind : Bool) (l : List Span) → IsRisingFrom e l → f.lo < e → insert_rising f (of_kind kind l) ≡ f ∷ of_kind kind l
 insert_front f e kind [] r lt = refl
 insert_front f e kind (y ∷ l) r lt = split (insert_front f y.end kind l r.2 (omega (arith, r.0, r.1))) (is_kind kind y)
@@ -326,7 +326,7 @@ windows_apart e (x ∷ l) r = split (windows_apart x.end l r.2) x.window
     split rest false = with_lower (range_of_span x) x.end (inserted_of l) l r.2 end rest
 
 -- so what a tree keeps is a space
-pub kept_space : (bounds : Extent) (l : List Span) (ws : List Frames) → IsKept bounds l ws → IsSpace (space_of bounds l ws)
+pub kept_space : (bounds : Extent) (l : List Span) (ws : List Frames) → IsTreeKept bounds l ws → IsSpace (space_of bounds l ws)
 kept_space bounds l ws h = rw h.windows (record {
   bounds = h.bounds;
   inserted = kind_rises false bounds.start (bounds.last + 1) l h.within;

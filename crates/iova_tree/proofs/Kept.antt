@@ -10,7 +10,7 @@ use Rattle.iova_model.specs.Clients.{insert_rising, remove_at, begins_at}
 use Rattle.iova_model.specs.Next.{union, windows_with}
 use Rattle.iova_model.proofs.Placing.{IsBest-same}
 use Rattle.iova_tree.specs.Spans.{Span, range_of_span, all_of, windows_of, inserted_of, with_span, IsRisingFrom, Holds}
-use Rattle.iova_tree.specs.Space.{IsKept, IsInside, LieWithin, space_of, ranges_of, clear_of}
+use Rattle.iova_tree.specs.Space.{IsTreeKept, IsInside, LieWithin, space_of, ranges_of, clear_of}
 use Rattle.iova_tree.proofs.Spans.{rising-weaken}
 use Rattle.iova_tree.proofs.Apart.{LiesWithin, is_clear-append}
 use Rattle.iova_tree.proofs.Allocated.{within_with, within_without, of_kind-with, of_kind-other, taken_kind, kind_taken, holds_kind, length_within, covered_kinds, rising_with, kept_space}
@@ -23,7 +23,7 @@ span_of r window = record { lo = r.lo; end = r.lo + r.len; window = window }
 pub frames_span : (r : Frames) (window : Bool) → range_of_span (span_of r window) ≡ r
 frames_span r window = let e : r.lo + r.len - r.lo ≡ r.len = omega arith in rw e refl
 
-pub few_kept : (b : Extent) (l : List Span) (ws : List Frames) → IsKept b l ws → b.last < 2 ^ 40 → length l ≤ 2 ^ 40
+pub few_kept : (b : Extent) (l : List Span) (ws : List Frames) → IsTreeKept b l ws → b.last < 2 ^ 40 → length l ≤ 2 ^ 40
 few_kept b l ws h small = let n = length_within b.start (b.last + 1) l h.within in omega (arith, h.bounds.bounds.above_zero)
 
 -- One more.
@@ -34,12 +34,12 @@ with_within b l r window h inside w i =
     within_with b.start (b.last + 1) (span_of r window) l h inside.start (omega (arith, inside.some)) inside.last (subst (λ f. is_clear f (windows_of l) ≡ true) (sym e) w) (subst (λ f. is_clear f (inserted_of l) ≡ true) (sym e) i)
 
 -- a range that is clear of all is clear of the windows of the tree, and of the inserted ranges
-parts_clear : (b : Extent) (l : List Span) (ws : List Frames) (r : Frames) → IsKept b l ws → is_clear r (ws ++ inserted_of l) ≡ true → (is_clear r (windows_of l) ≡ true) × (is_clear r (inserted_of l) ≡ true)
+parts_clear : (b : Extent) (l : List Span) (ws : List Frames) (r : Frames) → IsTreeKept b l ws → is_clear r (ws ++ inserted_of l) ≡ true → (is_clear r (windows_of l) ≡ true) × (is_clear r (inserted_of l) ≡ true)
 parts_clear b l ws r h clear =
     let p = is_clear-append r ws (inserted_of l) clear in
     (rw h.windows at p.0, p.1)
 
-pub with_rises : (b : Extent) (l : List Span) (ws : List Frames) (r : Frames) (window : Bool) → IsKept b l ws → IsInside b r → is_clear r (ws ++ inserted_of l) ≡ true → LieWithin b.start (with_span (span_of r window) l) (b.last + 1)
+pub with_rises : (b : Extent) (l : List Span) (ws : List Frames) (r : Frames) (window : Bool) → IsTreeKept b l ws → IsInside b r → is_clear r (ws ++ inserted_of l) ≡ true → LieWithin b.start (with_span (span_of r window) l) (b.last + 1)
 with_rises b l ws r window h inside clear =
     let p = parts_clear b l ws r h clear in
     with_within b l r window h.within inside p.0 p.1
@@ -47,10 +47,10 @@ with_rises b l ws r window h inside clear =
 pub rises_from_zero : (b : Extent) (l : List Span) → LieWithin b.start l (b.last + 1) → IsRisingFrom 0 l
 rises_from_zero b l h = rising-weaken 0 b.start l (omega arith) h.0
 
-pub inserted_with : (b : Extent) (l : List Span) (ws : List Frames) (r : Frames) → IsKept b l ws → inserted_of (with_span (span_of r false) l) ≡ insert_rising r (inserted_of l)
+pub inserted_with : (b : Extent) (l : List Span) (ws : List Frames) (r : Frames) → IsTreeKept b l ws → inserted_of (with_span (span_of r false) l) ≡ insert_rising r (inserted_of l)
 inserted_with b l ws r h = of_kind-with false b.start (span_of r false) l refl h.within.0 ∙ ap (λ f. insert_rising f (inserted_of l)) (frames_span r false)
 
-pub kept_insert : (b : Extent) (l : List Span) (ws : List Frames) (r : Frames) → IsKept b l ws → IsInside b r → is_clear r (ws ++ inserted_of l) ≡ true → IsKept b (with_span (span_of r false) l) ws
+pub kept_insert : (b : Extent) (l : List Span) (ws : List Frames) (r : Frames) → IsTreeKept b l ws → IsInside b r → is_clear r (ws ++ inserted_of l) ≡ true → IsTreeKept b (with_span (span_of r false) l) ws
 kept_insert b l ws r h inside clear = record {
   bounds = h.bounds;
   within = with_rises b l ws r false h inside clear;
@@ -62,7 +62,7 @@ windows_with_span : (b : Extent) (l : List Span) (r : Frames) → LieWithin b.st
 windows_with_span b l r h = of_kind-with true b.start (span_of r true) l refl h.0 ∙ ap (λ f. insert_rising f (windows_of l)) (frames_span r true)
 
 -- one window more among those of the tree
-kept_with_window : (b : Extent) (l : List Span) (ws : List Frames) (r : Frames) → IsKept b l ws → IsInside b r → is_clear r (windows_of l) ≡ true → is_clear r (inserted_of l) ≡ true → length ws < 64 → IsKept b (with_span (span_of r true) l) (insert_rising r ws)
+kept_with_window : (b : Extent) (l : List Span) (ws : List Frames) (r : Frames) → IsTreeKept b l ws → IsInside b r → is_clear r (windows_of l) ≡ true → is_clear r (inserted_of l) ≡ true → length ws < 64 → IsTreeKept b (with_span (span_of r true) l) (insert_rising r ws)
 kept_with_window b l ws r h inside w i few = record {
   bounds = h.bounds;
   within = with_within b l r true h.within inside w i;
@@ -70,7 +70,7 @@ kept_with_window b l ws r h inside w i few = record {
   few = rw (length-insert_rising r ws) (omega arith);
 }
 
-pub kept_window : (b : Extent) (l : List Span) (ws : List Frames) (r : Frames) → IsKept b l ws → IsInside b r → is_clear r (ws ++ inserted_of l) ≡ true → length ws < 64 → IsKept b (with_span (span_of r true) l) (insert_rising r ws)
+pub kept_window : (b : Extent) (l : List Span) (ws : List Frames) (r : Frames) → IsTreeKept b l ws → IsInside b r → is_clear r (ws ++ inserted_of l) ≡ true → length ws < 64 → IsTreeKept b (with_span (span_of r true) l) (insert_rising r ws)
 kept_window b l ws r h inside clear few =
     let p = parts_clear b l ws r h clear in
     kept_with_window b l ws r h inside p.0 p.1 few
@@ -91,9 +91,9 @@ pub record IsTakenOut (b : Extent) (lo : ℕ) (x : Span) (l rest : List Span) (w
   pub some : x.lo < x.end
   pub found : find (begins_at lo) (inserted_of l) ≡ Some (range_of_span x)
   pub without : inserted_of rest ≡ remove_at lo (inserted_of l)
-  pub kept : IsKept b rest ws
+  pub kept : IsTreeKept b rest ws
 
-pub taken_out : (b : Extent) (lo : ℕ) (x : Span) (l rest : List Span) (ws : List Frames) → IsKept b l ws → l ≡ with_span x rest → x.lo ≡ lo → IsSome (find (begins_at lo) (inserted_of l)) → IsTakenOut b lo x l rest ws
+pub taken_out : (b : Extent) (lo : ℕ) (x : Span) (l rest : List Span) (ws : List Frames) → IsTreeKept b l ws → l ≡ with_span x rest → x.lo ≡ lo → IsSome (find (begins_at lo) (inserted_of l)) → IsTakenOut b lo x l rest ws
 taken_out b lo x l rest ws h is begins found =
     let within : LieWithin b.start (with_span x rest) (b.last + 1) = rw is at h.within in
     let there : IsSome (find (begins_at x.lo) (inserted_of (with_span x rest))) = subst (λ (k : List Span). IsSome (find (begins_at x.lo) (inserted_of k))) is (subst (λ (n : ℕ). IsSome (find (begins_at n) (inserted_of l))) (sym begins) found) in
@@ -123,9 +123,9 @@ pub record IsUnion (b : Extent) (asked : Frames) (l rest : List Span) (ws others
   pub inside : IsInside b (union asked ws)
   pub rises : LieWithin b.start (with_span (span_of (union asked ws) true) rest) (b.last + 1)
   pub clear : is_clear (union asked ws) others ≡ true
-  pub kept : IsKept b (with_span (span_of (union asked ws) true) rest) (windows_with asked ws)
+  pub kept : IsTreeKept b (with_span (span_of (union asked ws) true) rest) (windows_with asked ws)
 
-pub union_kept : (b : Extent) (asked : Frames) (l rest : List Span) (ws others : List Frames) → IsKept b l ws → IsInside b asked → list_any (meets asked) (inserted_of l) ≡ false → length (clear_of asked ws) < 64
+pub union_kept : (b : Extent) (asked : Frames) (l rest : List Span) (ws others : List Frames) → IsTreeKept b l ws → IsInside b asked → list_any (meets asked) (inserted_of l) ≡ false → length (clear_of asked ws) < 64
     → LieWithin b.start rest (b.last + 1) → others ≡ clear_of asked ws → others ≡ windows_of rest → inserted_of rest ≡ inserted_of l → IsUnion b asked l rest ws others
 union_kept b asked l rest ws others h inside clear few within is same inserted =
     let s = kept_space b l ws h in
@@ -136,23 +136,23 @@ union_kept b asked l rest ws others h inside clear few within is same inserted =
     let in_bounds : IsInside b u = record { some = lies.some; start = lies.start; last = lies.end } in
     let clear_others : is_clear u others ≡ true = rw is (union_clear_others b.start top asked ws inside.some s.windows) in
     let clear_inserted : is_clear u (inserted_of rest) ≡ true = rw inserted (union_clear b.start top asked ws (inserted_of l) inside.some s.inserted clear s.apart) in
-    let k : IsKept b rest others = record { bounds = h.bounds; within = within; windows = same; few = rw is (omega arith) } in
+    let k : IsTreeKept b rest others = record { bounds = h.bounds; within = within; windows = same; few = rw is (omega arith) } in
     let w : is_clear u (windows_of rest) ≡ true = rw same at clear_others in
-    let whole : IsKept b (with_span (span_of u true) rest) (insert_rising u others) = kept_with_window b rest others u k in_bounds w clear_inserted (rw is few) in
+    let whole : IsTreeKept b (with_span (span_of u true) rest) (insert_rising u others) = kept_with_window b rest others u k in_bounds w clear_inserted (rw is few) in
     record {
       inside = in_bounds;
       rises = with_within b rest u true within in_bounds w clear_inserted;
       clear = clear_others;
-      kept = subst (λ (xs : List Frames). IsKept b (with_span (span_of u true) rest) (insert_rising u xs)) is whole;
+      kept = subst (λ (xs : List Frames). IsTreeKept b (with_span (span_of u true) rest) (insert_rising u xs)) is whole;
     }
 
 -- The search.
 
-pub best_kept : (b : Extent) (l : List Span) (ws : List Frames) (size limit : ℕ) (o : Option ℕ) → IsKept b l ws → IsBest b (all_of l) size limit o → IsBest b (ranges_of (space_of b l ws)) size limit o
+pub best_kept : (b : Extent) (l : List Span) (ws : List Frames) (size limit : ℕ) (o : Option ℕ) → IsTreeKept b l ws → IsBest b (all_of l) size limit o → IsBest b (ranges_of (space_of b l ws)) size limit o
 best_kept b l ws size limit o h best =
     IsBest-same b (all_of l) (ws ++ inserted_of l) size limit o (λ frame. rw h.windows (covered_kinds frame l)) best
 
-pub covered_kept : (b : Extent) (l : List Span) (ws : List Frames) (frame : ℕ) → IsKept b l ws → is_covered frame (ranges_of (space_of b l ws)) ≡ is_covered frame (all_of l)
+pub covered_kept : (b : Extent) (l : List Span) (ws : List Frames) (frame : ℕ) → IsTreeKept b l ws → is_covered frame (ranges_of (space_of b l ws)) ≡ is_covered frame (all_of l)
 covered_kept b l ws frame h = rw h.windows (covered_kinds frame l)
 
 -- A window that joins none.

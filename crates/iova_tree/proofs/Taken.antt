@@ -50,7 +50,7 @@ takes_right x n r p b e h k s =
     let same : node_spans n ≡ with_span x (n.left.0 ++ own_span n ∷ r.0) = rw (e, with_span-right 0 x (own_span n) n.left.0 r.0 p s) refl in
     record { spans = same; balanced = record { rising = s; level = (omega (arith, b.level.0, b.level.1), omega (arith, b.level.0, b.level.1)) }; settles = λ z w. settled_right n.left.1 n.right.1 r.1 z b.level h k w }
 
--- the part up to the middle and another that rises behind it
+-- the part up to the middle and another that rises after it
 pub rising-join : (e : ℕ) (l : List Span) (k : Span) (r m : List Span) → IsRisingFrom e (l ++ k ∷ r) → IsRisingFrom k.end m → IsRisingFrom e (l ++ k ∷ m)
 rising-join e [] k r m s t = (s.0, s.1, t)
 rising-join e (x ∷ l) k r m s t = (s.0, s.1, rising-join x.end l k r m s.2 t)

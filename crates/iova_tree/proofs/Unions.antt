@@ -5,9 +5,9 @@ use Rattle.std.proofs.lemmas.List.{get_or_default}
 use Rattle.std.proofs.lemmas.List.Elements.{recursion_from_All}
 use Rattle.std.proofs.lemmas.Bool.{and_parts, and_from, or_parts, cond_both, cases_order, not-true}
 use Rattle.std.proofs.lemmas.Bool.Decides.{nat_tests}
-use Rattle.iova_range.specs.Frames.{Frames, meets}
+use Rattle.iova_range.specs.Frames.{Frames, meets, join}
 use Rattle.iova_model.specs.Fit.{is_clear}
-use Rattle.iova_model.specs.Next.{join, union}
+use Rattle.iova_model.specs.Next.{union}
 use Rattle.iova_tree.specs.Space.{RiseApart, clear_of}
 use Rattle.iova_tree.proofs.Apart.{LiesWithin, rise_within, rise_apart, meets_swap}
 

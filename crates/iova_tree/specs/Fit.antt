@@ -35,7 +35,7 @@ abbrev pub place_before : Wanted → ℕ → List Span → Option ℕ
 place_before w e [] = None
 place_before w e (x ∷ t) = place e (min x.lo w.cap) w
 
--- the place behind the last of the ranges, below lo
+-- the place after the last of the ranges, below lo
 abbrev pub place_behind : Wanted → List Span → ℕ → Option ℕ
 place_behind w [] lo = None
 place_behind w (x ∷ t) lo = place (end_after x.end t) (min lo w.cap) w

@@ -1,14 +1,19 @@
 -- What a node and a subtree are seen as.
-use Rattle.std.specs.Prelude.{◌≡◌, ℕ, ◌+◌, ◌≤◌, max, List, [], ◌∷◌, ◌++◌, Option, Some, None}
+use Rattle.std.specs.Prelude.{◌≡◌, ℕ, ◌+◌, ◌≤◌, max, Bool, false, ◌&&◌, List, [], ◌∷◌, ◌++◌, Option, Some, None}
 use Rattle.std.proofs.Common.{Box}
 use Rattle.std.specs.declared.alloc.Global.{Global}
-use Rattle.iova_tree.specs.Spans.{Span, IsRisingFrom, end_after, first_lo, room_between, with_span, IsLow}
+use Rattle.iova_range.specs.Frames.{Frames, meets}
+use Rattle.iova_tree.specs.Spans.{Span, range_of_span, is_kind, IsRisingFrom, end_after, first_lo, room_between, with_span, IsLow}
 use Rattle.iova_tree.specs.declared.subtree.Node.{Node}
 use Rattle.iova_tree.specs.declared.subtree.Summary.{Summary}
 
 -- the range that the node holds itself
 abbrev pub own_span : Node → Span
 own_span n = record { lo = n.lo; end = n.end; window = n.window }
+
+-- it was inserted, and has a frame in common with r
+abbrev pub is_inserted_in : Span → Frames → Bool
+is_inserted_in x r = is_kind false x && meets r (range_of_span x)
 
 abbrev pub node_spans : Node → List Span
 node_spans n = n.left.0 ++ own_span n ∷ n.right.0
@@ -24,6 +29,10 @@ root_spans (Some b) = node_spans b.value
 -- neither height is more than this above the other
 abbrev pub DifferByAtMost : ℕ → ℕ → ℕ → Type 0
 DifferByAtMost by l r = (l ≤ r + by) × (r ≤ l + by)
+
+-- the height h of one subtree of the ranges of two with heights l and r
+abbrev pub IsHeightOfBoth : ℕ → ℕ → ℕ → Type 0
+IsHeightOfBoth l r h = (max l r ≤ h) × (h ≤ max l r + 1)
 
 -- the ranges rise apart and the heights of the sides differ by at most `by`
 pub record IsBalanced (by : ℕ) (n : Node) : Type 0 where
@@ -56,6 +65,10 @@ pub record Rebalances (n m : Node) : Type 0 where
   pub balanced : IsBalanced 1 m
   pub spans : node_spans m ≡ node_spans n
   pub height : IsHeightAfterRebalance n.left.1 n.right.1 (node_height m)
+
+-- a subtree with other ranges has the same height, and as much room in its gaps
+abbrev pub HasSameHeightAndRoom : List Span × ℕ → List Span × ℕ → Type 0
+HasSameHeightAndRoom old new = (new.1 ≡ old.1) × (room_between new.0 ≡ room_between old.0)
 
 -- a node without sides
 abbrev pub IsSingle : Node → Type 0

@@ -1,12 +1,12 @@
 -- The ranges of a tree.
-use Rattle.std.specs.Prelude.{ℕ, ◌≡◌, ◌+◌, ◌≤◌, Bool, true, not, ◌||◌, nat_lt, List, [], ◌∷◌, ◌++◌, length, filter, Option}
+use Rattle.std.specs.Prelude.{ℕ, ◌≡◌, ◌+◌, ◌≤◌, Bool, true, false, not, ◌||◌, nat_lt, List, [], ◌∷◌, ◌++◌, length, filter, Option}
 use Rattle.std.specs.List.{AllByRecursion, list_any}
 use Rattle.iova_range.specs.declared.limits.TheConstants.{MAX_WINDOWS}
 use Rattle.iova_range.specs.declared.refusal.Refusal.{Refusal}
 use Rattle.iova_range.specs.declared.refusal.Refusal.TheVariants as refusal
 use Rattle.iova_range.specs.Frames.{Frames, meets}
 use Rattle.iova_range.specs.Bounds.{Extent, IsExtent}
-use Rattle.iova_model.specs.Fit.{is_clear}
+use Rattle.iova_model.specs.Fit.{is_clear, is_covered}
 use Rattle.iova_model.specs.Next.{first_refusal, from_to, windows_with}
 use Rattle.iova_tree.specs.Spans.{Span, IsRisingFrom, end_after, inserted_of, windows_of}
 
@@ -31,6 +31,10 @@ pub record IsInside (bounds : Extent) (r : Frames) : Type 0 where
   pub start : bounds.start ≤ r.lo
   pub last : r.lo + r.len ≤ bounds.last + 1
 
+-- the frame is inside the bounds and in no allocated range
+abbrev pub IsFree : ℕ → Space → Type 0
+IsFree frame s = (s.bounds.start ≤ frame) × (frame ≤ s.bounds.last) × (is_covered frame (ranges_of s) ≡ false)
+
 -- what each tree keeps: no two of the ranges have a frame in common
 pub record IsSpace (s : Space) : Type 0 where
   pub bounds : IsExtent s.bounds
@@ -44,7 +48,7 @@ abbrev pub LieWithin : ℕ → List Span → ℕ → Type 0
 LieWithin from spans until = IsRisingFrom from spans × (end_after from spans ≤ until)
 
 -- what a tree's fields keep: all ranges lie in the bounds, apart, and the list of windows has those that are windows
-pub record IsKept (b : Extent) (spans : List Span) (ws : List Frames) : Type 0 where
+pub record IsTreeKept (b : Extent) (spans : List Span) (ws : List Frames) : Type 0 where
   pub bounds : IsExtent b
   pub within : LieWithin b.start spans (b.last + 1)
   pub windows : ws ≡ windows_of spans
@@ -63,6 +67,10 @@ window_tests s lo hi =
     ∷ (list_any (meets (from_to lo hi)) s.inserted, refusal.Taken)
     ∷ (nat_lt MAX_WINDOWS (length (windows_with (from_to lo hi) s.windows)), refusal.WindowsFull)
     ∷ []
+
+-- the same ranges and bounds, with a window of these frames
+abbrev pub with_window : Space → Frames → Space
+with_window s r = record s { windows = windows_with r s.windows }
 
 -- what it is refused for with ample memory, if it is
 abbrev pub reserve_refusal : Space → ℕ → ℕ → Option Refusal

@@ -10,7 +10,8 @@ pub fn position_of(ranges: &[Range], lo: u64) -> usize
     requires { IsNonDecreasingBy (λ (r : Frames). r.lo) ranges.now }
     ensures within { result ≤ length ranges.now }
     ensures below { (k : ℕ) (d : Frames) → k < result → (slice_index_or ranges.now k d).lo < lo }
-    ensures above { (k : ℕ) (d : Frames) → result ≤ k → k < length ranges.now → lo ≤ (slice_index_or ranges.now k d).lo }
+    ensures above { (k : ℕ) (d : Frames) → result ≤ k → k < length ranges.now
+        → lo ≤ (slice_index_or ranges.now k d).lo }
 {
     ranges.partition_point(|range| range.lo() < lo)
 }

@@ -1,16 +1,16 @@
 //! The plain form of the tree, under the same contract: tests compare the two.
-ghost use Rattle.std.specs.Prelude.{◌≡◌, ◌+◌, ◌≤◌, ◌<◌, ℕ, [], All, length, vec_len, vec_capacity, IfOk, OnOk, OnErr, IsOkUnless, IsTrue, ◌↔◌, IsSome, IfSome, IfNone, Some, find, false, true};
+ghost use Rattle.std.specs.Prelude.{◌≡◌, ◌+◌, ◌≤◌, ◌<◌, [], All, length, vec_len, vec_capacity, IfOk, OnOk, OnErr, IsOkUnless, IsTrue, ◌↔◌, IsSome, IfSome, IfNone, Some, find, true};
 ghost use Rattle.std.specs.Int.{IsPowerOfTwo};
 ghost use Rattle.std.specs.List.{list_any};
 ghost use Rattle.iova_range.specs.Frames.{Frames, meets};
 ghost use Rattle.iova_model.specs.Fit.{IsBest, best, is_covered, is_clear};
 ghost use Rattle.iova_model.specs.Clients.{insert_rising, remove_at, begins_at};
-ghost use Rattle.iova_model.specs.Next.{from_to, union, windows_with};
-ghost use Rattle.iova_tree.specs.Space.{ranges_of, IsInside, IsSpace, reserve_refusal, clear_of};
+ghost use Rattle.iova_model.specs.Next.{from_to, union};
+ghost use Rattle.iova_tree.specs.Space.{ranges_of, IsInside, IsFree, IsSpace, with_window, reserve_refusal, clear_of};
 ghost use Rattle.iova_tree.specs.Sorted.{IsLastAligned, Picks};
 
 use crate::position::position_of;
-use crate::window::{count_clear, join, meets};
+use crate::window::count_clear;
 use iova_range::bounds::Bounds;
 use iova_range::limits::{MAX_FRAMES, MAX_WINDOWS};
 use iova_range::range::Range;
@@ -34,7 +34,8 @@ impl Model for SortedList {
 
     ghost view = { λ t. record { bounds = t.bounds; inserted = t.inserted.items; windows = t.windows.items } };
 
-    ghost invariant = { λ t. IsSpace (record { bounds = t.bounds; inserted = t.inserted.items; windows = t.windows.items }) };
+    ghost invariant = { λ t. IsSpace
+        (record { bounds = t.bounds; inserted = t.inserted.items; windows = t.windows.items }) };
 }
 
 impl SortedList {
@@ -43,6 +44,7 @@ impl SortedList {
         ensures value { IfOk result (λ t. t ≡ record { bounds = bounds; inserted = []; windows = [] }) }
         ensures refused { OnErr result (result ≡ Err Refusal.NoMemory) }
     {
+        // for the proof: the bounds are sound
         let _start = bounds.start();
         Ok(SortedList {
             bounds,
@@ -110,7 +112,7 @@ impl SortedList {
 
     /// Whether the frame is inside the bounds and in no allocated range.
     pub fn is_free(&self, frame: u64) -> bool
-        ensures { IsTrue result ↔ ((self.now.bounds.start ≤ frame) × (frame ≤ self.now.bounds.last) × (is_covered frame (ranges_of self.now) ≡ false)) }
+        ensures { IsTrue result ↔ IsFree frame self.now }
     {
         self.bounds.start() <= frame
             && frame <= self.bounds.last()
@@ -146,7 +148,7 @@ impl SortedList {
         ensures refused { IfSome (reserve_refusal self.old lo hi) (λ refusal. result ≡ Err refusal) }
         ensures accepted { IfNone (reserve_refusal self.old lo hi) (IsOkUnless result Refusal.NoMemory) }
         ensures window { IfOk result (λ w. w ≡ union (from_to lo hi) self.old.windows) }
-        ensures windows { OnOk result (self.new ≡ record self.old { windows = windows_with (from_to lo hi) self.old.windows }) }
+        ensures windows { OnOk result (self.new ≡ with_window self.old (from_to lo hi)) }
         ensures unchanged { OnErr result (self.new ≡ self.old) }
     {
         if lo > hi || lo < self.bounds.start() || hi > self.bounds.last() {
@@ -209,7 +211,7 @@ fn pick(xs: &[Range], ys: &[Range], i: usize, j: usize) -> (Range, usize, usize)
 fn meets_any(ranges: &[Range], range: Range) -> bool
     ensures { result ≡ list_any (meets range) ranges.now }
 {
-    ranges.iter().any(|other| meets(range, *other))
+    ranges.iter().any(|other| range.meets(*other))
 }
 
 // Takes out the windows that have a frame in common with `window`, and gives one window of all these and `window`
@@ -226,8 +228,8 @@ fn absorb(windows: &mut Vec<Range>, window: Range) -> Range
     let mut i = windows.len();
     while i > 0 {
         i -= 1;
-        if meets(window, windows[i]) {
-            all = join(all, windows.remove(i));
+        if window.meets(windows[i]) {
+            all = all.join(windows.remove(i));
         }
     }
     all

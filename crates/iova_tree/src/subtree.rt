@@ -2,14 +2,14 @@
 //! they stand, and the greatest size that fits aligned into a gap between two neighbours: so a search enters no part
 //! of the tree in which nothing fits.
 ghost use Rattle.std.specs.Prelude.{◌≡◌, ◌+◌, ◌^◌, ◌<◌, ◌≤◌, max, [], ◌∷◌, ◌++◌, ◌-◌};
-ghost use Rattle.std.specs.Prelude.{Bool, true, false, ◌&&◌, length, IfOk, Some};
+ghost use Rattle.std.specs.Prelude.{true, false, ◌&&◌, length, IfOk, Some};
 ghost use Rattle.std.specs.Int.{IsPowerOfTwo};
 ghost use Rattle.std.specs.List.{list_any};
 ghost use Rattle.iova_range.specs.Frames.{covers, meets};
 ghost use Rattle.iova_model.specs.Fit.{is_covered};
-ghost use Rattle.iova_tree.specs.Spans.{range_of_span, all_of, is_kind, inserted_of, first_or, end_after, room_after, room_below, room_between, with_span, IsRisingFrom, Holds, IsLow};
+ghost use Rattle.iova_tree.specs.Spans.{range_of_span, all_of, inserted_of, first_or, end_after, room_after, room_below, room_between, with_span, IsRisingFrom, Holds, IsLow};
 ghost use Rattle.iova_tree.specs.Fit.{IsWanted, place_before, place_behind, highest_between, highest_free};
-ghost use Rattle.iova_tree.specs.Node.{node_summary, node_height, node_spans, own_span, IsSingle, IsBalanced, Rebalances, IsRootOf, PlacesBelow, HasSameSummary, TakesBelow, DifferByAtMost};
+ghost use Rattle.iova_tree.specs.Node.{node_summary, node_height, node_spans, own_span, IsSingle, IsBalanced, Rebalances, IsRootOf, PlacesBelow, HasSameSummary, TakesBelow, DifferByAtMost, HasSameHeightAndRoom, is_inserted_in, IsHeightOfBoth};
 
 use crate::room::room_with;
 use crate::search::{Wanted, place_in};
@@ -167,6 +167,7 @@ impl Subtree {
         requires few { length self.old.0 ≤ 2 ^ 40 }
         ensures { self.new.0 ≡ with_span (own_span fresh.value) self.old.0 }
     {
+        // for the proof: a subtree of so many ranges is low
         let _summary = &self.summary;
         let _ = self.place(fresh);
     }
@@ -180,6 +181,7 @@ impl Subtree {
         ensures single { IsSingle result.value }
         ensures taken { self.old.0 ≡ with_span (own_span result.value) self.new.0 }
     {
+        // for the proof: a subtree of so many ranges is low
         let _summary = &self.summary;
         let (node, _) = self.take(lo);
         node
@@ -194,7 +196,7 @@ impl Subtree {
         ensures spans { self.new.0 ≡ with_span (own_span fresh.value) self.old.0 }
         ensures not_lower { self.old.1 ≤ self.new.1 }
         ensures at_most_one_higher { self.new.1 ≤ self.old.1 + 1 }
-        ensures same { result ≡ false → (self.new.1 ≡ self.old.1) × (room_between self.new.0 ≡ room_between self.old.0) }
+        ensures same { result ≡ false → HasSameHeightAndRoom self.old self.new }
     {
         let Some(node) = &mut self.root else {
             self.summary = summary_of(&fresh);
@@ -242,7 +244,7 @@ impl Subtree {
         ensures taken { self.old.0 ≡ with_span (own_span result.0.value) self.new.0 }
         ensures not_higher { self.new.1 ≤ self.old.1 }
         ensures at_most_one_lower { self.old.1 ≤ self.new.1 + 1 }
-        ensures same { result.1 ≡ false → (self.new.1 ≡ self.old.1) × (room_between self.new.0 ≡ room_between self.old.0) }
+        ensures same { result.1 ≡ false → HasSameHeightAndRoom self.old self.new }
     {
         let Some(node) = &mut self.root else {
             unreachable!()
@@ -304,7 +306,7 @@ impl Subtree {
         }
     }
 
-    // The place behind the highest range and below `lo`.
+    // The place after the highest range and below `lo`.
     #[inline]
     fn place_behind(&self, lo: u64, wanted: &Wanted) -> Option<u64>
         requires { IsPowerOfTwo wanted.now.align }
@@ -425,7 +427,7 @@ impl Node {
         self.lo
     }
 
-    /// The frame behind its last.
+    /// The frame after its last.
     #[inline]
     pub fn end(&self) -> u64
         ensures { result ≡ self.now.end }
@@ -447,7 +449,7 @@ impl Node {
     pub fn is_taken(&self, lo: u64, end: u64) -> bool
         requires own { self.now.lo < self.now.end }
         requires asked { lo < end }
-        ensures { result ≡ (is_kind false (own_span self.now) && meets (record { lo = lo; len = end - lo }) (range_of_span (own_span self.now))) }
+        ensures { result ≡ is_inserted_in (own_span self.now) (record { lo = lo; len = end - lo }) }
     {
         !self.window && self.lo < end && lo < self.end
     }
@@ -542,7 +544,7 @@ fn take_sides(node: &mut Box<Node>) -> Subtree
     requires height_fits { node_height node.old.value < 2 ^ 31 }
     ensures rest { node.new.value ≡ record node.old.value { left = ([], 0); right = ([], 0) } }
     ensures spans { result.0 ≡ node.old.value.left.0 ++ node.old.value.right.0 }
-    ensures height { (max node.old.value.left.1 node.old.value.right.1 ≤ result.1) × (result.1 ≤ max node.old.value.left.1 node.old.value.right.1 + 1) }
+    ensures height { IsHeightOfBoth node.old.value.left.1 node.old.value.right.1 result.1 }
 {
     let left = take_left(node);
     let right = take_right(node);
@@ -555,7 +557,7 @@ fn join(left: Subtree, mut right: Subtree) -> Subtree
     requires level { DifferByAtMost 1 left.1 right.1 }
     requires height_fits { max left.1 right.1 < 2 ^ 31 }
     ensures spans { result.0 ≡ left.0 ++ right.0 }
-    ensures height { (max left.1 right.1 ≤ result.1) × (result.1 ≤ max left.1 right.1 + 1) }
+    ensures height { IsHeightOfBoth left.1 right.1 result.1 }
 {
     if right.is_empty() {
         return left;

@@ -2,10 +2,10 @@
 ghost use Rattle.std.specs.Prelude.{◌≡◌, ◌+◌, ◌≤◌, ◌<◌, [], length, IfOk, OnOk, OnErr, IsOkUnless, IsTrue, ◌↔◌, IsSome, IfSome, IfNone, Some, find, false, true};
 ghost use Rattle.std.specs.List.{list_any};
 ghost use Rattle.iova_range.specs.Frames.{meets};
-ghost use Rattle.iova_model.specs.Fit.{IsBest, best, is_covered, is_clear};
+ghost use Rattle.iova_model.specs.Fit.{IsBest, best, is_clear};
 ghost use Rattle.iova_model.specs.Clients.{insert_rising, remove_at, begins_at};
 ghost use Rattle.iova_model.specs.Next.{from_to, union, windows_with};
-ghost use Rattle.iova_tree.specs.Space.{Space, ranges_of, IsInside, IsSpace, reserve_refusal, clear_of};
+ghost use Rattle.iova_tree.specs.Space.{Space, ranges_of, IsInside, IsFree, IsSpace, with_window, reserve_refusal, clear_of};
 
 use crate::ranges::Ranges;
 use crate::search::Wanted;
@@ -29,13 +29,13 @@ pub struct Tree {
 }
 
 impl Model for Tree {
-    ghost use Rattle.iova_tree.specs.Space.{Space, IsKept, space_of};
+    ghost use Rattle.iova_tree.specs.Space.{Space, IsTreeKept, space_of};
 
     ghost Value = { Space };
 
     ghost view = { λ t. space_of t.bounds t.ranges t.windows.items };
 
-    ghost invariant = { λ t. IsKept t.bounds t.ranges t.windows.items };
+    ghost invariant = { λ t. IsTreeKept t.bounds t.ranges t.windows.items };
 }
 
 impl Tree {
@@ -45,6 +45,7 @@ impl Tree {
         ensures space { IfOk result IsSpace }
         ensures refused { OnErr result (result ≡ Err Refusal.NoMemory) }
     {
+        // for the proof: the bounds are sound
         let _start = bounds.start();
         Ok(Tree {
             alloc,
@@ -88,6 +89,7 @@ impl Tree {
         ensures err { OnErr result ((result ≡ Err Refusal.NoMemory) × (self.new ≡ self.old)) }
         ensures space { IsSpace self.new }
     {
+        // for the proof: the last frame is below 2^40
         let _last = self.bounds.last();
         let Ok(node) = Node::single(self.alloc, range.lo(), range.hi() + 1, false) else {
             return Err(Refusal::NoMemory);
@@ -103,6 +105,7 @@ impl Tree {
         ensures rest { self.new ≡ record self.old { inserted = remove_at lo self.old.inserted } }
         ensures space { IsSpace self.new }
     {
+        // for the proof: the last frame is below 2^40
         let _last = self.bounds.last();
         let node = self.ranges.remove(lo);
         node.range()
@@ -110,7 +113,7 @@ impl Tree {
 
     /// Whether the frame is inside the bounds and in no allocated range.
     pub fn is_free(&self, frame: u64) -> bool
-        ensures { IsTrue result ↔ ((self.now.bounds.start ≤ frame) × (frame ≤ self.now.bounds.last) × (is_covered frame (ranges_of self.now) ≡ false)) }
+        ensures { IsTrue result ↔ IsFree frame self.now }
     {
         if frame < self.bounds.start() || frame > self.bounds.last() {
             return false;
@@ -139,7 +142,7 @@ impl Tree {
         ensures accepted { IfNone (reserve_refusal self.old lo hi) (IsOkUnless result Refusal.NoMemory) }
         ensures memory { result ≡ Err Refusal.NoMemory → is_clear (from_to lo hi) self.old.windows ≡ true }
         ensures window { IfOk result (λ w. w ≡ union (from_to lo hi) self.old.windows) }
-        ensures windows { OnOk result (self.new ≡ record self.old { windows = windows_with (from_to lo hi) self.old.windows }) }
+        ensures windows { OnOk result (self.new ≡ with_window self.old (from_to lo hi)) }
         ensures unchanged { OnErr result (self.new ≡ self.old) }
     {
         if lo > hi || lo < self.bounds.start() || hi > self.bounds.last() {
@@ -168,6 +171,7 @@ impl Tree {
         ensures ok { OnOk result (self.new ≡ record self.old { windows = insert_rising window self.old.windows }) }
         ensures err { OnErr result ((result ≡ Err Refusal.NoMemory) × (self.new ≡ self.old)) }
     {
+        // for the proof: the last frame is below 2^40
         let _last = self.bounds.last();
         let Ok(()) = self.windows.reserve(1) else {
             return Err(Refusal::NoMemory);
@@ -190,6 +194,7 @@ impl Tree {
         ensures value { result ≡ union asked self.old.windows }
         ensures windows { self.new ≡ record self.old { windows = windows_with asked self.old.windows } }
     {
+        // for the proof: the last frame is below 2^40
         let _last = self.bounds.last();
         let (window, spare) = absorb(&mut self.ranges, &mut self.windows, asked);
         let Some(mut node) = spare else {

@@ -1,9 +1,8 @@
 //! Windows that join.
-ghost use Rattle.std.specs.Prelude.{◌≡◌, ◌+◌, ◌^◌, ◌≤◌, ◌<◌, ℕ, true, length, vec_len, vec_capacity, IfSome, IfNone};
-ghost use Rattle.iova_range.specs.Frames.{meets};
+ghost use Rattle.std.specs.Prelude.{◌≡◌, ◌^◌, ◌≤◌, ◌<◌, ℕ, true, length, vec_len, vec_capacity, IfSome, IfNone};
 ghost use Rattle.iova_model.specs.Fit.{is_clear};
 ghost use Rattle.iova_model.specs.Clients.{insert_rising};
-ghost use Rattle.iova_model.specs.Next.{join, union};
+ghost use Rattle.iova_model.specs.Next.{union};
 ghost use Rattle.iova_tree.specs.Spans.{windows_of, inserted_of};
 ghost use Rattle.iova_tree.specs.Space.{RiseApart, LieWithin, clear_of};
 ghost use Rattle.iova_tree.specs.Node.{IsSingle};
@@ -13,30 +12,11 @@ use crate::ranges::Ranges;
 use crate::subtree::Node;
 use iova_range::range::Range;
 
-/// Whether the two have a frame in common.
-#[inline]
-pub fn meets(a: Range, b: Range) -> bool
-    ensures { result ≡ meets a b }
-{
-    a.lo() <= b.hi() && b.lo() <= a.hi()
-}
-
-/// The frames of both and what lies between them. Neither has frame 0.
-pub fn join(a: Range, b: Range) -> Range
-    requires first { 1 ≤ a.lo }
-    requires second { 1 ≤ b.lo }
-    ensures { result ≡ join a b }
-{
-    let lo = a.lo().min(b.lo());
-    let hi = a.hi().max(b.hi());
-    Range::new(lo, hi - lo + 1)
-}
-
 /// How many of the ranges have no frame in common with `range`.
 pub fn count_clear(ranges: &[Range], range: Range) -> usize
     ensures { result ≡ length (clear_of range ranges.now) }
 {
-    ranges.iter().filter(|other| !meets(range, **other)).count()
+    ranges.iter().filter(|other| !range.meets(**other)).count()
 }
 
 /// Puts a window that is clear of the others in its place. There is room for it.
@@ -75,10 +55,10 @@ pub fn absorb(
     let mut i = windows.len();
     while i > 0 {
         i -= 1;
-        if meets(window, windows[i]) {
+        if window.meets(windows[i]) {
             let other = windows.remove(i);
             spare = Some(ranges.remove(other.lo()));
-            all = join(all, other);
+            all = all.join(other);
         }
     }
     (all, spare)

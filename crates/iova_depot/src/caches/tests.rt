@@ -152,7 +152,7 @@ fn full_depots_are_emptied(rt: HostRuntime) -> Result<(), Fail> {
 fn each_worker_and_order_has_its_own(rt: HostRuntime) -> Result<(), Fail> {
     let mut caches = Caches::new(rt.alloc(), 2)?;
     assert!(rt; caches.workers() == 2);
-    // 64 frames from the first of each order on, for worker 1 behind those for worker 0
+    // 64 frames from the first of each order on, for worker 1 after those for worker 0
     for w in 0..2 {
         for order in 0..6u8 {
             let lo = 1024 * (w as u64) + 64 * (order as u64);

@@ -4,7 +4,7 @@ use Rattle.iova_model.specs.Caches.{Caches}
 use Rattle.iova_model.specs.Fit.{best}
 use Rattle.iova_tree.specs.Space.{ranges_of}
 use Rattle.iova_depot.specs.Cached.{Cached}
-use Rattle.iova_core.specs.declared.walk.Found.TheVariants.{Nowhere}
+use Rattle.iova_core.specs.declared.walk.Walked.TheVariants.{Nowhere}
 use Rattle.iova_model.specs.declared.step.Point.TheVariants.{Last}
 use Rattle.iova_core.proofs.Stocks.{has_low}
 use Rattle.iova_core.proofs.Drains.{stock_left}

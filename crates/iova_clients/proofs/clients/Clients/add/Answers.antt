@@ -1,7 +1,7 @@
 use Rattle.std.proofs.Common.{◌≡◌, ◌-◌, refl, sym, ap, arith}
 use Rattle.std.specs.Map.{set_value}
 use Rattle.iova_model.specs.Clients.{with_holding}
-use Rattle.iova_clients.specs.Registry.{is_serial, CanBeGiven, IsLow}
+use Rattle.iova_clients.specs.Registry.{is_serial, CanBeGiven, IsBelowTop}
 use Rattle.iova_clients.specs.Accounts.{Account, client_at, clients_at}
 use Rattle.iova_clients.specs.Sums.{with_share, with_one}
 use Rattle.iova_clients.proofs.Changed.{client_some, changed-at, spare_at, spare_same, lookup-set_here, lookup-set_other, found_mut, client_known, mut_there}
@@ -64,7 +64,7 @@ invariant_of-self c =
     rw (c.worker-worker.ensures, c.add.ensures) at c.add-2.ensures.shares in
     record {
       registry = IsRegistry-changed id (with_holding r) (client_at (id, a)) _ _ c.self.invariant.registry client refl
-          (IsClient-given r (client_at (id, a)) is can.room can.new c.requires.sized) (all_inserted IsLow r a.holdings c.requires.low low) clients refl;
+          (IsClient-given r (client_at (id, a)) is can.room can.new c.requires.sized) (all_inserted IsBelowTop r a.holdings c.requires.low low) clients refl;
       sums = rw clients (sums_given id r (client_at (id, a)) (clients_at es) c.self.inside.sums c.add-2.new.self client is.worker c.add-2.ensures.all shares c.self.invariant.sums);
     }
 

@@ -1,7 +1,7 @@
 use Rattle.std.proofs.Common.{refl, ap, ◌∙◌}
 use Rattle.std.specs.Map.{remove_entry}
 use Rattle.iova_model.specs.Clients.{client_with}
-use Rattle.iova_clients.specs.Registry.{is_serial, IsDone}
+use Rattle.iova_clients.specs.Registry.{is_serial, CanBeForgotten}
 use Rattle.iova_clients.specs.Accounts.{clients_at}
 use Rattle.iova_clients.proofs.Changed.{forgotten-at, lookup-remove_other, spare_same, spare_none, lookup_none, known_there}
 use Rattle.iova_clients.proofs.Kept.{client_with-forgotten, IsRegistry-forgotten}
@@ -14,7 +14,7 @@ invariant_of-self c =
     let inv = c.self.invariant in
     let id = c.args.id in
     let clients = ap clients_at c.remove.ensures.left ∙ forgotten-at id i.ledgers in
-    let there = known_there (client_with id (clients_at i.ledgers)) IsDone (rw (← c.self.view_is) at c.requires) in
+    let there = known_there (client_with id (clients_at i.ledgers)) CanBeForgotten (rw (← c.self.view_is) at c.requires) in
     record {
       registry = IsRegistry-forgotten id _ _ inv.registry clients refl;
       sums = rw clients (sums_forgotten id there.0 (clients_at i.ledgers) i.sums there.1 there.2.empty inv.sums);

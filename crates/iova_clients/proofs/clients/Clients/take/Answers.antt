@@ -4,7 +4,7 @@ use Rattle.std.specs.Map.{set_value}
 use Rattle.std.proofs.lemmas.Result.{err_from_is_err_and}
 use Rattle.iova_range.specs.declared.refusal.Refusal.TheVariants.{NoClient, NotHeld}
 use Rattle.iova_model.specs.Clients.{without_holding, begins_at, remove_at}
-use Rattle.iova_clients.specs.Registry.{is_serial, held_at, IsLow}
+use Rattle.iova_clients.specs.Registry.{is_serial, held_at, IsBelowTop}
 use Rattle.iova_clients.specs.Accounts.{Account, client_at, clients_at}
 use Rattle.iova_clients.specs.Sums.{with_share, without_one}
 use Rattle.iova_clients.proofs.Changed.{client_some, client_none, changed-at, set_value_same, spare_at, spare_same, lookup-set_here, lookup-set_other, found_mut, refused_at, none_mut}
@@ -109,7 +109,7 @@ invariant_of-self-2 c =
     rw (c.worker-worker.ensures, now) at c.remove.ensures.shares in
     record {
       registry = IsRegistry-changed id (without_holding lo) (client_at (id, a)) _ _ c.self.invariant.registry client refl
-          (IsClient-taken lo (client_at (id, a)) is) (all_removed IsLow lo a.holdings low) clients refl;
+          (IsClient-taken lo (client_at (id, a)) is) (all_removed IsBelowTop lo a.holdings low) clients refl;
       sums = rw clients (sums_taken id lo r (client_at (id, a)) (clients_at es) c.self.inside.sums c.remove.new.self client is.worker held c.remove.ensures.all shares c.self.invariant.sums);
     }
 

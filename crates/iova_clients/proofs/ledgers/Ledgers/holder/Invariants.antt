@@ -1,7 +1,7 @@
 use Rattle.std.proofs.Common.{◌≡◌, find}
 use Rattle.slab.specs.Slab.{get as at_key}
 use Rattle.iova_model.specs.Fit.{is_covered}
-use Rattle.iova_clients.specs.Accounts.{listed}
+use Rattle.iova_clients.specs.Accounts.{listed_accounts}
 use Rattle.iova_clients.proofs.ledgers.Ledgers.holder.Given as goal
 
 -- what is sought is among the ledgers that are left
@@ -9,5 +9,5 @@ abbrev pub invariant-loop-id : goal.invariant-loop-id
 invariant-loop-id l =
     (goal.iterator-loop-id).can_next l.id-iterator ×
     (goal.iterator-loop-id).is_finite l.id-iterator ×
-    (find (λ e. is_covered l.frame e.1.holdings) (listed (at_key l.self-inside.slab) l.id-iterator)
-    ≡ find (λ e. is_covered l.frame e.1.holdings) (listed (at_key l.self-inside.slab) l.self-inside.keys.entries))
+    (find (λ e. is_covered l.frame e.1.holdings) (listed_accounts (at_key l.self-inside.slab) l.id-iterator)
+    ≡ find (λ e. is_covered l.frame e.1.holdings) (listed_accounts (at_key l.self-inside.slab) l.self-inside.keys.entries))

@@ -1,7 +1,7 @@
 use Rattle.std.proofs.Common.{◌≡◌, ◌∙◌, ◌<◌, [], ◌∷◌, ◌++◌, ap, sym}
 use Rattle.std.specs.List.{AllByRecursion}
 use Rattle.slab.specs.Slab.{get as at_key}
-use Rattle.iova_clients.specs.Accounts.{listed, AreKeyed}
+use Rattle.iova_clients.specs.Accounts.{listed_accounts, AreKeyed}
 use Rattle.iova_clients.proofs.Listed.{listed_pushed, keyed_pushed}
 use Rattle.iova_clients.proofs.ledgers.Ledgers.push.Goals as goal
 
@@ -19,7 +19,7 @@ invariant_of-self-2 c =
     let i = c.self.inside in
     let key = c.vacant_key-key.result in
     let keyed : AreKeyed (at_key c.reserve.new.self) i.keys.entries = rw c.reserve.ensures.rest_kept c.self.invariant.keyed in
-    let below : AllByRecursion (λ e. e.0 < c.args.id) (listed (at_key c.reserve.new.self) i.keys.entries) = rw (c.reserve.ensures.rest_kept, c.self.view_is) c.requires in
+    let below : AllByRecursion (λ e. e.0 < c.args.id) (listed_accounts (at_key c.reserve.new.self) i.keys.entries) = rw (c.reserve.ensures.rest_kept, c.self.view_is) c.requires in
     let same : c.insert_reserved.result ≡ key = c.insert_reserved.ensures.key ∙ sym c.vacant_key-key.ensures.value in
     let updates = rw same at c.insert_reserved.ensures.updates in
     record {
@@ -34,13 +34,13 @@ returns-clause-ok c =
     let i = c.self.inside in
     let key = c.vacant_key-key.result in
     let keyed : AreKeyed (at_key c.reserve.new.self) i.keys.entries = rw c.reserve.ensures.rest_kept c.self.invariant.keyed in
-    let below : AllByRecursion (λ e. e.0 < c.args.id) (listed (at_key c.reserve.new.self) i.keys.entries) = rw (c.reserve.ensures.rest_kept, c.self.view_is) c.requires in
+    let below : AllByRecursion (λ e. e.0 < c.args.id) (listed_accounts (at_key c.reserve.new.self) i.keys.entries) = rw (c.reserve.ensures.rest_kept, c.self.view_is) c.requires in
     let same : c.insert_reserved.result ≡ key = c.insert_reserved.ensures.key ∙ sym c.vacant_key-key.ensures.value in
     let updates = rw same at c.insert_reserved.ensures.updates in
-    let reserved : listed (at_key c.reserve.new.self) i.keys.entries ≡ listed (at_key i.slab) i.keys.entries =
+    let reserved : listed_accounts (at_key c.reserve.new.self) i.keys.entries ≡ listed_accounts (at_key i.slab) i.keys.entries =
     rw c.reserve.ensures.rest_kept in
     rw (← c.self.view_is)
-    (ap (listed (at_key c.insert_reserved.new.self)) c.in-Ok-insert.ensures.entries
+    (ap (listed_accounts (at_key c.insert_reserved.new.self)) c.in-Ok-insert.ensures.entries
     ∙ (listed_pushed (at_key c.reserve.new.self) (at_key c.insert_reserved.new.self) c.args.id key c.args.ledger i.keys.entries keyed below
     c.vacant_key-key.ensures.vacant updates.changed updates.others
     ∙ ap (λ xs. xs ++ (c.args.id, c.args.ledger) ∷ []) reserved))

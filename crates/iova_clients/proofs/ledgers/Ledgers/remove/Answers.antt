@@ -1,7 +1,7 @@
 use Rattle.std.proofs.Common.{◌∙◌, ap, sym, Some, None}
 use Rattle.slab.specs.Slab.{get as at_key}
 use Rattle.iova_clients.specs.Registry.{is_serial}
-use Rattle.iova_clients.specs.Accounts.{listed}
+use Rattle.iova_clients.specs.Accounts.{listed_accounts}
 use Rattle.iova_clients.proofs.Listed.{get_listed, lookup_at, remove_entry_at, listed_removed, keyed_removed, none_removed}
 use Rattle.iova_clients.proofs.ledgers.Ledgers.remove.Goals as goal
 
@@ -24,7 +24,7 @@ pub returns-in-Some-clause-left : goal.returns-in-Some-clause-left
 returns-in-Some-clause-left c =
     let i = c.self.inside in
     let left =
-    ap (listed (at_key c.try_remove.new.self)) (c.remove.ensures.entries ∙ remove_entry_at c.args.id i.keys.entries)
+    ap (listed_accounts (at_key c.try_remove.new.self)) (c.remove.ensures.entries ∙ remove_entry_at c.args.id i.keys.entries)
     ∙ listed_removed (at_key i.slab) (at_key c.try_remove.new.self) (is_serial c.args.id) c.in-Some.key i.keys.entries
     c.self.invariant.keyed (sym (lookup_at c.args.id i.keys.entries) ∙ sym c.in-Some.ensures.value) c.try_remove.ensures.updates.others in
     rw (← c.self.view_is) left
@@ -39,5 +39,5 @@ returns-in-None-clause-left c =
     let i = c.self.inside in
     let none = get_listed (at_key i.slab) c.args.id i.keys.entries None c.self.invariant.keyed (sym c.in-None.ensures.value) in
     let left =
-    ap (listed (at_key i.slab)) c.in-None.ensures.unchanged ∙ sym (none_removed (is_serial c.args.id) (listed (at_key i.slab) i.keys.entries) none) in
+    ap (listed_accounts (at_key i.slab)) c.in-None.ensures.unchanged ∙ sym (none_removed (is_serial c.args.id) (listed_accounts (at_key i.slab) i.keys.entries) none) in
     rw (← c.self.view_is) left

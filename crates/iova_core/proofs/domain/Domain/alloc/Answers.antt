@@ -1,7 +1,7 @@
 use Rattle.std.proofs.Common.{◌≡◌, ◌<◌, refl, sym, ap, ◌∙◌, arith}
 use Rattle.iova_model.specs.Next.{Next}
 use Rattle.iova_core.specs.Domain.{Parts, state_of}
-use Rattle.iova_core.specs.declared.walk.Found.TheVariants as found
+use Rattle.iova_core.specs.declared.walk.Walked.TheVariants as found
 use Rattle.iova_core.proofs.Outcomes.{refuses_ok, looked_up, looked_up_sac}
 use Rattle.iova_core.proofs.Queues.{domain_stock}
 use Rattle.iova_core.proofs.Allocs.{asked_from, alloc_is, walked_state, domain_walked, found_low, found_new, given_state, domain_given}

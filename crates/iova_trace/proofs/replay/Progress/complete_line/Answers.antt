@@ -1,6 +1,6 @@
 use Rattle.std.proofs.Common.{refl, ap, ◌∙◌, [], ◌∷◌}
 use Rattle.std.proofs.lemmas.Result.{err_from_is_err_and}
-use Rattle.iova_trace.proofs.Streams.{Stops-more, Takes-ended}
+use Rattle.iova_trace.proofs.Streams.{Stops-more, TakesBytes-ended}
 use Rattle.iova_trace.proofs.replay.Progress.complete_line.Goals as goal
 
 pub returns-in_err-keep_part : goal.returns-in_err-keep_part
@@ -11,6 +11,6 @@ returns-in_err-keep_part c =
 
 pub returns : goal.returns
 returns c =
-    Takes-ended c.args.self.now c.keep_part.new.self _ c.run_line-2.new.self c.args.end.now c.as_slice.result.now c.run_line-2.result
+    TakesBytes-ended c.args.self.now c.keep_part.new.self _ c.run_line-2.new.self c.args.end.now c.as_slice.result.now c.run_line-2.result
     c.in_ok-keep_part.ensures.takes c.in_ok-keep_part.ensures.replies c.take-line.ensures.after refl refl refl
     (c.as_slice.ensures.value ∙ ap (λ l. l.items) c.take-line.ensures.value) c.run_line-2.ensures

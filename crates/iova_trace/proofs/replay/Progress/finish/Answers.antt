@@ -3,7 +3,7 @@ use Rattle.std.proofs.lemmas.List.{append-nil}
 use Rattle.iova_model.specs.State.{State}
 use Rattle.iova_trace.specs.declared.trace.Trace.{Trace}
 use Rattle.iova_text.specs.Lines.{HasNoLf}
-use Rattle.iova_trace.specs.Lines.{IsCut, next_line_number, count_steps}
+use Rattle.iova_trace.specs.Lines.{IsCutOff, next_line_number, count_steps}
 use Rattle.iova_trace.specs.Progress.{number_at}
 use Rattle.iova_trace.specs.Replay.{IsReplayed}
 use Rattle.iova_trace.proofs.replay.Progress.finish.Goals as goal
@@ -16,7 +16,7 @@ next_is (Some t) None text steps h count = absurd h
 next_is (Some t) (Some s) text steps h count = ap (λ n. n + 2) count
 
 -- a line that has begun is cut
-begun_cut : (lines : Option Trace) (line : List ℕ) → line ≢ [] → HasNoLf line → IsCut lines line
+begun_cut : (lines : Option Trace) (line : List ℕ) → line ≢ [] → HasNoLf line → IsCutOff lines line
 begun_cut None line some unended = unended
 begun_cut (Some t) line some unended = (unended, some)
 

@@ -6,7 +6,7 @@ use Rattle.iova_text.specs.Lines.{HasNoLf, whole_line}
 use Rattle.iova_trace.specs.declared.fault.ReplayFault.TheVariants.{WriteFault}
 use Rattle.iova_trace.specs.Progress.{Stops, Outcome}
 use Rattle.iova_text.proofs.LineEnds.{no_lf_before, cut_at_lf}
-use Rattle.iova_trace.proofs.Streams.{Goes-then, Stops-then, Stops-more, Takes-broken, Takes-written, Outcome-then}
+use Rattle.iova_trace.proofs.Streams.{Goes-then, Stops-then, Stops-more, TakesBytes-broken, TakesBytes-written, Outcome-then}
 use Rattle.iova_trace.proofs.replay.Progress.replay_piece.Goals as goal
 
 pub reply_to_line-requires : goal.reply_to_line-requires
@@ -70,7 +70,7 @@ returns-in_err-write_replies-clause-outcome g c =
     let written = take cut.1.0 kept.new.self.replies.items in
     let fault = c.in_err-write_replies.field-0.0 in
     let p = err_from_is_err_and c.from_residual-in_err-write_replies.result c.from_residual-in_err-write_replies.ensures.1 in
-    let broken = Takes-broken c.loop-end.self kept.new.self rest cut.1.0 kept.result kept.ensures.takes in
+    let broken = TakesBytes-broken c.loop-end.self kept.new.self rest cut.1.0 kept.result kept.ensures.takes in
     let stops = Stops-then c.args.self.now c.loop-end.self so_far.0 rest so_far.1 written WriteFault so_far.4 broken in
     let P : List ℕ → Type 0 = λ x. Stops c.args.self.now x (so_far.1 ++ written) WriteFault in
     rw (p.1, p.2, cut.0) (
@@ -87,7 +87,7 @@ returns-clause-outcome g c =
     let kept = c.keep_part-kept in
     let written = kept.new.self.replies.items in
     let wrote = c.in_ok-write_replies.ensures in
-    let last = Takes-written c.loop-end.self kept.new.self c.write_replies.new.self rest kept.result kept.ensures.takes wrote.same wrote.none in
+    let last = TakesBytes-written c.loop-end.self kept.new.self c.write_replies.new.self rest kept.result kept.ensures.takes wrote.same wrote.none in
     let whole = Outcome-then c.args.self.now c.loop-end.self c.write_replies.new.self so_far.0 rest so_far.1 written kept.result so_far.4 last in
     let P : List ℕ → Type 0 = λ x. Outcome c.args.self.now x (so_far.1 ++ written) c.write_replies.new.self kept.result in (
       so_far.1 ++ written,
