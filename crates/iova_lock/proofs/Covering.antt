@@ -12,7 +12,7 @@ use Rattle.iova_model.specs.Next.{no_worker}
 use Rattle.iova_model.specs.Laws.{to_queue, unmapped_of, worker_of}
 use Rattle.iova_lock.specs.Views.{Covers}
 
--- a range is within the totals of a list that has it in front, or behind
+-- a range is within the totals of a list that has it in front, or after
 in_front : (r : Frames) (rs : List Frames) → Covers (totals_of (r ∷ rs)) r
 in_front r rs = (omega arith, omega (arith, sum_by-cons (λ (q : Frames). q.len) r rs), omega (arith, sum_by-cons (λ (q : Frames). q.lo) r rs))
 

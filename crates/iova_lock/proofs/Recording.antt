@@ -1,32 +1,53 @@
--- What is recorded is a transcript.
-use Rattle.std.proofs.Common.{ℕ, ◌≡◌, ◌≤◌, List, Option, Some, None, Result, Ok, Err, IfOk}
-use Rattle.iova_range.specs.Bounds.{IsExtent}
-use Rattle.iova_range.specs.declared.limits.TheConstants.{MAX_WORKERS}
+-- What is recorded is a transcript, and is replayed.
+use Rattle.std.proofs.Common.{ℕ, ◌≡◌, ◌≤◌, List, [], ◌∷◌, ◌++◌, length, Option, Some, None, Result, Ok, Err, IfOk, map, sym, ap, ◌∙◌, subst, arith}
+use Rattle.std.specs.List.{AllByRecursion}
+use Rattle.std.proofs.lemmas.List.{length-map}
+use Rattle.iova_range.specs.Bounds.{Extent, IsExtent}
+use Rattle.iova_range.specs.declared.limits.TheConstants.{MAX_WORKERS, MAX_STEPS}
 use Rattle.iova_range.specs.declared.refusal.Refusal.{Refusal}
 use Rattle.iova_model.specs.State.{State}
-use Rattle.iova_lock.specs.Records.{HasRecorded, IsTranscriptOf, pairs_in}
+use Rattle.iova_model.specs.Transcript.{Pair}
+use Rattle.iova_trace.specs.LineSteps.{IsStep}
+use Rattle.iova_trace.specs.Lines.{IsTrace, trace_text}
+use Rattle.iova_trace.specs.Recorded.{trace_of, RecordsReplay}
+use Rattle.iova_trace.specs.Replay.{IsDone}
+use Rattle.iova_trace.specs.Text.{IsHeader}
+use Rattle.iova_lock.specs.Records.{HasRecorded, WritesLog, AreSteps, TranscriptsReplay, pairs_in}
 use Rattle.iova_lock.specs.StepLogs.{StepLog, IsRecorded}
 
-pub has_recorded : (s : State) (log : Option StepLog) (old new : List ℕ) (n : ℕ) → IsExtent s.bounds → 1 ≤ s.workers → s.workers ≤ MAX_WORKERS
-    → IsRecorded log s → IsTranscriptOf s.bounds s.workers (pairs_in log) old new n → HasRecorded old new n
-has_recorded s None old new n extent some most is text = record {
-  bounds = s.bounds;
-  workers = s.workers;
-  pairs = pairs_in None;
-  header = record { extent = extent; some = some; most = most };
-  transcript = tt;
-  text = text;
-}
-has_recorded s (Some log) old new n extent some most is text = record {
-  bounds = s.bounds;
-  workers = s.workers;
-  pairs = log.pairs;
-  header = record { extent = extent; some = some; most = most };
-  transcript = is.transcript;
-  text = text;
-}
+-- one pair more
+pub steps_push : (pairs : List Pair) (p : Pair) → AreSteps pairs → IsStep p.step → AreSteps (pairs ++ p ∷ [])
+steps_push [] p all is = (is, tt)
+steps_push (q ∷ pairs) p all is = (all.0, steps_push pairs p all.1 is)
+
+is_trace : (bounds : Extent) (workers : ℕ) (pairs : List Pair) (n : ℕ) → IsHeader bounds workers → AreSteps pairs → n ≡ length pairs → n ≤ MAX_STEPS
+    → IsTrace (trace_of bounds workers pairs)
+is_trace bounds workers pairs n header steps count few =
+    record { header = header; steps = steps; few = omega (arith, length-map pairs (λ (p : Pair). p.step), count, few) }
 
 pub told_recorded : (s : State) (log : Option StepLog) (old new : List ℕ) (r : Result ℕ Refusal) → IsExtent s.bounds → 1 ≤ s.workers → s.workers ≤ MAX_WORKERS
-    → IsRecorded log s → IfOk r (IsTranscriptOf s.bounds s.workers (pairs_in log) old new) → IfOk r (HasRecorded old new)
-told_recorded s log old new (Ok n) extent some most is text = has_recorded s log old new n extent some most is text
+    → IsRecorded log s → WritesLog s log old new r → IfOk r (HasRecorded s.workers old new)
+told_recorded s None old new (Ok n) extent some most is text =
+    let header : IsHeader s.bounds s.workers = record { extent = extent; some = some; most = most } in
+    record { bounds = s.bounds; pairs = []; header = header; transcript = tt; text = text; trace = λ few. is_trace s.bounds s.workers [] n header text.2 text.1 few }
+told_recorded s (Some log) old new (Ok n) extent some most is text =
+    let header : IsHeader s.bounds s.workers = record { extent = extent; some = some; most = most } in
+    record { bounds = s.bounds; pairs = log.pairs; header = header; transcript = is.transcript; text = text; trace = λ few. is_trace s.bounds s.workers log.pairs n header text.2 text.1 few }
 told_recorded s log old new (Err e) extent some most is text = tt
+
+tail_of : List ℕ → List ℕ
+tail_of [] = []
+tail_of (x ∷ xs) = xs
+
+same_tails : (x : ℕ) (us vs : List ℕ) → (x ∷ us) ≡ (x ∷ vs) → us ≡ vs
+unfolding tail_of
+same_tails x us vs e = ap tail_of e
+
+same_rest : (front xs ys : List ℕ) → front ++ xs ≡ front ++ ys → xs ≡ ys
+same_rest [] xs ys e = e
+same_rest (x ∷ front) xs ys e = same_rest front xs ys (same_tails x (front ++ xs) (front ++ ys) e)
+
+pub transcripts_replay : RecordsReplay → TranscriptsReplay
+transcripts_replay law = λ workers n steps old new text written state h appended few done.
+    let is : text ≡ trace_text (trace_of h.bounds workers h.pairs) = same_rest old text (trace_text (trace_of h.bounds workers h.pairs)) (sym appended ∙ h.text.0) in
+    law h.bounds workers h.pairs written state steps h.transcript (h.trace few) (subst (λ (t : List ℕ). IsDone t written state steps) is done)

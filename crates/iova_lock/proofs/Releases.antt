@@ -10,11 +10,12 @@ use Rattle.iova_model.specs.declared.step.Reply.{Reply}
 use Rattle.iova_model.specs.declared.step.Reply.TheVariants as reply
 use Rattle.iova_model.specs.declared.totals.Totals.{Totals}
 use Rattle.iova_model.specs.State.{State}
+use Rattle.iova_model.specs.Laws.{IsReplyTo}
 use Rattle.iova_sink.specs.Calls.{Call, good_calls}
 use Rattle.iova_lock.specs.declared.unmapped.Unmapped.{Unmapped}
 use Rattle.iova_lock.specs.declared.unmapped.Unmapped.TheVariants as unmapped
 use Rattle.iova_lock.specs.StepLogs.{Takes, IsDrainReply}
-use Rattle.iova_lock.specs.Views.{SeatState, WhereKnown, begun_of}
+use Rattle.iova_lock.specs.Views.{SeatState, WhereKnown, begun_of, IsReleaseBegin, IsSecondBegin}
 use Rattle.iova_lock.specs.Events.{Event, Ran, Invalidated, sink_calls, Does, Unmapping, run, not_run}
 use Rattle.iova_lock.specs.Releases.{QueuedStrictly, FlushFollows, ReleaseFirst, no_flush, flush, ReleaseAgain, no_flush_again, flush_again, ReleaseLast, reached, not_reached, not_drained, AfterQueued, stays, freed, not_freed, ReleaseRest, refused_again, queued_again, refused_first, queued_first, ring_was_full, ReleasesFirst, ReleasesAgain, ReleasesLast, DoesFollow, DoesReleaseRest, DoesRelease}
 use Rattle.iova_lock.proofs.Doing.{known_both, known_one, good_within}
@@ -271,3 +272,12 @@ known_release_rest a c f strict seat next id lo n e o b result number before now
     known_both a c f (ReleasesFirst strict seat id lo (Some (reply.Refused e)) b) (DoesReleaseRest strict next id lo n result number before now)
     (DoesRelease strict seat id lo result number before now) (rw is at p) k
     (λ s m t x y. release_rest strict seat next id lo n e b result number before now s m t begun same held x y)
+
+-- A flush that began in a hold of a release.
+
+pub release_begun : (strict : Bool) (r b : Reply) → FlushFollows strict r → IsReplyTo step.Begin b → IsReleaseBegin (Some r) (Some b)
+release_begun strict r b (inl full) is = (inl (ap Some full), is)
+release_begun strict r b (inr queued) is = (inr (queued.1.0, ap Some queued.1.1), is)
+
+pub second_begun : (strict : Bool) (r b : Reply) → QueuedStrictly strict r → IsReplyTo step.Begin b → IsSecondBegin (Some r) (Some b)
+second_begun strict r b queued is = ((queued.1.0, ap Some queued.1.1), is)

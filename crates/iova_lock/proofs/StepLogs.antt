@@ -1,5 +1,6 @@
 -- A step more on a log.
-use Rattle.std.proofs.Common.{◌≡◌, ◌⊎◌, inl, inr, true, false, [], ◌∷◌, ◌++◌, Option, Some, None, refl, sym, ap, ◌∙◌, subst}
+use Rattle.std.proofs.Common.{◌≡◌, ◌+◌, ◌<◌, ◌≤◌, ◌⊎◌, inl, inr, ℕ, Bool, true, false, List, [], ◌∷◌, ◌++◌, length, Option, Some, None, refl, sym, ap, ◌∙◌, subst, arith, append_assoc, append-nil}
+use Rattle.std.proofs.lemmas.List.{length_push}
 use Rattle.iova_model.specs.declared.step.Step.{Step}
 use Rattle.iova_model.specs.declared.step.Reply.{Reply}
 use Rattle.iova_model.specs.declared.step.Point.{Point}
@@ -8,39 +9,88 @@ use Rattle.iova_model.specs.Next.{next}
 use Rattle.iova_model.specs.Transcript.{Pair, IsTranscript, after}
 use Rattle.iova_model.specs.Laws.{StepsKeepTheDomain}
 use Rattle.iova_model.proofs.Runs.{transcript_push, after_push}
-use Rattle.iova_lock.specs.StepLogs.{Takes, StepLog, IsLogOf, IsRecorded}
+use Rattle.iova_lock.specs.StepLogs.{Takes, StepLog, StoresPair, Stores, StoresStep, LogGoesOn, GoesOn, unrecorded, recorded, IsLogOf, IsRecorded}
 
 pub takes : (s : State) (st : Step) (m : Point) (r : Reply) (t : State) → r ≡ (next s st m).reply → t ≡ (next s st m).state → Takes s st r t
 unfolding Takes
 takes s st m r t e f = (m, e, f)
 
--- what is stored of a step
-abbrev pub Stores : Option StepLog → Pair → Option StepLog → Type 0
-Stores old pair new =
-    (old ≡ None → new ≡ None)
-    × ((log : StepLog) → old ≡ Some log → (new ≡ Some (record { recording = false; pairs = log.pairs })) ⊎ ((log.recording ≡ true) × (new ≡ Some (record { recording = true; pairs = log.pairs ++ pair ∷ [] }))))
-
 same_domain : (s t : State) → t.bounds ≡ s.bounds → t.workers ≡ s.workers → new_domain t.bounds t.workers ≡ new_domain s.bounds s.workers
 same_domain s t e f = λ i. new_domain (e i) (f i)
 
--- the log ends, or has the pair
-log_goes_on : (s t : State) (st : Step) (m : Point) (r : Reply) (log : StepLog) (new : Option StepLog) → IsLogOf log s → r ≡ (next s st m).reply → t ≡ (next s st m).state
-    → new_domain t.bounds t.workers ≡ new_domain s.bounds s.workers
-    → ((new ≡ Some (record { recording = false; pairs = log.pairs })) ⊎ ((log.recording ≡ true) × (new ≡ Some (record { recording = true; pairs = log.pairs ++ record { step = st; point = m; reply = r } ∷ [] }))))
-    → IsRecorded new t
-log_goes_on s t st m r log new is e f same (inl stops) =
-    subst (λ o. IsRecorded o t) (sym stops) (record { transcript = subst (λ d. IsTranscript d log.pairs) (sym same) is.transcript; leaves = λ (h : false ≡ true). cc })
-log_goes_on s t st m r log new is e f same (inr more) =
+-- the log has the pair, or ends
+log_goes_on : (s t : State) (st : Step) (m : Point) (r : Reply) (log new : StepLog) → IsLogOf log s → r ≡ (next s st m).reply → t ≡ (next s st m).state
+    → new_domain t.bounds t.workers ≡ new_domain s.bounds s.workers → StoresPair log (record { step = st; point = m; reply = r }) new → IsLogOf new t
+log_goes_on s t st m r log new is e f same (inl more) =
     let d = new_domain s.bounds s.workers in
     let p : Pair = record { step = st; point = m; reply = r } in
     let here : after d log.pairs ≡ s = is.leaves more.0 in
     let pushed : IsTranscript d (log.pairs ++ p ∷ []) = transcript_push d log.pairs p is.transcript (e ∙ ap (λ u. (next u st m).reply) (sym here)) in
     let left : after d (log.pairs ++ p ∷ []) ≡ t = after_push d log.pairs p ∙ (ap (λ u. (next u st m).state) here ∙ sym f) in
-    subst (λ o. IsRecorded o t) (sym more.1) (record { transcript = subst (λ u. IsTranscript u (log.pairs ++ p ∷ [])) (sym same) pushed; leaves = λ (h : true ≡ true). ap (λ u. after u (log.pairs ++ p ∷ [])) same ∙ left })
+    subst (λ l. IsLogOf l t) (sym more.2) (record {
+      fits = omega (arith, length_push log.pairs p, more.1);
+      transcript = subst (λ u. IsTranscript u (log.pairs ++ p ∷ [])) (sym same) pushed;
+      leaves = λ (h : true ≡ true). ap (λ u. after u (log.pairs ++ p ∷ [])) same ∙ left;
+    })
+log_goes_on s t st m r log new is e f same (inr stops) =
+    subst (λ l. IsLogOf l t) (sym stops.1) (record { fits = is.fits; transcript = subst (λ d. IsTranscript d log.pairs) (sym same) is.transcript; leaves = λ (h : false ≡ true). cc })
 
 pub recorded_goes_on : (s t : State) (st : Step) (m : Point) (r : Reply) (old new : Option StepLog) → StepsKeepTheDomain → IsRecorded old s → r ≡ (next s st m).reply → t ≡ (next s st m).state
     → Stores old (record { step = st; point = m; reply = r }) new → IsRecorded new t
-recorded_goes_on s t st m r None new kept is e f stores = subst (λ o. IsRecorded o t) (sym (stores.0 refl)) tt
-recorded_goes_on s t st m r (Some log) new kept is e f stores =
+recorded_goes_on s t st m r None new kept is e f stores = subst (λ o. IsRecorded o t) (sym stores) tt
+recorded_goes_on s t st m r (Some log) None kept is e f stores = absurd stores
+recorded_goes_on s t st m r (Some log) (Some new) kept is e f stores =
     let k = kept s st m in
-    log_goes_on s t st m r log new is e f (same_domain s t (ap (λ u. u.bounds) f ∙ k.0) (ap (λ u. u.workers) f ∙ k.1)) (stores.1 log refl)
+    log_goes_on s t st m r log new is e f (same_domain s t (ap (λ u. u.bounds) f ∙ k.0) (ap (λ u. u.workers) f ∙ k.1)) stores
+
+-- What steps make of a log is what any one of them makes of it, none, or some and then others.
+
+pair_goes_on : (old new : StepLog) (p : Pair) → StoresPair old p new → LogGoesOn old new
+pair_goes_on old new p (inl more) = subst (λ l. LogGoesOn old l) (sym more.2) (record {
+  more = p ∷ [];
+  appended = refl;
+  room = refl;
+  full = λ (h : old.recording ≡ true) (k : true ≡ false). cc;
+  ended = λ (h : old.recording ≡ false). cc;
+})
+pair_goes_on old new p (inr stops) = subst (λ l. LogGoesOn old l) (sym stops.1) (record {
+  more = [];
+  appended = sym (append-nil old.pairs);
+  room = refl;
+  full = λ (h : old.recording ≡ true) (k : false ≡ false). is_full stops.0 h;
+  ended = λ (h : old.recording ≡ false). λ i. record { recording = sym h i; room = old.room; pairs = old.pairs };
+})
+  where
+    is_full : (old.recording ≡ false) ⊎ (old.room ≤ length old.pairs) → old.recording ≡ true → old.room ≤ length old.pairs
+    is_full (inl e) h = absurd cc
+    is_full (inr f) h = f
+
+pub stores_goes_on : (old new : Option StepLog) (p : Pair) → Stores old p new → GoesOn old new
+stores_goes_on None new p e = subst (λ o. GoesOn None o) (sym e) unrecorded
+stores_goes_on (Some old) None p e = absurd e
+stores_goes_on (Some old) (Some new) p e = recorded old new (pair_goes_on old new p e)
+
+pub goes_on_here : (o : Option StepLog) → GoesOn o o
+goes_on_here None = unrecorded
+goes_on_here (Some log) =
+    recorded log log (record { more = []; appended = sym (append-nil log.pairs); room = refl; full = λ (h : log.recording ≡ true) (k : log.recording ≡ false). absurd cc; ended = λ (h : log.recording ≡ false). refl })
+
+log_further : (a b c : StepLog) → LogGoesOn a b → LogGoesOn b c → LogGoesOn a c
+log_further a b c h k = record {
+  more = h.more ++ k.more;
+  appended = k.appended ∙ (ap (λ ps. ps ++ k.more) h.appended ∙ append_assoc a.pairs h.more k.more);
+  room = k.room ∙ h.room;
+  full = λ (e : a.recording ≡ true) (f : c.recording ≡ false). of b.recording refl e f;
+  ended = λ (e : a.recording ≡ false). k.ended (ap (λ (l : StepLog). l.recording) (h.ended e) ∙ e) ∙ h.ended e;
+}
+  where
+    of : (r : Bool) → b.recording ≡ r → a.recording ≡ true → c.recording ≡ false → c.room ≤ length c.pairs
+    of true is e f = k.full is f
+    of false is e f = subst (λ (l : StepLog). l.room ≤ length l.pairs) (sym (k.ended is)) (h.full e is)
+
+recorded_further : (a b : StepLog) {c : Option StepLog} → LogGoesOn a b → GoesOn (Some b) c → GoesOn (Some a) c
+recorded_further a b h (recorded x y k) = recorded a y (log_further a b y h k)
+
+pub goes_on_further : {a b c : Option StepLog} → GoesOn a b → GoesOn b c → GoesOn a c
+goes_on_further unrecorded k = k
+goes_on_further (recorded x y h) k = recorded_further x y h k

@@ -23,7 +23,7 @@ use Rattle.iova_lock.specs.declared.ending.Ending.TheVariants as ending
 use Rattle.iova_lock.specs.declared.unmapped.Unmapped.{Unmapped}
 use Rattle.iova_lock.specs.declared.unmapped.Unmapped.TheVariants as unmapped
 use Rattle.iova_sink.specs.Calls.{Call, good_calls}
-use Rattle.iova_lock.specs.StepLogs.{StepLog, IsRecorded}
+use Rattle.iova_lock.specs.StepLogs.{StepLog, IsRecorded, GoesOn}
 
 -- A book: its domain's number, whether it is strict, its domain, and its log; and the totals of its four ledgers, which are the
 -- sums of the shares that all seats and tallies keep.
@@ -116,9 +116,9 @@ stat_of s = record {
   finish = s.flushes.finish;
 }
 
--- a book keeps its number, and whether it is strict
+-- a book keeps its number, whether it is strict, and what it has recorded
 abbrev pub IsSame : BookState → BookState → Type 0
-IsSame old new = (new.number ≡ old.number) × (new.strict ≡ old.strict)
+IsSame old new = (new.number ≡ old.number) × (new.strict ≡ old.strict) × GoesOn old.log new.log
 
 -- the steps of a seat, and those of a tally
 abbrev pub by_seat : Step → Bool
@@ -206,6 +206,18 @@ IsUnmapHeard lo o = ⊥
 abbrev pub IsBeginHeard : Option Reply → Option Reply → Type 0
 IsBeginHeard o None = Unit {0}
 IsBeginHeard o (Some b) = (o ≡ Some (reply.Refused refusal.RingFull)) × IsReplyTo step.Begin b
+
+-- the same in the first hold of a release, also after a range that was queued
+abbrev pub IsReleaseBegin : Option Reply → Option Reply → Type 0
+IsReleaseBegin o None = Unit {0}
+IsReleaseBegin o (Some b) =
+    ((o ≡ Some (reply.Refused refusal.RingFull)) ⊎ ((q : Frames) × (o ≡ Some (reply.Queued q))))
+    × IsReplyTo step.Begin b
+
+-- and in its second hold, after a range that was queued alone
+abbrev pub IsSecondBegin : Option Reply → Option Reply → Type 0
+IsSecondBegin o None = Unit {0}
+IsSecondBegin o (Some b) = ((q : Frames) × (o ≡ Some (reply.Queued q))) × IsReplyTo step.Begin b
 
 -- what the last closing of a hold may be heard to answer
 abbrev pub IsCloseHeard : Option Reply → Type 0

@@ -5,7 +5,7 @@ ghost use Rattle.iova_range.specs.Frames.{Frames};
 ghost use Rattle.iova_model.specs.Clients.{totals, client_of};
 ghost use Rattle.iova_model.specs.State.{State, new_domain};
 ghost use Rattle.iova_model.specs.Laws.{MovesTotals, IsReplyTo, ended_well, to_queue, worker_of};
-ghost use Rattle.iova_lock.specs.StepLogs.{Takes, StepLog, IsGivenWithin, IsDrainReply, IsRecorded, is_recording};
+ghost use Rattle.iova_lock.specs.StepLogs.{Takes, StepLog, IsGivenWithin, IsDrainReply, IsRecorded, is_recording, new_log};
 ghost use Rattle.iova_lock.specs.Events.{Does, Unmapping, IsShort, Closing, Draining, rings_from};
 ghost use Rattle.iova_lock.specs.Views.{BookState, TallyState, SeatState, Covers, IsSame, by_seat, by_tally, new_book, new_seats, left_of, stat_of, nothing, IsLowered, IsCloseHeard, IsKept, IsBook};
 
@@ -55,7 +55,7 @@ impl<C: Ledger, F: Ledger, S: Ledger, G: Ledger> Model for Book<C, F, S, G> {
     ghost invariant = { λ b. (b.count.total ≡ (totals b.machine.state.clients).count)
         × (b.frames.total ≡ (totals b.machine.state.clients).frames)
         × (b.sum_lo.total ≡ (totals b.machine.state.clients).sum_lo)
-        × (b.good.total ≡ b.machine.state.flushes.good) };
+        × (b.good.total ≡ b.machine.state.flushes.good) × (b.machine.state.workers ≡ C.parts) };
 }
 
 impl<C: Ledger, F: Ledger, S: Ledger, G: Ledger> Book<C, F, S, G> {
@@ -121,7 +121,7 @@ impl<C: Ledger, F: Ledger, S: Ledger, G: Ledger> Book<C, F, S, G> {
             × (sum_lo.parts ≡ S.parts) × (sum_lo.parts ≡ workers) }
         requires good { 1 ≤ workers → workers ≤ MAX_WORKERS → (good.name ≡ G.name) × (good.parts ≡ G.parts)
             × (good.parts ≡ TALLY_PARTS * workers) }
-        ensures ok { IfOk result (λ r. (r.0 ≡ new_book number bounds workers (Some (record { recording = true; pairs = [] })))
+        ensures ok { IfOk result (λ r. (r.0 ≡ new_book number bounds workers (Some (new_log pairs)))
             × (r.1.items ≡ new_seats workers)) }
         ensures workers { (result ≡ Err Refusal.NoWorker) ↔ ((workers ≡ 0) ⊎ (MAX_WORKERS < workers)) }
         ensures memory { IsErr result → (result ≡ Err Refusal.NoWorker) ⊎ (result ≡ Err Refusal.NoMemory) }
@@ -155,8 +155,10 @@ impl<C: Ledger, F: Ledger, S: Ledger, G: Ledger> Book<C, F, S, G> {
 
     /// What every book keeps, whoever holds it: so whatever a thread finds under the lock, and whatever it leaves there.
     pub fn is_kept(&self)
-        ensures { IsBook self.now }
+        ensures is { IsBook self.now }
+        ensures workers { self.now.state.workers ≡ C.parts }
     {
+        // for the proof: what the domain keeps, and that its log is a transcript
         self.machine.is_kept();
         let _pairs = self.machine.pairs();
     }
@@ -209,6 +211,7 @@ impl<C: Ledger, F: Ledger, S: Ledger, G: Ledger> Book<C, F, S, G> {
         ensures some { 1 ≤ result }
         ensures few { result ≤ MAX_WORKERS }
     {
+        // for the proof: what the domain keeps
         self.machine.is_kept();
         self.machine.workers()
     }
@@ -240,6 +243,7 @@ impl<C: Ledger, F: Ledger, S: Ledger, G: Ledger> Book<C, F, S, G> {
             (client_of worker id self.now.state.clients) }
         ensures few { IfSome (option_copied result) (λ held. length held ≤ MAX_HOLDINGS) }
     {
+        // for the proof: what the domain keeps
         self.machine.is_kept();
         self.machine.holdings(worker, id)
     }
@@ -247,7 +251,9 @@ impl<C: Ledger, F: Ledger, S: Ledger, G: Ledger> Book<C, F, S, G> {
     pub(crate) fn into_domain(self) -> Domain
         ensures is { result ≡ self.state }
         ensures kept { IsKept result }
+        ensures workers { result.workers ≡ C.parts }
     {
+        // for the proof: what the domain keeps
         self.machine.is_kept();
         let Book {
             number: _,
@@ -394,6 +400,7 @@ impl<C: Ledger, F: Ledger, S: Ledger, G: Ledger> Book<C, F, S, G> {
                 self.count.audit(&mut seat.counted);
                 self.frames.audit(&mut seat.framed);
                 self.sum_lo.audit(&mut seat.summed);
+                // for the proof: no total is too great for its number
                 let _ = self.machine.totals();
                 seat.held.count += 1;
                 seat.held.frames += range.len();
@@ -425,6 +432,7 @@ impl<C: Ledger, F: Ledger, S: Ledger, G: Ledger> Book<C, F, S, G> {
         if ends_well(step, &reply) {
             self.good.add(&mut tally.share, 1);
             self.good.audit(&mut tally.share);
+            // for the proof: nor is the number of good flushes
             let _ = self.machine.good();
             tally.good += 1;
         }

@@ -5,7 +5,7 @@ ghost use Rattle.iova_range.specs.Frames.{Frames};
 ghost use Rattle.iova_model.specs.Clients.{totals};
 ghost use Rattle.iova_model.specs.State.{State};
 ghost use Rattle.iova_model.specs.Laws.{MovesTotals, IsReplyTo, ended_well};
-ghost use Rattle.iova_lock.specs.Views.{TallyState, SeatState, WhereKnown, IsOpenRefusal, IsAllocRefusal, IsGivenTo, IsUnmapHeard, IsBeginHeard, IsCloseHeard, MovesHeard, Lowers, queued_by, given_or, stat_of, IsKept};
+ghost use Rattle.iova_lock.specs.Views.{TallyState, SeatState, WhereKnown, IsOpenRefusal, IsAllocRefusal, IsGivenTo, IsUnmapHeard, IsBeginHeard, IsReleaseBegin, IsSecondBegin, IsCloseHeard, MovesHeard, Lowers, queued_by, given_or, stat_of, IsKept};
 ghost use Rattle.iova_lock.specs.Batches.{DoesBatch, TellsAsks};
 ghost use Rattle.iova_lock.specs.Releases.{ReleasesFirst, ReleasesAgain, ReleasesLast};
 ghost use Rattle.iova_lock.specs.Answers.{Opens, Allocs, UnmapsFirst, UnmapsAgain, Begins, Ends, ClosesFirst, ClosesAgain, Leaves, RaisesByEnd, DrainsAll, ReadsHoldings};
@@ -118,7 +118,8 @@ pub trait Keep<C: Ledger, F: Ledger, S: Ledger, G: Ledger> {
             (RaisesByEnd seat.old.tally.good seat.new.tally.good no ok) }
         ensures parts { seat.new.tally.parts ≡ seat.old.tally.parts }
         ensures heard { IsUnmapHeard lo result.reply }
-        ensures queued { MatchOption result.reply ⊥ (λ r. result.queued ≡ queued_by r) };
+        ensures queued { MatchOption result.reply ⊥ (λ r. result.queued ≡ queued_by r) }
+        ensures begun { result.begun ≡ None };
 
     /// The first hold of a flush: it begins. Refused by `FlightsFull` and `Worn`.
     fn begin(&mut self, tally: &mut Tally<G>) -> Heard
@@ -180,7 +181,8 @@ pub trait Keep<C: Ledger, F: Ledger, S: Ledger, G: Ledger> {
         ensures seat { MovesHeard result.reply seat.old.held seat.new.held }
         ensures rest { (seat.new.worker ≡ seat.old.worker) × (seat.new.tally ≡ seat.old.tally) }
         ensures heard { IsUnmapHeard lo result.reply }
-        ensures queued { MatchOption result.reply ⊥ (λ r. result.queued ≡ queued_by r) };
+        ensures queued { MatchOption result.reply ⊥ (λ r. result.queued ≡ queued_by r) }
+        ensures begun { IsReleaseBegin result.reply result.begun };
 
     /// The hold of a release after a ring that was full: the flush ends, as `ok` says, and the unmap is tried again; where it
     /// queued a range in a strict domain, a second flush begins. `ok` is what a sink answered for the first one.
@@ -205,9 +207,10 @@ pub trait Keep<C: Ledger, F: Ledger, S: Ledger, G: Ledger> {
             (RaisesByEnd seat.old.tally.good seat.new.tally.good no ok) }
         ensures parts { seat.new.tally.parts ≡ seat.old.tally.parts }
         ensures heard { IsUnmapHeard lo result.reply }
-        ensures queued { MatchOption result.reply ⊥ (λ r. result.queued ≡ queued_by r) };
+        ensures queued { MatchOption result.reply ⊥ (λ r. result.queued ≡ queued_by r) }
+        ensures begun { IsSecondBegin result.reply result.begun };
 
-    /// The last hold of a release, behind a range that was queued: the flush ends, as `ok` says, and the worker's ring is
+    /// The last hold of a release, after a range that was queued: the flush ends, as `ok` says, and the worker's ring is
     /// drained. Whether the finish count is at least the flush's number then, and the ring was drained. `ok` is what a sink
     /// answered for this flush.
     fn release_last(&mut self, seat: &mut Seat<C, F, S, G>, no: u64, ok: bool) -> bool
@@ -251,8 +254,8 @@ pub trait Keep<C: Ledger, F: Ledger, S: Ledger, G: Ledger> {
             × (seat.new ≡ seat.old)) }
         ensures rest { (seat.new.worker ≡ seat.old.worker) × (seat.new.tally ≡ seat.old.tally) };
 
-    /// Appends the holdings of the seat's client, at most 4,096, rising by first frame. Refused by `NoClient` and `NoMemory`; then nothing
-    /// is appended.
+    /// Appends the holdings of the seat's client, at most 4,096, rising by first frame. Refused by `NoClient` and `NoMemory`;
+    /// then nothing is appended.
     fn holdings(
         &self,
         seat: &Seat<C, F, S, G>,

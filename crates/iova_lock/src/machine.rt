@@ -5,7 +5,7 @@ ghost use Rattle.iova_model.specs.Clients.{totals, client_of};
 ghost use Rattle.iova_model.specs.State.{State, new_domain};
 ghost use Rattle.iova_model.specs.Laws.{MovesTotals, IsReplyTo, ended_well, to_queue, worker_of};
 ghost use Rattle.iova_model.specs.Transcript.{Pair};
-ghost use Rattle.iova_lock.specs.StepLogs.{Takes, StepLog, MachineState, IsGivenWithin, IsDrainReply, IsRecorded, is_recording};
+ghost use Rattle.iova_lock.specs.StepLogs.{Takes, StepLog, MachineState, IsGivenWithin, IsDrainReply, IsRecorded, is_recording, new_log, StoresPair, Stores, StoresStep, GoesOn};
 ghost use Rattle.iova_model.specs.declared.step.Step.{Step};
 ghost use Rattle.iova_lock.specs.Views.{Covers, left_of, stat_of, IsKept};
 
@@ -53,16 +53,17 @@ pub(crate) struct Log {
 }
 
 impl Model for Log {
+    ghost use Rattle.std.specs.Prelude.{vec_capacity};
     ghost use Rattle.iova_lock.specs.StepLogs.{StepLog};
 
     ghost Value = { StepLog };
 
-    ghost view = { λ l. record { recording = l.recording; pairs = l.pairs.items } };
+    ghost view = { λ l. record { recording = l.recording; room = vec_capacity l.pairs; pairs = l.pairs.items } };
 }
 
 impl Log {
     pub(crate) fn with_room(alloc: Global, pairs: usize) -> Result<Log, Refusal>
-        ensures ok { IfOk result (λ l. l ≡ record { recording = true; pairs = [] }) }
+        ensures ok { IfOk result (λ l. l ≡ new_log pairs) }
         ensures err { IfErr result (λ e. e ≡ Refusal.NoMemory) }
     {
         match Vec::with_capacity(alloc, pairs) {
@@ -114,8 +115,7 @@ impl Machine {
     ) -> Result<Machine, Refusal>
         ensures ok { IfOk result (λ m. m ≡ record {
           state = new_domain bounds workers;
-          log = Some
-              (record { recording = true; pairs = [] });
+          log = Some (new_log pairs);
         }) }
         ensures workers { (result ≡ Err Refusal.NoWorker) ↔ ((workers ≡ 0) ⊎ (MAX_WORKERS < workers)) }
         ensures memory { IsErr result → (result ≡ Err Refusal.NoWorker) ⊎ (result ≡ Err Refusal.NoMemory) }
@@ -132,6 +132,8 @@ impl Machine {
     #[inline]
     pub(crate) fn step(&mut self, step: Step) -> Reply
         ensures takes { Takes self.old.state step result self.new.state }
+        ensures stores { StoresStep self.old.log step result self.new.log }
+        ensures goes_on { GoesOn self.old.log self.new.log }
         ensures moves { MovesTotals result (totals self.old.state.clients) (totals self.new.state.clients) }
         ensures good { self.new.state.flushes.good ≡ self.old.state.flushes.good + ended_well step result }
         ensures kind { IsReplyTo step result }
@@ -140,13 +142,14 @@ impl Machine {
         ensures workers { self.new.state.workers ≡ self.old.state.workers }
         ensures held { (r : Frames) → result ≡ Reply.Queued r → to_queue self.old.state step ≡ Some r }
     {
+        // for the proof: how a step moves the ledgers and the good flushes, how it is answered, what it queues, gives and
+        // keeps; and that the state is valid
         steps_move_ledgers();
         steps_move_good();
         steps_are_answered_in_kind();
         queued_were_held();
         requests_are_answered();
         steps_keep_the_domain();
-        // says that the state is valid
         let _workers = self.domain.workers();
         let answer = self.domain.step_at(step);
         let reply = answer.0;
@@ -193,6 +196,7 @@ impl Machine {
     pub(crate) fn is_kept(&self)
         ensures { IsKept self.now.state }
     {
+        // for the proof: a run from a new domain keeps the promises
         promises_are_kept();
         let _workers = self.domain.workers();
     }
@@ -294,11 +298,7 @@ fn pair_of(step: Step, point: Point, reply: Reply) -> Stored
 /// Stores a pair where there is a log.
 #[inline]
 fn store(log: &mut Option<Log>, pair: Stored)
-    ensures none { log.old ≡ None → log.new ≡ None }
-    ensures some { (kept : StepLog) → log.old ≡ Some kept
-        → (log.new ≡ Some (record { recording = false; pairs = kept.pairs }))
-        ⊎ ((kept.recording ≡ true) × (log.new ≡ Some
-        (record { recording = true; pairs = kept.pairs ++ pair ∷ [] }))) }
+    ensures { Stores log.old pair log.new }
 {
     if let Some(log) = log {
         log.store(pair);
@@ -308,12 +308,10 @@ fn store(log: &mut Option<Log>, pair: Stored)
 impl Log {
     /// Stores a pair where there is room, and else records no more.
     fn store(&mut self, pair: Stored)
-        ensures { (self.new ≡ record { recording = false; pairs = self.old.pairs })
-            ⊎ ((self.old.recording ≡ true)
-            × (self.new ≡ record { recording = true; pairs = self.old.pairs ++ pair ∷ [] })) }
+        ensures { StoresPair self.old pair self.new }
     {
         if self.recording && self.pairs.len() < self.pairs.capacity() {
-            self.pairs.push(pair).unwrap();
+            self.pairs.push_reserved(pair);
         } else {
             self.recording = false;
         }

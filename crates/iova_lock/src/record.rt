@@ -1,26 +1,24 @@
 //! What a recorded domain has recorded, written as a trace.
-ghost use Rattle.std.specs.Prelude.{◌≡◌, ℕ, List, ◌++◌, Err, IfOk, IfErr, OnOk, OnErr, map, flat_map};
-ghost use Rattle.iova_trace.specs.Lines.{step_line};
-ghost use Rattle.iova_lock.specs.Records.{HasRecorded, IsTranscriptOf, pairs_in};
+ghost use Rattle.std.specs.Prelude.{◌≡◌, ℕ, List, ◌++◌, Err, IfOk, OnOk, OnErr};
+ghost use Rattle.iova_lock.specs.Records.{HasRecorded, WritesLog, steps_text, AreSteps, TranscriptsReplay};
 
 use crate::book::Book;
 use crate::machine::{Machine, Stored};
 use iova_range::refusal::Refusal;
 use iova_trace::line::{write_header, write_step};
+use iova_trace::recorded::records_replay;
 use std::sync::ledger::Ledger;
-
-/// The most steps that a domain may be asked to record. Own.
-pub const MAX_PAIRS: usize = 4_000_000;
 
 impl<C: Ledger, F: Ledger, S: Ledger, G: Ledger> Book<C, F, S, G> {
     /// Appends what was recorded, as a trace: the header's line and a line for each step; of a domain that isn't recorded the
     /// header alone. Gives the number of steps. What is recorded is a transcript from the new domain, so the promises hold of
-    /// it. Refused by `NoMemory`, which appends nothing.
+    /// it; and of at most 1,000,000 steps it is a trace. Refused by `NoMemory`, which appends nothing.
     pub fn transcript(&self, out: &mut Vec<u8>) -> Result<u64, Refusal>
-        ensures recorded { IfOk result (HasRecorded out.old.items out.new.items) }
-        ensures ok { IfOk result (IsTranscriptOf self.now.state.bounds self.now.state.workers (pairs_in self.now.log) out.old.items out.new.items) }
+        ensures recorded { IfOk result (HasRecorded self.now.state.workers out.old.items out.new.items) }
+        ensures ok { WritesLog self.now.state self.now.log out.old.items out.new.items result }
         ensures err { OnErr result ((result ≡ Err Refusal.NoMemory) × (out.new.items ≡ out.old.items)) }
     {
+        // for the proof: what every book keeps
         self.is_kept();
         self.machine_of().transcript(out)
     }
@@ -29,7 +27,7 @@ impl<C: Ledger, F: Ledger, S: Ledger, G: Ledger> Book<C, F, S, G> {
 impl Machine {
     /// The same.
     pub(crate) fn transcript(&self, out: &mut Vec<u8>) -> Result<u64, Refusal>
-        ensures ok { IfOk result (IsTranscriptOf self.now.state.bounds self.now.state.workers (pairs_in self.now.log) out.old.items out.new.items) }
+        ensures ok { WritesLog self.now.state self.now.log out.old.items out.new.items result }
         ensures err { OnErr result ((result ≡ Err Refusal.NoMemory) × (out.new.items ≡ out.old.items)) }
     {
         let before = out.len();
@@ -44,8 +42,9 @@ impl Machine {
 
     /// The same, but that a part of it may stand in `out` where memory is refused.
     fn write_record(&self, out: &mut Vec<u8>) -> Result<u64, Refusal>
-        ensures ok { IfOk result (IsTranscriptOf self.now.state.bounds self.now.state.workers (pairs_in self.now.log) out.old.items out.new.items) }
-        ensures err { OnErr result ((result ≡ Err Refusal.NoMemory) × ((part : List ℕ) × (out.new.items ≡ out.old.items ++ part))) }
+        ensures ok { WritesLog self.now.state self.now.log out.old.items out.new.items result }
+        ensures err { OnErr result ((result ≡ Err Refusal.NoMemory)
+            × ((part : List ℕ) × (out.new.items ≡ out.old.items ++ part))) }
     {
         match write_header(&self.bounds(), self.workers(), out) {
             Ok(()) => {}
@@ -61,10 +60,20 @@ impl Machine {
     }
 }
 
+/// What `transcript` appends, of at most 1,000,000 steps, is replayed to the stored replies and the state that they leave, where
+/// memory was refused neither then nor in the replay.
+pub fn transcripts_replay()
+    ensures { TranscriptsReplay }
+{
+    records_replay();
+}
+
 /// Appends a line for each step.
 fn write_steps(pairs: &[Stored], out: &mut Vec<u8>) -> Result<(), Refusal>
-    ensures ok { OnOk result (out.new.items ≡ out.old.items ++ flat_map step_line (map (λ p. p.step) pairs.now)) }
-    ensures err { OnErr result ((result ≡ Err Refusal.NoMemory) × ((part : List ℕ) × (out.new.items ≡ out.old.items ++ part))) }
+    ensures ok { OnOk result (out.new.items ≡ out.old.items ++ steps_text pairs.now) }
+    ensures steps { OnOk result (AreSteps pairs.now) }
+    ensures err { OnErr result ((result ≡ Err Refusal.NoMemory)
+        × ((part : List ℕ) × (out.new.items ≡ out.old.items ++ part))) }
 {
     for pair in pairs {
         match write_step(&pair.step, out) {

@@ -17,10 +17,12 @@ use iova_sink::sink::Sink;
 use std::sync::ledger::Ledger;
 
 /// Unmaps the client's range that begins at `lo`, as `unmap` does. In a strict domain it then flushes and drains the worker's
-/// ring: `Freed` where the finish count is at least the number of that flush then, so where it ended well and none is in
-/// flight that began before it; else `Queued`, and the range waits for a later flush, as in every other domain. Where the ring
-/// is full it flushes first, and tries once more. Refused by `NoClient`, `Closing` and `NotHeld`, and by `RingFull` where the
-/// ring stays full or no flush begins; then the range is still the client's. Own.
+/// ring: `Freed` where the finish count, once that flush has ended, is at least its number, so that it, or one that began
+/// later, has ended well; else `Queued`, and the range waits for a later flush, as in every other domain. It is `Freed` where
+/// the flush ended well and none is in flight that began before it; with an older one in flight, or where the flush itself
+/// failed, only if enough later ones have ended well. Where the ring is full it flushes first, and tries once more. Refused by
+/// `NoClient`, `Closing` and `NotHeld`, and by `RingFull` where the ring stays full or no flush begins; then the range is still
+/// the client's. Own.
 pub fn release<C: Ledger, F: Ledger, S: Ledger, G: Ledger, K: Keep<C, F, S, G>, D: Sink>(
     keeper: &mut K,
     seat: &mut Seat<C, F, S, G>,
@@ -79,7 +81,7 @@ fn try_again<C: Ledger, F: Ledger, S: Ledger, G: Ledger, K: Keep<C, F, S, G>, D:
     }
 }
 
-/// What becomes of a range that was queued: where a flush began behind it, the sink is called, and the last hold ends that
+/// What becomes of a range that was queued: where a flush began after it, the sink is called, and the last hold ends that
 /// flush and drains the ring.
 fn follow<C: Ledger, F: Ledger, S: Ledger, G: Ledger, K: Keep<C, F, S, G>, D: Sink>(
     keeper: &mut K,

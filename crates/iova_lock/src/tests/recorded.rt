@@ -1,7 +1,7 @@
 //! Recorded domains: what is recorded of calls, when recording ends, and what its replay prints.
 ghost use Rattle.std.specs.Prelude.{◌≡◌, ◌*◌, ◌≤◌};
 ghost use Rattle.iova_range.specs.declared.limits.TheConstants.{TALLY_PARTS};
-ghost use Rattle.iova_lock.specs.declared.record.TheConstants.{MAX_PAIRS};
+ghost use Rattle.iova_range.specs.declared.limits.TheConstants.{MAX_PAIRS};
 
 use crate::calls;
 use crate::closing::end_client;

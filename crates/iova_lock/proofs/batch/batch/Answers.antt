@@ -1,5 +1,10 @@
+use Rattle.std.proofs.Common.{refl}
 use Rattle.iova_lock.proofs.Batches.{tells_of_asked}
+use Rattle.iova_lock.proofs.StepLogs.{goes_on_here}
 use Rattle.iova_lock.proofs.batch.batch.Goals as goal
+
+pub returns-then-is_err-clause-rest : goal.returns-then-is_err-clause-rest
+returns-then-is_err-clause-rest g c = ((refl, refl, goes_on_here _), refl, refl)
 
 pub returns-clause-told : goal.returns-clause-told
 returns-clause-told g c =

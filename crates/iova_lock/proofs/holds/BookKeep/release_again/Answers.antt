@@ -1,6 +1,6 @@
 use Rattle.std.proofs.Common.{◌≡◌, ◌∙◌, ap}
 use Rattle.iova_lock.specs.Views.{SeatState}
-use Rattle.iova_lock.proofs.Releases.{again_with, again_without}
+use Rattle.iova_lock.proofs.Releases.{again_with, again_without, second_begun}
 use Rattle.iova_lock.proofs.holds.BookKeep.release_again.Goals.{then-queued_strictly, else-queued_strictly}
 use Rattle.iova_lock.proofs.holds.BookKeep.release_again.Goals as goal
 
@@ -15,4 +15,12 @@ returns-clause-domain g c =
           (again_with _ _ _ _ _ _ _ _ _ _ _ _ c.run_flush-ended.ensures.takes (rw w.if-queued_strictly.true at flush) does w.run_flush.ensures.takes)
       | else-queued_strictly w ↦ rw (w.begun-is, w.self-is)
           (again_without _ _ _ _ _ _ _ _ _ _ c.run_flush-ended.ensures.takes (rw w.if-queued_strictly.false at flush) does)
+    ]
+
+pub returns-clause-begun : goal.returns-clause-begun
+returns-clause-begun g c =
+    let flush = c.queued_strictly.ensures in
+    elim c.if-queued_strictly.branch [
+      | then-queued_strictly w ↦ rw w.begun-is (second_begun c.is_strict.result _ _ (rw w.if-queued_strictly.true at flush) w.run_flush.ensures.kind)
+      | else-queued_strictly w ↦ rw w.begun-is tt
     ]

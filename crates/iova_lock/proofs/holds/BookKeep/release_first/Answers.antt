@@ -1,5 +1,5 @@
 use Rattle.std.proofs.Common.{◌≡◌, ◌∙◌}
-use Rattle.iova_lock.proofs.Releases.{first_with, first_without}
+use Rattle.iova_lock.proofs.Releases.{first_with, first_without, release_begun}
 use Rattle.iova_lock.proofs.holds.BookKeep.release_first.Goals.{then-flush_follows, else-flush_follows}
 use Rattle.iova_lock.proofs.holds.BookKeep.release_first.Goals as goal
 
@@ -11,4 +11,12 @@ returns-clause-domain g c =
     elim c.if-flush_follows.branch [
       | then-flush_follows w ↦ rw (w.begun-is, w.self-is) (first_with _ _ _ _ _ _ _ _ (rw w.if-flush_follows.true at flush) does w.run_flush.ensures.takes)
       | else-flush_follows w ↦ rw (w.begun-is, w.self-is) (first_without _ _ _ _ _ _ (rw w.if-flush_follows.false at flush) does)
+    ]
+
+pub returns-clause-begun : goal.returns-clause-begun
+returns-clause-begun g c =
+    let flush = c.flush_follows.ensures in
+    elim c.if-flush_follows.branch [
+      | then-flush_follows w ↦ rw w.begun-is (release_begun c.is_strict.result _ _ (rw w.if-flush_follows.true at flush) w.run_flush.ensures.kind)
+      | else-flush_follows w ↦ rw w.begun-is tt
     ]
