@@ -1,5 +1,4 @@
 mod Answering
 mod Copying
 mod Lined
-mod PutMore
 mod SentParts

@@ -12,7 +12,7 @@ use Rattle.std.proofs.lemmas.Grind.{flat_map-append}
 use Rattle.iova_range.specs.declared.limits.TheConstants.{MAX_RUN, MAX_LINE}
 use Rattle.iova_text.specs.Lines.{HasNoLf, is_not_lf, IsOverlong, IsUnended, whole_line}
 use Rattle.iova_ask.specs.Asking.{AreLines, AreLinesAnd, AreOpen, EndByBye, IsLine, bye, lines_text}
-use Rattle.iova_ask.specs.Runs.{IsGathered, IsRun, IsStuck}
+use Rattle.iova_ask.specs.Runs.{IsRun, IsStuck}
 use Rattle.iova_ask.specs.declared.gather.Run.{Run}
 
 pub take_front : (xs ys : List ℕ) → take (length xs) (xs ++ ys) ≡ xs
@@ -54,6 +54,14 @@ open_push ls l are is not = record { lines = all_push IsLine ls l are.lines is; 
 
 pub open_append : (ls ms : List (List ℕ)) → AreOpen ls → AreOpen ms → AreOpen (ls ++ ms)
 open_append ls ms a b = record { lines = all_append IsLine ls ms a.lines b.lines; byes = all_append (λ m. m ≢ bye) ls ms a.byes b.byes }
+
+-- the lines gathered so far
+pub record IsGathered (bytes rest : List ℕ) (len count : ℕ) : Type 0 where
+  pub lines : List (List ℕ)
+  pub good : AreOpen lines
+  pub whole : bytes ≡ lines_text lines ++ rest
+  pub len_is : len ≡ length (lines_text lines)
+  pub count_is : count ≡ length lines
 
 pub gathered_none : (bytes : List ℕ) → IsGathered bytes bytes 0 0
 gathered_none bytes = record { lines = []; good = record { lines = tt; byes = tt }; whole = ap (λ (t : List ℕ). t ++ bytes) (sym lines_text-none); len_is = ap length (sym lines_text-none); count_is = refl }
@@ -199,7 +207,7 @@ pub lines_of_run : (b : Bool) (ms : List (List ℕ)) → MatchBool b (EndByBye m
 lines_of_run true ms h = lines_of_bye ms h
 lines_of_run false ms h = h.lines
 
--- what is sent of a run behind lines that were sent
+-- what is sent of a run after lines that were sent
 pub more_sent : (p q r : Option (List ℕ)) (ls ms : List (List ℕ)) → Appends p q (lines_text ls) → Appends q r (lines_text ms) → Appends p r (lines_text (ls ++ ms))
 more_sent p q r ls ms a b = subst (Appends p r) (sym (lines_text-append ls ms)) (Appends-trans p q r (lines_text ls) (lines_text ms) a b)
 

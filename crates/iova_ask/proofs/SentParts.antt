@@ -35,7 +35,7 @@ asks_broken old new before now p q fault.Write not ls good begin n sent = (ls, g
 asks_broken old new before now p q fault.Link not ls good begin n sent = (ls, good, begin, (n, sent))
 asks_broken old new before now p q fault.NoMemory not ls good begin n sent = (ls, good, begin, (n, sent))
 
--- behind lines that were sent
+-- after lines that were sent
 
 pub more_lines : (taken mid new : List ℕ) (ls ms : List (List ℕ)) → AreLinesAnd taken mid ls → AreLinesAnd mid new ms → AreLinesAnd taken new (ls ++ ms)
 more_lines taken mid new ls ms a b = record {

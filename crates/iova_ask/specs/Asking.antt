@@ -43,7 +43,7 @@ pub record AreLinesAnd (bytes rest : List ℕ) (ls : List (List ℕ)) : Type 0 w
   pub good : AreOpen ls
   pub whole : bytes ≡ lines_text ls ++ rest
 
--- The input, of which this is left, was taken as far as its first bye, or it ended: behind its lines, or inside one, which got
+-- The input, of which this is left, was taken as far as its first bye, or it ended: after its lines, or inside one, which got
 -- an LF.
 abbrev pub IsWhole : List ℕ → Option (List ℕ) → List (List ℕ) → Type 0
 IsWhole taken left ls = (EndByBye ls × BeginWith taken ls) ⊎ (IsAtEnd left × (AreLinesAnd taken [] ls

@@ -13,7 +13,7 @@ use Rattle.iova_ask.specs.declared.fault.AskFault.TheVariants as fault
 abbrev pub IsStuck : List ℕ → Type 0
 IsStuck rest = IsUnended rest ⊎ IsOverlong rest
 
--- the lines of a run, and what stands behind them
+-- the lines of a run, and what stands after them
 pub record IsRun (bytes : List ℕ) (run : Run) : Type 0 where
   pub lines : List (List ℕ)
   pub rest : List ℕ
@@ -23,14 +23,6 @@ pub record IsRun (bytes : List ℕ) (run : Run) : Type 0 where
   pub few : run.lines ≤ MAX_RUN
   pub byes : MatchBool run.is_last (EndByBye lines) (AreOpen lines)
   pub stuck : run.lines ≡ 0 → IsStuck rest
-
--- so far
-pub record IsGathered (bytes rest : List ℕ) (len count : ℕ) : Type 0 where
-  pub lines : List (List ℕ)
-  pub good : AreOpen lines
-  pub whole : bytes ≡ lines_text lines ++ rest
-  pub len_is : len ≡ length (lines_text lines)
-  pub count_is : count ≡ length lines
 
 -- What was sent of the bytes at hand, where `sent` lines had been sent, and the answer.
 abbrev pub Asks : List ℕ → List ℕ → ℕ → ℕ → Option (List ℕ) → Option (List ℕ) → Result Bool AskFault → Type 0

@@ -16,7 +16,7 @@ use std::io::Write;
 
 /// What is still to come of answers.
 #[derive(Clone, Copy)]
-pub struct Owed {
+pub(crate) struct Owed {
     /// Lines that go on an answer that has begun.
     pub ranges: u64,
     /// Answers that haven't begun.
@@ -24,7 +24,7 @@ pub struct Owed {
 }
 
 /// Copies so many answers, as they come: what is at hand is written before each read.
-pub fn copy_answers<W: Write, L: Link>(
+pub(crate) fn copy_answers<W: Write, L: Link>(
     writer: &mut W,
     link: &mut L,
     held: &mut Buffer,

@@ -9,11 +9,11 @@ use std::alloc::Global;
 use std::marker::Model;
 
 /// How many bytes one read asks for at most.
-pub const PIECE: usize = 4096;
+pub(crate) const PIECE: usize = 4096;
 
 /// Bytes, in the order in which they came.
 #[derive(Drop)]
-pub struct Buffer {
+pub(crate) struct Buffer {
     bytes: Vec<u8>,
     from: usize,
 }
@@ -29,8 +29,8 @@ impl Model for Buffer {
 }
 
 impl Buffer {
-    /// No bytes, with room for what a read gives behind a part of a line.
-    pub fn new(alloc: Global) -> Result<Buffer, AskFault>
+    /// No bytes, with room for what a read gives after a part of a line.
+    pub(crate) fn new(alloc: Global) -> Result<Buffer, AskFault>
         ensures ok { IfOk result (λ b. b ≡ []) }
         ensures err { OnErr result (result ≡ Err AskFault.NoMemory) }
     {
@@ -40,22 +40,22 @@ impl Buffer {
         }
     }
 
-    pub fn as_slice(&self) -> &[u8]
+    pub(crate) fn as_slice(&self) -> &[u8]
         ensures { result.now ≡ self.now }
     {
         &self.bytes.as_slice()[self.from..]
     }
 
     /// Uses up the first `n` bytes.
-    pub fn pass(&mut self, n: usize)
+    pub(crate) fn pass(&mut self, n: usize)
         requires { n ≤ length self.old }
         ensures { self.new ≡ drop n self.old }
     {
         self.from += n;
     }
 
-    /// Adds the piece behind a part of a line.
-    pub fn add(&mut self, piece: &[u8]) -> Result<(), AskFault>
+    /// Adds the piece after a part of a line.
+    pub(crate) fn add(&mut self, piece: &[u8]) -> Result<(), AskFault>
         requires { length self.old < MAX_LINE }
         ensures ok { OnOk result (self.new ≡ self.old ++ piece.now) }
         ensures err { OnErr result (result ≡ Err AskFault.NoMemory) }

@@ -6,7 +6,7 @@ use iova_text::line::cut_line;
 
 /// Lines that are sent together.
 #[derive(Clone, Copy)]
-pub struct Run {
+pub(crate) struct Run {
     /// How many bytes they have, with their LFs.
     pub len: usize,
     /// How many they are.
@@ -16,14 +16,14 @@ pub struct Run {
 }
 
 /// The whole lines at the front of the bytes, at most 16, up to the first `bye`, and before a line of more than 128 bytes.
-pub fn gather(bytes: &[u8]) -> Run
+pub(crate) fn gather(bytes: &[u8]) -> Run
     ensures { IsRun bytes.now result }
 {
     let mut rest = bytes;
     let mut len = 0;
     let mut lines = 0;
     while lines < MAX_RUN {
-        let Some((line, behind)) = cut_line(rest) else {
+        let Some((line, after)) = cut_line(rest) else {
             return Run {
                 len,
                 lines: lines as u64,
@@ -39,7 +39,7 @@ pub fn gather(bytes: &[u8]) -> Run
         }
         len += line.len() + 1;
         lines += 1;
-        rest = behind;
+        rest = after;
         if line == b"bye".as_slice() {
             return Run {
                 len,

@@ -7,10 +7,10 @@ ghost use Rattle.iova_text.specs.Lines.{IsUnended};
 ghost use Rattle.iova_ask.specs.Asking.{Breaks, Sends};
 ghost use Rattle.iova_ask.specs.Runs.{Asks, Copies, CopiesMore, Rests};
 
-pub mod answers;
-pub mod buffer;
+mod answers;
+mod buffer;
 pub mod fault;
-pub mod gather;
+mod gather;
 #[cfg(test)]
 mod tests;
 
@@ -19,7 +19,7 @@ use crate::buffer::{Buffer, PIECE};
 use crate::fault::AskFault;
 use crate::gather::gather;
 use iova_range::limits::{MAX_LINE, MAX_READS};
-use iova_session::link::{Link, LinkFault};
+use iova_session::link::{Link, LinkFault, put_all};
 use std::alloc::Global;
 use std::io;
 use std::io::{Read, Write};
@@ -129,7 +129,7 @@ fn ask_some<W: Write, L: Link>(
 {
     match put_all(link, bytes) {
         Ok(()) => copy_answers(writer, link, answers, lines),
-        Err(fault) => Err(fault),
+        Err(LinkFault) => Err(AskFault::Link),
     }
 }
 
@@ -182,20 +182,4 @@ fn bytes_read(read: io::Result<usize>) -> Result<usize, AskFault>
         Ok(len) => Ok(len),
         Err(_) => Err(AskFault::Read),
     }
-}
-
-/// Writes all of the bytes, going on after short counts.
-fn put_all<L: Link>(link: &mut L, bytes: &[u8]) -> Result<(), AskFault>
-    ensures ok { OnOk result (Appends (L.sent link.old) (L.sent link.new) bytes.now) }
-    ensures err { IfErr result (λ e. (e ≡ AskFault.Link) × ((n : ℕ) × Appends (L.sent link.old) (L.sent link.new) (take n bytes.now))) }
-    ensures left { L.left link.new ≡ L.left link.old }
-{
-    let mut done = 0;
-    while done < bytes.len() {
-        match link.write(&bytes[done..]) {
-            Ok(len) => done += len,
-            Err(LinkFault) => return Err(AskFault::Link),
-        }
-    }
-    Ok(())
 }

@@ -157,7 +157,7 @@ fn the_lines_that_are_sent(rt: HostRuntime) -> Result<(), Fail> {
     Ok(())
 }
 
-/// So many bytes `x`, and this behind them.
+/// So many bytes `x`, and this after them.
 fn long(alloc: Global, count: usize, end: &[u8]) -> Result<Vec<u8>, Fail> {
     let mut bytes = vec![in alloc; b'x'; count]?;
     bytes.extend_from_slice(end)?;

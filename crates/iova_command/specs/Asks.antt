@@ -31,7 +31,7 @@ AsksOf name rows (Serve plan) = (name ≡ codes "serve") × Plans rows plan
 AsksOf name rows (Ask path) = (name ≡ codes "ask") × (first_of (codes "path") rows ≡ Some path.now)
 
 -- what matched words ask for; no subcommand asks for a replay of standard input
-abbrev pub Asks : Option (Text × List Row) → Asked → Type 0
-Asks None (Replay path has_report) = (path.now ≡ codes "-") × (has_report ≡ false)
-Asks None other = ⊥
-Asks (Some matched) asked = AsksOf matched.0 matched.1 asked
+abbrev pub AsksFor : Option (Text × List Row) → Asked → Type 0
+AsksFor None (Replay path has_report) = (path.now ≡ codes "-") × (has_report ≡ false)
+AsksFor None other = ⊥
+AsksFor (Some matched) asked = AsksOf matched.0 matched.1 asked

@@ -9,13 +9,13 @@ use Rattle.iova_command.specs.Usage.{words_status}
 
 -- words with these faults end the process with this status: that of one of them; and that of words which aren't understood
 -- where they have none, but a value of theirs is out of reach
-abbrev pub EndsWith : Kinds → ℕ → Type 0
-EndsWith kinds status = ((kind : ErrorKind) × IsAmong kind kinds × (status ≡ words_status kind)) ⊎ ((kinds ≡ []) × (status ≡ 2))
+abbrev pub EndsWithStatus : Kinds → ℕ → Type 0
+EndsWithStatus kinds status = ((kind : ErrorKind) × IsAmong kind kinds × (status ≡ words_status kind)) ⊎ ((kinds ≡ []) × (status ≡ 2))
 
 -- what is answered to words with these faults
 abbrev pub RefusesBy : Kinds → Result Asked WordsFault → Type 0
 RefusesBy kinds (Ok asked) = kinds ≡ []
-RefusesBy kinds (Err (Usage status)) = EndsWith kinds status
+RefusesBy kinds (Err (Usage status)) = EndsWithStatus kinds status
 RefusesBy kinds (Err NoMemory) = Unit {0}
 
 -- words that are not understood, or memory

@@ -99,28 +99,28 @@ fn serve_command<'a>(alloc: Global) -> Result<Command<'a>, AllocError>
             "workers",
             1,
             MAX_WORKERS,
-            "How many sessions are served at a time",
+            "How many sessions are served at a time, 1 to 16",
         ))?
         .arg(number(
             alloc,
             "domain",
             0,
             MAX_DOMAINS - 1,
-            "The number of the domain",
+            "The number of the domain, 0 to 7",
         ))?
         .arg(number(
             alloc,
             "start",
             1,
             WIDE_TOP,
-            "The first frame that may be given",
+            "The first frame that may be given, 1 or more; a frame is 4096 bytes",
         ))?
         .arg(number(
             alloc,
             "last",
             1,
             WIDE_TOP,
-            "The last frame that may be given",
+            "The last frame that may be given, to 68719476735, with --depot to 1099511627775",
         ))?
         .arg(path(
             alloc,
@@ -133,14 +133,14 @@ fn serve_command<'a>(alloc: Global) -> Result<Command<'a>, AllocError>
             "sessions",
             1,
             MAX_SESSIONS,
-            "How many sessions are served",
+            "How many sessions are served, 1 to 65536",
         ))?
         .arg(optional_number(
             alloc,
             "depot",
             0,
             MAX_DEPOT,
-            "Caches of the second profile, with so many magazines in the depot",
+            "Caches of the second profile, with so many magazines in the depot, 0 to 32",
         ))?
         .arg(flag(alloc, "strict", "Flushes each range at once that is freed"))?
         .arg(optional_path(

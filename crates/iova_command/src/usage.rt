@@ -61,7 +61,8 @@ impl From<Error> for WordsFault {
     ghost use Rattle.iova_command.specs.Usage.{words_status};
     ghost use Rattle.iova_command.specs.declared.usage.WordsFault.TheVariants.{Usage as IsUsage, NoMemory};
 
-    ghost from_gives = { λ error fault. (kind_of error ≡ OutOfMemory → fault ≡ NoMemory) × (kind_of error ≢ OutOfMemory → fault ≡ IsUsage (words_status (kind_of error))) };
+    ghost from_gives = { λ error fault. (kind_of error ≡ OutOfMemory → fault ≡ NoMemory)
+        × (kind_of error ≢ OutOfMemory → fault ≡ IsUsage (words_status (kind_of error))) };
 
     fn from(error: Error) -> WordsFault {
         if error.kind() == ErrorKind::OutOfMemory {

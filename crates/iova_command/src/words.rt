@@ -1,7 +1,7 @@
 //! The process's words, and what they ask for.
 ghost use Rattle.std.specs.Prelude.{◌≡◌, IfErr, IfOk, IfSome, map, true};
 ghost use Rattle.clap.specs.Words.{app_of, fault_of, found_of, is_simple, is_simple_and_free, rows_of, subcommand_of, subcommand_rows_of};
-ghost use Rattle.iova_command.specs.Asks.{Asks, AsksOf};
+ghost use Rattle.iova_command.specs.Asks.{AsksFor, AsksOf};
 ghost use Rattle.iova_command.specs.Commands.{iovad_app};
 ghost use Rattle.iova_command.specs.Refuses.{IsNotUnderstood, RefusesBy};
 
@@ -32,7 +32,7 @@ pub fn words<R: Env + AllocGlobal>(rt: &R) -> Result<Vec<String>, WordsFault>
 
 /// What these words ask for, the program's name first; no word but that asks for a replay of standard input.
 pub fn asked<'a, S: AsStr>(alloc: Global, words: &'a [S]) -> Result<Asked<'a>, WordsFault>
-    ensures asks { IfOk result (λ a. Asks (subcommand_of iovad_app (map S.text words.entry.now)) a) }
+    ensures asks { IfOk result (λ a. AsksFor (subcommand_of iovad_app (map S.text words.entry.now)) a) }
     ensures refused { RefusesBy (fault_of iovad_app (map S.text words.entry.now)) result }
 {
     asked_of(alloc, iovad_command(alloc)?, words)
@@ -45,7 +45,7 @@ fn asked_of<'a, S: AsStr>(
     words: &'a [S],
 ) -> Result<Asked<'a>, WordsFault>
     ensures asks { is_simple (app_of command.entry) ≡ true
-        → IfOk result (λ a. Asks (subcommand_of (app_of command.entry) (map S.text words.entry.now)) a) }
+        → IfOk result (λ a. AsksFor (subcommand_of (app_of command.entry) (map S.text words.entry.now)) a) }
     ensures refused { is_simple_and_free (app_of command.entry) ≡ true
         → RefusesBy (fault_of (app_of command.entry) (map S.text words.entry.now)) result }
 {
@@ -58,7 +58,7 @@ fn asked_of<'a, S: AsStr>(
 
 /// What the matched words ask for. None where an option is missing, or its number is outside its range.
 fn asked_by<'a>(matches: &ArgMatches<'a>) -> Option<Asked<'a>>
-    ensures { IfSome result (λ a. Asks (subcommand_rows_of matches.now) a) }
+    ensures { IfSome result (λ a. AsksFor (subcommand_rows_of matches.now) a) }
 {
     match matches.subcommand() {
         Some((name, found)) => asked_of_command(name, found),

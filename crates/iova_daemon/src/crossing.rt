@@ -20,7 +20,7 @@ fn is_sync<T: Sync>()
 {}
 
 /// A post may go to another thread.
-pub fn posts_are_send<C: Ledger, F: Ledger, S: Ledger, G: Ledger>()
+pub(crate) fn posts_are_send<C: Ledger, F: Ledger, S: Ledger, G: Ledger>()
 where
     C: Send,
     F: Send,
@@ -32,7 +32,7 @@ where
 }
 
 /// Threads may share a domain under its lock.
-pub fn domains_are_sync<Q, C: Ledger, F: Ledger, S: Ledger, G: Ledger>()
+pub(crate) fn domains_are_sync<Q, C: Ledger, F: Ledger, S: Ledger, G: Ledger>()
 where
     Q: Sync,
     C: Send,
@@ -46,7 +46,7 @@ where
 }
 
 /// Threads may share their turns.
-pub fn turns_are_sync()
+pub(crate) fn turns_are_sync()
     ensures { IsSync turns.the_row }
 {
     is_sync::<Turns>();

@@ -10,7 +10,7 @@ use std::sync::Wait;
 use std::sync::ledger::Ledger;
 
 /// Makes a round after each pause, until a pause says stop or all workers have ended. A round that is refused is a notice.
-pub fn flush_on<R, Q, N, C, F, S, G, D, P>(
+pub(crate) fn flush_on<R, Q, N, C, F, S, G, D, P>(
     rt: &R,
     notices: &N,
     shared: &Shared<Q, C, F, S, G>,

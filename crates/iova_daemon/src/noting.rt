@@ -4,14 +4,14 @@ use log::{Log, warn};
 
 /// A sink, each of whose failures is a notice.
 #[derive(Drop)]
-pub struct NotingSink<'a, D, N> {
+pub(crate) struct NotingSink<'a, D, N> {
     sink: D,
     notices: &'a N,
 }
 
 impl<'a, D, N> NotingSink<'a, D, N> {
     /// This sink, with notices told here.
-    pub fn new(sink: D, notices: &'a N) -> NotingSink<'a, D, N> {
+    pub(crate) fn new(sink: D, notices: &'a N) -> NotingSink<'a, D, N> {
         NotingSink { sink, notices }
     }
 }

@@ -1,6 +1,6 @@
 //! Links over the connections to a Unix socket.
 use crate::accept::Accept;
-use crate::pause::ACCEPT_PAUSE;
+use iova_range::limits::ACCEPT_PAUSE;
 use iova_session::link::LinkFault;
 use iova_session::socket_link::SocketLink;
 use log::{Log, warn};

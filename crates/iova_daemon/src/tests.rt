@@ -8,7 +8,7 @@ mod doubles;
 use super::*;
 use crate::pause::Ticks;
 use crate::socket::SocketAccept;
-use doubles::{Counted, Row, Rows, Stops, Yields};
+use doubles::{Counted, Few, Row, Rows, Stops, Yields};
 use iova_lock::keep::Keep;
 use iova_model::totals::Totals;
 use iova_range::bounds::Bounds;
@@ -22,16 +22,26 @@ use std::marker::Brand;
 use std::net::Net;
 use std::os::unix::net::{UnixListener, UnixStream};
 use std::path::Path;
+use std::process::Abort;
 use std::rt::Clock;
 use std::sync::ledger::Blank;
 use std::test::*;
 use std::{env, fs, io, process};
 use thiserror::Error;
 
-/// What serving left: the workers of the posts, what the domain holds, and the gathered totals.
+/// The domain that is served.
+#[derive(Clone, Copy, PartialEq, Eq)]
+enum Kind {
+    Plain,
+    Strict,
+    Recorded,
+}
+
+/// What serving left: the workers of the posts, whether the domain is still recorded, what it holds, and the gathered totals.
 #[derive(Drop)]
 struct Seen {
     workers: Vec<u64>,
+    recording: bool,
     stat: Stat,
     totals: Totals,
 }
@@ -47,11 +57,12 @@ enum Unserved {
     SeatMissing,
 }
 
-/// Serves on a new domain 0 with so many workers.
+/// Serves on a new domain 0 of this kind with so many workers.
 fn serve_new<R, N, C, F, S, G, L, A, D, P>(
     rt: &R,
     alloc: Global,
     notices: &N,
+    kind: Kind,
     bounds: Bounds,
     workers: u64,
     count: Blank,
@@ -81,10 +92,20 @@ where
     requires sum_lo { (sum_lo.name ≡ S.name) × (sum_lo.parts ≡ S.parts) × (sum_lo.parts ≡ workers) }
     requires good { (good.name ≡ G.name) × (good.parts ≡ G.parts) × (good.parts ≡ TALLY_PARTS * workers) }
 {
-    let Ok((shared, seats)) = Shared::<&R, C, F, S, G>::new(
-        rt, alloc, 0, bounds, workers, count, frames, sum_lo, good,
-    ) else {
+    let made = if kind == Kind::Recorded {
+        Shared::<&R, C, F, S, G>::recorded(
+            rt, alloc, 0, bounds, workers, 1000, count, frames, sum_lo, good,
+        )
+    } else {
+        Shared::<&R, C, F, S, G>::new(rt, alloc, 0, bounds, workers, count, frames, sum_lo, good)
+    };
+    let Ok((shared, seats)) = made else {
         return Err(Unserved::Unprepared);
+    };
+    let shared = if kind == Kind::Strict {
+        shared.strict()
+    } else {
+        shared
     };
     let mut posts = Vec::new(alloc);
     for seat in seats {
@@ -112,12 +133,14 @@ where
             return Err(Unserved::SeatMissing);
         };
     }
+    let recording = shared.recording();
     let stat = (&shared).stat();
     let Ok(totals) = shared.gather(seats) else {
         return Err(Unserved::SeatMissing);
     };
     Ok(Seen {
         workers,
+        recording,
         stat,
         totals,
     })
@@ -128,6 +151,7 @@ fn serve_few<R, N, L, A, D, P>(
     rt: &R,
     alloc: Global,
     notices: &N,
+    kind: Kind,
     sinks: Vec<D>,
     accept: &A,
     pause: P,
@@ -153,6 +177,7 @@ where
         rt,
         alloc,
         notices,
+        kind,
         bounds,
         workers,
         Blank::new(workers),
@@ -167,7 +192,7 @@ where
     )
 }
 
-/// As `serve_few`, with as many threads as it takes.
+/// As `serve_few` on a plain domain, with as many threads as it takes.
 fn serve_fresh<R, N, L, A, D, P>(
     rt: &R,
     alloc: Global,
@@ -189,6 +214,7 @@ where
         rt,
         alloc,
         notices,
+        Kind::Plain,
         sinks,
         accept,
         pause,
@@ -251,34 +277,71 @@ fn new_flags() -> [Flag; 5] {
     ]
 }
 
-// The first session's flush waits in its sink until the second session has its answers.
-#[test]
-fn overlap(rt: HostRuntime) -> Result<(), Fail> {
+/// Two sessions at once: the flush that the first one asks for waits in its sink until the second one, which begins only
+/// then, has its answers.
+fn overlap_on<R: Abort + Threads + Wait + Sync>(
+    rt: &R,
+    alloc: Global,
+    kind: Kind,
+    first: (&[u8], &[u8]),
+    second: (&[u8], &[u8]),
+) -> Result<(), Fail> {
     let flags = new_flags();
     let rows = [
-        Row::new(
-            b"hello iova1 0 dac\nflush\n",
-            b"opened 1\nflushed 1 0\n",
-            FIRST,
-        ),
-        Row::new(
-            b"hello iova1 0 dac\nalloc 1 9\n",
-            b"opened 2\ngiven 9 1\n",
-            OPEN,
-        )
-        .waits_for(INSIDE),
+        Row::new(first.0, first.1, FIRST),
+        Row::new(second.0, second.1, OPEN).waits_for(INSIDE),
     ];
     let notices = Counted::new();
-    let accept = Rows::new(rt.alloc(), 0, &rows, &flags);
-    let sinks = gate_sinks(rt.alloc(), 3, &flags[INSIDE], &flags[OPEN])?;
-    let seen = serve_fresh(&rt, rt.alloc(), &notices, sinks, &accept, Stops, 2)?;
+    let accept = Rows::new(alloc, 0, &rows, &flags);
+    let sinks = gate_sinks(alloc, 3, &flags[INSIDE], &flags[OPEN])?;
+    let seen = serve_few(
+        rt,
+        alloc,
+        &notices,
+        kind,
+        sinks,
+        &accept,
+        Stops,
+        2,
+        usize::MAX,
+    )?;
     assert!(rt; flags[FIRST].is_raised());
     assert!(rt; flags[OPEN].is_raised());
     assert_eq!(rt; seen.workers.as_slice(), [0, 1].as_slice());
+    assert!(rt; seen.recording == (kind == Kind::Recorded));
     assert_eq!(rt; seen.totals, NOTHING);
     assert_eq!(rt; (seen.stat.start, seen.stat.finish), (1, 1));
     assert_eq!(rt; notices.count(), 0);
     Ok(())
+}
+
+const FLUSHES: (&[u8], &[u8]) = (b"hello iova1 0 dac\nflush\n", b"opened 1\nflushed 1 0\n");
+
+const ALLOCATES: (&[u8], &[u8]) = (b"hello iova1 0 dac\nalloc 1 9\n", b"opened 2\ngiven 9 1\n");
+
+#[test]
+fn overlap(rt: HostRuntime) -> Result<(), Fail> {
+    overlap_on(&rt, rt.alloc(), Kind::Plain, FLUSHES, ALLOCATES)
+}
+
+#[test]
+fn overlap_on_a_recorded_domain(rt: HostRuntime) -> Result<(), Fail> {
+    overlap_on(&rt, rt.alloc(), Kind::Recorded, FLUSHES, ALLOCATES)
+}
+
+// While the flush of a free waits in its sink, its frame is given to nobody.
+#[test]
+fn overlap_on_a_strict_domain(rt: HostRuntime) -> Result<(), Fail> {
+    overlap_on(
+        &rt,
+        rt.alloc(),
+        Kind::Strict,
+        (
+            b"hello iova1 0 dac\nalloc 1 9\nfree 9\n",
+            b"opened 1\ngiven 9 1\nfreed 9 1\n",
+        ),
+        (b"hello iova1 0 dac\nalloc 1 9\n", b"opened 2\ngiven 8 1\n"),
+    )
 }
 
 // Where a thread can't be started, those that were accept nothing.
@@ -288,7 +351,17 @@ fn a_thread_that_cannot_be_started(rt: HostRuntime) -> Result<(), Fail> {
         let notices = Counted::new();
         let accept = Rows::new(rt.alloc(), 0, &[], &[]);
         let sinks = good_sinks(rt.alloc(), 4)?;
-        let seen = serve_few(&rt, rt.alloc(), &notices, sinks, &accept, Yields, 20, most);
+        let seen = serve_few(
+            &rt,
+            rt.alloc(),
+            &notices,
+            Kind::Plain,
+            sinks,
+            &accept,
+            Yields,
+            20,
+            most,
+        );
         assert!(rt; matches!(seen, Err(Unserved::Refused(Refusal::LinkFault))));
         assert_eq!(rt; accept.calls(), 0);
     }
@@ -361,6 +434,33 @@ fn a_round_that_is_refused(rt: HostRuntime) -> Result<(), Fail> {
     assert_eq!(rt;
         (seen.stat.ring, seen.stat.start, seen.stat.finish),
         (1, 1, 0)
+    );
+    assert_eq!(rt; notices.count(), 1);
+    Ok(())
+}
+
+// A round that is refused isn't the last one: the next one drains the ring.
+#[test]
+fn a_round_after_one_that_is_refused(rt: HostRuntime) -> Result<(), Fail> {
+    let flags = new_flags();
+    let rows = [
+        Row::new(
+            LEAVES_A_FRAME,
+            b"opened 1\ngiven 9 1\nqueued 9 1\nbye\n",
+            FIRST,
+        ),
+        Row::new(b"bye\n", b"bye\n", SECOND).waits_for(OPEN),
+    ];
+    let notices = Counted::new();
+    let accept = Rows::new(rt.alloc(), 0, &rows, &flags);
+    let mut sinks = good_sinks(rt.alloc(), 1)?;
+    sinks.push(MemorySink::new(1))?;
+    let pause = Few::new(&flags[FIRST], 2, &flags[OPEN]);
+    let seen = serve_fresh(&rt, rt.alloc(), &notices, sinks, &accept, pause, 2)?;
+    let stat = seen.stat;
+    assert_eq!(rt;
+        (stat.magazine, stat.ring, stat.start, stat.finish),
+        (1, 0, 2, 2)
     );
     assert_eq!(rt; notices.count(), 1);
     Ok(())

@@ -17,7 +17,7 @@ use std::thread::{Promise, PromisedHandle, Scope, Threads};
 
 /// The promise of a thread that the post which it gives back is this worker's.
 #[derive(Clone, Copy)]
-pub struct WorkerIs(u64);
+pub(crate) struct WorkerIs(u64);
 
 impl<C: Ledger, F: Ledger, S: Ledger, G: Ledger> Promise<Post<C, F, S, G>> for WorkerIs {
     ghost kept_by = { λ p r. r.seat.worker ≡ p.0 };
@@ -25,7 +25,7 @@ impl<C: Ledger, F: Ledger, S: Ledger, G: Ledger> Promise<Post<C, F, S, G>> for W
 
 /// Starts a worker for each post, and gives whether all were started. It stops at the first one that can't be, or once `most`
 /// were.
-pub fn start_all<'s, E, R, Q, N, C, F, S, G, L, A, D>(
+pub(crate) fn start_all<'s, E, R, Q, N, C, F, S, G, L, A, D>(
     scope: &Scope<'s, E>,
     rt: &'s R,
     alloc: Global,
@@ -92,8 +92,8 @@ where
     true
 }
 
-/// Joins each thread, and puts its post behind those that are there.
-pub fn join_all<R, C, F, S, G>(
+/// Joins each thread, and puts its post after those that are there.
+pub(crate) fn join_all<R, C, F, S, G>(
     rt: &R,
     started: Vec<PromisedHandle<Post<C, F, S, G>, WorkerIs>>,
     back: &mut Vec<Post<C, F, S, G>>,

@@ -4,7 +4,7 @@ use std::sync::atomic::{AtomicU64, Ordering};
 
 /// The gate that workers wait at until all are started, the next session's number, and how many workers have ended.
 #[derive(Drop)]
-pub struct Turns {
+pub(crate) struct Turns {
     /// Held while threads are started; then whether all were, so that none accepts a link where one couldn't be.
     pub gate: Mutex<bool>,
     next: AtomicU64,
@@ -14,7 +14,7 @@ pub struct Turns {
 
 impl Turns {
     /// So many sessions, none of which is begun, and a closed gate.
-    pub fn new(sessions: u64) -> Turns {
+    pub(crate) fn new(sessions: u64) -> Turns {
         Turns {
             gate: Mutex::new(false),
             next: AtomicU64::new(0),
@@ -24,7 +24,7 @@ impl Turns {
     }
 
     /// The next session's number, counted from 0; none where all were taken.
-    pub fn next_session(&self) -> Option<u64> {
+    pub(crate) fn next_session(&self) -> Option<u64> {
         let session = self.next.fetch_add(1, Ordering::SeqCst);
         if session < self.sessions {
             Some(session)
@@ -34,12 +34,12 @@ impl Turns {
     }
 
     /// A worker has ended.
-    pub fn end(&self) {
+    pub(crate) fn end(&self) {
         self.ended.fetch_add(1, Ordering::SeqCst);
     }
 
     /// Whether so many workers have ended.
-    pub fn have_ended(&self, workers: u64) -> bool {
+    pub(crate) fn have_ended(&self, workers: u64) -> bool {
         self.ended.load(Ordering::SeqCst) >= workers
     }
 }

@@ -19,7 +19,7 @@ use std::sync::ledger::Ledger;
 /// What a worker has: a post with its sink, and references to what it is lent. Each is a parameter, so that one short law says
 /// that a worker may go to another thread where each of them may.
 #[derive(Drop)]
-pub struct Worker<R, N, K, P, D, A, T> {
+pub(crate) struct Worker<R, N, K, P, D, A, T> {
     pub rt: R,
     pub alloc: Global,
     pub notices: N,
@@ -32,7 +32,7 @@ pub struct Worker<R, N, K, P, D, A, T> {
 
 /// Waits at the gate, and then serves sessions at the post until no number is left. Its waiting clients are tried again
 /// before each number is taken.
-pub fn work_on<'s, R, Q, N, C, F, S, G, L, A, D>(
+pub(crate) fn work_on<'s, R, Q, N, C, F, S, G, L, A, D>(
     worker: Worker<&'s R, &'s N, &'s Shared<Q, C, F, S, G>, Post<C, F, S, G>, D, &'s A, &'s Turns>,
 ) -> Post<C, F, S, G>
 where

@@ -25,7 +25,7 @@ pub HasNoBye-one : (r : Request) → (r ≡ request.Bye → ⊥) → HasNoBye (r
 unfolding HasNoBye
 HasNoBye-one r h = (h, tt)
 
--- none is bye in front, so what holds behind holds of all
+-- none is bye in front, so what holds after holds of all
 pub StopsAtBye-behind : (rs qs : List Request) → HasNoBye rs → StopsAtBye qs → StopsAtBye (rs ++ qs)
 unfolding HasNoBye StopsAtBye
 StopsAtBye-behind [] qs h k = k

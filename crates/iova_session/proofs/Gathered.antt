@@ -17,7 +17,7 @@ IsLines-none kept piece rs e = record {
   whole = append-nil kept ∙ ap (λ x. x ++ kept) (sym (ap requests_text e ∙ requests_text-nil));
 }
 
--- what the piece has behind the part that is used
+-- what the piece has after the part that is used
 pub IsLines-rest : (kept piece next : List ℕ) (rs : List Request) (used : ℕ) → IsLines (kept ++ take used piece) rs next
     → IsLines (kept ++ piece) rs (next ++ take (length piece - used) (drop used piece))
 IsLines-rest kept piece next rs used e = record {

@@ -1,6 +1,6 @@
 -- A client whose end is told as `Ended` is gone.
-use Rattle.std.proofs.Common.{ℕ, ◌≡◌, ◌+◌, ◌<◌, ◌≤◌, ◌==◌, ◌⊎◌, inl, inr, Bool, true, false, List, [], ◌∷◌, ◌++◌, Option, Some, None, refl, sym, ap, ◌∙◌, subst, arith}
-use Rattle.std.specs.Prelude.{Result, Ok, Err, length, option_and_then, nat_le}
+use Rattle.std.proofs.Common.{ℕ, ◌≡◌, ◌+◌, ◌≤◌, inl, inr, Bool, true, false, List, [], ◌∷◌, ◌++◌, Option, Some, None, refl, sym, ap, ◌∙◌, subst, arith}
+use Rattle.std.specs.Prelude.{Result, Ok, length, option_and_then, nat_le}
 use Rattle.iova_range.specs.declared.limits.TheConstants.{MAX_ENTRIES}
 use Rattle.std.proofs.lemmas.Bool.{cond_both}
 use Rattle.std.proofs.lemmas.Bool.Decides.{nat_tests}
@@ -23,7 +23,7 @@ use Rattle.iova_lock.specs.declared.ending.Ending.{Ending}
 use Rattle.iova_lock.specs.declared.ending.Ending.TheVariants as ending
 use Rattle.iova_lock.specs.StepLogs.{Takes}
 use Rattle.iova_lock.specs.Views.{IsUnknown}
-use Rattle.iova_lock.specs.Events.{Event, Ran, NotRun, Invalidated, Leads, Unmapping, run, not_run, Closing, stops, queues, CloseFirst, closed, closed_full, CloseAgain, closed_again, full_at_once, full_again, CloseRest, last, another, Answered, ended, unknown, gone, share, sink_failed, overlap, flights_full, worn, EndClient, in_one_hold, in_more}
+use Rattle.iova_lock.specs.Events.{Event, Ran, NotRun, Invalidated, Leads, run, not_run, Closing, stops, queues, CloseFirst, closed, closed_full, CloseAgain, closed_again, full_at_once, full_again, CloseRest, last, another, Answered, ended, unknown, gone, share, sink_failed, overlap, flights_full, worn, EndClient, in_one_hold, in_more}
 
 -- what is at most the lower bound is no client's serial
 none_below : (id low : ℕ) (clients : List Client) (top : ℕ) → SerialsRise low clients top → id ≤ low → client_with id clients ≡ None

@@ -1,14 +1,12 @@
 -- One request more.
-use Rattle.std.proofs.Common.{ℕ, ◌≡◌, ◌+◌, ◌≤◌, List, [], ◌∷◌, ◌++◌, Option, Some, None, refl, sym, ap, ◌∙◌, arith, subst}
-use Rattle.std.specs.Prelude.{length}
+use Rattle.std.proofs.Common.{ℕ, ◌≡◌, ◌+◌, ◌≤◌, List, [], ◌∷◌, ◌++◌, Option, Some, None, refl, arith}
 use Rattle.iova_range.specs.declared.limits.TheConstants.{MAX_LISTED}
-use Rattle.iova_range.specs.Frames.{Frames}
 use Rattle.iova_proto.specs.declared.answer.Answer.{Answer}
 use Rattle.iova_proto.specs.declared.answer.Answer.TheVariants as answer
 use Rattle.iova_proto.specs.declared.request.Request.{Request}
 use Rattle.iova_proto.specs.declared.request.Request.TheVariants as request
 use Rattle.iova_session.specs.Pairs.{Pair}
-use Rattle.iova_session.specs.Desks.{next_client, count_listed, client_after, listed_after, AreAnswers, IsAnswer, given_by, taken_by, given_in, taken_in}
+use Rattle.iova_session.specs.Desks.{next_client, count_listed, client_after, listed_after, AreAnswers, IsAnswer}
 
 pub client_after_more : (client : Option ℕ) (ps : List Pair) (p : Pair) → client_after client (ps ++ p ∷ []) ≡ next_client (client_after client ps) p.answer
 unfolding client_after

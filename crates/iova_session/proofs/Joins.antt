@@ -13,7 +13,7 @@ use Rattle.iova_session.specs.declared.end.End.TheVariants as ends
 use Rattle.iova_session.proofs.Texts.{requests_text-nil, asked-append, asked_both, told_both, length-asked, asked-nil, none_told}
 use Rattle.iova_session.proofs.Byes.{All-append, HasNoBye-nil, HasNoBye-append, StopsAtBye-none, StopsAtBye-behind, EndsInBye-behind}
 
--- a piece behind what is kept
+-- a piece after what is kept
 behind : (bytes piece next first later more : List ℕ) → bytes ≡ first ++ next → next ++ piece ≡ later ++ more
     → bytes ++ piece ≡ (first ++ later) ++ more
 behind bytes piece next first later more e f =

@@ -10,3 +10,4 @@ mod EndedClients
 mod Gone
 mod Retrying
 mod Others
+mod Alone

@@ -1,13 +1,11 @@
 -- Whose holdings the calls of the lock leave as they are.
-use Rattle.std.proofs.Common.{ℕ, ◌≡◌, ◌≢◌, ◌+◌, ◌⊎◌, inl, inr, List, [], ◌∷◌, ◌++◌, Option, Some, None, refl, sym, ap, ◌∙◌, subst, arith}
+use Rattle.std.proofs.Common.{ℕ, ◌≡◌, ◌+◌, ◌⊎◌, inl, inr, List, [], ◌∷◌, ◌++◌, Option, Some, None, refl, sym, ap, ◌∙◌, subst, arith}
 use Rattle.std.specs.Prelude.{Result, Ok, Err, Bool, true, false, MatchResult, IfSome}
 use Rattle.iova_range.specs.declared.refusal.Refusal.{Refusal}
-use Rattle.iova_range.specs.declared.refusal.Refusal.TheVariants as refusal
 use Rattle.iova_range.specs.Frames.{Frames}
 use Rattle.iova_model.specs.declared.step.Step.{Step}
 use Rattle.iova_model.specs.declared.step.Step.TheVariants as step
 use Rattle.iova_model.specs.declared.step.Reply.{Reply}
-use Rattle.iova_model.specs.declared.step.Reply.TheVariants as reply
 use Rattle.iova_model.specs.declared.totals.Totals.{Totals}
 use Rattle.iova_model.specs.State.{State}
 use Rattle.iova_model.specs.Laws.{held_by, client_named, OthersKeepTheirHoldings, StepsKeepValidity}
@@ -20,7 +18,7 @@ use Rattle.iova_lock.specs.declared.ending.Ending.TheVariants as ending
 use Rattle.iova_lock.specs.declared.ending.Why.{Why}
 use Rattle.iova_lock.specs.StepLogs.{Takes}
 use Rattle.iova_lock.specs.Views.{WhereKnown, SeatState, IsKept, opened_or, left_of}
-use Rattle.iova_lock.specs.Events.{Event, Ran, NotRun, Invalidated, Leads, Does, Unmapping, run, not_run, Flush, refused, done, failed, Closing, stops, queues, CloseFirst, closed, closed_full, CloseAgain, closed_again, full_at_once, full_again, CloseRest, last, another, Answered, ended, unknown, gone, share, sink_failed, overlap, flights_full, worn, EndClient, in_one_hold, in_more, Draining, none_left, drains, DrainAll, drained, no_worker}
+use Rattle.iova_lock.specs.Events.{Event, Ran, NotRun, Invalidated, Leads, Unmapping, run, not_run, Flush, refused, done, failed, Closing, stops, queues, CloseFirst, closed, closed_full, CloseAgain, closed_again, full_at_once, full_again, CloseRest, last, another, Answered, ended, unknown, gone, share, sink_failed, overlap, flights_full, worn, EndClient, in_one_hold, in_more, Draining, none_left, drains, DrainAll, drained, no_worker}
 use Rattle.iova_lock.specs.declared.unmapped.Unmapped.{Unmapped}
 use Rattle.iova_lock.specs.Releases.{DoesRelease, ReleaseFirst, no_flush, flush, ReleaseAgain, no_flush_again, flush_again, ReleaseLast, reached, not_reached, not_drained, AfterQueued, stays, freed, not_freed, ReleaseRest, refused_again, queued_again, Release, refused_first, queued_first, ring_was_full}
 use Rattle.iova_lock.specs.Answers.{DoesFlush, DoesEndClient, DrainsAll, Opens}

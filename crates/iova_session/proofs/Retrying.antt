@@ -1,14 +1,11 @@
 -- Waiting clients, tried one after another.
-use Rattle.std.proofs.Common.{length-set, ℕ, ◌≡◌, ◌+◌, ◌<◌, ◌≤◌, ◌⊎◌, inl, inr, List, [], ◌∷◌, ◌++◌, Option, Some, None, refl, sym, ap, ◌∙◌, arith, subst, take, drop, get_or, append-nil, append_assoc, rules}
-use Rattle.std.specs.Prelude.{length, slice_set, Result, Ok, Err}
-use Rattle.std.proofs.lemmas.Grind.{common_steps}
+use Rattle.std.proofs.Common.{length-set, ℕ, ◌≡◌, ◌+◌, ◌<◌, ◌≤◌, inl, inr, List, [], ◌∷◌, ◌++◌, Option, Some, None, refl, sym, ap, ◌∙◌, arith, subst, take, drop, get_or, append_assoc}
+use Rattle.std.specs.Prelude.{length, slice_set, Result}
 use Rattle.std.proofs.lemmas.List.{drop_more, drop_all, take_more, take_more_set, drop-set-lt}
 use Rattle.iova_range.specs.declared.refusal.Refusal.{Refusal}
-use Rattle.iova_model.specs.declared.totals.Totals.{Totals}
 use Rattle.iova_model.specs.State.{State}
 use Rattle.iova_sink.specs.Calls.{Call}
 use Rattle.iova_lock.specs.declared.ending.Ending.{Ending}
-use Rattle.iova_lock.specs.declared.ending.Ending.TheVariants as ending
 use Rattle.iova_lock.specs.Answers.{DoesEndClient}
 use Rattle.iova_lock.specs.Views.{SeatState, WhereKnown}
 use Rattle.iova_session.specs.Posts.{IsSublist, Retries, kept_if, still_waits}

@@ -1,11 +1,8 @@
 -- Lines and texts, one after another.
 use Rattle.std.proofs.Common.{suc, ◌≡◌, ℕ, ◌+◌, ◌-◌, ◌≤◌, ◌<◌, get_or, refl, append-nil, List, [], ◌∷◌, ◌++◌, length, take, drop, sym, ap, ◌∙◌, subst, arith, take-append-drop, length-take, length-drop}
-use Rattle.std.specs.Prelude.{Option}
 use Rattle.std.proofs.Math.Seq.{take-append-add, take-length}
 use Rattle.std.proofs.lemmas.List.{take_more}
 use Rattle.std.proofs.lemmas.Grind.{flat_map-append}
-use Rattle.std.proofs.KnownBytes.{Appends-trans}
-use Rattle.std.specs.Io.KnownBytes.{Appends}
 use Rattle.iova_proto.specs.Requests.{request_text}
 use Rattle.iova_proto.specs.Answers.{answer_text}
 use Rattle.iova_proto.specs.declared.answer.Answer.{Answer}
@@ -25,15 +22,6 @@ pub all_after : {A : Type 0} (xs : List A) (i : ℕ) → take (length xs - i) (d
 all_after {A} xs i =
     let P : ℕ → Type 0 = λ k. take k (drop i xs) ≡ drop i xs in
     subst P (length-drop i xs) (take-length (drop i xs))
-
--- a write goes on where the last one stopped
-pub Appends_more : (a b c : Option (List ℕ)) (bs : List ℕ) (i n : ℕ) → i ≤ length bs → Appends a b (take i bs)
-    → Appends b c (take n (take (length bs - i) (drop i bs))) → Appends a c (take (i + n) bs)
-Appends_more a b c bs i n h p q =
-    let P : List ℕ → Type 0 = λ x. Appends a c x in
-    let R : List ℕ → Type 0 = λ x. Appends b c (take n x) in
-    subst P (sym (take_plus bs i n h))
-    (Appends-trans a b c (take i bs) (take n (drop i bs)) p (subst R (all_after bs i) q))
 
 pub requests_text-append : (rs qs : List Request) → requests_text (rs ++ qs) ≡ requests_text rs ++ requests_text qs
 unfolding requests_text

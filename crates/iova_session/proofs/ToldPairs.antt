@@ -1,5 +1,5 @@
 -- What a batch tells, as pairs, and how the shares move by it.
-use Rattle.std.proofs.Common.{ℕ, ◌≡◌, ◌+◌, ◌≤◌, List, [], ◌∷◌, ◌++◌, Option, Some, None, refl, sym, ap, ◌∙◌, arith, subst, length-append, append-nil, append_assoc, rules, ◌<◌, drop, get_or, inl, inr}
+use Rattle.std.proofs.Common.{ℕ, ◌≡◌, ◌+◌, ◌≤◌, List, [], ◌∷◌, ◌++◌, Option, Some, None, refl, sym, ap, ◌∙◌, arith, subst, length-append, append-nil, rules, ◌<◌, drop, get_or}
 use Rattle.std.proofs.lemmas.Grind.{common_steps}
 use Rattle.std.proofs.lemmas.List.{drop_more}
 use Rattle.iova_range.specs.declared.refusal.Refusal.{Refusal}
@@ -8,17 +8,16 @@ use Rattle.iova_lock.specs.Views.{SeatState, range_of}
 use Rattle.iova_lock.specs.declared.unmapped.Unmapped.{Unmapped}
 use Rattle.iova_lock.specs.declared.unmapped.Unmapped.TheVariants as unmapped
 use Rattle.iova_model.specs.declared.step.Reply.TheVariants as reply
-use Rattle.std.specs.Prelude.{IsSome, IfOk, IfErr, Result, Ok, Err, length, take, map, flat_map, sum_by}
+use Rattle.std.specs.Prelude.{IsSome, IfOk, IfErr, Result, Ok, Err, length, take, map}
 use Rattle.std.proofs.lemmas.List.Sums.{sum_by-append}
 use Rattle.iova_range.specs.Frames.{Frames}
 use Rattle.iova_model.specs.declared.totals.Totals.{Totals}
 use Rattle.iova_model.specs.Clients.{totals_of}
 use Rattle.iova_model.specs.Laws.{add_totals, MovesTotals}
 use Rattle.iova_lock.specs.declared.ask.Ask.{Ask}
-use Rattle.iova_lock.specs.declared.ask.Ask.TheVariants as ask
 use Rattle.iova_lock.specs.declared.ask.Told.{Told}
 use Rattle.iova_lock.specs.declared.ask.Told.TheVariants as lock_told
-use Rattle.iova_lock.specs.Batches.{ToldOfAsks, TellsAsks, MovesTold, MayStop, IsToldOf}
+use Rattle.iova_lock.specs.Batches.{ToldOfAsks, TellsAsks, MovesTold, MayStop}
 use Rattle.iova_proto.specs.declared.answer.Answer.{Answer}
 use Rattle.iova_proto.specs.declared.request.Request.{Request}
 use Rattle.iova_proto.specs.declared.request.Request.TheVariants as request

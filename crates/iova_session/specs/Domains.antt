@@ -1,7 +1,8 @@
 -- What a session leaves of a domain that is known. Own.
-use Rattle.std.specs.Prelude.{ℕ, ◌≡◌, ◌≢◌, ◌+◌, ◌<◌, ◌≤◌, ◌⊎◌, List, length, Option, Some, None, MatchOption, refl}
+use Rattle.std.specs.Prelude.{ℕ, ◌≡◌, ◌≢◌, ◌+◌, ◌<◌, ◌≤◌, ◌⊎◌, Bool, List, length, Option, Some, None, Result, Ok, Err, MatchOption, refl}
 use Rattle.std.specs.Coded.{Coded, Coded-set, code_by, coded×, coded_ℕ, coded_list, Π_prop, →_prop, Unit-prop}
 use Rattle.iova_range.specs.declared.limits.TheConstants.{MAX_LISTED}
+use Rattle.iova_range.specs.declared.refusal.Refusal.{Refusal}
 use Rattle.iova_range.specs.declared.refusal.Refusal.TheVariants as refusal
 use Rattle.iova_range.specs.Frames.{Frames}
 use Rattle.iova_model.specs.Clients.{client_with, client_of}
@@ -11,7 +12,12 @@ use Rattle.iova_proto.specs.declared.answer.Answer.{Answer}
 use Rattle.iova_proto.specs.declared.answer.Answer.TheVariants as answer
 use Rattle.iova_lock.specs.declared.ending.Ending.{Ending}
 use Rattle.iova_lock.specs.declared.ending.Ending.TheVariants as ending
-use Rattle.iova_lock.specs.Views.{WhereKnown, left_of}
+use Rattle.iova_lock.specs.declared.unmapped.Unmapped.{Unmapped}
+use Rattle.iova_lock.specs.Views.{WhereKnown, SeatState, left_of}
+use Rattle.iova_lock.specs.Answers.{DoesFlush, DrainsAll}
+use Rattle.iova_lock.specs.Releases.{DoesRelease}
+use Rattle.iova_sink.specs.Calls.{Call}
+use Rattle.iova_session.specs.Desks.{released}
 
 -- no client but this one has other holdings than before
 abbrev pub KeepsOthers : Option ℕ → State → State → Type 0
@@ -38,6 +44,24 @@ IsListOf held listed a = ⊥
 -- and what it is answered where the client is looked up in this domain, for this worker
 abbrev pub Lists : ℕ → ℕ → ℕ → Answer → State → Type 0
 Lists worker id listed a s = MatchOption (client_of worker id s.clients) (a ≡ answer.Refused refusal.NoClient) (λ c. IsListOf c.holdings listed a)
+
+-- what a free is answered, of which the release came to this
+abbrev pub release_answer : Result Unmapped Refusal → Answer
+release_answer (Ok u) = released u
+release_answer (Err e) = answer.Refused e
+
+-- A free is a release of the client's range, which leads the domain from s to t, between these calls of the sink.
+abbrev pub Frees : Bool → SeatState → ℕ → ℕ → Answer → ℕ → List Call → List Call → State → State → Type 0
+Frees strict seat id lo a number before now s t =
+    (result : Result Unmapped Refusal) × DoesRelease strict seat id lo result number before now s t × (a ≡ release_answer result)
+
+-- A flush, and where it ended well all rings are drained into the magazines of worker w.
+abbrev pub FlushesAndDrains : ℕ → Answer → ℕ → List Call → List Call → State → State → Type 0
+FlushesAndDrains w (answer.Flushed k freed) number before now s t =
+    (m : State) × DoesFlush (Ok k) number before now s m × DrainsAll w (Ok freed) m t
+FlushesAndDrains w (answer.Refused e) number before now s t = DoesFlush (Err e) number before now s t
+    ⊎ ((k : ℕ) × (m : State) × DoesFlush (Ok k) number before now s m × DrainsAll w (Err e) m t)
+FlushesAndDrains w a number before now s t = ⊥
 
 -- two proofs of this are equal
 abbrev pub frames_code : Coded Frames

@@ -32,7 +32,7 @@ requests_text rs = flat_map request_text rs
 unfoldable pub answers_text : List Answer → List ℕ
 answers_text as_told = flat_map answer_text as_told
 
--- A front of so many of the requests was asked: their pairs stand behind those before, and their answers behind
+-- A front of so many of the requests was asked: their pairs stand after those before, and their answers after
 -- those before.
 abbrev pub AsksFront : ℕ → List Request → List Pair → List Pair → List Answer → List Answer → Type 0
 AsksFront n requests old new before answers =

@@ -23,7 +23,7 @@ pub record GoesOn (bytes : List ℕ) (ps : List Pair) (next written : List ℕ) 
   pub byes : HasNoBye (asked ps)
   pub answered : written ≡ answers_text (told ps)
 
--- What gathering gives behind the bytes that are kept: the requests, how much of the piece they take, what is kept
+-- What gathering gives after the bytes that are kept: the requests, how much of the piece they take, what is kept
 -- then.
 abbrev pub Gathers : ℕ → List ℕ → List ℕ → List Request → ℕ → Stop → Option (List ℕ) → Type 0
 Gathers left kept piece rs used stops.More new =
@@ -52,7 +52,7 @@ abbrev pub CountsFault : Result Unit End → ℕ → ℕ → Type 0
 CountsFault (Ok u) old new = new ≡ old
 CountsFault (Err end) old new = new ≡ old + failures_at end
 
--- What a piece gives behind what was kept: the session goes on with so many requests left, or it ends.
+-- What a piece gives after what was kept: the session goes on with so many requests left, or it ends.
 abbrev pub Takes : ℕ → List ℕ → List Pair → List ℕ → ℕ → Option (List ℕ) → Result Unit End → Type 0
 Takes left bytes ps written here new (Ok u) =
     (next : List ℕ) × GoesOn bytes ps next written × IsUnended next × (new ≡ Some next) × (length ps + here ≡ left)

@@ -23,7 +23,7 @@ too_many = codes "no 21 TooMany\n"
 unfoldable pub HasNoBye : List Request → Type 0
 HasNoBye rs = AllByRecursion (λ r. r ≢ request.Bye) rs
 
--- no request stands behind a bye
+-- no request stands after a bye
 unfoldable pub StopsAtBye : List Request → Type 0
 StopsAtBye [] = Unit {0}
 StopsAtBye (r ∷ rs) = (r ≡ request.Bye → rs ≡ []) × StopsAtBye rs
@@ -42,7 +42,7 @@ pub record BeginsRequest (bytes : List ℕ) : Type 0 where
   pub whole : bytes ≡ request_text request ++ more
 
 -- The bytes begin with the lines of these requests, each a line of the protocol, and the rest follows. They are no
--- more than the most that may be asked, and none of them stands behind a bye.
+-- more than the most that may be asked, and none of them stands after a bye.
 pub record BeginsWith (most : ℕ) (bytes : List ℕ) (rs : List Request) (rest : List ℕ) : Type 0 where
   pub good : AllByRecursion IsRequest rs
   pub whole : bytes ≡ requests_text rs ++ rest

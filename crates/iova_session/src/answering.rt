@@ -8,7 +8,7 @@ ghost use Rattle.iova_session.specs.Rounds.{Asks, IsCut, CountsFault};
 
 use crate::desk::Desk;
 use crate::end::End;
-use crate::link::{Link, LinkFault};
+use crate::link::{Link, LinkFault, put_all};
 use iova_proto::answer::Answer;
 use iova_proto::encode::encode;
 use iova_proto::request::Request;
@@ -80,20 +80,4 @@ pub(crate) fn refuse<L: Link>(link: &mut L, line: &[u8], end: End) -> End
         Ok(()) => end,
         Err(LinkFault) => End::LinkFault,
     }
-}
-
-/// Writes all of the bytes, going on after short counts.
-fn put_all<L: Link>(link: &mut L, bytes: &[u8]) -> Result<(), LinkFault>
-    ensures left { L.left link.new ≡ L.left link.old }
-    ensures reads { L.reads link.new ≡ L.reads link.old }
-    ensures ends { L.ends link.new ≡ L.ends link.old }
-    ensures failures { CountsFailures result (L.failures link.old) (L.failures link.new) }
-    ensures ok { OnOk result (Appends (L.sent link.old) (L.sent link.new) bytes.now) }
-    ensures err { OnErr result (AppendsFront (L.sent link.old) (L.sent link.new) bytes.now) }
-{
-    let mut done = 0;
-    while done < bytes.len() {
-        done += link.write(&bytes[done..])?;
-    }
-    Ok(())
 }

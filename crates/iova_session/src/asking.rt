@@ -4,7 +4,7 @@ ghost use Rattle.std.specs.Prelude.{◌≡◌, ◌≢◌, ℕ, ◌+◌, ◌≤�
 ghost use Rattle.iova_range.specs.declared.limits.TheConstants.{MAX_LISTED};
 ghost use Rattle.iova_sink.specs.Calls.{good_calls};
 ghost use Rattle.iova_lock.specs.Views.{WhereKnown};
-ghost use Rattle.iova_session.specs.Domains.{KeepsOthers, Lists};
+ghost use Rattle.iova_session.specs.Domains.{FlushesAndDrains, Frees, KeepsOthers, Lists};
 ghost use Rattle.iova_session.specs.Desks.{IsFirstAnswer, IsClientAnswer, MovesBy, given_by, released, taken_by};
 
 use iova_core::ClientId;
@@ -69,6 +69,11 @@ pub(crate) fn ask_alone<C: Ledger, F: Ledger, S: Ledger, G: Ledger, K: Keep<C, F
     ensures domain { WhereKnown (K.domain keeper.old) (K.domain keeper.new) (KeepsOthers (Some id)) }
     ensures answer { IsClientAnswer listed request result }
     ensures list { request ≡ Request.List → IfSome (K.domain keeper.old) (Lists seat.old.worker id listed result) }
+    ensures free { (lo : ℕ) → request ≡ Request.Free lo → WhereKnown (K.domain keeper.old) (K.domain keeper.new)
+        (Frees (K.strict keeper.old) seat.old id lo result (K.domain_number keeper.old) (D.calls sink.old)
+        (D.calls sink.new)) }
+    ensures flush { request ≡ Request.Flush → WhereKnown (K.domain keeper.old) (K.domain keeper.new)
+        (FlushesAndDrains seat.old.worker result (K.domain_number keeper.old) (D.calls sink.old) (D.calls sink.new)) }
     ensures shares { MovesBy (given_by result) (taken_by result) seat.old.held seat.new.held }
     ensures worker { seat.new.worker ≡ seat.old.worker }
     ensures tally { seat.new.tally.good + good_calls (D.calls sink.old) ≤ seat.old.tally.good + good_calls
@@ -139,6 +144,8 @@ fn flush_and_drain<C: Ledger, F: Ledger, S: Ledger, G: Ledger, K: Keep<C, F, S, 
 ) -> Answer
     ensures number { K.domain_number keeper.new ≡ K.domain_number keeper.old }
     ensures domain { WhereKnown (K.domain keeper.old) (K.domain keeper.new) (KeepsOthers None) }
+    ensures flushes { WhereKnown (K.domain keeper.old) (K.domain keeper.new)
+        (FlushesAndDrains seat.old.worker result (K.domain_number keeper.old) (D.calls sink.old) (D.calls sink.new)) }
     ensures answer { IsClientAnswer 0 Request.Flush result }
     ensures shares { MovesBy (given_by result) (taken_by result) seat.old.held seat.new.held }
     ensures worker { seat.new.worker ≡ seat.old.worker }

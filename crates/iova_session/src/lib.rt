@@ -11,6 +11,8 @@ mod fault_tests;
 mod fresh;
 mod gathering;
 mod keeper_desk;
+#[cfg(test)]
+mod kinds_tests;
 pub mod link;
 pub mod memory_link;
 #[cfg(test)]
@@ -19,6 +21,8 @@ pub mod pairs;
 pub mod post;
 #[cfg(test)]
 mod post_tests;
+#[cfg(test)]
+mod recorded_tests;
 pub mod retry;
 pub mod run;
 pub mod serve;

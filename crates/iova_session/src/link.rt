@@ -1,7 +1,7 @@
 //! What a session reads from and writes to.
-ghost use Rattle.std.specs.Prelude.{◌≡◌, ◌+◌, ◌<◌, ◌≤◌, ℕ, List, Option, IfOk, length};
-ghost use Rattle.std.specs.Io.KnownBytes.{ReadConsumes, WriteAppends};
-ghost use Rattle.iova_session.specs.Links.{CountsFailures, CountsEnds};
+ghost use Rattle.std.specs.Prelude.{◌≡◌, ◌+◌, ◌<◌, ◌≤◌, ℕ, List, Option, IfOk, OnErr, OnOk, length};
+ghost use Rattle.std.specs.Io.KnownBytes.{Appends, ReadConsumes, WriteAppends};
+ghost use Rattle.iova_session.specs.Links.{AppendsFront, CountsEnds, CountsFailures};
 
 use thiserror::Error;
 
@@ -48,4 +48,20 @@ pub trait Link {
         ensures left { left self.new ≡ left self.old }
         ensures reads { reads self.new ≡ reads self.old }
         ensures ends { ends self.new ≡ ends self.old };
+}
+
+/// Writes all of the bytes, going on after short counts. Own.
+pub fn put_all<L: Link>(link: &mut L, bytes: &[u8]) -> Result<(), LinkFault>
+    ensures left { L.left link.new ≡ L.left link.old }
+    ensures reads { L.reads link.new ≡ L.reads link.old }
+    ensures ends { L.ends link.new ≡ L.ends link.old }
+    ensures failures { CountsFailures result (L.failures link.old) (L.failures link.new) }
+    ensures ok { OnOk result (Appends (L.sent link.old) (L.sent link.new) bytes.now) }
+    ensures err { OnErr result (AppendsFront (L.sent link.old) (L.sent link.new) bytes.now) }
+{
+    let mut done = 0;
+    while done < bytes.len() {
+        done += link.write(&bytes[done..])?;
+    }
+    Ok(())
 }

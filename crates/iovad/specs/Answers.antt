@@ -1,4 +1,4 @@
--- What a replay comes to with the report behind it. Own.
+-- What a replay comes to with the report after it. Own.
 use Rattle.std.specs.Prelude.{ℕ, ◌≡◌, Bool, true, false, List, [], take, Option, Result, Ok, Err, ⊤}
 use Rattle.std.specs.Io.KnownBytes.{Appends}
 use Rattle.iova_model.specs.State.{State}
@@ -19,7 +19,7 @@ abbrev pub Reports : Option (List ℕ) → Option (List ℕ) → State → Resul
 Reports replied filled state answer =
     (written : List ℕ) × Appends replied filled written × IsWritten (report_text state) written answer
 
--- what a writer gets behind the replies, and the answer: nothing behind a replay that fails, or where no report is wanted
+-- what a writer gets after the replies, and the answer: nothing after a replay that fails, or where no report is wanted
 abbrev pub Follows : Bool → Option (List ℕ) → Option (List ℕ) → Result (State × ℕ) ReplayFault → Result ⊤ ReplayFault → Type 0
 Follows true replied filled (Ok done) answer = Reports replied filled done.0 answer
 Follows false replied filled (Ok done) answer = (filled ≡ replied) × (answer ≡ Ok (tt {0}))

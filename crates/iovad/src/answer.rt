@@ -1,4 +1,4 @@
-//! A replay, and the report behind it.
+//! A replay, and the report after it.
 ghost use Rattle.iovad.specs.Answers.{Answers, Follows, Reports};
 
 use iova_core::domain::Domain;
@@ -9,7 +9,7 @@ use iova_trace::replay::replay;
 use std::alloc::Global;
 use std::io::{Read, Write};
 
-/// Replays a trace, and writes the report of the domain behind the replies where it is wanted. Refused as the replay is;
+/// Replays a trace, and writes the report of the domain after the replies where it is wanted. Refused as the replay is;
 /// then by `NoMemory`, with no byte of the report written, and by `WriteFault`.
 pub fn answer<R: Read, W: Write>(
     alloc: Global,
@@ -23,7 +23,7 @@ pub fn answer<R: Read, W: Write>(
     follow(alloc, replayed, writer, has_report)
 }
 
-/// Writes what comes behind the replies of this replay.
+/// Writes what comes after the replies of this replay.
 fn follow<W: Write>(
     alloc: Global,
     replayed: Result<(Domain, u64), ReplayFault>,

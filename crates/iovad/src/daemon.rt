@@ -13,7 +13,7 @@ use iova_daemon::{Served, serve_on};
 use iova_lock::seat::Seat;
 use iova_lock::shared::Shared;
 use iova_range::bounds::Bounds;
-use iova_range::limits::TALLY_PARTS;
+use iova_range::limits::{RECORDED_STEPS, TALLY_PARTS};
 use iova_range::profile::Profile;
 use iova_range::refusal::Refusal;
 use iova_session::post::Post;
@@ -32,9 +32,6 @@ use std::sync::Wait;
 use std::sync::ledger::{Blank, Ledger};
 use std::thread::Threads;
 use std::{fs, io};
-
-/// How many steps of a domain are recorded: its first ones. Own.
-pub const RECORDED_STEPS: usize = 100_000;
 
 /// Serves the plan's sessions on its socket, writes the record of the domain's steps where one is wanted, and then prints a line
 /// with the domain's number and the domain's report. The socket's file is removed once the sessions are over, also where no

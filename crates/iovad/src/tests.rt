@@ -1,4 +1,4 @@
-//! Fault texts and statuses, and the report behind the replies.
+//! Fault texts and statuses, and the report after the replies.
 use crate::answer::answer;
 use crate::fault::Fault;
 use iova_trace::fault::ReplayFault;

@@ -93,7 +93,7 @@ impl<'a> Link for RowLink<'a> {
     }
 }
 
-/// Fails at its first calls, and then accepts the sessions of a list in turn; behind its end each accept fails. How often it
+/// Fails at its first calls, and then accepts the sessions of a list in turn; after its end each accept fails. How often it
 /// was called is counted.
 #[derive(Drop)]
 pub struct Rows<'a> {
@@ -157,6 +157,38 @@ impl Pause for Yields {
     fn pause(&mut self) -> bool {
         thread::yield_now();
         true
+    }
+}
+
+/// So many rounds once a flag is raised; then it raises another one and stops.
+#[derive(Drop)]
+pub struct Few<'a> {
+    before: &'a Flag,
+    left: u64,
+    after: &'a Flag,
+}
+
+impl<'a> Few<'a> {
+    /// So many rounds between these flags.
+    pub fn new(before: &'a Flag, left: u64, after: &'a Flag) -> Few<'a> {
+        Few {
+            before,
+            left,
+            after,
+        }
+    }
+}
+
+impl<'a> Pause for Few<'a> {
+    fn pause(&mut self) -> bool {
+        self.before.wait();
+        let goes_on = self.left > 0;
+        if goes_on {
+            self.left -= 1;
+        } else {
+            self.after.raise();
+        }
+        goes_on
     }
 }
 

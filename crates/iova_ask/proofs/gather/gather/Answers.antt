@@ -14,17 +14,17 @@ returns-in_default c =
 pub returns-then-line-ge-MAX_LINE : goal.returns-then-line-ge-MAX_LINE
 returns-then-line-ge-MAX_LINE c =
     run_of c.args.bytes.now c.loop-lines.rest.now c.loop-lines.len c.loop-lines.lines c.loop-lines.invariant.0 c.loop-lines.invariant.1
-    (λ none. stuck_at_long c.loop-lines.rest.now c.in-Some.line.now c.in-Some.behind.now c.in-Some.ensures.cut c.in-Some.ensures.one c.if-line-ge-MAX_LINE.true)
+    (λ none. stuck_at_long c.loop-lines.rest.now c.in-Some.line.now c.in-Some.after.now c.in-Some.ensures.cut c.in-Some.ensures.one c.if-line-ge-MAX_LINE.true)
 
 pub returns-then-eq : goal.returns-then-eq
 returns-then-eq c =
     let is : c.in-Some.line.now ≡ bye = search rules in
-    run_by_bye c.args.bytes.now c.loop-lines.rest.now c.in-Some.line.now c.in-Some.behind.now c.loop-lines.len c.loop-lines.lines
+    run_by_bye c.args.bytes.now c.loop-lines.rest.now c.in-Some.line.now c.in-Some.after.now c.loop-lines.len c.loop-lines.lines
     c.loop-lines.invariant.0 c.in-Some.ensures.cut is (omega arith)
 
 pub loop-lines-preserved : goal.loop-lines-preserved
 loop-lines-preserved c = (
-  gathered_push c.args.bytes.now c.loop-lines.rest.now c.in-Some.line.now c.in-Some.behind.now c.loop-lines.len c.loop-lines.lines
+  gathered_push c.args.bytes.now c.loop-lines.rest.now c.in-Some.line.now c.in-Some.after.now c.loop-lines.len c.loop-lines.lines
       c.loop-lines.invariant.0 c.in-Some.ensures.cut c.in-Some.ensures.one c.if-line-ge-MAX_LINE.false (λ is. search rules),
   omega arith,
 )

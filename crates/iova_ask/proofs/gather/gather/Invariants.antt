@@ -1,6 +1,6 @@
 use Rattle.std.proofs.Common.{◌-◌, ◌≤◌}
 use Rattle.iova_range.specs.declared.limits.TheConstants.{MAX_RUN}
-use Rattle.iova_ask.specs.Runs.{IsGathered}
+use Rattle.iova_ask.proofs.Lined.{IsGathered}
 use Rattle.iova_ask.proofs.gather.gather.Given as goal
 
 abbrev pub invariant-loop-lines : goal.invariant-loop-lines

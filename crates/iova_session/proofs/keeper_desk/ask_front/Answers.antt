@@ -1,7 +1,5 @@
-use Rattle.std.proofs.Common.{◌≡◌, ◌∙◌, ap, subst, sym, arith, Vec, Global}
-use Rattle.iova_model.specs.declared.totals.Totals.{Totals}
+use Rattle.std.proofs.Common.{◌≡◌, ◌∙◌, ap, arith, Vec, Global}
 use Rattle.iova_proto.specs.declared.answer.Answer.{Answer}
-use Rattle.iova_lock.specs.Views.{SeatState}
 use Rattle.iova_session.specs.Desks.{SessionState, MovesBy, given_by, taken_by}
 use Rattle.iova_session.proofs.ToldPairs.{one_asked}
 use Rattle.iova_session.proofs.keeper_desk.ask_front.Goals as goal

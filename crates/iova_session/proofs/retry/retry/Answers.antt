@@ -1,9 +1,7 @@
-use Rattle.std.proofs.Common.{◌≡◌, ◌+◌, ◌≤◌, ◌<◌, refl, sym, ap, ◌∙◌, arith, subst, take, drop, get_or, append_assoc, append-nil, rules}
-use Rattle.std.specs.Prelude.{ℕ, List, [], ◌∷◌, ◌++◌, length, true, false}
+use Rattle.std.proofs.Common.{◌≡◌, ◌≤◌, ◌<◌, refl, sym, ◌∙◌, arith, take, get_or, append-nil}
+use Rattle.std.specs.Prelude.{[], ◌∷◌, length}
 use Rattle.std.proofs.lemmas.Grind.{common_steps}
-use Rattle.iova_lock.specs.Views.{SeatState}
-use Rattle.iova_session.specs.Posts.{IsSublist, Retries, kept_if}
-use Rattle.iova_session.proofs.Retrying.{Tried, one_kept, one_gone, kept_there, kept_more, tried_first, tried_all}
+use Rattle.iova_session.proofs.Retrying.{one_kept, one_gone, kept_there, kept_more, tried_first, tried_all}
 use Rattle.iova_session.proofs.retry.retry.Goals as goal
 use Rattle.iova_session.proofs.retry.retry.Goals.{then-waits, else-waits}
 

@@ -1,4 +1,4 @@
-use Rattle.std.proofs.Common.{◌≡◌, ◌≤◌, ◌++◌, ℕ, List, Option, length, take, drop}
+use Rattle.std.proofs.Common.{◌≡◌, ◌++◌, ℕ, List, Option, take, drop}
 use Rattle.iova_model.specs.State.{State}
 use Rattle.iova_sink.specs.Calls.{Call}
 use Rattle.iova_lock.specs.Views.{SeatState, WhereKnown}

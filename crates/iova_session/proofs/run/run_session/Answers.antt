@@ -1,4 +1,4 @@
-use Rattle.std.proofs.Common.{◌≡◌, ◌+◌, [], refl, sym, arith}
+use Rattle.std.proofs.Common.{[], sym, arith}
 use Rattle.iova_session.proofs.EndedClients.{ended_opened, none_opened, nothing_served, nothing_answered, nothing_ended, none_taken, none_sent}
 use Rattle.std.proofs.Common.{◌∙◌, None}
 use Rattle.iova_session.specs.Desks.{client_after}

@@ -1,4 +1,3 @@
-use Rattle.std.proofs.Common.{◌≡◌}
 use Rattle.iova_session.proofs.run.serve_at.Given as goal
 
 abbrev pub ghosts-serve_lent : goal.ghosts-serve_lent

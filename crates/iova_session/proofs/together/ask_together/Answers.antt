@@ -1,8 +1,8 @@
-use Rattle.std.proofs.Common.{◌≡◌, ◌+◌, ◌≤◌, sym, subst, refl, ap, ◌∙◌, arith, rules, append-nil}
-use Rattle.std.specs.Prelude.{length, take, List, ◌++◌}
+use Rattle.std.proofs.Common.{sym, ap, ◌∙◌, arith, append-nil}
+use Rattle.std.specs.Prelude.{take, List, ◌++◌}
 use Rattle.iova_session.specs.Pairs.{Pair}
-use Rattle.iova_session.specs.Desks.{SessionState, Answers, told_pairs, given_in, taken_in}
-use Rattle.iova_session.proofs.ToldPairs.{from_told, stopped_at_once, no_move, none_asked}
+use Rattle.iova_session.specs.Desks.{SessionState, told_pairs}
+use Rattle.iova_session.proofs.ToldPairs.{from_told, stopped_at_once, none_asked}
 use Rattle.iova_session.proofs.Others.{batch_keeps}
 use Rattle.iova_session.proofs.together.ask_together.Goals as goal
 

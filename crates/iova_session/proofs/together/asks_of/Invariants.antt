@@ -1,4 +1,4 @@
-use Rattle.std.proofs.Common.{◌≡◌, ◌≤◌, ◌++◌, length, take, drop}
+use Rattle.std.proofs.Common.{◌≡◌, ◌++◌, take, drop}
 use Rattle.iova_session.specs.Desks.{asks_in}
 use Rattle.iova_session.proofs.together.asks_of.Given as goal
 

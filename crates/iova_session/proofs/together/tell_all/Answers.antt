@@ -1,8 +1,6 @@
-use Rattle.std.proofs.Common.{◌≡◌, sym, ap, ◌∙◌, subst}
+use Rattle.std.proofs.Common.{sym, subst}
 use Rattle.std.specs.Prelude.{Option, ℕ, IsSome, false}
-use Rattle.iova_proto.specs.declared.answer.Answer.{Answer}
 use Rattle.iova_proto.specs.declared.request.Request.TheVariants as request
-use Rattle.iova_session.specs.Desks.{IsAnswer, answer_of}
 use Rattle.iova_session.proofs.ToldPairs.{told_at, told_short, told_answers}
 use Rattle.iova_session.proofs.together.tell_all.Goals as goal
 

@@ -1,4 +1,4 @@
-use Rattle.std.proofs.Common.{◌≡◌, ◌≤◌, ◌+◌, ◌++◌, length, take, drop, vec_len, vec_capacity}
+use Rattle.std.proofs.Common.{◌≡◌, ◌≤◌, ◌+◌, ◌++◌, length, drop, vec_len, vec_capacity}
 use Rattle.std.specs.Prelude.{map}
 use Rattle.iova_session.specs.Desks.{told_pairs, answer_of, AreTold}
 use Rattle.iova_session.proofs.together.tell_all.Given as goal

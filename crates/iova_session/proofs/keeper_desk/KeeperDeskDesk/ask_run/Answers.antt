@@ -1,4 +1,3 @@
-use Rattle.std.proofs.Common.{◌≡◌}
 use Rattle.iova_session.proofs.ToldPairs.{moved_either}
 use Rattle.iova_session.proofs.Others.{then_keeps}
 use Rattle.iova_session.proofs.keeper_desk.KeeperDeskDesk.ask_run.Goals as goal

@@ -1,6 +1,5 @@
-use Rattle.std.proofs.Common.{◌≡◌, ◌+◌, ◌≤◌, ◌<◌, ◌^◌, None, refl, sym, ap, ◌∙◌, subst, arith, rules}
-use Rattle.iova_range.specs.declared.limits.TheConstants.{MAX_LISTED}
-use Rattle.iova_session.specs.Desks.{SessionState, IsAnswer, next_client, count_listed, client_after, listed_after, AreAnswers}
+use Rattle.std.proofs.Common.{◌+◌, ◌<◌, ◌^◌, None, sym, ap, ◌∙◌, subst, arith, rules}
+use Rattle.iova_session.specs.Desks.{SessionState, IsAnswer, next_client, count_listed}
 use Rattle.iova_session.specs.Pairs.{Pair}
 use Rattle.iova_session.proofs.InTurn.{client_after_more, listed_after_more, answers_more, list_fits}
 use Rattle.iova_session.proofs.session.Session.add.Goals as goal

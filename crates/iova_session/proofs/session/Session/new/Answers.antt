@@ -1,5 +1,4 @@
-use Rattle.std.proofs.Common.{◌≡◌, refl, sym, ap, ◌∙◌, subst, arith, List, None}
-use Rattle.iova_session.specs.Pairs.{Pair}
+use Rattle.std.proofs.Common.{refl, arith}
 use Rattle.iova_session.specs.Desks.{client_after, listed_after, AreAnswers}
 use Rattle.iova_session.proofs.session.Session.new.Goals as goal
 
