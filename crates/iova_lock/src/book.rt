@@ -289,7 +289,7 @@ impl<C: Ledger, F: Ledger, S: Ledger, G: Ledger> Book<C, F, S, G> {
     }
 
     /// Runs a seat's step that may queue a range, unless one of the seat's shares is less than the range.
-    #[inline]
+    #[inline(always)]
     pub(crate) fn run_within(&mut self, seat: &mut Seat<C, F, S, G>, step: Step) -> Reply
         requires by_seat { by_seat step ≡ true }
         requires worker { worker_of step ≡ Some seat.old.worker }
@@ -299,24 +299,35 @@ impl<C: Ledger, F: Ledger, S: Ledger, G: Ledger> Book<C, F, S, G> {
         ensures seat { MovesTotals result seat.old.held seat.new.held }
         ensures rest { (seat.new.worker ≡ seat.old.worker) × (seat.new.tally ≡ seat.old.tally) }
     {
-        if !self.covers_step(seat.worker(), seat.held(), step) {
+        if !self.covers_step(seat, step) {
             return Reply::Refused(Refusal::NotHeld);
         }
         self.run(seat, step)
     }
 
-    /// Whether the totals cover what a step of the worker would queue. They do where they are at least the worker's share of
-    /// the domain's totals; only where they aren't the range is sought.
-    #[inline]
-    fn covers_step(&self, worker: u64, held: Totals, step: Step) -> bool
-        requires { worker_of step ≡ Some worker }
-        ensures yes { result ≡ true → (r : Frames) → to_queue self.now.state step ≡ Some r → Covers held r }
-        ensures none { result ≡ false → IsShort held (to_queue self.now.state step) }
+    /// Whether the seat's shares cover what a step of its worker would queue. They do where they are at least the worker's
+    /// share of the domain's totals; only where they aren't the range is sought.
+    #[inline(always)]
+    fn covers_step(&self, seat: &Seat<C, F, S, G>, step: Step) -> bool
+        requires { worker_of step ≡ Some seat.now.worker }
+        ensures yes { result ≡ true → (r : Frames) → to_queue self.now.state step ≡ Some r
+            → Covers seat.now.held r }
+        ensures none { result ≡ false → IsShort seat.now.held (to_queue self.now.state step) }
     {
-        if self.machine.share_is_within(worker, held) {
+        if self.machine.share_is_within(seat.worker(), seat.held()) {
             return true;
         }
-        covers(held, self.machine.to_queue(step))
+        self.covers_range(seat, step)
+    }
+
+    /// The same, by the range itself.
+    #[inline(never)]
+    fn covers_range(&self, seat: &Seat<C, F, S, G>, step: Step) -> bool
+        ensures yes { result ≡ true → (r : Frames) → to_queue self.now.state step ≡ Some r
+            → Covers seat.now.held r }
+        ensures none { result ≡ false → IsShort seat.now.held (to_queue self.now.state step) }
+    {
+        covers(seat.held(), self.machine.to_queue(step))
     }
 
     /// Closes the client, range by range, until a step queues none, and answers that step's reply.

@@ -152,9 +152,8 @@ impl Machine {
         steps_keep_the_domain();
         let _workers = self.domain.workers();
         let answer = self.domain.step_at(step);
-        let reply = answer.0;
-        store(&mut self.log, pair_of(step, answer.1, answer.0));
-        reply
+        store(&mut self.log, step, answer.1, answer.0);
+        answer.0
     }
 
     /// The totals over all holdings of all clients.
@@ -288,30 +287,25 @@ impl Machine {
     }
 }
 
+/// Stores a step, the growth in it that was refused, and its reply, where there is a log.
 #[inline]
-fn pair_of(step: Step, point: Point, reply: Reply) -> Stored
-    ensures { result ≡ record { step = step; point = point; reply = reply } }
-{
-    Stored { step, point, reply }
-}
-
-/// Stores a pair where there is a log.
-#[inline]
-fn store(log: &mut Option<Log>, pair: Stored)
-    ensures { Stores log.old pair log.new }
+fn store(log: &mut Option<Log>, step: Step, point: Point, reply: Reply)
+    ensures { Stores log.old (record { step = step; point = point; reply = reply }) log.new }
 {
     if let Some(log) = log {
-        log.store(pair);
+        log.store(step, point, reply);
     }
 }
 
 impl Log {
-    /// Stores a pair where there is room, and else records no more.
-    fn store(&mut self, pair: Stored)
-        ensures { StoresPair self.old pair self.new }
+    /// Stores a pair where there is room, and else records no more. Out of line, so that it costs a domain without a log
+    /// nothing but the question.
+    #[inline(never)]
+    fn store(&mut self, step: Step, point: Point, reply: Reply)
+        ensures { StoresPair self.old (record { step = step; point = point; reply = reply }) self.new }
     {
         if self.recording && self.pairs.len() < self.pairs.capacity() {
-            self.pairs.push_reserved(pair);
+            self.pairs.push_reserved(Stored { step, point, reply });
         } else {
             self.recording = false;
         }
