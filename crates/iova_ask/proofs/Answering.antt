@@ -2,20 +2,20 @@
 use Rattle.std.proofs.Common.{ℕ, ◌≡◌, ◌+◌, ◌≤◌, ◌∙◌, List, [], ◌∷◌, ◌++◌, length, take, flat_map, refl, sym, ap, subst, arith, length-append}
 use Rattle.std.proofs.lemmas.List.{append-nil, append_assoc}
 use Rattle.std.proofs.lemmas.Grind.{flat_map-append}
-use Rattle.iova_ask.specs.Answers.{AreAnswers, AreOwed, GoesOn, IsAnswer, IsAnswered, Leaves}
+use Rattle.iova_ask.specs.Answers.{AreWholeAnswers, AreOwed, HasLinesAfter, IsWholeAnswer, IsAnswered, LeavesOwed}
 use Rattle.iova_ask.specs.Asking.{AreLines, IsLine, lines_text}
 use Rattle.iova_ask.specs.declared.answers.Owed.{Owed}
 use Rattle.iova_text.specs.Lines.{whole_line}
 use Rattle.iova_ask.proofs.Lined.{all_append, length_push, lines_text-none, take_front, whole_push}
 
-pub no_answers : AreAnswers 0 []
+pub no_answers : AreWholeAnswers 0 []
 no_answers = record { answers = []; lines = tt; each = tt; whole = refl; count = refl }
 
-pub answers_append : (i j : ℕ) (ls ms : List (List ℕ)) → AreAnswers i ls → AreAnswers j ms → AreAnswers (i + j) (ls ++ ms)
+pub answers_append : (i j : ℕ) (ls ms : List (List ℕ)) → AreWholeAnswers i ls → AreWholeAnswers j ms → AreWholeAnswers (i + j) (ls ++ ms)
 answers_append i j ls ms x y = record {
   answers = x.answers ++ y.answers;
   lines = all_append IsLine ls ms x.lines y.lines;
-  each = all_append IsAnswer x.answers y.answers x.each y.each;
+  each = all_append IsWholeAnswer x.answers y.answers x.each y.each;
   whole = ap (λ (t : List (List ℕ)). t ++ ms) x.whole ∙ (ap (λ (t : List (List ℕ)). flat_map (λ (a : List (List ℕ)). a) x.answers ++ t) y.whole
       ∙ sym (flat_map-append (λ (a : List (List ℕ)). a) x.answers y.answers));
   count = omega (arith, length-append x.answers y.answers, x.count, y.count);
@@ -23,31 +23,31 @@ answers_append i j ls ms x y = record {
 
 -- nothing, and one line after others
 
-pub leaves_all : (owed : Owed) → Leaves owed [] owed
+pub leaves_all : (owed : Owed) → LeavesOwed owed [] owed
 leaves_all owed more h = h
 
-pub leaves_push : (owed mid left : Owed) (ls : List (List ℕ)) (l : List ℕ) → Leaves owed ls mid → Leaves mid (l ∷ []) left → Leaves owed (ls ++ l ∷ []) left
+pub leaves_push : (owed mid left : Owed) (ls : List (List ℕ)) (l : List ℕ) → LeavesOwed owed ls mid → LeavesOwed mid (l ∷ []) left → LeavesOwed owed (ls ++ l ∷ []) left
 leaves_push owed mid left ls l x y more h = subst (AreOwed owed) (sym (append_assoc ls (l ∷ []) more)) (x (l ∷ more) (y more h))
 
-pub leaves_trans : (owed mid left : Owed) (ls ms : List (List ℕ)) → Leaves owed ls mid → Leaves mid ms left → Leaves owed (ls ++ ms) left
+pub leaves_trans : (owed mid left : Owed) (ls ms : List (List ℕ)) → LeavesOwed owed ls mid → LeavesOwed mid ms left → LeavesOwed owed (ls ++ ms) left
 leaves_trans owed mid left ls ms x y more h = subst (AreOwed owed) (sym (append_assoc ls ms more)) (x (ms ++ more) (y more h))
 
 -- a line that goes on an answer
-pub leaves_range : (owed left : Owed) (l : List ℕ) → IsLine l → owed.ranges ≡ left.ranges + 1 → owed.answers ≡ left.answers → Leaves owed (l ∷ []) left
+pub leaves_range : (owed left : Owed) (l : List ℕ) → IsLine l → owed.ranges ≡ left.ranges + 1 → owed.answers ≡ left.answers → LeavesOwed owed (l ∷ []) left
 leaves_range owed left l is ranges answers more h = record {
   front = l ∷ h.front;
   rest = h.rest;
   whole = ap (λ (t : List (List ℕ)). l ∷ t) h.whole;
   lines = (is, h.lines);
   ranges = omega (arith, ranges, h.ranges);
-  answers = subst (λ (n : ℕ). AreAnswers n h.rest) (sym answers) h.answers;
+  answers = subst (λ (n : ℕ). AreWholeAnswers n h.rest) (sym answers) h.answers;
 }
 
 -- a line that begins an answer
-pub leaves_first : (owed left : Owed) (l : List ℕ) → IsLine l → owed.ranges ≡ 0 → owed.answers ≡ left.answers + 1 → GoesOn l left.ranges
-    → Leaves owed (l ∷ []) left
+pub leaves_first : (owed left : Owed) (l : List ℕ) → IsLine l → owed.ranges ≡ 0 → owed.answers ≡ left.answers + 1 → HasLinesAfter l left.ranges
+    → LeavesOwed owed (l ∷ []) left
 leaves_first owed left l is none answers on more h =
-    let first : IsAnswer (l ∷ h.front) = record { first = l; others = h.front; whole = refl; count = subst (GoesOn l) h.ranges on } in
+    let first : IsWholeAnswer (l ∷ h.front) = record { first = l; others = h.front; whole = refl; count = subst (HasLinesAfter l) h.ranges on } in
     record {
       front = [];
       rest = l ∷ more;
@@ -74,17 +74,17 @@ nothing_owed owed ranges answers = record {
   whole = refl;
   lines = tt;
   ranges = ranges;
-  answers = subst (λ (n : ℕ). AreAnswers n []) (sym answers) no_answers;
+  answers = subst (λ (n : ℕ). AreWholeAnswers n []) (sym answers) no_answers;
 }
 
 -- nothing is owed after them: they are the answers
-pub are_answers : (owed left : Owed) (ls : List (List ℕ)) (n : ℕ) → Leaves owed ls left → owed.ranges ≡ 0 → owed.answers ≡ n → left.ranges ≡ 0
-    → left.answers ≡ 0 → AreAnswers n ls
+pub are_answers : (owed left : Owed) (ls : List (List ℕ)) (n : ℕ) → LeavesOwed owed ls left → owed.ranges ≡ 0 → owed.answers ≡ n → left.ranges ≡ 0
+    → left.answers ≡ 0 → AreWholeAnswers n ls
 are_answers owed left ls n leaves no_ranges is_n ranges answers =
     let all : AreOwed owed (ls ++ []) = leaves [] (nothing_owed left ranges answers) in
     let front : all.front ≡ [] = nothing_in_front all.front (sym no_ranges ∙ all.ranges) in
     let whole : all.rest ≡ ls = sym (all.whole ∙ ap (λ (t : List (List ℕ)). t ++ all.rest) front) ∙ append-nil ls in
-    subst (λ (t : List (List ℕ)). AreAnswers n t) whole (subst (λ (k : ℕ). AreAnswers k all.rest) is_n all.answers)
+    subst (λ (t : List (List ℕ)). AreWholeAnswers n t) whole (subst (λ (k : ℕ). AreWholeAnswers k all.rest) is_n all.answers)
 
 -- bytes, and the lines in them
 
@@ -93,7 +93,7 @@ pub record IsAnsweredSoFar (bytes : List ℕ) (owed : Owed) (rest : List ℕ) (l
   pub ls : List (List ℕ)
   pub whole : bytes ≡ lines_text ls ++ rest
   pub len_is : len ≡ length (lines_text ls)
-  pub leaves : Leaves owed ls left
+  pub leaves : LeavesOwed owed ls left
 
 pub is_answered : (bytes : List ℕ) (owed : Owed) (rest : List ℕ) (len : ℕ) (left : Owed) → IsAnsweredSoFar bytes owed rest len left → IsAnswered bytes owed len left
 is_answered bytes owed rest len left x = record { ls = x.ls; rest = rest; whole = x.whole; len_is = x.len_is; leaves = x.leaves }
@@ -107,7 +107,7 @@ answered_none bytes owed = record {
 }
 
 pub answered_push : (bytes rest l after : List ℕ) (len : ℕ) (owed mid left : Owed) → IsAnsweredSoFar bytes owed rest len mid → rest ≡ whole_line l ++ after
-    → Leaves mid (l ∷ []) left → IsAnsweredSoFar bytes owed after (len + (length l + 1)) left
+    → LeavesOwed mid (l ∷ []) left → IsAnsweredSoFar bytes owed after (len + (length l + 1)) left
 answered_push bytes rest l after len owed mid left x cut leaves = record {
   ls = x.ls ++ l ∷ [];
   whole = whole_push x.ls bytes rest l after x.whole cut;

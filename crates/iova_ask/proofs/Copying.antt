@@ -3,7 +3,7 @@ use Rattle.std.proofs.Common.{ℕ, ◌≡◌, ◌+◌, ◌∙◌, List, [], ◌+
 use Rattle.std.proofs.lemmas.List.{append-nil, append_assoc, take-append-drop}
 use Rattle.std.proofs.KnownBytes.{Appends-nil, Appends-trans, Consumes-nil, Consumes-trans}
 use Rattle.std.specs.Io.KnownBytes.{Appends, Consumes}
-use Rattle.iova_ask.specs.Answers.{IsAnswered, Leaves}
+use Rattle.iova_ask.specs.Answers.{IsAnswered, LeavesOwed}
 use Rattle.iova_ask.specs.Asking.{Breaks, Passes, lines_text}
 use Rattle.iova_ask.specs.Runs.{Copies, CopiesMore}
 use Rattle.iova_ask.specs.declared.answers.Owed.{Owed}
@@ -43,8 +43,8 @@ Passes-lines a b p q r k l m ls ms n x writes is text =
 
 -- and what is owed after them
 pub answered_on : (owed mid left : Owed) (len : ℕ) (a b p q r : Option (List ℕ)) (k l m seen : List ℕ)
-    → (ls : List (List ℕ)) × Leaves owed ls mid × Passes a b p q k l (lines_text ls) → IsAnswered seen mid len left → seen ≡ l → Appends q r (take len l)
-    → m ≡ drop len l → (ls : List (List ℕ)) × Leaves owed ls left × Passes a b p r k m (lines_text ls)
+    → (ls : List (List ℕ)) × LeavesOwed owed ls mid × Passes a b p q k l (lines_text ls) → IsAnswered seen mid len left → seen ≡ l → Appends q r (take len l)
+    → m ≡ drop len l → (ls : List (List ℕ)) × LeavesOwed owed ls left × Passes a b p r k m (lines_text ls)
 answered_on owed mid left len a b p q r k l m seen x y same writes is =
     let answered = subst (λ (t : List ℕ). IsAnswered t mid len left) same y in (
       x.0 ++ answered.ls,

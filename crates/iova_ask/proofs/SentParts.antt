@@ -7,7 +7,7 @@ use Rattle.std.specs.Io.KnownBytes.{Appends, IsAtEnd}
 use Rattle.std.proofs.KnownBytes.{Appends-nil, Appends-trans}
 use Rattle.iova_text.specs.Lines.{IsUnended, whole_line}
 use Rattle.iova_ask.specs.Asking.{AreLines, AreLinesAnd, BeginWith, IsLine, Sends, lines_text}
-use Rattle.iova_ask.specs.Runs.{Asks, Rests}
+use Rattle.iova_ask.specs.Runs.{SendsRun, Rests}
 use Rattle.iova_ask.specs.declared.fault.AskFault.{AskFault}
 use Rattle.iova_ask.specs.declared.fault.AskFault.TheVariants as fault
 use Rattle.iova_ask.proofs.Lined.{all_append, lines_text-append, lines_text-none, lines_text-one, lines_text-push, more_bye, more_sent, some_sent, open_append}
@@ -29,7 +29,7 @@ none_asked bytes p n = (
 
 -- a fault that is none of reading
 pub asks_broken : (old new : List ℕ) (before now : ℕ) (p q : Option (List ℕ)) (e : AskFault) → e ≢ fault.Read
-    → (ls : List (List ℕ)) → AreLines ls → BeginWith old ls → (n : ℕ) → Appends p q (take n (lines_text ls)) → Asks old new before now p q (Err e)
+    → (ls : List (List ℕ)) → AreLines ls → BeginWith old ls → (n : ℕ) → Appends p q (take n (lines_text ls)) → SendsRun old new before now p q (Err e)
 asks_broken old new before now p q fault.Read not ls good begin n sent = absurd (not refl)
 asks_broken old new before now p q fault.Write not ls good begin n sent = (ls, good, begin, (n, sent))
 asks_broken old new before now p q fault.Link not ls good begin n sent = (ls, good, begin, (n, sent))
@@ -61,7 +61,7 @@ pub length_more : (ls ms : List (List ℕ)) (before now : ℕ) → before ≡ le
 length_more ls ms before now a b = omega (arith, length-append ls ms, a, b)
 
 pub sends_broken : (taken mid new : List ℕ) (before now : ℕ) (left p q r : Option (List ℕ)) (ls : List (List ℕ)) (e : AskFault) → AreLinesAnd taken mid ls
-    → Appends p q (lines_text ls) → Asks mid new before now q r (Err e) → Sends taken left p r (Err e)
+    → Appends p q (lines_text ls) → SendsRun mid new before now q r (Err e) → Sends taken left p r (Err e)
 sends_broken taken mid new before now left p q r ls fault.Read a sent h =
     (ls ++ h.0, h.1, more_lines taken mid h.1 ls h.0 a h.2, inr h.3, more_sent p q r ls h.0 sent h.4)
 sends_broken taken mid new before now left p q r ls fault.Write a sent h =
@@ -72,7 +72,7 @@ sends_broken taken mid new before now left p q r ls fault.NoMemory a sent h =
     (ls ++ h.0, all_append IsLine ls h.0 a.good.lines h.1, inl (more_begin taken mid ls h.0 a.whole h.2), (_, some_sent p q r ls h.0 h.3.0 sent h.3.1))
 
 pub sends_bye : (taken mid new : List ℕ) (before now : ℕ) (left p q r : Option (List ℕ)) (ls : List (List ℕ)) → AreLinesAnd taken mid ls
-    → Appends p q (lines_text ls) → before ≡ length ls → Asks mid new before now q r (Ok true) → Sends taken left p r (Ok now)
+    → Appends p q (lines_text ls) → before ≡ length ls → SendsRun mid new before now q r (Ok true) → Sends taken left p r (Ok now)
 sends_bye taken mid new before now left p q r ls a sent count h = (
   ls ++ h.0,
   inl (more_bye ls h.0 a.good h.1, more_begin taken mid ls h.0 a.whole h.2),

@@ -5,21 +5,21 @@ use Rattle.iova_ask.specs.Asking.{AreLines, lines_text}
 use Rattle.iova_ask.specs.declared.answers.Owed.{Owed}
 
 -- How many lines go on an answer that begins with this line: n after `held n`, and none after any other.
-abbrev pub GoesOn : List ℕ → ℕ → Type 0
-GoesOn line n = (line ≡ codes "held " ++ decimal n) ⊎ ((n ≡ 0) × ((k : ℕ) → k < 2 ^ 64 → line ≢ codes "held " ++ decimal k))
+abbrev pub HasLinesAfter : List ℕ → ℕ → Type 0
+HasLinesAfter line n = (line ≡ codes "held " ++ decimal n) ⊎ ((n ≡ 0) × ((k : ℕ) → k < 2 ^ 64 → line ≢ codes "held " ++ decimal k))
 
 -- the lines of one answer: the first, and as many as go on it
-pub record IsAnswer (ls : List (List ℕ)) : Type 0 where
+pub record IsWholeAnswer (ls : List (List ℕ)) : Type 0 where
   pub first : List ℕ
   pub others : List (List ℕ)
   pub whole : ls ≡ first ∷ others
-  pub count : GoesOn first (length others)
+  pub count : HasLinesAfter first (length others)
 
 -- the lines are so many answers, one after the other
-pub record AreAnswers (n : ℕ) (ls : List (List ℕ)) : Type 0 where
+pub record AreWholeAnswers (n : ℕ) (ls : List (List ℕ)) : Type 0 where
   pub answers : List (List (List ℕ))
   pub lines : AreLines ls
-  pub each : AllByRecursion IsAnswer answers
+  pub each : AllByRecursion IsWholeAnswer answers
   pub whole : ls ≡ flat_map (λ answer. answer) answers
   pub count : n ≡ length answers
 
@@ -30,11 +30,11 @@ pub record AreOwed (owed : Owed) (ls : List (List ℕ)) : Type 0 where
   pub whole : ls ≡ front ++ rest
   pub lines : AreLines front
   pub ranges : owed.ranges ≡ length front
-  pub answers : AreAnswers owed.answers rest
+  pub answers : AreWholeAnswers owed.answers rest
 
 -- after these lines that much is still to come
-abbrev pub Leaves : Owed → List (List ℕ) → Owed → Type 0
-Leaves owed ls left = (more : List (List ℕ)) → AreOwed left more → AreOwed owed (ls ++ more)
+abbrev pub LeavesOwed : Owed → List (List ℕ) → Owed → Type 0
+LeavesOwed owed ls left = (more : List (List ℕ)) → AreOwed left more → AreOwed owed (ls ++ more)
 
 -- the lines at the front of the bytes that were owed, and what is owed after them
 pub record IsAnswered (bytes : List ℕ) (owed : Owed) (len : ℕ) (left : Owed) : Type 0 where
@@ -42,4 +42,4 @@ pub record IsAnswered (bytes : List ℕ) (owed : Owed) (len : ℕ) (left : Owed)
   pub rest : List ℕ
   pub whole : bytes ≡ lines_text ls ++ rest
   pub len_is : len ≡ length (lines_text ls)
-  pub leaves : Leaves owed ls left
+  pub leaves : LeavesOwed owed ls left

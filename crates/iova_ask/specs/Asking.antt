@@ -50,8 +50,8 @@ IsWhole taken left ls = (EndByBye ls × BeginWith taken ls) ⊎ (IsAtEnd left ×
     ⊎ ((rest : List ℕ) × (others : List (List ℕ)) × AreLinesAnd taken rest others × IsLine rest × (ls ≡ others ++ rest ∷ []))))
 
 -- some lines at the front of what was taken, the last with an LF of its own where the input ends without one
-abbrev pub Begins : List ℕ → List (List ℕ) → Type 0
-Begins taken ls = BeginWith taken ls ⊎ BeginWith (taken ++ 10 ∷ []) ls
+abbrev pub AreInFront : List ℕ → List (List ℕ) → Type 0
+AreInFront taken ls = BeginWith taken ls ⊎ BeginWith (taken ++ 10 ∷ []) ls
 
 -- what was sent of an input, of which this was taken and this is left, and the answer
 abbrev pub Sends : List ℕ → Option (List ℕ) → Option (List ℕ) → Option (List ℕ) → Result ℕ AskFault → Type 0
@@ -59,7 +59,7 @@ Sends taken left sent filled (Ok n) = (ls : List (List ℕ)) × IsWhole taken le
 Sends taken left sent filled (Err fault.Read) =
     (ls : List (List ℕ)) × (rest : List ℕ) × AreLinesAnd taken rest ls × (IsUnended rest ⊎ IsOverlong rest) × Appends sent filled (lines_text ls)
 Sends taken left sent filled (Err other) =
-    (ls : List (List ℕ)) × AreLines ls × Begins taken ls × ((n : ℕ) × Appends sent filled (take n (lines_text ls)))
+    (ls : List (List ℕ)) × AreLines ls × AreInFront taken ls × ((n : ℕ) × Appends sent filled (take n (lines_text ls)))
 
 -- Some bytes were read from a link, and these written. What was kept and then read is what was written and what is kept now.
 pub record Passes (left after out filled : Option (List ℕ)) (kept now_kept written : List ℕ) : Type 0 where

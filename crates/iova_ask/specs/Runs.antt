@@ -4,7 +4,7 @@ use Rattle.std.specs.Io.KnownBytes.{Appends}
 use Rattle.iova_range.specs.declared.limits.TheConstants.{MAX_RUN}
 use Rattle.iova_text.specs.Lines.{IsUnended, IsOverlong, whole_line}
 use Rattle.iova_ask.specs.Asking.{AreLines, AreLinesAnd, AreOpen, EndByBye, BeginWith, IsLine, Passes, lines_text}
-use Rattle.iova_ask.specs.Answers.{AreAnswers}
+use Rattle.iova_ask.specs.Answers.{AreWholeAnswers}
 use Rattle.iova_ask.specs.declared.gather.Run.{Run}
 use Rattle.iova_ask.specs.declared.fault.AskFault.{AskFault}
 use Rattle.iova_ask.specs.declared.fault.AskFault.TheVariants as fault
@@ -14,7 +14,7 @@ abbrev pub IsStuck : List ℕ → Type 0
 IsStuck rest = IsUnended rest ⊎ IsOverlong rest
 
 -- the lines of a run, and what stands after them
-pub record IsRun (bytes : List ℕ) (run : Run) : Type 0 where
+pub record IsRunOfLines (bytes : List ℕ) (run : Run) : Type 0 where
   pub lines : List (List ℕ)
   pub rest : List ℕ
   pub whole : bytes ≡ lines_text lines ++ rest
@@ -25,14 +25,14 @@ pub record IsRun (bytes : List ℕ) (run : Run) : Type 0 where
   pub stuck : run.lines ≡ 0 → IsStuck rest
 
 -- What was sent of the bytes at hand, where `sent` lines had been sent, and the answer.
-abbrev pub Asks : List ℕ → List ℕ → ℕ → ℕ → Option (List ℕ) → Option (List ℕ) → Result Bool AskFault → Type 0
-Asks old new before now sent filled (Ok true) =
+abbrev pub SendsRun : List ℕ → List ℕ → ℕ → ℕ → Option (List ℕ) → Option (List ℕ) → Result Bool AskFault → Type 0
+SendsRun old new before now sent filled (Ok true) =
     (ls : List (List ℕ)) × EndByBye ls × BeginWith old ls × Appends sent filled (lines_text ls) × (now ≡ before + length ls)
-Asks old new before now sent filled (Ok false) =
+SendsRun old new before now sent filled (Ok false) =
     (ls : List (List ℕ)) × AreLinesAnd old new ls × IsUnended new × Appends sent filled (lines_text ls) × (now ≡ before + length ls)
-Asks old new before now sent filled (Err fault.Read) =
+SendsRun old new before now sent filled (Err fault.Read) =
     (ls : List (List ℕ)) × (rest : List ℕ) × AreLinesAnd old rest ls × IsOverlong rest × Appends sent filled (lines_text ls)
-Asks old new before now sent filled (Err other) =
+SendsRun old new before now sent filled (Err other) =
     (ls : List (List ℕ)) × AreLines ls × BeginWith old ls × ((n : ℕ) × Appends sent filled (take n (lines_text ls)))
 
 -- What was sent of the rest of an input without an LF, where `before` lines had been sent, and the answer.
@@ -45,7 +45,7 @@ Rests rest before sent filled (Err other) = IsLine rest × ((n : ℕ) × Appends
 -- So many answers were copied, line by line as they came.
 pub record Copies (n : ℕ) (left after out filled : Option (List ℕ)) (kept now_kept : List ℕ) : Type 0 where
   pub ls : List (List ℕ)
-  pub answers : AreAnswers n ls
+  pub answers : AreWholeAnswers n ls
   pub passes : Passes left after out filled kept now_kept (lines_text ls)
 
 -- as many as the count of lines that were sent has grown by

@@ -1,7 +1,7 @@
 //! Answers copied from a link to a writer.
 ghost use Rattle.std.specs.Prelude.{◌≡◌, ◌≢◌, ◌<◌, ◌≤◌, ◌+◌, [], ◌∷◌, ℕ, List, IfErr, IfOk, MatchResult, OnErr, OnOk, drop, length, take};
 ghost use Rattle.std.specs.Io.KnownBytes.{Appends, Consumes};
-ghost use Rattle.iova_ask.specs.Answers.{GoesOn, IsAnswered, Leaves};
+ghost use Rattle.iova_ask.specs.Answers.{HasLinesAfter, IsAnswered, LeavesOwed};
 ghost use Rattle.iova_ask.specs.Asking.{Breaks, IsLine};
 ghost use Rattle.iova_ask.specs.Runs.{Copies};
 
@@ -126,7 +126,7 @@ fn answered(bytes: &[u8], owed: Owed) -> (usize, Owed)
 fn after_line(owed: Owed, line: &[u8]) -> Owed
     requires some { 1 ≤ owed.ranges + owed.answers }
     requires line { IsLine line.now }
-    ensures { Leaves owed (line.now ∷ []) result }
+    ensures { LeavesOwed owed (line.now ∷ []) result }
 {
     if owed.ranges > 0 {
         Owed {
@@ -143,7 +143,7 @@ fn after_line(owed: Owed, line: &[u8]) -> Owed
 
 /// How many lines go on an answer that begins with this line: `n` after `held n`, and none after any other.
 fn ranges_of(line: &[u8]) -> u64
-    ensures { GoesOn line.now result }
+    ensures { HasLinesAfter line.now result }
 {
     match line.strip_prefix(b"held ".as_slice()) {
         Some(digits) => number(digits).unwrap_or(0),

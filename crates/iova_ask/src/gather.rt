@@ -1,5 +1,5 @@
 //! The whole lines at hand.
-ghost use Rattle.iova_ask.specs.Runs.{IsRun};
+ghost use Rattle.iova_ask.specs.Runs.{IsRunOfLines};
 
 use iova_range::limits::{MAX_LINE, MAX_RUN};
 use iova_text::line::cut_line;
@@ -17,7 +17,7 @@ pub(crate) struct Run {
 
 /// The whole lines at the front of the bytes, at most 16, up to the first `bye`, and before a line of more than 128 bytes.
 pub(crate) fn gather(bytes: &[u8]) -> Run
-    ensures { IsRun bytes.now result }
+    ensures { IsRunOfLines bytes.now result }
 {
     let mut rest = bytes;
     let mut len = 0;

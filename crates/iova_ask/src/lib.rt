@@ -5,7 +5,7 @@ ghost use Rattle.std.specs.Prelude.{List, ◌≡◌, ◌≢◌, ◌+◌, ◌^◌
 ghost use Rattle.std.specs.Io.KnownBytes.{Appends, Consumes, IsAtEnd, Keeps};
 ghost use Rattle.iova_text.specs.Lines.{IsUnended};
 ghost use Rattle.iova_ask.specs.Asking.{Breaks, Sends};
-ghost use Rattle.iova_ask.specs.Runs.{Asks, Copies, CopiesMore, Rests};
+ghost use Rattle.iova_ask.specs.Runs.{SendsRun, Copies, CopiesMore, Rests};
 
 mod answers;
 mod buffer;
@@ -81,7 +81,7 @@ fn ask_whole<W: Write, L: Link>(
     sent: &mut u64,
 ) -> Result<bool, AskFault>
     requires { sent.old + length input.old < 2 ^ 63 }
-    ensures asked { Asks input.old input.new sent.old sent.new (L.sent link.old) (L.sent link.new) result }
+    ensures asked { SendsRun input.old input.new sent.old sent.new (L.sent link.old) (L.sent link.new) result }
     ensures copied { MatchResult result
         (λ _. CopiesMore sent.old sent.new (L.left link.old) (L.left link.new) (W.contents writer.old) (W.contents writer.new) answers.old answers.new)
         (λ _. Breaks (L.left link.old) (L.left link.new) (W.contents writer.old) (W.contents writer.new) answers.old) }

@@ -7,7 +7,7 @@ use Rattle.iova_proto.specs.Requests.{IsRequest}
 use Rattle.iova_proto.specs.declared.request.Request.{Request}
 use Rattle.iova_session.specs.Pairs.{Pair, asked, told, requests_text, answers_text}
 use Rattle.iova_session.specs.Sessions.{bad_line, too_many, HasNoBye, StopsAtBye, EndsInBye, BeginsWith, IsPastLimit, IsLastLine, EndsSo, Serves}
-use Rattle.iova_session.specs.Rounds.{GoesOn}
+use Rattle.iova_session.specs.Rounds.{AllAnswered}
 use Rattle.iova_session.specs.declared.end.End.{End}
 use Rattle.iova_session.specs.declared.end.End.TheVariants as ends
 use Rattle.iova_session.proofs.Texts.{requests_text-nil, asked-append, asked_both, told_both, length-asked, asked-nil, none_told}
@@ -50,8 +50,8 @@ cut_both ps qs w v line n e f =
     ap (λ x. w ++ x) f ∙ sym (take-append-add w (answers_text (told qs) ++ line) n)
     ∙ ap (take (length w + n)) (line_both ps qs w (answers_text (told qs) ++ line) line e refl)
 
-pub GoesOn-none : GoesOn [] [] [] []
-GoesOn-none = record {
+pub AllAnswered-none : AllAnswered [] [] [] []
+AllAnswered-none = record {
   lines = record {
     good = let P : List Request → Type 0 = λ x. AllByRecursion IsRequest x in subst P (sym asked-nil) tt;
     whole = sym (append-nil (requests_text (asked [])) ∙ ap requests_text asked-nil ∙ requests_text-nil);
@@ -60,8 +60,8 @@ GoesOn-none = record {
   answered = none_told;
 }
 
-pub GoesOn-kept : (kept : List ℕ) → GoesOn kept [] kept []
-GoesOn-kept kept = record {
+pub AllAnswered-kept : (kept : List ℕ) → AllAnswered kept [] kept []
+AllAnswered-kept kept = record {
   lines = record {
     good = let P : List Request → Type 0 = λ x. AllByRecursion IsRequest x in subst P (sym asked-nil) tt;
     whole = ap (λ x. x ++ kept) (sym (ap requests_text asked-nil ∙ requests_text-nil));
@@ -70,9 +70,9 @@ GoesOn-kept kept = record {
   answered = none_told;
 }
 
-pub GoesOn-then : (bytes piece next more w v : List ℕ) (ps qs : List Pair) → GoesOn bytes ps next w → GoesOn (next ++ piece) qs more v
-    → GoesOn (bytes ++ piece) (ps ++ qs) more (w ++ v)
-GoesOn-then bytes piece next more w v ps qs a b = record {
+pub AllAnswered-then : (bytes piece next more w v : List ℕ) (ps qs : List Pair) → AllAnswered bytes ps next w → AllAnswered (next ++ piece) qs more v
+    → AllAnswered (bytes ++ piece) (ps ++ qs) more (w ++ v)
+AllAnswered-then bytes piece next more w v ps qs a b = record {
   lines = record {
     good = good_both ps qs a.lines.good b.lines.good;
     whole = behind_pairs bytes piece next more ps qs a.lines.whole b.lines.whole;
@@ -112,7 +112,7 @@ says_both most here reads w v rest ps qs ends.NoMemory l e h b = (
 
 -- a session goes on, and ends at the next piece
 pub Serves-then : (most here reads : ℕ) (bytes piece next w v : List ℕ) (ps qs : List Pair) (end : End) → length ps + here ≡ most
-    → reads ≤ MAX_SESSION_READS → GoesOn bytes ps next w → Serves here (next ++ piece) qs v 0 end
+    → reads ≤ MAX_SESSION_READS → AllAnswered bytes ps next w → Serves here (next ++ piece) qs v 0 end
     → Serves most (bytes ++ piece) (ps ++ qs) (w ++ v) reads end
 Serves-then most here reads bytes piece next w v ps qs end l few a b = record {
   rest = b.rest;
@@ -127,7 +127,7 @@ Serves-then most here reads bytes piece next w v ps qs end l few a b = record {
 }
 
 -- what stands in the bytes where a session goes on
-pub begins : (most here : ℕ) (bytes next w : List ℕ) (ps : List Pair) → length ps + here ≡ most → GoesOn bytes ps next w
+pub begins : (most here : ℕ) (bytes next w : List ℕ) (ps : List Pair) → length ps + here ≡ most → AllAnswered bytes ps next w
     → BeginsWith most bytes (asked ps) next
 begins most here bytes next w ps l a = record {
   good = a.lines.good;

@@ -7,7 +7,7 @@ use Rattle.std.specs.Prelude.{Option, IsErrAnd}
 use Rattle.iova_proto.specs.declared.answer.Answer.{Answer}
 use Rattle.iova_proto.specs.declared.request.Request.{Request}
 use Rattle.iova_session.specs.Pairs.{Pair, asked, told, answers_text}
-use Rattle.iova_session.specs.Rounds.{Asks, IsCut}
+use Rattle.iova_session.specs.Rounds.{AsksRun, IsCut}
 use Rattle.iova_session.specs.declared.end.End.{End}
 use Rattle.iova_session.proofs.Texts.{take_plus, all_after, asked-append, told_both}
 
@@ -48,8 +48,8 @@ handed_on (Ok u) e h = absurd (h)
 handed_on (Err v) e h = ap (λ x. Err x) h
 
 -- asking stopped at a front of the run
-pub Asks-cut : (r : Result Unit End) (e : End) (rs more : List Request) (ps : List Pair) (written : List ℕ) (n : ℕ) → r ≡ Err e
-    → IsCut e → rs ≡ asked ps ++ more → written ≡ take n (answers_text (told ps)) → Asks rs ps written r
-Asks-cut r e rs more ps written n i h f w =
-    let P : Result Unit End → Type 0 = λ x. Asks rs ps written x in
+pub AsksRun-cut : (r : Result Unit End) (e : End) (rs more : List Request) (ps : List Pair) (written : List ℕ) (n : ℕ) → r ≡ Err e
+    → IsCut e → rs ≡ asked ps ++ more → written ≡ take n (answers_text (told ps)) → AsksRun rs ps written r
+AsksRun-cut r e rs more ps written n i h f w =
+    let P : Result Unit End → Type 0 = λ x. AsksRun rs ps written x in
     subst P (sym i) (h, (more, f), (n, w))

@@ -10,14 +10,14 @@ use Rattle.iova_proto.specs.Requests.{IsRequest}
 use Rattle.iova_proto.specs.declared.request.Request.{Request}
 use Rattle.iova_session.specs.Pairs.{Pair, asked, told, requests_text, answers_text}
 use Rattle.iova_session.specs.Sessions.{bad_line, too_many, HasNoBye, StopsAtBye, EndsInBye, BeginsWith, IsLastLine, EndsSo, Serves, ends_at}
-use Rattle.iova_session.specs.Rounds.{IsLines, GoesOn, Gathers, IsCut, Asks}
+use Rattle.iova_session.specs.Rounds.{IsLines, AllAnswered, Gathers, IsCut, AsksRun}
 use Rattle.iova_session.specs.declared.end.End.{End}
 use Rattle.iova_session.specs.declared.end.End.TheVariants as ends
 use Rattle.iova_session.specs.declared.gathering.Stop.{Stop}
 use Rattle.iova_session.specs.declared.gathering.Stop.TheVariants as stops
 use Rattle.iova_session.proofs.Texts.{take_plus, all_after, requests_text-append, length-asked}
 use Rattle.iova_session.proofs.Byes.{All-front, StopsAtBye-none, StopsAtBye-last, StopsAtBye-front}
-use Rattle.iova_session.proofs.Joins.{GoesOn-none, GoesOn-then, Serves-then, begins}
+use Rattle.iova_session.proofs.Joins.{AllAnswered-none, AllAnswered-then, Serves-then, begins}
 
 -- the lines end within the piece, and the rest of it follows
 IsLines-cut : (next piece : List ℕ) (rs : List Request) (used : ℕ) → IsLines (next ++ take used piece) rs [] → IsLines (next ++ piece) rs (drop used piece)
@@ -56,7 +56,7 @@ gathered left used next piece rs stops.Limit new h = (h.2.0, h.2.1, StopsAtBye-n
 
 -- an ask that stopped ends the session
 pub Serves-cut : (here used : ℕ) (next piece w : List ℕ) (rs : List Request) (stop : Stop) (new : Option (List ℕ)) (qs : List Pair) (end : End)
-    → length rs ≤ here → Gathers here next piece rs used stop new → Asks rs qs w (Err end) → Serves here (next ++ piece) qs w 0 end
+    → length rs ≤ here → Gathers here next piece rs used stop new → AsksRun rs qs w (Err end) → Serves here (next ++ piece) qs w 0 end
 Serves-cut here used next piece w rs stop new qs end l h b =
     let t = gathered here used next piece rs stop new h in
     let n = b.2.0 in
@@ -74,17 +74,17 @@ Serves-cut here used next piece w rs stop new qs end l h b =
       | inr d ↦ subst P (sym d) (record { rest = rest; requests = start; few = omega arith; says = b.2 })
     ]
 
-pub GoesOn-more : (here used : ℕ) (next piece w : List ℕ) (rs : List Request) (new : Option (List ℕ)) (qs : List Pair)
+pub AllAnswered-more : (here used : ℕ) (next piece w : List ℕ) (rs : List Request) (new : Option (List ℕ)) (qs : List Pair)
     → Gathers here next piece rs used stops.More new → asked qs ≡ rs → w ≡ answers_text (told qs)
-    → (n : List ℕ) × GoesOn (next ++ piece) qs n w × IsUnended n × (new ≡ Some n)
-GoesOn-more here used next piece w rs new qs h e f =
+    → (n : List ℕ) × AllAnswered (next ++ piece) qs n w × IsUnended n × (new ≡ Some n)
+AllAnswered-more here used next piece w rs new qs h e f =
     let P : List Request → Type 0 = λ x. IsLines (next ++ piece) x h.1.0 in
     (h.1.0, record { lines = subst P (sym e) h.1.1; byes = subst HasNoBye (sym e) h.0; answered = f }, h.1.2, h.1.3)
 
-pub GoesOn-full : (here used : ℕ) (next piece w : List ℕ) (rs : List Request) (new : Option (List ℕ)) (qs : List Pair)
+pub AllAnswered-full : (here used : ℕ) (next piece w : List ℕ) (rs : List Request) (new : Option (List ℕ)) (qs : List Pair)
     → Gathers here next piece rs used stops.Full new → asked qs ≡ rs → w ≡ answers_text (told qs)
-    → GoesOn (next ++ take used piece) qs [] w
-GoesOn-full here used next piece w rs new qs h e f =
+    → AllAnswered (next ++ take used piece) qs [] w
+AllAnswered-full here used next piece w rs new qs h e f =
     let P : List Request → Type 0 = λ x. IsLines (next ++ take used piece) x [] in
     record { lines = subst P (sym e) h.1; byes = subst HasNoBye (sym e) h.0; answered = f }
 
@@ -148,29 +148,29 @@ parts kept piece at =
     ∙ ap (λ x. kept ++ x) (ap (λ x. take at piece ++ x) (all_after piece at) ∙ take-append-drop at piece)
 
 pub Serves-whole : (most here at : ℕ) (kept piece next w v : List ℕ) (ps qs : List Pair) (end : End) → length ps + here ≡ most
-    → GoesOn (kept ++ take at piece) ps next w → Serves here (next ++ take (length piece - at) (drop at piece)) qs v 0 end
+    → AllAnswered (kept ++ take at piece) ps next w → Serves here (next ++ take (length piece - at) (drop at piece)) qs v 0 end
     → Serves most (kept ++ piece) (ps ++ qs) (w ++ v) 0 end
 Serves-whole most here at kept piece next w v ps qs end l a b =
     let P : List ℕ → Type 0 = λ x. Serves most x (ps ++ qs) (w ++ v) 0 end in
     subst P (parts kept piece at)
     (Serves-then most here 0 (kept ++ take at piece) (take (length piece - at) (drop at piece)) next w v ps qs end l (omega arith) a b)
 
-pub GoesOn-whole : (at : ℕ) (kept piece next n w v : List ℕ) (ps qs : List Pair)
-    → GoesOn (kept ++ take at piece) ps next w → GoesOn (next ++ take (length piece - at) (drop at piece)) qs n v
-    → GoesOn (kept ++ piece) (ps ++ qs) n (w ++ v)
-GoesOn-whole at kept piece next n w v ps qs a b =
-    let P : List ℕ → Type 0 = λ x. GoesOn x (ps ++ qs) n (w ++ v) in
-    subst P (parts kept piece at) (GoesOn-then (kept ++ take at piece) (take (length piece - at) (drop at piece)) next n w v ps qs a b)
+pub AllAnswered-whole : (at : ℕ) (kept piece next n w v : List ℕ) (ps qs : List Pair)
+    → AllAnswered (kept ++ take at piece) ps next w → AllAnswered (next ++ take (length piece - at) (drop at piece)) qs n v
+    → AllAnswered (kept ++ piece) (ps ++ qs) n (w ++ v)
+AllAnswered-whole at kept piece next n w v ps qs a b =
+    let P : List ℕ → Type 0 = λ x. AllAnswered x (ps ++ qs) n (w ++ v) in
+    subst P (parts kept piece at) (AllAnswered-then (kept ++ take at piece) (take (length piece - at) (drop at piece)) next n w v ps qs a b)
 
-pub GoesOn-further : (at used : ℕ) (kept piece next n w v : List ℕ) (ps qs : List Pair) → at ≤ length piece
-    → GoesOn (kept ++ take at piece) ps next w → GoesOn (next ++ take used (take (length piece - at) (drop at piece))) qs n v
-    → GoesOn (kept ++ take (at + used) piece) (ps ++ qs) n (w ++ v)
-GoesOn-further at used kept piece next n w v ps qs h a b =
-    let P : List ℕ → Type 0 = λ x. GoesOn x (ps ++ qs) n (w ++ v) in
+pub AllAnswered-further : (at used : ℕ) (kept piece next n w v : List ℕ) (ps qs : List Pair) → at ≤ length piece
+    → AllAnswered (kept ++ take at piece) ps next w → AllAnswered (next ++ take used (take (length piece - at) (drop at piece))) qs n v
+    → AllAnswered (kept ++ take (at + used) piece) (ps ++ qs) n (w ++ v)
+AllAnswered-further at used kept piece next n w v ps qs h a b =
+    let P : List ℕ → Type 0 = λ x. AllAnswered x (ps ++ qs) n (w ++ v) in
     let same : (kept ++ take at piece) ++ take used (take (length piece - at) (drop at piece)) ≡ kept ++ take (at + used) piece =
     append_assoc kept (take at piece) (take used (take (length piece - at) (drop at piece)))
     ∙ ap (λ x. kept ++ x) (ap (λ x. take at piece ++ take used x) (all_after piece at) ∙ sym (take_plus piece at used h)) in
-    subst P same (GoesOn-then (kept ++ take at piece) (take used (take (length piece - at) (drop at piece))) next n w v ps qs a b)
+    subst P same (AllAnswered-then (kept ++ take at piece) (take used (take (length piece - at) (drop at piece))) next n w v ps qs a b)
 
 pub lengths : (ps qs : List Pair) (rs : List Request) (left here : ℕ) → length ps + here ≡ left → asked qs ≡ rs → length rs ≤ here
     → length (ps ++ qs) + (here - length rs) ≡ left
@@ -182,7 +182,7 @@ ends_at-cut end (inr b) = ap ends_at b
 
 -- where a session goes on, it may as well end: as the link fails, as it comes to its end, and at the most reads
 pub Serves-fault : (most here reads : ℕ) (taken next written : List ℕ) (ps : List Pair) → length ps + here ≡ most → reads ≤ MAX_SESSION_READS
-    → GoesOn taken ps next written → Serves most taken ps written reads ends.LinkFault
+    → AllAnswered taken ps next written → Serves most taken ps written reads ends.LinkFault
 Serves-fault most here reads taken next written ps l few a = record {
   rest = next;
   requests = begins most here taken next written ps l a;
@@ -197,7 +197,7 @@ Serves-fault most here reads taken next written ps l few a = record {
 }
 
 pub Serves-closed : (most here reads : ℕ) (taken next written : List ℕ) (ps : List Pair) → length ps + here ≡ most → reads ≤ MAX_SESSION_READS
-    → IsUnended next → GoesOn taken ps next written → Serves most taken ps written reads ends.Closed
+    → IsUnended next → AllAnswered taken ps next written → Serves most taken ps written reads ends.Closed
 Serves-closed most here reads taken next written ps l few u a = record {
   rest = next;
   requests = begins most here taken next written ps l a;
@@ -206,7 +206,7 @@ Serves-closed most here reads taken next written ps l few u a = record {
 }
 
 pub Serves-worn : (most here reads : ℕ) (taken next written : List ℕ) (ps : List Pair) (a b : Option (List ℕ)) (end : End) → length ps + here ≡ most
-    → reads ≡ MAX_SESSION_READS → IsUnended next → GoesOn taken ps next written
+    → reads ≡ MAX_SESSION_READS → IsUnended next → AllAnswered taken ps next written
     → ((end ≡ ends.TooMany) × Appends a b too_many) ⊎ ((end ≡ ends.LinkFault) × ((n : ℕ) × Appends a b (take n too_many)))
     → (v : List ℕ) × Appends a b v × Serves most taken ps (written ++ v) reads end
 Serves-worn most here reads taken next written ps a b end l r u h t =
@@ -221,7 +221,7 @@ IsUnended-none = record { one = refl; short = omega arith }
 pub Serves-no_room : (most : ℕ) → Serves most [] [] [] 0 ends.NoMemory
 Serves-no_room most = record {
   rest = [];
-  requests = begins most most [] [] [] [] (omega arith) GoesOn-none;
+  requests = begins most most [] [] [] [] (omega arith) AllAnswered-none;
   few = omega arith;
   says = (0, refl);
 }

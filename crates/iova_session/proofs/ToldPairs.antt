@@ -22,7 +22,7 @@ use Rattle.iova_proto.specs.declared.answer.Answer.{Answer}
 use Rattle.iova_proto.specs.declared.request.Request.{Request}
 use Rattle.iova_proto.specs.declared.request.Request.TheVariants as request
 use Rattle.iova_session.specs.Pairs.{Pair, asked, told}
-use Rattle.iova_session.specs.Desks.{IsClientAnswer, released, given_by, taken_by, given_in, taken_in, MovesBy, asks_in, ask_of, ask_then, answer_of, told_pairs, IsToldTo, AreTold, IsFirstAlone, IsAnswer, SessionState, Answers}
+use Rattle.iova_session.specs.Desks.{IsClientAnswer, released, given_by, taken_by, given_in, taken_in, MovesBy, asks_in, ask_of, ask_then, answer_of, told_pairs, IsToldTo, AreTold, IsFirstAlone, IsAnswer, SessionState, AnswersRun}
 
 same_totals : (a b : Totals) → a.count ≡ b.count → a.frames ≡ b.frames → a.sum_lo ≡ b.sum_lo → a ≡ b
 same_totals a b count frames sum_lo = λ i. record { count = count i; frames = frames i; sum_lo = sum_lo i }
@@ -160,7 +160,7 @@ told_answers number (Some id) listed request.Flush x some h = absurd h
 told_answers number (Some id) listed request.Bye x some h = absurd h
 
 -- nothing is asked
-pub none_asked : (rs : List Request) (s : SessionState) (answers : List Answer) (held : Totals) → Answers rs 0 s s answers answers held held
+pub none_asked : (rs : List Request) (s : SessionState) (answers : List Answer) (held : Totals) → AnswersRun rs 0 s s answers answers held held
 unfolding asked told given_in taken_in
 none_asked rs s answers held = record {
   pairs = [];
@@ -178,7 +178,7 @@ first_of (r ∷ rs) d some = search rules
 -- one request is asked
 pub one_asked : (rs : List Request) (d : Request) (a : Answer) (s t : SessionState) (before later : List Answer) (held left : Totals) → 1 ≤ length rs
     → t.number ≡ s.number → t.pairs ≡ s.pairs ++ record { request = get_or rs 0 d; answer = a } ∷ [] → later ≡ before ++ a ∷ [] → MovesBy (given_by a) (taken_by a) held left
-    → Answers rs 1 s t before later held left
+    → AnswersRun rs 1 s t before later held left
 unfolding asked told given_in taken_in
 one_asked rs d a s t before later held left some same added more moved = record {
   pairs = record { request = get_or rs 0 d; answer = a } ∷ [];
@@ -199,7 +199,7 @@ taken_join ps qs = search (rules, common_steps)
 
 -- a session's pairs move the shares on
 pub moved_on : (rs : List Request) (count : ℕ) (s t : SessionState) (before later : List Answer) (first held left : Totals) → MovesBy (given_in s.pairs) (taken_in s.pairs) first held
-    → Answers rs count s t before later held left → MovesBy (given_in t.pairs) (taken_in t.pairs) first left
+    → AnswersRun rs count s t before later held left → MovesBy (given_in t.pairs) (taken_in t.pairs) first left
 moved_on rs count s t before later first held left m a =
     let all = moves_on (given_in s.pairs) (given_in a.pairs) (taken_in s.pairs) (taken_in a.pairs) first held left m a.shares in
     let g = ap given_in a.added ∙ given_join s.pairs a.pairs in
@@ -212,7 +212,7 @@ moved_none s first none = rw none (no_move first first refl)
 
 -- whether they were asked or not
 pub moved_either : (result : Result ℕ Refusal) (rs : List Request) (s t : SessionState) (before later : List Answer) (first : Totals) (old new : SeatState) → MovesBy (given_in s.pairs) (taken_in s.pairs) first old.held
-    → IfOk result (λ n. Answers rs n s t before later old.held new.held) → IfErr result (λ e. (e ≡ refusal.NoMemory) × (t ≡ s) × (later ≡ before) × (new ≡ old))
+    → IfOk result (λ n. AnswersRun rs n s t before later old.held new.held) → IfErr result (λ e. (e ≡ refusal.NoMemory) × (t ≡ s) × (later ≡ before) × (new ≡ old))
     → MovesBy (given_in t.pairs) (taken_in t.pairs) first new.held
 moved_either (Ok n) rs s t before later first old new m ok err = moved_on rs n s t before later first old.held new.held m ok
 moved_either (Err e) rs s t before later first old new m ok err =

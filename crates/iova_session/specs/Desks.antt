@@ -220,7 +220,7 @@ IsFirstAlone (request.Bye ∷ rs) = Unit {0}
 
 -- so many requests at the front were asked and answered: the session and the answers have the pairs more, and the shares moved
 -- by them
-pub record Answers (rs : List Request) (count : ℕ) (was now : SessionState) (before later : List Answer) (old new : Totals) : Type 0 where
+pub record AnswersRun (rs : List Request) (count : ℕ) (was now : SessionState) (before later : List Answer) (old new : Totals) : Type 0 where
   pub pairs : List Pair
   pub same : now.number ≡ was.number
   pub added : now.pairs ≡ was.pairs ++ pairs

@@ -18,7 +18,7 @@ pub record IsLines (bytes : List ℕ) (rs : List Request) (next : List ℕ) : Ty
   pub whole : bytes ≡ requests_text rs ++ next
 
 -- so far all requests were asked, none of them bye, and all answers were written
-pub record GoesOn (bytes : List ℕ) (ps : List Pair) (next written : List ℕ) : Type 0 where
+pub record AllAnswered (bytes : List ℕ) (ps : List Pair) (next written : List ℕ) : Type 0 where
   pub lines : IsLines bytes (asked ps) next
   pub byes : HasNoBye (asked ps)
   pub answered : written ≡ answers_text (told ps)
@@ -41,9 +41,9 @@ IsCut end = (end ≡ ends.LinkFault) ⊎ (end ≡ ends.NoMemory)
 
 -- What asking a run of requests gives: all are asked and answered, or the first ones, and a front of the answers is
 -- written.
-abbrev pub Asks : List Request → List Pair → List ℕ → Result Unit End → Type 0
-Asks rs ps written (Ok u) = (asked ps ≡ rs) × (written ≡ answers_text (told ps))
-Asks rs ps written (Err end) =
+abbrev pub AsksRun : List Request → List Pair → List ℕ → Result Unit End → Type 0
+AsksRun rs ps written (Ok u) = (asked ps ≡ rs) × (written ≡ answers_text (told ps))
+AsksRun rs ps written (Err end) =
     IsCut end × ((more : List Request) × (rs ≡ asked ps ++ more))
     × ((n : ℕ) × (written ≡ take n (answers_text (told ps))))
 
@@ -53,7 +53,7 @@ CountsFault (Ok u) old new = new ≡ old
 CountsFault (Err end) old new = new ≡ old + failures_at end
 
 -- What a piece gives after what was kept: the session goes on with so many requests left, or it ends.
-abbrev pub Takes : ℕ → List ℕ → List Pair → List ℕ → ℕ → Option (List ℕ) → Result Unit End → Type 0
-Takes left bytes ps written here new (Ok u) =
-    (next : List ℕ) × GoesOn bytes ps next written × IsUnended next × (new ≡ Some next) × (length ps + here ≡ left)
-Takes left bytes ps written here new (Err end) = Serves left bytes ps written 0 end
+abbrev pub TakesPiece : ℕ → List ℕ → List Pair → List ℕ → ℕ → Option (List ℕ) → Result Unit End → Type 0
+TakesPiece left bytes ps written here new (Ok u) =
+    (next : List ℕ) × AllAnswered bytes ps next written × IsUnended next × (new ≡ Some next) × (length ps + here ≡ left)
+TakesPiece left bytes ps written here new (Err end) = Serves left bytes ps written 0 end

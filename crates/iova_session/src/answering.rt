@@ -4,7 +4,7 @@ ghost use Rattle.std.specs.Io.KnownBytes.{Appends};
 ghost use Rattle.iova_session.specs.Links.{CountsFailures, AppendsFront};
 ghost use Rattle.iova_session.specs.Pairs.{Pair, answers_text};
 ghost use Rattle.iova_session.specs.Sessions.{failures_at, ends_at};
-ghost use Rattle.iova_session.specs.Rounds.{Asks, IsCut, CountsFault};
+ghost use Rattle.iova_session.specs.Rounds.{AsksRun, IsCut, CountsFault};
 
 use crate::desk::Desk;
 use crate::end::End;
@@ -28,7 +28,7 @@ pub(crate) fn ask_all<L: Link, D: Desk>(
     ensures ends { L.ends link.new ≡ L.ends link.old }
     ensures failures { CountsFault result (L.failures link.old) (L.failures link.new) }
     ensures asked { (ps : List Pair) × (written : List ℕ) × (D.pairs desk.new ≡ D.pairs desk.old ++ ps)
-        × Appends (L.sent link.old) (L.sent link.new) written × Asks run.now ps written result }
+        × Appends (L.sent link.old) (L.sent link.new) written × AsksRun run.now ps written result }
 {
     let mut asked = 0;
     'asking: while asked < run.len() {

@@ -4,7 +4,7 @@ ghost use Rattle.iova_sink.specs.Calls.{Call, good_calls};
 ghost use Rattle.iova_model.specs.State.{State};
 ghost use Rattle.iova_lock.specs.Views.{SeatState, WhereKnown, new_seat};
 ghost use Rattle.iova_session.specs.Domains.{KeepsOthers, known_keeps-prop};
-ghost use Rattle.iova_session.specs.Desks.{SessionState, Answers, KeepsPlace, MovesBy, MovesBy-prop, given_in, taken_in};
+ghost use Rattle.iova_session.specs.Desks.{SessionState, AnswersRun, KeepsPlace, MovesBy, MovesBy-prop, given_in, taken_in};
 
 use crate::asking::{ask_alone, ask_first};
 use crate::desk::Desk;
@@ -146,7 +146,7 @@ fn ask_lent<C: Ledger, F: Ledger, S: Ledger, G: Ledger, K: Keep<C, F, S, G>, D: 
     ensures client { (session.old.client ≡ None) ⊎ (session.new.client ≡ session.old.client) }
     ensures count { IfOk result (λ n. (1 ≤ n) × (n ≤ length requests.now)) }
     ensures ok { IfOk result
-        (λ n. Answers requests.now n session.old session.new answers.old.items answers.new.items
+        (λ n. AnswersRun requests.now n session.old session.new answers.old.items answers.new.items
         lent.old.seat.now.held lent.new.seat.now.held) }
     ensures err { IfErr result (λ e. (e ≡ Refusal.NoMemory) × (session.new ≡ session.old)
         × (answers.new.items ≡ answers.old.items) × (lent.new.seat.now ≡ lent.old.seat.now)) }
@@ -185,7 +185,7 @@ pub(crate) fn ask_front<C: Ledger, F: Ledger, S: Ledger, G: Ledger, K: Keep<C, F
     ensures client { (session.old.client ≡ None) ⊎ (session.new.client ≡ session.old.client) }
     ensures count { IfOk result (λ n. (1 ≤ n) × (n ≤ length requests.now)) }
     ensures ok { IfOk result
-        (λ n. Answers requests.now n session.old session.new answers.old.items answers.new.items seat.old.held
+        (λ n. AnswersRun requests.now n session.old session.new answers.old.items answers.new.items seat.old.held
         seat.new.held) }
     ensures err { IfErr result (λ e. (e ≡ Refusal.NoMemory) × (session.new ≡ session.old)
         × (answers.new.items ≡ answers.old.items) × (seat.new ≡ seat.old)) }

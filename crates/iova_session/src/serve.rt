@@ -3,7 +3,7 @@ ghost use Rattle.std.specs.Prelude.{◌≡◌, ℕ, ◌+◌, ◌++◌, List, Mat
 ghost use Rattle.std.specs.Io.KnownBytes.{Appends, Consumes};
 ghost use Rattle.iova_session.specs.Pairs.{Pair};
 ghost use Rattle.iova_session.specs.Sessions.{Serves, failures_at, ends_at};
-ghost use Rattle.iova_session.specs.Rounds.{Takes, CountsFault};
+ghost use Rattle.iova_session.specs.Rounds.{TakesPiece, CountsFault};
 
 use crate::answering::{ask_all, refuse};
 use crate::desk::Desk;
@@ -89,7 +89,7 @@ fn take_piece<L: Link, D: Desk>(
     ensures open { IfErr result (λ e. ends_at e ≡ 0) }
     ensures taken { (kept : List ℕ) × (ps : List Pair) × (written : List ℕ) × (lines.old ≡ Some kept)
         × (D.pairs desk.new ≡ D.pairs desk.old ++ ps) × Appends (L.sent link.old) (L.sent link.new) written
-        × Takes left.old (kept ++ piece.now) ps written left.new lines.new result }
+        × TakesPiece left.old (kept ++ piece.now) ps written left.new lines.new result }
 {
     let mut at = 0;
     'rounds: loop {

@@ -2,7 +2,7 @@
 ghost use Rattle.std.specs.Prelude.{◌≡◌, ◌+◌, ◌≤◌, ◌++◌, ◌∷◌, [], Some, IsSome, IfOk, IfErr, length, map, take, vec_len, vec_capacity};
 ghost use Rattle.iova_lock.specs.Views.{WhereKnown};
 ghost use Rattle.iova_session.specs.Domains.{KeepsOthers};
-ghost use Rattle.iova_session.specs.Desks.{SessionState, ask_of as the_ask_of, asks_in, answer_of as the_answer_of, told_pairs, AreTold, IsFirstAlone, Answers};
+ghost use Rattle.iova_session.specs.Desks.{SessionState, ask_of as the_ask_of, asks_in, answer_of as the_answer_of, told_pairs, AreTold, IsFirstAlone, AnswersRun};
 
 use crate::session::Session;
 use iova_core::ClientId;
@@ -35,7 +35,7 @@ pub(crate) fn ask_together<C: Ledger, F: Ledger, S: Ledger, G: Ledger, K: Keep<C
     ensures domain { WhereKnown (K.domain keeper.old) (K.domain keeper.new) (KeepsOthers (Some id)) }
     ensures most { IfOk result (λ n. n ≤ length requests.now) }
     ensures ok { IfOk result
-        (λ n. Answers requests.now n session.old session.new answers.old.items answers.new.items seat.old.held
+        (λ n. AnswersRun requests.now n session.old session.new answers.old.items answers.new.items seat.old.held
         seat.new.held) }
     ensures client { session.new.client ≡ session.old.client }
     ensures alone { IfOk result (λ n. n ≡ 0 → IsFirstAlone requests.now) }

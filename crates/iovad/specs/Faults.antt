@@ -30,9 +30,9 @@ fault_status fault.CannotOpenSink = 4
 fault_status fault.NoMemory = 5
 
 -- the fault of words that ask for nothing
-abbrev pub Tells : WordsFault → Fault → Type 0
-Tells (words.Usage status) told = told ≡ fault.Words status
-Tells words.NoMemory told = told ≡ fault.NoMemory
+abbrev pub IsFaultOfWords : WordsFault → Fault → Type 0
+IsFaultOfWords (words.Usage status) told = told ≡ fault.Words status
+IsFaultOfWords words.NoMemory told = told ≡ fault.NoMemory
 
 -- it is the fault of a file that can't be read, of such a name
 abbrev pub IfUnread : Fault → (List ℕ → Type 0) → Type 0

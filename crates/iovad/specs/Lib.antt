@@ -1,4 +1,4 @@
 pub mod Faults
-pub mod Answers
+pub mod ReplaysAndReports
 pub mod Outcomes
 pub mod Plans

@@ -1,5 +1,5 @@
 //! A replay, and the report after it.
-ghost use Rattle.iovad.specs.Answers.{Answers, Follows, Reports};
+ghost use Rattle.iovad.specs.Answers.{ReplaysAndReports, Follows, Reports};
 
 use iova_core::domain::Domain;
 use iova_report::report;
@@ -17,7 +17,7 @@ pub fn answer<R: Read, W: Write>(
     writer: &mut W,
     has_report: bool,
 ) -> Result<(), ReplayFault>
-    ensures { Answers has_report (R.remaining reader.old) (R.remaining reader.new) (W.contents writer.old) (W.contents writer.new) result }
+    ensures { ReplaysAndReports has_report (R.remaining reader.old) (R.remaining reader.new) (W.contents writer.old) (W.contents writer.new) result }
 {
     let replayed = replay(alloc, reader, writer);
     follow(alloc, replayed, writer, has_report)

@@ -4,7 +4,7 @@ use Rattle.std.proofs.KnownBytes.{Consumes-nil, Consumes-trans}
 use Rattle.std.specs.Io.KnownBytes.{Consumes}
 use Rattle.iova_text.specs.Lines.{IsUnended}
 use Rattle.iova_ask.specs.Asking.{AreLinesAnd, Sends}
-use Rattle.iova_ask.specs.Runs.{Asks, Copies}
+use Rattle.iova_ask.specs.Runs.{SendsRun, Copies}
 use Rattle.iova_ask.specs.declared.fault.AskFault.{AskFault}
 use Rattle.iova_ask.specs.declared.fault.AskFault.TheVariants as fault
 use Rattle.iova_ask.proofs.Copying.{Copies-none, breaks_after, breaks_here, copied_rest, copies_further}
@@ -74,7 +74,7 @@ returns-then-is_last-clause-sent g c =
     let piece = take c.in-Ok.len c.read_some.new.piece in
     let consumed = Consumes-trans (g.R.Read.remaining c.args.reader.now) (g.R.Read.remaining c.reading.reader) r2 a.0 piece a.2 c.in-Ok.ensures.ok in
     let lines = add_piece a.0 c.reading.input piece c.add.new.self a.1 a.3 c.in-Ok-add.ensures.ok in
-    let asked = subst (λ (b : Bool). Asks c.add.new.self c.ask_whole.new.input c.reading.sent c.ask_whole.new.sent (g.L.Link.sent c.reading.link) (g.L.Link.sent c.ask_whole.new.link) (Ok b))
+    let asked = subst (λ (b : Bool). SendsRun c.add.new.self c.ask_whole.new.input c.reading.sent c.ask_whole.new.sent (g.L.Link.sent c.reading.link) (g.L.Link.sent c.ask_whole.new.link) (Ok b))
     c.if-is_last.true c.in-Ok-ask_whole.ensures.asked in (
       a.0 ++ piece,
       consumed,
@@ -110,7 +110,7 @@ reading-preserved g c =
     let piece = take c.in-Ok.len c.read_some.new.piece in
     let consumed = Consumes-trans (g.R.Read.remaining c.args.reader.now) (g.R.Read.remaining c.reading.reader) r2 a.0 piece a.2 c.in-Ok.ensures.ok in
     let lines = add_piece a.0 c.reading.input piece c.add.new.self a.1 a.3 c.in-Ok-add.ensures.ok in
-    let asked = subst (λ (b : Bool). Asks c.add.new.self c.ask_whole.new.input c.reading.sent c.ask_whole.new.sent (g.L.Link.sent c.reading.link) (g.L.Link.sent c.ask_whole.new.link) (Ok b))
+    let asked = subst (λ (b : Bool). SendsRun c.add.new.self c.ask_whole.new.input c.reading.sent c.ask_whole.new.sent (g.L.Link.sent c.reading.link) (g.L.Link.sent c.ask_whole.new.link) (Ok b))
     c.if-is_last.false c.in-Ok-ask_whole.ensures.asked in
     record {
       asked = (

@@ -1,6 +1,6 @@
 use Rattle.std.proofs.Common.{rules, ℕ, ◌≤◌, ◌<◌, ◌+◌, ◌++◌, List, length, take, refl, subst, ap, arith, length-drop, length-append}
 use Rattle.std.specs.Io.KnownBytes.{Appends}
-use Rattle.iova_ask.specs.Runs.{IsRun}
+use Rattle.iova_ask.specs.Runs.{IsRunOfLines}
 use Rattle.iova_ask.proofs.Copying.{breaks_after, copied_more, copied_none}
 use Rattle.iova_ask.proofs.SentParts.{asks_broken, none_asked, more_begin}
 use Rattle.iova_ask.proofs.Lined.{all_append, lines_of_run, more_bye, more_open, more_sent, run_count, run_none, run_text, run_within, some_sent, stuck_long, stuck_short}
@@ -18,21 +18,21 @@ asking-init g c = record {
 
 pub returns-then-as_slice-ge-MAX_LINE-clause-asked : goal.returns-then-as_slice-ge-MAX_LINE-clause-asked
 returns-then-as_slice-ge-MAX_LINE-clause-asked g c =
-    let run = subst (λ (x : List ℕ). IsRun x c.gather-run.result) c.as_slice.ensures c.gather-run.ensures in
+    let run = subst (λ (x : List ℕ). IsRunOfLines x c.gather-run.result) c.as_slice.ensures c.gather-run.ensures in
     let long : MAX_LINE ≤ length c.asking.input = search rules in
     let a = c.asking.invariant.asked in
     (a.0, c.asking.input, a.1, stuck_long c.asking.input (run_none c.asking.input c.gather-run.result run c.if-run-eq0.true) long, a.2)
 
 pub returns-then-run-eq0-clause-asked : goal.returns-then-run-eq0-clause-asked
 returns-then-run-eq0-clause-asked g c =
-    let run = subst (λ (x : List ℕ). IsRun x c.gather-run.result) c.as_slice.ensures c.gather-run.ensures in
+    let run = subst (λ (x : List ℕ). IsRunOfLines x c.gather-run.result) c.as_slice.ensures c.gather-run.ensures in
     let short : length c.asking.input < MAX_LINE = search rules in
     let a = c.asking.invariant.asked in
     (a.0, a.1, stuck_short c.asking.input (run_none c.asking.input c.gather-run.result run c.if-run-eq0.true) short, a.2, a.3)
 
 pub returns-in-Err-clause-asked : goal.returns-in-Err-clause-asked
 returns-in-Err-clause-asked g c =
-    let run = subst (λ (x : List ℕ). IsRun x c.gather-run.result) c.as_slice.ensures c.gather-run.ensures in
+    let run = subst (λ (x : List ℕ). IsRunOfLines x c.gather-run.result) c.as_slice.ensures c.gather-run.ensures in
     let a = c.asking.invariant.asked in
     let some = c.in-Err.ensures.err.1 in
     let sent : Appends (g.L.Link.sent c.asking.link) (g.L.Link.sent c.ask_some.new.link) (take some.0 (take c.gather-run.result.len c.asking.input)) = search rules in
@@ -49,7 +49,7 @@ returns-in-Err-clause-copied g c =
 
 pub returns-then-run-clause-asked : goal.returns-then-run-clause-asked
 returns-then-run-clause-asked g c =
-    let run = subst (λ (x : List ℕ). IsRun x c.gather-run.result) c.as_slice.ensures c.gather-run.ensures in
+    let run = subst (λ (x : List ℕ). IsRunOfLines x c.gather-run.result) c.as_slice.ensures c.gather-run.ensures in
     let a = c.asking.invariant.asked in
     let sent : Appends (g.L.Link.sent c.asking.link) (g.L.Link.sent c.ask_some.new.link) (take c.gather-run.result.len c.asking.input) = search rules in
     let of_lines = subst (Appends (g.L.Link.sent c.asking.link) (g.L.Link.sent c.ask_some.new.link)) (run_text c.asking.input c.gather-run.result run) sent in
@@ -68,17 +68,17 @@ returns-then-run-clause-copied g c =
 
 pub returns-then-run-clause-bound : goal.returns-then-run-clause-bound
 returns-then-run-clause-bound g c =
-    let run = subst (λ (x : List ℕ). IsRun x c.gather-run.result) c.as_slice.ensures c.gather-run.ensures in
+    let run = subst (λ (x : List ℕ). IsRunOfLines x c.gather-run.result) c.as_slice.ensures c.gather-run.ensures in
     omega (arith, c.asking.invariant.bound, run_count c.asking.input c.gather-run.result run, run_within c.asking.input c.gather-run.result run, ap length c.pass.ensures, length-drop c.gather-run.result.len c.asking.input)
 
 pub asking-smaller : goal.asking-smaller
 asking-smaller g c =
-    let run = subst (λ (x : List ℕ). IsRun x c.gather-run.result) c.as_slice.ensures c.gather-run.ensures in
+    let run = subst (λ (x : List ℕ). IsRunOfLines x c.gather-run.result) c.as_slice.ensures c.gather-run.ensures in
     omega (arith, c.if-run-eq0.false, run_count c.asking.input c.gather-run.result run, run_within c.asking.input c.gather-run.result run, ap length c.pass.ensures, length-drop c.gather-run.result.len c.asking.input)
 
 pub asking-preserved : goal.asking-preserved
 asking-preserved g c =
-    let run = subst (λ (x : List ℕ). IsRun x c.gather-run.result) c.as_slice.ensures c.gather-run.ensures in
+    let run = subst (λ (x : List ℕ). IsRunOfLines x c.gather-run.result) c.as_slice.ensures c.gather-run.ensures in
     let a = c.asking.invariant.asked in
     let sent : Appends (g.L.Link.sent c.asking.link) (g.L.Link.sent c.ask_some.new.link) (take c.gather-run.result.len c.asking.input) = search rules in
     let of_lines = subst (Appends (g.L.Link.sent c.asking.link) (g.L.Link.sent c.ask_some.new.link)) (run_text c.asking.input c.gather-run.result run) sent in

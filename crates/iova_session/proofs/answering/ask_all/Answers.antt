@@ -4,7 +4,7 @@ use Rattle.std.specs.Io.KnownBytes.{Appends}
 use Rattle.iova_proto.specs.declared.request.Request.{Request}
 use Rattle.iova_session.specs.Pairs.{told, answers_text}
 use Rattle.iova_session.proofs.Texts.{asked-nil, none_told}
-use Rattle.iova_session.proofs.Runs.{asked_rest, asked_more, told_more, told_part, all_taken, handed_on, Asks-cut}
+use Rattle.iova_session.proofs.Runs.{asked_rest, asked_more, told_more, told_part, all_taken, handed_on, AsksRun-cut}
 use Rattle.iova_session.proofs.answering.ask_all.Goals as goal
 
 pub asking-init : goal.asking-init
@@ -65,7 +65,7 @@ returns-in_err-tell-clause-asked g c =
       ok.1 ∙ ap (λ x. x ++ ok.0) inv.pairs ∙ append_assoc (g.D.Desk.pairs c.args.desk.now) inv.ps ok.0,
       told_part (g.L.Link.sent c.args.link.now) (g.L.Link.sent c.asking.link) (g.L.Link.sent c.tell.new.link) inv.ps ok.0 c.as_slice.result.now n
           inv.sent same cut.1.1,
-      Asks-cut c.from_residual.result c.in_err-tell.field-0.0 c.args.run.now more (inv.ps ++ ok.0) (take count (answers_text (told (inv.ps ++ ok.0)))) count
+      AsksRun-cut c.from_residual.result c.in_err-tell.field-0.0 c.args.run.now more (inv.ps ++ ok.0) (take count (answers_text (told (inv.ps ++ ok.0)))) count
           (handed_on c.from_residual.result c.in_err-tell.field-0.0 c.from_residual.ensures.1)
           cut.0 (asked_rest c.args.run.now (inv.ps ++ ok.0) (c.asking.asked + c.in-Ok.n) front) refl,
     )

@@ -3,8 +3,8 @@ use Rattle.std.specs.Prelude.{Option}
 use Rattle.std.proofs.KnownBytes.{Appends-trans, Appends-nil, Consumes-trans, Consumes-nil, Consumes-kept}
 use Rattle.std.specs.Io.KnownBytes.{Consumes, Appends}
 use Rattle.iova_range.specs.declared.limits.TheConstants.{MAX_REQUESTS}
-use Rattle.iova_session.specs.Rounds.{Takes}
-use Rattle.iova_session.proofs.Joins.{GoesOn-none, GoesOn-then, Serves-then}
+use Rattle.iova_session.specs.Rounds.{TakesPiece}
+use Rattle.iova_session.proofs.Joins.{AllAnswered-none, AllAnswered-then, Serves-then}
 use Rattle.iova_session.proofs.Taken.{Serves-no_room, Serves-fault, Serves-closed, Serves-worn, IsUnended-none}
 use Rattle.iova_session.proofs.serve.serve.Goals as goal
 
@@ -19,7 +19,7 @@ reading-init g c = record {
   sent = Appends-nil (g.L.Link.sent c.args.link.now);
   now = c.new-lines.ensures;
   unended = IsUnended-none;
-  goes = GoesOn-none;
+  goes = AllAnswered-none;
   count = omega arith;
   reads = omega arith;
   failures = refl;
@@ -100,7 +100,7 @@ returns-in-Err-clause-session g c =
     (Consumes-trans (g.L.Link.left c.args.link.now) (g.L.Link.left c.reading.link) (g.L.Link.left c.read.new.self) inv.taken piece inv.consumed c.in-Ok-read.ensures.bytes.0) in
     let pairs = got.4 ∙ ap (λ x. x ++ got.1) inv.pairs ∙ append_assoc (g.D.Desk.pairs c.args.desk.now) inv.ps got.1 in
     let wrote = Appends-trans (g.L.Link.sent c.args.link.now) (g.L.Link.sent c.read.new.self) (g.L.Link.sent c.take_piece.new.link) inv.written got.2 sent got.5 in
-    let T : Takes c.reading.left (inv.next ++ piece) got.1 got.2 c.take_piece.new.left c.take_piece.new.lines (Err c.in-Err.end) = rw start at got.6 in (
+    let T : TakesPiece c.reading.left (inv.next ++ piece) got.1 got.2 c.take_piece.new.left c.take_piece.new.lines (Err c.in-Err.end) = rw start at got.6 in (
       inv.taken ++ piece,
       inv.ps ++ got.1,
       inv.written ++ got.2,
@@ -126,7 +126,7 @@ reading-preserved g c =
     (Consumes-trans (g.L.Link.left c.args.link.now) (g.L.Link.left c.reading.link) (g.L.Link.left c.read.new.self) inv.taken piece inv.consumed c.in-Ok-read.ensures.bytes.0) in
     let pairs = got.4 ∙ ap (λ x. x ++ got.1) inv.pairs ∙ append_assoc (g.D.Desk.pairs c.args.desk.now) inv.ps got.1 in
     let wrote = Appends-trans (g.L.Link.sent c.args.link.now) (g.L.Link.sent c.read.new.self) (g.L.Link.sent c.take_piece.new.link) inv.written got.2 sent got.5 in
-    let T : Takes c.reading.left (inv.next ++ piece) got.1 got.2 c.take_piece.new.left c.take_piece.new.lines (Ok c.in_default-take_piece.field-0) = rw start at got.6 in
+    let T : TakesPiece c.reading.left (inv.next ++ piece) got.1 got.2 c.take_piece.new.left c.take_piece.new.lines (Ok c.in_default-take_piece.field-0) = rw start at got.6 in
     record {
       taken = inv.taken ++ piece;
       ps = inv.ps ++ got.1;
@@ -137,7 +137,7 @@ reading-preserved g c =
       sent = wrote;
       now = T.3;
       unended = T.2;
-      goes = GoesOn-then inv.taken piece inv.next T.0 inv.written got.2 inv.ps got.1 inv.goes T.1;
+      goes = AllAnswered-then inv.taken piece inv.next T.0 inv.written got.2 inv.ps got.1 inv.goes T.1;
       count = omega (arith, length-append inv.ps got.1, T.4, inv.count);
       reads = omega (arith, c.take_piece.ensures.reads, c.read.ensures.reads, inv.reads);
       failures = c.in_default-take_piece.ensures.failures ∙ c.in-Ok-read.ensures.failures ∙ inv.failures;

@@ -3,7 +3,7 @@ use Rattle.std.specs.Io.KnownBytes.{Appends, Consumes}
 use Rattle.iova_range.specs.declared.limits.TheConstants.{MAX_REQUESTS}
 use Rattle.iova_text.specs.Lines.{IsUnended}
 use Rattle.iova_session.specs.Pairs.{Pair}
-use Rattle.iova_session.specs.Rounds.{GoesOn}
+use Rattle.iova_session.specs.Rounds.{AllAnswered}
 use Rattle.iova_session.proofs.serve.serve.Given as goal
 
 abbrev pub invariant-reading : goal.invariant-reading
@@ -17,7 +17,7 @@ invariant-reading g l = record {
   sent : Appends (g.L.Link.sent l.initial.link) (g.L.Link.sent l.link) written;
   now : l.lines ≡ Some next;
   unended : IsUnended next;
-  goes : GoesOn taken ps next written;
+  goes : AllAnswered taken ps next written;
   count : length ps + l.left ≡ MAX_REQUESTS;
   reads : g.L.Link.reads l.link ≡ g.L.Link.reads l.initial.link + l.counter;
   failures : g.L.Link.failures l.link ≡ g.L.Link.failures l.initial.link;

@@ -4,10 +4,10 @@ use Rattle.std.proofs.KnownBytes.{Appends-trans, Appends-nil}
 use Rattle.iova_session.specs.declared.gathering.Stop.TheVariants as stops
 use Rattle.iova_session.specs.declared.end.End.{End}
 use Rattle.iova_session.specs.declared.end.End.TheVariants as ends
-use Rattle.iova_session.specs.Rounds.{Gathers, Asks, Takes}
-use Rattle.iova_session.proofs.Joins.{GoesOn-kept}
+use Rattle.iova_session.specs.Rounds.{Gathers, AsksRun, TakesPiece}
+use Rattle.iova_session.proofs.Joins.{AllAnswered-kept}
 use Rattle.iova_session.proofs.Runs.{handed_on}
-use Rattle.iova_session.proofs.Taken.{Serves-cut, GoesOn-more, GoesOn-full, Serves-bye, Serves-bad, Serves-limit, Serves-whole, GoesOn-whole, GoesOn-further, lengths}
+use Rattle.iova_session.proofs.Taken.{Serves-cut, AllAnswered-more, AllAnswered-full, Serves-bye, Serves-bad, Serves-limit, Serves-whole, AllAnswered-whole, AllAnswered-further, lengths}
 use Rattle.iova_session.proofs.serve.take_piece.Goals as goal
 
 some_kept : (o : Option (List ℕ)) → IsSome o → (k : List ℕ) × (o ≡ Some k)
@@ -31,7 +31,7 @@ rounds-init g c =
       now = k.1;
       pairs = sym (append-nil (g.D.Desk.pairs c.args.desk.now));
       sent = Appends-nil (g.L.Link.sent c.args.link.now);
-      goes = rw (append-nil k.0) (GoesOn-kept k.0);
+      goes = rw (append-nil k.0) (AllAnswered-kept k.0);
       count = omega arith;
     }
 
@@ -47,9 +47,9 @@ returns-in_err-ask_all-clause-taken g c =
     let sent = Appends-trans (g.L.Link.sent c.args.link.now) (g.L.Link.sent c.rounds.link) (g.L.Link.sent c.ask_all.new.link) inv.written got.1 inv.sent got.3 in
     let G : Gathers c.rounds.left inv.next rest run used c.gather-used.result.1 new = rw inv.now at c.gather-used.ensures.gathered in
     let end = c.in_err-ask_all.field-0.0 in
-    let A : Asks run got.0 got.1 (Err end) = rw c.as_slice.ensures.value at got.4 in
+    let A : AsksRun run got.0 got.1 (Err end) = rw c.as_slice.ensures.value at got.4 in
     let E = Serves-cut c.rounds.left used inv.next rest got.1 run c.gather-used.result.1 new got.0 end c.gather-used.ensures.within G A in
-    let P : Result Unit End → Type 0 = λ x. Takes c.args.left.now (inv.kept ++ c.args.piece.now) (inv.ps ++ got.0) (inv.written ++ got.1) (c.rounds.left - c.len.result) new x in (
+    let P : Result Unit End → Type 0 = λ x. TakesPiece c.args.left.now (inv.kept ++ c.args.piece.now) (inv.ps ++ got.0) (inv.written ++ got.1) (c.rounds.left - c.len.result) new x in (
       inv.kept,
       inv.ps ++ got.0,
       inv.written ++ got.1,
@@ -71,8 +71,8 @@ rounds-preserved g c =
     let pairs = got.2 ∙ ap (λ x. x ++ got.0) inv.pairs ∙ append_assoc (g.D.Desk.pairs c.args.desk.now) inv.ps got.0 in
     let sent = Appends-trans (g.L.Link.sent c.args.link.now) (g.L.Link.sent c.rounds.link) (g.L.Link.sent c.ask_all.new.link) inv.written got.1 inv.sent got.3 in
     let G : Gathers c.rounds.left inv.next rest run used stops.Full new = rw (inv.now, c.in-Full.is) at c.gather-used.ensures.gathered in
-    let A : Asks run got.0 got.1 (Ok c.in_ok-ask_all.field-0) = rw c.as_slice.ensures.value at got.4 in
-    let F = GoesOn-full c.rounds.left used inv.next rest got.1 run new got.0 G A.0 A.1 in
+    let A : AsksRun run got.0 got.1 (Ok c.in_ok-ask_all.field-0) = rw c.as_slice.ensures.value at got.4 in
+    let F = AllAnswered-full c.rounds.left used inv.next rest got.1 run new got.0 G A.0 A.1 in
     let within : length run ≤ c.rounds.left = c.gather-used.ensures.within in
     let fits : used ≤ length rest = c.gather-used.ensures.used in
     record {
@@ -89,7 +89,7 @@ rounds-preserved g c =
       now = G.2;
       pairs = pairs;
       sent = sent;
-      goes = GoesOn-further c.rounds.at used inv.kept c.args.piece.now inv.next [] inv.written got.1 inv.ps got.0 inv.fits inv.goes F;
+      goes = AllAnswered-further c.rounds.at used inv.kept c.args.piece.now inv.next [] inv.written got.1 inv.ps got.0 inv.fits inv.goes F;
       count = rw c.len.ensures.value (lengths inv.ps got.0 run c.args.left.now c.rounds.left inv.count A.0 within);
     }
 
@@ -104,8 +104,8 @@ returns-in-More-clause-taken g c =
     let pairs = got.2 ∙ ap (λ x. x ++ got.0) inv.pairs ∙ append_assoc (g.D.Desk.pairs c.args.desk.now) inv.ps got.0 in
     let sent = Appends-trans (g.L.Link.sent c.args.link.now) (g.L.Link.sent c.rounds.link) (g.L.Link.sent c.ask_all.new.link) inv.written got.1 inv.sent got.3 in
     let G : Gathers c.rounds.left inv.next rest run used stops.More new = rw (inv.now, c.in-More.is) at c.gather-used.ensures.gathered in
-    let A : Asks run got.0 got.1 (Ok c.in_ok-ask_all.field-0) = rw c.as_slice.ensures.value at got.4 in
-    let M = GoesOn-more c.rounds.left used inv.next rest got.1 run new got.0 G A.0 A.1 in
+    let A : AsksRun run got.0 got.1 (Ok c.in_ok-ask_all.field-0) = rw c.as_slice.ensures.value at got.4 in
+    let M = AllAnswered-more c.rounds.left used inv.next rest got.1 run new got.0 G A.0 A.1 in
     let within : length run ≤ c.rounds.left = c.gather-used.ensures.within in (
       inv.kept,
       inv.ps ++ got.0,
@@ -115,7 +115,7 @@ returns-in-More-clause-taken g c =
       sent,
       (
         M.0,
-        GoesOn-whole c.rounds.at inv.kept c.args.piece.now inv.next M.0 inv.written got.1 inv.ps got.0 inv.goes M.1,
+        AllAnswered-whole c.rounds.at inv.kept c.args.piece.now inv.next M.0 inv.written got.1 inv.ps got.0 inv.goes M.1,
         M.2,
         M.3,
         rw c.len.ensures.value (lengths inv.ps got.0 run c.args.left.now c.rounds.left inv.count A.0 within),
@@ -133,7 +133,7 @@ returns-in-Bye-clause-taken g c =
     let pairs = got.2 ∙ ap (λ x. x ++ got.0) inv.pairs ∙ append_assoc (g.D.Desk.pairs c.args.desk.now) inv.ps got.0 in
     let sent = Appends-trans (g.L.Link.sent c.args.link.now) (g.L.Link.sent c.rounds.link) (g.L.Link.sent c.ask_all.new.link) inv.written got.1 inv.sent got.3 in
     let G : Gathers c.rounds.left inv.next rest run used stops.Bye new = rw (inv.now, c.in-Bye.is) at c.gather-used.ensures.gathered in
-    let A : Asks run got.0 got.1 (Ok c.in_ok-ask_all.field-0) = rw c.as_slice.ensures.value at got.4 in
+    let A : AsksRun run got.0 got.1 (Ok c.in_ok-ask_all.field-0) = rw c.as_slice.ensures.value at got.4 in
     let E = Serves-bye c.rounds.left used inv.next rest got.1 run new got.0 c.gather-used.ensures.within G A.0 A.1 in (
       inv.kept,
       inv.ps ++ got.0,
@@ -155,7 +155,7 @@ returns-in-Bad-clause-taken g c =
     let pairs = got.2 ∙ ap (λ x. x ++ got.0) inv.pairs ∙ append_assoc (g.D.Desk.pairs c.args.desk.now) inv.ps got.0 in
     let sent = Appends-trans (g.L.Link.sent c.args.link.now) (g.L.Link.sent c.rounds.link) (g.L.Link.sent c.ask_all.new.link) inv.written got.1 inv.sent got.3 in
     let G : Gathers c.rounds.left inv.next rest run used stops.Bad new = rw (inv.now, c.in-Bad.is) at c.gather-used.ensures.gathered in
-    let A : Asks run got.0 got.1 (Ok c.in_ok-ask_all.field-0) = rw c.as_slice.ensures.value at got.4 in
+    let A : AsksRun run got.0 got.1 (Ok c.in_ok-ask_all.field-0) = rw c.as_slice.ensures.value at got.4 in
     let R = Serves-bad c.rounds.left used inv.next rest got.1 run new got.0 (g.L.Link.sent c.ask_all.new.link) (g.L.Link.sent c.refuse.new.link) c.refuse.result
     c.gather-used.ensures.within G A.0 A.1 c.refuse.ensures.told in (
       inv.kept,
@@ -179,7 +179,7 @@ returns-in-Limit-clause-taken g c =
     let pairs = got.2 ∙ ap (λ x. x ++ got.0) inv.pairs ∙ append_assoc (g.D.Desk.pairs c.args.desk.now) inv.ps got.0 in
     let sent = Appends-trans (g.L.Link.sent c.args.link.now) (g.L.Link.sent c.rounds.link) (g.L.Link.sent c.ask_all.new.link) inv.written got.1 inv.sent got.3 in
     let G : Gathers c.rounds.left inv.next rest run used stops.Limit new = rw (inv.now, c.in-Limit.is) at c.gather-used.ensures.gathered in
-    let A : Asks run got.0 got.1 (Ok c.in_ok-ask_all.field-0) = rw c.as_slice.ensures.value at got.4 in
+    let A : AsksRun run got.0 got.1 (Ok c.in_ok-ask_all.field-0) = rw c.as_slice.ensures.value at got.4 in
     let R = Serves-limit c.rounds.left used inv.next rest got.1 run new got.0 (g.L.Link.sent c.ask_all.new.link) (g.L.Link.sent c.refuse-in-Limit.new.link) c.refuse-in-Limit.result
     c.gather-used.ensures.within G A.0 A.1 c.refuse-in-Limit.ensures.told in (
       inv.kept,

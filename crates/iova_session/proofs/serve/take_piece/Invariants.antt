@@ -1,7 +1,7 @@
 use Rattle.std.proofs.Common.{◌≡◌, length, ◌+◌, ◌≤◌, ◌++◌, take, List, ℕ, Some}
 use Rattle.std.specs.Io.KnownBytes.{Appends}
 use Rattle.iova_session.specs.Pairs.{Pair}
-use Rattle.iova_session.specs.Rounds.{GoesOn}
+use Rattle.iova_session.specs.Rounds.{AllAnswered}
 use Rattle.iova_session.proofs.serve.take_piece.Given as goal
 
 abbrev pub invariant-rounds : goal.invariant-rounds
@@ -19,7 +19,7 @@ invariant-rounds g l = record {
   now : l.lines ≡ Some next;
   pairs : g.D.Desk.pairs l.desk ≡ g.D.Desk.pairs l.initial.desk ++ ps;
   sent : Appends (g.L.Link.sent l.initial.link) (g.L.Link.sent l.link) written;
-  goes : GoesOn (kept ++ take l.at l.piece) ps next written;
+  goes : AllAnswered (kept ++ take l.at l.piece) ps next written;
   count : length ps + l.left ≡ l.initial.left;
 }
 
