@@ -1,5 +1,6 @@
 //! The lock: requests of one frame and their unmaps, in turn and in runs of 16, by one thread or four that share a lock; the
-//! same steps without a lock; and a bare mutex.
+//! same in turn in a strict domain, and in new domains one after another, recorded and not; the same steps without a lock; and
+//! a bare mutex.
 ghost use Rattle.std.specs.Prelude.{◌≡◌, ◌*◌, ◌≤◌, length};
 ghost use Rattle.iova_range.specs.declared.limits.TheConstants.{TALLY_PARTS};
 
@@ -10,6 +11,7 @@ use iova_lock::ask::{Ask, Told};
 use iova_lock::calls;
 use iova_lock::crossing::books_are_send;
 use iova_lock::keep::Keep;
+use iova_lock::release::release;
 use iova_lock::seat::Seat;
 use iova_lock::shared::Shared;
 use iova_range::bounds::Bounds;
@@ -25,15 +27,36 @@ use std::thread::Threads;
 use std::time::Instant;
 
 /// The names of the cases.
-pub const CASES: [&str; 5] = ["mutex", "steps", "lock", "steps16", "batch"];
+pub const CASES: [&str; 8] = [
+    "mutex", "steps", "lock", "new", "recorded", "strict", "steps16", "batch",
+];
 
 const TOP: u64 = 68_719_476_735;
 
 /// How many operations a case runs, over all its threads.
 const COUNT: u64 = 1_000_000;
 
+/// How many domains, one after another, the cases `new` and `recorded` run them in.
+const DOMAINS: u64 = 100;
+
+/// Room for the steps that are run in one of them: a client, requests, their unmaps, and flushes.
+const PAIRS: usize = 20_400;
+
 /// How many requests, or unmaps, one run has.
 const RUN: usize = 16;
+
+/// How a thread asks, and of what kind the domain is.
+#[derive(Clone, Copy, PartialEq, Eq)]
+enum Way {
+    /// A request and its unmap in turn.
+    InTurn,
+    /// The same, where the domain's steps are recorded.
+    Recorded,
+    /// The same in a strict domain, where each unmap waits for a flush of its own.
+    Strict,
+    /// Runs of requests, and of their unmaps.
+    InRuns,
+}
 
 /// Runs a case of this name, with one thread and with four, and prints the best of several times for each.
 pub fn run<R: Runtime + Threads + Wait + Sync>(
@@ -67,15 +90,26 @@ fn tenths_of<R: Runtime + Threads + Wait + Sync>(
         ("mutex", _) => mutex(rt, alloc, threads),
         ("steps", 1) => steps(rt, alloc, false),
         ("steps16", 1) => steps(rt, alloc, true),
-        ("lock", _) => lock(rt, alloc, threads, false),
-        ("batch", _) => lock(rt, alloc, threads, true),
+        ("lock", _) => Ok(tenths_each(lock(rt, alloc, threads, Way::InTurn, COUNT)?)),
+        ("new", 1) => in_domains(rt, alloc, Way::InTurn),
+        ("recorded", 1) => in_domains(rt, alloc, Way::Recorded),
+        ("strict", 1) => Ok(tenths_each(lock(rt, alloc, 1, Way::Strict, COUNT)?)),
+        ("batch", _) => Ok(tenths_each(lock(rt, alloc, threads, Way::InRuns, COUNT)?)),
         _ => Ok(u64::MAX),
     }
 }
 
 fn tenths<R: Runtime>(rt: &R, since: &Instant) -> anyhow::Result<u64> {
-    let nanos = since.elapsed(rt)?.as_nanos().min(1 << 56) as u64;
-    Ok(nanos * 10 / COUNT)
+    Ok(tenths_each(nanos(rt, since)?))
+}
+
+fn nanos<R: Runtime>(rt: &R, since: &Instant) -> anyhow::Result<u64> {
+    Ok(since.elapsed(rt)?.as_nanos().min(1 << 56) as u64)
+}
+
+// Of so many nanoseconds, the tenths for each operation.
+fn tenths_each(nanos: u64) -> u64 {
+    nanos.min(1 << 56) * 10 / COUNT
 }
 
 // Takes the lock and lets it go, again and again.
@@ -216,6 +250,20 @@ fn run_of_asks<C: Ledger, F: Ledger, S: Ledger, G: Ledger, K: Keep<C, F, S, G>>(
     Ok(())
 }
 
+fn in_turn_strict<C: Ledger, F: Ledger, S: Ledger, G: Ledger, K: Keep<C, F, S, G>>(
+    keeper: &mut K,
+    seat: &mut Seat<C, F, S, G>,
+    count: u64,
+) -> Result<(), Refusal> {
+    let mut sink = MemorySink::new(0);
+    let id = keeper.open(seat, false)?;
+    for _ in 0..count {
+        let range = keeper.alloc(seat, id, 1, TOP)?;
+        release(keeper, seat, &mut sink, id, range.lo())?;
+    }
+    Ok(())
+}
+
 fn in_runs<C: Ledger, F: Ledger, S: Ledger, G: Ledger, K: Keep<C, F, S, G>>(
     alloc: Global,
     keeper: &mut K,
@@ -236,18 +284,19 @@ fn work<C: Ledger, F: Ledger, S: Ledger, G: Ledger, K: Keep<C, F, S, G> + Drop>(
     alloc: Global,
     keeper: K,
     seat: Seat<C, F, S, G>,
-    runs: bool,
+    way: Way,
     count: u64,
 ) -> Result<(), Refusal> {
     let mut keeper = keeper;
     let mut seat = seat;
-    if runs {
-        in_runs(alloc, &mut keeper, &mut seat, count)
-    } else {
-        in_turn(&mut keeper, &mut seat, count)
+    match way {
+        Way::InTurn | Way::Recorded => in_turn(&mut keeper, &mut seat, count),
+        Way::Strict => in_turn_strict(&mut keeper, &mut seat, count),
+        Way::InRuns => in_runs(alloc, &mut keeper, &mut seat, count),
     }
 }
 
+// How many nanoseconds so many operations took.
 fn shared_by<
     C: Ledger + Send + Sync,
     F: Ledger + Send + Sync,
@@ -258,7 +307,8 @@ fn shared_by<
     rt: &R,
     alloc: Global,
     threads: u64,
-    runs: bool,
+    way: Way,
+    operations: u64,
     count: Blank,
     frames: Blank,
     sum_lo: Blank,
@@ -272,31 +322,42 @@ fn shared_by<
     requires good { (good.name ≡ G.name) × (good.parts ≡ G.parts) × (good.parts ≡ TALLY_PARTS * threads) }
 {
     let bounds = Bounds::new(1, TOP)?;
-    let (shared, mut seats) = Shared::<&R, C, F, S, G>::new(
-        rt, alloc, 0, bounds, threads, count, frames, sum_lo, good,
-    )?;
+    let (shared, mut seats) = match way {
+        Way::Recorded => Shared::<&R, C, F, S, G>::recorded(
+            rt, alloc, 0, bounds, threads, PAIRS, count, frames, sum_lo, good,
+        )?,
+        _ => Shared::<&R, C, F, S, G>::new(
+            rt, alloc, 0, bounds, threads, count, frames, sum_lo, good,
+        )?,
+    };
+    let shared = if way == Way::Strict {
+        shared.strict()
+    } else {
+        shared
+    };
     let lent = &shared;
-    let each = COUNT / threads;
+    let each = operations / threads;
     let since = Instant::now(rt)?;
     if threads == 1 {
         if let Some(seat) = seats.pop() {
-            work(alloc, lent, seat, runs, each)?;
+            work(alloc, lent, seat, way, each)?;
         }
     } else {
         books_are_send::<C, F, S, G>();
-        let done = thread::map_vec(rt, seats, &|seat| work(alloc, lent, seat, runs, each))?;
+        let done = thread::map_vec(rt, seats, &|seat| work(alloc, lent, seat, way, each))?;
         for worked in done {
             worked?;
         }
     }
-    tenths(rt, &since)
+    nanos(rt, &since)
 }
 
 fn lock<R: Runtime + Threads + Wait + Sync>(
     rt: &R,
     alloc: Global,
     threads: u64,
-    runs: bool,
+    way: Way,
+    operations: u64,
 ) -> anyhow::Result<u64>
     requires some { 1 ≤ threads }
     requires few { threads ≤ 4 }
@@ -305,10 +366,24 @@ fn lock<R: Runtime + Threads + Wait + Sync>(
         rt,
         alloc,
         threads,
-        runs,
+        way,
+        operations,
         Blank::new(threads),
         Blank::new(threads),
         Blank::new(threads),
         Blank::new(256 * threads),
     )
+}
+
+// The same in several domains one after another. What the making of them costs isn't counted.
+fn in_domains<R: Runtime + Threads + Wait + Sync>(
+    rt: &R,
+    alloc: Global,
+    way: Way,
+) -> anyhow::Result<u64> {
+    let mut sum = 0u64;
+    for _ in 0..DOMAINS {
+        sum = sum.saturating_add(lock(rt, alloc, 1, way, COUNT / DOMAINS)?);
+    }
+    Ok(tenths_each(sum))
 }

@@ -1,5 +1,6 @@
 //! The step machine: one frame from the magazines and back, the same through a client's ledger and the flush ring, and
-//! requests of 1 to 32 frames that are unmapped at once, with a flush whenever the ring is full.
+//! requests of 1 to 32 frames that are unmapped at once, with a flush whenever the ring is full, in a domain of one worker and
+//! of 16.
 
 ghost use Rattle.std.specs.Prelude.{◌≡◌, ◌≤◌};
 
@@ -14,7 +15,7 @@ use std::rt::Runtime;
 use std::time::Instant;
 
 /// The names of the cases.
-pub const CASES: [&str; 3] = ["a", "au", "d"];
+pub const CASES: [&str; 4] = ["a", "au", "d", "d16"];
 
 const TOP: u64 = 68_719_476_735;
 
@@ -27,8 +28,9 @@ pub fn run<R: Runtime>(rt: &R, alloc: Global, case: &str) -> anyhow::Result<()> 
     for _ in 0..3 {
         let nanos = match case {
             "a" => magazines(rt, alloc)?,
-            "au" => requests(rt, alloc, 1)?,
-            "d" => requests(rt, alloc, 32)?,
+            "au" => requests(rt, alloc, 1, 1)?,
+            "d" => requests(rt, alloc, 32, 1)?,
+            "d16" => requests(rt, alloc, 32, 16)?,
             _ => return Ok(()),
         };
         best = best.min(nanos);
@@ -103,13 +105,13 @@ pub fn give_and_take(domain: &mut Domain, frames: u64) -> Result<(), Refusal> {
     Ok(())
 }
 
-// Requests of 1 to `most` frames.
-fn requests<R: Runtime>(rt: &R, alloc: Global, most: u64) -> anyhow::Result<u64>
+// Requests of 1 to `most` frames by worker 0, where there are so many workers.
+fn requests<R: Runtime>(rt: &R, alloc: Global, most: u64, workers: u64) -> anyhow::Result<u64>
     requires some { 1 ≤ most }
     requires few { most ≤ 32 }
 {
     let mut random = Random::new(5);
-    let mut domain = Domain::new(alloc, Bounds::new(1, TOP)?, 1)?;
+    let mut domain = Domain::new(alloc, Bounds::new(1, TOP)?, workers)?;
     domain.step(Step::Open {
         worker: 0,
         sac: false,
