@@ -1,4 +1,4 @@
 pub mod Faults
-pub mod ReplaysAndReports
+pub mod Answers
 pub mod Outcomes
 pub mod Plans
