@@ -1,8 +1,9 @@
 /* What the kernel's allocator asks of the rest of the kernel, for bench/kernel: it puts this file before each of the kernel's
    files and leaves all other headers of the kernel empty. One thread runs them, so
 
-   - a lock does nothing, no interrupt is kept away, a barrier holds only the compiler, and an atomic operation is a plain one,
-     as in a kernel for one processor;
+   - where LOCKS is defined, a lock that nobody holds is taken by an exchange and let go by a store, and a barrier is one for
+     the processor, as in a kernel for several; else a lock does nothing and a barrier holds only the compiler, as in a kernel
+     for one. No interrupt is kept away, and the counters of flushes are plain numbers;
    - the slab is the C library's heap: malloc and free, and memory that is to be zero is set to zero (calloc of the GNU library
      goes past malloc's quick lists);
    - what there is for each processor is there once;
@@ -68,7 +69,7 @@ static inline void list_splice(struct list_head *list, struct list_head *to) { B
 
 /* Locks, barriers, atomic operations. */
 typedef struct {
-  int none;
+  int held;
 } spinlock_t;
 struct mutex {
   int none;
@@ -77,12 +78,18 @@ struct mutex {
 #define mutex_lock(lock) ((void)0)
 #define mutex_unlock(lock) ((void)0)
 #define spin_lock_init(lock) ((void)0)
+#ifdef LOCKS
+#define spin_lock(lock) do {} while (__atomic_exchange_n(&(lock)->held, 1, __ATOMIC_ACQUIRE))
+#define spin_unlock(lock) __atomic_store_n(&(lock)->held, 0, __ATOMIC_RELEASE)
+#define smp_mb() __atomic_thread_fence(__ATOMIC_SEQ_CST)
+#else
 #define spin_lock(lock) ((void)0)
 #define spin_unlock(lock) ((void)0)
-#define spin_lock_irqsave(lock, flags) ((void)((flags) = 0))
-#define spin_unlock_irqrestore(lock, flags) ((void)(flags))
-#define assert_spin_locked(lock) ((void)0)
 #define smp_mb() __asm__ volatile("" ::: "memory")
+#endif
+#define spin_lock_irqsave(lock, flags) do { (flags) = 0; spin_lock(lock); } while (0)
+#define spin_unlock_irqrestore(lock, flags) do { (void)(flags); spin_unlock(lock); } while (0)
+#define assert_spin_locked(lock) ((void)0)
 #define smp_wmb() smp_mb()
 typedef struct {
   int counter;
