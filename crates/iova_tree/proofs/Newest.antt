@@ -1,6 +1,7 @@
 -- One range more beside others: how many they are, what they cover and meet, and the greatest fit among them.
-use Rattle.std.proofs.Common.{◌≡◌, ℕ, ◌+◌, ◌<◌, ◌≤◌, ◌⊎◌, inl, inr, ◌||◌, ◌&&◌, Bool, true, false, cond, List, [], ◌∷◌, length, Option, Some, None, Box, refl, sym, ap, ◌∙◌, subst, arith}
-use Rattle.std.specs.Prelude.{nat_lt}
+use Rattle.std.proofs.Common.{◌≡◌, ℕ, ◌+◌, ◌<◌, ◌≤◌, ◌⊎◌, inl, inr, ◌||◌, ◌&&◌, Bool, true, false, cond, ltb, List, [], ◌∷◌, length, Option, Some, None, Box, refl, sym, ap, ◌∙◌, subst, arith}
+use Rattle.std.proofs.lemmas.Bool.{lt-ltb, le-ltb, ltb-true, ltb-false}
+use Rattle.std.specs.Prelude.{nat_lt, IfSome, IfNone}
 use Rattle.std.specs.List.{list_any}
 use Rattle.iova_range.specs.Frames.{Frames, covers}
 use Rattle.iova_model.specs.Fit.{is_covered}
@@ -8,7 +9,7 @@ use Rattle.iova_tree.specs.Spans.{Span, range_of_span, all_of, is_kind, of_kind,
 use Rattle.std.specs.declared.alloc.Global.{Global}
 use Rattle.iova_tree.specs.declared.search.Wanted.{Wanted}
 use Rattle.iova_tree.specs.declared.subtree.Node.{Node}
-use Rattle.iova_tree.specs.Node.{own_span, with_newest, StandsBeside}
+use Rattle.iova_tree.specs.Node.{own_span, with_newest, StandsBeside, IsTakenOut}
 use Rattle.iova_tree.specs.Fit.{IsWanted, highest_free}
 use Rattle.iova_tree.proofs.Allocated.{rising_with}
 use Rattle.iova_tree.proofs.Fits.{IsFree, LiesFree, IsGreatestFit, highest_free-greatest, wanted_align}
@@ -59,6 +60,31 @@ any_with kind p x (y ∷ l) = split (nat_lt x.lo y.lo) (any_with kind p x l)
         ∙ ap (λ z. b || z) e
         ∙ or_swap a b (list_any p (of_kind kind l))
         ∙ ap (λ z. a || z) (sym (any_cons (is_kind kind y) p (range_of_span y) (of_kind kind l)))
+
+with_less : (x y : Span) (l : List Span) → x.lo < y.lo → with_span x (with_span y l) ≡ with_span y (with_span x l)
+with_less x y [] p = rw (lt-ltb x.lo y.lo p, le-ltb y.lo x.lo (omega arith)) refl
+with_less x y (z ∷ l) p = split (ltb y.lo z.lo) (ltb x.lo z.lo) refl refl (with_less x y l p)
+  where
+    split : (b c : Bool) → ltb y.lo z.lo ≡ b → ltb x.lo z.lo ≡ c → with_span x (with_span y l) ≡ with_span y (with_span x l)
+        → with_span x (with_span y (z ∷ l)) ≡ with_span y (with_span x (z ∷ l))
+    split true c e f i =
+        let q = ltb-true y.lo z.lo e in
+        rw (e, lt-ltb x.lo z.lo (omega arith), lt-ltb x.lo y.lo p, le-ltb y.lo x.lo (omega arith), e) refl
+    split false true e f i = rw (e, f, le-ltb y.lo x.lo (omega arith), e) refl
+    split false false e f i = rw (e, f, e, i) refl
+
+-- two ranges that begin at different frames, whichever comes first
+pub with_both : (x y : Span) (l : List Span) → (x.lo ≡ y.lo → ⊥) → with_span x (with_span y l) ≡ with_span y (with_span x l)
+with_both x y l other = split (ltb x.lo y.lo) refl
+  where
+    split : (b : Bool) → ltb x.lo y.lo ≡ b → with_span x (with_span y l) ≡ with_span y (with_span x l)
+    split true e = with_less x y l (ltb-true x.lo y.lo e)
+    split false e = let q = ltb-false x.lo y.lo e in sym (with_less y x l (omega (arith, other)))
+
+-- the newest begins at another frame
+abbrev pub IsDifferent : Option (Box Node Global) → ℕ → Type 0
+IsDifferent None lo = Unit {0}
+IsDifferent (Some b) lo = b.value.lo ≡ lo → ⊥
 
 -- The greatest fit.
 
@@ -172,3 +198,41 @@ pub highest_newest-none : (w : Wanted) (start : ℕ) (newest : Option (Box Node 
 highest_newest-none w start None l v h view_is r e = subst (λ (m : List Span). None ≡ highest_free w start m) view_is e
 highest_newest-none w start (Some b) l v h view_is r e =
     subst (λ (m : List Span). None ≡ highest_free w start m) view_is (highest_with-none w start (own_span b.value) l h (subst (IsRisingFrom start) (sym view_is) r) e)
+
+pub rising_others : (start : ℕ) (newest : Option (Box Node Global)) (l v : List Span) → with_newest newest l ≡ v → IsRisingFrom start v → IsRisingFrom start l
+rising_others start None l v view_is r = subst (IsRisingFrom start) (sym view_is) r
+rising_others start (Some b) l v view_is r = rising-without start (own_span b.value) l (subst (IsRisingFrom start) (sym view_is) r)
+
+-- how many the others are
+pub few_others : (newest : Option (Box Node Global)) (l v : List Span) (n : ℕ) → with_newest newest l ≡ v → length v ≤ n → length l ≤ n
+few_others None l v n view_is f = subst (λ (m : List Span). length m ≤ n) (sym view_is) f
+few_others (Some b) l v n view_is f =
+    let more = length_with (own_span b.value) l in
+    let all : length (with_span (own_span b.value) l) ≤ n = subst (λ (m : List Span). length m ≤ n) (sym view_is) f in
+    omega (arith, more, all)
+
+-- After one of the others was taken out, or none.
+
+stands_without : (newest : Option (Box Node Global)) (x : Span) (l : List Span) → StandsBeside newest (with_span x l) → IsDifferent newest x.lo → StandsBeside newest l
+stands_without None x l s d = tt
+stands_without (Some b) x l s d = (s.0, rising-without 0 x _ (subst (IsRisingFrom 0) (with_both (own_span b.value) x l d) s.1))
+
+newest_with : (newest : Option (Box Node Global)) (x : Span) (l : List Span) → IsDifferent newest x.lo → with_newest newest (with_span x l) ≡ with_span x (with_newest newest l)
+newest_with None x l d = refl
+newest_with (Some b) x l d = with_both (own_span b.value) x l d
+
+-- the newest stands beside those that are left
+pub stands_after : (newest : Option (Box Node Global)) (lo : ℕ) (l m : List Span) (o : Option (Box Node Global)) → IsDifferent newest lo → StandsBeside newest l → IfSome o (λ (n : Box Node Global). IsTakenOut lo n.value l m) → IfNone o (m ≡ l) → StandsBeside newest m
+stands_after newest lo l m None d s t e = subst (StandsBeside newest) (sym e) s
+stands_after newest lo l m (Some n) d s t e =
+    stands_without newest (own_span n.value) m (subst (StandsBeside newest) t.taken s) (subst (IsDifferent newest) (sym t.begins) d)
+
+pub taken_after : (newest : Option (Box Node Global)) (lo : ℕ) (l m : List Span) (o : Option (Box Node Global)) → IsDifferent newest lo → IfSome o (λ (n : Box Node Global). IsTakenOut lo n.value l m) → IfSome o (λ (n : Box Node Global). IsTakenOut lo n.value (with_newest newest l) (with_newest newest m))
+taken_after newest lo l m None d t = tt
+taken_after newest lo l m (Some n) d t =
+    let x = own_span n.value in
+    record {
+      begins = t.begins;
+      single = t.single;
+      taken = ap (with_newest newest) t.taken ∙ newest_with newest x m (subst (IsDifferent newest) (sym t.begins) d);
+    }

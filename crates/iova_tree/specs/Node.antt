@@ -74,6 +74,12 @@ HasSameHeightAndRoom old new = (new.1 ≡ old.1) × (room_between new.0 ≡ room
 abbrev pub IsSingle : Node → Type 0
 IsSingle n = (n.left ≡ ([], 0)) × (n.right ≡ ([], 0))
 
+-- the ranges `new` are those of `old` but the node's, which has no sides and begins at lo
+pub record IsTakenOut (lo : ℕ) (n : Node) (old new : List Span) : Type 0 where
+  pub begins : n.lo ≡ lo
+  pub single : IsSingle n
+  pub taken : old ≡ with_span (own_span n) new
+
 -- a subtree's ranges and height, as the node at its root gives them
 abbrev pub IsRootOf : List Span × ℕ → Option (Box Node Global) → Type 0
 IsRootOf v None = v ≡ ([], 0)

@@ -1,6 +1,7 @@
 //! The allocated ranges of a domain, its windows among them, and the highest place where a request fits between them.
 #![tactic(auto)]
 
+mod beside;
 mod position;
 mod ranges;
 mod room;

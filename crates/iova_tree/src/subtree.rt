@@ -11,6 +11,7 @@ ghost use Rattle.iova_tree.specs.Spans.{range_of_span, all_of, inserted_of, firs
 ghost use Rattle.iova_tree.specs.Fit.{IsWanted, place_before, place_behind, highest_between, highest_free};
 ghost use Rattle.iova_tree.specs.Node.{node_summary, node_height, node_spans, own_span, IsSingle, IsBalanced, Rebalances, IsRootOf, PlacesBelow, HasSameSummary, TakesBelow, DifferByAtMost, HasSameHeightAndRoom, is_inserted_in, IsHeightOfBoth};
 
+use crate::ranges::Ranges;
 use crate::room::room_with;
 use crate::search::{Wanted, place_in};
 use iova_range::range::Range;
@@ -159,34 +160,6 @@ impl Subtree {
         }
     }
 
-    /// Adds a node without sides, whose frames are free. It takes no memory.
-    #[inline]
-    pub fn insert(&mut self, fresh: Box<Node>)
-        requires single { IsSingle fresh.value }
-        requires free { IsRisingFrom 0 (with_span (own_span fresh.value) self.old.0) }
-        requires few { length self.old.0 ≤ 2 ^ 40 }
-        ensures { self.new.0 ≡ with_span (own_span fresh.value) self.old.0 }
-    {
-        // for the proof: a subtree of so many ranges is low
-        let _summary = &self.summary;
-        let _ = self.place(fresh);
-    }
-
-    /// Takes out the node of the range that begins at `lo`. It takes no memory.
-    #[inline]
-    pub fn remove(&mut self, lo: u64) -> Box<Node>
-        requires held { Holds lo self.old.0 }
-        requires few { length self.old.0 ≤ 2 ^ 40 }
-        ensures begins { result.value.lo ≡ lo }
-        ensures single { IsSingle result.value }
-        ensures taken { self.old.0 ≡ with_span (own_span result.value) self.new.0 }
-    {
-        // for the proof: a subtree of so many ranges is low
-        let _summary = &self.summary;
-        let (node, _) = self.take(lo);
-        node
-    }
-
     // Adds a node; tells whether room or height have changed.
     #[cycle(place)]
     fn place(&mut self, fresh: Box<Node>) -> bool
@@ -319,58 +292,6 @@ impl Subtree {
         }
     }
 
-    /// The highest place from `start` on: above all ranges, between two neighbours, or below all.
-    pub fn highest(&self, start: u64, wanted: &Wanted) -> Option<u64>
-        requires { IsWanted wanted.now }
-        ensures { result ≡ highest_free wanted.now start self.now.0 }
-    {
-        if let Some(at) = place_in(self.end_or(start), wanted.cap, wanted) {
-            return Some(at);
-        }
-        if let Some(at) = self.highest_within(wanted) {
-            return Some(at);
-        }
-        self.place_before(start, wanted)
-    }
-
-    /// Whether one of the ranges has the frame.
-    pub fn covers(&self, frame: u64) -> bool
-        ensures { result ≡ is_covered frame (all_of self.now.0) }
-    {
-        let Some(node) = &self.root else {
-            return false;
-        };
-        let node: &Node = node;
-        if frame < node.lo {
-            node.left.covers(frame)
-        } else if frame < node.end {
-            true
-        } else {
-            node.right.covers(frame)
-        }
-    }
-
-    /// Whether one of the ranges that are no windows has a frame in common with those from `lo` on, below `end`.
-    pub fn meets_inserted(&self, lo: u64, end: u64) -> bool
-        requires { lo < end }
-        ensures { result ≡ list_any (meets (record { lo = lo; len = end - lo })) (inserted_of self.now.0) }
-    {
-        if self.summary.end <= lo {
-            return false;
-        }
-        if end <= self.summary.first {
-            return false;
-        }
-        let Some(node) = &self.root else {
-            return false;
-        };
-        let node: &Node = node;
-        if node.is_taken(lo, end) {
-            return true;
-        }
-        node.left.meets_inserted(lo, end) || node.right.meets_inserted(lo, end)
-    }
-
     // The node at the root, with what the link knew of it.
     fn open(self) -> Option<Box<Node>>
         ensures { IsRootOf self result }
@@ -388,6 +309,71 @@ impl Subtree {
             summary: summary_of(&node),
             root: Some(node),
         }
+    }
+}
+
+impl Ranges for Subtree {
+    ghost spans = { λ s. s.0 };
+
+    #[inline]
+    fn insert(&mut self, fresh: Box<Node>) {
+        // for the proof: a subtree of so many ranges is low
+        let _summary = &self.summary;
+        let _ = self.place(fresh);
+    }
+
+    #[inline]
+    fn remove(&mut self, lo: u64) -> Box<Node> {
+        // for the proof: a subtree of so many ranges is low
+        let _summary = &self.summary;
+        let (node, _) = self.take(lo);
+        node
+    }
+
+    #[inline]
+    fn take_newest(&mut self, lo: u64) -> Option<Box<Node>> {
+        None
+    }
+
+    fn highest(&self, start: u64, wanted: &Wanted) -> Option<u64> {
+        if let Some(at) = place_in(self.end_or(start), wanted.cap, wanted) {
+            return Some(at);
+        }
+        if let Some(at) = self.highest_within(wanted) {
+            return Some(at);
+        }
+        self.place_before(start, wanted)
+    }
+
+    fn covers(&self, frame: u64) -> bool {
+        let Some(node) = &self.root else {
+            return false;
+        };
+        let node: &Node = node;
+        if frame < node.lo {
+            node.left.covers(frame)
+        } else if frame < node.end {
+            true
+        } else {
+            node.right.covers(frame)
+        }
+    }
+
+    fn meets_inserted(&self, lo: u64, end: u64) -> bool {
+        if self.summary.end <= lo {
+            return false;
+        }
+        if end <= self.summary.first {
+            return false;
+        }
+        let Some(node) = &self.root else {
+            return false;
+        };
+        let node: &Node = node;
+        if node.is_taken(lo, end) {
+            return true;
+        }
+        node.left.meets_inserted(lo, end) || node.right.meets_inserted(lo, end)
     }
 }
 

@@ -7,6 +7,7 @@ ghost use Rattle.iova_tree.specs.Spans.{windows_of, inserted_of};
 ghost use Rattle.iova_tree.specs.Space.{RiseApart, LieWithin, clear_of};
 ghost use Rattle.iova_tree.specs.Node.{IsSingle};
 
+use crate::beside::Allocated;
 use crate::position::position_of;
 use crate::ranges::Ranges;
 use crate::subtree::Node;
@@ -34,7 +35,7 @@ pub fn insert_window(windows: &mut Vec<Range>, window: Range)
 /// Takes out the windows that have a frame in common with `window`, from the tree too, and gives one window of all these
 /// and `window` itself, with the node of one of them. None has frame 0. It takes no memory.
 pub fn absorb(
-    ranges: &mut Ranges,
+    ranges: &mut Allocated,
     windows: &mut Vec<Range>,
     window: Range,
 ) -> (Range, Option<Box<Node>>)

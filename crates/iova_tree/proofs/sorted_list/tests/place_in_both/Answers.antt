@@ -1,4 +1,4 @@
-use Rattle.std.proofs.Common.{◌≡◌, sym, ◌∙◌}
+use Rattle.std.proofs.Common.{sym, ◌∙◌}
 use Rattle.iova_tree.specs.Space.{ranges_of}
 use Rattle.iova_tree.proofs.Comparing.{best_clear}
 use Rattle.iova_tree.proofs.sorted_list.tests.place_in_both.Goals as goal

@@ -1,4 +1,3 @@
-use Rattle.std.proofs.Common.{◌≡◌}
 use Rattle.iova_tree.proofs.Comparing.{found_at}
 use Rattle.iova_tree.proofs.sorted_list.tests.remove_from_both.Goals as goal
 

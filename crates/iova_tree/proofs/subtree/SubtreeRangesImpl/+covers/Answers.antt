@@ -2,7 +2,7 @@ use Rattle.std.proofs.Common.{sym, ◌∙◌}
 use Rattle.iova_tree.specs.Node.{own_span}
 use Rattle.iova_tree.proofs.Root.{at_root}
 use Rattle.iova_tree.proofs.Allocated.{covered_left, covered_own, covered_right}
-use Rattle.iova_tree.proofs.subtree.Subtree.+covers.Goals as goal
+use Rattle.iova_tree.proofs.subtree.SubtreeRangesImpl.+covers.Goals as goal
 
 pub returns-then-frame-node : goal.returns-then-frame-node
 returns-then-frame-node t c =

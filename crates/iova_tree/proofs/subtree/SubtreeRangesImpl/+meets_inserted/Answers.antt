@@ -5,7 +5,7 @@ use Rattle.iova_tree.proofs.Root.{at_root}
 use Rattle.iova_tree.proofs.Searches.{told, told_end}
 use Rattle.iova_tree.proofs.Spans.{rising-back}
 use Rattle.iova_tree.proofs.Allocated.{none_meets_below, none_meets_above, meets_middle}
-use Rattle.iova_tree.proofs.subtree.Subtree.+meets_inserted.Goals as goal
+use Rattle.iova_tree.proofs.subtree.SubtreeRangesImpl.+meets_inserted.Goals as goal
 
 pub returns-then-self-lo : goal.returns-then-self-lo
 returns-then-self-lo t c =
