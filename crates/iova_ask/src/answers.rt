@@ -31,7 +31,8 @@ pub(crate) fn copy_answers<W: Write, L: Link>(
     answers: u64,
 ) -> Result<(), AskFault>
     ensures copied { MatchResult result
-        (λ _. Copies answers (L.left link.old) (L.left link.new) (W.contents writer.old) (W.contents writer.new) held.old held.new)
+        (λ _. Copies answers (L.left link.old) (L.left link.new)
+        (W.contents writer.old) (W.contents writer.new) held.old held.new)
         (λ _. Breaks (L.left link.old) (L.left link.new) (W.contents writer.old) (W.contents writer.new) held.old) }
     ensures sent { L.sent link.new ≡ L.sent link.old }
     ensures fault { IfErr result (λ e. e ≢ AskFault.Read) }
@@ -68,7 +69,8 @@ fn write_held<W: Write>(writer: &mut W, held: &mut Buffer, len: usize) -> Result
     requires { len ≤ length held.old }
     ensures ok { OnOk result (Appends (W.contents writer.old) (W.contents writer.new) (take len held.old)) }
     ensures held { OnOk result (held.new ≡ drop len held.old) }
-    ensures err { OnErr result ((n : ℕ) × Appends (W.contents writer.old) (W.contents writer.new) (take n (take len held.old))) }
+    ensures err { OnErr result
+        ((n : ℕ) × Appends (W.contents writer.old) (W.contents writer.new) (take n (take len held.old))) }
     ensures fault { IfErr result (λ e. e ≢ AskFault.Read) }
 {
     if len == 0 {
@@ -87,7 +89,8 @@ fn write_held<W: Write>(writer: &mut W, held: &mut Buffer, len: usize) -> Result
 fn read_link<L: Link>(link: &mut L, piece: &mut [u8]) -> Result<usize, AskFault>
     ensures ok { IfOk result (λ len. Consumes (L.left link.old) (L.left link.new) (take len piece.new)) }
     ensures bound { IfOk result (λ len. len ≤ length piece.new) }
-    ensures err { IfErr result (λ e. (e ≡ AskFault.Link) × ((got : List ℕ) × Consumes (L.left link.old) (L.left link.new) got)) }
+    ensures err { IfErr result (λ e. (e ≡ AskFault.Link)
+        × ((got : List ℕ) × Consumes (L.left link.old) (L.left link.new) got)) }
     ensures sent { L.sent link.new ≡ L.sent link.old }
 {
     match link.read(piece) {

@@ -40,7 +40,8 @@ pub fn ask_lines<R: Read, W: Write, L: Link>(
     ensures sent { (taken : List ℕ) × Consumes (R.remaining reader.old) (R.remaining reader.new) taken
         × Sends taken (R.remaining reader.new) (L.sent link.old) (L.sent link.new) result }
     ensures copied { MatchResult result
-        (λ n. (rest : List ℕ) × Copies n (L.left link.old) (L.left link.new) (W.contents writer.old) (W.contents writer.new) [] rest)
+        (λ n. (rest : List ℕ) × Copies n (L.left link.old) (L.left link.new)
+        (W.contents writer.old) (W.contents writer.new) [] rest)
         (λ _. Breaks (L.left link.old) (L.left link.new) (W.contents writer.old) (W.contents writer.new) []) }
 {
     let (Ok(mut input), Ok(mut answers)) = (Buffer::new(alloc), Buffer::new(alloc)) else {
@@ -83,7 +84,8 @@ fn ask_whole<W: Write, L: Link>(
     requires { sent.old + length input.old < 2 ^ 63 }
     ensures asked { SendsRun input.old input.new sent.old sent.new (L.sent link.old) (L.sent link.new) result }
     ensures copied { MatchResult result
-        (λ _. CopiesMore sent.old sent.new (L.left link.old) (L.left link.new) (W.contents writer.old) (W.contents writer.new) answers.old answers.new)
+        (λ _. CopiesMore sent.old sent.new (L.left link.old) (L.left link.new)
+        (W.contents writer.old) (W.contents writer.new) answers.old answers.new)
         (λ _. Breaks (L.left link.old) (L.left link.new) (W.contents writer.old) (W.contents writer.new) answers.old) }
     ensures bound { sent.new + length input.new ≤ sent.old + length input.old }
 {
@@ -122,9 +124,11 @@ fn ask_some<W: Write, L: Link>(
     answers: &mut Buffer,
 ) -> Result<(), AskFault>
     ensures ok { OnOk result (Appends (L.sent link.old) (L.sent link.new) bytes.now) }
-    ensures err { IfErr result (λ e. (e ≢ AskFault.Read) × ((n : ℕ) × Appends (L.sent link.old) (L.sent link.new) (take n bytes.now))) }
+    ensures err { IfErr result (λ e. (e ≢ AskFault.Read)
+        × ((n : ℕ) × Appends (L.sent link.old) (L.sent link.new) (take n bytes.now))) }
     ensures copied { MatchResult result
-        (λ _. Copies lines (L.left link.old) (L.left link.new) (W.contents writer.old) (W.contents writer.new) answers.old answers.new)
+        (λ _. Copies lines (L.left link.old) (L.left link.new)
+        (W.contents writer.old) (W.contents writer.new) answers.old answers.new)
         (λ _. Breaks (L.left link.old) (L.left link.new) (W.contents writer.old) (W.contents writer.new) answers.old) }
 {
     match put_all(link, bytes) {
@@ -145,7 +149,8 @@ fn ask_rest<W: Write, L: Link>(
     requires few { sent < 2 ^ 63 }
     ensures asked { Rests input.old sent (L.sent link.old) (L.sent link.new) result }
     ensures copied { MatchResult result
-        (λ n. CopiesMore sent n (L.left link.old) (L.left link.new) (W.contents writer.old) (W.contents writer.new) answers.old answers.new)
+        (λ n. CopiesMore sent n (L.left link.old) (L.left link.new)
+        (W.contents writer.old) (W.contents writer.new) answers.old answers.new)
         (λ _. Breaks (L.left link.old) (L.left link.new) (W.contents writer.old) (W.contents writer.new) answers.old) }
 {
     if input.as_slice().is_empty() {
@@ -167,7 +172,8 @@ fn read_some<R: Read>(reader: &mut R, piece: &mut [u8]) -> Result<usize, AskFaul
     ensures ok { IfOk result (λ len. Consumes (R.remaining reader.old) (R.remaining reader.new) (take len piece.new)) }
     ensures bound { IfOk result (λ len. len ≤ length piece.new) }
     ensures end { IfOk result (λ len. len ≡ 0 → IsAtEnd (R.remaining reader.new)) }
-    ensures err { OnErr result ((result ≡ Err AskFault.Read) × Keeps (R.remaining reader.old) (R.remaining reader.new)) }
+    ensures err { OnErr result
+        ((result ≡ Err AskFault.Read) × Keeps (R.remaining reader.old) (R.remaining reader.new)) }
 {
     let read = reader.read(piece);
     bytes_read(read)

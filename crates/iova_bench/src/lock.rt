@@ -343,6 +343,7 @@ fn shared_by<
             work(alloc, lent, seat, way, each)?;
         }
     } else {
+        // for the proof: a book may go to another thread
         books_are_send::<C, F, S, G>();
         let done = thread::map_vec(rt, seats, &|seat| work(alloc, lent, seat, way, each))?;
         for worked in done {

@@ -26,11 +26,13 @@ fn place(tree: &mut Tree, size: u64, limit: u64) -> Result<u64, Refusal>
     requires some { 1 ≤ size }
     requires bounded { size ≤ MAX_FRAMES }
     ensures found { IfOk result (λ lo. IsSome (find (begins_at lo) tree.new.inserted)) }
-    ensures inserted { IfOk result (λ lo. tree.new.inserted ≡ insert_rising (record { lo = lo; len = size }) tree.old.inserted) }
+    ensures inserted { IfOk result (λ lo. tree.new.inserted
+        ≡ insert_rising (record { lo = lo; len = size }) tree.old.inserted) }
 {
     let Some(lo) = tree.highest(size, limit) else {
         return Err(Refusal::NoSpace);
     };
+    // for the proof: the last frame is below 2^40
     let _last = tree.bounds().last();
     let range = Range::new(lo, size);
     tree.insert(range)?;

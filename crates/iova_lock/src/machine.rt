@@ -5,7 +5,7 @@ ghost use Rattle.iova_model.specs.Clients.{totals, client_of};
 ghost use Rattle.iova_model.specs.State.{State, new_domain};
 ghost use Rattle.iova_model.specs.Laws.{MovesTotals, IsReplyTo, ended_well, to_queue, worker_of};
 ghost use Rattle.iova_model.specs.Transcript.{Pair};
-ghost use Rattle.iova_lock.specs.StepLogs.{Takes, StepLog, MachineState, IsGivenWithin, IsDrainReply, IsRecorded, is_recording, new_log, StoresPair, Stores, StoresStep, GoesOn};
+ghost use Rattle.iova_lock.specs.StepLogs.{Takes, StepLog, MachineState, IsGivenWithin, IsDrainReply, IsRecorded, is_recording, new_log, StoresPair, StoresStep, GoesOn};
 ghost use Rattle.iova_model.specs.declared.step.Step.{Step};
 ghost use Rattle.iova_lock.specs.Views.{Covers, left_of, stat_of, IsKept};
 
@@ -152,7 +152,10 @@ impl Machine {
         steps_keep_the_domain();
         let _workers = self.domain.workers();
         let answer = self.domain.step_at(step);
-        store(&mut self.log, step, answer.1, answer.0);
+        let Some(log) = &mut self.log else {
+            return answer.0;
+        };
+        log.store(step, answer.1, answer.0);
         answer.0
     }
 
@@ -287,19 +290,9 @@ impl Machine {
     }
 }
 
-/// Stores a step, the growth in it that was refused, and its reply, where there is a log.
-#[inline]
-fn store(log: &mut Option<Log>, step: Step, point: Point, reply: Reply)
-    ensures { Stores log.old (record { step = step; point = point; reply = reply }) log.new }
-{
-    if let Some(log) = log {
-        log.store(step, point, reply);
-    }
-}
-
 impl Log {
-    /// Stores a pair where there is room, and else records no more. Out of line, so that it costs a domain without a log
-    /// nothing but the question.
+    /// Stores a step, the growth in it that was refused, and its reply where there is room, and else records no more. Out of
+    /// line, so that it costs a domain without a log nothing but the question.
     #[inline(never)]
     fn store(&mut self, step: Step, point: Point, reply: Reply)
         ensures { StoresPair self.old (record { step = step; point = point; reply = reply }) self.new }

@@ -118,6 +118,7 @@ fn overlapping<
     let open = Flag::new();
     let waits = &inside;
     let opens = &open;
+    // for the proof: a book may go to another thread
     books_are_send::<C, F, S, G>();
     let ((flushed, first), (end, numbers, post)) = thread::join(
         rt,

@@ -102,7 +102,9 @@ fn tell_all(session: &mut Session, requests: &[Request], told: &[Told], answers:
     requires client { IsSome session.old.client }
     requires told { AreTold requests.now told.now }
     requires room { vec_len answers.old + length told.now ≤ vec_capacity answers.old }
-    ensures session { session.new ≡ record session.old { pairs = session.old.pairs ++ told_pairs requests.now told.now } }
+    ensures session { session.new ≡ record session.old {
+      pairs = session.old.pairs ++ told_pairs requests.now told.now;
+    } }
     ensures answers { answers.new.items ≡ answers.old.items ++ map the_answer_of told.now }
     ensures kept { vec_capacity answers.old ≤ vec_capacity answers.new }
 {

@@ -17,7 +17,8 @@ pub fn answer<R: Read, W: Write>(
     writer: &mut W,
     has_report: bool,
 ) -> Result<(), ReplayFault>
-    ensures { ReplaysAndReports has_report (R.remaining reader.old) (R.remaining reader.new) (W.contents writer.old) (W.contents writer.new) result }
+    ensures { ReplaysAndReports has_report (R.remaining reader.old) (R.remaining reader.new)
+        (W.contents writer.old) (W.contents writer.new) result }
 {
     let replayed = replay(alloc, reader, writer);
     follow(alloc, replayed, writer, has_report)

@@ -84,7 +84,8 @@ impl<'a> Fault<'a> {
     /// Prints the fault's line on standard error, or help on standard output, and gives the status. Help that can't be
     /// written is the fault `CannotWrite`; where a fault's line can't be, nobody is left to tell.
     pub fn tell<R: Print + Eprint>(&self, rt: &R) -> ExitCode
-        ensures { (exit_status result ≡ fault_status self.now) ⊎ ((fault_status self.now ≡ 0) × (exit_status result ≡ fault_status Fault.CannotWrite)) }
+        ensures { (exit_status result ≡ fault_status self.now)
+            ⊎ ((fault_status self.now ≡ 0) × (exit_status result ≡ fault_status Fault.CannotWrite)) }
     {
         let told = match self {
             Fault::Words(usage) => usage.print(rt),

@@ -28,10 +28,14 @@ fn lock_made<C: Ledger, F: Ledger, S: Ledger, G: Ledger, R: Abort + Print>(
     sum_lo: Blank,
     good: Blank,
 ) -> Result<(), Fail>
-    requires count { 1 ≤ workers → workers ≤ 16 → (count.name ≡ C.name) × (count.parts ≡ C.parts) × (count.parts ≡ workers) }
-    requires frames { 1 ≤ workers → workers ≤ 16 → (frames.name ≡ F.name) × (frames.parts ≡ F.parts) × (frames.parts ≡ workers) }
-    requires sum_lo { 1 ≤ workers → workers ≤ 16 → (sum_lo.name ≡ S.name) × (sum_lo.parts ≡ S.parts) × (sum_lo.parts ≡ workers) }
-    requires good { 1 ≤ workers → workers ≤ 16 → (good.name ≡ G.name) × (good.parts ≡ G.parts) × (good.parts ≡ TALLY_PARTS * workers) }
+    requires count { 1 ≤ workers → workers ≤ 16 → (count.name ≡ C.name) × (count.parts ≡ C.parts)
+        × (count.parts ≡ workers) }
+    requires frames { 1 ≤ workers → workers ≤ 16 → (frames.name ≡ F.name) × (frames.parts ≡ F.parts)
+        × (frames.parts ≡ workers) }
+    requires sum_lo { 1 ≤ workers → workers ≤ 16 → (sum_lo.name ≡ S.name) × (sum_lo.parts ≡ S.parts)
+        × (sum_lo.parts ≡ workers) }
+    requires good { 1 ≤ workers → workers ≤ 16 → (good.name ≡ G.name) × (good.parts ≡ G.parts)
+        × (good.parts ≡ TALLY_PARTS * workers) }
 {
     match Shared::<&R, C, F, S, G>::new(
         rt, alloc, 7, bounds, workers, count, frames, sum_lo, good,

@@ -312,6 +312,7 @@ fn owing<
     let open = Flag::new();
     let waits = &inside;
     let opens = &open;
+    // for the proof: a book may go to another thread
     books_are_send::<C, F, S, G>();
     let (flushed, (begun, failed)) = thread::join(
         rt,
@@ -415,6 +416,7 @@ fn all_flush<
     inside: &Flag,
     open: &Flag,
 ) -> Result<Vec<Result<u64, Refusal>>, AllocError> {
+    // for the proof: a book may go to another thread
     books_are_send::<C, F, S, G>();
     thread::map_vec(
         rt,
@@ -471,6 +473,7 @@ fn in_flight<
     let open = Flag::new();
     let waits = &inside;
     let opens = &open;
+    // for the proof: a book may go to another thread
     books_are_send::<C, F, S, G>();
     let (flushed, (seat, answers)) = thread::join(
         rt,
