@@ -1,12 +1,6 @@
 //! The newest range stands beside the others until so many others come that it has to join them: a range that goes before
 //! that never joins them.
-ghost use Rattle.std.specs.Prelude.{◌≡◌, ◌-◌, ◌^◌, ◌<◌, ◌≤◌, [], length};
-ghost use Rattle.std.specs.List.{list_any};
-ghost use Rattle.iova_range.specs.Frames.{meets};
-ghost use Rattle.iova_model.specs.Fit.{is_covered};
-ghost use Rattle.iova_tree.specs.Spans.{all_of, inserted_of, with_span, IsRisingFrom, Holds};
-ghost use Rattle.iova_tree.specs.Fit.{IsWanted, highest_free};
-ghost use Rattle.iova_tree.specs.Node.{own_span, IsSingle};
+ghost use Rattle.std.specs.Prelude.{◌≡◌};
 
 use crate::ranges::Ranges;
 use crate::search::Wanted;

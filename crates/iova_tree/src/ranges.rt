@@ -26,11 +26,10 @@ pub trait Ranges {
     fn remove(&mut self, lo: u64) -> Box<Node>
         requires held { Holds lo (spans self.old) }
         requires few { length (spans self.old) ≤ 2 ^ 40 }
-        ensures begins { result.value.lo ≡ lo }
-        ensures single { IsSingle result.value }
-        ensures taken { spans self.old ≡ with_span (own_span result.value) (spans self.new) };
+        ensures { IsTakenOut lo result.value (spans self.old) (spans self.new) };
 
-    /// Takes out the node of the range that begins at `lo`, if it stands beside the others. It takes no memory.
+    /// Takes out the node of the range that begins at `lo`, if it is quickly at hand: one that stands beside the others. `None`
+    /// says only that nothing was taken. It takes no memory.
     fn take_newest(&mut self, lo: u64) -> Option<Box<Node>>
         ensures taken { IfSome result (λ node. IsTakenOut lo node.value (spans self.old) (spans self.new)) }
         ensures none { IfNone result (spans self.new ≡ spans self.old) };

@@ -4,11 +4,9 @@
 ghost use Rattle.std.specs.Prelude.{◌≡◌, ◌+◌, ◌^◌, ◌<◌, ◌≤◌, max, [], ◌∷◌, ◌++◌, ◌-◌};
 ghost use Rattle.std.specs.Prelude.{true, false, ◌&&◌, length, IfOk, Some};
 ghost use Rattle.std.specs.Int.{IsPowerOfTwo};
-ghost use Rattle.std.specs.List.{list_any};
-ghost use Rattle.iova_range.specs.Frames.{covers, meets};
-ghost use Rattle.iova_model.specs.Fit.{is_covered};
-ghost use Rattle.iova_tree.specs.Spans.{range_of_span, all_of, inserted_of, first_or, end_after, room_after, room_below, room_between, with_span, IsRisingFrom, Holds, IsLow};
-ghost use Rattle.iova_tree.specs.Fit.{IsWanted, place_before, place_behind, highest_between, highest_free};
+ghost use Rattle.iova_range.specs.Frames.{covers};
+ghost use Rattle.iova_tree.specs.Spans.{range_of_span, first_or, end_after, room_after, room_below, room_between, with_span, IsRisingFrom, Holds, IsLow};
+ghost use Rattle.iova_tree.specs.Fit.{IsWanted, place_before, place_behind, highest_between};
 ghost use Rattle.iova_tree.specs.Node.{node_summary, node_height, node_spans, own_span, IsSingle, IsBalanced, Rebalances, IsRootOf, PlacesBelow, HasSameSummary, TakesBelow, DifferByAtMost, HasSameHeightAndRoom, is_inserted_in, IsHeightOfBoth};
 
 use crate::ranges::Ranges;
