@@ -591,7 +591,10 @@ fn two_peers_over_a_socket(rt: HostRuntime) -> Result<(), Fail> {
 fn a_refused_growth_of_serving(rt: HostRuntime) -> Result<(), Fail> {
     let notices = Counted::new();
     let accept = Rows::new(rt.alloc(), 0, &[], &[]);
-    let sinks = good_sinks(rt.alloc(), 3)?;
+    let Ok(sinks) = good_sinks(rt.alloc(), 3) else {
+        println!(rt; "refused before it")?;
+        return Ok(());
+    };
     let served = serve_fresh(&rt, rt.alloc(), &notices, sinks, &accept, Stops, 4);
     match served {
         Ok(seen) => assert_eq!(rt; (accept.calls(), seen.workers.len()), (4, 2)),
