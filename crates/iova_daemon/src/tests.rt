@@ -586,7 +586,7 @@ fn two_peers_over_a_socket(rt: HostRuntime) -> Result<(), Fail> {
     Ok(())
 }
 
-// Where memory is refused no thread is started, so nothing is accepted.
+// Where memory is refused nothing is accepted. A thread that gets none can't be started, which is a fault of its own.
 #[test]
 fn a_refused_growth_of_serving(rt: HostRuntime) -> Result<(), Fail> {
     let notices = Counted::new();
@@ -599,9 +599,13 @@ fn a_refused_growth_of_serving(rt: HostRuntime) -> Result<(), Fail> {
     match served {
         Ok(seen) => assert_eq!(rt; (accept.calls(), seen.workers.len()), (4, 2)),
         Err(Unserved::Refused(refusal)) => {
-            assert!(rt; refusal == Refusal::NoMemory);
             assert_eq!(rt; accept.calls(), 0);
-            println!(rt; "refused at serve_on")?;
+            if refusal == Refusal::NoMemory {
+                println!(rt; "refused at serve_on")?;
+            } else {
+                assert!(rt; refusal == Refusal::LinkFault);
+                println!(rt; "refused at spawn")?;
+            }
         }
         Err(Unserved::Unprepared) => println!(rt; "refused before it")?,
         Err(Unserved::SeatMissing) => println!(rt; "refused after it")?,
