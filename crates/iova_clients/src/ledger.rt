@@ -144,7 +144,7 @@ impl Ledger {
 
     /// Where the holding stands that begins there. The first is looked at before they are searched: a client that closes
     /// gives up its first holding each time.
-    fn place_of(&self, lo: u64) -> Option<usize>
+    fn position_of(&self, lo: u64) -> Option<usize>
         requires { Rises 0 self.now.holdings }
         ensures held { IfSome result (IsPlaceOf lo self.now.holdings) }
         ensures none { IfNone result (find (begins_at lo) self.now.holdings ≡ None) }
@@ -168,7 +168,7 @@ impl Ledger {
         requires { Rises 0 self.now.holdings }
         ensures { result ≡ find (begins_at lo) self.now.holdings }
     {
-        let place = self.place_of(lo)?;
+        let place = self.position_of(lo)?;
         Some(self.holdings()[place])
     }
 
@@ -179,7 +179,7 @@ impl Ledger {
         ensures some { OnSome result (self.new ≡ without_held lo self.old) }
         ensures none { IfNone result (self.new ≡ self.old) }
     {
-        let place = self.place_of(lo)?;
+        let place = self.position_of(lo)?;
         Some(self.holdings.remove(place))
     }
 

@@ -18,13 +18,13 @@ use Rattle.iova_tree.specs.Space.{Space, RiseApart}
 use Rattle.iova_clients.specs.Registry.{Registry, room_refusal, CanBeGiven}
 use Rattle.iova_depot.specs.Cached.{Cached}
 use Rattle.iova_core.specs.declared.walk.Walked.{Walked}
-use Rattle.iova_core.specs.Stock.{Exchanges}
+use Rattle.iova_core.specs.Reclaim.{Exchanges}
 use Rattle.iova_core.specs.Domain.{Parts, state_of, IsDomain}
 use Rattle.iova_core.specs.Walk.{ArePartsOf, Comes, point_of, placed, found_as}
 use Rattle.iova_core.proofs.Outcomes.{owner_is}
 use Rattle.iova_core.proofs.Queues.{inserted_load}
 use Rattle.iova_core.proofs.Reductions.{room_refusal_of, alloc_walks}
-use Rattle.iova_core.proofs.Stocks.{cached_sum, has_low}
+use Rattle.iova_core.proofs.Reclaims.{cached_sum, has_low}
 use Rattle.iova_core.proofs.Ties.{load_tied}
 use Rattle.iova_laws.proofs.Weights as weight
 use Rattle.iova_laws.proofs.Weights.{load}

@@ -9,7 +9,7 @@ use Rattle.iova_model.specs.Caches.{Caches, put_range, put_all, emptied}
 use Rattle.iova_model.specs.Flushes.{entry_range, flushed, unflushed}
 use Rattle.iova_depot.specs.Cached.{Cached, IsCached, LosesOnly}
 use Rattle.iova_tree.specs.Space.{Space, IsSpace}
-use Rattle.iova_core.specs.Stock.{HasAll, Frees, IsStock, Exchanges}
+use Rattle.iova_core.specs.Reclaim.{HasAll, Frees, IsBacked, Exchanges}
 use Rattle.iova_laws.proofs.Weights as weight
 use Rattle.iova_laws.proofs.Weights.{cached-emptied}
 
@@ -25,15 +25,15 @@ exchanges_none tree c space cached = record {
   balance = λ weigh. refl;
 }
 
--- What is left of a stock.
+-- What is backed still, once some of it has gone.
 
-pub stock_left : (tree tree' : Space) (c c' : Cached) (taken rest all : List Frames) → IsStock tree c all → all ≡ taken ++ rest → Exchanges tree tree' c c' [] taken → IsStock tree' c' rest
-stock_left tree tree' c c' taken rest all stock is ex = record {
+pub backed_left : (tree tree' : Space) (c c' : Cached) (taken rest all : List Frames) → IsBacked tree c all → all ≡ taken ++ rest → Exchanges tree tree' c c' [] taken → IsBacked tree' c' rest
+backed_left tree tree' c c' taken rest all backed is ex = record {
   space = ex.space;
   cached = ex.cached;
   has = λ weigh.
       let split : sum_by weigh all ≡ weight.ranges weigh taken + weight.ranges weigh rest = weight.ranges_are weigh all ∙ (ap (weight.ranges weigh) is ∙ weight.ranges-append weigh taken rest) in
-      omega (arith, stock.has weigh, ex.balance weigh, split, weight.ranges_are weigh taken, weight.ranges_are weigh rest, weight.ranges_are weigh []);
+      omega (arith, backed.has weigh, ex.balance weigh, split, weight.ranges_are weigh taken, weight.ranges_are weigh rest, weight.ranges_are weigh []);
 }
 
 -- one exchange after another
@@ -64,21 +64,21 @@ pub record IsDrained (tree tree' : Space) (c c' : Cached) (ring ring' : List Ent
   pub caches : c' ≡ record c { caches = put_all c.profile c.caches w (map entry_range out) }
   pub exchange : Exchanges tree tree' c c' [] (map entry_range out)
 
-pub drained_none : (tree : Space) (c : Cached) (ring : List Entry) (w finish : ℕ) (rs : List Frames) → IsStock tree c rs → IsDrained tree tree c c ring ring w finish 0
-drained_none tree c ring w finish rs stock = record {
+pub drained_none : (tree : Space) (c : Cached) (ring : List Entry) (w finish : ℕ) (rs : List Frames) → IsBacked tree c rs → IsDrained tree tree c c ring ring w finish 0
+drained_none tree c ring w finish rs backed = record {
   out = [];
   taken = refl;
   flushed = refl;
   left = refl;
   counted = refl;
   caches = refl;
-  exchange = exchanges_none tree c stock.space stock.cached;
+  exchange = exchanges_none tree c backed.space backed.cached;
 }
 
 module _ (tree mid : Space) (c d : Cached) (ring ring' : List Entry) (w finish count : ℕ) (h : IsDrained tree mid c d ring ring' w finish count) where
-  pub drained_stock : IsStock tree c (map entry_range ring) → IsStock mid d (map entry_range ring')
-  drained_stock stock =
-      stock_left tree mid c d (map entry_range h.out) (map entry_range ring') (map entry_range ring) stock (ap (map entry_range) h.taken ∙ map-append entry_range h.out ring') h.exchange
+  pub drained_backed : IsBacked tree c (map entry_range ring) → IsBacked mid d (map entry_range ring')
+  drained_backed backed =
+      backed_left tree mid c d (map entry_range h.out) (map entry_range ring') (map entry_range ring) backed (ap (map entry_range) h.taken ∙ map-append entry_range h.out ring') h.exchange
 
   pub drained_few : length ring ≤ 255 → count + length ring' ≤ 255
   drained_few few = omega (arith, few, ap length h.taken, length-append h.out ring', h.counted)
@@ -118,14 +118,14 @@ pub record IsEmptying (tree tree' : Space) (c c' : Cached) : Type 0 where
   pub empty : emptied c'.caches ≡ emptied c.caches
   pub exchange : Exchanges tree tree' c c' [] []
 
-pub emptying_none : (tree : Space) (c : Cached) (rs : List Frames) → IsStock tree c rs → IsEmptying tree tree c c
-emptying_none tree c rs stock = record { same = refl; empty = refl; exchange = exchanges_none tree c stock.space stock.cached }
+pub emptying_none : (tree : Space) (c : Cached) (rs : List Frames) → IsBacked tree c rs → IsEmptying tree tree c c
+emptying_none tree c rs backed = record { same = refl; empty = refl; exchange = exchanges_none tree c backed.space backed.cached }
 
 module _ (tree mid : Space) (c d : Cached) (h : IsEmptying tree mid c d) where
   -- the tree has the range that leaves
-  pub emptying_has : (c' : Cached) (r : Frames) (rs : List Frames) → IsStock tree c rs → LosesOnly r d.caches c'.caches → HasAll mid (r ∷ [])
-  emptying_has c' r rs stock loses weigh =
-      omega (arith, stock.has weigh, h.exchange.balance weigh, loses weigh, weight.ranges_are weigh (r ∷ []), weight.ranges_are weigh [])
+  pub emptying_has : (c' : Cached) (r : Frames) (rs : List Frames) → IsBacked tree c rs → LosesOnly r d.caches c'.caches → HasAll mid (r ∷ [])
+  emptying_has c' r rs backed loses weigh =
+      omega (arith, backed.has weigh, h.exchange.balance weigh, loses weigh, weight.ranges_are weigh (r ∷ []), weight.ranges_are weigh [])
 
   -- one range more
   pub emptying_next : (tree' : Space) (c' : Cached) (r : Frames) → c' ≡ record d { caches = c'.caches } → emptied c'.caches ≡ emptied d.caches → LosesOnly r d.caches c'.caches → IsCached c' → Frees mid tree' (r ∷ []) → IsEmptying tree tree' c c'

@@ -9,7 +9,7 @@ mod Outcomes
 mod Queues
 mod Readers
 mod Reductions
-mod Stocks
+mod Reclaims
 mod Ties
 mod Tries
 mod Walks

@@ -19,11 +19,11 @@ use Rattle.iova_range.specs.declared.refusal.Refusal.TheVariants as refusal
 use Rattle.iova_tree.specs.Space.{Space}
 use Rattle.iova_clients.specs.Registry.{Registry, CanBeGiven}
 use Rattle.iova_depot.specs.Cached.{Cached, IsCached}
-use Rattle.iova_core.specs.Stock.{IsStock, Exchanges}
+use Rattle.iova_core.specs.Reclaim.{IsBacked, Exchanges}
 use Rattle.iova_core.specs.Domain.{Parts, state_of, IsDomain}
 use Rattle.iova_core.proofs.Domains.{tied_parts}
 use Rattle.iova_core.proofs.Holdings.{found_lo, removed_length, taken_none, put_back, changed_back}
-use Rattle.iova_core.proofs.Stocks.{cached_sum, profile_low}
+use Rattle.iova_core.proofs.Reclaims.{cached_sum, profile_low}
 use Rattle.iova_core.proofs.Ties.{tied_load}
 use Rattle.iova_laws.proofs.Weights as weight
 use Rattle.iova_laws.proofs.Weights.{cached-put_all, load}
@@ -58,16 +58,16 @@ pub inserted_load : (p : Parts) (weigh : Frames → ℕ) → IsDomain p → sum_
 inserted_load p weigh h = weight.ranges_are weigh p.tree.inserted ∙ tied_load p.tree.inserted (state_of p) h.tied weigh
 
 -- the tree has what is cached
-pub domain_stock : (p : Parts) → IsDomain p → IsStock p.tree p.cached []
-domain_stock p h = record {
+pub domain_backed : (p : Parts) → IsDomain p → IsBacked p.tree p.cached []
+domain_backed p h = record {
   space = h.space;
   cached = cached_of p h;
   has = λ weigh. omega (arith, inserted_load p weigh h, cached_sum weigh p.cached.caches, weight.ranges_are weigh []);
 }
 
 -- and what is in a ring
-pub ring_stock : (p : Parts) (q : ℕ) → IsDomain p → q < p.cached.workers → IsStock p.tree p.cached (map entry_range (ring_at (state_of p) q))
-ring_stock p q h below = record {
+pub ring_backed : (p : Parts) (q : ℕ) → IsDomain p → q < p.cached.workers → IsBacked p.tree p.cached (map entry_range (ring_at (state_of p) q))
+ring_backed p q h below = record {
   space = h.space;
   cached = cached_of p h;
   has = λ weigh.

@@ -15,12 +15,12 @@ use Rattle.iova_tree.specs.Space.{Space, IsSpace, RiseApart, ranges_of}
 use Rattle.iova_depot.specs.Cached.{Cached, IsCached}
 use Rattle.iova_core.specs.declared.walk.Walked.{Walked}
 use Rattle.iova_core.specs.declared.walk.Walked.TheVariants as found
-use Rattle.iova_core.specs.Stock.{HasAll, IsStock, Exchanges}
+use Rattle.iova_core.specs.Reclaim.{HasAll, IsBacked, Exchanges}
 use Rattle.iova_core.specs.Tied.{IsTied}
 use Rattle.iova_core.specs.Walk.{get_cached, Places, ArePartsOf, Comes, point_of, placed, found_as, IsPlacedOf, IsTryPoint, IsPointFrom}
 use Rattle.iova_core.proofs.Covered.{covered_alike}
 use Rattle.iova_core.proofs.Given.{some_alike}
-use Rattle.iova_core.proofs.Stocks.{cached_sum}
+use Rattle.iova_core.proofs.Reclaims.{cached_sum}
 use Rattle.iova_core.proofs.Ties.{tied_load, load_tied}
 use Rattle.iova_laws.proofs.Weights as weight
 use Rattle.iova_laws.proofs.Weights.{cached_with, get_pops, Pops, load, held_are}
@@ -92,9 +92,9 @@ gets c c' w size limit got cached lt is now =
     rw (is, ap (λ (x : Cached). x.caches) now) (gets_order c w size limit (order_of size) refl cached lt)
 
 -- the tree has it
-pub gets_has : (tree : Space) (c c' : Cached) (size lo : ℕ) → IsStock tree c [] → GetsFrom size (Some lo) c.caches c'.caches → HasAll tree (record { lo = lo; len = size } ∷ [])
-gets_has tree c c' size lo stock from weigh =
-    omega (arith, stock.has weigh, from weigh, cached_sum weigh c.caches, weight.ranges_are weigh (record { lo = lo; len = size } ∷ []))
+pub gets_has : (tree : Space) (c c' : Cached) (size lo : ℕ) → IsBacked tree c [] → GetsFrom size (Some lo) c.caches c'.caches → HasAll tree (record { lo = lo; len = size } ∷ [])
+gets_has tree c c' size lo backed from weigh =
+    omega (arith, backed.has weigh, from weigh, cached_sum weigh c.caches, weight.ranges_are weigh (record { lo = lo; len = size } ∷ []))
 
 -- Exchanges.
 
@@ -294,18 +294,18 @@ point_last here m (inl e) = inl e
 point_last here m (inr e) = inr (inr e)
 
 -- The caches had nothing.
-module _ (tree : Space) (c d : Cached) (w size limit : ℕ) (stock : IsStock tree c []) (lt : w < c.workers) (cached : IsCached c → IsCached d)
+module _ (tree : Space) (c d : Cached) (w size limit : ℕ) (backed : IsBacked tree c []) (lt : w < c.workers) (cached : IsCached c → IsCached d)
     (miss : None ≡ (get_cached c.caches w size limit (order_of size)).0) (now : d ≡ record c { caches = (get_cached c.caches w size limit (order_of size)).1 }) where
   left_is : d.caches ≡ (get_cached c.caches w size limit (order_of size)).1
   left_is = ap (λ (x : Cached). x.caches) now
 
   missed : GetsFrom size None c.caches d.caches
-  missed = gets c d w size limit None stock.cached lt miss now
+  missed = gets c d w size limit None backed.cached lt miss now
 
   pub missed_exchange : Exchanges tree tree c d [] []
   missed_exchange =
       let made : Caches → Cached = λ x. record c { caches = x } in
-      exchanges_got tree c d size None stock.space (cached stock.cached) missed (now ∙ ap made (sym left_is))
+      exchanges_got tree c d size None backed.space (cached backed.cached) missed (now ∙ ap made (sym left_is))
 
   pub missed_stands : (s : State) → ArePartsOf tree c.caches s → ArePartsOf tree (get_cached c.caches w size limit (order_of size)).1 (after_caches s c.caches w size limit)
   missed_stands s stands =

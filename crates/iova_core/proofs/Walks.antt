@@ -12,9 +12,9 @@ use Rattle.iova_tree.specs.Space.{Space}
 use Rattle.iova_depot.specs.Cached.{Cached}
 use Rattle.iova_core.specs.declared.walk.Walked.{Walked}
 use Rattle.iova_core.specs.declared.walk.Walked.TheVariants as found
-use Rattle.iova_core.specs.Stock.{Exchanges}
+use Rattle.iova_core.specs.Reclaim.{Exchanges}
 use Rattle.iova_core.specs.Walk.{ArePartsOf, Comes, point_of, IsPointFrom}
-use Rattle.iova_core.proofs.Stocks.{cached_sum}
+use Rattle.iova_core.proofs.Reclaims.{cached_sum}
 use Rattle.iova_core.proofs.Tries.{as_nowhere, stands_with}
 use Rattle.iova_laws.proofs.Weights as weight
 

@@ -1,5 +1,5 @@
 pub use Rattle.iova_model.specs.State
 pub mod Domain
-pub mod Stock
+pub mod Reclaim
 pub mod Tied
 pub mod Walk

@@ -10,7 +10,7 @@ ghost use Rattle.iova_model.specs.Laws.{to_queue};
 ghost use Rattle.iova_model.specs.Next.{next, reserve, open_client, alloc, unmap, unmap_held, begin, end, drain, close, close_one};
 ghost use Rattle.iova_core.specs.Domain.{IsStepOf, place_inside, frames_in_rings};
 
-use crate::stock::drain;
+use crate::reclaim::drain;
 use crate::walk::{Walked, walk};
 use iova_clients::{ClientId, Clients};
 use iova_depot::caches::Caches;

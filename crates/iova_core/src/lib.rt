@@ -2,7 +2,7 @@
 #![tactic(auto)]
 
 pub mod domain;
-mod stock;
+mod reclaim;
 mod walk;
 
 pub use iova_clients::ClientId;

@@ -8,10 +8,10 @@ ghost use Rattle.iova_model.specs.declared.step.Point.TheVariants.{First, Second
 ghost use Rattle.iova_range.specs.Sizes.{order_of};
 ghost use Rattle.iova_tree.specs.Space.{IsSpace, ranges_of};
 ghost use Rattle.iova_depot.specs.Cached.{IsCached, with_contents};
-ghost use Rattle.iova_core.specs.Stock.{IsStock, Exchanges};
+ghost use Rattle.iova_core.specs.Reclaim.{IsBacked, Exchanges};
 ghost use Rattle.iova_core.specs.Walk.{get_cached, Places, ArePartsOf, Comes, point_of, placed, IsPlacedOf, IsTryPoint, IsPointFrom};
 
-use crate::stock::empty;
+use crate::reclaim::empty;
 use iova_depot::caches::Caches;
 use iova_model::step::Point;
 use iova_range::limits::{MAX_FRAMES, SAC_LIMIT};
@@ -77,12 +77,12 @@ fn try_once(
     requires some { 1 ≤ size }
     requires bounded { size ≤ MAX_FRAMES }
     requires here { IsTryPoint here }
-    requires stock { IsStock tree.old caches.old [] }
+    requires backed { IsBacked tree.old caches.old [] }
     ensures comes { (s : State) → ArePartsOf tree.old caches.old.caches s
         → Comes (next.try s w size limit emptying here (point_of result)) result caches.new.caches }
     ensures size { IsPlacedOf size result }
     ensures point { IsPointFrom here (point_of result) }
-    ensures stock { Exchanges tree.old tree.new caches.old caches.new (placed result) [] }
+    ensures backed { Exchanges tree.old tree.new caches.old caches.new (placed result) [] }
 {
     if let Some(lo) = from_caches(caches, w, size, limit) {
         return Walked::Placed(Range::new(lo, size));
@@ -111,12 +111,12 @@ pub fn walk(
     requires worker { w < caches.old.workers }
     requires some { 1 ≤ size }
     requires bounded { size ≤ MAX_FRAMES }
-    requires stock { IsStock tree.old caches.old [] }
+    requires backed { IsBacked tree.old caches.old [] }
     ensures comes { (s : State) → ArePartsOf tree.old caches.old.caches s
         → Comes (next.walk s w sac size limit (point_of result)) result caches.new.caches }
     ensures size { IsPlacedOf size result }
     ensures point { point_of result ≢ Point.Ledger }
-    ensures stock { Exchanges tree.old tree.new caches.old caches.new (placed result) [] }
+    ensures backed { Exchanges tree.old tree.new caches.old caches.new (placed result) [] }
 {
     if sac && limit > SAC_LIMIT {
         match try_once(tree, caches, w, size, SAC_LIMIT, false, Point::First) {

@@ -13,7 +13,7 @@ returns-clause-comes c s stands = elim c.if-sac.branch [
       let above : nat_lt SAC_LIMIT c.args.limit ≡ true = grind (arith, nat_tests) in
       let low : (c.args.sac && nat_lt SAC_LIMIT c.args.limit) ≡ true = rw (w.if-sac.true, above) refl in
       let mid = w.try_once.new.caches in
-      let stands' = stands_exchanged c.args.tree.now w.try_once.new.tree c.args.caches.now mid s stands w.in-Nowhere.ensures.stock in
+      let stands' = stands_exchanged c.args.tree.now w.try_once.new.tree c.args.caches.now mid s stands w.in-Nowhere.ensures.backed in
       comes_second s c.args.w c.args.sac c.args.size c.args.limit c.try_once-2.result mid.caches c.try_once-2.new.caches.caches low c.try_once-2.ensures.point (w.in-Nowhere.ensures.comes s stands)
       (c.try_once-2.ensures.comes (with_caches s mid.caches) (rw (w.tree-is, w.caches-is) stands'))
   | else-sac w ↦ elim w.else-sac.branch [

@@ -1,7 +1,7 @@
 use Rattle.std.proofs.Common.{◌≡◌, take}
 use Rattle.std.proofs.lemmas.List.{take_all}
-use Rattle.iova_core.proofs.Stocks.{frees_none, frees_next, has_next}
-use Rattle.iova_core.proofs.stock.free_magazine.Goals as goal
+use Rattle.iova_core.proofs.Reclaims.{frees_none, frees_next, has_next}
+use Rattle.iova_core.proofs.reclaim.free_magazine.Goals as goal
 
 pub loop-lo-init : goal.loop-lo-init
 loop-lo-init c = frees_none c.args.tree.now c.requires.space

@@ -26,7 +26,7 @@ pub record Frees (old new : Space) (freed : List Frames) : Type 0 where
   pub balance : (weigh : Frames → ℕ) → sum_by weigh new.inserted + sum_by weigh freed ≡ sum_by weigh old.inserted
 
 -- the tree has all that is cached and, beside it, what others have
-pub record IsStock (tree : Space) (caches : Cached) (others : List Frames) : Type 0 where
+pub record IsBacked (tree : Space) (caches : Cached) (others : List Frames) : Type 0 where
   pub space : IsSpace tree
   pub cached : IsCached caches
   pub has : (weigh : Frames → ℕ) → sum_by weigh (cached_ranges caches.caches) + sum_by weigh others ≤ sum_by weigh tree.inserted

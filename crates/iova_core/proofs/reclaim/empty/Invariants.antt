@@ -1,7 +1,7 @@
 use Rattle.iova_model.specs.Laws.{frames_of}
 use Rattle.iova_model.specs.State.{cached_holders}
 use Rattle.iova_core.proofs.Drains.{IsEmptying}
-use Rattle.iova_core.proofs.stock.empty.Given as goal
+use Rattle.iova_core.proofs.reclaim.empty.Given as goal
 
 -- some ranges have left the caches, and are free
 abbrev pub invariant-loop-order : goal.invariant-loop-order

@@ -10,7 +10,7 @@ use Rattle.iova_model.specs.Laws.{cached_ranges}
 use Rattle.iova_depot.specs.Cached.{Cached, IsCached}
 use Rattle.iova_model.specs.Clients.{begins_at, remove_at}
 use Rattle.iova_tree.specs.Space.{Space, IsSpace, RiseApart}
-use Rattle.iova_core.specs.Stock.{HasAll, Frees, IsStock, Exchanges}
+use Rattle.iova_core.specs.Reclaim.{HasAll, Frees, IsBacked, Exchanges}
 use Rattle.iova_laws.proofs.Weights as weight
 use Rattle.iova_laws.proofs.Weights.{cached-put_all, cached-emptied, cached_weigh}
 use Rattle.iova_laws.proofs.Kept.{magazine_takes}
@@ -126,13 +126,13 @@ pub cached_sum : (weigh : Frames → ℕ) (c : Caches) → sum_by weigh (cached_
 cached_sum weigh c = weight.ranges_are weigh (cached_ranges c) ∙ cached_weigh weigh c
 
 -- the tree has what a put sends out
-pub has_sent : (tree : Space) (c : Cached) (w : ℕ) (r : Frames) (freed : List Frames) → IsStock tree c (r ∷ []) → w < c.workers → freed ≡ freed_by_put c.profile c.caches w r (order_of r.len) → HasAll tree freed
-has_sent tree c w r freed stock lt is weigh =
-    omega (arith, stock.has weigh, put_weighs weigh c w r freed stock.cached lt is, cached_sum weigh c.caches, weight.ranges_are weigh (r ∷ []), weight.ranges_are weigh freed)
+pub has_sent : (tree : Space) (c : Cached) (w : ℕ) (r : Frames) (freed : List Frames) → IsBacked tree c (r ∷ []) → w < c.workers → freed ≡ freed_by_put c.profile c.caches w r (order_of r.len) → HasAll tree freed
+has_sent tree c w r freed backed lt is weigh =
+    omega (arith, backed.has weigh, put_weighs weigh c w r freed backed.cached lt is, cached_sum weigh c.caches, weight.ranges_are weigh (r ∷ []), weight.ranges_are weigh freed)
 
-pub exchanges_put : (tree tree' : Space) (c c' : Cached) (w : ℕ) (r : Frames) (freed : List Frames) → IsStock tree c (r ∷ []) → w < c.workers → freed ≡ freed_by_put c.profile c.caches w r (order_of r.len)
+pub exchanges_put : (tree tree' : Space) (c c' : Cached) (w : ℕ) (r : Frames) (freed : List Frames) → IsBacked tree c (r ∷ []) → w < c.workers → freed ≡ freed_by_put c.profile c.caches w r (order_of r.len)
     → c' ≡ record c { caches = put_range c.profile c.caches w r (order_of r.len) } → IsCached c' → Frees tree tree' freed → Exchanges tree tree' c c' [] (r ∷ [])
-exchanges_put tree tree' c c' w r freed stock lt is now cached freeing = record {
+exchanges_put tree tree' c c' w r freed backed lt is now cached freeing = record {
   space = freeing.space;
   cached = cached;
   bounds = freeing.bounds;
@@ -142,7 +142,7 @@ exchanges_put tree tree' c c' w r freed stock lt is now cached freeing = record 
   balance = λ weigh.
       let new = put_range c.profile c.caches w r (order_of r.len) in
       let e : sum_by weigh (cached_ranges c'.caches) ≡ sum_by weigh (cached_ranges new) = ap (λ (x : Cached). sum_by weigh (cached_ranges x.caches)) now in
-      omega (arith, freeing.balance weigh, put_weighs weigh c w r freed stock.cached lt is, e, cached_sum weigh c.caches, cached_sum weigh new, weight.ranges_are weigh (r ∷ []), weight.ranges_are weigh freed, weight.ranges_are weigh []);
+      omega (arith, freeing.balance weigh, put_weighs weigh c w r freed backed.cached lt is, e, cached_sum weigh c.caches, cached_sum weigh new, weight.ranges_are weigh (r ∷ []), weight.ranges_are weigh freed, weight.ranges_are weigh []);
 }
 
 -- Ranges of the tree lie low.
@@ -184,12 +184,12 @@ has_low tree r space has =
 
 -- What the others have, the tree has.
 
-pub stock_has : (tree : Space) (c : Cached) (rs : List Frames) → IsStock tree c rs → HasAll tree rs
-stock_has tree c rs stock weigh = omega (arith, stock.has weigh)
+pub backed_has : (tree : Space) (c : Cached) (rs : List Frames) → IsBacked tree c rs → HasAll tree rs
+backed_has tree c rs backed weigh = omega (arith, backed.has weigh)
 
-pub stock_first : (tree : Space) (c : Cached) (r : Frames) (rs : List Frames) → IsStock tree c (r ∷ rs) → IsStock tree c (r ∷ [])
-stock_first tree c r rs stock = record {
-  space = stock.space;
-  cached = stock.cached;
-  has = λ weigh. omega (arith, stock.has weigh, weight.ranges_are weigh (r ∷ rs), weight.ranges_are weigh rs, weight.ranges_are weigh (r ∷ []));
+pub backed_first : (tree : Space) (c : Cached) (r : Frames) (rs : List Frames) → IsBacked tree c (r ∷ rs) → IsBacked tree c (r ∷ [])
+backed_first tree c r rs backed = record {
+  space = backed.space;
+  cached = backed.cached;
+  has = λ weigh. omega (arith, backed.has weigh, weight.ranges_are weigh (r ∷ rs), weight.ranges_are weigh rs, weight.ranges_are weigh (r ∷ []));
 }

@@ -1,7 +1,7 @@
 use Rattle.std.proofs.Common.{take}
 use Rattle.iova_model.specs.Caches.{of_order}
-use Rattle.iova_core.specs.Stock.{Frees}
-use Rattle.iova_core.proofs.stock.free_magazine.Given as goal
+use Rattle.iova_core.specs.Reclaim.{Frees}
+use Rattle.iova_core.proofs.reclaim.free_magazine.Given as goal
 
 -- the ranges so far are free
 abbrev pub invariant-loop-lo : goal.invariant-loop-lo

@@ -1,5 +1,5 @@
-use Rattle.iova_core.proofs.Stocks.{has_some, frees_one}
-use Rattle.iova_core.proofs.stock.free.Goals as goal
+use Rattle.iova_core.proofs.Reclaims.{has_some, frees_one}
+use Rattle.iova_core.proofs.reclaim.free.Goals as goal
 
 pub remove-requires : goal.remove-requires
 remove-requires c = rw c.lo.ensures (has_some c.args.tree.now c.args.range c.requires.space c.requires.held)

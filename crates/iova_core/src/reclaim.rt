@@ -7,7 +7,7 @@ ghost use Rattle.iova_model.specs.Caches.{of_order, emptied};
 ghost use Rattle.iova_model.specs.Flushes.{entry_range, flushed, unflushed};
 ghost use Rattle.iova_tree.specs.Space.{IsSpace};
 ghost use Rattle.iova_depot.specs.Cached.{with_contents};
-ghost use Rattle.iova_core.specs.Stock.{HasAll, Frees, IsStock, Exchanges, with_range, with_ranges};
+ghost use Rattle.iova_core.specs.Reclaim.{HasAll, Frees, IsBacked, Exchanges, with_range, with_ranges};
 
 use iova_depot::caches::Caches;
 use iova_flush::ring::Ring;
@@ -53,9 +53,9 @@ fn free_magazine(tree: &mut Tree, magazine: &Magazine, order: u8)
 fn put_back(tree: &mut Tree, caches: &mut Caches, w: usize, range: Range)
     requires worker { w < caches.old.workers }
     requires sized { range.len ≤ MAX_FRAMES }
-    requires stock { IsStock tree.old caches.old (range ∷ []) }
+    requires backed { IsBacked tree.old caches.old (range ∷ []) }
     ensures caches { caches.new ≡ with_range caches.old w range }
-    ensures stock { Exchanges tree.old tree.new caches.old caches.new [] (range ∷ []) }
+    ensures backed { Exchanges tree.old tree.new caches.old caches.new [] (range ∷ []) }
 {
     let Some(order) = order_of(range.len()) else {
         return free(tree, range);
@@ -71,9 +71,9 @@ fn put_full(tree: &mut Tree, caches: &mut Caches, w: usize, order: u8, range: Ra
     requires worker { w < caches.old.workers }
     requires order { order < ORDERS }
     requires length { order_of range.len ≡ Some order }
-    requires stock { IsStock tree.old caches.old (range ∷ []) }
+    requires backed { IsBacked tree.old caches.old (range ∷ []) }
     ensures caches { caches.new ≡ with_range caches.old w range }
-    ensures stock { Exchanges tree.old tree.new caches.old caches.new [] (range ∷ []) }
+    ensures backed { Exchanges tree.old tree.new caches.old caches.new [] (range ∷ []) }
 {
     if let Some(magazine) = caches.put(w, order, range.lo()) {
         free_magazine(tree, &magazine, order);
@@ -86,11 +86,11 @@ fn put_full(tree: &mut Tree, caches: &mut Caches, w: usize, order: u8, range: Ra
 pub fn drain(tree: &mut Tree, caches: &mut Caches, ring: &mut Ring, w: usize, finish: u64) -> u64
     requires worker { w < caches.old.workers }
     requires room { length ring.old ≤ MAX_ENTRIES }
-    requires stock { IsStock tree.old caches.old (map entry_range ring.old) }
+    requires backed { IsBacked tree.old caches.old (map entry_range ring.old) }
     ensures count { result ≡ length (flushed finish ring.old) }
     ensures ring { ring.new ≡ unflushed finish ring.old }
     ensures caches { caches.new ≡ with_ranges caches.old w (map entry_range (flushed finish ring.old)) }
-    ensures stock { Exchanges tree.old tree.new caches.old caches.new [] (map entry_range (flushed finish ring.old)) }
+    ensures backed { Exchanges tree.old tree.new caches.old caches.new [] (map entry_range (flushed finish ring.old)) }
 {
     let mut count = 0;
     while let Some(entry) = ring.take_flushed(finish) {
@@ -103,9 +103,9 @@ pub fn drain(tree: &mut Tree, caches: &mut Caches, ring: &mut Ring, w: usize, fi
 /// Frees all that is cached.
 #[cold]
 pub fn empty(tree: &mut Tree, caches: &mut Caches)
-    requires stock { IsStock tree.old caches.old [] }
+    requires backed { IsBacked tree.old caches.old [] }
     ensures caches { caches.new ≡ with_contents caches.old (emptied caches.old.caches) }
-    ensures stock { Exchanges tree.old tree.new caches.old caches.new [] [] }
+    ensures backed { Exchanges tree.old tree.new caches.old caches.new [] [] }
 {
     while let Some((order, lo)) = caches.take_any() {
         free(tree, range_of(order, lo));
