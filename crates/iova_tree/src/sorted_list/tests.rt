@@ -1,4 +1,4 @@
-//! The plain form.
+//! The tree beside the plain form.
 ghost use Rattle.std.specs.Prelude.{◌≡◌, ◌+◌, ◌^◌, ◌≤◌, ◌<◌, OnOk};
 
 use super::*;
@@ -91,5 +91,54 @@ fn tree_and_list_answer_alike(rt: HostRuntime) -> Result<(), Fail> {
         }
     }
     assert!(rt; tree.windows().len() > 1);
+    Ok(())
+}
+
+fn gaps_in_both(rt: &impl Abort, tree: &mut Tree, list: &mut SortedList) -> Result<(), Refusal>
+    requires { tree.old ≡ list.old }
+{
+    place_in_both(rt, tree, list, 1, 512)?;
+    place_in_both(rt, tree, list, 1, 256)?;
+    place_in_both(rt, tree, list, 1, 768)?;
+    assert!(rt; !tree.is_free(256) && !tree.is_free(512) && !tree.is_free(768));
+    assert_eq!(rt; tree.highest(256, 1023), None);
+    assert_eq!(rt; tree.highest(128, 1023), Some(896));
+    remove_from_both(rt, tree, list, 2);
+    assert!(rt; tree.is_free(768));
+    assert_eq!(rt; tree.highest(256, 1023), Some(768));
+    Ok(())
+}
+
+#[test]
+fn gaps_too_small_or_misaligned(rt: HostRuntime) -> Result<(), Fail> {
+    let bounds = Bounds::new(1, 1023)?;
+    let mut tree = Tree::new(rt.alloc(), bounds)?;
+    let mut list = SortedList::new(rt.alloc(), bounds)?;
+    let told = gaps_in_both(&rt, &mut tree, &mut list);
+    drop(tree);
+    drop(list);
+    told?;
+    Ok(())
+}
+
+fn gaps_of_one(rt: &impl Abort, tree: &mut Tree, list: &mut SortedList) -> Result<(), Refusal>
+    requires { tree.old ≡ list.old }
+{
+    place_in_both(rt, tree, list, 1, 700)?;
+    assert!(rt; !tree.is_free(700));
+    assert_eq!(rt; tree.highest(256, 1023), Some(768));
+    assert_eq!(rt; tree.highest(256, 1000), Some(256));
+    Ok(())
+}
+
+#[test]
+fn gaps_beside_a_misaligned_frame(rt: HostRuntime) -> Result<(), Fail> {
+    let bounds = Bounds::new(1, 1023)?;
+    let mut tree = Tree::new(rt.alloc(), bounds)?;
+    let mut list = SortedList::new(rt.alloc(), bounds)?;
+    let told = gaps_of_one(&rt, &mut tree, &mut list);
+    drop(tree);
+    drop(list);
+    told?;
     Ok(())
 }

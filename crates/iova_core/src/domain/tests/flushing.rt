@@ -49,6 +49,7 @@ fn given_again_only_after_a_flush(rt: HostRuntime) -> Result<(), Fail> {
             (alloc(0, 1, 1, 1), given(1, 1)),
         ],
     );
+    drop(domain);
     Ok(())
 }
 
@@ -68,6 +69,7 @@ fn a_flush_that_began_too_early(rt: HostRuntime) -> Result<(), Fail> {
             (drain(0, 0), Reply::Drained(1)),
         ],
     );
+    drop(domain);
     Ok(())
 }
 
@@ -95,6 +97,7 @@ fn overlapping_flushes(rt: HostRuntime) -> Result<(), Fail> {
         ],
     );
     assert_eq!(rt; flushes(&domain), (2, 2, 0, 0));
+    drop(domain);
     Ok(())
 }
 
@@ -122,6 +125,7 @@ fn a_failed_flush_is_made_up_for_by_the_next(rt: HostRuntime) -> Result<(), Fail
     );
     assert_eq!(rt; flushes(&domain), (2, 2, 0, 0));
     assert_eq!(rt; (domain.newest_done(), domain.good()), (2, 1));
+    drop(domain);
     Ok(())
 }
 
@@ -144,6 +148,7 @@ fn one_of_two_flushes_failed(rt: HostRuntime) -> Result<(), Fail> {
             ],
         );
         assert_eq!(rt; flushes(&domain), want);
+        drop(domain);
     }
     Ok(())
 }
@@ -167,6 +172,7 @@ fn credits(rt: HostRuntime) -> Result<(), Fail> {
         assert_eq!(rt; flushes(&domain), want, "after {asked:?}");
     }
     assert_eq!(rt; (domain.newest_done(), domain.good()), (4, 2));
+    drop(domain);
     Ok(())
 }
 
@@ -187,6 +193,7 @@ fn at_most_32_flushes_in_flight(rt: HostRuntime) -> Result<(), Fail> {
         ],
     );
     assert_eq!(rt; flushes(&domain), (33, 1, 0, 32));
+    drop(domain);
     Ok(())
 }
 
@@ -230,6 +237,7 @@ fn a_ring_takes_255(rt: HostRuntime) -> Result<(), Fail> {
         ],
     );
     assert_eq!(rt; counts(&rt, &domain).ring, 1);
+    drop(domain);
     Ok(())
 }
 
@@ -273,6 +281,7 @@ fn full_magazines_go_to_the_depot(rt: HostRuntime) -> Result<(), Fail> {
             (alloc(0, 1, 1, 4095), given(3968, 1)),
         ],
     );
+    drop(domain);
     Ok(())
 }
 
@@ -298,6 +307,7 @@ fn small_magazines(rt: HostRuntime) -> Result<(), Fail> {
                 (alloc(0, 1, 1, 4095), given(3969, 1)),
             ],
         );
+        drop(domain);
     }
     Ok(())
 }
@@ -315,6 +325,7 @@ fn an_entry_above_the_limit_stays(rt: HostRuntime) -> Result<(), Fail> {
             (alloc(0, 1, 1, 1023), given(1023, 1)),
         ],
     );
+    drop(domain);
     Ok(())
 }
 
@@ -334,6 +345,7 @@ fn caches_are_emptied_before_no_space(rt: HostRuntime) -> Result<(), Fail> {
     assert_eq!(rt; domain.place(3), Some(Place::Magazine(0)));
     answers(&rt, &mut domain, &[(alloc(0, 1, 2, 3), given(2, 2))]);
     assert_eq!(rt; counts(&rt, &domain).magazine, 0);
+    drop(domain);
     Ok(())
 }
 
@@ -352,6 +364,7 @@ fn a_great_range_becomes_free(rt: HostRuntime) -> Result<(), Fail> {
     flush(&rt, &mut domain, 1, 1);
     assert_eq!(rt; counts(&rt, &domain).free, 1023);
     answers(&rt, &mut domain, &[(alloc(0, 1, 33, 1023), given(960, 33))]);
+    drop(domain);
     Ok(())
 }
 
@@ -381,5 +394,6 @@ fn drained_into_the_magazines_of_who_drains(rt: HostRuntime) -> Result<(), Fail>
             (alloc(1, 2, 1, 1023), given(1023, 1)),
         ],
     );
+    drop(domain);
     Ok(())
 }

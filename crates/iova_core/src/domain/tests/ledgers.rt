@@ -32,6 +32,7 @@ fn clients_of_two_workers(rt: HostRuntime) -> Result<(), Fail> {
         assert_eq!(rt; domain.owner(id), owner, "of {id}");
         assert_eq!(rt; domain.is_closing(id), closing, "of {id}");
     }
+    drop(domain);
     Ok(())
 }
 
@@ -64,6 +65,7 @@ fn a_closing_client_gives_up_its_lowest_first(rt: HostRuntime) -> Result<(), Fai
     assert_eq!(rt; domain.clients(), 1);
     assert_eq!(rt; domain.holdings_of(1), None);
     assert_eq!(rt; counts(&rt, &domain).ring, 2);
+    drop(domain);
     Ok(())
 }
 
@@ -89,6 +91,7 @@ fn at_most_4096_holdings(rt: HostRuntime) -> Result<(), Fail> {
         sum_lo: 25_163_776 + 4095,
     };
     assert_eq!(rt; domain.totals(), want);
+    drop(domain);
     Ok(())
 }
 
@@ -112,5 +115,6 @@ fn at_most_1024_clients(rt: HostRuntime) -> Result<(), Fail> {
         ],
     );
     assert_eq!(rt; domain.clients(), 1024);
+    drop(domain);
     Ok(())
 }

@@ -80,6 +80,7 @@ fn once_where_a_window_is_made(rt: HostRuntime) -> Result<(), Fail> {
     };
     let reply = step_twice(&rt, &mut domain, reserve(2, 158), &[(Point::Once, left)]);
     assert_eq!(rt; reply, reserved(1, 159));
+    drop(domain);
     Ok(())
 }
 
@@ -91,6 +92,7 @@ fn once_where_a_client_is_opened(rt: HostRuntime) -> Result<(), Fail> {
         let reply = step_twice(&rt, &mut domain, open(0, false), &refused);
         assert_eq!(rt; reply, Reply::Opened(id));
     }
+    drop(domain);
     Ok(())
 }
 
@@ -107,6 +109,7 @@ fn in_the_ledger_before_the_caches(rt: HostRuntime) -> Result<(), Fail> {
     // which comes from the magazine
     let reply = step_twice(&rt, &mut domain, alloc(0, 2, 1, 3), &refused);
     assert_eq!(rt; reply, given(3, 1));
+    drop(domain);
     Ok(())
 }
 
@@ -118,6 +121,7 @@ fn first_below_4_gib(rt: HostRuntime) -> Result<(), Fail> {
     let refused = [(Point::Ledger, free), (Point::First, free)];
     let reply = step_twice(&rt, &mut domain, alloc(0, 1, 1, 1_048_675), &refused);
     assert_eq!(rt; reply, given(1_048_575, 1));
+    drop(domain);
     Ok(())
 }
 
@@ -135,6 +139,7 @@ fn second_with_the_limit_asked_for(rt: HostRuntime) -> Result<(), Fail> {
         let refused = [(Point::Ledger, free), (Point::Second, free)];
         let reply = step_twice(&rt, &mut domain, alloc(0, 1, 1, limit), &refused);
         assert_eq!(rt; reply, given(lo, 1));
+        drop(domain);
     }
     Ok(())
 }
@@ -171,6 +176,7 @@ fn second_after_the_depot_gave_a_magazine(rt: HostRuntime) -> Result<(), Fail> {
     let refused = [(Point::Second, moved)];
     let reply = step_twice(&rt, &mut domain, alloc(0, 1, 1, 45), &refused);
     assert_eq!(rt; reply, given(45, 1));
+    drop(domain);
     Ok(())
 }
 
@@ -181,6 +187,7 @@ fn last_after_the_caches_were_emptied(rt: HostRuntime) -> Result<(), Fail> {
     let reply = step_twice(&rt, &mut domain, alloc(0, 1, 2, 3), &refused);
     assert_eq!(rt; reply, given(2, 2));
     assert_eq!(rt; domain.place(1), Some(Place::Free));
+    drop(domain);
     Ok(())
 }
 
@@ -199,5 +206,6 @@ fn run_keeps_the_replies_so_far(rt: HostRuntime) -> Result<(), Fail> {
     }
     assert_eq!(rt; replies.len(), 20);
     assert_eq!(rt; replies.last(), Some(&Reply::Begun(20)));
+    drop(domain);
     Ok(())
 }

@@ -48,6 +48,7 @@ fn a_new_domain_is_free(rt: HostRuntime) -> Result<(), Fail> {
         (100, 163)
     );
     assert_eq!(rt; (domain.newest_done(), domain.good()), (0, 0));
+    drop(domain);
     Ok(())
 }
 
@@ -123,5 +124,6 @@ fn frames_at_all_six_kinds_of_place(rt: HostRuntime) -> Result<(), Fail> {
         (domain.owner(2), domain.is_closing(1)),
         (Some(1), Some(true))
     );
+    drop(domain);
     Ok(())
 }

@@ -15,6 +15,7 @@ fn highest_aligned_fit(rt: HostRuntime) -> Result<(), Fail> {
             (alloc(0, 1, 1, 15), given(15, 1)),
         ],
     );
+    drop(domain);
     Ok(())
 }
 
@@ -34,6 +35,7 @@ fn frame_zero_is_out(rt: HostRuntime) -> Result<(), Fail> {
                 (alloc(0, 1, frames, last), want),
             ],
         );
+        drop(domain);
     }
     Ok(())
 }
@@ -68,6 +70,7 @@ fn requests_are_refused_in_order(rt: HostRuntime) -> Result<(), Fail> {
             (open(0, false), Reply::Opened(2)),
         ],
     );
+    drop(domain);
     Ok(())
 }
 
@@ -80,6 +83,7 @@ fn one_to_sixteen_workers(rt: HostRuntime) -> Result<(), Fail> {
     }
     let domain = domain_in(rt.alloc(), bounds, 16)?;
     assert_eq!(rt; (domain.workers(), domain.bounds()), (16, bounds));
+    drop(domain);
     Ok(())
 }
 
@@ -107,6 +111,7 @@ fn below_4_gib_first_for_a_sac_client(rt: HostRuntime) -> Result<(), Fail> {
             (alloc(0, 1, 2, 1_048_575), no(Refusal::NoSpace)),
         ],
     );
+    drop(domain);
     Ok(())
 }
 
@@ -142,6 +147,7 @@ fn windows_are_out(rt: HostRuntime) -> Result<(), Fail> {
         ..Counts::default()
     };
     assert_eq!(rt; counts(&rt, &domain), want);
+    drop(domain);
     Ok(())
 }
 
@@ -166,6 +172,7 @@ fn windows_at_most_64(rt: HostRuntime) -> Result<(), Fail> {
         ],
     );
     assert_eq!(rt; counts(&rt, &domain).reserved, 128);
+    drop(domain);
     Ok(())
 }
 
@@ -189,6 +196,7 @@ fn windows_over_frames_in_caches_and_rings(rt: HostRuntime) -> Result<(), Fail> 
             (reserve(1000, 1023), reserved(1000, 24)),
         ],
     );
+    drop(domain);
     Ok(())
 }
 
@@ -208,5 +216,6 @@ fn wide_frames(rt: HostRuntime) -> Result<(), Fail> {
     );
     assert_eq!(rt; domain.place(top), Some(Place::Client(1)));
     assert_eq!(rt; counts(&rt, &domain).free, 1_099_511_627_773);
+    drop(domain);
     Ok(())
 }
