@@ -174,14 +174,20 @@ fn steps<R: Runtime>(rt: &R, alloc: Global, in_runs: bool) -> anyhow::Result<u64
         worker: 0,
         sac: false,
     });
+    let taken = steps_of(rt, &mut domain, in_runs);
+    drop(domain);
+    taken
+}
+
+fn steps_of<R: Runtime>(rt: &R, domain: &mut Domain, in_runs: bool) -> anyhow::Result<u64> {
     let since = Instant::now(rt)?;
     if in_runs {
         for _ in 0..COUNT / 16 {
-            run_of_steps(&mut domain)?;
+            run_of_steps(domain)?;
         }
     } else {
         for _ in 0..COUNT {
-            give_and_take(&mut domain, 1)?;
+            give_and_take(domain, 1)?;
         }
     }
     tenths(rt, &since)
@@ -322,7 +328,7 @@ fn shared_by<
     requires good { (good.name ≡ G.name) × (good.parts ≡ G.parts) × (good.parts ≡ TALLY_PARTS * threads) }
 {
     let bounds = Bounds::new(1, TOP)?;
-    let (shared, mut seats) = match way {
+    let (shared, seats) = match way {
         Way::Recorded => Shared::<&R, C, F, S, G>::recorded(
             rt, alloc, 0, bounds, threads, PAIRS, count, frames, sum_lo, good,
         )?,
@@ -335,22 +341,61 @@ fn shared_by<
     } else {
         shared
     };
-    let lent = &shared;
-    let each = operations / threads;
-    let since = Instant::now(rt)?;
-    if threads == 1 {
-        if let Some(seat) = seats.pop() {
-            work(alloc, lent, seat, way, each)?;
-        }
+    let nanos = with_seats(rt, alloc, &shared, seats, way, operations / threads);
+    drop(shared);
+    nanos
+}
+
+// How many nanoseconds they took, each seat in a thread of its own, or a single one in this thread.
+fn with_seats<
+    C: Ledger + Send + Sync,
+    F: Ledger + Send + Sync,
+    S: Ledger + Send + Sync,
+    G: Ledger + Send + Sync,
+    R: Runtime + Threads + Wait + Sync,
+>(
+    rt: &R,
+    alloc: Global,
+    shared: &Shared<&R, C, F, S, G>,
+    mut seats: Vec<Seat<C, F, S, G>>,
+    way: Way,
+    each: u64,
+) -> anyhow::Result<u64> {
+    let began = Instant::now(rt);
+    if seats.len() > 1 {
+        in_threads(rt, alloc, shared, seats, way, each)?;
     } else {
-        // for the proof: a book may go to another thread
-        books_are_send::<C, F, S, G>();
-        let done = thread::map_vec(rt, seats, &|seat| work(alloc, lent, seat, way, each))?;
-        for worked in done {
-            worked?;
-        }
+        let worked = match seats.pop() {
+            Some(seat) => work(alloc, shared, seat, way, each),
+            None => Ok(()),
+        };
+        drop(seats);
+        worked?;
     }
-    nanos(rt, &since)
+    nanos(rt, &began?)
+}
+
+// Each seat works in a thread of its own.
+fn in_threads<
+    C: Ledger + Send + Sync,
+    F: Ledger + Send + Sync,
+    S: Ledger + Send + Sync,
+    G: Ledger + Send + Sync,
+    R: Runtime + Threads + Wait + Sync,
+>(
+    rt: &R,
+    alloc: Global,
+    shared: &Shared<&R, C, F, S, G>,
+    seats: Vec<Seat<C, F, S, G>>,
+    way: Way,
+    each: u64,
+) -> anyhow::Result<()> {
+    // for the proof: a book may go to another thread
+    books_are_send::<C, F, S, G>();
+    for worked in thread::map_vec(rt, seats, &|seat| work(alloc, shared, seat, way, each))? {
+        worked?;
+    }
+    Ok(())
 }
 
 fn lock<R: Runtime + Threads + Wait + Sync>(

@@ -70,8 +70,16 @@ fn get_and_put(caches: &mut Caches)
 fn magazines<R: Runtime>(rt: &R, alloc: Global) -> anyhow::Result<u64> {
     let mut caches = Caches::new(alloc, 1)?;
     fill(&mut caches);
+    let nanos = get_and_put_timed(rt, &mut caches);
+    drop(caches);
+    nanos
+}
+
+fn get_and_put_timed<R: Runtime>(rt: &R, caches: &mut Caches) -> anyhow::Result<u64>
+    requires { 1 ≤ caches.old.workers }
+{
     let since = Instant::now(rt)?;
-    get_and_put(&mut caches);
+    get_and_put(caches);
     nanos_each(rt, &since)
 }
 
@@ -110,16 +118,26 @@ fn requests<R: Runtime>(rt: &R, alloc: Global, most: u64, workers: u64) -> anyho
     requires some { 1 ≤ most }
     requires few { most ≤ 32 }
 {
-    let mut random = Random::new(5);
     let mut domain = Domain::new(alloc, Bounds::new(1, TOP)?, workers)?;
     domain.step(Step::Open {
         worker: 0,
         sac: false,
     });
+    let nanos = requests_of(rt, &mut domain, most);
+    drop(domain);
+    nanos
+}
+
+// Requests of 1 to `most` frames by worker 0 of this domain.
+fn requests_of<R: Runtime>(rt: &R, domain: &mut Domain, most: u64) -> anyhow::Result<u64>
+    requires some { 1 ≤ most }
+    requires few { most ≤ 32 }
+{
+    let mut random = Random::new(5);
     let since = Instant::now(rt)?;
     for _ in 0..COUNT {
         let frames = 1 + random.below(most);
-        give_and_take(&mut domain, frames)?;
+        give_and_take(domain, frames)?;
     }
     nanos_each(rt, &since)
 }

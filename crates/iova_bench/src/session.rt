@@ -53,27 +53,39 @@ pub fn run<R: Runtime + Wait>(rt: &R, alloc: Global, case: &str) -> anyhow::Resu
 // they will be given is found by running the same steps.
 fn inputs(alloc: Global) -> anyhow::Result<Vec<Vec<u8>>> {
     let mut domain = Domain::new(alloc, Bounds::new(1, TOP)?, 1)?;
+    let inputs = inputs_by(alloc, &mut domain);
+    drop(domain);
+    inputs
+}
+
+// The same by the steps of this domain.
+fn inputs_by(alloc: Global, domain: &mut Domain) -> anyhow::Result<Vec<Vec<u8>>> {
     let mut inputs = Vec::new(alloc);
     for client in 1..=SESSIONS {
-        domain.step(Step::Open {
-            worker: 0,
-            sac: false,
-        });
-        let mut input = Vec::new(alloc);
-        input.extend_from_slice(b"hello iova1 0 dac\n")?;
-        for _ in 0..70 {
-            input.extend_from_slice(b"stat\n")?;
-        }
-        for _ in 0..COUNT / SESSIONS / 2 {
-            let lo = give_and_take(&mut domain, client)?;
-            input.extend_from_slice(b"alloc 1 18446744073709551615\n")?;
-            let line = format!(in alloc; "free {lo}\n")?;
-            input.extend_from_slice(line.as_bytes())?;
-        }
-        domain.step(Step::CloseOne { worker: 0, client });
-        inputs.push(input)?;
+        inputs.push(input_of(alloc, domain, client)?)?;
     }
     Ok(inputs)
+}
+
+// What the peer of one session sends.
+fn input_of(alloc: Global, domain: &mut Domain, client: u64) -> anyhow::Result<Vec<u8>> {
+    domain.step(Step::Open {
+        worker: 0,
+        sac: false,
+    });
+    let mut input = Vec::new(alloc);
+    input.extend_from_slice(b"hello iova1 0 dac\n")?;
+    for _ in 0..70 {
+        input.extend_from_slice(b"stat\n")?;
+    }
+    for _ in 0..COUNT / SESSIONS / 2 {
+        let lo = give_and_take(domain, client)?;
+        input.extend_from_slice(b"alloc 1 18446744073709551615\n")?;
+        let line = format!(in alloc; "free {lo}\n")?;
+        input.extend_from_slice(line.as_bytes())?;
+    }
+    domain.step(Step::CloseOne { worker: 0, client });
+    Ok(input)
 }
 
 // The first frame of a range that a client is given and gives back. Where the ring is full, a flush comes first.
@@ -133,10 +145,17 @@ fn serve_shared<C: Ledger, F: Ledger, S: Ledger, G: Ledger, R: Runtime + Wait>(
     let (shared, mut seats) = Shared::<&R, C, F, S, G>::new(
         rt, alloc, 0, bounds, 1, count, frames, sum_lo, good,
     )?;
-    let Some(seat) = seats.pop() else {
-        return Err(anyhow::anyhow!("no seat"));
+    let nanos = match seats.pop() {
+        Some(seat) => {
+            let mut post = Post::new(alloc, seat);
+            let nanos = serve_all(rt, alloc, &shared, &mut post, inputs);
+            drop(post);
+            nanos
+        }
+        None => Err(anyhow::anyhow!("no seat")),
     };
-    serve_all(rt, alloc, &shared, Post::new(alloc, seat), inputs)
+    drop(shared);
+    nanos
 }
 
 // How many nanoseconds a request took. The keeper comes by value, so that it is lent whatever it is.
@@ -144,14 +163,14 @@ fn serve_all<C: Ledger, F: Ledger, S: Ledger, G: Ledger, K: Keep<C, F, S, G> + D
     rt: &R,
     alloc: Global,
     mut keeper: K,
-    mut post: Post<C, F, S, G>,
+    post: &mut Post<C, F, S, G>,
     inputs: &[Vec<u8>],
 ) -> anyhow::Result<u64> {
     let mut sink = MemorySink::new(0);
     let since = Instant::now(rt)?;
     for input in inputs {
         let mut link = MemoryLink::new(alloc, input.as_slice(), RUN, 0);
-        let end = run_session(alloc, &mut link, &mut keeper, &mut post, &mut sink);
+        let end = run_session(alloc, &mut link, &mut keeper, post, &mut sink);
         // each range that was given was taken back
         anyhow::ensure!(
             end.end == End::Closed && end.client == Some(Ending::Ended(0)),

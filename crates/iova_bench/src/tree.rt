@@ -86,12 +86,20 @@ fn renew(tree: &mut Tree, held: &mut Vec<u64>, k: usize, size: u64) -> Result<()
 
 fn b1<R: Runtime>(rt: &R, alloc: Global, live: u64) -> anyhow::Result<()> {
     let mut tree = Tree::new(alloc, Bounds::new(1, TOP)?)?;
+    let reported = b1_in(rt, alloc, &mut tree, live);
+    drop(tree);
+    reported
+}
+
+fn b1_in<R: Runtime>(rt: &R, alloc: Global, tree: &mut Tree, live: u64) -> anyhow::Result<()>
+    requires { tree.old.inserted ≡ [] }
+{
     let mut random = Random::new(42);
-    let mut held = fill(alloc, &mut tree, live, &mut random)?;
+    let mut held = fill(alloc, tree, live, &mut random)?;
     let mut best = u64::MAX;
     for _ in 0..3 {
         let since = Instant::now(rt)?;
-        renew_often(&mut tree, &mut held, &mut random)?;
+        renew_often(tree, &mut held, &mut random)?;
         best = best.min(nanos_each(rt, &since)?);
     }
     report(rt, "b1", live, best)
@@ -113,12 +121,20 @@ fn renew_often(tree: &mut Tree, held: &mut Vec<u64>, random: &mut Random) -> any
 
 fn b3<R: Runtime>(rt: &R, alloc: Global, live: u64) -> anyhow::Result<()> {
     let mut tree = Tree::new(alloc, Bounds::new(1, TOP)?)?;
+    let reported = b3_in(rt, alloc, &mut tree, live);
+    drop(tree);
+    reported
+}
+
+fn b3_in<R: Runtime>(rt: &R, alloc: Global, tree: &mut Tree, live: u64) -> anyhow::Result<()>
+    requires { tree.old.inserted ≡ [] }
+{
     let mut random = Random::new(42);
-    let mut held = fill(alloc, &mut tree, live, &mut random)?;
+    let mut held = fill(alloc, tree, live, &mut random)?;
     let mut best = u64::MAX;
     for _ in 0..3 {
         let since = Instant::now(rt)?;
-        take_turns(&mut tree, &mut held, &mut random)?;
+        take_turns(tree, &mut held, &mut random)?;
         best = best.min(nanos_each(rt, &since)?);
     }
     report(rt, "b3", live, best)
@@ -140,14 +156,20 @@ fn take_turns(tree: &mut Tree, held: &mut Vec<u64>, random: &mut Random) -> anyh
 
 fn b2<R: Runtime>(rt: &R, alloc: Global, live: u64) -> anyhow::Result<()> {
     let mut tree = Tree::new(alloc, Bounds::new(1, TOP)?)?;
+    let reported = b2_in(rt, &mut tree, live);
+    drop(tree);
+    reported
+}
+
+fn b2_in<R: Runtime>(rt: &R, tree: &mut Tree, live: u64) -> anyhow::Result<()> {
     let mut random = Random::new(42);
     for _ in 0..live {
-        let _ = place(&mut tree, some_size(&mut random), TOP)?;
+        let _ = place(tree, some_size(&mut random), TOP)?;
     }
     let mut best = u64::MAX;
     for _ in 0..3 {
         let since = Instant::now(rt)?;
-        come_and_go(&mut tree, &mut random)?;
+        come_and_go(tree, &mut random)?;
         best = best.min(nanos_each(rt, &since)?);
     }
     report(rt, "b2", live, best)
@@ -165,23 +187,43 @@ fn come_and_go(tree: &mut Tree, random: &mut Random) -> Result<(), Refusal> {
 // Holes of 64 frames below the top.
 fn holes(alloc: Global, live: u64, start: u64) -> Result<Tree, Refusal> {
     let mut tree = Tree::new(alloc, Bounds::new(start, TOP)?)?;
+    match make_holes(&mut tree, live) {
+        Ok(()) => Ok(tree),
+        Err(refusal) => {
+            drop(tree);
+            Err(refusal)
+        }
+    }
+}
+
+fn make_holes(tree: &mut Tree, live: u64) -> Result<(), Refusal> {
     let mut limit = TOP;
     for _ in 0..live {
-        let lo = place(&mut tree, 64, limit)?;
+        let lo = place(tree, 64, limit)?;
         limit = lo.saturating_sub(65);
     }
-    Ok(tree)
+    Ok(())
 }
 
 // Holes of 126 frames, none with 64 that are aligned.
 fn misaligned(alloc: Global, live: u64) -> Result<Tree, Refusal> {
     let mut tree = Tree::new(alloc, Bounds::new(1, TOP)?)?;
+    match make_misaligned(&mut tree, live) {
+        Ok(()) => Ok(tree),
+        Err(refusal) => {
+            drop(tree);
+            Err(refusal)
+        }
+    }
+}
+
+fn make_misaligned(tree: &mut Tree, live: u64) -> Result<(), Refusal> {
     let mut limit = TOP;
     for _ in 0..live {
-        let lo = place(&mut tree, 1, limit)?;
+        let lo = place(tree, 1, limit)?;
         limit = lo.saturating_sub(if limit % 2 == 1 { 127 } else { 1 });
     }
-    Ok(tree)
+    Ok(())
 }
 
 // How many of so many searches find a place.
@@ -197,6 +239,23 @@ fn search_often(tree: &Tree, size: u64) -> u64
         }
     }
     found
+}
+
+// The search alone, in a tree that isn't needed after it.
+fn search_in<R: Runtime>(
+    rt: &R,
+    case: &str,
+    tree: Tree,
+    live: u64,
+    size: u64,
+    there: bool,
+) -> anyhow::Result<()>
+    requires some { 1 ≤ size }
+    requires bounded { size ≤ MAX_FRAMES }
+{
+    let reported = search(rt, case, &tree, live, size, there);
+    drop(tree);
+    reported
 }
 
 // The search alone; it finds a place, or it finds none.
@@ -230,11 +289,11 @@ pub fn run<R: Runtime>(rt: &R, alloc: Global, case: &str) -> anyhow::Result<()> 
             "b1" => b1(rt, alloc, live)?,
             "b2" => b2(rt, alloc, live)?,
             "b3" => b3(rt, alloc, live)?,
-            "c1" => search(rt, case, &holes(alloc, live, 1)?, live, 100, true)?,
-            "c3" => search(
+            "c1" => search_in(rt, case, holes(alloc, live, 1)?, live, 100, true)?,
+            "c3" => search_in(
                 rt,
                 case,
-                &holes(
+                holes(
                     alloc,
                     live,
                     (TOP + 1).saturating_sub(live.saturating_mul(128)),
@@ -243,7 +302,7 @@ pub fn run<R: Runtime>(rt: &R, alloc: Global, case: &str) -> anyhow::Result<()> 
                 100,
                 false,
             )?,
-            "c4" => search(rt, case, &misaligned(alloc, live)?, live, 64, true)?,
+            "c4" => search_in(rt, case, misaligned(alloc, live)?, live, 64, true)?,
             _ => {}
         }
     }

@@ -1,5 +1,5 @@
 use Rattle.iova_bench.specs.Held.{AreHeld}
-use Rattle.iova_bench.proofs.tree.b1.Given as goal
+use Rattle.iova_bench.proofs.tree.b1_in.Given as goal
 
 abbrev pub invariant-loop : goal.invariant-loop
 invariant-loop g l = AreHeld l.tree.inserted l.held.items
