@@ -268,23 +268,32 @@ impl Script {
 // Two clients of each of two workers, and then calls of either worker in turn, and of either one's clients.
 fn said_by<C: Ledger, F: Ledger, S: Ledger, G: Ledger, K: Keep<C, F, S, G> + Drop>(
     alloc: Global,
-    keeper: K,
-    seats: Vec<Seat<C, F, S, G>>,
+    mut keeper: K,
+    mut seats: Vec<Seat<C, F, S, G>>,
 ) -> Result<Vec<String>, Fail> {
-    let mut keeper = keeper;
-    let mut seats = seats;
     let mut script = Script::new(alloc);
-    for seat in &mut seats {
+    let called = call_often(&mut script, &mut keeper, &mut seats);
+    drop(seats);
+    called?;
+    Ok(script.said)
+}
+
+fn call_often<C: Ledger, F: Ledger, S: Ledger, G: Ledger, K: Keep<C, F, S, G>>(
+    script: &mut Script,
+    keeper: &mut K,
+    seats: &mut Vec<Seat<C, F, S, G>>,
+) -> Result<(), Fail> {
+    for seat in &mut *seats {
         let first = if seat.worker() == 0 { 0 } else { 2 };
-        script.open(&mut keeper, seat, first)?;
-        script.open(&mut keeper, seat, first + 1)?;
+        script.open(keeper, seat, first)?;
+        script.open(keeper, seat, first + 1)?;
     }
     for _ in 0..CALLS / 2 {
-        for seat in &mut seats {
-            script.call(&mut keeper, seat)?;
+        for seat in &mut *seats {
+            script.call(keeper, seat)?;
         }
     }
-    Ok(script.said)
+    Ok(())
 }
 
 fn said_by_book<C: Ledger, F: Ledger, S: Ledger, G: Ledger>(
@@ -325,7 +334,9 @@ fn said_by_lock<C: Ledger, F: Ledger, S: Ledger, G: Ledger, R: Wait>(
         rt, alloc, 7, bounds, 2, count, frames, sum_lo, good,
     )?;
     let shared = if strict { shared.strict() } else { shared };
-    said_by(alloc, &shared, seats)
+    let said = said_by(alloc, &shared, seats);
+    drop(shared);
+    said
 }
 
 // Whether a line begins so.

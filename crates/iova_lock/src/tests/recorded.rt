@@ -87,21 +87,19 @@ impl<'a> io::Read for Rest<'a> {
 // A client opens, is given a range, frees it twice, flushes and ends.
 fn make_calls<C: Ledger, F: Ledger, S: Ledger, G: Ledger, K: Keep<C, F, S, G> + Drop, R: Abort>(
     rt: &R,
-    keeper: K,
-    seat: Seat<C, F, S, G>,
+    mut keeper: K,
+    seat: &mut Seat<C, F, S, G>,
 ) -> Result<(), Fail> {
-    let mut keeper = keeper;
-    let mut seat = seat;
     let mut sink = MemorySink::new(0);
-    let id = keeper.open(&mut seat, false)?;
-    let range = keeper.alloc(&mut seat, id, 3, 1023)?;
-    let freed = calls::unmap(&mut keeper, &mut seat, &mut sink, id, 1020);
+    let id = keeper.open(seat, false)?;
+    let range = keeper.alloc(seat, id, 3, 1023)?;
+    let freed = calls::unmap(&mut keeper, seat, &mut sink, id, 1020);
     assert_eq!(rt; freed, Ok(range));
-    let again = calls::unmap(&mut keeper, &mut seat, &mut sink, id, 1020);
+    let again = calls::unmap(&mut keeper, seat, &mut sink, id, 1020);
     assert_eq!(rt; again, Err(Refusal::NotHeld));
     assert_eq!(rt; calls::flush(&mut keeper, seat.tally(), &mut sink), Ok(1));
     assert_eq!(rt; keeper.drain_all(0), Ok(1));
-    let ended = end_client(&mut keeper, &mut seat, &mut sink, id);
+    let ended = end_client(&mut keeper, seat, &mut sink, id);
     assert_eq!(rt; ended, Ok(Ending::Ended(0)));
     Ok(())
 }
@@ -127,14 +125,17 @@ fn recorded<C: Ledger, F: Ledger, S: Ledger, G: Ledger, R: Abort + Wait>(
     let (shared, mut seats) = Shared::<&R, C, F, S, G>::recorded(
         rt, alloc, 7, bounds, 1, pairs, count, frames, sum_lo, good,
     )?;
-    let Some(seat) = seats.pop() else {
-        return Err(Fail::from("no seat"));
-    };
     assert!(rt; shared.recording());
-    make_calls(rt, &shared, seat)?;
+    let made = match seats.first_mut() {
+        Some(seat) => make_calls(rt, &shared, seat),
+        None => Err(Fail::from("no seat")),
+    };
     let mut text = Vec::new(alloc);
     assert_eq!(rt; shared.transcript(&mut text), Ok(steps));
     assert_eq!(rt; shared.recording(), steps < pairs as u64);
+    drop(seats);
+    drop(shared);
+    made?;
     Ok(text)
 }
 
@@ -158,7 +159,10 @@ fn calls_are_recorded(rt: HostRuntime) -> Result<(), Fail> {
         text: Vec::new(rt.alloc()),
     };
     match replay(rt.alloc(), &mut rest, &mut page) {
-        Ok((_domain, steps)) => assert_eq!(rt; steps, 8),
+        Ok((domain, steps)) => {
+            drop(domain);
+            assert_eq!(rt; steps, 8);
+        }
         Err(fault) => assert!(rt; false, "{fault:?}"),
     }
     assert_eq!(rt; page.text.as_slice(), REPLIES.as_bytes());
@@ -201,10 +205,21 @@ fn record_made<C: Ledger, F: Ledger, S: Ledger, G: Ledger, R: Abort + Print + Wa
     let made = Shared::<&R, C, F, S, G>::recorded(
         rt, alloc, 7, bounds, 1, 100, count, frames, sum_lo, good,
     );
-    let Ok((shared, _seats)) = made else {
+    let Ok((shared, seats)) = made else {
         println!(rt; "refused at Shared::recorded")?;
         return Ok(());
     };
+    drop(seats);
+    let done = record_written(rt, alloc, &shared);
+    drop(shared);
+    done
+}
+
+fn record_written<C: Ledger, F: Ledger, S: Ledger, G: Ledger, R: Abort + Print + Wait>(
+    rt: &R,
+    alloc: Global,
+    shared: &Shared<&R, C, F, S, G>,
+) -> Result<(), Fail> {
     let mut text = Vec::new(alloc);
     if let Err(refusal) = shared.transcript(&mut text) {
         assert!(rt; refusal == Refusal::NoMemory && text.is_empty());

@@ -9,6 +9,7 @@ use crate::ending::{Ending, Why};
 use crate::keep::Keep;
 use crate::seat::{Seat, Tally};
 use crate::shared::Shared;
+use crate::tests::all_gathered;
 use iova_range::bounds::Bounds;
 use iova_range::refusal::Refusal;
 use iova_range::stat::Stat;
@@ -182,24 +183,24 @@ fn failing_at<C: Ledger, F: Ledger, S: Ledger, G: Ledger, R: Abort + Wait>(
     let (shared, mut seats) = Shared::<&R, C, F, S, G>::new(
         rt, alloc, 7, bounds, 1, count, frames, sum_lo, good,
     )?;
-    let lent = &shared;
-    let Some(seat) = seats.pop() else {
-        return Err(Fail::from("no seat"));
+    let sums = match seats.first_mut() {
+        Some(seat) => run_calls(rt, &shared, seat, fail_at),
+        None => Err(Fail::from("no seat")),
     };
-    let (mut seat, failed) = run_calls(rt, lent, seat, fail_at)?;
-    let at = |no: u64| fail_at == no;
-    let fails = [at(1), at(2), at(3), at(4) || at(5) || at(6)];
-    assert_eq!(rt; failed, fails, "at call {fail_at}");
-    let sums = (seat.count(), seat.frames(), seat.sum_lo());
-    let ended = seat.tally().good();
-    assert_eq!(rt; (sums.0, ended), (3, SINK_CALLS));
-    seats.push(seat)?;
-    match shared.gather(seats) {
-        Ok(totals) => assert_eq!(rt; (totals.count, totals.frames, totals.sum_lo), sums),
-        Err(_) => assert!(rt; false),
-    }
-    assert_eq!(rt; shared.into_domain().good(), ended);
-    Ok(())
+    let done = match sums {
+        Ok(sums) => {
+            all_gathered(rt, &shared, seats, sums);
+            Ok(())
+        }
+        Err(fail) => {
+            drop(seats);
+            Err(fail)
+        }
+    };
+    let domain = shared.into_domain();
+    assert_eq!(rt; domain.good(), SINK_CALLS);
+    drop(domain);
+    done
 }
 
 #[test]
@@ -219,18 +220,20 @@ fn a_sink_that_fails_at_each_call(rt: HostRuntime) -> Result<(), Fail> {
     Ok(())
 }
 
-// The same of a keeper by value, so that it is lent whatever it is. The seat comes back.
+// The same over a sink that fails at its call of this number. It answers what the seat's shares are then.
 fn run_calls<C: Ledger, F: Ledger, S: Ledger, G: Ledger, K: Keep<C, F, S, G> + Drop, R: Abort>(
     rt: &R,
-    keeper: K,
-    seat: Seat<C, F, S, G>,
+    mut keeper: K,
+    seat: &mut Seat<C, F, S, G>,
     fail_at: u64,
-) -> Result<(Seat<C, F, S, G>, [bool; 4]), Fail> {
-    let mut keeper = keeper;
-    let mut seat = seat;
+) -> Result<(u64, u64, u64), Fail> {
     let mut sink = MemorySink::new(fail_at);
-    let failed = calls_of(rt, &mut keeper, &mut seat, &mut sink)?;
-    Ok((seat, failed))
+    let failed = calls_of(rt, &mut keeper, seat, &mut sink)?;
+    let at = |no: u64| fail_at == no;
+    let fails = [at(1), at(2), at(3), at(4) || at(5) || at(6)];
+    assert_eq!(rt; failed, fails, "at call {fail_at}");
+    assert_eq!(rt; (seat.count(), seat.tally().good()), (3, SINK_CALLS));
+    Ok((seat.count(), seat.frames(), seat.sum_lo()))
 }
 
 // Waits until so many flushes have begun. Whether they have.
@@ -299,15 +302,37 @@ fn owing<
     let (shared, mut seats) = Shared::<&R, C, F, S, G>::new(
         rt, alloc, 7, bounds, 1, count, frames, sum_lo, good,
     )?;
-    let lent = &shared;
-    let Some(mut seat) = seats.pop() else {
-        return Err(Fail::from("no seat"));
+    let done = match two_parts(&mut seats) {
+        Some((first, second)) => {
+            flush_and_fail(rt, &shared, first, second);
+            Ok(())
+        }
+        None => Err(Fail::from("too few parts")),
     };
+    drop(seats);
+    drop(shared);
+    done
+}
+
+// Two parts of the first seat's tally.
+fn two_parts<C: Ledger, F: Ledger, S: Ledger, G: Ledger>(
+    seats: &mut Vec<Seat<C, F, S, G>>,
+) -> Option<(Tally<G>, Tally<G>)> {
+    let seat = seats.first_mut()?;
     if seat.tally().parts() < 3 {
-        return Err(Fail::from("too few parts"));
+        return None;
     }
-    let first = seat.tally().split();
-    let second = seat.tally().split();
+    Some((seat.tally().split(), seat.tally().split()))
+}
+
+// A flush, and beside it one whose sink fails.
+fn flush_and_fail<
+    C: Ledger + Send + Sync,
+    F: Ledger + Send + Sync,
+    S: Ledger + Send + Sync,
+    G: Ledger + Send + Sync,
+    R: Threads + Wait + Sync + Abort,
+>(rt: &R, shared: &Shared<&R, C, F, S, G>, first: Tally<G>, second: Tally<G>) {
     let inside = Flag::new();
     let open = Flag::new();
     let waits = &inside;
@@ -316,15 +341,14 @@ fn owing<
     books_are_send::<C, F, S, G>();
     let (flushed, (begun, failed)) = thread::join(
         rt,
-        move || flush_at_the_gate(lent, first, waits, opens),
-        move || fail_beside(lent, second, opens),
+        move || flush_at_the_gate(shared, first, waits, opens),
+        move || fail_beside(shared, second, opens),
     );
     assert!(rt; begun);
     assert_eq!(rt; failed, Err(Refusal::SinkFault));
     assert_eq!(rt; flushed, Ok(1));
-    let stat = lent.stat();
+    let stat = shared.stat();
     assert_eq!(rt; (stat.start, stat.finish), (2, 1));
-    Ok(())
 }
 
 // The flush that failed began last: its credit is owed.
@@ -343,15 +367,13 @@ fn a_failed_flush_beside_another(rt: HostRuntime) -> Result<(), Fail> {
 
 // A client with 256 single frames, of which 255 wait in the ring.
 fn ring_filled<C: Ledger, F: Ledger, S: Ledger, G: Ledger, K: Keep<C, F, S, G> + Drop>(
-    keeper: K,
-    seat: Seat<C, F, S, G>,
-) -> Result<(Seat<C, F, S, G>, u64), Refusal> {
-    let mut keeper = keeper;
-    let mut seat = seat;
+    mut keeper: K,
+    seat: &mut Seat<C, F, S, G>,
+) -> Result<u64, Refusal> {
     let mut sink = MemorySink::new(0);
-    let id = hold(&mut keeper, &mut seat, 256)?;
-    unmap_many(&mut keeper, &mut seat, &mut sink, id, 255)?;
-    Ok((seat, id))
+    let id = hold(&mut keeper, seat, 256)?;
+    unmap_many(&mut keeper, seat, &mut sink, id, 255)?;
+    Ok(id)
 }
 
 // A round of the flusher, how the domain stands after it, and the client's end.
@@ -463,12 +485,53 @@ fn in_flight<
     let (shared, mut seats) = Shared::<&R, C, F, S, G>::new(
         rt, alloc, 7, bounds, 1, count, frames, sum_lo, good,
     )?;
-    let lent = &shared;
-    let Some(seat) = seats.pop() else {
-        return Err(Fail::from("no seat"));
+    let done = match seats.pop() {
+        Some(seat) => fill_and_fly(rt, alloc, &shared, seat),
+        None => Err(Fail::from("no seat")),
     };
-    let (mut seat, id) = ring_filled(lent, seat)?;
+    drop(seats);
+    drop(shared);
+    done
+}
+
+// With a full ring, 32 flushes in flight, and what is answered beside them; then the ring is emptied.
+fn fill_and_fly<
+    C: Ledger + Send + Sync,
+    F: Ledger + Send + Sync,
+    S: Ledger + Send + Sync,
+    G: Ledger + Send + Sync,
+    R: Threads + Wait + Sync + Abort,
+>(
+    rt: &R,
+    alloc: Global,
+    shared: &Shared<&R, C, F, S, G>,
+    mut seat: Seat<C, F, S, G>,
+) -> Result<(), Fail> {
+    let id = ring_filled(shared, &mut seat)?;
     let tallies = split_off(alloc, &mut seat, 32)?;
+    let seat = fly(rt, shared, seat, id, tallies);
+    assert_eq!(rt; seat.count(), 1);
+    let (freed, stat, end) = ring_emptied(shared, seat, id);
+    assert_eq!(rt; freed, Ok(255));
+    assert_eq!(rt; (stat.start, stat.finish, stat.ring), (33, 33, 0));
+    assert_eq!(rt; end, Ok(Ending::Ended(1)));
+    Ok(())
+}
+
+// The flushes in flight, and what is answered beside them. The seat comes back.
+fn fly<
+    C: Ledger + Send + Sync,
+    F: Ledger + Send + Sync,
+    S: Ledger + Send + Sync,
+    G: Ledger + Send + Sync,
+    R: Threads + Wait + Sync + Abort,
+>(
+    rt: &R,
+    shared: &Shared<&R, C, F, S, G>,
+    seat: Seat<C, F, S, G>,
+    id: u64,
+    tallies: Vec<Tally<G>>,
+) -> Seat<C, F, S, G> {
     let inside = Flag::new();
     let open = Flag::new();
     let waits = &inside;
@@ -477,22 +540,25 @@ fn in_flight<
     books_are_send::<C, F, S, G>();
     let (flushed, (seat, answers)) = thread::join(
         rt,
-        move || all_flush(rt, lent, tallies, waits, opens),
-        move || ask_beside(lent, seat, id, opens),
+        move || all_flush(rt, shared, tallies, waits, opens),
+        move || ask_beside(shared, seat, id, opens),
     );
+    all_are_good(rt, flushed);
     assert!(rt; answers.begun);
     assert_eq!(rt; answers.flush, Err(Refusal::FlightsFull));
     assert!(rt; answers.unmap);
     assert_eq!(rt; answers.end, Ok(Ending::Waiting(1, Why::FlightsFull)));
-    for flush in &flushed? {
+    seat
+}
+
+fn all_are_good<R: Abort>(rt: &R, flushed: Result<Vec<Result<u64, Refusal>>, AllocError>) {
+    let Ok(flushed) = flushed else {
+        assert!(rt; false);
+        return;
+    };
+    for flush in &flushed {
         assert!(rt; flush.is_ok());
     }
-    assert_eq!(rt; seat.count(), 1);
-    let (freed, stat, end) = ring_emptied(lent, seat, id);
-    assert_eq!(rt; freed, Ok(255));
-    assert_eq!(rt; (stat.start, stat.finish, stat.ring), (33, 33, 0));
-    assert_eq!(rt; end, Ok(Ending::Ended(1)));
-    Ok(())
 }
 
 #[test]

@@ -273,26 +273,26 @@ const CASES: u64 = 8;
 fn run_case<C: Ledger, F: Ledger, S: Ledger, G: Ledger, K: Keep<C, F, S, G> + Drop, R: Abort>(
     rt: &R,
     alloc: Global,
-    keeper: K,
-    seats: Vec<Seat<C, F, S, G>>,
+    mut keeper: K,
+    mut seats: Vec<Seat<C, F, S, G>>,
     case: u64,
     strict: bool,
 ) -> Result<(), Fail> {
-    let mut keeper = keeper;
-    let mut seats = seats;
-    for seat in &mut seats {
-        match case {
-            0 => one(rt, &mut keeper, seat, strict)?,
-            1 => failing(rt, &mut keeper, seat, strict)?,
-            2 => full(rt, &mut keeper, seat, strict)?,
-            3 => full_and_failing(rt, &mut keeper, seat, strict)?,
-            4 => beside(rt, &mut keeper, seat, strict)?,
-            5 => none_begins(rt, &mut keeper, seat)?,
-            6 => none_begins_at_a_full_ring(rt, &mut keeper, seat)?,
-            _ => batched(rt, alloc, &mut keeper, seat, strict)?,
-        }
-    }
-    Ok(())
+    let done = match seats.first_mut() {
+        Some(seat) => match case {
+            0 => one(rt, &mut keeper, seat, strict),
+            1 => failing(rt, &mut keeper, seat, strict),
+            2 => full(rt, &mut keeper, seat, strict),
+            3 => full_and_failing(rt, &mut keeper, seat, strict),
+            4 => beside(rt, &mut keeper, seat, strict),
+            5 => none_begins(rt, &mut keeper, seat),
+            6 => none_begins_at_a_full_ring(rt, &mut keeper, seat),
+            _ => batched(rt, alloc, &mut keeper, seat, strict),
+        },
+        None => Err(Fail::from("no seat")),
+    };
+    drop(seats);
+    done
 }
 
 fn case_in_book<C: Ledger, F: Ledger, S: Ledger, G: Ledger, R: Abort>(
@@ -356,7 +356,9 @@ fn case_under_a_lock<C: Ledger, F: Ledger, S: Ledger, G: Ledger, R: Abort + Wait
         rt, alloc, 7, bounds, 1, count, frames, sum_lo, good,
     )?;
     let shared = if strict { shared.strict() } else { shared };
-    run_case(rt, alloc, &shared, seats, case, strict)
+    let done = run_case(rt, alloc, &shared, seats, case, strict);
+    drop(shared);
+    done
 }
 
 #[test]
