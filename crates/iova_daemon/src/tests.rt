@@ -10,6 +10,7 @@ use crate::pause::Ticks;
 use crate::socket::SocketAccept;
 use doubles::{Counted, Few, Row, Rows, Stops, Yields};
 use iova_lock::keep::Keep;
+use iova_lock::seat::Seat;
 use iova_model::totals::Totals;
 use iova_range::bounds::Bounds;
 use iova_range::limits::MAX_WORKERS;
@@ -107,13 +108,13 @@ where
     } else {
         shared
     };
-    let mut posts = Vec::new(alloc);
-    for seat in seats {
-        let Ok(()) = posts.push(Post::new(alloc, seat)) else {
-            return Err(Unserved::Unprepared);
-        };
-    }
+    let Some(mut posts) = posts_of(alloc, seats) else {
+        drop(shared);
+        return Err(Unserved::Unprepared);
+    };
     if posts.is_empty() || sinks.len() != posts.len() + 1 || posts[0].seat.tally().parts() < 2 {
+        drop(posts);
+        drop(shared);
         return Err(Unserved::Unprepared);
     }
     let served = serve_most::<R, &R, N, C, F, S, G, L, A, D, P>(
@@ -123,6 +124,39 @@ where
         Ok(served) => served,
         Err(refusal) => return Err(Unserved::Refused(refusal)),
     };
+    let recording = shared.recording();
+    let stat = (&shared).stat();
+    let back = gathered(alloc, &shared, posts);
+    drop(shared);
+    let (workers, totals) = back?;
+    Ok(Seen {
+        workers,
+        recording,
+        stat,
+        totals,
+    })
+}
+
+/// A post at each seat.
+fn posts_of<C: Ledger, F: Ledger, S: Ledger, G: Ledger>(
+    alloc: Global,
+    seats: Vec<Seat<C, F, S, G>>,
+) -> Option<Vec<Post<C, F, S, G>>> {
+    let mut posts = Vec::new(alloc);
+    for seat in seats {
+        let Ok(()) = posts.push(Post::new(alloc, seat)) else {
+            return None;
+        };
+    }
+    Some(posts)
+}
+
+/// The workers of the posts, and the totals that their seats are gathered to.
+fn gathered<Q: Wait, C: Ledger, F: Ledger, S: Ledger, G: Ledger>(
+    alloc: Global,
+    shared: &Shared<Q, C, F, S, G>,
+    posts: Vec<Post<C, F, S, G>>,
+) -> Result<(Vec<u64>, Totals), Unserved> {
     let mut workers = Vec::new(alloc);
     let mut seats = Vec::new(alloc);
     for post in posts {
@@ -133,17 +167,10 @@ where
             return Err(Unserved::SeatMissing);
         };
     }
-    let recording = shared.recording();
-    let stat = (&shared).stat();
     let Ok(totals) = shared.gather(seats) else {
         return Err(Unserved::SeatMissing);
     };
-    Ok(Seen {
-        workers,
-        recording,
-        stat,
-        totals,
-    })
+    Ok((workers, totals))
 }
 
 /// Serves on frames 1 to 4095 with a worker for each sink but the last, and starts no more threads than `most`.

@@ -44,6 +44,7 @@ fn a_link_that_fails_at_some_calls(rt: HostRuntime) -> Result<(), Fail> {
         assert!(rt; seen.end.end == End::LinkFault);
         assert!(rt; seen.end.client == client);
         assert!(rt; domain.place(9) == Some(place));
+        drop(domain);
         assert_eq!(rt; (seen.shares, seen.waiting), ((0, 0, 0), 0));
         assert_eq!(rt; seen.stat.ring, if place == Place::Free { 0 } else { 1 });
     }
@@ -73,7 +74,7 @@ fn a_link_that_fails_at_each_call(rt: HostRuntime) -> Result<(), Fail> {
                     fail_at,
                     sink_fail_at: 0,
                 };
-                let (seen, _) = in_shared::<Brand, Brand, Brand, Brand, _>(
+                let (seen, domain) = in_shared::<Brand, Brand, Brand, Brand, _>(
                     &rt,
                     rt.alloc(),
                     Bounds::new(1, 1023)?,
@@ -84,6 +85,7 @@ fn a_link_that_fails_at_each_call(rt: HostRuntime) -> Result<(), Fail> {
                     input,
                     script,
                 )?;
+                drop(domain);
                 assert!(rt; text.starts_with(seen.sent.as_slice()));
                 assert_eq!(rt; (seen.shares, seen.waiting), ((0, 0, 0), 0));
                 assert_eq!(rt; seen.stat.client, 0);
@@ -181,6 +183,7 @@ fn a_sink_that_fails_at_each_call(rt: HostRuntime) -> Result<(), Fail> {
         assert_eq!(rt; (domain.clients(), domain.counts().client), (0, 0));
         // none of the ranges is lost
         assert_eq!(rt; domain.counts().free, 4095 - holdings as u64);
+        drop(domain);
     }
     Ok(())
 }

@@ -10,6 +10,7 @@ use crate::run::{SessionEnd, run_session};
 use iova_core::domain::Domain;
 use iova_lock::book::Book;
 use iova_lock::keep::Keep;
+use iova_lock::seat::Seat;
 use iova_lock::shared::Shared;
 use iova_range::bounds::Bounds;
 use iova_range::refusal::Refusal;
@@ -118,14 +119,29 @@ pub(crate) fn in_book<C: Ledger, F: Ledger, S: Ledger, G: Ledger>(
     requires sum_lo { (sum_lo.name ≡ S.name) × (sum_lo.parts ≡ S.parts) × (sum_lo.parts ≡ 1) }
     requires good { (good.name ≡ G.name) × (good.parts ≡ G.parts) × (good.parts ≡ TALLY_PARTS) }
 {
-    let (mut book, mut seats) = Book::<C, F, S, G>::new(
+    let (mut book, seats) = Book::<C, F, S, G>::new(
         alloc, 0, bounds, 1, count, frames, sum_lo, good,
     )?;
+    let seen = session_at(alloc, &mut book, seats, input, script);
+    drop(book);
+    seen
+}
+
+/// One session at the last of the seats.
+pub(crate) fn session_at<C: Ledger, F: Ledger, S: Ledger, G: Ledger, K: Keep<C, F, S, G>>(
+    alloc: Global,
+    keeper: &mut K,
+    mut seats: Vec<Seat<C, F, S, G>>,
+    input: &[u8],
+    script: Script,
+) -> Result<Seen, Refusal> {
     let Some(seat) = seats.pop() else {
         return Err(Refusal::NoWorker);
     };
     let mut post = Post::new(alloc, seat);
-    one_session(alloc, &mut book, &mut post, input, script)
+    let seen = one_session(alloc, keeper, &mut post, input, script);
+    drop(post);
+    seen
 }
 
 /// One session over this link at the last worker of a book of domain 0 with these bounds and so many workers: its end, the
@@ -148,29 +164,81 @@ pub(crate) fn over_link<C: Ledger, F: Ledger, S: Ledger, G: Ledger, L: Link>(
     let (mut book, mut seats) = Book::<C, F, S, G>::new(
         alloc, 0, bounds, workers, count, frames, sum_lo, good,
     )?;
-    let Some(seat) = seats.pop() else {
-        return Err(Refusal::NoWorker);
+    let seen = match seats.pop() {
+        Some(seat) => {
+            let mut post = Post::new(alloc, seat);
+            let mut sink = MemorySink::new(0);
+            let end = run_session(alloc, link, &mut book, &mut post, &mut sink);
+            let seen = (end, shares_of(&post), post.waiting.capacity() > 0);
+            drop(post);
+            Ok(seen)
+        }
+        None => Err(Refusal::NoWorker),
     };
-    let mut post = Post::new(alloc, seat);
-    let mut sink = MemorySink::new(0);
-    let end = run_session(alloc, link, &mut book, &mut post, &mut sink);
-    Ok((end, shares_of(&post), post.waiting.capacity() > 0))
+    drop(seats);
+    drop(book);
+    seen
 }
 
-/// By value, so that the keeper is lent whatever it is.
-pub(crate) fn session_of<C: Ledger, F: Ledger, S: Ledger, G: Ledger, K: Keep<C, F, S, G> + Drop>(
+/// By value, so that the keeper is lent whatever it is. The post comes back.
+fn session_of<C: Ledger, F: Ledger, S: Ledger, G: Ledger, K: Keep<C, F, S, G> + Drop>(
     alloc: Global,
     mut keeper: K,
     mut post: Post<C, F, S, G>,
     input: &[u8],
     script: Script,
-) -> Result<(Seen, Post<C, F, S, G>), Refusal> {
-    let seen = one_session(alloc, &mut keeper, &mut post, input, script)?;
-    Ok((seen, post))
+) -> (Result<Seen, Refusal>, Post<C, F, S, G>) {
+    let seen = one_session(alloc, &mut keeper, &mut post, input, script);
+    (seen, post)
 }
 
-/// One session under a lock round domain 0 with these bounds and one worker. Then the seat is gathered: refused by
-/// `NotHeld` where its shares aren't the totals.
+/// One session at the last of the seats, under a lock. Then the seats are gathered: refused by `NotHeld` where their shares
+/// aren't the totals.
+pub(crate) fn session_gathered<C: Ledger, F: Ledger, S: Ledger, G: Ledger, R: Wait>(
+    alloc: Global,
+    shared: &Shared<&R, C, F, S, G>,
+    mut seats: Vec<Seat<C, F, S, G>>,
+    input: &[u8],
+    script: Script,
+) -> Result<Seen, Refusal> {
+    let Some(seat) = seats.pop() else {
+        return Err(Refusal::NoWorker);
+    };
+    let (seen, post) = session_of(alloc, shared, Post::new(alloc, seat), input, script);
+    let Post { seat, waiting: _ } = post;
+    seats.push(seat).or(Err(Refusal::NoMemory))?;
+    // the seats' shares are the totals under the lock
+    let Ok(totals) = shared.gather(seats) else {
+        return Err(Refusal::NotHeld);
+    };
+    let seen = seen?;
+    if (totals.count, totals.frames, totals.sum_lo) == seen.left_shares {
+        Ok(seen)
+    } else {
+        Err(Refusal::NotHeld)
+    }
+}
+
+/// The same, and the domain after it.
+pub(crate) fn session_under<C: Ledger, F: Ledger, S: Ledger, G: Ledger, R: Wait>(
+    alloc: Global,
+    shared: Shared<&R, C, F, S, G>,
+    seats: Vec<Seat<C, F, S, G>>,
+    input: &[u8],
+    script: Script,
+) -> Result<(Seen, Domain), Refusal> {
+    let seen = session_gathered(alloc, &shared, seats, input, script);
+    let domain = shared.into_domain();
+    match seen {
+        Ok(seen) => Ok((seen, domain)),
+        Err(refusal) => {
+            drop(domain);
+            Err(refusal)
+        }
+    }
+}
+
+/// One session under a lock round domain 0 with these bounds and one worker, as `session_under`.
 pub(crate) fn in_shared<C: Ledger, F: Ledger, S: Ledger, G: Ledger, R: Wait>(
     rt: &R,
     alloc: Global,
@@ -187,20 +255,8 @@ pub(crate) fn in_shared<C: Ledger, F: Ledger, S: Ledger, G: Ledger, R: Wait>(
     requires sum_lo { (sum_lo.name ≡ S.name) × (sum_lo.parts ≡ S.parts) × (sum_lo.parts ≡ 1) }
     requires good { (good.name ≡ G.name) × (good.parts ≡ G.parts) × (good.parts ≡ TALLY_PARTS) }
 {
-    let (shared, mut seats) = Shared::<&R, C, F, S, G>::new(
+    let (shared, seats) = Shared::<&R, C, F, S, G>::new(
         rt, alloc, 0, bounds, 1, count, frames, sum_lo, good,
     )?;
-    let Some(seat) = seats.pop() else {
-        return Err(Refusal::NoWorker);
-    };
-    let lent = &shared;
-    let (seen, post) = session_of(alloc, lent, Post::new(alloc, seat), input, script)?;
-    let Post { seat, waiting: _ } = post;
-    seats.push(seat).or(Err(Refusal::NoMemory))?;
-    // the seat's shares are the totals under the lock
-    match shared.gather(seats) {
-        Ok(totals) if (totals.count, totals.frames, totals.sum_lo) == seen.left_shares => {}
-        _ => return Err(Refusal::NotHeld),
-    }
-    Ok((seen, shared.into_domain()))
+    session_under(alloc, shared, seats, input, script)
 }

@@ -3,8 +3,7 @@ ghost use Rattle.std.specs.Prelude.{◌≡◌, ◌*◌};
 ghost use Rattle.iova_range.specs.declared.limits.TheConstants.{TALLY_PARTS};
 
 use crate::end::End;
-use crate::fresh::{Script, Seen, session_of};
-use crate::post::Post;
+use crate::fresh::{Script, Seen, session_under};
 use iova_core::domain::Domain;
 use iova_lock::ending::Ending;
 use iova_lock::shared::Shared;
@@ -27,8 +26,7 @@ enum Kind {
 
 const KINDS: [Kind; 3] = [Kind::Plain, Kind::Strict, Kind::Recorded];
 
-/// One session under a lock round a domain of this kind. Then the seat is gathered: refused by `NotHeld` where its shares aren't
-/// the totals.
+/// One session under a lock round a domain of this kind, as `session_under`.
 fn on_kind<C: Ledger, F: Ledger, S: Ledger, G: Ledger, R: Wait>(
     rt: &R,
     alloc: Global,
@@ -46,7 +44,7 @@ fn on_kind<C: Ledger, F: Ledger, S: Ledger, G: Ledger, R: Wait>(
     requires sum_lo { (sum_lo.name ≡ S.name) × (sum_lo.parts ≡ S.parts) × (sum_lo.parts ≡ 1) }
     requires good { (good.name ≡ G.name) × (good.parts ≡ G.parts) × (good.parts ≡ TALLY_PARTS) }
 {
-    let (shared, mut seats) = if kind == Kind::Recorded {
+    let (shared, seats) = if kind == Kind::Recorded {
         Shared::<&R, C, F, S, G>::recorded(
             rt, alloc, 0, bounds, 1, 100, count, frames, sum_lo, good,
         )?
@@ -58,18 +56,7 @@ fn on_kind<C: Ledger, F: Ledger, S: Ledger, G: Ledger, R: Wait>(
     } else {
         shared
     };
-    let Some(seat) = seats.pop() else {
-        return Err(Refusal::NoWorker);
-    };
-    let lent = &shared;
-    let (seen, post) = session_of(alloc, lent, Post::new(alloc, seat), input, script)?;
-    let Post { seat, waiting: _ } = post;
-    seats.push(seat).or(Err(Refusal::NoMemory))?;
-    match shared.gather(seats) {
-        Ok(totals) if (totals.count, totals.frames, totals.sum_lo) == seen.left_shares => {}
-        _ => return Err(Refusal::NotHeld),
-    }
-    Ok((seen, shared.into_domain()))
+    session_under(alloc, shared, seats, input, script)
 }
 
 // The link fails at the k-th call: what was written, what the client came to, and where frame 9 is then.
@@ -106,6 +93,7 @@ fn a_link_that_fails_on_each_kind(rt: HostRuntime) -> Result<(), Fail> {
                 assert!(rt; seen.end.end == End::LinkFault);
                 assert!(rt; seen.end.client == client);
                 assert!(rt; domain.place(9) == Some(place));
+                drop(domain);
                 assert_eq!(rt; (seen.shares, seen.waiting), ((0, 0, 0), 0));
             }
         }
@@ -147,6 +135,7 @@ fn a_flush_that_fails_on_each_kind(rt: HostRuntime) -> Result<(), Fail> {
                 };
                 assert_eq!(rt; seen.sent.as_slice(), text);
                 assert!(rt; domain.place(9) == Some(Place::Magazine(0)));
+                drop(domain);
                 assert_eq!(rt; (seen.shares, seen.waiting), ((0, 0, 0), 0));
             }
         }

@@ -106,14 +106,36 @@ fn overlapping<
     let (shared, mut seats) = Shared::<&R, C, F, S, G>::new(
         rt, alloc, 0, bounds, 2, count, frames, sum_lo, good,
     )?;
-    let lent = &shared;
-    let Some(second) = seats.pop() else {
-        return Err(Fail::from("no seat"));
+    let done = match (seats.pop(), seats.pop()) {
+        (Some(second), Some(first)) => {
+            let post = Post::new(alloc, second);
+            flush_and_serve(rt, alloc, &shared, seats, first, post, bytes)
+        }
+        _ => Err(Fail::from("not two seats")),
     };
-    let Some(first) = seats.pop() else {
-        return Err(Fail::from("one seat"));
-    };
-    let post = Post::new(alloc, second);
+    let domain = shared.into_domain();
+    assert_eq!(rt; domain.clients(), 0);
+    drop(domain);
+    done
+}
+
+// A flush of the first seat, beside it a session at the post, and then the client that waits. The seats are gathered with
+// those of an empty list.
+fn flush_and_serve<
+    C: Ledger + Send + Sync,
+    F: Ledger + Send + Sync,
+    S: Ledger + Send + Sync,
+    G: Ledger + Send + Sync,
+    R: Threads + Wait + Sync + Abort,
+>(
+    rt: &R,
+    alloc: Global,
+    shared: &Shared<&R, C, F, S, G>,
+    mut seats: Vec<Seat<C, F, S, G>>,
+    first: Seat<C, F, S, G>,
+    post: Post<C, F, S, G>,
+    bytes: &[u8],
+) -> Result<(), Fail> {
     let inside = Flag::new();
     let open = Flag::new();
     let waits = &inside;
@@ -122,8 +144,8 @@ fn overlapping<
     books_are_send::<C, F, S, G>();
     let ((flushed, first), (end, numbers, post)) = thread::join(
         rt,
-        move || flush_at_the_gate(lent, first, waits, opens),
-        move || serve_beside(alloc, lent, post, bytes, opens),
+        move || flush_at_the_gate(shared, first, waits, opens),
+        move || serve_beside(alloc, shared, post, bytes, opens),
     );
     assert_eq!(rt; flushed, Ok(1));
     assert!(rt; end.end == End::Closed);
@@ -133,7 +155,7 @@ fn overlapping<
         (post.seat.count(), post.waiting.as_slice()),
         (1, [1].as_slice())
     );
-    let (left, post) = retry_all(lent, post);
+    let (left, post) = retry_all(shared, post);
     let Post { seat, waiting } = post;
     assert_eq!(rt; (left, waiting.len(), seat.count()), (0, 0, 0));
     seats.push(first)?;
@@ -142,7 +164,6 @@ fn overlapping<
         Ok(totals) => assert_eq!(rt; (totals.count, totals.frames, totals.sum_lo), (0, 0, 0)),
         Err(_) => assert!(rt; false),
     }
-    assert_eq!(rt; shared.into_domain().clients(), 0);
     Ok(())
 }
 

@@ -41,6 +41,7 @@ fn sessions_are_answered(rt: HostRuntime) -> Result<(), Fail> {
             );
             assert_eq!(rt; (seen.shares, seen.waiting, seen.left), ((0, 0, 0), 0, 0));
             assert_eq!(rt; domain.clients(), 0);
+            drop(domain);
             let booked = in_book::<Brand, Brand, Brand, Brand>(
                 rt.alloc(),
                 Bounds::new(1, 1023)?,

@@ -2,8 +2,8 @@
 ghost use Rattle.std.specs.Prelude.{◌≡◌, ◌*◌, ◌≤◌};
 ghost use Rattle.iova_range.specs.declared.limits.TheConstants.{MAX_PAIRS, TALLY_PARTS};
 
-use crate::fresh::{Script, session_of};
-use crate::post::Post;
+use crate::fresh::{Script, session_gathered};
+use iova_lock::seat::Seat;
 use iova_lock::shared::Shared;
 use iova_range::bounds::Bounds;
 use iova_range::profile::Profile;
@@ -54,14 +54,21 @@ fn under_a_recorded_lock<C: Ledger, F: Ledger, S: Ledger, G: Ledger, R: Wait>(
     requires sum_lo { (sum_lo.name ≡ S.name) × (sum_lo.parts ≡ S.parts) × (sum_lo.parts ≡ 1) }
     requires good { (good.name ≡ G.name) × (good.parts ≡ G.parts) × (good.parts ≡ TALLY_PARTS) }
 {
-    let (shared, mut seats) = Shared::<&R, C, F, S, G>::recorded(
+    let (shared, seats) = Shared::<&R, C, F, S, G>::recorded(
         rt, alloc, 0, bounds, 1, pairs, count, frames, sum_lo, good,
     )?;
-    let Some(seat) = seats.pop() else {
-        return Err(Refusal::NoWorker);
-    };
-    let post = Post::new(alloc, seat);
-    let (seen, _post) = session_of(alloc, &shared, post, INPUT.as_bytes(), script)?;
+    let recorded = recorded_by(alloc, &shared, seats, script);
+    drop(shared);
+    recorded
+}
+
+fn recorded_by<C: Ledger, F: Ledger, S: Ledger, G: Ledger, R: Wait>(
+    alloc: Global,
+    shared: &Shared<&R, C, F, S, G>,
+    seats: Vec<Seat<C, F, S, G>>,
+    script: Script,
+) -> Result<Recorded, Refusal> {
+    let seen = session_gathered(alloc, shared, seats, INPUT.as_bytes(), script)?;
     let mut transcript = Vec::new(alloc);
     let steps = shared.transcript(&mut transcript)?;
     Ok(Recorded {

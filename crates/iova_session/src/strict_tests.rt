@@ -3,8 +3,7 @@ ghost use Rattle.std.specs.Prelude.{◌≡◌, ◌*◌};
 ghost use Rattle.iova_range.specs.declared.limits.TheConstants.{TALLY_PARTS};
 
 use crate::end::End;
-use crate::fresh::{Script, Seen, one_session, session_of};
-use crate::post::Post;
+use crate::fresh::{Script, Seen, session_at, session_under};
 use iova_lock::book::Book;
 use iova_lock::shared::Shared;
 use iova_range::bounds::Bounds;
@@ -35,15 +34,11 @@ fn in_strict_book<C: Ledger, F: Ledger, S: Ledger, G: Ledger>(
     requires sum_lo { (sum_lo.name ≡ S.name) × (sum_lo.parts ≡ S.parts) × (sum_lo.parts ≡ 1) }
     requires good { (good.name ≡ G.name) × (good.parts ≡ G.parts) × (good.parts ≡ TALLY_PARTS) }
 {
-    let (book, mut seats) = Book::<C, F, S, G>::new(
-        alloc, 0, bounds, 1, count, frames, sum_lo, good,
-    )?;
+    let (book, seats) = Book::<C, F, S, G>::new(alloc, 0, bounds, 1, count, frames, sum_lo, good)?;
     let mut book = book.strict();
-    let Some(seat) = seats.pop() else {
-        return Err(Refusal::NoWorker);
-    };
-    let mut post = Post::new(alloc, seat);
-    one_session(alloc, &mut book, &mut post, INPUT.as_bytes(), script)
+    let seen = session_at(alloc, &mut book, seats, INPUT.as_bytes(), script);
+    drop(book);
+    seen
 }
 
 fn under_a_strict_lock<C: Ledger, F: Ledger, S: Ledger, G: Ledger, R: Wait>(
@@ -61,15 +56,11 @@ fn under_a_strict_lock<C: Ledger, F: Ledger, S: Ledger, G: Ledger, R: Wait>(
     requires sum_lo { (sum_lo.name ≡ S.name) × (sum_lo.parts ≡ S.parts) × (sum_lo.parts ≡ 1) }
     requires good { (good.name ≡ G.name) × (good.parts ≡ G.parts) × (good.parts ≡ TALLY_PARTS) }
 {
-    let (shared, mut seats) = Shared::<&R, C, F, S, G>::new(
+    let (shared, seats) = Shared::<&R, C, F, S, G>::new(
         rt, alloc, 0, bounds, 1, count, frames, sum_lo, good,
     )?;
-    let shared = shared.strict();
-    let Some(seat) = seats.pop() else {
-        return Err(Refusal::NoWorker);
-    };
-    let post = Post::new(alloc, seat);
-    let (seen, _post) = session_of(alloc, &shared, post, INPUT.as_bytes(), script)?;
+    let (seen, domain) = session_under(alloc, shared.strict(), seats, INPUT.as_bytes(), script)?;
+    drop(domain);
     Ok(seen)
 }
 
