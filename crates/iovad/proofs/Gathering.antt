@@ -1,5 +1,5 @@
 -- Seats that were served on are gathered: they are those of all workers.
-use Rattle.std.proofs.Common.{ℕ, zero, suc, ◌≡◌, ◌∙◌, ◌+◌, ◌<◌, ◌≤◌, ◌==◌, ◌&&◌, ◌||◌, Bool, true, false, List, [], ◌∷◌, ◌++◌, map, length, Some, arith, refl, sym, ap, ap₂, subst}
+use Rattle.std.proofs.Common.{ℕ, zero, suc, ◌≡◌, ◌∙◌, ◌+◌, ◌<◌, ◌≤◌, ◌==◌, ◌&&◌, ◌||◌, true, false, List, [], ◌∷◌, ◌++◌, map, length, Some, arith, refl, sym, ap, ap₂, subst}
 use Rattle.std.proofs.Common.{Result, Ok, Err, inl}
 use Rattle.std.specs.Prelude.{unwrap_or, ◌⊎◌, ◌↔◌}
 use Rattle.std.specs.List.{AllByRecursion, list_any, slice_get}

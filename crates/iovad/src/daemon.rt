@@ -1,5 +1,5 @@
 //! A daemon: the sessions of a plan, served on a socket, and the report of what they leave.
-ghost use Rattle.std.specs.Prelude.{◌≡◌, ◌<◌, ◌≤◌, ◌*◌, ◌↔◌, Err, IfOk, map, vec_len};
+ghost use Rattle.std.specs.Prelude.{◌≡◌, ◌<◌, ◌≤◌, ◌+◌, ◌*◌, ◌↔◌, Err, IfOk, map, vec_len};
 ghost use Rattle.iova_range.specs.declared.limits.TheConstants.{TALLY_PARTS};
 ghost use Rattle.iova_lock.specs.Views.{new_seats};
 ghost use Rattle.iovad.specs.Plans.{IsAboveProfile, IsBoundsOf};
@@ -61,19 +61,16 @@ where
     ensures order { plan.now.last < plan.now.start → result ≡ Err Fault.StartAboveLast }
     ensures profile { plan.now.start ≤ plan.now.last → IsAboveProfile plan.now → result ≡ Err Fault.LastAboveProfile }
 {
-    let alloc = rt.alloc();
     let bounds = bounds_of(plan)?;
     let (shared, seats) = new_domain::<R, C, F, S, G>(
         rt, plan, bounds, count, frames, sum_lo, good,
     )?;
-    let posts = posts_of(alloc, seats)?;
-    let sinks = open_sinks(rt, alloc, plan.sink, posts.len() + 1)?;
-    // the system would take an empty path for a socket without a name
-    if plan.socket.is_empty() {
-        return Err(Fault::SocketFault);
-    }
-    let Ok(listener) = UnixListener::bind(rt, plan.socket) else {
-        return Err(Fault::SocketFault);
+    let (posts, sinks, listener) = match open_all(rt, plan, seats) {
+        Ok(opened) => opened,
+        Err(fault) => {
+            drop(shared);
+            return Err(fault);
+        }
     };
     let accept = SocketAccept::new(rt, rt, listener);
     let served = serve_on::<
@@ -90,7 +87,7 @@ where
         Ticks<'_, R>,
     >(
         rt,
-        alloc,
+        rt.alloc(),
         rt,
         shared,
         posts,
@@ -102,24 +99,81 @@ where
     // where it can't be removed, what is left of it keeps nobody from the report
     let _ = fs::remove_file(rt, plan.socket);
     match served {
-        Ok(Served { shared, posts }) => {
-            let seats = seats_of(rt, alloc, plan.sink, &shared, posts)?;
-            let Ok(_totals) = shared.gather(seats) else {
-                unreachable!();
-            };
-            if let Some(path) = plan.record {
-                write_record(rt, path, &shared)?;
-            }
-            print_domain(
-                alloc,
-                plan.domain,
-                &shared.into_domain(),
-                &mut io::writer(rt),
-            )
-        }
+        Ok(Served { shared, posts }) => finish(rt, plan, shared, posts),
         Err(Refusal::NoMemory) => Err(Fault::NoMemory),
         Err(_) => Err(Fault::SocketFault),
     }
+}
+
+/// A post at each seat, a sink for each post and one more, and the socket. Refused by `NoMemory`, `CannotOpenSink` and
+/// `SocketFault`, in this order.
+fn open_all<R, C, F, S, G>(
+    rt: &R,
+    plan: &Plan<'_>,
+    seats: Vec<Seat<C, F, S, G>>,
+) -> Result<
+    (
+        Vec<Post<C, F, S, G>>,
+        Vec<RecordSink<FileDevice>>,
+        UnixListener,
+    ),
+    Fault<'static>,
+>
+where
+    R: AllocGlobal + Net + Files<File = File>,
+    C: Ledger,
+    F: Ledger,
+    S: Ledger,
+    G: Ledger,
+    ensures posts { IfOk result (λ r. map (λ p. p.seat) r.0.items ≡ seats.items) }
+    ensures sinks { IfOk result (λ r. vec_len r.1 ≡ vec_len r.0 + 1) }
+{
+    let posts = posts_of(rt.alloc(), seats)?;
+    let sinks = open_sinks(rt, rt.alloc(), plan.sink, posts.len() + 1)?;
+    // the system would take an empty path for a socket without a name
+    if plan.socket.is_empty() {
+        return Err(Fault::SocketFault);
+    }
+    match UnixListener::bind(rt, plan.socket) {
+        Ok(listener) => Ok((posts, sinks, listener)),
+        Err(_) => Err(Fault::SocketFault),
+    }
+}
+
+/// Gathers what was served on, writes the record where one is wanted, and prints the domain. The posts are those of all workers.
+fn finish<R, C, F, S, G>(
+    rt: &R,
+    plan: &Plan<'_>,
+    shared: Shared<&R, C, F, S, G>,
+    posts: Vec<Post<C, F, S, G>>,
+) -> Result<(), Fault<'static>>
+where
+    R: Runtime + AllocGlobal + Wait + Files<File = File>,
+    C: Ledger,
+    F: Ledger,
+    S: Ledger,
+    G: Ledger,
+    requires posts { map (λ p. p.seat.worker) posts.items ≡ map (λ s. s.worker) (new_seats shared.workers) }
+{
+    let recorded = match seats_of(rt, rt.alloc(), plan.sink, &shared, posts) {
+        Ok(seats) => {
+            let Ok(_totals) = shared.gather(seats) else {
+                unreachable!();
+            };
+            match plan.record {
+                Some(path) => write_record(rt, path, &shared),
+                None => Ok(()),
+            }
+        }
+        Err(fault) => Err(fault),
+    };
+    let domain = shared.into_domain();
+    let printed = match recorded {
+        Ok(()) => print_domain(rt.alloc(), plan.domain, &domain, &mut io::writer(rt)),
+        Err(fault) => Err(fault),
+    };
+    drop(domain);
+    printed
 }
 
 /// The bounds of the plan's domain: in the second profile where the plan has a depot, else in the first. Refused by
