@@ -7,7 +7,10 @@ use crate::tests::LineByLine;
 use iova_lock::ending::{Ending, Why};
 use iova_model::place::Place;
 use iova_range::bounds::Bounds;
+use std::alloc::Global;
 use std::marker::Brand;
+use std::process::Abort;
+use std::sync::Wait;
 use std::sync::ledger::Blank;
 use std::test::*;
 
@@ -59,48 +62,69 @@ fn queued(client: Option<Ending>) -> Option<u64> {
     }
 }
 
-// Whatever call of the link fails: what was written is a front of the answers, the client is ended, nothing is the
-// peer's any more, and the seat's shares are the totals (the seat is gathered each time).
+// A session whose link fails at its call of this number: whether it came to that, and whether a client was opened. What was
+// written is a front of the answers, or all of them; the client is ended, nothing is the peer's any more, and the seat's shares
+// are the totals (the seat is gathered each time).
+fn ends_well<R: Abort + Wait>(
+    rt: &R,
+    alloc: Global,
+    input: &[u8],
+    text: &[u8],
+    most: usize,
+    fail_at: u64,
+) -> Result<(bool, bool), Fail> {
+    let script = Script {
+        most,
+        fail_at,
+        sink_fail_at: 0,
+    };
+    let (seen, domain) = in_shared::<Brand, Brand, Brand, Brand, _>(
+        rt,
+        alloc,
+        Bounds::new(1, 1023)?,
+        Blank::new(1),
+        Blank::new(1),
+        Blank::new(1),
+        Blank::new(256),
+        input,
+        script,
+    )?;
+    drop(domain);
+    let failed = seen.end.end == End::LinkFault;
+    let opened = seen.end.client.is_some();
+    assert!(rt; text.starts_with(seen.sent.as_slice()));
+    assert!(rt; failed || seen.sent.len() == text.len());
+    assert!(rt; opened || seen.sent.is_empty());
+    assert_eq!(rt; (seen.shares, seen.waiting), ((0, 0, 0), 0));
+    assert_eq!(rt; seen.stat.client, 0);
+    assert_eq!(rt; queued(seen.end.client).is_some(), opened);
+    if input == CUT {
+        assert_eq!(rt; queued(seen.end.client).unwrap_or(0), seen.stat.ring);
+    }
+    Ok((failed, opened))
+}
+
+// Once a client is opened it is, and then it is told of.
 #[test]
 fn a_link_that_fails_at_each_call(rt: HostRuntime) -> Result<(), Fail> {
     for session in [SESSIONS[4], SESSIONS[11], SESSIONS[7]] {
-        let (input, text) = (session.input, session.answers);
         for most in [1, 7, 128] {
             let mut is_whole = false;
             let mut is_opened = false;
             for fail_at in 1..600 {
-                let script = Script {
-                    most,
-                    fail_at,
-                    sink_fail_at: 0,
-                };
-                let (seen, domain) = in_shared::<Brand, Brand, Brand, Brand, _>(
+                let (failed, opened) = ends_well(
                     &rt,
                     rt.alloc(),
-                    Bounds::new(1, 1023)?,
-                    Blank::new(1),
-                    Blank::new(1),
-                    Blank::new(1),
-                    Blank::new(256),
-                    input,
-                    script,
+                    session.input,
+                    session.answers,
+                    most,
+                    fail_at,
                 )?;
-                drop(domain);
-                assert!(rt; text.starts_with(seen.sent.as_slice()));
-                assert_eq!(rt; (seen.shares, seen.waiting), ((0, 0, 0), 0));
-                assert_eq!(rt; seen.stat.client, 0);
-                if seen.end.end != End::LinkFault {
-                    assert_eq!(rt; seen.sent.as_slice(), text);
+                assert!(rt; opened || !is_opened);
+                is_opened = opened;
+                if !failed {
                     is_whole = true;
                     break;
-                }
-                assert!(rt; seen.sent.is_empty() || seen.end.client.is_some());
-                // once a client is opened it is, and then it is told of
-                assert!(rt; !is_opened || seen.end.client.is_some());
-                is_opened = seen.end.client.is_some();
-                assert_eq!(rt; queued(seen.end.client).is_some(), is_opened);
-                if input == CUT {
-                    assert_eq!(rt; queued(seen.end.client).unwrap_or(0), seen.stat.ring);
                 }
             }
             assert!(rt; is_whole && is_opened);

@@ -1,4 +1,4 @@
-use Rattle.iova_session.proofs.fault_tests.a_link_that_fails_at_each_call.Given as goal
+use Rattle.iova_session.proofs.fault_tests.ends_well.Given as goal
 
 abbrev pub ghosts-in_shared-C-Ledger : goal.ghosts-in_shared-C-Ledger
 ghosts-in_shared-C-Ledger g a = record { name = a.count.name; parts = a.count.parts }
