@@ -3,19 +3,14 @@
 #![tactic(auto)]
 
 mod ledger;
-mod lines;
-mod lock;
 mod machine;
 mod random;
-mod session;
 mod tree;
 
 use std::alloc::Global;
 use std::env;
 use std::process::ExitCode;
 use std::rt::Runtime;
-use std::sync::Wait;
-use std::thread::Threads;
 
 fn main(rt: HostRuntime) -> ExitCode {
     match words(&rt) {
@@ -31,25 +26,12 @@ fn words(rt: &HostRuntime) -> anyhow::Result<Vec<String>> {
     Ok(env::args(rt)?.collect(rt.alloc())?)
 }
 
-fn run<R: Runtime + Threads + Wait + Sync>(
-    rt: &R,
-    alloc: Global,
-    words: &[String],
-) -> anyhow::Result<()> {
+fn run<R: Runtime>(rt: &R, alloc: Global, words: &[String]) -> anyhow::Result<()> {
     if words.len() <= 1 {
-        for case in lines::CASES {
-            println!(rt; "{case}")?;
-        }
         for case in machine::CASES {
             println!(rt; "{case}")?;
         }
         for case in ledger::CASES {
-            println!(rt; "{case}")?;
-        }
-        for case in lock::CASES {
-            println!(rt; "{case}")?;
-        }
-        for case in session::CASES {
             println!(rt; "{case}")?;
         }
         for case in tree::CASES {
@@ -57,11 +39,8 @@ fn run<R: Runtime + Threads + Wait + Sync>(
         }
     }
     for word in words.iter().skip(1) {
-        lines::run(rt, alloc, word.as_str())?;
         machine::run(rt, alloc, word.as_str())?;
         ledger::run(rt, alloc, word.as_str())?;
-        lock::run(rt, alloc, word.as_str())?;
-        session::run(rt, alloc, word.as_str())?;
         tree::run(rt, alloc, word.as_str())?;
     }
     Ok(())

@@ -8,15 +8,13 @@ use crate::ledger::Ledger;
 use crate::ledgers::Ledgers;
 use crate::marks::Marks;
 use crate::sums::Sums;
+use iova_model::step::ClientId;
 use iova_model::totals::Totals;
 use iova_range::limits::{MAX_CLIENTS, MAX_FRAMES, MAX_SERIAL, MAX_WORKERS};
 use iova_range::range::Range;
 use iova_range::refusal::Refusal;
 use std::alloc::Global;
 use std::marker::Model;
-
-/// The serial of a client, 1 to 2^63 - 1. None is given twice.
-pub type ClientId = u64;
 
 /// The clients of a domain, each with its holdings, and the totals over them. It is all our own.
 ///

@@ -11,4 +11,5 @@ mod sums;
 #[cfg(test)]
 mod tests;
 
-pub use crate::clients::{ClientId, Clients};
+pub use crate::clients::Clients;
+pub use iova_model::step::ClientId;

@@ -9,7 +9,7 @@ use std::alloc::{AllocError, Global};
 
 /// The program's version, and the kit that it is written for.
 const VERSION: &str = "0.1.0
-rattle-kit-13b logic dac8208d650f15bf";
+rattle-kit-13f logic dac8208d650f15bf";
 
 /// The ways to call the program, which stand in its help and after words that aren't understood.
 const USAGE: &str = "iovad < FILE

@@ -4,7 +4,5 @@
 pub mod asked;
 mod command;
 pub mod plan;
-#[cfg(test)]
-mod tests;
 pub mod usage;
 pub mod words;

@@ -14,3 +14,4 @@ mod Ties
 mod Tries
 mod Walks
 mod Windows
+mod Sends

@@ -1,10 +1,9 @@
--- What lets a worker go to its thread.
+-- What lets threads share what they are lent.
 use denote.RattleType.{RattleType}
-use denote.Param.Send.{IsSend, sendable}
+use denote.Param.Send.{IsSend, IsSync, sendable}
 use Rattle.std.proofs.Crossing.{crosses}
-use Rattle.iova_daemon.specs.contracts.worker.Worker as workers
+use Rattle.iova_daemon.specs.contracts.worker.Lent as lents
 
--- a worker may go where all that it has may
-pub Worker-send : (R N K P D A T : RattleType) → IsSend R → IsSend N → IsSend K → IsSend P → IsSend D → IsSend A → IsSend T
-    → IsSend (workers.the_row R N K P D A T)
-Worker-send R N K P D A T r n k p d a t = search (crosses, sendable) depth 20
+-- it may be shared where all that it has may
+pub Lent-sync : (R N K A T : RattleType) → IsSync R → IsSync N → IsSync K → IsSync A → IsSync T → IsSync (lents.the_row R N K A T)
+Lent-sync R N K A T r n k a t = search (crosses, sendable) depth 20

@@ -1,44 +1,59 @@
 //! The flusher: rounds beside the workers.
 use crate::pause::Pause;
+use crate::threads::Beside;
 use crate::turns::Turns;
-use iova_lock::calls::timeout;
-use iova_lock::seat::Tally;
-use iova_lock::shared::Shared;
+use iova_keep::calls::timeout;
+use iova_keep::keep::Keep;
+use iova_keep::seat::Tally;
+use iova_range::refusal::Refusal;
+use iova_session::post::Post;
 use iova_sink::sink::Sink;
 use log::{Log, warn};
 use std::sync::Wait;
 use std::sync::ledger::Ledger;
 
-/// Makes a round after each pause, until a pause says stop or all workers have ended. A round that is refused is a notice.
-pub(crate) fn flush_on<R, Q, N, C, F, S, G, D, P>(
-    rt: &R,
-    notices: &N,
-    shared: &Shared<Q, C, F, S, G>,
-    tally: &mut Tally<G>,
-    sink: &mut D,
-    pause: &mut P,
-    turns: &Turns,
-    workers: u64,
-)
+/// What the flusher has: a keeper of the domain, a tally and a sink of its own, and its pauses.
+#[derive(Drop)]
+pub(crate) struct Flusher<'e, R, N, K, G: Ledger, D, P> {
+    pub rt: &'e R,
+    pub notices: &'e N,
+    pub keeper: K,
+    pub tally: Tally<G>,
+    pub sink: D,
+    pub pause: P,
+    pub turns: &'e Turns,
+}
+
+impl<'e, R, N, C, F, S, G, K, D, P> Beside<Post<C, F, S, G>> for Flusher<'e, R, N, K, G, D, P>
 where
     R: Wait,
-    Q: Wait,
     N: Log,
     C: Ledger,
     F: Ledger,
     S: Ledger,
     G: Ledger,
+    K: Keep<C, F, S, G>,
     D: Sink,
     P: Pause,
 {
-    let mut keeper = shared;
-    for _ in rt.forever() {
-        if !pause.pause() || turns.have_ended(workers) {
-            return;
+    /// Makes a round after each pause, until a pause says stop or all workers have ended. A round that is refused is a notice.
+    fn go_on(&mut self, workers: u64) {
+        for _ in self.rt.forever() {
+            if !self.pause.pause() || self.turns.have_ended(workers) {
+                return;
+            }
+            note_round(
+                self.notices,
+                timeout(&mut self.keeper, &mut self.tally, &mut self.sink),
+            );
         }
-        if let Err(refusal) = timeout(&mut keeper, tally, sink) {
-            warn!(notices; "the flusher is refused: {refusal}");
-        }
+        unreachable!()
     }
-    unreachable!()
+}
+
+/// A round that is refused is a notice.
+fn note_round<N: Log>(notices: &N, round: Result<u64, Refusal>) {
+    if let Err(refusal) = round {
+        warn!(notices; "the flusher is refused: {refusal}");
+    }
 }

@@ -11,16 +11,17 @@ mod flusher;
 mod noting;
 pub mod pause;
 pub mod socket;
-#[cfg(test)]
-mod tests;
 mod threads;
 mod turns;
 mod worker;
 
 use crate::accept::Accept;
+use crate::crossing::{domains_are_sync, posts_are_send, turns_are_sync};
 use crate::pause::Pause;
-use flusher::flush_on;
-use iova_lock::seat::Tally;
+use crate::turns::Turns;
+use crate::worker::Lent;
+use flusher::Flusher;
+use iova_keep::keep::Keep;
 use iova_lock::shared::Shared;
 use iova_range::refusal::Refusal;
 use iova_session::link::Link;
@@ -30,10 +31,8 @@ use log::Log;
 use std::alloc::Global;
 use std::sync::Wait;
 use std::sync::ledger::Ledger;
-use std::thread;
-use std::thread::{Scope, Threads};
-use threads::{join_all, start_all};
-use turns::Turns;
+use std::thread::Threads;
+use threads::run_all;
 
 /// What serving leaves. Own.
 #[derive(Drop)]
@@ -85,41 +84,40 @@ where
     ensures shared { IfOk result (λ s. s.shared ≡ shared) }
     ensures refusal { IfErr result IsServeRefusal }
 {
-    serve_most::<R, Q, N, C, F, S, G, L, A, D, P>(
-        rt,
-        alloc,
-        notices,
-        shared,
-        posts,
-        sinks,
-        accept,
-        pause,
-        sessions,
-        usize::MAX,
-    )
+    // for the proof: that threads may share the domain
+    domains_are_sync::<Q, C, F, S, G>();
+    let served = serve_kept::<R, N, C, F, S, G, &Shared<Q, C, F, S, G>, L, A, D, P>(
+        rt, alloc, notices, &shared, posts, sinks, accept, pause, sessions,
+    );
+    match served {
+        Ok(posts) => Ok(Served { shared, posts }),
+        Err(refusal) => {
+            drop(shared);
+            Err(refusal)
+        }
+    }
 }
 
-/// As `serve_on`, with no more threads than `most`, which stands for the system's limit.
-fn serve_most<R, Q, N, C, F, S, G, L, A, D, P>(
+/// The same on a domain that is kept elsewhere: gives the posts back.
+fn serve_kept<R, N, C, F, S, G, K, L, A, D, P>(
     rt: &R,
     alloc: Global,
     notices: &N,
-    shared: Shared<Q, C, F, S, G>,
+    keeper: K,
     posts: Vec<Post<C, F, S, G>>,
     sinks: Vec<D>,
     accept: &A,
     pause: P,
     sessions: u64,
-    most: usize,
-) -> Result<Served<Q, C, F, S, G>, Refusal>
+) -> Result<Vec<Post<C, F, S, G>>, Refusal>
 where
     R: Threads + Wait + Sync,
-    Q: Wait + Sync + Drop,
     N: Log + Sync,
     C: Ledger + Send + Sync,
     F: Ledger + Send + Sync,
     S: Ledger + Send + Sync,
     G: Ledger + Send + Sync,
+    K: Keep<C, F, S, G> + Copy + Sync + Drop,
     L: Link + Send + Drop,
     A: Accept<L> + Sync,
     D: Sink + Send + Drop,
@@ -127,143 +125,41 @@ where
     requires some { 1 ≤ vec_len posts }
     requires sinks { vec_len sinks ≡ vec_len posts + 1 }
     requires parts { ForSome (slice_get posts.items 0) (λ p. 2 ≤ p.seat.tally.parts) }
-    ensures posts { IfOk result (λ s. map (λ p. p.seat.worker) s.posts.items ≡ map (λ p. p.seat.worker) posts.items) }
-    ensures shared { IfOk result (λ s. s.shared ≡ shared) }
+    ensures posts { IfOk result (λ v. map (λ p. p.seat.worker) v.items ≡ map (λ p. p.seat.worker) posts.items) }
     ensures refusal { IfErr result IsServeRefusal }
 {
+    // for the proof: what a worker has may go to its thread
+    posts_are_send::<C, F, S, G>();
+    turns_are_sync();
     let mut posts = posts;
-    let tally = posts[0].seat.tally().split();
-    let turns = Turns::new(sessions);
-    let posts = run_scoped::<R, Q, N, C, F, S, G, L, A, D, P>(
-        rt, alloc, notices, &shared, posts, sinks, tally, accept, pause, &turns, most,
-    )?;
-    Ok(Served { shared, posts })
-}
-
-/// Opens the scope of the threads.
-fn run_scoped<'e, R, Q, N, C, F, S, G, L, A, D, P>(
-    rt: &'e R,
-    alloc: Global,
-    notices: &'e N,
-    shared: &'e Shared<Q, C, F, S, G>,
-    posts: Vec<Post<C, F, S, G>>,
-    sinks: Vec<D>,
-    tally: Tally<G>,
-    accept: &'e A,
-    pause: P,
-    turns: &'e Turns,
-    most: usize,
-) -> Result<Vec<Post<C, F, S, G>>, Refusal>
-where
-    R: Threads + Wait + Sync,
-    Q: Wait + Sync,
-    N: Log + Sync,
-    C: Ledger + Send + Sync,
-    F: Ledger + Send + Sync,
-    S: Ledger + Send + Sync,
-    G: Ledger + Send + Sync,
-    L: Link + Send + Drop,
-    A: Accept<L> + Sync,
-    D: Sink + Send + Drop,
-    P: Pause + Drop,
-    requires { vec_len sinks ≡ vec_len posts + 1 }
-    ensures posts { IfOk result (λ v. map (λ p. p.seat.worker) v.items ≡ map (λ p. p.seat.worker) posts.items) }
-    ensures refusal { IfErr result IsServeRefusal }
-{
-    thread::scope(
-        thread::scope_env(),
-        rt,
-        move |scope| -> Result<Vec<Post<C, F, S, G>>, Refusal>
-            requires { vec_len sinks ≡ vec_len posts + 1 }
-            ensures posts { IfOk result (λ v. map (λ p. p.seat.worker) v.items ≡ map (λ p. p.seat.worker) posts.items) }
-            ensures refusal { IfErr result IsServeRefusal }
-        {
-            run_all::<_, R, Q, N, C, F, S, G, L, A, D, P>(
-                scope, rt, alloc, notices, shared, posts, sinks, tally, accept, pause, turns, most,
-            )
-        },
-    )
-}
-
-/// Starts the workers, flushes beside them, and joins them.
-fn run_all<'s, E, R, Q, N, C, F, S, G, L, A, D, P>(
-    scope: &Scope<'s, E>,
-    rt: &'s R,
-    alloc: Global,
-    notices: &'s N,
-    shared: &'s Shared<Q, C, F, S, G>,
-    posts: Vec<Post<C, F, S, G>>,
-    sinks: Vec<D>,
-    tally: Tally<G>,
-    accept: &'s A,
-    pause: P,
-    turns: &'s Turns,
-    most: usize,
-) -> Result<Vec<Post<C, F, S, G>>, Refusal>
-where
-    E: 's,
-    R: Threads + Wait + Sync + 's,
-    Q: Wait + Sync + 's,
-    N: Log + Sync + 's,
-    C: Ledger + Send + Sync + 's,
-    F: Ledger + Send + Sync + 's,
-    S: Ledger + Send + Sync + 's,
-    G: Ledger + Send + Sync + 's,
-    L: Link + Send + Drop + 's,
-    A: Accept<L> + Sync + 's,
-    D: Sink + Send + Drop + 's,
-    P: Pause + Drop,
-    requires { vec_len sinks ≡ vec_len posts + 1 }
-    ensures posts { IfOk result (λ v. map (λ p. p.seat.worker) v.items ≡ map (λ p. p.seat.worker) posts.items) }
-    ensures refusal { IfErr result IsServeRefusal }
-{
     let mut sinks = sinks;
-    let mut tally = tally;
-    let mut pause = pause;
-    let workers = posts.len();
-    let Some(mut sink) = sinks.pop() else {
+    let Some(sink) = sinks.pop() else {
         unreachable!()
     };
-    // so joining needs no memory
-    let Ok(mut back) = Vec::with_capacity(alloc, workers) else {
-        return Err(Refusal::NoMemory);
+    let turns = Turns::new(sessions);
+    let mut flusher = Flusher {
+        rt,
+        notices,
+        keeper,
+        tally: posts[0].seat.tally().split(),
+        sink,
+        pause,
+        turns: &turns,
     };
-    let Ok(mut started) = Vec::with_capacity(alloc, workers) else {
-        return Err(Refusal::NoMemory);
-    };
-    // started workers wait for the gate until all are started
-    let mut gate = turns.gate.lock(rt);
-    let all = start_all::<E, R, Q, N, C, F, S, G, L, A, D>(
-        scope,
+    let lent = Lent {
         rt,
         alloc,
         notices,
-        shared,
-        posts,
-        sinks,
+        keeper,
         accept,
-        turns,
-        most,
-        &mut started,
-    );
-    *gate = all;
-    drop(gate);
-    if all {
-        flush_on(
-            rt,
-            notices,
-            shared,
-            &mut tally,
-            &mut sink,
-            &mut pause,
-            turns,
-            workers as u64,
-        );
-    }
-    join_all(rt, started, &mut back);
-    if all {
-        Ok(back)
-    } else {
-        Err(Refusal::LinkFault)
-    }
+        turns: &turns,
+    };
+    run_all::<
+        R,
+        Lent<&R, &N, K, &A, &Turns>,
+        Post<C, F, S, G>,
+        D,
+        L,
+        Flusher<'_, R, N, K, G, D, P>,
+    >(rt, alloc, &lent, posts, sinks, &turns, &mut flusher)
 }

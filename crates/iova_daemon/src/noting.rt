@@ -22,8 +22,13 @@ impl<'a, D: Sink, N: Log> Sink for NotingSink<'a, D, N> {
     fn invalidate(&mut self, domain: u64, no: u64) -> Result<(), SinkFault> {
         let told = self.sink.invalidate(domain, no);
         if told.is_err() {
-            warn!(self.notices; "flush {no}: the sink failed");
+            note(self.notices, "flush", no, "the sink failed");
         }
         told
     }
+}
+
+/// A notice of what happened to the flush or the session of this number.
+pub(crate) fn note<N: Log>(notices: &N, what: &str, number: u64, how: &str) {
+    warn!(notices; "{what} {number}: {how}");
 }

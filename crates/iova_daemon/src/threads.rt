@@ -1,87 +1,153 @@
-//! The workers' threads, started and joined.
-ghost use Rattle.std.specs.Prelude.{◌≡◌, ◌≤◌, [], map, vec_len, vec_capacity, true};
+//! The workers' threads, started and joined. What a worker does, and what is done beside them, stand behind bounds here.
+ghost use Rattle.std.specs.Prelude.{◌≡◌, ◌≤◌, ℕ, [], IfOk, IfErr, map, vec_len, vec_capacity, true};
+ghost use Rattle.iova_daemon.specs.Serving.{IsServeRefusal};
 
-use crate::accept::Accept;
-use crate::crossing::{domains_are_sync, posts_are_send, turns_are_sync};
 use crate::turns::Turns;
-use crate::worker::{Worker, work_on};
-use iova_lock::shared::Shared;
-use iova_session::link::Link;
-use iova_session::post::Post;
-use iova_sink::sink::Sink;
-use log::Log;
+use iova_range::refusal::Refusal;
 use std::alloc::Global;
 use std::sync::Wait;
-use std::sync::ledger::Ledger;
+use std::thread;
 use std::thread::{Promise, PromisedHandle, Scope, Threads};
 
-/// The promise of a thread that the post which it gives back is this worker's.
+/// A worker's place.
+pub(crate) trait Place {
+    /// Whose place it is.
+    ghost worker: { Self → ℕ };
+
+    /// The worker's number.
+    fn worker(&self) -> u64
+        ensures { result ≡ worker self.now };
+}
+
+/// What workers do, each in a thread of its own.
+pub(crate) trait Work<P: Place, D, L> {
+    /// Works at this place with this sink, and gives the place back.
+    fn work(&self, place: P, sink: D) -> P
+        ensures { P.worker result ≡ P.worker place };
+}
+
+/// What is done beside the workers, on the thread that started them.
+pub(crate) trait Beside<P> {
+    /// Does it until so many workers have ended, or before.
+    fn go_on(&mut self, workers: u64);
+}
+
+/// The promise of a thread that the place which it gives back is this worker's.
 #[derive(Clone, Copy)]
 pub(crate) struct WorkerIs(u64);
 
-impl<C: Ledger, F: Ledger, S: Ledger, G: Ledger> Promise<Post<C, F, S, G>> for WorkerIs {
-    ghost kept_by = { λ p r. r.seat.worker ≡ p.0 };
+impl<P: Place> Promise<P> for WorkerIs {
+    ghost kept_by = { λ p r. P.worker r ≡ p.0 };
 }
 
-/// Starts a worker for each post, and gives whether all were started. It stops at the first one that can't be, or once `most`
-/// were.
-pub(crate) fn start_all<'s, E, R, Q, N, C, F, S, G, L, A, D>(
-    scope: &Scope<'s, E>,
-    rt: &'s R,
+/// Starts a worker at each place, goes on beside them, and joins them. It gives the places back in their order. Refused by
+/// `NoMemory` before one is started, and by `LinkFault` where one can't be.
+pub(crate) fn run_all<R, W, P, D, L, B>(
+    rt: &R,
     alloc: Global,
-    notices: &'s N,
-    shared: &'s Shared<Q, C, F, S, G>,
-    posts: Vec<Post<C, F, S, G>>,
+    lent: &W,
+    places: Vec<P>,
     sinks: Vec<D>,
-    accept: &'s A,
-    turns: &'s Turns,
-    most: usize,
-    started: &mut Vec<PromisedHandle<Post<C, F, S, G>, WorkerIs>>,
+    turns: &Turns,
+    beside: &mut B,
+) -> Result<Vec<P>, Refusal>
+where
+    R: Threads + Wait,
+    W: Work<P, D, L> + Sync,
+    P: Place + Send + Drop,
+    D: Send + Drop,
+    B: Beside<P>,
+    requires { vec_len places ≤ vec_len sinks }
+    ensures places { IfOk result (λ v. map P.worker v.items ≡ map P.worker places.items) }
+    ensures refusal { IfErr result IsServeRefusal }
+{
+    thread::scope(
+        thread::scope_env(),
+        rt,
+        move |scope| -> Result<Vec<P>, Refusal>
+            requires { vec_len places ≤ vec_len sinks }
+            ensures places { IfOk result (λ v. map P.worker v.items ≡ map P.worker places.items) }
+            ensures refusal { IfErr result IsServeRefusal }
+        { run_in(scope, rt, alloc, lent, places, sinks, turns, beside) },
+    )
+}
+
+/// The same in this scope.
+fn run_in<'s, E, R, W, P, D, L, B>(
+    scope: &Scope<'s, E>,
+    rt: &R,
+    alloc: Global,
+    lent: &'s W,
+    places: Vec<P>,
+    sinks: Vec<D>,
+    turns: &Turns,
+    beside: &mut B,
+) -> Result<Vec<P>, Refusal>
+where
+    E: 's,
+    R: Threads + Wait,
+    W: Work<P, D, L> + Sync + 's,
+    P: Place + Send + Drop + 's,
+    D: Send + Drop + 's,
+    L: 's,
+    B: Beside<P>,
+    requires { vec_len places ≤ vec_len sinks }
+    ensures places { IfOk result (λ v. map P.worker v.items ≡ map P.worker places.items) }
+    ensures refusal { IfErr result IsServeRefusal }
+{
+    let workers = places.len();
+    // so joining needs no memory
+    let Ok(mut back) = Vec::with_capacity(alloc, workers) else {
+        return Err(Refusal::NoMemory);
+    };
+    let Ok(mut started) = Vec::with_capacity(alloc, workers) else {
+        return Err(Refusal::NoMemory);
+    };
+    // started workers wait for the gate until all are started
+    let mut gate = turns.gate.lock(rt);
+    let all = start_all::<E, W, P, D, L>(scope, lent, places, sinks, &mut started);
+    *gate = all;
+    drop(gate);
+    if all {
+        beside.go_on(workers as u64);
+    }
+    join_all(rt, started, &mut back);
+    if all {
+        Ok(back)
+    } else {
+        Err(Refusal::LinkFault)
+    }
+}
+
+/// Starts a worker at each place, and gives whether all were started. It stops at the first one that can't be.
+fn start_all<'s, E, W, P, D, L>(
+    scope: &Scope<'s, E>,
+    lent: &'s W,
+    places: Vec<P>,
+    sinks: Vec<D>,
+    started: &mut Vec<PromisedHandle<P, WorkerIs>>,
 ) -> bool
 where
     E: 's,
-    R: Threads + Wait + Sync + 's,
-    Q: Wait + Sync + 's,
-    N: Log + Sync + 's,
-    C: Ledger + Send + Sync + 's,
-    F: Ledger + Send + Sync + 's,
-    S: Ledger + Send + Sync + 's,
-    G: Ledger + Send + Sync + 's,
-    L: Link + Send + Drop + 's,
-    A: Accept<L> + Sync + 's,
-    D: Sink + Send + Drop + 's,
+    W: Work<P, D, L> + Sync + 's,
+    P: Place + Send + Drop + 's,
+    D: Send + Drop + 's,
+    L: 's,
     requires empty { started.old.items ≡ [] }
-    requires room { vec_len posts ≤ vec_capacity started.old }
-    requires sinks { vec_len posts ≤ vec_len sinks }
-    ensures fits { vec_len started.new ≤ vec_len posts }
-    ensures whole { result ≡ true → map (λ h. h.promise.0) started.new.items ≡ map (λ p. p.seat.worker) posts.items }
+    requires room { vec_len places ≤ vec_capacity started.old }
+    requires sinks { vec_len places ≤ vec_len sinks }
+    ensures fits { vec_len started.new ≤ vec_len places }
+    ensures whole { result ≡ true → map (λ h. h.promise.0) started.new.items ≡ map P.worker places.items }
 {
-    // for the proof: what a worker has may go to its thread
-    posts_are_send::<C, F, S, G>();
-    domains_are_sync::<Q, C, F, S, G>();
-    turns_are_sync();
     let mut sinks = sinks.into_iter();
-    for post in posts {
+    for place in places {
         let Some(sink) = sinks.next() else {
             unreachable!()
         };
-        if started.len() >= most {
-            return false;
-        }
-        let promise = WorkerIs(post.seat.worker());
-        let worker = Worker {
-            rt,
-            alloc,
-            notices,
-            shared,
-            post,
-            sink,
-            accept,
-            turns,
-        };
-        let work = move || -> Post<C, F, S, G>
-            ensures { result.seat.worker ≡ worker.entry.post.seat.worker }
-        { work_on::<R, Q, N, C, F, S, G, L, A, D>(worker) };
+        let promise = WorkerIs(place.worker());
+        let work = move || -> P
+            ensures { P.worker result ≡ P.worker place }
+        { lent.work(place, sink) };
         let Ok(handle) = scope.spawn_with(promise, work) else {
             return false;
         };
@@ -92,21 +158,15 @@ where
     true
 }
 
-/// Joins each thread, and puts its post after those that are there.
-pub(crate) fn join_all<R, C, F, S, G>(
+/// Joins each thread, and puts its place after those that are there.
+fn join_all<R: Threads, P: Place + Drop>(
     rt: &R,
-    started: Vec<PromisedHandle<Post<C, F, S, G>, WorkerIs>>,
-    back: &mut Vec<Post<C, F, S, G>>,
+    started: Vec<PromisedHandle<P, WorkerIs>>,
+    back: &mut Vec<P>,
 )
-where
-    R: Threads,
-    C: Ledger,
-    F: Ledger,
-    S: Ledger,
-    G: Ledger,
     requires empty { back.old.items ≡ [] }
     requires room { vec_len started ≤ vec_capacity back.old }
-    ensures { map (λ p. p.seat.worker) back.new.items ≡ map (λ h. h.promise.0) started.items }
+    ensures { map P.worker back.new.items ≡ map (λ h. h.promise.0) started.items }
 {
     for handle in started {
         let Ok(()) = back.push(handle.join(rt)) else {

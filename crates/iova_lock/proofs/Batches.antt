@@ -1,10 +1,10 @@
 -- What is told of the asks in front of the first free is told of all the asks.
 use Rattle.std.proofs.Common.{ℕ, Bool, true, false, List, [], ◌∷◌}
 use Rattle.iova_model.specs.declared.totals.Totals.{Totals}
-use Rattle.iova_lock.specs.declared.ask.Ask.{Ask}
-use Rattle.iova_lock.specs.declared.ask.Ask.TheVariants as ask
-use Rattle.iova_lock.specs.declared.ask.Told.{Told}
-use Rattle.iova_lock.specs.Batches.{ToldOfAsks, TellsAsks, MayStop, before_free, may_do}
+use Rattle.iova_keep.specs.declared.ask.Ask.{Ask}
+use Rattle.iova_keep.specs.declared.ask.Ask.TheVariants as ask
+use Rattle.iova_keep.specs.declared.ask.Told.{Told}
+use Rattle.iova_keep.specs.Batches.{ToldOfAsks, TellsAsks, MayStop, before_free, may_do}
 
 may_stop : (asks : List Ask) → MayStop (before_free asks) → MayStop asks
 may_stop [] h = h

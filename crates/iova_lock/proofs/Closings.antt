@@ -12,9 +12,9 @@ use Rattle.iova_model.specs.declared.totals.Totals.{Totals}
 use Rattle.iova_model.specs.Clients.{totals_of}
 use Rattle.iova_model.specs.State.{State}
 use Rattle.iova_model.specs.Laws.{add_totals, MovesTotals, IsReplyTo}
-use Rattle.iova_lock.specs.StepLogs.{Takes}
-use Rattle.iova_lock.specs.Views.{IsLowered, IsCloseHeard}
-use Rattle.iova_lock.specs.Events.{Event, Ran, Leads, Does, Unmapping, run, not_run, Closing, stops, queues}
+use Rattle.iova_keep.specs.Steps.{Takes}
+use Rattle.iova_keep.specs.Views.{IsLowered, IsCloseHeard}
+use Rattle.iova_keep.specs.Events.{Event, Ran, Leads, Does, Unmapping, run, not_run, Closing, stops, queues}
 
 -- Closings so far: ranges were queued, and whatever run of closings follows, they and it are one.
 pub record ClosesSoFar (st : Step) (held now : Totals) (s t : State) : Type 0 where
@@ -32,10 +32,6 @@ add_up held now left qs rs e f =
     let sum_lo : held.sum_lo ≡ left.sum_lo + sum_by (λ (r : Frames). r.lo) (qs ++ rs) =
     let a = ap (λ (t : Totals). t.sum_lo) e in let b = ap (λ (t : Totals). t.sum_lo) f in omega (arith, a, b, sum_by-append (λ (r : Frames). r.lo) qs rs) in
     λ i. record { count = count i; frames = frames i; sum_lo = sum_lo i }
-
-pub lowered_more : (held now left : Totals) (a : (ranges : List Frames) × IsLowered ranges held now) (b : (ranges : List Frames) × IsLowered ranges now left)
-    → (ranges : List Frames) × IsLowered ranges held left
-lowered_more held now left a b = (a.0 ++ b.0, add_up held now left a.0 b.0 a.1 b.1)
 
 pub none_more : (held : Totals) → IsLowered [] held held
 none_more held =

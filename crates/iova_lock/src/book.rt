@@ -1,27 +1,31 @@
 //! The value under the lock.
-ghost use Rattle.std.specs.Prelude.{◌≡◌, ◌≢◌, ◌+◌, ◌<◌, ◌≤◌, ◌*◌, ◌⊎◌, ◌↔◌, Err, IsErr, option_copied, option_map, true, false, if◌then◌else◌, Some, None, [], ◌∷◌, IfOk, IfSome, MatchResult, MatchOption, List, length};
+ghost use Rattle.iova_line.specs.Recorded.{HasRecorded};
+ghost use Rattle.iova_record.specs.Records.{WritesLog};
+ghost use Rattle.std.specs.Prelude.{OnErr, ◌≡◌, ◌≢◌, ◌+◌, ◌<◌, ◌≤◌, ◌*◌, ◌⊎◌, ◌↔◌, Err, IsErr, option_copied, option_map, true, false, if◌then◌else◌, Some, None, [], ◌∷◌, IfOk, IfSome, MatchResult, MatchOption, List, length};
 ghost use Rattle.iova_range.specs.declared.limits.TheConstants.{MAX_HOLDINGS};
 ghost use Rattle.iova_range.specs.Frames.{Frames};
 ghost use Rattle.iova_model.specs.Clients.{totals, client_of};
 ghost use Rattle.iova_model.specs.State.{State, new_domain};
 ghost use Rattle.iova_model.specs.Laws.{MovesTotals, IsReplyTo, ended_well, to_queue, worker_of};
-ghost use Rattle.iova_lock.specs.StepLogs.{Takes, StepLog, IsGivenWithin, IsDrainReply, IsRecorded, is_recording, new_log};
-ghost use Rattle.iova_lock.specs.Events.{Does, Unmapping, IsShort, Closing, Draining, rings_from};
-ghost use Rattle.iova_lock.specs.Views.{BookState, TallyState, SeatState, Covers, IsSame, by_seat, by_tally, new_book, new_seats, left_of, stat_of, nothing, IsLowered, IsCloseHeard, IsKept, IsBook};
+ghost use Rattle.iova_keep.specs.Steps.{Takes, IsGivenWithin, IsDrainReply};
+ghost use Rattle.iova_record.specs.StepLogs.{StepLog, IsRecorded, is_recording, new_log};
+ghost use Rattle.iova_keep.specs.Events.{Does, Unmapping, IsShort, Closing, Draining, rings_from};
+ghost use Rattle.iova_lock.specs.Books.{BookState, IsSame, by_seat, by_tally, new_book, IsBook};
+ghost use Rattle.iova_keep.specs.Views.{TallyState, SeatState, Covers, new_seats, left_of, stat_of, nothing, IsLowered, IsCloseHeard, IsKept};
 
-use crate::machine::{Machine, Stored};
-use crate::seat::{Seat, Tally};
 use iova_core::domain::Domain;
 use iova_core::{Reply, Step};
+use iova_keep::ledgers::Ledgers;
+use iova_keep::seat::{Seat, Tally};
 use iova_model::totals::Totals;
 use iova_range::bounds::Bounds;
 use iova_range::limits::{MAX_ENTRIES, MAX_WORKERS, TALLY_PARTS};
 use iova_range::range::Range;
 use iova_range::refusal::Refusal;
 use iova_range::stat::Stat;
+use iova_record::machine::{Machine, Stored};
 use std::alloc::Global;
 use std::marker::Model;
-use std::sync::ledger;
 use std::sync::ledger::{Blank, Ledger, Share};
 
 /// A domain, with the ledgers of its totals and of its flushes that ended well.
@@ -30,16 +34,13 @@ pub struct Book<C: Ledger, F: Ledger, S: Ledger, G: Ledger> {
     number: u64,
     strict: bool,
     machine: Machine,
-    count: ledger::Book<C>,
-    frames: ledger::Book<F>,
-    sum_lo: ledger::Book<S>,
-    good: ledger::Book<G>,
+    ledgers: Ledgers<C, F, S, G>,
 }
 
 impl<C: Ledger, F: Ledger, S: Ledger, G: Ledger> Model for Book<C, F, S, G> {
     ghost use Rattle.std.specs.Prelude.{◌≡◌};
     ghost use Rattle.iova_model.specs.Clients.{totals};
-    ghost use Rattle.iova_lock.specs.Views.{BookState};
+    ghost use Rattle.iova_lock.specs.Books.{BookState};
 
     ghost Value = { BookState };
 
@@ -48,14 +49,12 @@ impl<C: Ledger, F: Ledger, S: Ledger, G: Ledger> Model for Book<C, F, S, G> {
       strict = b.strict;
       state = b.machine.state;
       log = b.machine.log;
-      shares = record { count = b.count.total; frames = b.frames.total; sum_lo = b.sum_lo.total };
-      ended = b.good.total;
+      shares = b.ledgers.shares;
+      ended = b.ledgers.ended;
     } };
 
-    ghost invariant = { λ b. (b.count.total ≡ (totals b.machine.state.clients).count)
-        × (b.frames.total ≡ (totals b.machine.state.clients).frames)
-        × (b.sum_lo.total ≡ (totals b.machine.state.clients).sum_lo)
-        × (b.good.total ≡ b.machine.state.flushes.good) × (b.machine.state.workers ≡ C.parts) };
+    ghost invariant = { λ b. (b.ledgers.shares ≡ totals b.machine.state.clients)
+        × (b.ledgers.ended ≡ b.machine.state.flushes.good) × (b.machine.state.workers ≡ C.parts) };
 }
 
 impl<C: Ledger, F: Ledger, S: Ledger, G: Ledger> Book<C, F, S, G> {
@@ -83,18 +82,13 @@ impl<C: Ledger, F: Ledger, S: Ledger, G: Ledger> Book<C, F, S, G> {
         ensures memory { IsErr result → (result ≡ Err Refusal.NoWorker) ⊎ (result ≡ Err Refusal.NoMemory) }
     {
         let machine = Machine::new(alloc, bounds, workers)?;
-        let (seats, count, frames, sum_lo, good) = seats(
-            alloc, workers, count, frames, sum_lo, good,
-        )?;
+        let (ledgers, seats) = Ledgers::open(alloc, workers, count, frames, sum_lo, good)?;
         Ok((
             Book {
                 number,
                 strict: false,
                 machine,
-                count,
-                frames,
-                sum_lo,
-                good,
+                ledgers,
             },
             seats,
         ))
@@ -127,18 +121,13 @@ impl<C: Ledger, F: Ledger, S: Ledger, G: Ledger> Book<C, F, S, G> {
         ensures memory { IsErr result → (result ≡ Err Refusal.NoWorker) ⊎ (result ≡ Err Refusal.NoMemory) }
     {
         let machine = Machine::recorded(alloc, bounds, workers, pairs)?;
-        let (seats, count, frames, sum_lo, good) = seats(
-            alloc, workers, count, frames, sum_lo, good,
-        )?;
+        let (ledgers, seats) = Ledgers::open(alloc, workers, count, frames, sum_lo, good)?;
         Ok((
             Book {
                 number,
                 strict: false,
                 machine,
-                count,
-                frames,
-                sum_lo,
-                good,
+                ledgers,
             },
             seats,
         ))
@@ -179,11 +168,15 @@ impl<C: Ledger, F: Ledger, S: Ledger, G: Ledger> Book<C, F, S, G> {
         self.machine.pairs()
     }
 
-    /// The domain, with what is recorded of it.
-    pub(crate) fn machine_of(&self) -> &Machine
-        ensures { (result.now.state ≡ self.now.state) × (result.now.log ≡ self.now.log) }
+    /// Appends what was recorded, as a trace: the header's line and a line for each step; of a domain that isn't recorded the
+    /// header alone. Gives the number of steps. What is recorded is a transcript from the new domain, so the promises hold of
+    /// it; and of at most 1,000,000 steps it is a trace. Refused by `NoMemory`, which appends nothing.
+    pub fn transcript(&self, out: &mut Vec<u8>) -> Result<u64, Refusal>
+        ensures recorded { IfOk result (HasRecorded self.now.state.workers out.old.items out.new.items) }
+        ensures ok { WritesLog self.now.state self.now.log out.old.items out.new.items result }
+        ensures err { OnErr result ((result ≡ Err Refusal.NoMemory) × (out.new.items ≡ out.old.items)) }
     {
-        &self.machine
+        self.machine.transcript(out)
     }
 
     pub(crate) fn number_of(&self) -> u64
@@ -259,10 +252,7 @@ impl<C: Ledger, F: Ledger, S: Ledger, G: Ledger> Book<C, F, S, G> {
             number: _,
             strict: _,
             machine,
-            count: _,
-            frames: _,
-            sum_lo: _,
-            good: _,
+            ledgers: _,
         } = self;
         machine.into_domain()
     }
@@ -282,9 +272,7 @@ impl<C: Ledger, F: Ledger, S: Ledger, G: Ledger> Book<C, F, S, G> {
         ensures sums { (result.count ≡ counted.old.amount) × (result.frames ≡ framed.old.amount)
             × (result.sum_lo ≡ summed.old.amount) }
     {
-        self.count.audit(counted);
-        self.frames.audit(framed);
-        self.sum_lo.audit(summed);
+        self.ledgers.audit(counted, framed, summed);
         self.machine.totals()
     }
 
@@ -404,27 +392,8 @@ impl<C: Ledger, F: Ledger, S: Ledger, G: Ledger> Book<C, F, S, G> {
     {
         let reply = self.machine.step(step);
         match reply {
-            Reply::Given(range) => {
-                self.count.add(&mut seat.counted, 1);
-                self.frames.add(&mut seat.framed, range.len());
-                self.sum_lo.add(&mut seat.summed, range.lo());
-                self.count.audit(&mut seat.counted);
-                self.frames.audit(&mut seat.framed);
-                self.sum_lo.audit(&mut seat.summed);
-                // for the proof: no total is too great for its number
-                let _ = self.machine.totals();
-                seat.held.count += 1;
-                seat.held.frames += range.len();
-                seat.held.sum_lo += range.lo();
-            }
-            Reply::Queued(range) => {
-                self.count.sub(&mut seat.counted, 1);
-                self.frames.sub(&mut seat.framed, range.len());
-                self.sum_lo.sub(&mut seat.summed, range.lo());
-                seat.held.count -= 1;
-                seat.held.frames -= range.len();
-                seat.held.sum_lo -= range.lo();
-            }
+            Reply::Given(range) => self.ledgers.give(seat, range, self.machine.totals()),
+            Reply::Queued(range) => self.ledgers.take(seat, range),
             _ => {}
         }
         reply
@@ -441,13 +410,22 @@ impl<C: Ledger, F: Ledger, S: Ledger, G: Ledger> Book<C, F, S, G> {
     {
         let reply = self.machine.step(step);
         if ends_well(step, &reply) {
-            self.good.add(&mut tally.share, 1);
-            self.good.audit(&mut tally.share);
-            // for the proof: nor is the number of good flushes
-            let _ = self.machine.good();
-            tally.good += 1;
+            self.ledgers.raise(tally, self.machine.good());
         }
         reply
+    }
+
+    /// The same with the seat's own tally.
+    pub(crate) fn run_flush_at(&mut self, seat: &mut Seat<C, F, S, G>, step: Step) -> Reply
+        requires { by_tally step ≡ true }
+        ensures takes { Takes self.old.state step result self.new.state }
+        ensures same { IsSame self.old self.new }
+        ensures kind { IsReplyTo step result }
+        ensures good { seat.new.tally.good ≡ seat.old.tally.good + ended_well step result }
+        ensures parts { seat.new.tally.parts ≡ seat.old.tally.parts }
+        ensures rest { (seat.new.worker ≡ seat.old.worker) × (seat.new.held ≡ seat.old.held) }
+    {
+        self.run_flush(seat.tally(), step)
     }
 }
 
@@ -462,63 +440,6 @@ fn covers(held: Totals, range: Option<Range>) -> bool
         }
         None => true,
     }
-}
-
-/// A seat for each worker, and the ledgers of their shares.
-fn seats<C: Ledger, F: Ledger, S: Ledger, G: Ledger>(
-    alloc: Global,
-    workers: u64,
-    count: Blank,
-    frames: Blank,
-    sum_lo: Blank,
-    good: Blank,
-) -> Result<
-    (
-        Vec<Seat<C, F, S, G>>,
-        ledger::Book<C>,
-        ledger::Book<F>,
-        ledger::Book<S>,
-        ledger::Book<G>,
-    ),
-    Refusal,
->
-    requires count { (count.name ≡ C.name) × (count.parts ≡ C.parts) × (count.parts ≡ workers) }
-    requires frames { (frames.name ≡ F.name) × (frames.parts ≡ F.parts) × (frames.parts ≡ workers) }
-    requires sum_lo { (sum_lo.name ≡ S.name) × (sum_lo.parts ≡ S.parts) × (sum_lo.parts ≡ workers) }
-    requires good { (good.name ≡ G.name) × (good.parts ≡ G.parts) × (good.parts ≡ TALLY_PARTS * workers) }
-    requires workers { workers ≤ MAX_WORKERS }
-    ensures ok { IfOk result (λ r. (r.0.items ≡ new_seats workers) × (r.1.total ≡ 0) × (r.2.total ≡ 0)
-        × (r.3.total ≡ 0) × (r.4.total ≡ 0)) }
-    ensures err { IsErr result → result ≡ Err Refusal.NoMemory }
-{
-    let (count, mut counted) = count.open::<C>();
-    let (frames, mut framed) = frames.open::<F>();
-    let (sum_lo, mut summed) = sum_lo.open::<S>();
-    let (good, mut ended) = good.open::<G>();
-    let mut seats = Vec::new(alloc);
-    for worker in 0..workers {
-        let tally = Tally {
-            good: 0,
-            parts: TALLY_PARTS,
-            share: ended.split_off(TALLY_PARTS, 0),
-        };
-        let seat = Seat {
-            worker,
-            held: Totals {
-                count: 0,
-                frames: 0,
-                sum_lo: 0,
-            },
-            counted: counted.split_off(1, 0),
-            framed: framed.split_off(1, 0),
-            summed: summed.split_off(1, 0),
-            tally,
-        };
-        if seats.push(seat).is_err() {
-            return Err(Refusal::NoMemory);
-        }
-    }
-    Ok((seats, count, frames, sum_lo, good))
 }
 
 pub(crate) fn is_queued(reply: &Reply) -> bool

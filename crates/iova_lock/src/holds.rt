@@ -2,15 +2,15 @@
 ghost use Rattle.std.specs.Prelude.{◌≡◌, ◌≢◌, ℕ, Option, Some, None, MatchBool, List, true, false};
 ghost use Rattle.iova_range.specs.Frames.{Frames};
 ghost use Rattle.iova_model.specs.State.{State};
-ghost use Rattle.iova_lock.specs.Releases.{QueuedStrictly, FlushFollows};
-ghost use Rattle.iova_lock.specs.Views.{queued_by, Lowers, IsLowered};
+ghost use Rattle.iova_keep.specs.Releases.{QueuedStrictly, FlushFollows};
+ghost use Rattle.iova_keep.specs.Views.{queued_by, Lowers, IsLowered};
 
-use crate::ask::{Ask, Told};
 use crate::batch;
 use crate::book::{Book, is_queued};
-use crate::keep::{Heard, Keep};
-use crate::seat::{Seat, Tally};
 use iova_core::{ClientId, Reply, Step};
+use iova_keep::ask::{Ask, Told};
+use iova_keep::keep::{Heard, Keep};
+use iova_keep::seat::{Seat, Tally};
 use iova_model::totals::Totals;
 use iova_range::range::Range;
 use iova_range::refusal::Refusal;
@@ -139,7 +139,7 @@ impl<C: Ledger, F: Ledger, S: Ledger, G: Ledger> Keep<C, F, S, G> for Book<C, F,
             },
         );
         let begun = if is_full(&reply) {
-            Some(self.run_flush(&mut seat.tally, Step::Begin))
+            Some(self.run_flush_at(seat, Step::Begin))
         } else {
             None
         };
@@ -160,7 +160,7 @@ impl<C: Ledger, F: Ledger, S: Ledger, G: Ledger> Keep<C, F, S, G> for Book<C, F,
         ok: bool,
     ) -> Heard {
         let worker = seat.worker();
-        let _ended = self.run_flush(&mut seat.tally, Step::End { no, ok });
+        let _ended = self.run_flush_at(seat, Step::End { no, ok });
         let reply = self.run_within(
             seat,
             Step::Unmap {
@@ -201,7 +201,7 @@ impl<C: Ledger, F: Ledger, S: Ledger, G: Ledger> Keep<C, F, S, G> for Book<C, F,
         let before = seat.held();
         let reply = self.close_all(seat, id);
         let begun = if is_full(&reply) {
-            Some(self.run_flush(&mut seat.tally, Step::Begin))
+            Some(self.run_flush_at(seat, Step::Begin))
         } else {
             None
         };
@@ -221,10 +221,10 @@ impl<C: Ledger, F: Ledger, S: Ledger, G: Ledger> Keep<C, F, S, G> for Book<C, F,
         ok: bool,
     ) -> Heard {
         let before = seat.held();
-        let _ended = self.run_flush(&mut seat.tally, Step::End { no, ok });
+        let _ended = self.run_flush_at(seat, Step::End { no, ok });
         let reply = self.close_all(seat, id);
         let begun = if is_full(&reply) && seat.count() < before.count {
-            Some(self.run_flush(&mut seat.tally, Step::Begin))
+            Some(self.run_flush_at(seat, Step::Begin))
         } else {
             None
         };
@@ -247,7 +247,7 @@ impl<C: Ledger, F: Ledger, S: Ledger, G: Ledger> Keep<C, F, S, G> for Book<C, F,
             },
         );
         let begun = if flush_follows(self.is_strict(), &reply) {
-            Some(self.run_flush(&mut seat.tally, Step::Begin))
+            Some(self.run_flush_at(seat, Step::Begin))
         } else {
             None
         };
@@ -268,7 +268,7 @@ impl<C: Ledger, F: Ledger, S: Ledger, G: Ledger> Keep<C, F, S, G> for Book<C, F,
         ok: bool,
     ) -> Heard {
         let worker = seat.worker();
-        let _ended = self.run_flush(&mut seat.tally, Step::End { no, ok });
+        let _ended = self.run_flush_at(seat, Step::End { no, ok });
         let reply = self.run_within(
             seat,
             Step::Unmap {
@@ -278,7 +278,7 @@ impl<C: Ledger, F: Ledger, S: Ledger, G: Ledger> Keep<C, F, S, G> for Book<C, F,
             },
         );
         let begun = if queued_strictly(self.is_strict(), &reply) {
-            Some(self.run_flush(&mut seat.tally, Step::Begin))
+            Some(self.run_flush_at(seat, Step::Begin))
         } else {
             None
         };
@@ -292,7 +292,7 @@ impl<C: Ledger, F: Ledger, S: Ledger, G: Ledger> Keep<C, F, S, G> for Book<C, F,
 
     fn release_last(&mut self, seat: &mut Seat<C, F, S, G>, no: u64, ok: bool) -> bool {
         let worker = seat.worker();
-        let _ended = self.run_flush(&mut seat.tally, Step::End { no, ok });
+        let _ended = self.run_flush_at(seat, Step::End { no, ok });
         let reply = self.run_drain(worker, worker);
         if self.finish() < no {
             return false;

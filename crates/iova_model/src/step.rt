@@ -2,6 +2,9 @@
 use iova_range::range::Range;
 use iova_range::refusal::Refusal;
 
+/// The serial of a client, 1 to 2^63 - 1. None is given twice.
+pub type ClientId = u64;
+
 /// One step of a domain. Workers, rings, clients and flush numbers are any numbers: the step itself refuses those that
 /// there are not.
 #[derive(Clone, Copy, Debug)]

@@ -88,33 +88,3 @@ impl Range {
         Range::new(lo, hi - lo + 1)
     }
 }
-
-#[cfg(test)]
-mod tests {
-    use super::*;
-
-    #[test]
-    fn ends_are_inside(rt: HostRuntime) {
-        let range = Range::new(1016, 4);
-        assert_eq!(rt; (range.lo(), range.len(), range.hi()), (1016, 4, 1019));
-        assert_eq!(rt; Range::new(u64::MAX, 1).hi(), u64::MAX);
-        for (frame, inside) in [(1015, false), (1016, true), (1019, true), (1020, false)] {
-            assert_eq!(rt; range.covers(frame), inside, "frame {frame}");
-        }
-    }
-
-    #[test]
-    fn neighbours_do_not_meet_but_join(rt: HostRuntime) {
-        let (low, high) = (Range::new(1016, 4), Range::new(1020, 6));
-        assert_eq!(rt; (low.meets(high), high.meets(low)), (false, false));
-        assert_eq!(rt;
-            (low.meets(low), low.meets(Range::new(1019, 2))),
-            (true, true)
-        );
-        assert_eq!(rt;
-            (low.join(high), high.join(low)),
-            (Range::new(1016, 10), Range::new(1016, 10))
-        );
-        assert_eq!(rt; low.join(Range::new(1, 1)), Range::new(1, 1019));
-    }
-}

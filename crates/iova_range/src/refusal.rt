@@ -149,26 +149,3 @@ impl Refusal {
         }
     }
 }
-
-#[cfg(test)]
-mod tests {
-    use super::*;
-    use std::test::Fail;
-
-    #[test]
-    fn text_has_the_number_and_the_name(rt: HostRuntime) -> Result<(), Fail> {
-        for refusal in [
-            Refusal::Zero,
-            Refusal::RingFull,
-            Refusal::NoMemory,
-            Refusal::BadProfile,
-        ] {
-            let number = refusal.number();
-            let name = refusal.name();
-            let text = format!(in rt.alloc(); "{refusal}")?;
-            let want = format!(in rt.alloc(); "no {number} {name}")?;
-            assert_eq!(rt; text.as_str(), want.as_str());
-        }
-        Ok(())
-    }
-}

@@ -47,34 +47,3 @@ pub fn order_of(size: u64) -> Option<u8>
         _ => None,
     }
 }
-
-#[cfg(test)]
-mod tests {
-    use super::*;
-
-    #[test]
-    fn sizes_around_the_cached_ones(rt: HostRuntime) {
-        for (n, want) in [
-            (1, 1),
-            (5, 8),
-            (31, 32),
-            (32, 32),
-            (33, 33),
-            (1_048_576, 1_048_576),
-        ] {
-            assert_eq!(rt; need(n), want, "need of {n}");
-        }
-        for (size, want) in [(1, 1), (33, 64), (1024, 1024), (1_000_000, 1_048_576)] {
-            assert_eq!(rt; align_of(size), want, "alignment of {size}");
-        }
-        for (size, want) in [
-            (1, Some(0)),
-            (3, None),
-            (32, Some(5)),
-            (33, None),
-            (64, None),
-        ] {
-            assert_eq!(rt; order_of(size), want, "order of {size}");
-        }
-    }
-}

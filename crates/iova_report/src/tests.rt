@@ -100,36 +100,6 @@ fn worked(rt: &impl Abort, alloc_in: Global) -> Result<Domain, Refusal> {
     Ok(domain)
 }
 
-#[test]
-fn a_window_and_a_client(rt: HostRuntime) -> Result<(), Fail> {
-    let domain = worked(&rt, rt.alloc())?;
-    let out = report_behind(&rt, rt.alloc(), b"", &domain)?;
-    assert_eq!(rt; out.as_slice(), WORKED);
-    Ok(())
-}
-
-#[test]
-fn an_empty_domain(rt: HostRuntime) -> Result<(), Fail> {
-    let domain = domain(rt.alloc(), Bounds::new(100, 163)?, 3)?;
-    let out = report_behind(&rt, rt.alloc(), b"", &domain)?;
-    let want = b"\
-free                        64
-reserved                     0
-client                       0
-magazine                     0
-depot                        0
-ring                         0
-clients                      0
-holdings                     0
-start                        0
-finish                       0
-owed                         0
-flights                      0
-";
-    assert_eq!(rt; out.as_slice(), want.as_slice());
-    Ok(())
-}
-
 // The bytes before a report stay, and so do those of a report before another.
 #[test]
 fn a_report_behind_bytes_that_are_there(rt: HostRuntime) -> Result<(), Fail> {
@@ -144,62 +114,6 @@ fn a_report_behind_bytes_that_are_there(rt: HostRuntime) -> Result<(), Fail> {
     assert_eq!(rt; &out[..front.len()], front.as_slice());
     assert_eq!(rt; &out[front.len()..once], WORKED);
     assert_eq!(rt; &out[once..], WORKED);
-    Ok(())
-}
-
-// No two of the twelve numbers are equal.
-#[test]
-fn each_number_has_its_line(rt: HostRuntime) -> Result<(), Fail> {
-    let bounds = Bounds::new_in(Profile::two(32)?, 1, 511)?;
-    let mut domain = domain(rt.alloc(), bounds, 2)?;
-    run_all(&rt, &mut domain, &[OPEN, OPEN, OPEN, OPEN, OPEN]);
-    // 255 frames go through the ring into two full magazines, one of which goes to the depot, and a third
-    for _ in 0..255 {
-        run(&rt, &mut domain, alloc(1, 1, 511));
-    }
-    for n in 0..255 {
-        run(&rt, &mut domain, unmap(1, 511 - n));
-    }
-    let steps = [
-        Step::Begin,
-        Step::End { no: 1, ok: true },
-        Step::Drain { ring: 0, by: 0 },
-        Step::Reserve { lo: 7, hi: 12 },
-        Step::Reserve { lo: 1, hi: 5 },
-        alloc(2, 33, 511),
-        alloc(2, 34, 511),
-        alloc(3, 35, 511),
-        alloc(5, 16, 511),
-        alloc(5, 2, 511),
-        unmap(3, 64),
-        Step::Begin,
-        Step::Begin,
-        Step::Begin,
-        Step::Begin,
-        Step::Begin,
-        Step::End { no: 6, ok: false },
-        Step::End { no: 5, ok: false },
-        Step::End { no: 4, ok: false },
-    ];
-    run_all(&rt, &mut domain, &steps);
-    let out = report_behind(&rt, rt.alloc(), b"", &domain)?;
-    let want = b"\
-free                       125
-reserved                    11
-client                      85
-magazine                   128
-depot                      127
-ring                        35
-clients                      5
-holdings                     4
-start                        6
-finish                       1
-owed                         3
-flights                      2
-window                       1                   5
-window                       7                  12
-";
-    assert_eq!(rt; out.as_slice(), want.as_slice());
     Ok(())
 }
 

@@ -4,10 +4,10 @@ use Rattle.std.specs.Prelude.{Result, Ok, Err, Bool}
 use Rattle.iova_range.specs.declared.refusal.Refusal.{Refusal}
 use Rattle.iova_model.specs.State.{State}
 use Rattle.iova_sink.specs.Calls.{Call}
-use Rattle.iova_lock.specs.declared.unmapped.Unmapped.{Unmapped}
-use Rattle.iova_lock.specs.Views.{WhereKnown, SeatState}
-use Rattle.iova_lock.specs.Answers.{DoesFlush, DrainsAll}
-use Rattle.iova_lock.specs.Releases.{DoesRelease}
+use Rattle.iova_keep.specs.declared.unmapped.Unmapped.{Unmapped}
+use Rattle.iova_keep.specs.Views.{WhereKnown, SeatState}
+use Rattle.iova_keep.specs.Answers.{DoesFlush, DrainsAll}
+use Rattle.iova_keep.specs.Releases.{DoesRelease}
 use Rattle.iova_proto.specs.declared.answer.Answer.{Answer}
 use Rattle.iova_proto.specs.declared.answer.Answer.TheVariants as answer
 use Rattle.iova_proto.specs.declared.request.Request.{Request}

@@ -4,8 +4,8 @@ use Rattle.std.proofs.Common.{append-nil}
 use Rattle.std.specs.Io.KnownBytes.{Consumes, Appends}
 use Rattle.std.specs.Prelude.{IsSome}
 use Rattle.iova_model.specs.declared.totals.Totals.{Totals}
-use Rattle.iova_lock.specs.declared.ending.Ending.{Ending}
-use Rattle.iova_lock.specs.declared.ending.Ending.TheVariants as ending
+use Rattle.iova_keep.specs.declared.ending.Ending.{Ending}
+use Rattle.iova_keep.specs.declared.ending.Ending.TheVariants as ending
 use Rattle.iova_proto.specs.declared.answer.Answer.{Answer}
 use Rattle.iova_proto.specs.declared.answer.Answer.TheVariants as answer
 use Rattle.iova_proto.specs.declared.request.Request.{Request}

@@ -19,11 +19,11 @@ use Rattle.iova_model.specs.Next
 use Rattle.iova_model.specs.Laws.{StepsKeepValidity}
 use Rattle.iova_model.proofs.Unless.{unless_cases}
 use Rattle.iova_laws.proofs.Finds.{owned, changed_found}
-use Rattle.iova_lock.specs.declared.ending.Ending.{Ending}
-use Rattle.iova_lock.specs.declared.ending.Ending.TheVariants as ending
-use Rattle.iova_lock.specs.StepLogs.{Takes}
-use Rattle.iova_lock.specs.Views.{IsUnknown}
-use Rattle.iova_lock.specs.Events.{Event, Ran, NotRun, Invalidated, Leads, run, not_run, Closing, stops, queues, CloseFirst, closed, closed_full, CloseAgain, closed_again, full_at_once, full_again, CloseRest, last, another, Answered, ended, unknown, gone, share, sink_failed, overlap, flights_full, worn, EndClient, in_one_hold, in_more}
+use Rattle.iova_keep.specs.declared.ending.Ending.{Ending}
+use Rattle.iova_keep.specs.declared.ending.Ending.TheVariants as ending
+use Rattle.iova_keep.specs.Steps.{Takes}
+use Rattle.iova_keep.specs.Views.{IsUnknown}
+use Rattle.iova_keep.specs.Events.{Event, Ran, NotRun, Invalidated, Leads, run, not_run, Closing, stops, queues, CloseFirst, closed, closed_full, CloseAgain, closed_again, full_at_once, full_again, CloseRest, last, another, Answered, ended, unknown, gone, share, sink_failed, overlap, flights_full, worn, EndClient, in_one_hold, in_more}
 
 -- what is at most the lower bound is no client's serial
 none_below : (id low : ℕ) (clients : List Client) (top : ℕ) → SerialsRise low clients top → id ≤ low → client_with id clients ≡ None

@@ -10,19 +10,19 @@ use Rattle.iova_model.specs.declared.totals.Totals.{Totals}
 use Rattle.iova_model.specs.State.{State}
 use Rattle.iova_model.specs.Laws.{held_by, client_named, OthersKeepTheirHoldings, StepsKeepValidity}
 use Rattle.iova_sink.specs.Calls.{Call}
-use Rattle.iova_lock.specs.declared.ask.Ask.{Ask}
-use Rattle.iova_lock.specs.declared.ask.Ask.TheVariants as ask
-use Rattle.iova_lock.specs.declared.ask.Told.{Told}
-use Rattle.iova_lock.specs.declared.ending.Ending.{Ending}
-use Rattle.iova_lock.specs.declared.ending.Ending.TheVariants as ending
-use Rattle.iova_lock.specs.declared.ending.Why.{Why}
-use Rattle.iova_lock.specs.StepLogs.{Takes}
-use Rattle.iova_lock.specs.Views.{WhereKnown, SeatState, IsKept, opened_or, left_of}
-use Rattle.iova_lock.specs.Events.{Event, Ran, NotRun, Invalidated, Leads, Unmapping, run, not_run, Flush, refused, done, failed, Closing, stops, queues, CloseFirst, closed, closed_full, CloseAgain, closed_again, full_at_once, full_again, CloseRest, last, another, Answered, ended, unknown, gone, share, sink_failed, overlap, flights_full, worn, EndClient, in_one_hold, in_more, Draining, none_left, drains, DrainAll, drained, no_worker}
-use Rattle.iova_lock.specs.declared.unmapped.Unmapped.{Unmapped}
-use Rattle.iova_lock.specs.Releases.{DoesRelease, ReleaseFirst, no_flush, flush, ReleaseAgain, no_flush_again, flush_again, ReleaseLast, reached, not_reached, not_drained, AfterQueued, stays, freed, not_freed, ReleaseRest, refused_again, queued_again, Release, refused_first, queued_first, ring_was_full}
-use Rattle.iova_lock.specs.Answers.{DoesFlush, DoesEndClient, DrainsAll, Opens}
-use Rattle.iova_lock.specs.Batches.{DoesAsk, DoesAsks, StopsAt, Batched}
+use Rattle.iova_keep.specs.declared.ask.Ask.{Ask}
+use Rattle.iova_keep.specs.declared.ask.Ask.TheVariants as ask
+use Rattle.iova_keep.specs.declared.ask.Told.{Told}
+use Rattle.iova_keep.specs.declared.ending.Ending.{Ending}
+use Rattle.iova_keep.specs.declared.ending.Ending.TheVariants as ending
+use Rattle.iova_keep.specs.declared.ending.Why.{Why}
+use Rattle.iova_keep.specs.Steps.{Takes}
+use Rattle.iova_keep.specs.Views.{WhereKnown, SeatState, IsKept, opened_or, left_of}
+use Rattle.iova_keep.specs.Events.{Event, Ran, NotRun, Invalidated, Leads, Unmapping, run, not_run, Flush, refused, done, failed, Closing, stops, queues, CloseFirst, closed, closed_full, CloseAgain, closed_again, full_at_once, full_again, CloseRest, last, another, Answered, ended, unknown, gone, share, sink_failed, overlap, flights_full, worn, EndClient, in_one_hold, in_more, Draining, none_left, drains, DrainAll, drained, no_worker}
+use Rattle.iova_keep.specs.declared.unmapped.Unmapped.{Unmapped}
+use Rattle.iova_keep.specs.Releases.{DoesRelease, ReleaseFirst, no_flush, flush, ReleaseAgain, no_flush_again, flush_again, ReleaseLast, reached, not_reached, not_drained, AfterQueued, stays, freed, not_freed, ReleaseRest, refused_again, queued_again, Release, refused_first, queued_first, ring_was_full}
+use Rattle.iova_keep.specs.Answers.{DoesFlush, DoesEndClient, DrainsAll, Opens}
+use Rattle.iova_keep.specs.Batches.{DoesAsk, DoesAsks, StopsAt, Batched}
 use Rattle.iova_proto.specs.declared.answer.Answer.{Answer}
 use Rattle.iova_proto.specs.declared.answer.Answer.TheVariants as answer
 use Rattle.iova_proto.specs.declared.request.Request.{Request}

@@ -5,9 +5,9 @@ use Rattle.std.proofs.lemmas.List.{drop_more, drop_all, take_more, take_more_set
 use Rattle.iova_range.specs.declared.refusal.Refusal.{Refusal}
 use Rattle.iova_model.specs.State.{State}
 use Rattle.iova_sink.specs.Calls.{Call}
-use Rattle.iova_lock.specs.declared.ending.Ending.{Ending}
-use Rattle.iova_lock.specs.Answers.{DoesEndClient}
-use Rattle.iova_lock.specs.Views.{SeatState, WhereKnown}
+use Rattle.iova_keep.specs.declared.ending.Ending.{Ending}
+use Rattle.iova_keep.specs.Answers.{DoesEndClient}
+use Rattle.iova_keep.specs.Views.{SeatState, WhereKnown}
 use Rattle.iova_session.specs.Posts.{IsSublist, Retries, kept_if, still_waits}
 
 pub kept_last : (xs ys : List ℕ) (y : ℕ) → IsSublist xs ys → IsSublist (xs ++ y ∷ []) (ys ++ y ∷ [])

@@ -4,9 +4,9 @@ use Rattle.std.proofs.lemmas.Grind.{common_steps}
 use Rattle.std.proofs.lemmas.List.{drop_more}
 use Rattle.iova_range.specs.declared.refusal.Refusal.{Refusal}
 use Rattle.iova_range.specs.declared.refusal.Refusal.TheVariants as refusal
-use Rattle.iova_lock.specs.Views.{SeatState, range_of}
-use Rattle.iova_lock.specs.declared.unmapped.Unmapped.{Unmapped}
-use Rattle.iova_lock.specs.declared.unmapped.Unmapped.TheVariants as unmapped
+use Rattle.iova_keep.specs.Views.{SeatState, range_of}
+use Rattle.iova_keep.specs.declared.unmapped.Unmapped.{Unmapped}
+use Rattle.iova_keep.specs.declared.unmapped.Unmapped.TheVariants as unmapped
 use Rattle.iova_model.specs.declared.step.Reply.TheVariants as reply
 use Rattle.std.specs.Prelude.{IsSome, IfOk, IfErr, Result, Ok, Err, length, take, map}
 use Rattle.std.proofs.lemmas.List.Sums.{sum_by-append}
@@ -14,10 +14,10 @@ use Rattle.iova_range.specs.Frames.{Frames}
 use Rattle.iova_model.specs.declared.totals.Totals.{Totals}
 use Rattle.iova_model.specs.Clients.{totals_of}
 use Rattle.iova_model.specs.Laws.{add_totals, MovesTotals}
-use Rattle.iova_lock.specs.declared.ask.Ask.{Ask}
-use Rattle.iova_lock.specs.declared.ask.Told.{Told}
-use Rattle.iova_lock.specs.declared.ask.Told.TheVariants as lock_told
-use Rattle.iova_lock.specs.Batches.{ToldOfAsks, TellsAsks, MovesTold, MayStop}
+use Rattle.iova_keep.specs.declared.ask.Ask.{Ask}
+use Rattle.iova_keep.specs.declared.ask.Told.{Told}
+use Rattle.iova_keep.specs.declared.ask.Told.TheVariants as lock_told
+use Rattle.iova_keep.specs.Batches.{ToldOfAsks, TellsAsks, MovesTold, MayStop}
 use Rattle.iova_proto.specs.declared.answer.Answer.{Answer}
 use Rattle.iova_proto.specs.declared.request.Request.{Request}
 use Rattle.iova_proto.specs.declared.request.Request.TheVariants as request

@@ -8,19 +8,19 @@ use Rattle.iova_range.specs.Frames.{Frames}
 use Rattle.iova_model.specs.declared.totals.Totals.{Totals}
 use Rattle.iova_model.specs.Clients.{totals_of}
 use Rattle.iova_model.specs.Laws.{add_totals}
-use Rattle.iova_lock.specs.declared.ask.Ask.{Ask}
-use Rattle.iova_lock.specs.declared.ask.Ask.TheVariants as ask
-use Rattle.iova_lock.specs.declared.ask.Told.{Told}
-use Rattle.iova_lock.specs.declared.ask.Told.TheVariants as lock_told
-use Rattle.iova_lock.specs.declared.unmapped.Unmapped.{Unmapped}
-use Rattle.iova_lock.specs.declared.unmapped.Unmapped.TheVariants as unmapped
-use Rattle.iova_lock.specs.Views.{IsOpenRefusal, IsAllocRefusal, IsUnmapRefusal, IsFlushRefusal, IsGivenTo, SeatState}
+use Rattle.iova_keep.specs.declared.ask.Ask.{Ask}
+use Rattle.iova_keep.specs.declared.ask.Ask.TheVariants as ask
+use Rattle.iova_keep.specs.declared.ask.Told.{Told}
+use Rattle.iova_keep.specs.declared.ask.Told.TheVariants as lock_told
+use Rattle.iova_keep.specs.declared.unmapped.Unmapped.{Unmapped}
+use Rattle.iova_keep.specs.declared.unmapped.Unmapped.TheVariants as unmapped
+use Rattle.iova_keep.specs.Views.{IsOpenRefusal, IsAllocRefusal, IsUnmapRefusal, IsFlushRefusal, IsGivenTo, SeatState}
 use Rattle.iova_proto.specs.declared.answer.Answer.{Answer}
 use Rattle.iova_proto.specs.declared.answer.Answer.TheVariants as answer
 use Rattle.iova_proto.specs.declared.request.Request.{Request}
 use Rattle.iova_proto.specs.declared.request.Request.TheVariants as request
 use Rattle.iova_sink.specs.Calls.{Call, good_calls}
-use Rattle.iova_lock.specs.Batches.{IsToldOf}
+use Rattle.iova_keep.specs.Batches.{IsToldOf}
 use Rattle.iova_session.specs.Pairs.{Pair, asked, told}
 
 -- The client of a session: the one that hello opened.

@@ -10,12 +10,12 @@ use Rattle.iova_model.specs.State.{State}
 use Rattle.iova_model.specs.Laws.{held_by}
 use Rattle.iova_proto.specs.declared.answer.Answer.{Answer}
 use Rattle.iova_proto.specs.declared.answer.Answer.TheVariants as answer
-use Rattle.iova_lock.specs.declared.ending.Ending.{Ending}
-use Rattle.iova_lock.specs.declared.ending.Ending.TheVariants as ending
-use Rattle.iova_lock.specs.declared.unmapped.Unmapped.{Unmapped}
-use Rattle.iova_lock.specs.Views.{WhereKnown, SeatState, left_of}
-use Rattle.iova_lock.specs.Answers.{DoesFlush, DrainsAll}
-use Rattle.iova_lock.specs.Releases.{DoesRelease}
+use Rattle.iova_keep.specs.declared.ending.Ending.{Ending}
+use Rattle.iova_keep.specs.declared.ending.Ending.TheVariants as ending
+use Rattle.iova_keep.specs.declared.unmapped.Unmapped.{Unmapped}
+use Rattle.iova_keep.specs.Views.{WhereKnown, SeatState, left_of}
+use Rattle.iova_keep.specs.Answers.{DoesFlush, DrainsAll}
+use Rattle.iova_keep.specs.Releases.{DoesRelease}
 use Rattle.iova_sink.specs.Calls.{Call}
 use Rattle.iova_session.specs.Desks.{released}
 

@@ -4,10 +4,10 @@ use Rattle.iova_range.specs.declared.refusal.Refusal.{Refusal}
 use Rattle.iova_model.specs.declared.totals.Totals.{Totals}
 use Rattle.iova_model.specs.State.{State}
 use Rattle.iova_sink.specs.Calls.{Call}
-use Rattle.iova_lock.specs.Answers.{DoesEndClient}
-use Rattle.iova_lock.specs.Views.{SeatState}
-use Rattle.iova_lock.specs.declared.ending.Ending.{Ending}
-use Rattle.iova_lock.specs.declared.ending.Ending.TheVariants as ending
+use Rattle.iova_keep.specs.Answers.{DoesEndClient}
+use Rattle.iova_keep.specs.Views.{SeatState}
+use Rattle.iova_keep.specs.declared.ending.Ending.{Ending}
+use Rattle.iova_keep.specs.declared.ending.Ending.TheVariants as ending
 use Rattle.iova_session.specs.Pairs.{Pair}
 use Rattle.iova_session.specs.Desks.{client_after, given_in, taken_in}
 

@@ -3,17 +3,17 @@
 ghost use Rattle.std.specs.Prelude.{◌≡◌, ◌≢◌, ℕ, ◌+◌, ◌≤◌, None, Some, IfSome};
 ghost use Rattle.iova_range.specs.declared.limits.TheConstants.{MAX_LISTED};
 ghost use Rattle.iova_sink.specs.Calls.{good_calls};
-ghost use Rattle.iova_lock.specs.Views.{WhereKnown};
+ghost use Rattle.iova_keep.specs.Views.{WhereKnown};
 ghost use Rattle.iova_session.specs.Domains.{FlushesAndDrains, Frees, KeepsOthers, Lists};
 ghost use Rattle.iova_session.specs.Desks.{IsFirstAnswer, IsClientAnswer, MovesBy, given_by, released, taken_by};
 
-use iova_core::ClientId;
+use iova_keep::calls::flush;
+use iova_keep::keep::Keep;
+use iova_keep::release::release;
+use iova_keep::seat::Seat;
+use iova_keep::unmapped::Unmapped;
 use iova_laws::replies::others_keep_their_holdings;
-use iova_lock::calls::flush;
-use iova_lock::keep::Keep;
-use iova_lock::release::release;
-use iova_lock::seat::Seat;
-use iova_lock::unmapped::Unmapped;
+use iova_model::step::ClientId;
 use iova_proto::answer::Answer;
 use iova_proto::held::HeldRanges;
 use iova_proto::request::Request;

@@ -2,7 +2,7 @@
 ghost use Rattle.std.specs.Prelude.{◌≡◌, ◌+◌, ◌≤◌, ◌⊎◌, ℕ, IfOk, IfErr, List, [], Option, None, length};
 ghost use Rattle.iova_sink.specs.Calls.{Call, good_calls};
 ghost use Rattle.iova_model.specs.State.{State};
-ghost use Rattle.iova_lock.specs.Views.{SeatState, WhereKnown, new_seat};
+ghost use Rattle.iova_keep.specs.Views.{SeatState, WhereKnown, new_seat};
 ghost use Rattle.iova_session.specs.Domains.{KeepsOthers, known_keeps-prop};
 ghost use Rattle.iova_session.specs.Desks.{SessionState, AnswersRun, KeepsPlace, MovesBy, MovesBy-prop, given_in, taken_in};
 
@@ -10,9 +10,9 @@ use crate::asking::{ask_alone, ask_first};
 use crate::desk::Desk;
 use crate::session::Session;
 use crate::together::{ask_together, push};
-use iova_lock::ask::Told;
-use iova_lock::keep::Keep;
-use iova_lock::seat::Seat;
+use iova_keep::ask::Told;
+use iova_keep::keep::Keep;
+use iova_keep::seat::Seat;
 use iova_proto::answer::Answer;
 use iova_proto::request::Request;
 use iova_range::limits::MAX_RUN;

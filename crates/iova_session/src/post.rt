@@ -1,8 +1,8 @@
 //! A worker's post: its seat, and the clients whose end waits.
 ghost use Rattle.std.specs.Prelude.{◌≡◌, []};
 
-use iova_core::ClientId;
-use iova_lock::seat::Seat;
+use iova_keep::seat::Seat;
+use iova_model::step::ClientId;
 use std::alloc::Global;
 use std::sync::ledger::Ledger;
 

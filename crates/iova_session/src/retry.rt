@@ -1,13 +1,13 @@
 //! The clients of a post whose end waits, tried again.
 ghost use Rattle.std.specs.Prelude.{◌≡◌, length};
-ghost use Rattle.iova_lock.specs.Views.{WhereKnown};
+ghost use Rattle.iova_keep.specs.Views.{WhereKnown};
 ghost use Rattle.iova_session.specs.Posts.{IsSublist, Retries, still_waits};
 ghost use Rattle.iova_session.specs.Desks.{KeepsPlace};
 
 use crate::post::Post;
-use iova_lock::closing::end_client;
-use iova_lock::ending::Ending;
-use iova_lock::keep::Keep;
+use iova_keep::closing::end_client;
+use iova_keep::ending::Ending;
+use iova_keep::keep::Keep;
 use iova_range::refusal::Refusal;
 use iova_sink::sink::Sink;
 use std::sync::ledger::Ledger;

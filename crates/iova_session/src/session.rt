@@ -3,7 +3,7 @@ ghost use Rattle.std.specs.Prelude.{◌≡◌, ◌+◌, ◌++◌, ◌∷◌, [],
 ghost use Rattle.iova_session.specs.Desks.{SessionState, IsAnswer, next_client as the_next_client, count_listed as listed_in};
 
 use crate::pairs::Pairs;
-use iova_core::ClientId;
+use iova_model::step::ClientId;
 use iova_proto::answer::Answer;
 use iova_proto::request::Request;
 use std::marker::Model;

@@ -1,15 +1,15 @@
 //! Requests that are asked together, in one hold of the lock.
 ghost use Rattle.std.specs.Prelude.{◌≡◌, ◌+◌, ◌≤◌, ◌++◌, ◌∷◌, [], Some, IsSome, IfOk, IfErr, length, map, take, vec_len, vec_capacity};
-ghost use Rattle.iova_lock.specs.Views.{WhereKnown};
+ghost use Rattle.iova_keep.specs.Views.{WhereKnown};
 ghost use Rattle.iova_session.specs.Domains.{KeepsOthers};
 ghost use Rattle.iova_session.specs.Desks.{SessionState, ask_of as the_ask_of, asks_in, answer_of as the_answer_of, told_pairs, AreTold, IsFirstAlone, AnswersRun};
 
 use crate::session::Session;
-use iova_core::ClientId;
+use iova_keep::ask::{Ask, Told};
+use iova_keep::keep::Keep;
+use iova_keep::seat::Seat;
 use iova_laws::replies::others_keep_their_holdings;
-use iova_lock::ask::{Ask, Told};
-use iova_lock::keep::Keep;
-use iova_lock::seat::Seat;
+use iova_model::step::ClientId;
 use iova_proto::answer::Answer;
 use iova_proto::request::Request;
 use iova_range::limits::MAX_RUN;

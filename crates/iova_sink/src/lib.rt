@@ -10,5 +10,3 @@ pub mod memory;
 pub mod memory_device;
 pub mod record;
 pub mod sink;
-#[cfg(test)]
-mod tests;

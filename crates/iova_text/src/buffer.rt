@@ -54,30 +54,3 @@ pub fn append<const CAP: usize>(out: &mut Vec<u8>, bytes: &ArrayVec<u8, CAP>) ->
         Err(_) => Err(Refusal::NoMemory),
     }
 }
-
-#[cfg(test)]
-mod tests {
-    use super::*;
-    use std::test::Fail;
-
-    #[test]
-    fn lines_are_put_together_and_appended(rt: HostRuntime) -> Result<(), Fail> {
-        let mut line = LineBuffer::new();
-        put_numbers(&mut line, b"stat", &[0, 7, u64::MAX]);
-        put(&mut line, b"\n");
-        let mut out = Vec::new(rt.alloc());
-        if append(&mut out, &line).is_err() {
-            // the one growth that a run refuses
-            assert_eq!(rt; out.len(), 0);
-            append(&mut out, &line)?;
-        }
-        assert_eq!(rt;
-            out.as_slice(),
-            b"stat 0 7 18446744073709551615\n".as_slice()
-        );
-        let mut number = LineBuffer::new();
-        put_number(&mut number, 1_048_576);
-        assert_eq!(rt; number.as_slice(), b"1048576".as_slice());
-        Ok(())
-    }
-}

@@ -13,30 +13,3 @@ pub fn cut_line(text: &[u8]) -> Option<(&[u8], &[u8])>
     let end = memchr(b'\n', text)?;
     Some((&text[..end], &text[end + 1..]))
 }
-
-#[cfg(test)]
-mod tests {
-    use super::*;
-
-    #[test]
-    fn a_line_ends_at_the_first_lf(rt: HostRuntime) {
-        for (text, want) in [
-            ("a\nb\n", Some(("a", "b\n"))),
-            ("\n", Some(("", ""))),
-            ("\n\n", Some(("", "\n"))),
-            ("a\r\n", Some(("a\r", ""))),
-            ("a", None),
-            ("", None),
-        ] {
-            let Some((line, rest)) = cut_line(text.as_bytes()) else {
-                assert_eq!(rt; want, None, "{text:?}");
-                continue;
-            };
-            assert_eq!(rt;
-                want.map(|(l, r)| (l.as_bytes(), r.as_bytes())),
-                Some((line, rest)),
-                "{text:?}"
-            );
-        }
-    }
-}

@@ -50,31 +50,3 @@ fn leading_positive(text: &[u8]) -> Option<(u64, &[u8])>
         Some((n, &text[len..]))
     }
 }
-
-#[cfg(test)]
-mod tests {
-    use super::*;
-
-    #[test]
-    fn numbers_have_one_spelling(rt: HostRuntime) {
-        for (text, want) in [
-            (b"0".as_slice(), Some(0)),
-            (b"7".as_slice(), Some(7)),
-            (b"1048576".as_slice(), Some(1_048_576)),
-            (b"18446744073709551615".as_slice(), Some(u64::MAX)),
-            (b"18446744073709551616".as_slice(), None),
-            (b"184467440737095516150".as_slice(), None),
-            (b"".as_slice(), None),
-            (b"00".as_slice(), None),
-            (b"07".as_slice(), None),
-            (b"+7".as_slice(), None),
-            (b"-7".as_slice(), None),
-            (b"7 ".as_slice(), None),
-            (b"7a".as_slice(), None),
-            (b"/".as_slice(), None),
-            (b":".as_slice(), None),
-        ] {
-            assert_eq!(rt; number(text), want, "number of {text:?}");
-        }
-    }
-}

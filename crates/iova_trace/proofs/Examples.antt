@@ -6,8 +6,10 @@ use Rattle.iova_range.specs.declared.refusal.Refusal.TheVariants.{Zero, RingFull
 use Rattle.iova_range.specs.Bounds.{first_profile, second_profile}
 use Rattle.iova_model.specs.declared.step.Step.TheVariants as step
 use Rattle.iova_model.specs.declared.step.Reply.TheVariants as reply
-use Rattle.iova_trace.specs.Text.{header_text, step_text, reply_text, IsHeader}
-use Rattle.iova_trace.specs.Lines.{trace_text, next_line_number, IsRefused}
+use Rattle.iova_line.specs.Text.{header_text, step_text, IsHeader}
+use Rattle.iova_trace.specs.Replies.{reply_text}
+use Rattle.iova_line.specs.Traces.{trace_text}
+use Rattle.iova_trace.specs.Lines.{next_line_number, IsRefused}
 
 -- Headers.
 

@@ -7,14 +7,15 @@ use Rattle.std.proofs.lemmas.List.{take-append-le}
 use Rattle.iova_range.specs.Bounds.{Extent, first_profile}
 use Rattle.iova_model.specs.declared.step.Step.{Step}
 use Rattle.iova_model.specs.declared.step.Step.TheVariants as step
-use Rattle.iova_trace.specs.declared.line.Verb.{Verb}
-use Rattle.iova_trace.specs.declared.line.Verb.TheVariants as verb
-use Rattle.iova_trace.specs.declared.trace.Trace.{Trace}
+use Rattle.iova_line.specs.declared.line.Verb.{Verb}
+use Rattle.iova_line.specs.declared.line.Verb.TheVariants as verb
+use Rattle.iova_line.specs.declared.trace.Trace.{Trace}
 use Rattle.iova_text.specs.Words.{spaced_words, kind_text}
-use Rattle.iova_trace.specs.Text.{verb_text, verb_of, outcome_text, arguments_of, step_text, NumbersFit, header_numbers, header_text, IsHeader}
-use Rattle.iova_trace.specs.LineSteps.{IsStep}
+use Rattle.iova_line.specs.Text.{verb_text, verb_of, outcome_text, arguments_of, step_text, NumbersFit, header_numbers, header_text, IsHeader}
+use Rattle.iova_line.specs.LineSteps.{IsStep}
 use Rattle.iova_text.specs.Lines.{is_not_lf, HasNoLf, whole_line, IsOverlong}
-use Rattle.iova_trace.specs.Lines.{step_line, trace_text, first_lines_text, IsTrace, BeginsWithLines, IsOther, IsBad, IsCutOff, MayFollow, IsRefused, next_line_number}
+use Rattle.iova_line.specs.Traces.{step_line, trace_text, IsTrace}
+use Rattle.iova_trace.specs.Lines.{first_lines_text, BeginsWithLines, IsOther, IsBad, IsCutOff, MayFollow, IsRefused, next_line_number}
 use Rattle.iova_trace.specs.Replay.{StopsAtBad}
 use Rattle.iova_text.proofs.LineEnds.{cut_once, no_line, lf_within, first_lf}
 use Rattle.iova_text.proofs.WordTexts.{IsShort, short_decimal, short_kind, short_words}

@@ -2,7 +2,7 @@
 use Rattle.std.proofs.Common.{◌≡◌, ℕ, ◌==◌, [], ◌∷◌, ap}
 use Rattle.std.proofs.lemmas.Bool.{cond-true, cond-false}
 use Rattle.iova_range.specs.Bounds.{Capacities, Extent, first_profile, second_profile}
-use Rattle.iova_trace.specs.Text.{header_numbers}
+use Rattle.iova_line.specs.Text.{header_numbers}
 
 pub header_numbers-first : (b : Extent) (w : ℕ) → b.profile ≡ first_profile → header_numbers b w ≡ 1 ∷ b.start ∷ b.last ∷ w ∷ []
 header_numbers-first b w e = cond-true (b.profile.mag == 128) _ _ (ap (λ (p : Capacities). p.mag == 128) e)

@@ -14,14 +14,16 @@ use Rattle.iova_model.specs.Laws.{NewDomainsAreValid}
 use Rattle.iova_model.specs.Transcript.{IsRun}
 use Rattle.iova_model.specs.Promises.{PromisesAreKept, Runs}
 use Rattle.iova_model.proofs.Runs.{run_none, run_more, run_keeps}
-use Rattle.iova_trace.specs.declared.line.Header.{Header}
-use Rattle.iova_trace.specs.declared.trace.Trace.{Trace}
+use Rattle.iova_line.specs.declared.line.Header.{Header}
+use Rattle.iova_line.specs.declared.trace.Trace.{Trace}
 use Rattle.iova_trace.specs.declared.fault.ReplayFault.TheVariants as fault
 use Rattle.iova_trace.specs.declared.replay.Progress.{Progress}
-use Rattle.iova_trace.specs.Text.{IsHeader, header_text, step_text, reply_text}
-use Rattle.iova_trace.specs.LineSteps.{IsStep}
+use Rattle.iova_line.specs.Text.{IsHeader, header_text, step_text}
+use Rattle.iova_trace.specs.Replies.{reply_text}
+use Rattle.iova_line.specs.LineSteps.{IsStep}
 use Rattle.iova_text.specs.Lines.{is_not_lf, HasNoLf, whole_line}
-use Rattle.iova_trace.specs.Lines.{IsTrace, step_line, trace_text, first_lines_text, count_steps, next_line_number, BeginsWithLines, AreFirstLines}
+use Rattle.iova_line.specs.Traces.{IsTrace, step_line, trace_text}
+use Rattle.iova_trace.specs.Lines.{first_lines_text, count_steps, next_line_number, BeginsWithLines, AreFirstLines}
 use Rattle.iova_trace.specs.Replay.{IsReplayed}
 use Rattle.iova_trace.specs.Progress.{number_at, Goes, Stops}
 use Rattle.iova_text.proofs.Cuts.{list_all-append}

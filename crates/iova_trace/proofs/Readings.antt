@@ -6,14 +6,15 @@ use Rattle.std.proofs.lemmas.Bool.{cond_both}
 use Rattle.iova_range.specs.Bounds.{Extent, Capacities, IsProfile, first_profile}
 use Rattle.iova_model.specs.declared.step.Step.{Step}
 use Rattle.iova_model.specs.declared.step.Step.TheVariants as step
-use Rattle.iova_trace.specs.declared.line.Verb.{Verb}
-use Rattle.iova_trace.specs.declared.line.Verb.TheVariants as verb
-use Rattle.iova_trace.specs.declared.trace.Trace.{Trace}
+use Rattle.iova_line.specs.declared.line.Verb.{Verb}
+use Rattle.iova_line.specs.declared.line.Verb.TheVariants as verb
+use Rattle.iova_line.specs.declared.trace.Trace.{Trace}
 use Rattle.iova_text.specs.Words.{spaced_words, kind_text}
-use Rattle.iova_trace.specs.Text.{verb_text, verb_of, outcome_text, arguments_of, step_text, NumbersFit, header_numbers, header_text, IsHeader}
-use Rattle.iova_trace.specs.LineSteps.{IsStep}
+use Rattle.iova_line.specs.Text.{verb_text, verb_of, outcome_text, arguments_of, step_text, NumbersFit, header_numbers, header_text, IsHeader}
+use Rattle.iova_line.specs.LineSteps.{IsStep}
 use Rattle.iova_text.specs.Lines.{is_not_lf, HasNoLf, whole_line}
-use Rattle.iova_trace.specs.Lines.{step_line, trace_text, IsTrace, BeginsWithLines, IsOther, IsCutOff, MayFollow, IsRefused, next_line_number}
+use Rattle.iova_line.specs.Traces.{step_line, trace_text, IsTrace}
+use Rattle.iova_trace.specs.Lines.{BeginsWithLines, IsOther, IsCutOff, MayFollow, IsRefused, next_line_number}
 use Rattle.iova_text.proofs.LineEnds.{cut_once, no_line}
 use Rattle.iova_text.proofs.WordTexts.{no_lf_decimal, no_lf_kind, no_lf_words}
 use Rattle.iova_text.proofs.Cuts.{list_all-append}

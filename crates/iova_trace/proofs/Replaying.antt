@@ -1,5 +1,5 @@
 -- Two runs of the same steps are alike where memory was refused in neither.
-use Rattle.std.proofs.Common.{◌≡◌, ◌≢◌, ◌∙◌, List, [], ◌∷◌, map, refl, sym, ap, subst, inl, inr, Some}
+use Rattle.std.proofs.Common.{◌≡◌, ◌≢◌, ◌∙◌, List, [], ◌∷◌, map, refl, sym, ap, subst, inl, inr, Some, ℕ, ◌++◌}
 use Rattle.iova_range.specs.declared.refusal.Refusal.TheVariants as refusal
 use Rattle.iova_model.specs.declared.step.Step.{Step}
 use Rattle.iova_model.specs.declared.step.Reply.{Reply}
@@ -9,10 +9,12 @@ use Rattle.iova_model.specs.Laws.{PointsOnlyRefuse}
 use Rattle.iova_model.specs.Next.{Next, next}
 use Rattle.iova_model.specs.State.{State, new_domain}
 use Rattle.iova_model.specs.Transcript.{Pair, IsTranscript, after}
-use Rattle.iova_trace.specs.declared.trace.Trace.{Trace}
-use Rattle.iova_trace.specs.Recorded.{HadMemory, RecordsReplay, trace_of}
-use Rattle.iova_trace.specs.Replay.{IsReplayed}
+use Rattle.iova_line.specs.declared.trace.Trace.{Trace}
+use Rattle.iova_trace.specs.Recorded.{HadMemory, RecordsReplay, TranscriptsReplay}
+use Rattle.iova_line.specs.Recorded.{trace_of}
+use Rattle.iova_trace.specs.Replay.{IsReplayed, IsDone}
 use Rattle.iova_trace.proofs.Spellings.{same_trace}
+use Rattle.iova_line.specs.Traces.{trace_text}
 
 abbrev replies_of : List Pair → List Reply
 replies_of ps = map (λ p. p.reply) ps
@@ -60,3 +62,20 @@ records law bounds workers pairs written state steps transcript good done =
           (subst HadMemory (sym printed) now) in
           (sym printed ∙ both.0, sym run.state ∙ both.1);
     }
+
+tail_of : List ℕ → List ℕ
+tail_of [] = []
+tail_of (x ∷ xs) = xs
+
+same_tails : (x : ℕ) (us vs : List ℕ) → (x ∷ us) ≡ (x ∷ vs) → us ≡ vs
+unfolding tail_of
+same_tails x us vs e = ap tail_of e
+
+same_rest : (front xs ys : List ℕ) → front ++ xs ≡ front ++ ys → xs ≡ ys
+same_rest [] xs ys e = e
+same_rest (x ∷ front) xs ys e = same_rest front xs ys (same_tails x (front ++ xs) (front ++ ys) e)
+
+pub transcripts_replay : RecordsReplay → TranscriptsReplay
+transcripts_replay law = λ workers n steps old new text written state h appended few done.
+    let is : text ≡ trace_text (trace_of h.bounds workers h.pairs) = same_rest old text (trace_text (trace_of h.bounds workers h.pairs)) (sym appended ∙ h.text.0) in
+    law h.bounds workers h.pairs written state steps h.transcript (h.trace few) (subst (λ (t : List ℕ). IsDone t written state steps) is done)

@@ -10,10 +10,10 @@ use Rattle.iova_text.proofs.WordTexts.{same_front, same_kind}
 use Rattle.iova_text.proofs.LineEnds.{cut_once, no_line}
 use Rattle.iova_model.specs.declared.step.Step.{Step}
 use Rattle.iova_model.specs.declared.step.Step.TheVariants as step
-use Rattle.iova_trace.specs.declared.trace.Trace.{Trace}
-use Rattle.iova_trace.specs.LineSteps.{IsStep}
-use Rattle.iova_trace.specs.Lines.{IsTrace, step_line, trace_text}
-use Rattle.iova_trace.specs.Text.{verb_text, verb_of, outcome_text, arguments_of, step_text, NumbersFit, header_numbers, header_text, IsHeader}
+use Rattle.iova_line.specs.declared.trace.Trace.{Trace}
+use Rattle.iova_line.specs.LineSteps.{IsStep}
+use Rattle.iova_line.specs.Traces.{IsTrace, step_line, trace_text}
+use Rattle.iova_line.specs.Text.{verb_text, verb_of, outcome_text, arguments_of, step_text, NumbersFit, header_numbers, header_text, IsHeader}
 use Rattle.iova_trace.proofs.Headers.{header_numbers-first, header_numbers-second}
 use Rattle.iova_trace.proofs.Readings.{header_fits, no_lf_header, no_lf_step}
 

@@ -1,5 +1,4 @@
-pub mod Text
-pub mod LineSteps
+pub mod Replies
 pub mod Lines
 pub mod Whole
 pub mod Replay

@@ -1,28 +1,13 @@
 -- What stands in the bytes of a trace: its lines, the header first, and the first bad one. Own.
-use Rattle.std.specs.Prelude.{ℕ, ◌≡◌, ◌≢◌, ◌+◌, ◌<◌, ◌≤◌, ◌⊎◌, List, [], ◌++◌, length, flat_map, Option, Some, None}
-use Rattle.std.specs.List.{AllByRecursion}
+use Rattle.std.specs.Prelude.{ℕ, ◌≡◌, ◌≢◌, ◌+◌, ◌<◌, ◌⊎◌, List, [], ◌++◌, length, Option, Some, None}
 use Rattle.iova_range.specs.Bounds.{Extent}
 use Rattle.iova_range.specs.declared.limits.TheConstants.{MAX_STEPS}
 use Rattle.iova_text.specs.Lines.{HasNoLf, whole_line, IsOverlong}
 use Rattle.iova_model.specs.declared.step.Step.{Step}
-use Rattle.iova_trace.specs.declared.trace.Trace.{Trace}
-use Rattle.iova_trace.specs.Text.{header_text, step_text, IsHeader}
-use Rattle.iova_trace.specs.LineSteps.{IsStep}
-
--- Traces
-
--- a header, and steps, not too many
-pub record IsTrace (t : Trace) : Type 0 where
-  pub header : IsHeader t.bounds t.workers
-  pub steps : AllByRecursion IsStep t.steps
-  pub few : length t.steps ≤ MAX_STEPS
-
-abbrev pub step_line : Step → List ℕ
-step_line s = whole_line (step_text s)
-
--- the header's line, and a line for each step
-abbrev pub trace_text : Trace → List ℕ
-trace_text t = whole_line (header_text t.bounds t.workers) ++ flat_map step_line t.steps
+use Rattle.iova_line.specs.declared.trace.Trace.{Trace}
+use Rattle.iova_line.specs.Text.{header_text, step_text, IsHeader}
+use Rattle.iova_line.specs.LineSteps.{IsStep}
+use Rattle.iova_line.specs.Traces.{IsTrace, trace_text}
 
 -- these bytes are the text of the trace with this header and these steps
 pub record IsWritten (bytes : List ℕ) (bounds : Extent) (workers : ℕ) (steps : List Step) : Type 0 where

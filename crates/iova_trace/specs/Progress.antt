@@ -1,7 +1,7 @@
 -- What a replay keeps between two reads.
 use Rattle.std.specs.Prelude.{ℕ, ◌≡◌, ◌+◌, List, [], ◌++◌, Option, Some, None, Result, Ok, Err}
 use Rattle.iova_model.specs.State.{State}
-use Rattle.iova_trace.specs.declared.trace.Trace.{Trace}
+use Rattle.iova_line.specs.declared.trace.Trace.{Trace}
 use Rattle.iova_trace.specs.declared.fault.ReplayFault.{ReplayFault}
 use Rattle.iova_trace.specs.declared.fault.ReplayFault.TheVariants as fault
 use Rattle.iova_trace.specs.declared.replay.Progress.{Progress}

@@ -1,5 +1,5 @@
 -- What was recorded, as a trace, and what its replay writes. Own.
-use Rattle.std.specs.Prelude.{ℕ, ◌≡◌, ◌≢◌, List, map, flat_map}
+use Rattle.std.specs.Prelude.{ℕ, ◌≡◌, ◌≢◌, List, map, flat_map, ◌≤◌, ◌++◌}
 use Rattle.std.specs.List.{AllByRecursion}
 use Rattle.iova_range.specs.Bounds.{Extent}
 use Rattle.iova_range.specs.declared.refusal.Refusal.TheVariants as refusal
@@ -7,14 +7,11 @@ use Rattle.iova_model.specs.declared.step.Reply.{Reply}
 use Rattle.iova_model.specs.declared.step.Reply.TheVariants as reply
 use Rattle.iova_model.specs.State.{State, new_domain}
 use Rattle.iova_model.specs.Transcript.{Pair, IsTranscript, after}
-use Rattle.iova_trace.specs.declared.trace.Trace.{Trace}
-use Rattle.iova_trace.specs.Lines.{IsTrace, trace_text}
+use Rattle.iova_line.specs.Traces.{IsTrace, trace_text}
 use Rattle.iova_trace.specs.Replay.{IsDone}
-use Rattle.iova_trace.specs.Text.{reply_text}
-
--- the trace of a new domain's steps
-abbrev pub trace_of : Extent → ℕ → List Pair → Trace
-trace_of bounds workers pairs = record { bounds = bounds; workers = workers; steps = map (λ p. p.step) pairs }
+use Rattle.iova_trace.specs.Replies.{reply_text}
+use Rattle.iova_range.specs.declared.limits.TheConstants.{MAX_STEPS}
+use Rattle.iova_line.specs.Recorded.{trace_of, HasRecorded}
 
 -- no reply tells that memory was refused
 abbrev pub HadMemory : List Reply → Type 0
@@ -33,3 +30,10 @@ RecordsReplay = (bounds : Extent) (workers : ℕ) (pairs : List Pair) (written :
     → IsTranscript (new_domain bounds workers) pairs → IsTrace (trace_of bounds workers pairs)
     → IsDone (trace_text (trace_of bounds workers pairs)) written state steps
     → PrintsStored (map (λ p. p.reply) pairs) (after (new_domain bounds workers) pairs) written state
+
+-- A text that was appended so, of no more steps than a trace may have, is replayed to the replies that are stored and
+-- the state that they leave, where the replay is done to its end and memory was refused neither then nor now.
+abbrev pub TranscriptsReplay : Type 0
+TranscriptsReplay = (workers n steps : ℕ) (old new text written : List ℕ) (state : State)
+    → (h : HasRecorded workers old new n) → new ≡ old ++ text → n ≤ MAX_STEPS → IsDone text written state steps
+    → PrintsStored (map (λ p. p.reply) h.pairs) (after (new_domain h.bounds workers) h.pairs) written state

@@ -4,12 +4,13 @@ use Rattle.std.specs.Io.KnownBytes.{Consumes, Appends, IsAtEnd}
 use Rattle.iova_model.specs.declared.step.Reply.{Reply}
 use Rattle.iova_model.specs.State.{State, new_domain}
 use Rattle.iova_model.specs.Promises.{Runs}
-use Rattle.iova_trace.specs.declared.trace.Trace.{Trace}
+use Rattle.iova_line.specs.declared.trace.Trace.{Trace}
 use Rattle.iova_trace.specs.declared.fault.ReplayFault.{ReplayFault}
 use Rattle.iova_trace.specs.declared.fault.ReplayFault.TheVariants as fault
-use Rattle.iova_trace.specs.Text.{reply_text}
+use Rattle.iova_trace.specs.Replies.{reply_text}
 use Rattle.iova_text.specs.Lines.{IsUnended}
-use Rattle.iova_trace.specs.Lines.{IsTrace, trace_text, next_line_number, BeginsWithLines, IsBad, IsCutOff}
+use Rattle.iova_line.specs.Traces.{IsTrace, trace_text}
+use Rattle.iova_trace.specs.Lines.{next_line_number, BeginsWithLines, IsBad, IsCutOff}
 
 -- Lines were replayed: in a new domain, once there is a header, their steps leave this state and are answered by this text.
 -- The transcript of these steps keeps the promises.

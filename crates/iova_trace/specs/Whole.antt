@@ -1,6 +1,6 @@
 -- What the reading of a whole trace answers.
 use Rattle.std.specs.Prelude.{ℕ, ◌≡◌, ◌⊎◌, List, Result, Err}
-use Rattle.iova_trace.specs.declared.trace.Trace.{Trace}
+use Rattle.iova_line.specs.declared.trace.Trace.{Trace}
 use Rattle.iova_trace.specs.declared.fault.ReplayFault.{ReplayFault}
 use Rattle.iova_trace.specs.declared.fault.ReplayFault.TheVariants as fault
 use Rattle.iova_trace.specs.Lines.{IsRefused}

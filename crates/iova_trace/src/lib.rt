@@ -1,11 +1,10 @@
-//! The text of a trace: the header and the steps read from lines and written to them, the replies written, and whole
-//! traces read and replayed.
+//! Traces: the replies written, and whole traces read and replayed. What a trace says, and its lines, are passed on from `iova_line`.
 #![tactic(auto)]
 
 pub mod fault;
-pub mod line;
 pub mod recorded;
 pub mod replay;
 pub mod reply;
-pub mod trace;
 pub mod whole;
+
+pub use iova_line::{line, trace};

@@ -6,12 +6,12 @@ ghost use Rattle.iova_text.specs.Lines.{IsUnended};
 ghost use Rattle.iova_trace.specs.Replay.{Replays};
 
 use crate::fault::ReplayFault;
-use crate::line::read_header;
 use crate::reply::write_reply;
-use crate::trace::next_step;
 use iova_core::domain::Domain;
 use iova_laws::promises::promises_are_kept;
 use iova_laws::validity::new_domains_are_valid;
+use iova_line::line::read_header;
+use iova_line::trace::next_step;
 use iova_range::limits::{MAX_LINE, MAX_READS};
 use iova_text::buffer::LineBuffer;
 use iova_text::write::write_all;

@@ -1,7 +1,7 @@
 //! A reply's line, written.
 ghost use Rattle.std.specs.Prelude.{◌≡◌, ◌+◌, ◌<◌, ◌≤◌, ◌++◌, length, OnOk, OnErr, vec_len, vec_capacity};
 ghost use Rattle.iova_text.specs.Words.{refusal_line};
-ghost use Rattle.iova_trace.specs.Text.{reply_text};
+ghost use Rattle.iova_trace.specs.Replies.{reply_text};
 
 use iova_model::step::Reply;
 use iova_range::limits::MAX_LINE;

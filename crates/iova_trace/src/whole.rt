@@ -3,16 +3,17 @@ ghost use Rattle.std.specs.Prelude.{◌≡◌, ◌≢◌, ◌<◌, ℕ, List, []
 ghost use Rattle.iova_range.specs.Bounds.{Extent};
 ghost use Rattle.iova_range.specs.declared.limits.TheConstants.{MAX_STEPS};
 ghost use Rattle.iova_model.specs.declared.step.Step.{Step as S};
-ghost use Rattle.iova_trace.specs.Text.{IsHeader, header_text, step_text};
-ghost use Rattle.iova_trace.specs.LineSteps.{IsStep};
-ghost use Rattle.iova_trace.specs.Lines.{IsTrace, IsWritten, trace_text, IsRefused};
+ghost use Rattle.iova_line.specs.Text.{IsHeader, header_text, step_text};
+ghost use Rattle.iova_line.specs.LineSteps.{IsStep};
+ghost use Rattle.iova_line.specs.Traces.{IsTrace, trace_text};
+ghost use Rattle.iova_trace.specs.Lines.{IsWritten, IsRefused};
 ghost use Rattle.iova_trace.specs.Replay.{StopsAtBad};
 ghost use Rattle.iova_trace.specs.Whole.{IsFaultOf, IsUnlessOutOfMemory};
-ghost use Rattle.iova_trace.specs.declared.trace.Trace.{Trace as T};
+ghost use Rattle.iova_line.specs.declared.trace.Trace.{Trace as T};
 
 use crate::fault::ReplayFault;
-use crate::line::read_header;
-use crate::trace::{Steps, Trace, next_step};
+use iova_line::line::read_header;
+use iova_line::trace::{Steps, Trace, next_step};
 use iova_text::line::cut_line;
 use std::alloc::Global;
 
@@ -80,7 +81,7 @@ pub fn written_lines_are_a_trace()
 #[cfg(test)]
 mod tests {
     use super::*;
-    use crate::line::{write_header, write_step};
+    use iova_line::line::{write_header, write_step};
     use iova_model::step::Step;
     use iova_range::bounds::Bounds;
     use iova_range::profile::Profile;

@@ -18,5 +18,3 @@ mod Taking
 mod Kept
 mod Newest
 mod Comparing
-mod Gaps
-mod Picked

@@ -3,4 +3,3 @@ pub mod Spans
 pub mod Node
 pub mod Fit
 pub mod Space
-pub mod Sorted

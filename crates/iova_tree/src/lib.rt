@@ -6,8 +6,6 @@ mod position;
 mod ranges;
 mod room;
 mod search;
-#[cfg(test)]
-mod sorted_list;
 mod subtree;
 pub mod tree;
 mod window;

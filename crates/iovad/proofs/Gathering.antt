@@ -9,7 +9,8 @@ use Rattle.iova_range.specs.declared.refusal.Refusal.TheVariants as refusal
 use Rattle.std.proofs.lemmas.Bool.Decides.{nat_tests}
 use Rattle.std.proofs.lemmas.List.{length-map, length-append}
 use Rattle.std.proofs.lemmas.List.Folds.{list_any-append}
-use Rattle.iova_lock.specs.Views.{SeatState, has_seat, have_seats, is_each_once, new_seat, new_seats}
+use Rattle.iova_keep.specs.Views.{SeatState, new_seat, new_seats}
+use Rattle.iova_lock.specs.Books.{has_seat, have_seats, is_each_once}
 
 abbrev pub workers_of : List SeatState → List ℕ
 workers_of seats = map (λ s. s.worker) seats

@@ -21,27 +21,29 @@ pub fn answer<R: Read, W: Write>(
         (W.contents writer.old) (W.contents writer.new) result }
 {
     let replayed = replay(alloc, reader, writer);
-    follow(alloc, replayed, writer, has_report)
+    let told = follow(alloc, &replayed, writer, has_report);
+    drop(replayed);
+    told
 }
 
 /// Writes what comes after the replies of this replay.
 fn follow<W: Write>(
     alloc: Global,
-    replayed: Result<(Domain, u64), ReplayFault>,
+    replayed: &Result<(Domain, u64), ReplayFault>,
     writer: &mut W,
     has_report: bool,
 ) -> Result<(), ReplayFault>
-    ensures { Follows has_report (W.contents writer.old) (W.contents writer.new) replayed result }
+    ensures { Follows has_report (W.contents writer.old) (W.contents writer.new) replayed.now result }
 {
     match replayed {
         Ok((domain, _steps)) => {
             if has_report {
-                write_report(alloc, &domain, writer)
+                write_report(alloc, domain, writer)
             } else {
                 Ok(())
             }
         }
-        Err(fault) => Err(fault),
+        Err(fault) => Err(*fault),
     }
 }
 

@@ -1,7 +1,7 @@
 //! A daemon: the sessions of a plan, served on a socket, and the report of what they leave.
-ghost use Rattle.std.specs.Prelude.{◌≡◌, ◌<◌, ◌≤◌, ◌+◌, ◌*◌, ◌↔◌, Err, IfOk, map, vec_len};
+ghost use Rattle.std.specs.Prelude.{◌≡◌, ◌<◌, ◌≤◌, ◌+◌, ◌*◌, ◌↔◌, Err, IfOk, IfSome, map, vec_len};
 ghost use Rattle.iova_range.specs.declared.limits.TheConstants.{TALLY_PARTS};
-ghost use Rattle.iova_lock.specs.Views.{new_seats};
+ghost use Rattle.iova_keep.specs.Views.{new_seats};
 ghost use Rattle.iovad.specs.Plans.{IsAboveProfile, IsBoundsOf};
 
 use crate::fault::Fault;
@@ -10,7 +10,8 @@ use iova_command::plan::Plan;
 use iova_daemon::pause::Ticks;
 use iova_daemon::socket::SocketAccept;
 use iova_daemon::{Served, serve_on};
-use iova_lock::seat::Seat;
+use iova_keep::keep::Keep;
+use iova_keep::seat::Seat;
 use iova_lock::shared::Shared;
 use iova_range::bounds::Bounds;
 use iova_range::limits::{RECORDED_STEPS, TALLY_PARTS};
@@ -62,16 +63,102 @@ where
     ensures profile { plan.now.start ≤ plan.now.last → IsAboveProfile plan.now → result ≡ Err Fault.LastAboveProfile }
 {
     let bounds = bounds_of(plan)?;
-    let (shared, seats) = new_domain::<R, C, F, S, G>(
-        rt, plan, bounds, count, frames, sum_lo, good,
-    )?;
-    let (posts, sinks, listener) = match open_all(rt, plan, seats) {
-        Ok(opened) => opened,
-        Err(fault) => {
-            drop(shared);
-            return Err(fault);
+    match new_domain::<R, C, F, S, G>(rt, plan, bounds, count, frames, sum_lo, good) {
+        Some((shared, posts)) => serve_domain(rt, plan, shared, posts),
+        None => Err(Fault::NoMemory),
+    }
+}
+
+/// What keeps a daemon from its end once it has a domain: a plain value, which no function has to drop.
+#[derive(Clone, Copy)]
+enum Hindrance {
+    CannotOpenSink,
+    SocketFault,
+    NoMemory,
+    CannotWrite,
+}
+
+impl Hindrance {
+    /// The fault of the run.
+    fn fault(self) -> Fault<'static> {
+        match self {
+            Hindrance::CannotOpenSink => Fault::CannotOpenSink,
+            Hindrance::SocketFault => Fault::SocketFault,
+            Hindrance::NoMemory => Fault::NoMemory,
+            Hindrance::CannotWrite => Fault::CannotWrite,
         }
-    };
+    }
+}
+
+/// Serves on this domain at posts of all its workers, and tells what is left of it.
+fn serve_domain<R, C, F, S, G>(
+    rt: &R,
+    plan: &Plan<'_>,
+    shared: Shared<&R, C, F, S, G>,
+    posts: Vec<Post<C, F, S, G>>,
+) -> Result<(), Fault<'static>>
+where
+    R: Runtime + AllocGlobal + Net + Threads + Wait + Sync + Files<File = File> + Log,
+    C: Ledger + Send + Sync,
+    F: Ledger + Send + Sync,
+    S: Ledger + Send + Sync,
+    G: Ledger + Send + Sync,
+    requires workers { shared.workers ≡ plan.now.workers }
+    requires posts { map (λ p. p.seat) posts.items ≡ new_seats plan.now.workers }
+{
+    match serve_links(rt, plan, shared, posts) {
+        Ok(Served { shared, posts }) => finish(rt, plan, shared, posts),
+        Err(why) => Err(why.fault()),
+    }
+}
+
+/// Opens what the plan names, and serves its sessions. The posts that come back are those of all workers.
+fn serve_links<'a, R, C, F, S, G>(
+    rt: &'a R,
+    plan: &Plan<'_>,
+    shared: Shared<&'a R, C, F, S, G>,
+    posts: Vec<Post<C, F, S, G>>,
+) -> Result<Served<&'a R, C, F, S, G>, Hindrance>
+where
+    R: Runtime + AllocGlobal + Net + Threads + Wait + Sync + Files<File = File> + Log,
+    C: Ledger + Send + Sync,
+    F: Ledger + Send + Sync,
+    S: Ledger + Send + Sync,
+    G: Ledger + Send + Sync,
+    requires workers { shared.workers ≡ plan.now.workers }
+    requires posts { map (λ p. p.seat) posts.items ≡ new_seats plan.now.workers }
+    ensures { IfOk result (λ r. map (λ p. p.seat.worker) r.posts.items ≡ map (λ s. s.worker) (new_seats r.shared.workers)) }
+{
+    match open_all(rt, plan, posts.len() + 1) {
+        Ok((sinks, listener)) => serve_opened(rt, plan, shared, posts, sinks, listener),
+        Err(why) => {
+            drop(posts);
+            drop(shared);
+            Err(why)
+        }
+    }
+}
+
+/// The same, with a sink for each post and one more, and the socket. Its file is removed at the end.
+fn serve_opened<'a, R, C, F, S, G>(
+    rt: &'a R,
+    plan: &Plan<'_>,
+    shared: Shared<&'a R, C, F, S, G>,
+    posts: Vec<Post<C, F, S, G>>,
+    sinks: Vec<RecordSink<FileDevice>>,
+    listener: UnixListener,
+) -> Result<Served<&'a R, C, F, S, G>, Hindrance>
+where
+    R: Runtime + AllocGlobal + Net + Threads + Wait + Sync + Files<File = File> + Log,
+    C: Ledger + Send + Sync,
+    F: Ledger + Send + Sync,
+    S: Ledger + Send + Sync,
+    G: Ledger + Send + Sync,
+    requires workers { shared.workers ≡ plan.now.workers }
+    requires posts { map (λ p. p.seat) posts.items ≡ new_seats plan.now.workers }
+    requires sinks { vec_len sinks ≡ vec_len posts + 1 }
+    ensures { IfOk result (λ r. map (λ p. p.seat.worker) r.posts.items ≡ map (λ s. s.worker) (new_seats r.shared.workers)) }
+{
     let accept = SocketAccept::new(rt, rt, listener);
     let served = serve_on::<
         R,
@@ -96,48 +183,45 @@ where
         Ticks::new(rt),
         plan.sessions,
     );
-    // where it can't be removed, what is left of it keeps nobody from the report
-    let _ = fs::remove_file(rt, plan.socket);
+    drop(accept);
+    remove(rt, plan.socket);
     match served {
-        Ok(Served { shared, posts }) => finish(rt, plan, shared, posts),
-        Err(Refusal::NoMemory) => Err(Fault::NoMemory),
-        Err(_) => Err(Fault::SocketFault),
+        Ok(served) => Ok(served),
+        Err(Refusal::NoMemory) => Err(Hindrance::NoMemory),
+        Err(_) => Err(Hindrance::SocketFault),
     }
 }
 
-/// A post at each seat, a sink for each post and one more, and the socket. Refused by `NoMemory`, `CannotOpenSink` and
-/// `SocketFault`, in this order.
-fn open_all<R, C, F, S, G>(
+/// Removes the file at this path. Where it can't be removed, what is left of it keeps nobody from the report.
+fn remove<R: Files<File = File>>(rt: &R, path: &str) {
+    let _ = fs::remove_file(rt, path);
+}
+
+/// So many sinks, and the socket. Refused by `NoMemory`, `CannotOpenSink` and `SocketFault`, in this order.
+fn open_all<R: AllocGlobal + Net + Files<File = File>>(
     rt: &R,
     plan: &Plan<'_>,
-    seats: Vec<Seat<C, F, S, G>>,
-) -> Result<
-    (
-        Vec<Post<C, F, S, G>>,
-        Vec<RecordSink<FileDevice>>,
-        UnixListener,
-    ),
-    Fault<'static>,
->
-where
-    R: AllocGlobal + Net + Files<File = File>,
-    C: Ledger,
-    F: Ledger,
-    S: Ledger,
-    G: Ledger,
-    ensures posts { IfOk result (λ r. map (λ p. p.seat) r.0.items ≡ seats.items) }
-    ensures sinks { IfOk result (λ r. vec_len r.1 ≡ vec_len r.0 + 1) }
+    count: usize,
+) -> Result<(Vec<RecordSink<FileDevice>>, UnixListener), Hindrance>
+    ensures { IfOk result (λ r. vec_len r.0 ≡ count) }
 {
-    let posts = posts_of(rt.alloc(), seats)?;
-    let sinks = open_sinks(rt, rt.alloc(), plan.sink, posts.len() + 1)?;
+    let sinks = open_sinks(rt, rt.alloc(), plan.sink, count)?;
+    match bound(rt, plan.socket) {
+        Some(listener) => Ok((sinks, listener)),
+        None => {
+            drop(sinks);
+            Err(Hindrance::SocketFault)
+        }
+    }
+}
+
+/// The socket at this path, where it can be bound.
+fn bound<R: Net + Files<File = File>>(rt: &R, path: &str) -> Option<UnixListener> {
     // the system would take an empty path for a socket without a name
-    if plan.socket.is_empty() {
-        return Err(Fault::SocketFault);
+    if path.is_empty() {
+        return None;
     }
-    match UnixListener::bind(rt, plan.socket) {
-        Ok(listener) => Ok((posts, sinks, listener)),
-        Err(_) => Err(Fault::SocketFault),
-    }
+    UnixListener::bind(rt, path).ok()
 }
 
 /// Gathers what was served on, writes the record where one is wanted, and prints the domain. The posts are those of all workers.
@@ -155,25 +239,42 @@ where
     G: Ledger,
     requires posts { map (λ p. p.seat.worker) posts.items ≡ map (λ s. s.worker) (new_seats shared.workers) }
 {
-    let recorded = match seats_of(rt, rt.alloc(), plan.sink, &shared, posts) {
-        Ok(seats) => {
-            let Ok(_totals) = shared.gather(seats) else {
-                unreachable!();
-            };
-            match plan.record {
-                Some(path) => write_record(rt, path, &shared),
-                None => Ok(()),
-            }
-        }
-        Err(fault) => Err(fault),
-    };
+    let recorded = gather_all(rt, plan, &shared, posts);
     let domain = shared.into_domain();
     let printed = match recorded {
         Ok(()) => print_domain(rt.alloc(), plan.domain, &domain, &mut io::writer(rt)),
-        Err(fault) => Err(fault),
+        Err(why) => Err(why.fault()),
     };
     drop(domain);
     printed
+}
+
+/// Gathers the seats of the posts, and writes the record where one is wanted.
+fn gather_all<R, Q, C, F, S, G>(
+    rt: &R,
+    plan: &Plan<'_>,
+    shared: &Shared<Q, C, F, S, G>,
+    posts: Vec<Post<C, F, S, G>>,
+) -> Result<(), Hindrance>
+where
+    R: AllocGlobal + Files<File = File>,
+    Q: Wait,
+    C: Ledger,
+    F: Ledger,
+    S: Ledger,
+    G: Ledger,
+    requires posts { map (λ p. p.seat.worker) posts.items ≡ map (λ s. s.worker) (new_seats shared.now.workers) }
+{
+    let Some(seats) = seats_of(rt, rt.alloc(), plan.sink, shared, posts) else {
+        return Err(Hindrance::NoMemory);
+    };
+    let Ok(_totals) = shared.gather(seats) else {
+        unreachable!();
+    };
+    match plan.record {
+        Some(path) => write_record(rt, path, shared),
+        None => Ok(()),
+    }
 }
 
 /// The bounds of the plan's domain: in the second profile where the plan has a depot, else in the first. Refused by
@@ -199,7 +300,8 @@ fn bounds_of(plan: &Plan<'_>) -> Result<Bounds, Fault<'static>>
     }
 }
 
-/// The plan's domain under a lock, recorded and strict where the plan says so, and its seats. Refused by `NoMemory`.
+/// The plan's domain under a lock, recorded and strict where the plan says so, and a post at each of its seats. None for want
+/// of memory.
 fn new_domain<'a, R, C, F, S, G>(
     rt: &'a R,
     plan: &Plan<'_>,
@@ -208,7 +310,7 @@ fn new_domain<'a, R, C, F, S, G>(
     frames: Blank,
     sum_lo: Blank,
     good: Blank,
-) -> Result<(Shared<&'a R, C, F, S, G>, Vec<Seat<C, F, S, G>>), Fault<'static>>
+) -> Option<(Shared<&'a R, C, F, S, G>, Vec<Post<C, F, S, G>>)>
 where
     R: AllocGlobal,
     C: Ledger,
@@ -219,7 +321,7 @@ where
     requires frames { (frames.name ≡ F.name) × (frames.parts ≡ F.parts) × (frames.parts ≡ plan.now.workers) }
     requires sum_lo { (sum_lo.name ≡ S.name) × (sum_lo.parts ≡ S.parts) × (sum_lo.parts ≡ plan.now.workers) }
     requires good { (good.name ≡ G.name) × (good.parts ≡ G.parts) × (good.parts ≡ TALLY_PARTS * plan.now.workers) }
-    ensures { IfOk result (λ r. (r.0.workers ≡ plan.now.workers) × (r.1.items ≡ new_seats plan.now.workers)) }
+    ensures { IfSome result (λ r. (r.0.workers ≡ plan.now.workers) × (map (λ p. p.seat) r.1.items ≡ new_seats plan.now.workers)) }
 {
     let made = if plan.record.is_some() {
         Shared::<&R, C, F, S, G>::recorded(
@@ -248,12 +350,30 @@ where
         )
     };
     match made {
-        Ok((shared, seats)) => if plan.strict {
-            Ok((shared.strict(), seats))
+        Ok((shared, seats)) => posted(rt.alloc(), plan.strict, shared, seats),
+        Err(_) => None,
+    }
+}
+
+/// The domain, strict where that is wanted, and a post at each seat. None for want of memory.
+fn posted<Q: Drop, C: Ledger, F: Ledger, S: Ledger, G: Ledger>(
+    alloc: Global,
+    strict: bool,
+    shared: Shared<Q, C, F, S, G>,
+    seats: Vec<Seat<C, F, S, G>>,
+) -> Option<(Shared<Q, C, F, S, G>, Vec<Post<C, F, S, G>>)>
+    ensures { IfSome result (λ r. (r.0 ≡ shared) × (map (λ p. p.seat) r.1.items ≡ seats.items)) }
+{
+    match posts_of(alloc, seats) {
+        Some(posts) => if strict {
+            Some((shared.strict(), posts))
         } else {
-            Ok((shared, seats))
+            Some((shared, posts))
         },
-        Err(_) => Err(Fault::NoMemory),
+        None => {
+            drop(shared);
+            None
+        }
     }
 }
 
@@ -262,7 +382,7 @@ fn write_record<R, Q, C, F, S, G>(
     rt: &R,
     path: &str,
     shared: &Shared<Q, C, F, S, G>,
-) -> Result<(), Fault<'static>>
+) -> Result<(), Hindrance>
 where
     R: AllocGlobal + Files<File = File>,
     Q: Wait,
@@ -272,34 +392,39 @@ where
     G: Ledger,
 {
     let mut text = Vec::new(rt.alloc());
-    if shared.transcript(&mut text).is_err() {
-        return Err(Fault::NoMemory);
-    }
-    let Ok(mut file) = File::create(rt, path) else {
-        return Err(Fault::CannotWrite);
-    };
-    match write_all(&mut file, &text) {
-        Ok(()) => Ok(()),
-        Err(_) => Err(Fault::CannotWrite),
+    match shared.transcript(&mut text) {
+        Ok(_steps) => write_file(rt, path, &text),
+        Err(_) => Err(Hindrance::NoMemory),
     }
 }
 
-/// A post at each seat, in their order. Refused by `NoMemory`.
+/// Writes these bytes to the file at this path, in place of what is there. Refused by `CannotWrite`.
+fn write_file<R: Files<File = File>>(rt: &R, path: &str, text: &[u8]) -> Result<(), Hindrance> {
+    let Ok(mut file) = File::create(rt, path) else {
+        return Err(Hindrance::CannotWrite);
+    };
+    match write_all(&mut file, text) {
+        Ok(()) => Ok(()),
+        Err(_) => Err(Hindrance::CannotWrite),
+    }
+}
+
+/// A post at each seat, in their order. None for want of memory.
 fn posts_of<C: Ledger, F: Ledger, S: Ledger, G: Ledger>(
     alloc: Global,
     seats: Vec<Seat<C, F, S, G>>,
-) -> Result<Vec<Post<C, F, S, G>>, Fault<'static>>
-    ensures { IfOk result (λ v. map (λ p. p.seat) v.items ≡ seats.items) }
+) -> Option<Vec<Post<C, F, S, G>>>
+    ensures { IfSome result (λ v. map (λ p. p.seat) v.items ≡ seats.items) }
 {
     let Ok(mut posts) = Vec::with_capacity(alloc, seats.len()) else {
-        return Err(Fault::NoMemory);
+        return None;
     };
     for seat in seats {
         let Ok(()) = posts.push(Post::new(alloc, seat)) else {
             unreachable!();
         };
     }
-    Ok(posts)
+    Some(posts)
 }
 
 /// So many sinks, each with this file opened for appending. Refused by `NoMemory` and by `CannotOpenSink`.
@@ -308,15 +433,15 @@ fn open_sinks<R: Files<File = File>>(
     alloc: Global,
     path: &str,
     count: usize,
-) -> Result<Vec<RecordSink<FileDevice>>, Fault<'static>>
+) -> Result<Vec<RecordSink<FileDevice>>, Hindrance>
     ensures { IfOk result (λ v. vec_len v ≡ count) }
 {
     let Ok(mut sinks) = Vec::with_capacity(alloc, count) else {
-        return Err(Fault::NoMemory);
+        return Err(Hindrance::NoMemory);
     };
     for _ in 0..count {
         let Ok(device) = FileDevice::open(rt, path) else {
-            return Err(Fault::CannotOpenSink);
+            return Err(Hindrance::CannotOpenSink);
         };
         let Ok(()) = sinks.push(RecordSink::new(device)) else {
             unreachable!();
@@ -325,14 +450,14 @@ fn open_sinks<R: Files<File = File>>(
     Ok(sinks)
 }
 
-/// The posts' seats, in their order, once the clients that still wait were tried again. Refused by `NoMemory`.
+/// The posts' seats, in their order, once the clients that still wait were tried again. None for want of memory.
 fn seats_of<R, Q, C, F, S, G>(
     rt: &R,
     alloc: Global,
     path: &str,
     shared: &Shared<Q, C, F, S, G>,
     posts: Vec<Post<C, F, S, G>>,
-) -> Result<Vec<Seat<C, F, S, G>>, Fault<'static>>
+) -> Option<Vec<Seat<C, F, S, G>>>
 where
     R: Files<File = File>,
     Q: Wait,
@@ -340,23 +465,57 @@ where
     F: Ledger,
     S: Ledger,
     G: Ledger,
-    ensures { IfOk result (λ v. map (λ s. s.worker) v.items ≡ map (λ p. p.seat.worker) posts.items) }
+    ensures { IfSome result (λ v. map (λ s. s.worker) v.items ≡ map (λ p. p.seat.worker) posts.items) }
 {
     let Ok(mut seats) = Vec::with_capacity(alloc, posts.len()) else {
-        return Err(Fault::NoMemory);
+        return None;
     };
-    let mut keeper = shared;
     for post in posts {
-        let mut post = post;
-        if !post.waiting.is_empty()
-            && let Ok(device) = FileDevice::open(rt, path)
-        {
-            let _left = retry(&mut keeper, &mut post, &mut RecordSink::new(device));
-        }
-        let Post { seat, waiting: _ } = post;
-        let Ok(()) = seats.push(seat) else {
+        let Ok(()) = seats.push(seat_of(rt, path, shared, post)) else {
             unreachable!();
         };
     }
-    Ok(seats)
+    Some(seats)
+}
+
+/// The post's seat, once the clients that still wait were tried again.
+fn seat_of<R, C, F, S, G, K>(
+    rt: &R,
+    path: &str,
+    keeper: K,
+    post: Post<C, F, S, G>,
+) -> Seat<C, F, S, G>
+where
+    R: Files<File = File>,
+    C: Ledger,
+    F: Ledger,
+    S: Ledger,
+    G: Ledger,
+    K: Keep<C, F, S, G> + Drop,
+    ensures { result.worker ≡ post.seat.worker }
+{
+    let mut keeper = keeper;
+    let mut post = post;
+    if !post.waiting.is_empty() {
+        retry_at(rt, path, &mut keeper, &mut post);
+    }
+    let Post { seat, waiting: _ } = post;
+    seat
+}
+
+/// Tries the clients that wait at this post again, where the file for the records can be opened.
+fn retry_at<R, C, F, S, G, K>(rt: &R, path: &str, keeper: &mut K, post: &mut Post<C, F, S, G>)
+where
+    R: Files<File = File>,
+    C: Ledger,
+    F: Ledger,
+    S: Ledger,
+    G: Ledger,
+    K: Keep<C, F, S, G>,
+    ensures { post.new.seat.worker ≡ post.old.seat.worker }
+{
+    if let Ok(device) = FileDevice::open(rt, path) {
+        let mut sink = RecordSink::new(device);
+        let _left = retry(keeper, post, &mut sink);
+    }
 }

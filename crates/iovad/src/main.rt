@@ -5,8 +5,6 @@ mod answer;
 mod daemon;
 mod fault;
 mod outcome;
-#[cfg(test)]
-mod tests;
 
 use answer::answer;
 use daemon::serve;
@@ -100,11 +98,17 @@ fn ask_at<R>(rt: &R, path: &str) -> Result<(), Fault<'static>>
 where
     R: Runtime + AllocGlobal + Net,
 {
-    let Ok(stream) = UnixStream::connect(rt, path) else {
-        return Err(Fault::SocketFault);
-    };
-    let mut link = SocketLink::new(stream);
-    match ask_lines(rt.alloc(), &mut rt.reader(), &mut io::writer(rt), &mut link) {
+    match UnixStream::connect(rt, path) {
+        Ok(stream) => ask_over(rt, SocketLink::new(stream)),
+        Err(_) => Err(Fault::SocketFault),
+    }
+}
+
+/// The same over this link.
+fn ask_over<R: Runtime + AllocGlobal>(rt: &R, link: SocketLink) -> Result<(), Fault<'static>> {
+    let mut link = link;
+    let asked = ask_lines(rt.alloc(), &mut rt.reader(), &mut io::writer(rt), &mut link);
+    match asked {
         Ok(_sent) => Ok(()),
         Err(fault) => Err(Fault::of_ask(fault)),
     }

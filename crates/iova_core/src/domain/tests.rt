@@ -149,8 +149,5 @@ fn no(refusal: Refusal) -> Reply {
     Reply::Refused(refusal)
 }
 
-mod flushing;
-mod ledgers;
 mod memory;
 mod readers;
-mod requests;

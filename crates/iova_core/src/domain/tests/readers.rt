@@ -127,3 +127,70 @@ fn frames_at_all_six_kinds_of_place(rt: HostRuntime) -> Result<(), Fail> {
     drop(domain);
     Ok(())
 }
+
+#[test]
+fn one_to_sixteen_workers(rt: HostRuntime) -> Result<(), Fail> {
+    let bounds = Bounds::new(1, 1023)?;
+    for workers in [0, 17, u64::MAX] {
+        let refusal = Domain::new(rt.alloc(), bounds, workers).err();
+        assert_eq!(rt; refusal, Some(Refusal::NoWorker));
+    }
+    let domain = domain_in(rt.alloc(), bounds, 16)?;
+    assert_eq!(rt; (domain.workers(), domain.bounds()), (16, bounds));
+    drop(domain);
+    Ok(())
+}
+
+#[test]
+fn windows_over_frames_in_caches_and_rings(rt: HostRuntime) -> Result<(), Fail> {
+    let mut domain = domain(rt.alloc(), 1023, 1)?;
+    answers(
+        &rt,
+        &mut domain,
+        &[
+            (open(0, false), Reply::Opened(1)),
+            (alloc(0, 1, 1, 1023), given(1023, 1)),
+            (unmap(0, 1, 1023), queued(1023, 1)),
+            (reserve(1000, 1023), no(Refusal::Taken)),
+            (Step::Begin, Reply::Begun(1)),
+            (end(1, true), Reply::Ended),
+            (drain(0, 0), Reply::Drained(1)),
+            (reserve(1000, 1023), no(Refusal::Taken)),
+            // which empties the caches
+            (alloc(0, 1, 1000, 1023), no(Refusal::NoSpace)),
+            (reserve(1000, 1023), reserved(1000, 24)),
+        ],
+    );
+    drop(domain);
+    Ok(())
+}
+
+#[test]
+fn drained_into_the_magazines_of_who_drains(rt: HostRuntime) -> Result<(), Fail> {
+    let mut domain = domain(rt.alloc(), 1023, 2)?;
+    answers(
+        &rt,
+        &mut domain,
+        &[
+            (open(0, false), Reply::Opened(1)),
+            (open(1, false), Reply::Opened(2)),
+            (alloc(0, 1, 1, 1023), given(1023, 1)),
+            (unmap(0, 1, 1023), queued(1023, 1)),
+            (Step::Begin, Reply::Begun(1)),
+            (end(1, true), Reply::Ended),
+            (drain(1, 0), Reply::Drained(0)),
+            (drain(0, 1), Reply::Drained(1)),
+        ],
+    );
+    assert_eq!(rt; domain.place(1023), Some(Place::Magazine(1)));
+    answers(
+        &rt,
+        &mut domain,
+        &[
+            (alloc(0, 1, 1, 1023), given(1022, 1)),
+            (alloc(1, 2, 1, 1023), given(1023, 1)),
+        ],
+    );
+    drop(domain);
+    Ok(())
+}

@@ -4,6 +4,6 @@ use Rattle.iova_daemon.proofs.threads.join_all.Given as goal
 
 abbrev pub invariant-loop-handle : goal.invariant-loop-handle
 invariant-loop-handle g l =
-    (map (λ p. p.seat.worker) l.back.items ≡ map (λ h. h.promise.0) l.yielded)
+    (map g.P.Place.worker l.back.items ≡ map (λ h. h.promise.0) l.yielded)
     × (vec_len l.back + into_iter_len l.handle-iterator ≡ vec_len l.fn.started)
     × (vec_len l.fn.started ≤ vec_capacity l.back)

@@ -1,5 +1,5 @@
 use Rattle.std.proofs.Common.{◌∙◌, refl}
-use Rattle.iova_lock.proofs.StepLogs.{goes_on_here, goes_on_further}
+use Rattle.iova_record.proofs.GoingOn.{goes_on_here, goes_on_further}
 use Rattle.iova_lock.proofs.batch.+run_all.Goals as goal
 
 pub returns-in_default-clause-rest : goal.returns-in_default-clause-rest

@@ -1,6 +1,6 @@
 use Rattle.std.proofs.Common.{refl}
 use Rattle.iova_lock.proofs.Batches.{tells_of_asked}
-use Rattle.iova_lock.proofs.StepLogs.{goes_on_here}
+use Rattle.iova_record.proofs.GoingOn.{goes_on_here}
 use Rattle.iova_lock.proofs.batch.batch.Goals as goal
 
 pub returns-then-is_err-clause-rest : goal.returns-then-is_err-clause-rest

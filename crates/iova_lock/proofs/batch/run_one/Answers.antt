@@ -1,5 +1,5 @@
 use Rattle.std.proofs.Common.{refl}
-use Rattle.iova_lock.proofs.StepLogs.{goes_on_here}
+use Rattle.iova_record.proofs.GoingOn.{goes_on_here}
 use Rattle.iova_lock.proofs.batch.run_one.Goals as goal
 
 pub returns-in-Stat-clause-rest : goal.returns-in-Stat-clause-rest

@@ -1,7 +1,7 @@
 use Rattle.std.proofs.Common.{◌≡◌, ◌++◌, ℕ, List, Option, take, drop}
 use Rattle.iova_model.specs.State.{State}
 use Rattle.iova_sink.specs.Calls.{Call}
-use Rattle.iova_lock.specs.Views.{SeatState, WhereKnown}
+use Rattle.iova_keep.specs.Views.{SeatState, WhereKnown}
 use Rattle.iova_session.specs.Desks.{KeepsPlace}
 use Rattle.iova_session.specs.Posts.{Retries}
 use Rattle.iova_session.proofs.Retrying.{Tried}

@@ -1,6 +1,6 @@
 use Rattle.std.proofs.Common.{◌∙◌, ap, None, Some}
 use Rattle.std.specs.Prelude.{Ok}
-use Rattle.iova_lock.specs.declared.ending.Ending.TheVariants as ending
+use Rattle.iova_keep.specs.declared.ending.Ending.TheVariants as ending
 use Rattle.iova_session.proofs.Others.{end_keeps}
 use Rattle.iova_session.proofs.run.end_opened.Goals as goal
 

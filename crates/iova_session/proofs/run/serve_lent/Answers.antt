@@ -1,5 +1,5 @@
 use Rattle.std.proofs.Common.{ap, subst}
-use Rattle.iova_lock.specs.Views.{SeatState}
+use Rattle.iova_keep.specs.Views.{SeatState}
 use Rattle.iova_session.specs.Desks.{SessionState, MovesBy, given_in, taken_in}
 use Rattle.iova_session.proofs.ToldPairs.{moved_none}
 use Rattle.iova_session.proofs.Others.{same_known}

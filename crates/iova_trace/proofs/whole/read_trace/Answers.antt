@@ -2,9 +2,9 @@ use Rattle.std.proofs.Common.{◌≡◌, ◌+◌, ◌<◌, ◌∙◌, ℕ, List,
 use Rattle.std.proofs.lemmas.Bool.{eqb-true, eqb-false}
 use Rattle.std.proofs.lemmas.Grind.{common_steps}
 use Rattle.iova_trace.specs.declared.fault.ReplayFault.TheVariants.{BadTrace}
-use Rattle.iova_trace.specs.declared.line.Header.{Header}
-use Rattle.iova_trace.specs.declared.trace.Trace.{Trace}
-use Rattle.iova_trace.specs.Text.{header_text, step_text}
+use Rattle.iova_line.specs.declared.line.Header.{Header}
+use Rattle.iova_line.specs.declared.trace.Trace.{Trace}
+use Rattle.iova_line.specs.Text.{header_text, step_text}
 use Rattle.iova_trace.proofs.LineSteps.{IsTrace-more}
 use Rattle.iova_text.proofs.LineEnds.{cut_once, no_line}
 use Rattle.iova_trace.proofs.Readings.{trace_of, IsOnly, IsStuck, HasNoHeader, only_header, only_step, only_whole, only_not_refused, stuck_whole, stuck_refused, no_header_whole, no_header_refused, whole_header, whole_step, nil_of, no_lf_header, no_lf_step}

@@ -1,5 +1,5 @@
 use Rattle.std.proofs.Common.{◌≡◌, ◌++◌, length}
-use Rattle.iova_trace.specs.Lines.{IsTrace, trace_text}
+use Rattle.iova_line.specs.Traces.{IsTrace, trace_text}
 use Rattle.iova_trace.proofs.Readings.{trace_of, IsOnly}
 use Rattle.iova_trace.proofs.whole.read_trace.Given as goal
 

@@ -1,7 +1,7 @@
 use Rattle.std.proofs.Common.{◌∙◌, ℕ, List, ◌++◌, sym, ap, arith, append-nil}
 use Rattle.iova_text.specs.Lines.{whole_line}
-use Rattle.iova_trace.specs.Text.{header_text}
-use Rattle.iova_trace.specs.Lines.{step_line}
+use Rattle.iova_line.specs.Text.{header_text}
+use Rattle.iova_line.specs.Traces.{step_line}
 use Rattle.iova_trace.proofs.LineSteps.{IsTrace-more, trace_text-more}
 use Rattle.iova_trace.proofs.Readings.{trace_of}
 use Rattle.iova_trace.proofs.whole.written_lines_are_a_trace.Goals as goal

@@ -1,6 +1,6 @@
 use Rattle.std.proofs.Common.{◌∙◌, refl}
 use Rattle.iova_lock.proofs.Drains.{drains_none, drains_more, rings_step}
-use Rattle.iova_lock.proofs.StepLogs.{goes_on_here, goes_on_further}
+use Rattle.iova_record.proofs.GoingOn.{goes_on_here, goes_on_further}
 use Rattle.iova_lock.proofs.book.Book.+drain_rings.Goals as goal
 
 pub returns-then-left-eq0-clause-drains : goal.returns-then-left-eq0-clause-drains

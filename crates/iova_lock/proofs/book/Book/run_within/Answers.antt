@@ -1,6 +1,6 @@
 use Rattle.std.proofs.Common.{refl}
-use Rattle.iova_lock.proofs.Doing.{does_run, does_not_run}
-use Rattle.iova_lock.proofs.StepLogs.{goes_on_here}
+use Rattle.iova_lock.proofs.SingleHolds.{does_run, does_not_run}
+use Rattle.iova_record.proofs.GoingOn.{goes_on_here}
 use Rattle.iova_lock.proofs.book.Book.run_within.Goals as goal
 
 pub returns-then-not-covers_step-clause-does : goal.returns-then-not-covers_step-clause-does

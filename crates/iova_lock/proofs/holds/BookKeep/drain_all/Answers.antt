@@ -1,6 +1,6 @@
 use Rattle.std.proofs.Common.{◌≤◌, sym, arith}
 use Rattle.iova_lock.proofs.Drains.{refused_so}
-use Rattle.iova_lock.proofs.Endings.{all_drained, none_drained}
+use Rattle.iova_lock.proofs.Ends.{all_drained, none_drained}
 use Rattle.iova_lock.proofs.holds.BookKeep.drain_all.Goals as goal
 
 pub returns-then-by-workers-clause-domain : goal.returns-then-by-workers-clause-domain

@@ -9,7 +9,7 @@ returns-clause-domain g c =
     let strictly : c.is_strict.result ≡ c.args.self.now.strict = c.is_strict.ensures ∙ c.run_within-reply.ensures.same.1 in
     let flush = rw strictly at c.flush_follows.ensures in
     elim c.if-flush_follows.branch [
-      | then-flush_follows w ↦ rw (w.begun-is, w.self-is) (first_with _ _ _ _ _ _ _ _ (rw w.if-flush_follows.true at flush) does w.run_flush.ensures.takes)
+      | then-flush_follows w ↦ rw (w.begun-is, w.self-is) (first_with _ _ _ _ _ _ _ _ (rw w.if-flush_follows.true at flush) does w.run_flush_at.ensures.takes)
       | else-flush_follows w ↦ rw (w.begun-is, w.self-is) (first_without _ _ _ _ _ _ (rw w.if-flush_follows.false at flush) does)
     ]
 
@@ -17,6 +17,6 @@ pub returns-clause-begun : goal.returns-clause-begun
 returns-clause-begun g c =
     let flush = c.flush_follows.ensures in
     elim c.if-flush_follows.branch [
-      | then-flush_follows w ↦ rw w.begun-is (release_begun c.is_strict.result _ _ (rw w.if-flush_follows.true at flush) w.run_flush.ensures.kind)
+      | then-flush_follows w ↦ rw w.begun-is (release_begun c.is_strict.result _ _ (rw w.if-flush_follows.true at flush) w.run_flush_at.ensures.kind)
       | else-flush_follows w ↦ rw w.begun-is tt
     ]

@@ -6,10 +6,10 @@ pub returns-then-finish-no-clause-domain : goal.returns-then-finish-no-clause-do
 returns-then-finish-no-clause-domain g c =
     let drained = rw c.worker-worker.ensures at c.run_drain-reply.ensures.takes in
     let short : c.run_drain-reply.new.self.state.flushes.finish < c.args.no = omega (arith, c.finish.ensures, c.if-finish-no.true) in
-    last_not_reached c.args.seat.now _ _ _ _ _ _ _ c.run_flush-ended.ensures.takes drained short
+    last_not_reached c.args.seat.now _ _ _ _ _ _ _ c.run_flush_at-ended.ensures.takes drained short
 
 pub returns-clause-domain : goal.returns-clause-domain
 returns-clause-domain g c =
     let drained = rw c.worker-worker.ensures at c.run_drain-reply.ensures in
     let enough : c.args.no ≤ c.run_drain-reply.new.self.state.flushes.finish = omega (arith, c.finish.ensures, c.if-finish-no.false) in
-    last_answered c.args.seat.now _ _ _ _ _ c.is_drained.result _ _ _ c.run_flush-ended.ensures.takes drained.takes enough drained.drained c.is_drained.ensures.yes c.is_drained.ensures.none
+    last_answered c.args.seat.now _ _ _ _ _ c.is_drained.result _ _ _ c.run_flush_at-ended.ensures.takes drained.takes enough drained.drained c.is_drained.ensures.yes c.is_drained.ensures.none

@@ -1,7 +1,7 @@
 use Rattle.std.proofs.Common.{rules, ℕ, ◌≡◌, ◌≢◌, ◌+◌, List, [], ◌++◌, Option, Some, None, refl, ap, subst, ◌∙◌}
 use Rattle.std.proofs.lemmas.List.{append-nil}
 use Rattle.iova_model.specs.State.{State}
-use Rattle.iova_trace.specs.declared.trace.Trace.{Trace}
+use Rattle.iova_line.specs.declared.trace.Trace.{Trace}
 use Rattle.iova_text.specs.Lines.{HasNoLf}
 use Rattle.iova_trace.specs.Lines.{IsCutOff, next_line_number, count_steps}
 use Rattle.iova_trace.specs.Progress.{number_at}

@@ -1,6 +1,6 @@
 use Rattle.std.proofs.Common.{refl, ap, ◌∙◌, ◌++◌, Some}
 use Rattle.iova_model.specs.State.{State}
-use Rattle.iova_trace.specs.Text.{reply_text}
+use Rattle.iova_trace.specs.Replies.{reply_text}
 use Rattle.iova_trace.proofs.LineSteps.{step_taken}
 use Rattle.iova_trace.proofs.replay.Progress.run_line.Goals as goal
 

@@ -1,0 +1,4 @@
+mod Doing
+mod Closings
+mod Endings
+mod Releases

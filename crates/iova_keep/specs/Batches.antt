@@ -1,0 +1,126 @@
+-- Several asks in one hold.
+use Rattle.std.specs.Prelude.{ℕ, ◌≡◌, ◌≢◌, Bool, true, false, List, [], ◌∷◌, ◌++◌, length, Result, MatchResult}
+use Rattle.iova_range.specs.declared.refusal.Refusal.{Refusal}
+use Rattle.iova_range.specs.declared.refusal.Refusal.TheVariants as refusal
+use Rattle.iova_model.specs.declared.step.Step.TheVariants as step
+use Rattle.iova_model.specs.declared.step.Reply.{Reply}
+use Rattle.iova_model.specs.declared.step.Reply.TheVariants as reply
+use Rattle.iova_model.specs.declared.totals.Totals.{Totals}
+use Rattle.iova_model.specs.State.{State}
+use Rattle.iova_model.specs.Laws.{MovesTotals}
+use Rattle.iova_keep.specs.declared.ask.Ask.{Ask}
+use Rattle.iova_keep.specs.declared.ask.Ask.TheVariants as ask
+use Rattle.iova_keep.specs.declared.ask.Told.{Told}
+use Rattle.iova_keep.specs.declared.ask.Told.TheVariants as told
+use Rattle.iova_keep.specs.Steps.{Takes}
+use Rattle.iova_keep.specs.Views.{SeatState, IsAllocRefusal, IsUnmapRefusal, IsGivenTo, stat_of}
+use Rattle.iova_keep.specs.Events.{Does, Unmapping}
+
+-- what may be told of an ask: a request is given a range of its own, or refused; what is freed begins where it was
+-- asked, and where the ring is full nothing is told
+abbrev pub IsToldOf : Ask → Told → Type 0
+IsToldOf (ask.Alloc frames limit) (told.Given r) = IsGivenTo frames limit r
+IsToldOf (ask.Alloc frames limit) (told.Refused e) = IsAllocRefusal e
+IsToldOf (ask.Free lo) (told.Queued r) = r.lo ≡ lo
+IsToldOf (ask.Free lo) (told.Refused e) = IsUnmapRefusal e × (e ≢ refusal.RingFull)
+IsToldOf ask.Stat (told.Stat x) = Unit {0}
+IsToldOf a x = ⊥
+
+-- the reply that is told so
+abbrev pub IsReplyTold : Reply → Told → Type 0
+IsReplyTold (reply.Given r) (told.Given q) = q ≡ r
+IsReplyTold (reply.Queued r) (told.Queued q) = q ≡ r
+IsReplyTold (reply.Refused e) (told.Refused f) = f ≡ e
+IsReplyTold r x = ⊥
+
+-- the shares move by what is told
+abbrev pub MovesTold : Told → Totals → Totals → Type 0
+MovesTold (told.Given r) old new = MovesTotals (reply.Given r) old new
+MovesTold (told.Queued r) old new = MovesTotals (reply.Queued r) old new
+MovesTold (told.Stat x) old new = new ≡ old
+MovesTold (told.Refused e) old new = new ≡ old
+
+-- One ask of a client of worker w, whose seat has `held`: it is told so, and leads from s to t.
+abbrev pub DoesAsk : ℕ → ℕ → Ask → Told → Totals → State → State → Type 0
+DoesAsk w id (ask.Alloc frames limit) x held s t =
+    (r : Reply) × IsReplyTold r x × Takes s (step.Alloc w id frames limit) r t
+DoesAsk w id (ask.Free lo) x held s t =
+    (r : Reply) × IsReplyTold r x × (r ≢ reply.Refused refusal.RingFull)
+    × Does (Unmapping (step.Unmap w id lo) held r) s t
+DoesAsk w id ask.Stat x held s t = (x ≡ told.Stat (stat_of s)) × (t ≡ s)
+
+-- What is told of the reply to an ask is appended.
+pub record TellsReply (a : Ask) (r : Reply) (before now : List Told) : Type 0 where
+  pub told : Told
+  pub appended : now ≡ before ++ told ∷ []
+  pub of_reply : IsReplyTold r told
+  pub of_ask : IsToldOf a told
+
+-- One ask is done, and what is told of it appended.
+pub record TellsOne (w id : ℕ) (a : Ask) (before now : List Told) (held left : Totals) (s t : State) : Type 0 where
+  pub told : Told
+  pub appended : now ≡ before ++ told ∷ []
+  pub of_ask : IsToldOf a told
+  pub moves : MovesTold told held left
+  pub does : DoesAsk w id a told held s t
+
+-- A batch stops at a free whose ring is full, and there it has changed nothing but what that step did.
+abbrev pub StopsAt : ℕ → ℕ → List Ask → Totals → State → State → Type 0
+StopsAt w id [] held s t = t ≡ s
+StopsAt w id (ask.Free lo ∷ asks) held s t =
+    Does (Unmapping (step.Unmap w id lo) held (reply.Refused refusal.RingFull)) s t
+StopsAt w id (a ∷ asks) held s t = ⊥
+
+-- The asks are done in order, and told so; where some are left, the next one is a free whose ring is full.
+abbrev pub DoesAsks : ℕ → ℕ → List Ask → List Told → Totals → Totals → State → State → Type 0
+DoesAsks w id asks [] held left s t = StopsAt w id asks held s t × (left ≡ held)
+DoesAsks w id [] (x ∷ xs) held left s t = ⊥
+DoesAsks w id (a ∷ asks) (x ∷ xs) held left s t =
+    (mid : State) × (now : Totals) × DoesAsk w id a x held s mid × MovesTold x held now
+    × DoesAsks w id asks xs now left mid t
+
+-- a batch ends with its last ask, or before a free
+abbrev pub MayStop : List Ask → Type 0
+MayStop [] = Unit {0}
+MayStop (ask.Free lo ∷ asks) = Unit {0}
+MayStop (a ∷ asks) = ⊥
+
+-- the same, of a keeper whose domain isn't known
+abbrev pub ToldOfAsks : List Ask → List Told → Totals → Totals → Type 0
+ToldOfAsks asks [] held left = MayStop asks × (left ≡ held)
+ToldOfAsks [] (x ∷ xs) held left = ⊥
+ToldOfAsks (a ∷ asks) (x ∷ xs) held left =
+    (now : Totals) × IsToldOf a x × MovesTold x held now × ToldOfAsks asks xs now left
+
+-- so many asks were done, and what is told of them appended
+pub record Batched (w id : ℕ) (asks : List Ask) (before now : List Told) (count : ℕ) (held left : Totals) (s t : State)
+    : Type 0 where
+  pub more : List Told
+  pub appended : now ≡ before ++ more
+  pub counted : length more ≡ count
+  pub does : DoesAsks w id asks more held left s t
+
+pub record TellsAsks (asks : List Ask) (before now : List Told) (count : ℕ) (held left : Totals) : Type 0 where
+  pub more : List Told
+  pub appended : now ≡ before ++ more
+  pub counted : length more ≡ count
+  pub told : ToldOfAsks asks more held left
+
+-- The asks that a batch may do: all of them, in a strict domain those before the first free.
+
+abbrev pub before_free : List Ask → List Ask
+before_free [] = []
+before_free (ask.Free lo ∷ asks) = []
+before_free (ask.Alloc frames limit ∷ asks) = ask.Alloc frames limit ∷ before_free asks
+before_free (ask.Stat ∷ asks) = ask.Stat ∷ before_free asks
+
+abbrev pub may_do : Bool → List Ask → List Ask
+may_do true asks = before_free asks
+may_do false asks = asks
+
+-- a batch that is refused has done nothing
+abbrev pub DoesBatch : Bool → SeatState → Totals → ℕ → List Ask → List Told → List Told → Result ℕ Refusal → State
+    → State → Type 0
+DoesBatch strict seat left id asks before now result s t =
+    MatchResult result (λ count. Batched seat.worker id (may_do strict asks) before now count seat.held left s t)
+    (λ e. t ≡ s)

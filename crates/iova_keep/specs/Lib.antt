@@ -1,0 +1,6 @@
+pub mod Steps
+pub mod Views
+pub mod Events
+pub mod Answers
+pub mod Releases
+pub mod Batches

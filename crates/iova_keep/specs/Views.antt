@@ -1,0 +1,221 @@
+-- What contracts see of seats and tallies, and what a keeper tells.
+use Rattle.std.specs.Prelude.{ℕ, zero, suc, ◌≡◌, ◌+◌, ◌<◌, ◌≤◌, ◌%◌, ◌⊎◌, List, [], ◌∷◌, ◌++◌, length, Option, Some, None, Result, Ok, Err, MatchOption}
+use Rattle.iova_range.specs.declared.refusal.Refusal.{Refusal}
+use Rattle.iova_range.specs.declared.refusal.Refusal.TheVariants as refusal
+use Rattle.iova_range.specs.Frames.{Frames}
+use Rattle.iova_range.specs.Sizes.{need, align_of}
+use Rattle.iova_range.specs.declared.limits.TheConstants.{TALLY_PARTS}
+use Rattle.iova_range.specs.declared.stat.Stat.{Stat}
+use Rattle.iova_model.specs.declared.step.Step.TheVariants as step
+use Rattle.iova_model.specs.declared.step.Reply.{Reply}
+use Rattle.iova_model.specs.declared.step.Reply.TheVariants as reply
+use Rattle.iova_model.specs.declared.totals.Totals.{Totals}
+use Rattle.iova_model.specs.Clients.{Client, client_with, totals_of, totals}
+use Rattle.iova_model.specs.Valid.{IsValid}
+use Rattle.iova_model.specs.Promises.{OnePlace, HoldersAreWithin, OwnersAreAligned}
+use Rattle.iova_model.specs.State.{State, counts}
+use Rattle.iova_model.specs.Laws.{MovesTotals, IsAmong, IsReplyTo, add_totals, CountsAddUp, shares_below}
+use Rattle.iova_keep.specs.declared.ending.Ending.{Ending}
+use Rattle.iova_keep.specs.declared.ending.Ending.TheVariants as ending
+use Rattle.iova_keep.specs.declared.unmapped.Unmapped.{Unmapped}
+use Rattle.iova_keep.specs.declared.unmapped.Unmapped.TheVariants as unmapped
+use Rattle.iova_sink.specs.Calls.{Call, good_calls}
+
+-- a tally: the flushes that it ended well, and its parts
+pub record TallyState : Type 0 where
+  pub good : ℕ
+  pub parts : ℕ
+
+-- a seat: its worker, its shares, and its tally
+pub record SeatState : Type 0 where
+  pub worker : ℕ
+  pub held : Totals
+  pub tally : TallyState
+
+-- a domain's four ledgers: the totals of the holdings' three, and of the flushes that ended well
+pub record LedgersState : Type 0 where
+  pub shares : Totals
+  pub ended : ℕ
+
+abbrev pub nothing : Totals
+nothing = totals_of []
+
+-- a worker's new seat
+abbrev pub new_seat : ℕ → SeatState
+new_seat worker = record { worker = worker; held = record { count = 0; frames = 0; sum_lo = 0 }; tally = record { good = 0; parts = TALLY_PARTS } }
+
+-- the new seats of the workers below a number
+abbrev pub new_seats : ℕ → List SeatState
+new_seats zero = []
+new_seats (suc n) = new_seats n ++ new_seat n ∷ []
+
+-- a seat has less than a range, in one of its shares
+abbrev pub Lacks : Totals → Frames → Type 0
+Lacks held r = (held.count < 1) ⊎ (held.frames < r.len) ⊎ (held.sum_lo < r.lo)
+
+-- or not
+abbrev pub Covers : Totals → Frames → Type 0
+Covers held r = (1 ≤ held.count) × (r.len ≤ held.frames) × (r.lo ≤ held.sum_lo)
+
+-- What each domain keeps: no limit of a list is passed, the numbers of the flushes are sound, and the counts of each ring rise
+-- up to the start count; each frame is in one place; what somebody has is inside the bounds, and aligned unless it is a window;
+-- the counts add up to the bounds; and the totals are the sums of all workers' shares.
+pub record IsKept (s : State) : Type 0 where
+  pub valid : IsValid s
+  pub one_place : OnePlace s
+  pub within : HoldersAreWithin s
+  pub aligned : OwnersAreAligned s
+  pub counted : CountsAddUp s
+  pub totals : totals s.clients ≡ shares_below s.workers s.clients
+
+-- what a client holds, 0 where there is no such client
+abbrev pub left_in : Option Client → ℕ
+left_in None = 0
+left_in (Some c) = length c.holdings
+
+abbrev pub left_of : ℕ → State → ℕ
+left_of id s = left_in (client_with id s.clients)
+
+-- a domain in numbers
+abbrev pub stat_of : State → Stat
+stat_of s = record {
+  free = (counts s).free;
+  reserved = (counts s).reserved;
+  client = (counts s).client;
+  magazine = (counts s).magazine;
+  depot = (counts s).depot;
+  ring = (counts s).ring;
+  start = s.flushes.start;
+  finish = s.flushes.finish;
+}
+
+-- the range that a release unmapped
+abbrev pub range_of : Unmapped → Frames
+range_of (unmapped.Queued r) = r
+range_of (unmapped.Freed r) = r
+
+-- the number of the flush that began in a hold, if one did
+abbrev pub begun_of : Option Reply → Option ℕ
+begun_of (Some (reply.Begun n)) = Some n
+begun_of o = None
+
+-- answers as replies
+abbrev pub opened_or : Result ℕ Refusal → Reply
+opened_or (Ok id) = reply.Opened id
+opened_or (Err e) = reply.Refused e
+
+abbrev pub given_or : Result Frames Refusal → Reply
+given_or (Ok r) = reply.Given r
+given_or (Err e) = reply.Refused e
+
+abbrev pub queued_or : Result Frames Refusal → Reply
+queued_or (Ok r) = reply.Queued r
+queued_or (Err e) = reply.Refused e
+
+abbrev pub unmapped_or : Result Unmapped Refusal → Reply
+unmapped_or (Ok u) = reply.Queued (range_of u)
+unmapped_or (Err e) = reply.Refused e
+
+abbrev pub begun_or : Result ℕ Refusal → Reply
+begun_or (Ok n) = reply.Begun n
+begun_or (Err e) = reply.Refused e
+
+-- Refusals.
+
+abbrev pub IsOpenRefusal : Refusal → Type 0
+IsOpenRefusal e = IsAmong e (refusal.NoWorker ∷ refusal.Worn ∷ refusal.ClientsFull ∷ refusal.NoMemory ∷ [])
+
+abbrev pub IsAllocRefusal : Refusal → Type 0
+IsAllocRefusal e =
+    IsAmong e (refusal.NoWorker ∷ refusal.Zero ∷ refusal.TooBig ∷ refusal.NoClient ∷ refusal.Closing ∷ refusal.HoldingsFull ∷ refusal.NoMemory ∷ refusal.NoSpace ∷ [])
+
+abbrev pub IsUnmapRefusal : Refusal → Type 0
+IsUnmapRefusal e = IsAmong e (refusal.NoWorker ∷ refusal.NoClient ∷ refusal.Closing ∷ refusal.NotHeld ∷ refusal.RingFull ∷ [])
+
+abbrev pub IsBeginRefusal : Refusal → Type 0
+IsBeginRefusal e = IsAmong e (refusal.FlightsFull ∷ refusal.Worn ∷ [])
+
+abbrev pub IsFlushRefusal : Refusal → Type 0
+IsFlushRefusal e = IsAmong e (refusal.FlightsFull ∷ refusal.Worn ∷ refusal.SinkFault ∷ [])
+
+-- no such client of this worker, or no such worker
+abbrev pub IsUnknown : Refusal → Type 0
+IsUnknown e = IsAmong e (refusal.NoClient ∷ refusal.NoWorker ∷ [])
+
+-- what a hold of a client's end is refused by
+abbrev pub IsCloseRefusal : Refusal → Type 0
+IsCloseRefusal e = IsUnknown e ⊎ (e ≡ refusal.NotHeld) ⊎ (e ≡ refusal.RingFull)
+
+-- what is given to a request of so many frames with this limit: as many as it needs, aligned to their size, and none above
+abbrev pub IsGivenTo : ℕ → ℕ → Frames → Type 0
+IsGivenTo frames limit r = (r.len ≡ need frames) × (r.lo % align_of r.len ≡ 0) × (r.lo + r.len ≤ limit + 1)
+
+-- What a hold may be heard to answer.
+
+-- what an unmap of a range that begins at lo may be heard to answer
+abbrev pub IsUnmapHeard : ℕ → Option Reply → Type 0
+IsUnmapHeard lo (Some (reply.Queued r)) = r.lo ≡ lo
+IsUnmapHeard lo (Some (reply.Refused e)) = IsUnmapRefusal e
+IsUnmapHeard lo o = ⊥
+
+-- what a begin may be heard to answer, after a refusal by RingFull
+abbrev pub IsBeginHeard : Option Reply → Option Reply → Type 0
+IsBeginHeard o None = Unit {0}
+IsBeginHeard o (Some b) = (o ≡ Some (reply.Refused refusal.RingFull)) × IsReplyTo step.Begin b
+
+-- the same in the first hold of a release, also after a range that was queued
+abbrev pub IsReleaseBegin : Option Reply → Option Reply → Type 0
+IsReleaseBegin o None = Unit {0}
+IsReleaseBegin o (Some b) =
+    ((o ≡ Some (reply.Refused refusal.RingFull)) ⊎ ((q : Frames) × (o ≡ Some (reply.Queued q))))
+    × IsReplyTo step.Begin b
+
+-- and in its second hold, after a range that was queued alone
+abbrev pub IsSecondBegin : Option Reply → Option Reply → Type 0
+IsSecondBegin o None = Unit {0}
+IsSecondBegin o (Some b) = ((q : Frames) × (o ≡ Some (reply.Queued q))) × IsReplyTo step.Begin b
+
+-- what the last closing of a hold may be heard to answer
+abbrev pub IsCloseHeard : Option Reply → Type 0
+IsCloseHeard (Some reply.Empty) = Unit {0}
+IsCloseHeard (Some (reply.Refused e)) = IsCloseRefusal e
+IsCloseHeard o = ⊥
+
+-- where a keeper's domain is known before a call, it is known after it, and the two stand so
+abbrev pub WhereKnown : Option State → Option State → (State → State → Type 0) → Type 0
+WhereKnown None after P = Unit {0}
+WhereKnown (Some s) after P = MatchOption after ⊥ (λ t. P s t)
+
+-- flushes that ended well rise from old to new, by at most the good calls that the sink was made
+abbrev pub RisesWithin : ℕ → ℕ → List Call → List Call → Type 0
+RisesWithin old new before now = new + good_calls before ≤ old + good_calls now
+
+-- Shares.
+
+-- these ranges were queued, and the shares lowered by them
+abbrev pub IsLowered : List Frames → Totals → Totals → Type 0
+IsLowered ranges old new = old ≡ add_totals new (totals_of ranges)
+
+-- some ranges were queued, whose totals these are, and the shares lowered by them
+abbrev pub Lowers : Totals → Totals → Totals → Type 0
+Lowers queued old new = (ranges : List Frames) × (queued ≡ totals_of ranges) × IsLowered ranges old new
+
+-- so many ranges are told of where all were queued, and none is where the call was refused
+abbrev pub Tells : Result Ending Refusal → ℕ → Type 0
+Tells (Ok (ending.Ended queued)) count = queued ≡ count
+Tells (Ok (ending.Waiting left why)) count = Unit {0}
+Tells (Err e) count = (count ≡ 0) × IsUnknown e
+
+-- a client's end queues some ranges, lowers the shares by them, and tells how many where it has ended
+abbrev pub LowersTold : Result Ending Refusal → Totals → Totals → Type 0
+LowersTold result old new = (ranges : List Frames) × IsLowered ranges old new × Tells result (length ranges)
+
+-- a seat's shares move as its last reply says
+abbrev pub MovesHeard : Option Reply → Totals → Totals → Type 0
+MovesHeard None old new = new ≡ old
+MovesHeard (Some r) old new = MovesTotals r old new
+
+-- what an unmap with this reply queued
+abbrev pub queued_by : Reply → Totals
+queued_by (reply.Queued r) = totals_of (r ∷ [])
+queued_by r = nothing

@@ -1,0 +1,279 @@
+//! What keeps a domain: the book itself, or a lock round it.
+ghost use Rattle.std.specs.Prelude.{◌≡◌, ◌≢◌, ℕ, ◌+◌, ◌<◌, ◌≤◌, ◌++◌, Bool, Option, Some, None, List, IfOk, IfErr, IfSome, IsOk, MatchOption, MatchResult, length, ◌⊎◌, if◌then◌else◌};
+ghost use Rattle.iova_range.specs.declared.limits.TheConstants.{MAX_HOLDINGS};
+ghost use Rattle.iova_range.specs.Frames.{Frames};
+ghost use Rattle.iova_model.specs.Clients.{totals};
+ghost use Rattle.iova_model.specs.State.{State};
+ghost use Rattle.iova_model.specs.Laws.{MovesTotals, IsReplyTo, ended_well};
+ghost use Rattle.iova_keep.specs.Views.{TallyState, SeatState, WhereKnown, IsOpenRefusal, IsAllocRefusal, IsGivenTo, IsUnmapHeard, IsBeginHeard, IsReleaseBegin, IsSecondBegin, IsCloseHeard, MovesHeard, Lowers, queued_by, given_or, stat_of, IsKept};
+ghost use Rattle.iova_keep.specs.Batches.{DoesBatch, TellsAsks};
+ghost use Rattle.iova_keep.specs.Releases.{ReleasesFirst, ReleasesAgain, ReleasesLast};
+ghost use Rattle.iova_keep.specs.Answers.{Opens, Allocs, UnmapsFirst, UnmapsAgain, Begins, Ends, ClosesFirst, ClosesAgain, Leaves, RaisesByEnd, DrainsAll, ReadsHoldings};
+
+use crate::ask::{Ask, Told};
+use crate::seat::{Seat, Tally};
+use iova_model::step::{ClientId, Reply, Step};
+use iova_model::totals::Totals;
+use iova_range::limits::MAX_RUN;
+use iova_range::range::Range;
+use iova_range::refusal::Refusal;
+use iova_range::stat::Stat;
+use std::sync::ledger::Ledger;
+
+/// What one hold of a longer call heard.
+#[derive(Drop)]
+pub struct Heard {
+    /// The last reply that isn't a `Begin`'s.
+    pub reply: Option<Reply>,
+    /// The reply of a `Begin`.
+    pub begun: Option<Reply>,
+    /// The totals of what the hold queued.
+    pub queued: Totals,
+    /// How many ranges the client has left, 0 where there is no such client.
+    pub left: u64,
+}
+
+/// A keeper of a domain. Each call but `number` is one hold of it: its steps are run together, and nothing else runs between
+/// them. Own.
+///
+/// Where the domain is known, a call says what it leaves. Of every keeper a call says what it answers and how it moves the
+/// seat's shares and tally.
+pub trait Keep<C: Ledger, F: Ledger, S: Ledger, G: Ledger> {
+    /// The domain, where that is known.
+    ghost domain: { Self → Option State };
+
+    /// The domain's number.
+    ghost domain_number: { Self → ℕ };
+
+    /// Whether the domain is strict, where it is known.
+    ghost strict: { Self → Bool };
+
+    /// The domain's number. It takes no hold.
+    fn number(&self) -> u64
+        ensures { result ≡ domain_number self.now };
+
+    /// A domain that is known keeps what each domain keeps. It takes no hold, and does nothing: it is there for proofs.
+    fn domain_is_kept(&self)
+        ensures { IfSome (domain self.now) IsKept };
+
+    /// Opens a client of the seat's worker, which is first sought places below 4 GiB where it is `sac`. Refused by `Worn`,
+    /// `ClientsFull` and `NoMemory`; then nothing has changed.
+    fn open(&mut self, seat: &mut Seat<C, F, S, G>, sac: bool) -> Result<ClientId, Refusal>
+        ensures number { domain_number self.new ≡ domain_number self.old }
+        ensures strict { strict self.new ≡ strict self.old }
+        ensures domain { WhereKnown (domain self.old) (domain self.new) (Opens seat.old.worker sac result) }
+        ensures refusal { IfErr result IsOpenRefusal }
+        ensures seat { seat.new ≡ seat.old };
+
+    /// Gives the client a range of as many frames as `frames` needs, none above `limit`. Refused by `Zero`, `TooBig`,
+    /// `NoClient`, `Closing`, `HoldingsFull`, `NoMemory` and `NoSpace`; then the client has nothing new.
+    fn alloc(
+        &mut self,
+        seat: &mut Seat<C, F, S, G>,
+        id: ClientId,
+        frames: u64,
+        limit: u64,
+    ) -> Result<Range, Refusal>
+        ensures number { domain_number self.new ≡ domain_number self.old }
+        ensures strict { strict self.new ≡ strict self.old }
+        ensures domain { WhereKnown (domain self.old) (domain self.new)
+            (Allocs seat.old.worker id frames limit result) }
+        ensures given { MatchResult result (IsGivenTo frames limit) IsAllocRefusal }
+        ensures seat { MovesTotals (given_or result) seat.old.held seat.new.held }
+        ensures rest { (seat.new.worker ≡ seat.old.worker) × (seat.new.tally ≡ seat.old.tally) };
+
+    /// The first hold of an unmap: an unmap; where the ring is full, a flush begins.
+    fn unmap_first(&mut self, seat: &mut Seat<C, F, S, G>, id: ClientId, lo: u64) -> Heard
+        ensures number { domain_number self.new ≡ domain_number self.old }
+        ensures strict { strict self.new ≡ strict self.old }
+        ensures domain { WhereKnown (domain self.old) (domain self.new)
+            (UnmapsFirst seat.old id lo result.reply result.begun) }
+        ensures left { WhereKnown (domain self.old) (domain self.new) (Leaves id result.left) }
+        ensures seat { MovesHeard result.reply seat.old.held seat.new.held }
+        ensures rest { (seat.new.worker ≡ seat.old.worker) × (seat.new.tally ≡ seat.old.tally) }
+        ensures heard { IsUnmapHeard lo result.reply }
+        ensures queued { MatchOption result.reply ⊥ (λ r. result.queued ≡ queued_by r) }
+        ensures begun { IsBeginHeard result.reply result.begun };
+
+    /// The second hold of an unmap: the flush ends, as `ok` says, and the unmap is tried again. `ok` is what a sink answered
+    /// for this flush.
+    fn unmap_again(
+        &mut self,
+        seat: &mut Seat<C, F, S, G>,
+        id: ClientId,
+        lo: u64,
+        no: u64,
+        ok: bool,
+    ) -> Heard
+        ensures number { domain_number self.new ≡ domain_number self.old }
+        ensures strict { strict self.new ≡ strict self.old }
+        ensures domain { WhereKnown (domain self.old) (domain self.new)
+            (UnmapsAgain seat.old id lo no ok result.reply) }
+        ensures left { WhereKnown (domain self.old) (domain self.new) (Leaves id result.left) }
+        ensures seat { MovesHeard result.reply seat.old.held seat.new.held }
+        ensures worker { seat.new.worker ≡ seat.old.worker }
+        ensures good { (seat.old.tally.good ≤ seat.new.tally.good)
+            × (seat.new.tally.good ≤ seat.old.tally.good + (if ok then 1 else 0)) }
+        ensures ended { WhereKnown (domain self.old) (domain self.new)
+            (RaisesByEnd seat.old.tally.good seat.new.tally.good no ok) }
+        ensures parts { seat.new.tally.parts ≡ seat.old.tally.parts }
+        ensures heard { IsUnmapHeard lo result.reply }
+        ensures queued { MatchOption result.reply ⊥ (λ r. result.queued ≡ queued_by r) }
+        ensures begun { result.begun ≡ None };
+
+    /// The first hold of a flush: it begins. Refused by `FlightsFull` and `Worn`.
+    fn begin(&mut self, tally: &mut Tally<G>) -> Heard
+        ensures number { domain_number self.new ≡ domain_number self.old }
+        ensures strict { strict self.new ≡ strict self.old }
+        ensures domain { WhereKnown (domain self.old) (domain self.new) (Begins result.begun) }
+        ensures tally { tally.new ≡ tally.old }
+        ensures heard { MatchOption result.begun ⊥ (λ b. IsReplyTo Step.Begin b) };
+
+    /// The second hold of a flush: it ends, as `ok` says. Refused by `NoFlight`. `ok` is what a sink answered for this flush.
+    fn end(&mut self, tally: &mut Tally<G>, no: u64, ok: bool) -> Heard
+        ensures number { domain_number self.new ≡ domain_number self.old }
+        ensures strict { strict self.new ≡ strict self.old }
+        ensures domain { WhereKnown (domain self.old) (domain self.new) (Ends no ok result.reply) }
+        ensures good { MatchOption result.reply ⊥
+            (λ r. tally.new.good ≡ tally.old.good + ended_well (Step.End no ok) r) }
+        ensures parts { tally.new.parts ≡ tally.old.parts };
+
+    /// The first hold of a client's end: its ranges are queued, lowest first, until it is gone or a step is refused; where
+    /// the ring is full, a flush begins.
+    fn close_first(&mut self, seat: &mut Seat<C, F, S, G>, id: ClientId) -> Heard
+        ensures number { domain_number self.new ≡ domain_number self.old }
+        ensures strict { strict self.new ≡ strict self.old }
+        ensures domain { WhereKnown (domain self.old) (domain self.new)
+            (ClosesFirst seat.old seat.new.held id result.reply result.begun) }
+        ensures left { WhereKnown (domain self.old) (domain self.new) (Leaves id result.left) }
+        ensures seat { Lowers result.queued seat.old.held seat.new.held }
+        ensures rest { (seat.new.worker ≡ seat.old.worker) × (seat.new.tally ≡ seat.old.tally) }
+        ensures heard { IsCloseHeard result.reply }
+        ensures begun { IsBeginHeard result.reply result.begun }
+        ensures full { result.begun ≡ None → result.reply ≢ Some (Reply.Refused Refusal.RingFull) };
+
+    /// A further hold of a client's end: the flush ends, as `ok` says, and then as the first one; but where the ring is full
+    /// before a range was queued, no flush begins. `ok` is what a sink answered for this flush.
+    fn close_again(&mut self, seat: &mut Seat<C, F, S, G>, id: ClientId, no: u64, ok: bool) -> Heard
+        ensures number { domain_number self.new ≡ domain_number self.old }
+        ensures strict { strict self.new ≡ strict self.old }
+        ensures domain { WhereKnown (domain self.old) (domain self.new)
+            (ClosesAgain seat.old seat.new.held id no ok result.reply result.begun) }
+        ensures left { WhereKnown (domain self.old) (domain self.new) (Leaves id result.left) }
+        ensures seat { Lowers result.queued seat.old.held seat.new.held }
+        ensures worker { seat.new.worker ≡ seat.old.worker }
+        ensures good { (seat.old.tally.good ≤ seat.new.tally.good)
+            × (seat.new.tally.good ≤ seat.old.tally.good + (if ok then 1 else 0)) }
+        ensures ended { WhereKnown (domain self.old) (domain self.new)
+            (RaisesByEnd seat.old.tally.good seat.new.tally.good no ok) }
+        ensures parts { seat.new.tally.parts ≡ seat.old.tally.parts }
+        ensures heard { IsCloseHeard result.reply }
+        ensures begun { IsBeginHeard result.reply result.begun }
+        ensures goes_on { result.begun ≢ None → seat.new.held.count < seat.old.held.count };
+
+    /// The first hold of a release: an unmap; where the ring is full, or a range was queued in a strict domain, a flush begins.
+    fn release_first(&mut self, seat: &mut Seat<C, F, S, G>, id: ClientId, lo: u64) -> Heard
+        ensures number { domain_number self.new ≡ domain_number self.old }
+        ensures strict { strict self.new ≡ strict self.old }
+        ensures domain { WhereKnown (domain self.old) (domain self.new)
+            (ReleasesFirst (strict self.old) seat.old id lo result.reply result.begun) }
+        ensures left { WhereKnown (domain self.old) (domain self.new) (Leaves id result.left) }
+        ensures seat { MovesHeard result.reply seat.old.held seat.new.held }
+        ensures rest { (seat.new.worker ≡ seat.old.worker) × (seat.new.tally ≡ seat.old.tally) }
+        ensures heard { IsUnmapHeard lo result.reply }
+        ensures queued { MatchOption result.reply ⊥ (λ r. result.queued ≡ queued_by r) }
+        ensures begun { IsReleaseBegin result.reply result.begun };
+
+    /// The hold of a release after a ring that was full: the flush ends, as `ok` says, and the unmap is tried again; where it
+    /// queued a range in a strict domain, a second flush begins. `ok` is what a sink answered for the first one.
+    fn release_again(
+        &mut self,
+        seat: &mut Seat<C, F, S, G>,
+        id: ClientId,
+        lo: u64,
+        no: u64,
+        ok: bool,
+    ) -> Heard
+        ensures number { domain_number self.new ≡ domain_number self.old }
+        ensures strict { strict self.new ≡ strict self.old }
+        ensures domain { WhereKnown (domain self.old) (domain self.new)
+            (ReleasesAgain (strict self.old) seat.old id lo no ok result.reply result.begun) }
+        ensures left { WhereKnown (domain self.old) (domain self.new) (Leaves id result.left) }
+        ensures seat { MovesHeard result.reply seat.old.held seat.new.held }
+        ensures worker { seat.new.worker ≡ seat.old.worker }
+        ensures good { (seat.old.tally.good ≤ seat.new.tally.good)
+            × (seat.new.tally.good ≤ seat.old.tally.good + (if ok then 1 else 0)) }
+        ensures ended { WhereKnown (domain self.old) (domain self.new)
+            (RaisesByEnd seat.old.tally.good seat.new.tally.good no ok) }
+        ensures parts { seat.new.tally.parts ≡ seat.old.tally.parts }
+        ensures heard { IsUnmapHeard lo result.reply }
+        ensures queued { MatchOption result.reply ⊥ (λ r. result.queued ≡ queued_by r) }
+        ensures begun { IsSecondBegin result.reply result.begun };
+
+    /// The last hold of a release, after a range that was queued: the flush ends, as `ok` says, and the worker's ring is
+    /// drained. Whether the finish count is at least the flush's number then, and the ring was drained. `ok` is what a sink
+    /// answered for this flush.
+    fn release_last(&mut self, seat: &mut Seat<C, F, S, G>, no: u64, ok: bool) -> bool
+        ensures number { domain_number self.new ≡ domain_number self.old }
+        ensures strict { strict self.new ≡ strict self.old }
+        ensures domain { WhereKnown (domain self.old) (domain self.new) (ReleasesLast seat.old no ok result) }
+        ensures seat { (seat.new.worker ≡ seat.old.worker) × (seat.new.held ≡ seat.old.held) }
+        ensures good { (seat.old.tally.good ≤ seat.new.tally.good)
+            × (seat.new.tally.good ≤ seat.old.tally.good + (if ok then 1 else 0)) }
+        ensures ended { WhereKnown (domain self.old) (domain self.new)
+            (RaisesByEnd seat.old.tally.good seat.new.tally.good no ok) }
+        ensures parts { seat.new.tally.parts ≡ seat.old.tally.parts };
+
+    /// Drains every ring, 0 first, into the magazines of worker `by`, and gives how many entries that frees. Refused by
+    /// `NoWorker`; then nothing has changed. Worker 0 is there in every domain.
+    fn drain_all(&mut self, by: u64) -> Result<u64, Refusal>
+        ensures number { domain_number self.new ≡ domain_number self.old }
+        ensures strict { strict self.new ≡ strict self.old }
+        ensures domain { WhereKnown (domain self.old) (domain self.new) (DrainsAll by result) }
+        ensures refusal { IfErr result (λ e. e ≡ Refusal.NoWorker) }
+        ensures first { by ≡ 0 → IsOk result };
+
+    /// Does the asks in order, in one hold, and stops before the first free whose ring is full, in a strict domain before the
+    /// first free. It answers how many were done, and appends what is told of each. Refused by `NoMemory` where there is no
+    /// room for that; then nothing was done.
+    fn batch(
+        &mut self,
+        seat: &mut Seat<C, F, S, G>,
+        id: ClientId,
+        asks: &[Ask],
+        told: &mut Vec<Told>,
+    ) -> Result<usize, Refusal>
+        requires { (1 ≤ length asks.now) × (length asks.now ≤ MAX_RUN) }
+        ensures number { domain_number self.new ≡ domain_number self.old }
+        ensures strict { strict self.new ≡ strict self.old }
+        ensures domain { WhereKnown (domain self.old) (domain self.new)
+            (DoesBatch (strict self.old) seat.old seat.new.held id asks.now told.old.items told.new.items result) }
+        ensures told { IfOk result (λ n. TellsAsks asks.now told.old.items told.new.items n seat.old.held
+            seat.new.held) }
+        ensures memory { IfErr result (λ e. (e ≡ Refusal.NoMemory) × (told.new.items ≡ told.old.items)
+            × (seat.new ≡ seat.old)) }
+        ensures rest { (seat.new.worker ≡ seat.old.worker) × (seat.new.tally ≡ seat.old.tally) };
+
+    /// Appends the holdings of the seat's client, at most 4,096, rising by first frame. Refused by `NoClient` and `NoMemory`;
+    /// then nothing is appended.
+    fn holdings(
+        &self,
+        seat: &Seat<C, F, S, G>,
+        id: ClientId,
+        ranges: &mut Vec<Range>,
+    ) -> Result<(), Refusal>
+        ensures domain { IfSome (domain self.now)
+            (ReadsHoldings seat.now.worker id ranges.old.items ranges.new.items result) }
+        ensures ok { IfOk result (λ u. (more : List Frames) × (ranges.new.items ≡ ranges.old.items ++ more)) }
+        ensures most { length ranges.new.items ≤ length ranges.old.items + MAX_HOLDINGS }
+        ensures err { IfErr result (λ e. ((e ≡ Refusal.NoClient) ⊎ (e ≡ Refusal.NoMemory))
+            × (ranges.new.items ≡ ranges.old.items)) };
+
+    /// The count, frames and sum of first frames of all holdings.
+    fn totals(&self) -> Totals
+        ensures { IfSome (domain self.now) (λ s. result ≡ totals s.clients) };
+
+    /// The frames of each place, and the counts of the flushes.
+    fn stat(&self) -> Stat
+        ensures { IfSome (domain self.now) (λ s. result ≡ stat_of s) };
+}

@@ -1,0 +1,154 @@
+//! The four ledgers of a domain, whose shares its workers' seats and tallies hold.
+ghost use Rattle.std.specs.Prelude.{◌≡◌, ◌+◌, ◌*◌, ◌≤◌, ◌∷◌, [], IfOk, IsErr, Err};
+ghost use Rattle.iova_range.specs.declared.limits.TheConstants.{MAX_WORKERS, TALLY_PARTS};
+ghost use Rattle.iova_model.specs.Clients.{totals_of};
+ghost use Rattle.iova_model.specs.Laws.{add_totals};
+ghost use Rattle.iova_keep.specs.Views.{TallyState, SeatState, LedgersState, Covers, new_seats, nothing};
+
+use crate::seat::{Seat, Tally};
+use iova_model::totals::Totals;
+use iova_range::limits::{MAX_WORKERS, TALLY_PARTS};
+use iova_range::range::Range;
+use iova_range::refusal::Refusal;
+use std::alloc::Global;
+use std::marker::Model;
+use std::sync::ledger;
+use std::sync::ledger::{Blank, Ledger, Share};
+
+/// The totals over all holdings of a domain, and how many of its flushes ended well. It takes no memory: only proofs see it.
+/// Whoever keeps a domain has its ledgers beside it, and moves a seat's shares with them. Own.
+#[derive(Drop)]
+pub struct Ledgers<C: Ledger, F: Ledger, S: Ledger, G: Ledger> {
+    count: ledger::Book<C>,
+    frames: ledger::Book<F>,
+    sum_lo: ledger::Book<S>,
+    good: ledger::Book<G>,
+}
+
+impl<C: Ledger, F: Ledger, S: Ledger, G: Ledger> Model for Ledgers<C, F, S, G> {
+    ghost use Rattle.iova_keep.specs.Views.{LedgersState};
+
+    ghost Value = { LedgersState };
+
+    ghost view = { λ l. record {
+      shares = record { count = l.count.total; frames = l.frames.total; sum_lo = l.sum_lo.total };
+      ended = l.good.total;
+    } };
+}
+
+impl<C: Ledger, F: Ledger, S: Ledger, G: Ledger> Ledgers<C, F, S, G> {
+    /// The ledgers of a new domain, all at 0, and a seat for each worker. Refused by `NoMemory`.
+    pub fn open(
+        alloc: Global,
+        workers: u64,
+        count: Blank,
+        frames: Blank,
+        sum_lo: Blank,
+        good: Blank,
+    ) -> Result<(Ledgers<C, F, S, G>, Vec<Seat<C, F, S, G>>), Refusal>
+        requires count { (count.name ≡ C.name) × (count.parts ≡ C.parts) × (count.parts ≡ workers) }
+        requires frames { (frames.name ≡ F.name) × (frames.parts ≡ F.parts) × (frames.parts ≡ workers) }
+        requires sum_lo { (sum_lo.name ≡ S.name) × (sum_lo.parts ≡ S.parts) × (sum_lo.parts ≡ workers) }
+        requires good { (good.name ≡ G.name) × (good.parts ≡ G.parts) × (good.parts ≡ TALLY_PARTS * workers) }
+        requires workers { workers ≤ MAX_WORKERS }
+        ensures ok { IfOk result (λ r. (r.0 ≡ record { shares = nothing; ended = 0 })
+            × (r.1.items ≡ new_seats workers)) }
+        ensures err { IsErr result → result ≡ Err Refusal.NoMemory }
+    {
+        let (count, mut counted) = count.open::<C>();
+        let (frames, mut framed) = frames.open::<F>();
+        let (sum_lo, mut summed) = sum_lo.open::<S>();
+        let (good, mut ended) = good.open::<G>();
+        let mut seats = Vec::new(alloc);
+        for worker in 0..workers {
+            let seat = Seat::new(
+                worker,
+                counted.split_off(1, 0),
+                framed.split_off(1, 0),
+                summed.split_off(1, 0),
+                Tally::new(TALLY_PARTS, ended.split_off(TALLY_PARTS, 0)),
+            );
+            if seats.push(seat).is_err() {
+                return Err(Refusal::NoMemory);
+            }
+        }
+        Ok((
+            Ledgers {
+                count,
+                frames,
+                sum_lo,
+                good,
+            },
+            seats,
+        ))
+    }
+
+    /// A range was given to the seat's worker, which makes these the totals.
+    #[inline]
+    pub fn give(&mut self, seat: &mut Seat<C, F, S, G>, range: Range, totals: Totals)
+        requires { totals ≡ add_totals self.old.shares (totals_of (range ∷ [])) }
+        ensures shares { self.new.shares ≡ totals }
+        ensures ended { self.new.ended ≡ self.old.ended }
+        ensures held { seat.new.held ≡ add_totals seat.old.held (totals_of (range ∷ [])) }
+        ensures rest { (seat.new.worker ≡ seat.old.worker) × (seat.new.tally ≡ seat.old.tally) }
+    {
+        // for the proof: these are numbers, and no share is above its total
+        let _totals = totals;
+        self.count.add(&mut seat.counted, 1);
+        self.frames.add(&mut seat.framed, range.len());
+        self.sum_lo.add(&mut seat.summed, range.lo());
+        self.count.audit(&mut seat.counted);
+        self.frames.audit(&mut seat.framed);
+        self.sum_lo.audit(&mut seat.summed);
+        seat.held.count += 1;
+        seat.held.frames += range.len();
+        seat.held.sum_lo += range.lo();
+    }
+
+    /// A range of the seat's shares was queued.
+    #[inline]
+    pub fn take(&mut self, seat: &mut Seat<C, F, S, G>, range: Range)
+        requires { Covers seat.old.held range }
+        ensures shares { self.old.shares ≡ add_totals self.new.shares (totals_of (range ∷ [])) }
+        ensures ended { self.new.ended ≡ self.old.ended }
+        ensures held { seat.old.held ≡ add_totals seat.new.held (totals_of (range ∷ [])) }
+        ensures rest { (seat.new.worker ≡ seat.old.worker) × (seat.new.tally ≡ seat.old.tally) }
+    {
+        self.count.sub(&mut seat.counted, 1);
+        self.frames.sub(&mut seat.framed, range.len());
+        self.sum_lo.sub(&mut seat.summed, range.lo());
+        seat.held.count -= 1;
+        seat.held.frames -= range.len();
+        seat.held.sum_lo -= range.lo();
+    }
+
+    /// A flush ended well, which makes this their number.
+    #[inline]
+    pub fn raise(&mut self, tally: &mut Tally<G>, good: u64)
+        requires { good ≡ self.old.ended + 1 }
+        ensures shares { self.new.shares ≡ self.old.shares }
+        ensures ended { self.new.ended ≡ good }
+        ensures good { tally.new.good ≡ tally.old.good + 1 }
+        ensures parts { tally.new.parts ≡ tally.old.parts }
+    {
+        // for the proof: this is a number, and no share is above its total
+        let _good = good;
+        self.good.add(&mut tally.share, 1);
+        self.good.audit(&mut tally.share);
+        tally.good += 1;
+    }
+
+    /// Changes nothing: whole shares have the totals for their amounts.
+    pub fn audit(&mut self, counted: &mut Share<C>, framed: &mut Share<F>, summed: &mut Share<S>)
+        requires counted { counted.old.parts ≡ C.parts }
+        requires framed { framed.old.parts ≡ F.parts }
+        requires summed { summed.old.parts ≡ S.parts }
+        ensures same { self.new ≡ self.old }
+        ensures sums { (self.old.shares.count ≡ counted.old.amount) × (self.old.shares.frames ≡ framed.old.amount)
+            × (self.old.shares.sum_lo ≡ summed.old.amount) }
+    {
+        self.count.audit(counted);
+        self.frames.audit(framed);
+        self.sum_lo.audit(summed);
+    }
+}

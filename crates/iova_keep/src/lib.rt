@@ -1,0 +1,12 @@
+//! What keeps a domain, hold by hold, for a seat of each worker, and the calls of several holds that are made of these.
+#![tactic(auto)]
+
+pub mod ask;
+pub mod calls;
+pub mod closing;
+pub mod ending;
+pub mod keep;
+pub mod ledgers;
+pub mod release;
+pub mod seat;
+pub mod unmapped;

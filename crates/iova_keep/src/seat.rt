@@ -1,0 +1,204 @@
+//! What one worker keeps of its domain's totals.
+ghost use Rattle.std.specs.Prelude.{◌≡◌, ◌+◌, ◌≤◌};
+ghost use Rattle.iova_keep.specs.Views.{TallyState, SeatState, nothing};
+
+use iova_model::totals::Totals;
+use iova_range::range::Range;
+use std::marker::Model;
+use std::sync::ledger::{Ledger, Share};
+
+/// How many flushes its holder ended well, a share of all that ended well in the domain. Its parts can be split off, so that
+/// several threads of one worker end flushes. Own.
+#[derive(Drop)]
+pub struct Tally<G: Ledger> {
+    pub(crate) good: u64,
+    pub(crate) parts: u64,
+    pub(crate) share: Share<G>,
+}
+
+impl<G: Ledger> Model for Tally<G> {
+    ghost use Rattle.std.specs.Prelude.{◌≡◌, ◌≤◌};
+    ghost use Rattle.iova_keep.specs.Views.{TallyState};
+
+    ghost Value = { TallyState };
+
+    ghost view = { λ t. record { good = t.good; parts = t.parts } };
+
+    ghost invariant = { λ t. (t.share.amount ≡ t.good) × (t.share.parts ≡ t.parts) × (1 ≤ t.parts) };
+}
+
+impl<G: Ledger> Tally<G> {
+    /// A tally at 0, with so many parts of the ledger.
+    pub(crate) fn new(parts: u64, share: Share<G>) -> Tally<G>
+        requires { (share.amount ≡ 0) × (share.parts ≡ parts) × (1 ≤ parts) }
+        ensures { result ≡ record { good = 0; parts = parts } }
+    {
+        Tally {
+            good: 0,
+            parts,
+            share,
+        }
+    }
+
+    /// How many flushes its holder ended well; 0 at first.
+    pub fn good(&self) -> u64
+        ensures { result ≡ self.now.good }
+    {
+        self.good
+    }
+
+    /// Its parts of the ledger; 256 in a new seat.
+    pub fn parts(&self) -> u64
+        ensures { result ≡ self.now.parts }
+    {
+        self.parts
+    }
+
+    /// A new tally at 0, with one part of this one.
+    pub fn split(&mut self) -> Tally<G>
+        requires { 2 ≤ self.old.parts }
+        ensures new { result ≡ record { good = 0; parts = 1 } }
+        ensures good { self.new.good ≡ self.old.good }
+        ensures parts { self.new.parts + 1 ≡ self.old.parts }
+    {
+        self.parts -= 1;
+        Tally {
+            good: 0,
+            parts: 1,
+            share: self.share.split_off(1, 0),
+        }
+    }
+}
+
+/// A worker's place at the domain: its shares of the count, the frames and the sum of first frames of all holdings, which
+/// each call moves by what it answers, and its tally. A seat of another domain has another type. Own.
+#[derive(Drop)]
+pub struct Seat<C: Ledger, F: Ledger, S: Ledger, G: Ledger> {
+    pub(crate) worker: u64,
+    pub(crate) held: Totals,
+    pub(crate) counted: Share<C>,
+    pub(crate) framed: Share<F>,
+    pub(crate) summed: Share<S>,
+    pub(crate) tally: Tally<G>,
+}
+
+impl<C: Ledger, F: Ledger, S: Ledger, G: Ledger> Model for Seat<C, F, S, G> {
+    ghost use Rattle.std.specs.Prelude.{◌≡◌};
+    ghost use Rattle.iova_keep.specs.Views.{SeatState};
+
+    ghost Value = { SeatState };
+
+    ghost view = { λ s. record { worker = s.worker; held = s.held; tally = s.tally } };
+
+    ghost invariant = { λ s. (s.counted.amount ≡ s.held.count) × (s.counted.parts ≡ 1)
+        × (s.framed.amount ≡ s.held.frames) × (s.framed.parts ≡ 1)
+        × (s.summed.amount ≡ s.held.sum_lo) × (s.summed.parts ≡ 1) };
+}
+
+impl<C: Ledger, F: Ledger, S: Ledger, G: Ledger> Seat<C, F, S, G> {
+    ghost use Rattle.std.specs.Borrow.{Lends, sem};
+    ghost use Rattle.iova_keep.specs.contracts.seat.Seat.{the_row};
+    ghost use Rattle.iova_keep.specs.contracts.seat.Tally as tallies;
+
+    /// A seat with a part of each ledger, and nothing on it.
+    pub(crate) fn new(
+        worker: u64,
+        counted: Share<C>,
+        framed: Share<F>,
+        summed: Share<S>,
+        tally: Tally<G>,
+    ) -> Seat<C, F, S, G>
+        requires counted { (counted.amount ≡ 0) × (counted.parts ≡ 1) }
+        requires framed { (framed.amount ≡ 0) × (framed.parts ≡ 1) }
+        requires summed { (summed.amount ≡ 0) × (summed.parts ≡ 1) }
+        ensures { result ≡ record { worker = worker; held = nothing; tally = tally } }
+    {
+        Seat {
+            worker,
+            held: Totals {
+                count: 0,
+                frames: 0,
+                sum_lo: 0,
+            },
+            counted,
+            framed,
+            summed,
+            tally,
+        }
+    }
+
+    /// The seat's own tally.
+    pub fn tally(&mut self) -> &mut Tally<G>
+        ensures* writes_back { sem 𝓛 (Lends
+            (the_row C.row F.row S.row G.row C.Ledger F.Ledger S.Ledger G.Ledger)
+            (tallies.the_row G.row G.Ledger) self.entry result (λ w. record self.old { tally = w })) }
+        ensures value { result.now ≡ self.old.tally }
+    {
+        &mut self.tally
+    }
+
+    /// The worker.
+    pub fn worker(&self) -> u64
+        ensures { result ≡ self.now.worker }
+    {
+        self.worker
+    }
+
+    /// How many ranges were given to it, less those that it queued.
+    pub fn count(&self) -> u64
+        ensures { result ≡ self.now.held.count }
+    {
+        self.held.count
+    }
+
+    /// Their frames.
+    pub fn frames(&self) -> u64
+        ensures { result ≡ self.now.held.frames }
+    {
+        self.held.frames
+    }
+
+    /// The sum of their first frames.
+    pub fn sum_lo(&self) -> u64
+        ensures { result ≡ self.now.held.sum_lo }
+    {
+        self.held.sum_lo
+    }
+
+    /// The count, the frames and the sum together.
+    pub fn held(&self) -> Totals
+        ensures { result ≡ self.now.held }
+    {
+        self.held
+    }
+
+    /// Shares with no part and no amount.
+    pub fn lend(&mut self) -> (Share<C>, Share<F>, Share<S>)
+        ensures same { self.new ≡ self.old }
+        ensures none { (result.0.parts ≡ 0) × (result.0.amount ≡ 0) × (result.1.parts ≡ 0)
+            × (result.1.amount ≡ 0) × (result.2.parts ≡ 0) × (result.2.amount ≡ 0) }
+    {
+        (
+            self.counted.empty(),
+            self.framed.empty(),
+            self.summed.empty(),
+        )
+    }
+
+    /// The three shares, one part each.
+    pub fn into_shares(self) -> (Share<C>, Share<F>, Share<S>)
+        ensures parts { (result.0.parts ≡ 1) × (result.1.parts ≡ 1) × (result.2.parts ≡ 1) }
+        ensures amounts { (result.0.amount ≡ self.held.count) × (result.1.amount ≡ self.held.frames)
+            × (result.2.amount ≡ self.held.sum_lo) }
+    {
+        let Seat {
+            worker: _,
+            held: _,
+            counted,
+            framed,
+            summed,
+            tally: _,
+        } = self;
+        (counted, framed, summed)
+    }
+}

@@ -1,0 +1,4 @@
+pub mod Text
+pub mod LineSteps
+pub mod Traces
+pub mod Recorded

@@ -1,0 +1,73 @@
+-- What contracts see of a book and of a lock round it.
+use Rattle.std.specs.Prelude.{ℕ, zero, suc, ◌≡◌, ◌==◌, ◌&&◌, sum_by, Bool, true, false, List, length, Option}
+use Rattle.std.specs.List.{list_any}
+use Rattle.iova_range.specs.Bounds.{Extent}
+use Rattle.iova_model.specs.declared.step.Step.{Step}
+use Rattle.iova_model.specs.declared.step.Step.TheVariants as step
+use Rattle.iova_model.specs.declared.totals.Totals.{Totals}
+use Rattle.iova_model.specs.Clients.{totals}
+use Rattle.iova_model.specs.State.{State, new_domain}
+use Rattle.iova_keep.specs.Views.{SeatState, IsKept, nothing}
+use Rattle.iova_record.specs.StepLogs.{StepLog, IsRecorded, GoesOn}
+
+-- A book: its domain's number, whether it is strict, its domain, and its log; and the totals of its four ledgers, which are the
+-- sums of the shares that all seats and tallies keep.
+pub record BookState : Type 0 where
+  pub number : ℕ
+  pub strict : Bool
+  pub state : State
+  pub log : Option StepLog
+  pub shares : Totals
+  pub ended : ℕ
+
+-- a lock round a book: the domain's number, and how many workers it has
+pub record SharedState : Type 0 where
+  pub number : ℕ
+  pub workers : ℕ
+
+-- a new domain's book
+abbrev pub new_book : ℕ → Extent → ℕ → Option StepLog → BookState
+new_book number bounds workers log =
+    record { number = number; strict = false; state = new_domain bounds workers; log = log; shares = nothing; ended = 0 }
+
+-- What the value under the lock keeps: its domain's promises; the totals of its ledgers are the domain's totals and the number
+-- of its flushes that ended well; and while it records, its log is a transcript that leaves the domain.
+pub record IsBook (b : BookState) : Type 0 where
+  pub domain : IsKept b.state
+  pub shares : b.shares ≡ totals b.state.clients
+  pub ended : b.ended ≡ b.state.flushes.good
+  pub recorded : IsRecorded b.log b.state
+
+-- a book keeps its number, whether it is strict, and what it has recorded
+abbrev pub IsSame : BookState → BookState → Type 0
+IsSame old new = (new.number ≡ old.number) × (new.strict ≡ old.strict) × GoesOn old.log new.log
+
+-- the steps of a seat, and those of a tally
+abbrev pub by_seat : Step → Bool
+by_seat (step.Open w sac) = true
+by_seat (step.Alloc w id frames limit) = true
+by_seat (step.Unmap w id lo) = true
+by_seat (step.CloseOne w id) = true
+by_seat st = false
+
+abbrev pub by_tally : Step → Bool
+by_tally step.Begin = true
+by_tally (step.End n ok) = true
+by_tally st = false
+
+-- Seats that are gathered.
+
+abbrev pub has_seat : ℕ → List SeatState → Bool
+has_seat worker seats = list_any (λ s. s.worker == worker) seats
+
+abbrev pub have_seats : ℕ → List SeatState → Bool
+have_seats zero seats = true
+have_seats (suc n) seats = have_seats n seats && has_seat n seats
+
+-- as many seats as workers, and one of each
+abbrev pub is_each_once : ℕ → List SeatState → Bool
+is_each_once workers seats = (length seats == workers) && have_seats workers seats
+
+-- the sums of their shares
+abbrev pub held_sum : List SeatState → Totals
+held_sum seats = record { count = sum_by (λ s. s.held.count) seats; frames = sum_by (λ s. s.held.frames) seats; sum_lo = sum_by (λ s. s.held.sum_lo) seats }

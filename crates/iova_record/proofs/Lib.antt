@@ -1,0 +1,6 @@
+pub mod GoingOn
+mod StepLogs
+mod Keeping
+mod Drains
+mod Covering
+mod Recording

@@ -1,0 +1,2 @@
+pub mod StepLogs
+pub mod Records

@@ -1,0 +1,6 @@
+//! A domain whose steps may be recorded, with their replies, and what was recorded as a trace.
+#![tactic(auto)]
+
+pub mod crossing;
+pub mod machine;
+pub mod record;

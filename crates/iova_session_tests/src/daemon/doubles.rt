@@ -1,0 +1,248 @@
+//! Links that wait for one another, accepts that fail, pauses without time, sinks that wait, and notices that are counted.
+ghost use Rattle.std.specs.Prelude.{Some, None};
+
+use iova_daemon::accept::Accept;
+use iova_daemon::pause::Pause;
+use iova_session::link::{Link, LinkFault};
+use iova_session::memory_link::MemoryLink;
+use iova_sink::calls::Calls;
+use iova_sink::gate::{Flag, GateSink};
+use iova_sink::memory::MemorySink;
+use iova_sink::sink::{Sink, SinkFault};
+use log::kv::Source;
+use log::span::Spans;
+use log::{Log, Metadata, Record};
+use std::alloc::Global;
+use std::fmt::Display;
+use std::sync::atomic::{AtomicU64, Ordering};
+use std::thread;
+
+/// A session that is to come: what its peer sends, once a flag is raised if it waits for one, at which call its link fails (0:
+/// at none), what it is to be answered, and the flag that is raised once it has been. Flags are named by their place in a list.
+#[derive(Clone, Copy)]
+pub struct Row<'a> {
+    input: &'a [u8],
+    before: Option<usize>,
+    fail_at: u64,
+    answers: &'a [u8],
+    answered: usize,
+}
+
+impl<'a> Row<'a> {
+    /// A session that waits for nothing, and whose link doesn't fail.
+    pub fn new(input: &'a [u8], answers: &'a [u8], answered: usize) -> Row<'a> {
+        Row {
+            input,
+            before: None,
+            fail_at: 0,
+            answers,
+            answered,
+        }
+    }
+
+    /// The same, but its peer sends once the flag is raised.
+    pub fn waits_for(self, flag: usize) -> Row<'a> {
+        Row {
+            before: Some(flag),
+            ..self
+        }
+    }
+
+    /// The same, but its link fails at this call.
+    pub fn fails_at(self, call: u64) -> Row<'a> {
+        Row {
+            fail_at: call,
+            ..self
+        }
+    }
+}
+
+/// A link of such a session.
+#[derive(Drop)]
+pub struct RowLink<'a> {
+    row: Row<'a>,
+    flags: &'a [Flag],
+    wire: MemoryLink<'a>,
+}
+
+impl<'a> Link for RowLink<'a> {
+    ghost left = { λ l. Some l.wire.left };
+
+    ghost sent = { λ l. Some l.wire.sent };
+
+    ghost reads = { λ l. l.wire.reads };
+
+    ghost failures = { λ l. l.wire.failures };
+
+    ghost ends = { λ l. l.wire.ends };
+
+    fn read(&mut self, buf: &mut [u8]) -> Result<usize, LinkFault> {
+        if let Some(before) = self.row.before
+            && let Some(flag) = self.flags.get(before)
+        {
+            flag.wait();
+        }
+        self.wire.read(buf)
+    }
+
+    fn write(&mut self, bytes: &[u8]) -> Result<usize, LinkFault> {
+        let written = self.wire.write(bytes);
+        if self.wire.sent() == self.row.answers
+            && let Some(flag) = self.flags.get(self.row.answered)
+        {
+            flag.raise();
+        }
+        written
+    }
+}
+
+/// Fails at its first calls, and then accepts the sessions of a list in turn; after its end each accept fails. How often it
+/// was called is counted.
+#[derive(Drop)]
+pub struct Rows<'a> {
+    alloc: Global,
+    failing: u64,
+    rows: &'a [Row<'a>],
+    flags: &'a [Flag],
+    calls: AtomicU64,
+}
+
+impl<'a> Rows<'a> {
+    /// Accepts these sessions once so many calls have failed.
+    pub fn new(alloc: Global, failing: u64, rows: &'a [Row<'a>], flags: &'a [Flag]) -> Rows<'a> {
+        Rows {
+            alloc,
+            failing,
+            rows,
+            flags,
+            calls: AtomicU64::new(0),
+        }
+    }
+
+    /// How often it was called.
+    pub fn calls(&self) -> u64 {
+        self.calls.load(Ordering::SeqCst)
+    }
+}
+
+impl<'a> Accept<RowLink<'a>> for Rows<'a> {
+    fn accept(&self) -> Result<RowLink<'a>, LinkFault> {
+        let call = self.calls.fetch_add(1, Ordering::SeqCst);
+        let Some(at) = call.checked_sub(self.failing) else {
+            return Err(LinkFault);
+        };
+        let Some(row) = self.rows.get(at as usize) else {
+            return Err(LinkFault);
+        };
+        Ok(RowLink {
+            row: *row,
+            flags: self.flags,
+            wire: MemoryLink::new(self.alloc, row.input, 4096, row.fail_at),
+        })
+    }
+}
+
+/// So many rounds, or rounds as fast as they come. It waits for a flag before each of them, and raises another one once it
+/// stops, where it has such.
+#[derive(Drop)]
+pub struct Rounds<'a> {
+    before: Option<&'a Flag>,
+    left: Option<u64>,
+    after: Option<&'a Flag>,
+}
+
+impl<'a> Rounds<'a> {
+    /// So many rounds between these flags; none: without end.
+    pub fn new(before: Option<&'a Flag>, left: Option<u64>, after: Option<&'a Flag>) -> Rounds<'a> {
+        Rounds {
+            before,
+            left,
+            after,
+        }
+    }
+}
+
+impl<'a> Pause for Rounds<'a> {
+    fn pause(&mut self) -> bool {
+        if let Some(before) = self.before {
+            before.wait();
+        }
+        let Some(left) = self.left else {
+            thread::yield_now();
+            return true;
+        };
+        self.left = Some(left.saturating_sub(1));
+        if left == 0
+            && let Some(after) = self.after
+        {
+            after.raise();
+        }
+        left > 0
+    }
+}
+
+/// A sink behind a gate: a call raises the first flag and waits for the second; it fails where that isn't raised, and at one
+/// call of its own.
+#[derive(Drop)]
+pub struct GatedSink<'a> {
+    gate: GateSink<'a>,
+    sink: MemorySink,
+    calls: Calls,
+}
+
+impl<'a> GatedSink<'a> {
+    /// A sink that fails at its `fail_at`-th call, behind a gate of these flags.
+    pub fn new(inside: &'a Flag, open: &'a Flag, fail_at: u64) -> GatedSink<'a> {
+        GatedSink {
+            gate: GateSink::new(inside, open),
+            sink: MemorySink::new(fail_at),
+            calls: Calls::new(),
+        }
+    }
+}
+
+impl<'a> Sink for GatedSink<'a> {
+    ghost calls = { λ s. s.calls };
+
+    fn invalidate(&mut self, domain: u64, no: u64) -> Result<(), SinkFault> {
+        let is_open = self.gate.invalidate(domain, no).is_ok();
+        let ok = self.sink.invalidate(domain, no).is_ok() && is_open;
+        self.calls.add(domain, no, ok);
+        if ok { Ok(()) } else { Err(SinkFault) }
+    }
+}
+
+/// Counts notices, and prints none.
+#[derive(Drop)]
+pub struct Counted {
+    records: AtomicU64,
+}
+
+impl Counted {
+    pub fn new() -> Counted {
+        Counted {
+            records: AtomicU64::new(0),
+        }
+    }
+
+    /// How many there were.
+    pub fn count(&self) -> u64 {
+        self.records.load(Ordering::SeqCst)
+    }
+}
+
+impl Log for Counted {
+    fn enabled(&self, _metadata: &Metadata<'_>) -> bool {
+        true
+    }
+
+    fn log<D: Display, K: Source, S: Spans>(&self, _record: &Record<'_, D, K, S>) {
+        self.records.fetch_add(1, Ordering::SeqCst);
+    }
+
+    fn flush(&self) {}
+
+    fn target(&self) -> &str {
+        ""
+    }
+}
