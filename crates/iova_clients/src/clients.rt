@@ -54,19 +54,6 @@ impl Clients {
         }
     }
 
-    /// No clients; the first one gets this serial, 1 to 2^63 - 1. Nothing is allocated before the first client, so this
-    /// is never refused.
-    pub fn starting_at(alloc: Global, serial: u64) -> Result<Clients, Refusal>
-        requires first { 1 ≤ serial }
-        requires last { serial ≤ MAX_SERIAL }
-        ensures { result ≡ Ok (empty_registry (serial - 1)) }
-    {
-        Ok(Clients {
-            serial: serial - 1,
-            ..Clients::new(alloc)
-        })
-    }
-
     /// A new client of this worker, 0 to 15, which holds nothing. One that is `sac` is first sought a place below 4 GiB.
     /// Its serial is one more than the last one given.
     ///

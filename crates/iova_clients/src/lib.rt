@@ -8,8 +8,6 @@ mod ledgers;
 pub mod marks;
 mod shifts;
 mod sums;
-#[cfg(test)]
-mod tests;
 
 pub use crate::clients::Clients;
 pub use iova_model::step::ClientId;

@@ -423,6 +423,3 @@ fn new_depots(alloc: Global, profile: Profile) -> Result<Vec<Depot>, AllocError>
     }
     Ok(depots)
 }
-
-#[cfg(test)]
-mod tests;

@@ -5,9 +5,6 @@ ghost use Rattle.std.specs.Prelude.{◌≡◌, ◌+◌, ◌*◌, ◌<◌, ◌≤
 ghost use Rattle.std.specs.List.{flat_map};
 ghost use Rattle.iova_report.specs.Report.{name_text, number_text, field_text, counts_text, window_text, report_text};
 
-#[cfg(test)]
-mod tests;
-
 use iova_core::domain::Domain;
 use iova_model::place::Counts;
 use iova_range::range::Range;

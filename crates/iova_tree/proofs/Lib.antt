@@ -17,4 +17,3 @@ mod Spaces
 mod Taking
 mod Kept
 mod Newest
-mod Comparing

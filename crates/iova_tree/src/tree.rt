@@ -207,6 +207,3 @@ impl Tree {
         window
     }
 }
-
-#[cfg(test)]
-mod tests;
