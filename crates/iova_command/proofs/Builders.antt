@@ -42,29 +42,10 @@ helped app old new help is fields = record {
   local = ap (λ (f : Command-F Command). f.has_globals) fields ∙ is.local;
 }
 
-pub with_arg : (app : App) (rule : Rule) (old new : Command) (a : Arg) → IsCommand app old → rule_of a ≡ rule → a.global ≡ false
-    → AddsArg old a new → IsCommand (with_rule app rule) new
-with_arg app rule old new a is rule_is local adds = record {
-  app = adds.shape local ∙ ap₂ with_rule is.app rule_is;
-  local = adds.globals ∙ ap₂ (λ x y. x || y) is.local local;
-}
-
-pub with_last_arg : {E : Type 0} (app : App) (rule : Rule) (old : Command) (a : Arg) (r : Result Command E) → IsCommand app old → rule_of a ≡ rule
-    → a.global ≡ false → IfOk r (λ new. AddsArg old a new) → IfOk r (IsCommand (with_rule app rule))
-with_last_arg app rule old a (Ok new) is rule_is local adds = with_arg app rule old new a is rule_is local adds
-with_last_arg app rule old a (Err e) is rule_is local adds = tt
-
-pub with_command : (app sub_app : App) (old sub new : Command) → IsCommand app old → IsCommand sub_app sub
-    → AddsSubcommand old sub new → IsCommand (with_subcommand app sub_app.top) new
-with_command app sub_app old sub new is sub_is adds = record {
-  app = adds.shape sub_is.local ∙ ap₂ with_subcommand is.app (ap (λ (a : App). a.top) sub_is.app);
-  local = adds.globals ∙ ap₂ (λ x y. x || y) is.local sub_is.local;
-}
-
-pub with_last_command : {E : Type 0} (app sub_app : App) (old sub : Command) (r : Result Command E) → IsCommand app old → IsCommand sub_app sub
-    → IfOk r (λ new. AddsSubcommand old sub new) → IfOk r (IsCommand (with_subcommand app sub_app.top))
-with_last_command app sub_app old sub (Ok new) is sub_is adds = with_command app sub_app old sub new is sub_is adds
-with_last_command app sub_app old sub (Err e) is sub_is adds = tt
+-- an argument more, whose rule is this
+pub with_one : {E : Type 0} (app : App) (rule : Rule) (old new : Result Command E) (a : Arg) → IfOk old (IsCommand app) → rule_of a ≡ rule → a.global ≡ false
+    → ((app : App) → IfOk old (IsCommand app) → a.global ≡ false → IfOk new (IsCommand (with_rule app (rule_of a)))) → IfOk new (IsCommand (with_rule app rule))
+with_one app rule old new a is rule_is local adds = subst (λ (r : Rule). IfOk new (IsCommand (with_rule app r))) rule_is (adds app is local)
 
 -- no number is below the least that a parser of 64 bits has
 pub max_zero : (n : ℕ) → ord_max nat_cmp 0 n ≡ n

@@ -1,7 +1,7 @@
 //! The command and its help.
 ghost use Rattle.std.specs.Prelude.{◌≡◌, ◌<◌, ◌^◌, IfOk, false};
-ghost use Rattle.clap.specs.Words.{rule_of};
-ghost use Rattle.iova_command.specs.Commands.{IsCommand, flag_rule, option_rule, optional_rule, number_rule, optional_number_rule, replay_app, serve_app, ask_app, iovad_app};
+ghost use Rattle.clap.specs.Words.{App, rule_of, with_rule, with_subcommand};
+ghost use Rattle.iova_command.specs.Commands.{IsCommand, place_rule, flag_rule, option_rule, optional_rule, number_rule, optional_number_rule, replay_app, serve_app, ask_app, iovad_app};
 
 use clap::{Arg, ArgAction, Command, value_parser};
 use iova_range::limits::{MAX_DEPOT, MAX_DOMAINS, MAX_SESSIONS, MAX_WORKERS, WIDE_TOP};
@@ -53,116 +53,176 @@ A request that is refused is answered no NUMBER NAME.";
 pub fn iovad_command<'a>(alloc: Global) -> Result<Command<'a>, AllocError>
     ensures { IfOk result (IsCommand iovad_app) }
 {
-    Command::new(alloc, "iovad")
+    let command = Command::new(alloc, "iovad")
         .about("Hands out I/O virtual addresses; with no word, replays a trace from standard input")
         .version(VERSION)
         .override_usage(USAGE)
-        .after_help(STATUSES)
-        .subcommand(replay_command(alloc)?)?
-        .subcommand(serve_command(alloc)?)?
-        .subcommand(ask_command(alloc)?)
+        .after_help(STATUSES);
+    let command = with_subcommand(Ok(command), replay_command(alloc));
+    let command = with_subcommand(command, serve_command(alloc));
+    with_subcommand(command, ask_command(alloc))
 }
 
 fn replay_command<'a>(alloc: Global) -> Result<Command<'a>, AllocError>
     ensures { IfOk result (IsCommand replay_app) }
 {
+    let command = Command::new(alloc, "replay")
+        .about("Replays a trace and prints the reply to each of its steps")
+        .after_help(LINES_OF_A_TRACE);
     let report = flag(
         alloc,
         "report",
         "Prints the domain's report after the replies",
     );
-    let file = Arg::new(alloc, "file")
-        .value_name("FILE")
-        .required(true)
-        .action(ArgAction::Set)
-        .help("The trace's file, or - for standard input");
-    Command::new(alloc, "replay")
-        .about("Replays a trace and prints the reply to each of its steps")
-        .after_help(LINES_OF_A_TRACE)
-        .arg(report)?
-        .arg(file)
+    let file = place(
+        alloc,
+        "file",
+        "FILE",
+        "The trace's file, or - for standard input",
+    );
+    with_arg(with_arg(Ok(command), report), file)
 }
 
 fn serve_command<'a>(alloc: Global) -> Result<Command<'a>, AllocError>
     ensures { IfOk result (IsCommand serve_app) }
 {
-    Command::new(alloc, "serve")
-        .about("Serves sessions on a socket, then prints the domain's report")
-        .arg(path(
+    let command = Command::new(alloc, "serve").about(
+        "Serves sessions on a socket, then prints the domain's report",
+    );
+    let command = with_arg(
+        Ok(command),
+        path(
             alloc,
             "socket",
             "PATH",
             "The socket's path, where nothing stands yet",
-        ))?
-        .arg(number(
+        ),
+    );
+    let command = with_arg(
+        command,
+        number(
             alloc,
             "workers",
             1,
             MAX_WORKERS,
             "How many sessions are served at a time, 1 to 16",
-        ))?
-        .arg(number(
+        ),
+    );
+    let command = with_arg(
+        command,
+        number(
             alloc,
             "domain",
             0,
             MAX_DOMAINS - 1,
             "The number of the domain, 0 to 7",
-        ))?
-        .arg(number(
+        ),
+    );
+    let command = with_arg(
+        command,
+        number(
             alloc,
             "start",
             1,
             WIDE_TOP,
             "The first frame that may be given, 1 or more; a frame is 4096 bytes",
-        ))?
-        .arg(number(
+        ),
+    );
+    let command = with_arg(
+        command,
+        number(
             alloc,
             "last",
             1,
             WIDE_TOP,
             "The last frame that may be given, to 68719476735, with --depot to 1099511627775",
-        ))?
-        .arg(path(
+        ),
+    );
+    let command = with_arg(
+        command,
+        path(
             alloc,
             "sink",
             "FILE",
             "The file that the records of flushes are appended to",
-        ))?
-        .arg(number(
+        ),
+    );
+    let command = with_arg(
+        command,
+        number(
             alloc,
             "sessions",
             1,
             MAX_SESSIONS,
             "How many sessions are served, 1 to 65536",
-        ))?
-        .arg(optional_number(
+        ),
+    );
+    let command = with_arg(
+        command,
+        optional_number(
             alloc,
             "depot",
             0,
             MAX_DEPOT,
             "Caches of the second profile, with so many magazines in the depot, 0 to 32",
-        ))?
-        .arg(flag(alloc, "strict", "Flushes each range at once that is freed"))?
-        .arg(optional_path(
+        ),
+    );
+    let command = with_arg(
+        command,
+        flag(alloc, "strict", "Flushes each range at once that is freed"),
+    );
+    with_arg(
+        command,
+        optional_path(
             alloc,
             "record",
             "FILE",
             "The file that the domain's first 100000 steps are written to, as a trace",
-        ))
+        ),
+    )
 }
 
 fn ask_command<'a>(alloc: Global) -> Result<Command<'a>, AllocError>
     ensures { IfOk result (IsCommand ask_app) }
 {
-    let path = Arg::new(alloc, "path")
-        .value_name("PATH")
-        .required(true)
-        .action(ArgAction::Set)
-        .help("The socket's path");
     Command::new(alloc, "ask")
         .about("Sends lines from standard input to a socket and prints the answers")
         .after_help(REQUESTS)
-        .arg(path)
+        .arg(place(alloc, "path", "PATH", "The socket's path"))
+}
+
+/// The command with this argument too.
+fn with_arg<'a>(
+    command: Result<Command<'a>, AllocError>,
+    arg: Arg<'a>,
+) -> Result<Command<'a>, AllocError>
+    ensures { (app : App) → IfOk command.entry (IsCommand app) → arg.entry.global ≡ false
+        → IfOk result (IsCommand (with_rule app (rule_of arg.entry))) }
+{
+    command?.arg(arg)
+}
+
+/// The command with this subcommand too.
+fn with_subcommand<'a>(
+    command: Result<Command<'a>, AllocError>,
+    subcommand: Result<Command<'a>, AllocError>,
+) -> Result<Command<'a>, AllocError>
+    ensures { (app : App) (more : App) → IfOk command.entry (IsCommand app)
+        → IfOk subcommand.entry (IsCommand more) → IfOk result (IsCommand (with_subcommand app more.top)) }
+{
+    command?.subcommand(subcommand?)
+}
+
+/// An argument that must be there, known by its place.
+fn place<'a>(alloc: Global, name: &'a str, value: &'a str, help: &'a str) -> Arg<'a>
+    ensures rule { rule_of result ≡ place_rule name.entry.now }
+    ensures local { result.global ≡ false }
+{
+    Arg::new(alloc, name)
+        .required(true)
+        .action(ArgAction::Set)
+        .help(help)
+        .value_name(value)
 }
 
 /// An option that is there or not.
@@ -189,11 +249,9 @@ fn optional_path<'a>(alloc: Global, name: &'a str, value: &'a str, help: &'a str
     ensures rule { rule_of result ≡ optional_rule name.entry.now }
     ensures local { result.global ≡ false }
 {
-    Arg::new(alloc, name)
-        .long(name)
-        .value_name(value)
+    flag(alloc, name, help)
         .action(ArgAction::Set)
-        .help(help)
+        .value_name(value)
 }
 
 /// A required option with a number from `low` to `high`.
