@@ -1,0 +1,6 @@
+pub mod Answers
+pub mod Bytes
+pub mod Slots
+pub mod Readers
+pub mod Lists
+pub mod Names

@@ -1,0 +1,62 @@
+-- What a call does to a slot, which holds a domain or none.
+use Rattle.std.specs.Prelude.{ℕ, zero, suc, ◌≡◌, ◌≢◌, ◌<◌, ◌≤◌, ◌⊎◌, ◌↔◌, Bool, true, false, Option, None, Some}
+use Rattle.iova_range.specs.Bounds.{Extent, AreBounds, first_profile, second_profile}
+use Rattle.iova_range.specs.declared.limits.TheConstants.{MAX_WORKERS, MAX_DEPOT}
+use Rattle.iova_range.specs.declared.refusal.Refusal.TheVariants as refusal
+use Rattle.iova_range.specs.Refusals.{refusal_number}
+use Rattle.iova_model.specs.State.{State, new_domain}
+use Rattle.iova_model.specs.declared.step.Step.{Step}
+use Rattle.iova_model.specs.declared.step.Reply.{Reply}
+use Rattle.iova_model.specs.declared.step.Reply.TheVariants as reply
+use Rattle.iova_core.specs.Domain.{IsStepOf}
+use Rattle.iova_c.specs.declared.answer.RangeAnswer.{RangeAnswer}
+use Rattle.iova_c.specs.declared.answer.NumberAnswer.{NumberAnswer}
+use Rattle.iova_c.specs.declared.answer.MappingAnswer.{MappingAnswer}
+use Rattle.iova_c.specs.Answers.{range_answer, number_answer, word_answer, mapping_answer}
+
+-- C's yes and no: 0 is no, and any other number is yes
+abbrev pub is_set : ℕ → Bool
+is_set zero = false
+is_set (suc n) = true
+
+-- The domain of a slot takes the step, with this reply. Without a domain the step is refused, and nothing has changed.
+abbrev pub HasStepped : Option State → Step → Reply → Option State → Type 0
+HasStepped (Some s) st r new = (s' : State) × IsStepOf s st r s' × (new ≡ Some s')
+HasStepped None st r new = (r ≡ reply.Refused refusal.NoDomain) × (new ≡ None)
+
+-- What a call answers of a step that the slot's domain takes, and what it leaves.
+
+abbrev pub RangeStep : Option State → Step → RangeAnswer → Option State → Type 0
+RangeStep old st answer new = (r : Reply) × HasStepped old st r new × (answer ≡ range_answer r)
+
+abbrev pub NumberStep : Option State → Step → NumberAnswer → Option State → Type 0
+NumberStep old st answer new = (r : Reply) × HasStepped old st r new × (answer ≡ number_answer r)
+
+abbrev pub WordStep : Option State → Step → ℕ → Option State → Type 0
+WordStep old st answer new = (r : Reply) × HasStepped old st r new × (answer ≡ word_answer r)
+
+abbrev pub MappingStep : Option State → Step → MappingAnswer → Option State → Type 0
+MappingStep old st answer new = (r : Reply) × HasStepped old st r new × (answer ≡ mapping_answer r)
+
+-- A domain has from 1 to 16 workers.
+abbrev pub IsWorkerCount : ℕ → Type 0
+IsWorkerCount workers = (1 ≤ workers) × (workers ≤ MAX_WORKERS)
+
+-- What making a domain answers and leaves: with 0 a new one in the slot, with the number of a refusal what was there.
+-- Bounds of the profile and a worker count are refused only for want of memory.
+pub record IsMade (old : Option State) (extent : Extent) (workers answer : ℕ) (new : Option State) : Type 0 where
+  pub made : answer ≡ 0 → new ≡ Some (new_domain extent workers)
+  pub kept : answer ≢ 0 → new ≡ old
+  pub bad_window : (answer ≡ refusal_number refusal.BadWindow) ↔ (AreBounds extent.profile extent.start extent.last → ⊥)
+  pub no_worker : AreBounds extent.profile extent.start extent.last → (answer ≡ refusal_number refusal.NoWorker) ↔ (IsWorkerCount workers → ⊥)
+  pub no_other : (answer ≡ 0) ⊎ (answer ≡ refusal_number refusal.BadWindow) ⊎ (answer ≡ refusal_number refusal.NoWorker) ⊎ (answer ≡ refusal_number refusal.NoMemory)
+
+-- in the first profile
+abbrev pub HasMade : Option State → ℕ → ℕ → ℕ → ℕ → Option State → Type 0
+HasMade old start last workers answer new =
+    IsMade old (record { start = start; last = last; profile = first_profile }) workers answer new
+
+-- in the second one, whose depot has a limit
+pub record HasMadeSecond (old : Option State) (start last workers depot answer : ℕ) (new : Option State) : Type 0 where
+  pub bad_profile : MAX_DEPOT < depot → (answer ≡ refusal_number refusal.BadProfile) × (new ≡ old)
+  pub made : depot ≤ MAX_DEPOT → IsMade old (record { start = start; last = last; profile = second_profile depot }) workers answer new

@@ -1,0 +1,12 @@
+//! The allocator as a static library for C: `libiova.a`, whose header is `include/iova.h`. C gives the memory that a domain
+//! lies in, and each export is told where it lies.
+#![tactic(auto)]
+
+pub mod answer;
+pub mod bytes;
+pub mod exports;
+pub mod lists;
+pub mod names;
+pub mod readers;
+pub mod slot;
+pub mod steps;

@@ -1,0 +1,88 @@
+//! A place for one domain.
+ghost use Rattle.std.specs.Prelude.{◌≡◌, None};
+ghost use Rattle.iova_c.specs.Slots.{HasStepped, HasMade, HasMadeSecond};
+
+use crate::answer::number_of;
+use iova_core::domain::Domain;
+use iova_core::{Reply, Step};
+use iova_range::bounds::Bounds;
+use iova_range::profile::Profile;
+use iova_range::refusal::Refusal;
+use std::alloc::Global;
+
+/// A domain, or none.
+#[derive(Drop)]
+pub struct Slot {
+    pub(crate) domain: Option<Domain>,
+}
+
+const _: () = prove!(size_of::<Slot>() <= 1536);
+
+const _: () = prove!(align_of::<Slot>() <= 8);
+
+/// A slot with no domain.
+pub fn empty() -> Slot
+    ensures { result.domain ≡ None }
+{
+    Slot { domain: None }
+}
+
+/// The slot's domain takes the step. `NoDomain` where it has none.
+pub fn step(slot: &mut Slot, step: Step) -> Reply
+    ensures { HasStepped slot.old.domain step result slot.new.domain }
+{
+    match &mut slot.domain {
+        Some(domain) => domain.step(step),
+        None => Reply::Refused(Refusal::NoDomain),
+    }
+}
+
+/// A new domain of the first profile for the slot, in place of the one that it has. Answers 0, or the number of the
+/// refusal, by which nothing has changed: `BadWindow`, `NoWorker`, `NoMemory`.
+pub fn make(alloc: Global, slot: &mut Slot, start: u64, last: u64, workers: u64) -> u64
+    ensures { HasMade slot.old.domain start last workers result slot.new.domain }
+{
+    match Bounds::new(start, last) {
+        Err(refusal) => number_of(refusal),
+        Ok(bounds) => match Domain::new(alloc, bounds, workers) {
+            Err(refusal) => number_of(refusal),
+            Ok(domain) => {
+                slot.domain = Some(domain);
+                0
+            }
+        },
+    }
+}
+
+/// The same in the second profile, with so many magazines of each order in the depot. `BadProfile`, and then as above.
+pub fn make_second(
+    alloc: Global,
+    slot: &mut Slot,
+    start: u64,
+    last: u64,
+    workers: u64,
+    depot: u64,
+) -> u64
+    ensures { HasMadeSecond slot.old.domain start last workers depot result slot.new.domain }
+{
+    match Profile::two(depot) {
+        Err(refusal) => number_of(refusal),
+        Ok(profile) => match Bounds::new_in(profile, start, last) {
+            Err(refusal) => number_of(refusal),
+            Ok(bounds) => match Domain::new(alloc, bounds, workers) {
+                Err(refusal) => number_of(refusal),
+                Ok(domain) => {
+                    slot.domain = Some(domain);
+                    0
+                }
+            },
+        },
+    }
+}
+
+/// Ends the slot's domain.
+pub fn clear(slot: &mut Slot)
+    ensures { slot.new.domain ≡ None }
+{
+    slot.domain = None;
+}

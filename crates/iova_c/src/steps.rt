@@ -1,0 +1,71 @@
+//! The nine steps of a slot's domain, in numbers.
+ghost use Rattle.std.specs.Prelude.{◌≡◌, ◌≢◌};
+ghost use Rattle.iova_c.specs.Slots.{is_set, RangeStep, NumberStep, WordStep};
+
+use crate::answer::{NumberAnswer, RangeAnswer, of_number, of_range, of_word};
+use crate::slot::{Slot, step};
+use iova_core::Step;
+
+pub fn reserve(slot: &mut Slot, lo: u64, hi: u64) -> RangeAnswer
+    ensures { RangeStep slot.old.domain (Step.Reserve lo hi) result slot.new.domain }
+{
+    of_range(step(slot, Step::Reserve { lo, hi }))
+}
+
+pub fn open(slot: &mut Slot, worker: u64, sac: u64) -> NumberAnswer
+    ensures { NumberStep slot.old.domain (Step.Open worker (is_set sac)) result slot.new.domain }
+{
+    let sac = sac != 0;
+    of_number(step(slot, Step::Open { worker, sac }))
+}
+
+pub fn alloc(slot: &mut Slot, worker: u64, client: u64, frames: u64, limit: u64) -> RangeAnswer
+    ensures { RangeStep slot.old.domain (Step.Alloc worker client frames limit) result slot.new.domain }
+{
+    of_range(step(
+        slot,
+        Step::Alloc {
+            worker,
+            client,
+            frames,
+            limit,
+        },
+    ))
+}
+
+pub fn unmap(slot: &mut Slot, worker: u64, client: u64, lo: u64) -> RangeAnswer
+    ensures { RangeStep slot.old.domain (Step.Unmap worker client lo) result slot.new.domain }
+{
+    of_range(step(slot, Step::Unmap { worker, client, lo }))
+}
+
+pub fn begin(slot: &mut Slot) -> NumberAnswer
+    ensures { NumberStep slot.old.domain Step.Begin result slot.new.domain }
+{
+    of_number(step(slot, Step::Begin))
+}
+
+pub fn end(slot: &mut Slot, no: u64, ok: u64) -> u64
+    ensures { WordStep slot.old.domain (Step.End no (is_set ok)) result slot.new.domain }
+{
+    let ok = ok != 0;
+    of_word(step(slot, Step::End { no, ok }))
+}
+
+pub fn drain(slot: &mut Slot, ring: u64, by: u64) -> NumberAnswer
+    ensures { NumberStep slot.old.domain (Step.Drain ring by) result slot.new.domain }
+{
+    of_number(step(slot, Step::Drain { ring, by }))
+}
+
+pub fn close(slot: &mut Slot, worker: u64, client: u64) -> NumberAnswer
+    ensures { NumberStep slot.old.domain (Step.Close worker client) result slot.new.domain }
+{
+    of_number(step(slot, Step::Close { worker, client }))
+}
+
+pub fn close_one(slot: &mut Slot, worker: u64, client: u64) -> RangeAnswer
+    ensures { RangeStep slot.old.domain (Step.CloseOne worker client) result slot.new.domain }
+{
+    of_range(step(slot, Step::CloseOne { worker, client }))
+}

@@ -1,0 +1,119 @@
+/* Each growth is refused in turn, by a malloc and a realloc that count: then the call is refused by IOVA_NO_MEMORY or does without,
+ * no frame is lost, the same call succeeds once there is memory, and at the end nothing is left. */
+#include "iova.h"
+
+#include <inttypes.h>
+#include <stdio.h>
+
+static long growths, refuse_at, blocks;
+
+void *__real_malloc(size_t size);
+void *__real_realloc(void *block, size_t size);
+void __real_free(void *block);
+
+static int is_refused(void) { return ++growths == refuse_at; }
+
+void *__wrap_malloc(size_t size) {
+    void *block = is_refused() ? NULL : __real_malloc(size);
+    blocks += block != NULL;
+    return block;
+}
+
+void *__wrap_realloc(void *block, size_t size) {
+    void *moved = is_refused() ? NULL : __real_realloc(block, size);
+    blocks += block == NULL && moved != NULL;
+    return moved;
+}
+
+void __wrap_free(void *block) {
+    blocks -= block != NULL;
+    __real_free(block);
+}
+
+static long refusals;
+
+static int fails(const char *what, uint64_t refused) {
+    printf("growths: growth %ld: %s: %" PRIu64 "\n", refuse_at, what, refused);
+    return 1;
+}
+
+/* A call again, where it was refused memory: `refused` of what it answers. */
+#define AGAIN(answer, call)                                                                                                    \
+    do {                                                                                                                       \
+        answer = call;                                                                                                         \
+        if (answer.refused == IOVA_NO_MEMORY) {                                                                                \
+            refusals++;                                                                                                        \
+            answer = call;                                                                                                     \
+        }                                                                                                                      \
+        if (answer.refused)                                                                                                    \
+            return fails(#call, answer.refused);                                                                               \
+    } while (0)
+
+static int run(iova_domain *domain) {
+    enum { LAST = 4095 };
+    uint64_t made = iova_domain_make(domain, 1, LAST, 3);
+    if (made == IOVA_NO_MEMORY) {
+        refusals++;
+        if (iova_counts_of(domain).refused != IOVA_NO_DOMAIN)
+            return fails("a domain that wasn't made", made);
+        made = iova_domain_make(domain, 1, LAST, 3);
+    }
+    if (made)
+        return fails("make", made);
+    iova_number client, flush;
+    iova_range range, window;
+    uint64_t held[60];
+    AGAIN(window, iova_reserve(domain, 100, 109));
+    for (uint64_t worker = 0; worker < 3; worker++) {
+        AGAIN(client, iova_open(domain, worker, worker == 1));
+        for (int at = 0; at < 60; at++) {
+            AGAIN(range, iova_alloc(domain, worker, client.number, 1 + at % 9, IOVA_NO_LIMIT));
+            held[at] = range.lo;
+            iova_counts counts = iova_counts_of(domain);
+            if (counts.free + counts.reserved + counts.client + counts.magazine + counts.depot + counts.ring != LAST)
+                return fails("frames that are lost", counts.free);
+        }
+        AGAIN(window, iova_reserve(domain, 200 + 20 * worker, 209 + 20 * worker));
+        for (int at = 0; at < 60; at += 2)
+            AGAIN(range, iova_unmap(domain, worker, client.number, held[at]));
+        AGAIN(flush, iova_begin(domain));
+        if (iova_end(domain, flush.number, 1))
+            return fails("end", flush.number);
+        AGAIN(flush, iova_drain(domain, worker, (worker + 1) % 3));
+    }
+    /* in the room of a domain that there is: where it is refused, that one stays */
+    made = iova_domain_make_second(domain, 1, LAST, 2, 8);
+    if (made == IOVA_NO_MEMORY) {
+        refusals++;
+        if (iova_bounds_of(domain).magazine != 128 || iova_counts_of(domain).clients != 3)
+            return fails("a domain that stays", made);
+        made = iova_domain_make_second(domain, 1, LAST, 2, 8);
+    }
+    if (made || iova_bounds_of(domain).magazine != 127 || iova_counts_of(domain).clients != 0)
+        return fails("make again", made);
+    return 0;
+}
+
+int main(void) {
+    for (refuse_at = 1;; refuse_at++) {
+        growths = 0;
+        iova_domain *domain = iova_domain_new();
+        if (domain == NULL)
+            continue;
+        int failed = run(domain);
+        iova_domain_free(domain);
+        if (failed)
+            return 1;
+        if (blocks) {
+            printf("growths: growth %ld: %ld blocks are left\n", refuse_at, blocks);
+            return 1;
+        }
+        if (growths < refuse_at)
+            break;
+    }
+    if (refusals < 20) {
+        printf("growths: only %ld refusals\n", refusals);
+        return 1;
+    }
+    return 0;
+}
