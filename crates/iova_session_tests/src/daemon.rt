@@ -5,6 +5,8 @@ ghost use Rattle.iova_range.specs.declared.limits.TheConstants.{MAX_WORKERS, TAL
 
 mod doubles;
 
+use crate::fresh::new_shared;
+use crate::posts::{NOTHING, repeated};
 use doubles::{Counted, GatedSink, Rounds, Row, Rows};
 use iova_daemon::accept::Accept;
 use iova_daemon::pause::Pause;
@@ -19,24 +21,19 @@ use iova_range::refusal::Refusal;
 use iova_range::stat::Stat;
 use iova_session::link::Link;
 use iova_session::post::Post;
-use iova_sink::gate::Flag;
+use iova_sink::calls::Calls;
+use iova_sink::gate::{Flag, GateSink};
+use iova_sink::memory::MemorySink;
 use iova_sink::sink::Sink;
 use log::Log;
 use std::alloc::Global;
 use std::marker::Brand;
 use std::process::Abort;
 use std::sync::Wait;
+use std::sync::atomic::{AtomicU64, Ordering};
 use std::sync::ledger::{Blank, Ledger};
 use std::test::*;
 use std::thread::Threads;
-
-/// The domain that is served.
-#[derive(Clone, Copy, PartialEq, Eq)]
-enum Kind {
-    Plain,
-    Strict,
-    Recorded,
-}
 
 /// What serving left: whether the posts came back in their order, whether the domain is still recorded, what it holds, and the
 /// gathered totals.
@@ -48,23 +45,17 @@ struct Seen {
     totals: Totals,
 }
 
-/// Why a test's daemon didn't serve.
-#[derive(Clone, Copy)]
-enum Unserved {
-    Refused(Refusal),
-    Unprepared,
-    SeatMissing,
-}
-
 /// What is served on frames 1 to 4095, and what it comes to. Flags are named by their place in a list.
 #[derive(Clone, Copy)]
-struct Case<'a> {
-    kind: Kind,
+struct Case {
+    name: &'static str,
+    /// Whether the domain is strict, and how many of its steps are recorded.
+    kind: (bool, usize),
     workers: u64,
     sessions: u64,
     /// How many accepts fail first, and the sessions that come then.
     failing: u64,
-    rows: &'a [Row<'a>],
+    rows: &'static [Row<'static>],
     /// Whether the gate of the sinks is open from the beginning.
     is_open: bool,
     /// At which calls a worker's sink and the flusher's fail; 0: at none.
@@ -73,8 +64,8 @@ struct Case<'a> {
     rounds: Option<u64>,
     between: Option<(usize, usize)>,
     /// Which flags are raised at the end, and which are not.
-    raised: &'a [usize],
-    unraised: &'a [usize],
+    raised: &'static [usize],
+    unraised: &'static [usize],
     /// How many accepts there are, notices, frames in magazines and in rings, and flushes begun and finished; and whether all
     /// holdings are gone. None: that isn't asked.
     accepts: Option<u64>,
@@ -95,79 +86,273 @@ const SECOND: usize = 3;
 
 const THIRD: usize = 4;
 
-/// No session, on a plain domain with good sinks, a worker and no round. Nothing is asked of it.
-fn case_of<'a>(rows: &'a [Row<'a>], raised: &'a [usize]) -> Case<'a> {
-    Case {
-        kind: Kind::Plain,
-        workers: 1,
-        sessions: rows.len() as u64,
-        failing: 0,
-        rows,
-        is_open: true,
-        fail_at: (0, 0),
-        rounds: Some(0),
-        between: None,
-        raised,
-        unraised: &[],
-        accepts: None,
-        notices: None,
-        kept: None,
-        flushes: None,
-        is_empty: false,
-    }
-}
+/// A peer that sends nothing at once, and is answered nothing.
+const SILENT: Row<'static> = Row {
+    input: b"",
+    before: None,
+    fail_at: 0,
+    answers: b"",
+    answered: FIRST,
+};
 
-/// Flags that aren't raised.
-fn new_flags() -> [Flag; 5] {
-    [
-        Flag::new(),
-        Flag::new(),
-        Flag::new(),
-        Flag::new(),
-        Flag::new(),
-    ]
-}
+/// No session, on a plain domain with good sinks, a worker and no round. Nothing is asked of it.
+const SERVED: Case = Case {
+    name: "",
+    kind: (false, 0),
+    workers: 1,
+    sessions: 0,
+    failing: 0,
+    rows: &[],
+    is_open: true,
+    fail_at: (0, 0),
+    rounds: Some(0),
+    between: None,
+    raised: &[],
+    unraised: &[],
+    accepts: None,
+    notices: None,
+    kept: None,
+    flushes: None,
+    is_empty: false,
+};
+
+/// Two sessions at once: the flush that the first one asks for waits in its sink until the second one, which begins only
+/// then, has its answers.
+const OVERLAP: Case = Case {
+    name: "overlap",
+    workers: 2,
+    sessions: 2,
+    rows: &[
+        Row {
+            input: b"hello iova1 0 dac\nflush\n",
+            answers: b"opened 1\nflushed 1 0\n",
+            ..SILENT
+        },
+        Row {
+            input: b"hello iova1 0 dac\nalloc 1 9\n",
+            before: Some(INSIDE),
+            answers: b"opened 2\ngiven 9 1\n",
+            answered: OPEN,
+            ..SILENT
+        },
+    ],
+    is_open: false,
+    raised: &[FIRST, OPEN],
+    notices: Some(0),
+    flushes: Some((1, 1)),
+    is_empty: true,
+    ..SERVED
+};
+
+/// A session that leaves a frame in its worker's ring.
+const LEAVES_A_FRAME: Row<'static> = Row {
+    input: b"hello iova1 0 dac\nalloc 1 9\nfree 9\nbye\n",
+    answers: b"opened 1\ngiven 9 1\nqueued 9 1\nbye\n",
+    ..SILENT
+};
+
+/// Such a session, and one that waits for the flusher's flush.
+const DRAINED: Case = Case {
+    name: "the flusher drains",
+    sessions: 2,
+    rows: &[
+        LEAVES_A_FRAME,
+        Row {
+            input: b"bye\n",
+            before: Some(INSIDE),
+            answers: b"bye\n",
+            answered: SECOND,
+            ..SILENT
+        },
+    ],
+    rounds: None,
+    raised: &[FIRST, SECOND, INSIDE],
+    notices: Some(0),
+    kept: Some((1, 0)),
+    flushes: Some((1, 1)),
+    ..SERVED
+};
+
+static CASES: [Case; 8] = [
+    OVERLAP,
+    Case {
+        name: "overlap on a recorded domain",
+        kind: (false, 1000),
+        ..OVERLAP
+    },
+    // while the flush of a free waits in its sink, its frame is given to nobody
+    Case {
+        name: "overlap on a strict domain",
+        kind: (true, 0),
+        rows: &[
+            Row {
+                input: b"hello iova1 0 dac\nalloc 1 9\nfree 9\n",
+                answers: b"opened 1\ngiven 9 1\nfreed 9 1\n",
+                ..SILENT
+            },
+            Row {
+                input: b"hello iova1 0 dac\nalloc 1 9\n",
+                before: Some(INSIDE),
+                answers: b"opened 2\ngiven 8 1\n",
+                answered: OPEN,
+                ..SILENT
+            },
+        ],
+        ..OVERLAP
+    },
+    // each accept uses up a number, one that fails too, and no number is left out
+    Case {
+        name: "accepts that fail",
+        workers: 3,
+        sessions: 20,
+        failing: 17,
+        rows: &[
+            Row {
+                input: b"list\nbye\n",
+                answers: b"no 3 NoClient\nbye\n",
+                ..SILENT
+            },
+            Row {
+                input: b"list\n",
+                answers: b"no 3 NoClient\n",
+                answered: SECOND,
+                ..SILENT
+            },
+            Row {
+                input: b"bye\n",
+                answers: b"bye\n",
+                answered: THIRD,
+                ..SILENT
+            },
+        ],
+        rounds: None,
+        raised: &[FIRST, SECOND, THIRD],
+        accepts: Some(20),
+        ..SERVED
+    },
+    // the flusher frees what the first session has left in a ring, and the second one waits for it
+    DRAINED,
+    // the gate stays closed: the round is refused, which is a notice, and nothing is drained
+    Case {
+        name: "a round that is refused",
+        is_open: false,
+        notices: Some(1),
+        kept: Some((0, 1)),
+        flushes: Some((1, 0)),
+        ..DRAINED
+    },
+    // a round that is refused isn't the last one: the next one drains the ring
+    Case {
+        name: "a round after one that is refused",
+        rows: &[
+            LEAVES_A_FRAME,
+            Row {
+                input: b"bye\n",
+                before: Some(THIRD),
+                answers: b"bye\n",
+                answered: SECOND,
+                ..SILENT
+            },
+        ],
+        fail_at: (0, 1),
+        rounds: Some(2),
+        between: Some((FIRST, THIRD)),
+        raised: &[FIRST, SECOND],
+        notices: Some(1),
+        flushes: Some((2, 2)),
+        ..DRAINED
+    },
+    // a sink that fails in a session and a link that fails are a notice each, and the daemon goes on
+    Case {
+        name: "sinks and links that fail",
+        sessions: 3,
+        rows: &[
+            Row {
+                input: b"hello iova1 0 dac\nflush\nbye\n",
+                answers: b"opened 1\nno 18 SinkFault\nbye\n",
+                ..SILENT
+            },
+            Row {
+                input: b"hello iova1 0 dac\n",
+                fail_at: 1,
+                answers: b"opened 2\n",
+                answered: SECOND,
+                ..SILENT
+            },
+            Row {
+                input: b"hello iova1 0 dac\nbye\n",
+                answers: b"opened 2\nbye\n",
+                answered: THIRD,
+                ..SILENT
+            },
+        ],
+        fail_at: (1, 0),
+        raised: &[FIRST, THIRD],
+        unraised: &[SECOND],
+        notices: Some(2),
+        is_empty: true,
+        ..SERVED
+    },
+];
+
+/// A client whose end waits, since its ring is full and the sink fails, is tried again once its session has ended.
+const TRIED_AGAIN: Case = Case {
+    name: "a waiting client",
+    sessions: 1,
+    fail_at: (1, 0),
+    notices: Some(1),
+    flushes: Some((2, 2)),
+    is_empty: true,
+    ..SERVED
+};
 
 /// A sink for each worker, and the flusher's. None for want of memory.
-fn sinks_of<'a>(
-    alloc: Global,
-    case: &Case<'_>,
-    flags: &'a [Flag; 5],
-) -> Option<Vec<GatedSink<'a>>> {
+fn sinks_of<'a>(alloc: Global, case: &Case, flags: &'a [Flag; 5]) -> Option<Vec<GatedSink<'a>>> {
     let mut sinks = Vec::new(alloc);
-    for _ in 0..case.workers {
-        let sink = GatedSink::new(&flags[INSIDE], &flags[OPEN], case.fail_at.0);
+    for worker in 0..=case.workers {
+        let fail_at = if worker < case.workers {
+            case.fail_at.0
+        } else {
+            case.fail_at.1
+        };
+        let sink = GatedSink {
+            gate: GateSink::new(&flags[INSIDE], &flags[OPEN]),
+            sink: MemorySink::new(fail_at),
+            calls: Calls::new(),
+        };
         let Ok(()) = sinks.push(sink) else {
             return None;
         };
     }
-    let sink = GatedSink::new(&flags[INSIDE], &flags[OPEN], case.fail_at.1);
-    match sinks.push(sink) {
-        Ok(()) => Some(sinks),
-        Err(_) => None,
-    }
+    Some(sinks)
 }
 
-/// The flusher's rounds.
-fn rounds_of<'a>(case: &Case<'_>, flags: &'a [Flag; 5]) -> Rounds<'a> {
-    match case.between {
-        Some((before, after)) => Rounds::new(flags.get(before), case.rounds, flags.get(after)),
-        None => Rounds::new(None, case.rounds, None),
-    }
-}
+/// Why nothing was served, and why it isn't seen what was.
+const BEFORE: &str = "refused before it";
+
+const AFTER: &str = "refused after it";
 
 /// Serves the case.
 fn serve_case<R: Threads + Wait + Sync>(
     rt: &R,
     alloc: Global,
-    case: &Case<'_>,
+    case: &Case,
     flags: &[Flag; 5],
     notices: &Counted,
     accept: &Rows<'_>,
-) -> Result<Seen, Unserved> {
+) -> Result<Seen, &'static str> {
     if case.is_open {
         flags[OPEN].raise();
     }
+    let (before, after) = match case.between {
+        Some((before, after)) => (flags.get(before), flags.get(after)),
+        None => (None, None),
+    };
+    let rounds = Rounds {
+        before,
+        left: case.rounds,
+        after,
+    };
     match sinks_of(alloc, case, flags) {
         Some(sinks) => serve_few(
             rt,
@@ -176,10 +361,10 @@ fn serve_case<R: Threads + Wait + Sync>(
             case.kind,
             sinks,
             accept,
-            rounds_of(case, flags),
+            rounds,
             case.sessions,
         ),
-        None => Err(Unserved::Unprepared),
+        None => Err(BEFORE),
     }
 }
 
@@ -188,12 +373,12 @@ fn serve_few<R, N, L, A, D, P>(
     rt: &R,
     alloc: Global,
     notices: &N,
-    kind: Kind,
+    kind: (bool, usize),
     sinks: Vec<D>,
     accept: &A,
     pause: P,
     sessions: u64,
-) -> Result<Seen, Unserved>
+) -> Result<Seen, &'static str>
 where
     R: Threads + Wait + Sync,
     N: Log + Sync,
@@ -204,7 +389,7 @@ where
 {
     let workers = sinks.len().saturating_sub(1) as u64;
     if workers == 0 || workers > MAX_WORKERS {
-        return Err(Unserved::Unprepared);
+        return Err(BEFORE);
     }
     serve_new::<R, N, Brand, Brand, Brand, Brand, L, A, D, P>(
         rt,
@@ -228,7 +413,7 @@ fn serve_new<R, N, C, F, S, G, L, A, D, P>(
     rt: &R,
     alloc: Global,
     notices: &N,
-    kind: Kind,
+    kind: (bool, usize),
     workers: u64,
     count: Blank,
     frames: Blank,
@@ -238,7 +423,7 @@ fn serve_new<R, N, C, F, S, G, L, A, D, P>(
     accept: &A,
     pause: P,
     sessions: u64,
-) -> Result<Seen, Unserved>
+) -> Result<Seen, &'static str>
 where
     R: Threads + Wait + Sync,
     N: Log + Sync,
@@ -259,19 +444,21 @@ where
     let Some((shared, mut posts)) = new_domain::<&R, C, F, S, G>(
         rt, alloc, kind, workers, count, frames, sum_lo, good,
     ) else {
-        return Err(Unserved::Unprepared);
+        return Err(BEFORE);
     };
     if posts.is_empty() || sinks.len() != posts.len() + 1 || posts[0].seat.tally().parts() < 2 {
         drop(posts);
         drop(shared);
-        return Err(Unserved::Unprepared);
+        return Err(BEFORE);
     }
     let served = serve_on::<R, &R, N, C, F, S, G, L, A, D, P>(
         rt, alloc, notices, shared, posts, sinks, accept, pause, sessions,
     );
     match served {
         Ok(served) => seen_of(alloc, served),
-        Err(refusal) => Err(Unserved::Refused(refusal)),
+        Err(Refusal::NoMemory) => Err("refused at serve_on"),
+        Err(Refusal::LinkFault) => Err("refused at spawn"),
+        Err(_) => Err("refused for another reason"),
     }
 }
 
@@ -279,7 +466,7 @@ where
 fn new_domain<Q, C, F, S, G>(
     rt: Q,
     alloc: Global,
-    kind: Kind,
+    kind: (bool, usize),
     workers: u64,
     count: Blank,
     frames: Blank,
@@ -300,32 +487,13 @@ where
     let Ok(bounds) = Bounds::new(1, 4095) else {
         return None;
     };
-    let made = if kind == Kind::Recorded {
-        Shared::<Q, C, F, S, G>::recorded(
-            rt, alloc, 0, bounds, workers, 1000, count, frames, sum_lo, good,
-        )
-    } else {
-        Shared::<Q, C, F, S, G>::new(rt, alloc, 0, bounds, workers, count, frames, sum_lo, good)
+    let Ok((shared, seats)) = new_shared::<Q, C, F, S, G>(
+        rt, alloc, kind, bounds, workers, count, frames, sum_lo, good,
+    ) else {
+        return None;
     };
-    match made {
-        Ok((shared, seats)) => posted(alloc, kind, shared, seats),
-        Err(_) => None,
-    }
-}
-
-/// The domain, which is of this kind, and a post at each seat. None for want of memory.
-fn posted<Q: Drop, C: Ledger, F: Ledger, S: Ledger, G: Ledger>(
-    alloc: Global,
-    kind: Kind,
-    shared: Shared<Q, C, F, S, G>,
-    seats: Vec<Seat<C, F, S, G>>,
-) -> Option<(Shared<Q, C, F, S, G>, Vec<Post<C, F, S, G>>)> {
     match posts_of(alloc, seats) {
-        Some(posts) => if kind == Kind::Strict {
-            Some((shared.strict(), posts))
-        } else {
-            Some((shared, posts))
-        },
+        Some(posts) => Some((shared, posts)),
         None => {
             drop(shared);
             None
@@ -351,7 +519,7 @@ fn posts_of<C: Ledger, F: Ledger, S: Ledger, G: Ledger>(
 fn seen_of<Q: Wait + Drop, C: Ledger, F: Ledger, S: Ledger, G: Ledger>(
     alloc: Global,
     served: Served<Q, C, F, S, G>,
-) -> Result<Seen, Unserved> {
+) -> Result<Seen, &'static str> {
     let Served { shared, posts } = served;
     let recording = shared.recording();
     let stat = (&shared).stat();
@@ -364,7 +532,7 @@ fn seen_of<Q: Wait + Drop, C: Ledger, F: Ledger, S: Ledger, G: Ledger>(
             stat,
             totals,
         }),
-        None => Err(Unserved::SeatMissing),
+        None => Err(AFTER),
     }
 }
 
@@ -390,300 +558,142 @@ fn gathered<Q: Wait, C: Ledger, F: Ledger, S: Ledger, G: Ledger>(
     }
 }
 
-const NOTHING: Totals = Totals {
-    count: 0,
-    frames: 0,
-    sum_lo: 0,
-};
-
-/// Serves the case, and compares what it comes to.
-fn check<R: Abort + Threads + Wait + Sync>(rt: &R, alloc: Global, case: &Case<'_>) {
-    let flags = new_flags();
-    let notices = Counted::new();
-    let accept = Rows::new(alloc, case.failing, case.rows, &flags);
-    let served = serve_case(rt, alloc, case, &flags, &notices, &accept);
-    let Ok(seen) = served else {
-        panic!(rt; "not served");
+/// Serves the case with these sessions, and compares what it comes to; gives in which call a growth was refused, where one was.
+/// Where nothing is served nothing is accepted.
+fn check<R: Abort + Threads + Wait + Sync>(
+    rt: &R,
+    alloc: Global,
+    case: &Case,
+    rows: &[Row<'_>],
+) -> &'static str {
+    let flags = [
+        Flag::new(),
+        Flag::new(),
+        Flag::new(),
+        Flag::new(),
+        Flag::new(),
+    ];
+    let notices = Counted {
+        records: AtomicU64::new(0),
     };
-    compare(rt, case, &seen);
-    compare_calls(rt, case, accept.calls(), notices.count());
-    for flag in case.raised {
-        assert!(rt; is_raised(&flags, *flag), "flag {flag} isn't raised");
-    }
-    for flag in case.unraised {
-        assert!(rt; !is_raised(&flags, *flag), "flag {flag} is raised");
-    }
+    let accept = Rows {
+        alloc,
+        failing: case.failing,
+        rows,
+        flags: &flags,
+        calls: AtomicU64::new(0),
+    };
+    let served = serve_case(rt, alloc, case, &flags, &notices, &accept);
+    let accepts = accept.calls.load(Ordering::SeqCst);
+    let told = notices.records.load(Ordering::SeqCst);
+    compare(rt, case, served, accepts, told, &flags)
 }
 
-fn is_raised(flags: &[Flag; 5], flag: usize) -> bool {
-    match flags.get(flag) {
-        Some(flag) => flag.is_raised(),
-        None => false,
-    }
-}
-
-/// Compares what serving left.
-fn compare<R: Abort>(rt: &R, case: &Case<'_>, seen: &Seen) {
-    assert!(rt; seen.in_order, "the posts aren't in their order");
+/// Compares what serving left with how many accepts and notices there were, and which flags are raised.
+fn compare<R: Abort>(
+    rt: &R,
+    case: &Case,
+    served: Result<Seen, &'static str>,
+    accepts: u64,
+    notices: u64,
+    flags: &[Flag; 5],
+) -> &'static str {
+    let seen = match served {
+        Ok(seen) => seen,
+        Err(refused) => {
+            let wanted = if refused == AFTER { case.sessions } else { 0 };
+            assert!(rt;
+                accepts == wanted,
+                "{}: {refused}, {accepts} accepts",
+                case.name
+            );
+            return refused;
+        }
+    };
+    compare_left(rt, case, &seen);
     assert!(rt;
-        seen.recording == (case.kind == Kind::Recorded),
-        "recorded otherwise"
+        case.accepts == None || case.accepts == Some(accepts),
+        "{}: {accepts} accepts",
+        case.name
+    );
+    assert!(rt;
+        case.notices == None || case.notices == Some(notices),
+        "{}: {notices} notices",
+        case.name
+    );
+    for (place, flag) in flags.iter().enumerate() {
+        let wrong = if flag.is_raised() {
+            case.unraised
+        } else {
+            case.raised
+        };
+        assert!(rt; !wrong.contains(&place), "{}: flag {place}", case.name);
+    }
+    ""
+}
+
+/// Compares what the posts and the domain are left as.
+fn compare_left<R: Abort>(rt: &R, case: &Case, seen: &Seen) {
+    assert!(rt; seen.in_order, "{}: the order of the posts", case.name);
+    assert!(rt;
+        seen.recording == (case.kind.1 > 0),
+        "{}: recorded otherwise",
+        case.name
     );
     assert!(rt;
         !case.is_empty || seen.totals == NOTHING,
-        "holdings are left"
+        "{}: holdings are left",
+        case.name
     );
-    if let Some(kept) = case.kept {
-        assert!(rt;
-            (seen.stat.magazine, seen.stat.ring) == kept,
-            "frames lie elsewhere"
+    let kept = (seen.stat.magazine, seen.stat.ring);
+    assert!(rt;
+        case.kept == None || case.kept == Some(kept),
+        "{}: frames lie elsewhere",
+        case.name
+    );
+    let flushes = (seen.stat.start, seen.stat.finish);
+    assert!(rt;
+        case.flushes == None || case.flushes == Some(flushes),
+        "{}: other flushes",
+        case.name
+    );
+}
+
+#[test]
+fn what_is_served(rt: HostRuntime) -> Result<(), Fail> {
+    for case in &CASES {
+        assert_eq!(rt;
+            check(&rt, rt.alloc(), case, case.rows),
+            "",
+            "{}",
+            case.name
         );
     }
-    if let Some(flushes) = case.flushes {
-        assert!(rt;
-            (seen.stat.start, seen.stat.finish) == flushes,
-            "other flushes"
-        );
-    }
-}
-
-/// Compares how many accepts and notices there were.
-fn compare_calls<R: Abort>(rt: &R, case: &Case<'_>, accepts: u64, notices: u64) {
-    if let Some(wanted) = case.accepts {
-        assert!(rt; accepts == wanted, "{accepts} accepts");
-    }
-    if let Some(wanted) = case.notices {
-        assert!(rt; notices == wanted, "{notices} notices");
-    }
-}
-
-/// Two sessions at once: the flush that the first one asks for waits in its sink until the second one, which begins only
-/// then, has its answers.
-fn overlap_on<R: Abort + Threads + Wait + Sync>(
-    rt: &R,
-    alloc: Global,
-    kind: Kind,
-    first: (&[u8], &[u8]),
-    second: (&[u8], &[u8]),
-) {
-    let rows = [
-        Row::new(first.0, first.1, FIRST),
-        Row::new(second.0, second.1, OPEN).waits_for(INSIDE),
-    ];
-    check(
-        rt,
-        alloc,
-        &Case {
-            kind,
-            workers: 2,
-            is_open: false,
-            notices: Some(0),
-            flushes: Some((1, 1)),
-            is_empty: true,
-            ..case_of(&rows, &[FIRST, OPEN])
-        },
-    );
-}
-
-const FLUSHES: (&[u8], &[u8]) = (b"hello iova1 0 dac\nflush\n", b"opened 1\nflushed 1 0\n");
-
-const ALLOCATES: (&[u8], &[u8]) = (b"hello iova1 0 dac\nalloc 1 9\n", b"opened 2\ngiven 9 1\n");
-
-#[test]
-fn overlap(rt: HostRuntime) {
-    overlap_on(&rt, rt.alloc(), Kind::Plain, FLUSHES, ALLOCATES);
-}
-
-#[test]
-fn overlap_on_a_recorded_domain(rt: HostRuntime) {
-    overlap_on(&rt, rt.alloc(), Kind::Recorded, FLUSHES, ALLOCATES);
-}
-
-// While the flush of a free waits in its sink, its frame is given to nobody.
-#[test]
-fn overlap_on_a_strict_domain(rt: HostRuntime) {
-    overlap_on(
-        &rt,
+    let input = repeated(
         rt.alloc(),
-        Kind::Strict,
-        (
-            b"hello iova1 0 dac\nalloc 1 9\nfree 9\n",
-            b"opened 1\ngiven 9 1\nfreed 9 1\n",
-        ),
-        (b"hello iova1 0 dac\nalloc 1 9\n", b"opened 2\ngiven 8 1\n"),
-    );
-}
-
-// Each accept uses up a number, one that fails too, and no number is left out.
-#[test]
-fn accepts_that_fail(rt: HostRuntime) {
-    let rows = [
-        Row::new(b"list\nbye\n", b"no 3 NoClient\nbye\n", FIRST),
-        Row::new(b"list\n", b"no 3 NoClient\n", SECOND),
-        Row::new(b"bye\n", b"bye\n", THIRD),
-    ];
-    check(
-        &rt,
-        rt.alloc(),
-        &Case {
-            workers: 3,
-            sessions: 20,
-            failing: 17,
-            rounds: None,
-            accepts: Some(20),
-            ..case_of(&rows, &[FIRST, SECOND, THIRD])
-        },
-    );
-}
-
-/// A session that leaves a frame in its worker's ring, and one whose peer waits for this flag.
-fn leaves_a_frame<'a>(before: usize) -> [Row<'a>; 2] {
-    [
-        Row::new(
-            b"hello iova1 0 dac\nalloc 1 9\nfree 9\nbye\n",
-            b"opened 1\ngiven 9 1\nqueued 9 1\nbye\n",
-            FIRST,
-        ),
-        Row::new(b"bye\n", b"bye\n", SECOND).waits_for(before),
-    ]
-}
-
-// The flusher frees what the first session has left in a ring, and the second one waits for it.
-#[test]
-fn the_flusher_drains(rt: HostRuntime) {
-    check(
-        &rt,
-        rt.alloc(),
-        &Case {
-            rounds: None,
-            notices: Some(0),
-            kept: Some((1, 0)),
-            flushes: Some((1, 1)),
-            ..case_of(&leaves_a_frame(INSIDE), &[FIRST, SECOND, INSIDE])
-        },
-    );
-}
-
-// The same with a gate that stays closed: the round is refused, which is a notice, and nothing is drained.
-#[test]
-fn a_round_that_is_refused(rt: HostRuntime) {
-    check(
-        &rt,
-        rt.alloc(),
-        &Case {
-            is_open: false,
-            rounds: None,
-            notices: Some(1),
-            kept: Some((0, 1)),
-            flushes: Some((1, 0)),
-            ..case_of(&leaves_a_frame(INSIDE), &[FIRST, SECOND, INSIDE])
-        },
-    );
-}
-
-// A round that is refused isn't the last one: the next one drains the ring.
-#[test]
-fn a_round_after_one_that_is_refused(rt: HostRuntime) {
-    check(
-        &rt,
-        rt.alloc(),
-        &Case {
-            fail_at: (0, 1),
-            rounds: Some(2),
-            between: Some((FIRST, THIRD)),
-            notices: Some(1),
-            kept: Some((1, 0)),
-            flushes: Some((2, 2)),
-            ..case_of(&leaves_a_frame(THIRD), &[FIRST, SECOND])
-        },
-    );
-}
-
-// A sink that fails in a session and a link that fails are a notice each, and the daemon goes on.
-#[test]
-fn sinks_and_links_that_fail(rt: HostRuntime) {
-    let rows = [
-        Row::new(
-            b"hello iova1 0 dac\nflush\nbye\n",
-            b"opened 1\nno 18 SinkFault\nbye\n",
-            FIRST,
-        ),
-        Row::new(b"hello iova1 0 dac\n", b"opened 2\n", SECOND).fails_at(1),
-        Row::new(b"hello iova1 0 dac\nbye\n", b"opened 2\nbye\n", THIRD),
-    ];
-    check(
-        &rt,
-        rt.alloc(),
-        &Case {
-            fail_at: (1, 0),
-            unraised: &[SECOND],
-            notices: Some(2),
-            is_empty: true,
-            ..case_of(&rows, &[FIRST, THIRD])
-        },
-    );
-}
-
-// A client whose end waits, since its ring is full and the sink fails, is tried again once its session has ended.
-#[test]
-fn waiting_clients_are_tried_again(rt: HostRuntime) -> Result<(), Fail> {
-    let input = many_allocs(rt.alloc())?;
-    let rows = [Row::new(input.as_slice(), b"", FIRST)];
-    check(
-        &rt,
-        rt.alloc(),
-        &Case {
-            fail_at: (1, 0),
-            notices: Some(1),
-            flushes: Some((2, 2)),
-            is_empty: true,
-            ..case_of(&rows, &[])
-        },
-    );
+        &[(b"hello iova1 0 dac\n", 1), (b"alloc 1 4095\n", 256)],
+    )?;
+    let row = Row {
+        input: input.as_slice(),
+        ..SILENT
+    };
+    assert_eq!(rt; check(&rt, rt.alloc(), &TRIED_AGAIN, &[row]), "");
     Ok(())
 }
 
-/// What a peer sends that asks for 256 ranges.
-fn many_allocs(alloc: Global) -> Result<Vec<u8>, Fail> {
-    let mut input = Vec::new(alloc);
-    input.extend_from_slice(b"hello iova1 0 dac\n")?;
-    for _ in 0..256 {
-        input.extend_from_slice(b"alloc 1 4095\n")?;
-    }
-    Ok(input)
-}
+/// Four sessions by two workers, and no link.
+const NO_LINK: Case = Case {
+    name: "no link",
+    workers: 2,
+    sessions: 4,
+    accepts: Some(4),
+    ..SERVED
+};
 
-/// In which call a growth was refused, where one was.
-fn refused_in(served: Result<Seen, Unserved>) -> &'static str {
-    match served {
-        Ok(_seen) => "",
-        Err(Unserved::Refused(Refusal::NoMemory)) => "refused at serve_on",
-        Err(Unserved::Refused(Refusal::LinkFault)) => "refused at spawn",
-        Err(Unserved::Refused(_)) => "refused for another reason",
-        Err(Unserved::Unprepared) => "refused before it",
-        Err(Unserved::SeatMissing) => "refused after it",
-    }
-}
-
-// Where memory is refused nothing is accepted. A thread that gets none can't be started, which is a fault of its own: those that
-// were started accept nothing.
+// A thread that gets no memory can't be started, which is a fault of its own: those that were started accept nothing.
 #[test]
 fn a_refused_growth_of_serving(rt: HostRuntime) -> Result<(), Fail> {
-    let case = Case {
-        workers: 2,
-        sessions: 4,
-        ..case_of(&[], &[])
-    };
-    let flags = new_flags();
-    let notices = Counted::new();
-    let accept = Rows::new(rt.alloc(), 0, &[], &flags);
-    let served = serve_case(&rt, rt.alloc(), &case, &flags, &notices, &accept);
-    let accepts = match served {
-        Ok(_) | Err(Unserved::SeatMissing) => 4,
-        Err(_) => 0,
-    };
-    assert!(rt; accept.calls() == accepts);
-    let call = refused_in(served);
+    let call = check(&rt, rt.alloc(), &NO_LINK, &[]);
     assert!(rt; call != "refused for another reason");
     println!(rt; "{call}")?;
     Ok(())

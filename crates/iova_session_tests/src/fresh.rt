@@ -1,153 +1,124 @@
-//! One session at a post of a fresh domain, for tests: over a book, and under a lock.
+//! One session at a post of a fresh domain 0, for tests: over a book, and under a lock.
 ghost use Rattle.std.specs.Prelude.{◌≡◌, ◌≤◌, ◌*◌};
 ghost use Rattle.iova_range.specs.declared.limits.TheConstants.{TALLY_PARTS};
 
-use iova_core::domain::Domain;
 use iova_keep::keep::Keep;
 use iova_keep::seat::Seat;
 use iova_lock::book::Book;
 use iova_lock::shared::Shared;
+use iova_model::place::Place;
+use iova_model::totals::Totals;
 use iova_range::bounds::Bounds;
+use iova_range::limits::{MAX_PAIRS, MAX_WORKERS};
+use iova_range::profile::Profile;
 use iova_range::refusal::Refusal;
 use iova_range::stat::Stat;
 use iova_session::link::Link;
-use iova_session::memory_link::MemoryLink;
 use iova_session::post::Post;
 use iova_session::retry::retry;
 use iova_session::run::{SessionEnd, run_session};
-use iova_sink::calls::Calls;
 use iova_sink::memory::MemorySink;
-use iova_sink::sink::{Sink, SinkFault};
+use iova_sink::sink::Sink;
 use std::alloc::Global;
+use std::marker::Brand;
 use std::sync::Wait;
 use std::sync::ledger::{Blank, Ledger};
 
-/// How many bytes a call of the link moves at most, one at least, and which call of it and of the sink fails (0: none).
+/// The domain that a session is served on, at the seat of its last worker.
 #[derive(Clone, Copy)]
-pub(crate) struct Script {
-    pub(crate) most: usize,
-    pub(crate) fail_at: u64,
-    pub(crate) sink_fail_at: u64,
+pub(crate) struct Setup {
+    /// Whether it is under a lock.
+    pub(crate) is_locked: bool,
+    pub(crate) bounds: (u64, u64),
+    /// The depot of the second profile; 0: it is of the first one.
+    pub(crate) depot: u64,
+    pub(crate) workers: u64,
+    pub(crate) strict: bool,
+    /// How many of its steps are recorded; 0: it isn't recorded.
+    pub(crate) pairs: usize,
+    /// Whether a flush of the first worker is in flight meanwhile.
+    pub(crate) in_flight: bool,
+    /// The frame whose place is looked up.
+    pub(crate) frame: u64,
 }
 
-/// What a session came to: what it was answered, its end, the seat's shares and the domain's numbers after it, how
-/// many clients wait, how many wait still once they were tried with a sink that fails, and how many once they were
-/// tried with the session's own, with the numbers then.
-#[derive(Drop)]
+/// What a session came to: its end, the seat's shares and the domain's numbers then, how many clients wait, and whether there
+/// was room on their list. How many wait still once they were tried with a sink that fails, and how many once they were tried
+/// with the session's own, with the shares and the numbers then.
+///
+/// Of a domain under a lock what is left of it: the gathered totals, the frame's place, its clients, whether it is still
+/// recorded, and how many steps are.
+#[derive(Clone, Copy)]
 pub(crate) struct Seen {
-    pub(crate) sent: Vec<u8>,
     pub(crate) end: SessionEnd,
-    pub(crate) shares: (u64, u64, u64),
+    pub(crate) shares: Totals,
     pub(crate) stat: Stat,
     pub(crate) waiting: u64,
+    pub(crate) has_room: bool,
     pub(crate) kept: u64,
     pub(crate) left: u64,
-    pub(crate) left_shares: (u64, u64, u64),
+    pub(crate) left_shares: Totals,
     pub(crate) left_stat: Stat,
+    pub(crate) gathered: Totals,
+    pub(crate) place: Option<Place>,
+    pub(crate) clients: u64,
+    pub(crate) recording: bool,
+    pub(crate) steps: u64,
 }
 
-// Fails at each call.
-#[derive(Drop)]
-struct BrokenSink {
-    calls: Calls,
-}
-
-impl Sink for BrokenSink {
-    ghost calls = { λ s. s.calls };
-
-    fn invalidate(&mut self, domain: u64, no: u64) -> Result<(), SinkFault> {
-        self.calls.add(domain, no, false);
-        Err(SinkFault)
+/// One session on a fresh domain. What is recorded of a domain under a lock is appended to `text`.
+pub(crate) fn at_post<R: Wait, L: Link, D: Sink>(
+    rt: &R,
+    alloc: Global,
+    setup: &Setup,
+    link: &mut L,
+    sink: &mut D,
+    text: &mut Vec<u8>,
+) -> Result<Seen, Refusal> {
+    let workers = setup.workers;
+    if workers == 0 || workers > MAX_WORKERS {
+        return Err(Refusal::NoWorker);
+    }
+    let profile = if setup.depot == 0 {
+        Profile::one()
+    } else {
+        Profile::two(setup.depot)?
+    };
+    let bounds = Bounds::new_in(profile, setup.bounds.0, setup.bounds.1)?;
+    if setup.is_locked {
+        in_shared::<R, Brand, Brand, Brand, Brand, L, D>(
+            rt,
+            alloc,
+            setup,
+            bounds,
+            workers,
+            Blank::new(workers),
+            Blank::new(workers),
+            Blank::new(workers),
+            Blank::new(256 * workers),
+            link,
+            sink,
+            text,
+        )
+    } else {
+        in_book::<Brand, Brand, Brand, Brand, L, D>(
+            alloc,
+            setup,
+            bounds,
+            workers,
+            Blank::new(workers),
+            Blank::new(workers),
+            Blank::new(workers),
+            Blank::new(256 * workers),
+            link,
+            sink,
+        )
     }
 }
 
-/// The seat's shares.
-pub(crate) fn shares_of<C: Ledger, F: Ledger, S: Ledger, G: Ledger>(
-    post: &Post<C, F, S, G>,
-) -> (u64, u64, u64) {
-    (post.seat.count(), post.seat.frames(), post.seat.sum_lo())
-}
-
-/// Runs a session, and then tries the clients that wait.
-pub(crate) fn one_session<C: Ledger, F: Ledger, S: Ledger, G: Ledger, K: Keep<C, F, S, G>>(
+fn in_book<C: Ledger, F: Ledger, S: Ledger, G: Ledger, L: Link, D: Sink>(
     alloc: Global,
-    keeper: &mut K,
-    post: &mut Post<C, F, S, G>,
-    input: &[u8],
-    script: Script,
-) -> Result<Seen, Refusal> {
-    let mut link = MemoryLink::new(alloc, input, script.most.max(1), script.fail_at);
-    let mut sink = MemorySink::new(script.sink_fail_at);
-    let end = run_session(alloc, &mut link, keeper, post, &mut sink);
-    let shares = shares_of(post);
-    let stat = keeper.stat();
-    let waiting = post.waiting.len() as u64;
-    let mut broken = BrokenSink {
-        calls: Calls::new(),
-    };
-    let kept = retry(keeper, post, &mut broken);
-    let left = retry(keeper, post, &mut sink);
-    let Ok(sent) = Vec::from_slice(alloc, link.sent()) else {
-        return Err(Refusal::NoMemory);
-    };
-    Ok(Seen {
-        sent,
-        end,
-        shares,
-        stat,
-        waiting,
-        kept,
-        left,
-        left_shares: shares_of(post),
-        left_stat: keeper.stat(),
-    })
-}
-
-/// One session in a book of domain 0 with these bounds and one worker.
-pub(crate) fn in_book<C: Ledger, F: Ledger, S: Ledger, G: Ledger>(
-    alloc: Global,
-    bounds: Bounds,
-    count: Blank,
-    frames: Blank,
-    sum_lo: Blank,
-    good: Blank,
-    input: &[u8],
-    script: Script,
-) -> Result<Seen, Refusal>
-    requires count { (count.name ≡ C.name) × (count.parts ≡ C.parts) × (count.parts ≡ 1) }
-    requires frames { (frames.name ≡ F.name) × (frames.parts ≡ F.parts) × (frames.parts ≡ 1) }
-    requires sum_lo { (sum_lo.name ≡ S.name) × (sum_lo.parts ≡ S.parts) × (sum_lo.parts ≡ 1) }
-    requires good { (good.name ≡ G.name) × (good.parts ≡ G.parts) × (good.parts ≡ TALLY_PARTS) }
-{
-    let (mut book, seats) = Book::<C, F, S, G>::new(
-        alloc, 0, bounds, 1, count, frames, sum_lo, good,
-    )?;
-    let seen = session_at(alloc, &mut book, seats, input, script);
-    drop(book);
-    seen
-}
-
-/// One session at the last of the seats.
-pub(crate) fn session_at<C: Ledger, F: Ledger, S: Ledger, G: Ledger, K: Keep<C, F, S, G>>(
-    alloc: Global,
-    keeper: &mut K,
-    mut seats: Vec<Seat<C, F, S, G>>,
-    input: &[u8],
-    script: Script,
-) -> Result<Seen, Refusal> {
-    let Some(seat) = seats.pop() else {
-        return Err(Refusal::NoWorker);
-    };
-    let mut post = Post::new(alloc, seat);
-    let seen = one_session(alloc, keeper, &mut post, input, script);
-    drop(post);
-    seen
-}
-
-/// One session over this link at the last worker of a book of domain 0 with these bounds and so many workers: its end, the
-/// seat's shares then, and whether there was room on the list of those that wait.
-pub(crate) fn over_link<C: Ledger, F: Ledger, S: Ledger, G: Ledger, L: Link>(
-    alloc: Global,
+    setup: &Setup,
     bounds: Bounds,
     workers: u64,
     count: Blank,
@@ -155,108 +126,202 @@ pub(crate) fn over_link<C: Ledger, F: Ledger, S: Ledger, G: Ledger, L: Link>(
     sum_lo: Blank,
     good: Blank,
     link: &mut L,
-) -> Result<(SessionEnd, (u64, u64, u64), bool), Refusal>
+    sink: &mut D,
+) -> Result<Seen, Refusal>
     requires count { (count.name ≡ C.name) × (count.parts ≡ C.parts) × (count.parts ≡ workers) }
     requires frames { (frames.name ≡ F.name) × (frames.parts ≡ F.parts) × (frames.parts ≡ workers) }
     requires sum_lo { (sum_lo.name ≡ S.name) × (sum_lo.parts ≡ S.parts) × (sum_lo.parts ≡ workers) }
     requires good { (good.name ≡ G.name) × (good.parts ≡ G.parts) × (good.parts ≡ TALLY_PARTS * workers) }
 {
-    let (mut book, mut seats) = Book::<C, F, S, G>::new(
-        alloc, 0, bounds, workers, count, frames, sum_lo, good,
-    )?;
-    let seen = match seats.pop() {
-        Some(seat) => {
-            let mut post = Post::new(alloc, seat);
-            let mut sink = MemorySink::new(0);
-            let end = run_session(alloc, link, &mut book, &mut post, &mut sink);
-            let seen = (end, shares_of(&post), post.waiting.capacity() > 0);
-            drop(post);
-            Ok(seen)
-        }
-        None => Err(Refusal::NoWorker),
+    let (book, mut seats) = if setup.pairs > 0 {
+        Book::<C, F, S, G>::recorded(
+            alloc,
+            0,
+            bounds,
+            workers,
+            setup.pairs.min(MAX_PAIRS),
+            count,
+            frames,
+            sum_lo,
+            good,
+        )?
+    } else {
+        Book::<C, F, S, G>::new(alloc, 0, bounds, workers, count, frames, sum_lo, good)?
     };
+    let book = if setup.strict { book.strict() } else { book };
+    let seen = session_at(alloc, book, &mut seats, setup.in_flight, link, sink);
     drop(seats);
-    drop(book);
     seen
 }
 
-/// By value, so that the keeper is lent whatever it is. The post comes back.
-fn session_of<C: Ledger, F: Ledger, S: Ledger, G: Ledger, K: Keep<C, F, S, G> + Drop>(
+/// A fresh domain 0 under a lock, and a seat for each worker.
+pub(crate) fn new_shared<Q: Drop, C: Ledger, F: Ledger, S: Ledger, G: Ledger>(
+    rt: Q,
     alloc: Global,
-    mut keeper: K,
-    mut post: Post<C, F, S, G>,
-    input: &[u8],
-    script: Script,
-) -> (Result<Seen, Refusal>, Post<C, F, S, G>) {
-    let seen = one_session(alloc, &mut keeper, &mut post, input, script);
-    (seen, post)
-}
-
-/// One session at the last of the seats, under a lock. Then the seats are gathered: refused by `NotHeld` where their shares
-/// aren't the totals.
-pub(crate) fn session_gathered<C: Ledger, F: Ledger, S: Ledger, G: Ledger, R: Wait>(
-    alloc: Global,
-    shared: &Shared<&R, C, F, S, G>,
-    mut seats: Vec<Seat<C, F, S, G>>,
-    input: &[u8],
-    script: Script,
-) -> Result<Seen, Refusal> {
-    let Some(seat) = seats.pop() else {
-        return Err(Refusal::NoWorker);
-    };
-    let (seen, post) = session_of(alloc, shared, Post::new(alloc, seat), input, script);
-    let Post { seat, waiting: _ } = post;
-    seats.push(seat).or(Err(Refusal::NoMemory))?;
-    // the seats' shares are the totals under the lock
-    let Ok(totals) = shared.gather(seats) else {
-        return Err(Refusal::NotHeld);
-    };
-    let seen = seen?;
-    if (totals.count, totals.frames, totals.sum_lo) == seen.left_shares {
-        Ok(seen)
-    } else {
-        Err(Refusal::NotHeld)
-    }
-}
-
-/// The same, and the domain after it.
-pub(crate) fn session_under<C: Ledger, F: Ledger, S: Ledger, G: Ledger, R: Wait>(
-    alloc: Global,
-    shared: Shared<&R, C, F, S, G>,
-    seats: Vec<Seat<C, F, S, G>>,
-    input: &[u8],
-    script: Script,
-) -> Result<(Seen, Domain), Refusal> {
-    let seen = session_gathered(alloc, &shared, seats, input, script);
-    let domain = shared.into_domain();
-    match seen {
-        Ok(seen) => Ok((seen, domain)),
-        Err(refusal) => {
-            drop(domain);
-            Err(refusal)
-        }
-    }
-}
-
-/// One session under a lock round domain 0 with these bounds and one worker, as `session_under`.
-pub(crate) fn in_shared<C: Ledger, F: Ledger, S: Ledger, G: Ledger, R: Wait>(
-    rt: &R,
-    alloc: Global,
+    kind: (bool, usize),
     bounds: Bounds,
+    workers: u64,
     count: Blank,
     frames: Blank,
     sum_lo: Blank,
     good: Blank,
-    input: &[u8],
-    script: Script,
-) -> Result<(Seen, Domain), Refusal>
-    requires count { (count.name ≡ C.name) × (count.parts ≡ C.parts) × (count.parts ≡ 1) }
-    requires frames { (frames.name ≡ F.name) × (frames.parts ≡ F.parts) × (frames.parts ≡ 1) }
-    requires sum_lo { (sum_lo.name ≡ S.name) × (sum_lo.parts ≡ S.parts) × (sum_lo.parts ≡ 1) }
-    requires good { (good.name ≡ G.name) × (good.parts ≡ G.parts) × (good.parts ≡ TALLY_PARTS) }
+) -> Result<(Shared<Q, C, F, S, G>, Vec<Seat<C, F, S, G>>), Refusal>
+    requires count { (count.name ≡ C.name) × (count.parts ≡ C.parts) × (count.parts ≡ workers) }
+    requires frames { (frames.name ≡ F.name) × (frames.parts ≡ F.parts) × (frames.parts ≡ workers) }
+    requires sum_lo { (sum_lo.name ≡ S.name) × (sum_lo.parts ≡ S.parts) × (sum_lo.parts ≡ workers) }
+    requires good { (good.name ≡ G.name) × (good.parts ≡ G.parts) × (good.parts ≡ TALLY_PARTS * workers) }
 {
-    let (shared, seats) = Shared::<&R, C, F, S, G>::new(
-        rt, alloc, 0, bounds, 1, count, frames, sum_lo, good,
+    let (strict, pairs) = kind;
+    let (shared, seats) = if pairs > 0 {
+        Shared::<Q, C, F, S, G>::recorded(
+            rt,
+            alloc,
+            0,
+            bounds,
+            workers,
+            pairs.min(MAX_PAIRS),
+            count,
+            frames,
+            sum_lo,
+            good,
+        )?
+    } else {
+        Shared::<Q, C, F, S, G>::new(rt, alloc, 0, bounds, workers, count, frames, sum_lo, good)?
+    };
+    let shared = if strict { shared.strict() } else { shared };
+    Ok((shared, seats))
+}
+
+fn in_shared<R: Wait, C: Ledger, F: Ledger, S: Ledger, G: Ledger, L: Link, D: Sink>(
+    rt: &R,
+    alloc: Global,
+    setup: &Setup,
+    bounds: Bounds,
+    workers: u64,
+    count: Blank,
+    frames: Blank,
+    sum_lo: Blank,
+    good: Blank,
+    link: &mut L,
+    sink: &mut D,
+    text: &mut Vec<u8>,
+) -> Result<Seen, Refusal>
+    requires count { (count.name ≡ C.name) × (count.parts ≡ C.parts) × (count.parts ≡ workers) }
+    requires frames { (frames.name ≡ F.name) × (frames.parts ≡ F.parts) × (frames.parts ≡ workers) }
+    requires sum_lo { (sum_lo.name ≡ S.name) × (sum_lo.parts ≡ S.parts) × (sum_lo.parts ≡ workers) }
+    requires good { (good.name ≡ G.name) × (good.parts ≡ G.parts) × (good.parts ≡ TALLY_PARTS * workers) }
+{
+    let (shared, mut seats) = new_shared::<&R, C, F, S, G>(
+        rt,
+        alloc,
+        (setup.strict, setup.pairs),
+        bounds,
+        workers,
+        count,
+        frames,
+        sum_lo,
+        good,
     )?;
-    session_under(alloc, shared, seats, input, script)
+    let seen = session_at(alloc, &shared, &mut seats, setup.in_flight, link, sink);
+    let seen = after(&shared, seats, text, seen);
+    let domain = shared.into_domain();
+    let (place, clients) = (domain.place(setup.frame), domain.clients() as u64);
+    drop(domain);
+    match seen {
+        Ok(seen) => Ok(Seen {
+            place,
+            clients,
+            ..seen
+        }),
+        Err(refusal) => Err(refusal),
+    }
+}
+
+/// What the seats are gathered to, and what was recorded. Refused by `NotHeld` where a seat is missing.
+fn after<Q: Wait, C: Ledger, F: Ledger, S: Ledger, G: Ledger>(
+    shared: &Shared<Q, C, F, S, G>,
+    seats: Vec<Seat<C, F, S, G>>,
+    text: &mut Vec<u8>,
+    seen: Result<Seen, Refusal>,
+) -> Result<Seen, Refusal> {
+    let Ok(gathered) = shared.gather(seats) else {
+        return Err(Refusal::NotHeld);
+    };
+    let recording = shared.recording();
+    let steps = shared.transcript(text)?;
+    Ok(Seen {
+        gathered,
+        recording,
+        steps,
+        ..seen?
+    })
+}
+
+/// One session at the last of the seats. By value, so that the keeper is lent whatever it is.
+fn session_at<
+    C: Ledger,
+    F: Ledger,
+    S: Ledger,
+    G: Ledger,
+    K: Keep<C, F, S, G> + Drop,
+    L: Link,
+    D: Sink,
+>(
+    alloc: Global,
+    mut keeper: K,
+    seats: &mut Vec<Seat<C, F, S, G>>,
+    in_flight: bool,
+    link: &mut L,
+    sink: &mut D,
+) -> Result<Seen, Refusal> {
+    let Some(seat) = seats.pop() else {
+        return Err(Refusal::NoWorker);
+    };
+    let mut post = Post::new(alloc, seat);
+    let seen = one_session(alloc, &mut keeper, &mut post, seats, in_flight, link, sink);
+    let Post { seat, waiting: _ } = post;
+    seats.push(seat).or(Err(Refusal::NoMemory))?;
+    Ok(seen)
+}
+
+/// Serves a session, beside a flush of the first seat where one is to be in flight, and then tries the clients that wait: with a
+/// sink that fails, and, once that flush has ended well, with the session's own.
+fn one_session<C: Ledger, F: Ledger, S: Ledger, G: Ledger, K: Keep<C, F, S, G>, L: Link, D: Sink>(
+    alloc: Global,
+    keeper: &mut K,
+    post: &mut Post<C, F, S, G>,
+    seats: &mut Vec<Seat<C, F, S, G>>,
+    in_flight: bool,
+    link: &mut L,
+    sink: &mut D,
+) -> Seen {
+    if in_flight && let Some(first) = seats.first_mut() {
+        let _heard = keeper.begin(first.tally());
+    }
+    let end = run_session(alloc, link, keeper, post, sink);
+    let shares = post.seat.held();
+    let stat = keeper.stat();
+    let waiting = post.waiting.len() as u64;
+    let has_room = post.waiting.capacity() > 0;
+    let kept = retry(keeper, post, &mut MemorySink::new(1));
+    if in_flight && let Some(first) = seats.first_mut() {
+        let _heard = keeper.end(first.tally(), 1, true);
+    }
+    let left = retry(keeper, post, sink);
+    Seen {
+        end,
+        shares,
+        stat,
+        waiting,
+        has_room,
+        kept,
+        left,
+        left_shares: post.seat.held(),
+        left_stat: keeper.stat(),
+        gathered: keeper.totals(),
+        place: None,
+        clients: 0,
+        recording: false,
+        steps: 0,
+    }
 }

@@ -5,20 +5,10 @@
 #[cfg(test)]
 mod daemon;
 #[cfg(test)]
-mod faults;
-#[cfg(test)]
 mod fresh;
-#[cfg(test)]
-mod kinds;
 #[cfg(test)]
 mod links;
 #[cfg(test)]
-mod overlap;
-#[cfg(test)]
 mod posts;
 #[cfg(test)]
-mod recorded;
-#[cfg(test)]
 mod session_files;
-#[cfg(test)]
-mod strict;

@@ -1,8 +1,9 @@
-//! Whole sessions over memory: however reads and writes are cut, links that fail at each of their calls, desks that
-//! take runs of any length and refuse one, and the limits.
+//! Sessions over a desk of their own: however reads and writes are cut, links that fail at each of their calls, desks that take
+//! runs of any length and refuse one, reads of many lines, the limits, and sockets.
 ghost use Rattle.std.specs.Prelude.{◌≡◌, ◌≤◌, ◌+◌, ◌++◌, List, None, length, vec_len, vec_capacity};
 ghost use Rattle.iova_session.specs.Pairs.{Pair, asked, told};
 
+use crate::posts::repeated;
 use arrayvec::ArrayVec;
 use iova_proto::answer::Answer;
 use iova_proto::request::Request;
@@ -15,10 +16,12 @@ use iova_session::pairs::Pairs;
 use iova_session::serve::serve;
 use iova_session::socket_link::SocketLink;
 use iova_sink::count::Count;
+use std::alloc::Global;
 use std::io::{Read, Write};
 use std::net::Shutdown;
 use std::os::unix::net::UnixStream;
-use std::test::Fail;
+use std::process::Abort;
+use std::test::*;
 
 // Answers `bye` by `Bye` and all else by `no 3 NoClient`. It takes at most `most` requests in a run, at least one,
 // and refuses its `fail_at`-th run (0: none).
@@ -90,18 +93,16 @@ struct Seen {
     is_front: bool,
 }
 
+// The link moves so many bytes in a call and fails at one of them, the desk takes so many requests in a run and refuses one.
 fn serve_over(
-    rt: &HostRuntime,
+    alloc: Global,
     input: &[u8],
     text: &[u8],
-    most: usize,
-    fail_at: u64,
-    desk: &mut PlainDesk,
-) -> Seen
-    requires { 1 ≤ most }
-{
-    let mut link = MemoryLink::new(rt.alloc(), input, most, fail_at);
-    let end = serve(rt.alloc(), &mut link, desk);
+    cut: (usize, u64),
+    run: (usize, u64),
+) -> Seen {
+    let mut link = MemoryLink::new(alloc, input, cut.0.max(1), cut.1);
+    let end = serve(alloc, &mut link, &mut PlainDesk::new(run.0, run.1));
     let sent = link.sent();
     Seen {
         end,
@@ -157,113 +158,133 @@ static SESSIONS: [(&[u8], &[u8], End); 15] = [
     ),
 ];
 
-#[test]
-fn sessions_however_they_are_cut(rt: HostRuntime) -> Result<(), Fail> {
-    for (input, text, end) in &SESSIONS {
-        for most in [1usize, 2, 7, 128, 5000] {
-            for run in [1usize, 3, 16] {
-                let seen = serve_over(&rt, input, text, most, 0, &mut PlainDesk::new(run, 0));
-                assert!(rt; seen.end == *end, "most {most}, run {run}, {end:?}");
-                assert!(rt; seen.is_whole, "most {most}, run {run}, {end:?}");
-            }
-        }
-    }
-    Ok(())
-}
-
-#[test]
-fn links_that_fail_at_each_call(rt: HostRuntime) -> Result<(), Fail> {
-    for (input, text, end) in &SESSIONS {
-        for most in [1usize, 7, 128] {
-            let mut whole = 0u64;
-            for fail_at in 1..2000u64 {
-                let seen = serve_over(&rt, input, text, most, fail_at, &mut PlainDesk::new(3, 0));
-                if seen.end != End::LinkFault {
-                    assert!(rt; seen.end == *end && seen.is_whole, "most {most}, {end:?}");
-                    whole = fail_at;
-                    break;
-                }
-                assert!(rt; seen.is_front, "most {most}, fail_at {fail_at}, {end:?}");
-            }
-            assert!(rt; whole > 0, "most {most}, {end:?}");
-        }
-    }
-    Ok(())
-}
-
-#[test]
-fn desks_that_refuse_a_run(rt: HostRuntime) -> Result<(), Fail> {
-    let (input, text, _) = SESSIONS[14];
-    for run in [1usize, 3, 16] {
-        let runs = 18usize.div_ceil(run) as u64;
-        for fail_at in 1..=runs {
-            let seen = serve_over(&rt, input, text, 128, 0, &mut PlainDesk::new(run, fail_at));
+/// The session, however it is cut and whatever runs the desk takes.
+fn is_answered_however<R: Abort>(rt: &R, alloc: Global, session: &(&[u8], &[u8], End)) {
+    let (input, text, end) = *session;
+    for most in [1usize, 2, 7, 128, 5000] {
+        for run in [1usize, 3, 16] {
+            let seen = serve_over(alloc, input, text, (most, 0), (run, 0));
             assert!(rt;
-                seen.end == End::NoMemory && seen.is_front && !seen.is_whole,
+                seen.end == end && seen.is_whole,
+                "most {most}, run {run}, {end:?}"
+            );
+        }
+    }
+    for most in [1usize, 7, 128] {
+        let mut whole = 0u64;
+        for fail_at in 1..2000u64 {
+            let seen = serve_over(alloc, input, text, (most, fail_at), (3, 0));
+            if seen.end != End::LinkFault {
+                assert!(rt; seen.end == end && seen.is_whole, "most {most}, {end:?}");
+                whole = fail_at;
+                break;
+            }
+            assert!(rt; seen.is_front, "most {most}, fail_at {fail_at}, {end:?}");
+        }
+        assert!(rt; whole > 0, "most {most}, {end:?}");
+    }
+}
+
+/// So many lines come in a read, and none before those that came are answered.
+fn is_answered_by_lines(alloc: Global, input: &[u8], lines: usize, run: usize) -> bool {
+    let mut link = ByLines::new(input, lines);
+    let end = serve(alloc, &mut link, &mut PlainDesk::new(run, 0));
+    end == End::Bye && link.answers == 121
+}
+
+#[test]
+fn sessions_over_a_desk(rt: HostRuntime) -> Result<(), Fail> {
+    for session in &SESSIONS {
+        is_answered_however(&rt, rt.alloc(), session);
+    }
+    // the desk refuses a run
+    let (input, text, _) = SESSIONS[14];
+    for (run, runs) in [(1usize, 18u64), (3, 7), (16, 2)] {
+        for fail_at in 1..=runs + 1 {
+            let seen = serve_over(rt.alloc(), input, text, (128, 0), (run, fail_at));
+            let is_refused = seen.end == End::NoMemory && seen.is_front && !seen.is_whole;
+            let is_served = seen.end == End::Bye && seen.is_whole;
+            assert!(rt;
+                if fail_at > runs {
+                    is_served
+                } else {
+                    is_refused
+                },
                 "run {run}, fail_at {fail_at}"
             );
         }
-        let seen = serve_over(&rt, input, text, 128, 0, &mut PlainDesk::new(run, runs + 2));
-        assert!(rt; seen.end == End::Bye && seen.is_whole);
+    }
+    let input = repeated(rt.alloc(), &[(b"list\n", 120), (b"bye\n", 1)])?;
+    for lines in [1usize, 16, 17, 40] {
+        for run in [1usize, 3, 16] {
+            assert!(rt;
+                is_answered_by_lines(rt.alloc(), input.as_slice(), lines, run),
+                "{lines} lines a read, run {run}"
+            );
+        }
     }
     Ok(())
 }
 
-fn repeated(rt: &HostRuntime, line: &[u8], times: usize) -> Result<Vec<u8>, Fail> {
-    let mut bytes = Vec::new(rt.alloc());
-    for _ in 0..times {
-        bytes.extend_from_slice(line)?;
-    }
-    Ok(bytes)
+/// Whether a session that sends this line so many times is answered so often and then `no 21 TooMany`, where that comes, and ends
+/// so. The link moves at most so many bytes in a call.
+fn is_limited<R: Abort>(
+    rt: &R,
+    alloc: Global,
+    sent: (&[u8], u32),
+    answered: u32,
+    most: usize,
+    end: End,
+) -> bool {
+    let last = if end == End::TooMany { 1 } else { 0 };
+    let answers: [(&[u8], u32); 2] = [(b"no 3 NoClient\n", answered), (b"no 21 TooMany\n", last)];
+    let (Ok(input), Ok(text)) = (repeated(alloc, &[sent]), repeated(alloc, &answers)) else {
+        panic!(rt; "no memory");
+    };
+    let seen = serve_over(alloc, input.as_slice(), text.as_slice(), (most, 0), (16, 0));
+    seen.end == end && seen.is_whole
 }
 
 #[test]
-fn one_request_past_the_limit(rt: HostRuntime) -> Result<(), Fail> {
-    let input = repeated(&rt, b"list\n", 65_537)?;
-    let mut text = repeated(&rt, b"no 3 NoClient\n", 65_536)?;
-    text.extend_from_slice(b"no 21 TooMany\n")?;
-    for most in [1usize, 128, 5000] {
-        let seen = serve_over(&rt, &input, &text, most, 0, &mut PlainDesk::new(16, 0));
-        assert!(rt; seen.end == End::TooMany && seen.is_whole, "most {most}");
-    }
-    let all = &input[..input.len().saturating_sub(5)];
-    let answered = &text[..text.len().saturating_sub(14)];
-    let seen = serve_over(&rt, all, answered, 128, 0, &mut PlainDesk::new(3, 0));
-    assert!(rt; seen.end == End::Closed && seen.is_whole);
-    Ok(())
-}
-
-#[test]
-fn one_read_past_the_limit(rt: HostRuntime) -> Result<(), Fail> {
+fn the_limits_of_serving(rt: HostRuntime) {
+    let list: &[u8] = b"list\n";
     // 48 bytes, a read each: 21,845 lines and 16 bytes more are 1,048,576 reads
-    let line = b"alloc 18446744073709551615 18446744073709551615\n";
-    let input = repeated(&rt, line, 21_846)?;
-    let mut text = repeated(&rt, b"no 3 NoClient\n", 21_845)?;
-    text.extend_from_slice(b"no 21 TooMany\n")?;
-    let seen = serve_over(&rt, &input, &text, 1, 0, &mut PlainDesk::new(16, 0));
-    assert!(rt; seen.end == End::TooMany && seen.is_whole);
-    let seen = serve_over(&rt, &input, &text, 2, 0, &mut PlainDesk::new(16, 0));
-    assert!(rt; seen.end == End::Closed);
-    Ok(())
+    let long: &[u8] = b"alloc 18446744073709551615 18446744073709551615\n";
+    for (line, times, answered, most, end) in [
+        (list, 65_536, 65_536, 128usize, End::Closed),
+        (list, 65_537, 65_536, 1, End::TooMany),
+        (list, 65_537, 65_536, 2, End::TooMany),
+        (list, 65_537, 65_536, 128, End::TooMany),
+        (list, 65_537, 65_536, 5000, End::TooMany),
+        (long, 21_846, 21_845, 1, End::TooMany),
+        (long, 21_846, 21_846, 2, End::Closed),
+    ] {
+        assert!(rt;
+            is_limited(&rt, rt.alloc(), (line, times), answered, most, end),
+            "{times} lines, most {most}"
+        );
+    }
 }
 
-/// Gives one line in a read, and fails where an answer to a line before it hasn't been written. It tells how many lines
-/// it gave, how many writes came, and what they wrote, of which it keeps 512 bytes at most. It takes no memory.
+/// Gives so many lines in a read, or those that are left, and fails where one that it gave hasn't been answered. It tells how
+/// many lines it gave, how many answers came, and what was written, of which it keeps 8,192 bytes at most. It takes no memory.
 #[derive(Drop)]
-pub(crate) struct LineByLine<'a> {
+pub(crate) struct ByLines<'a> {
     input: &'a [u8],
+    at_once: usize,
     pub(crate) lines: u64,
     pub(crate) answers: u64,
-    pub(crate) sent: ArrayVec<u8, 512>,
+    pub(crate) sent: ArrayVec<u8, 8192>,
     reads: Count,
     failed: Count,
     ended: Count,
 }
 
-impl<'a> LineByLine<'a> {
-    pub(crate) fn new(input: &'a [u8]) -> LineByLine<'a> {
-        LineByLine {
+impl<'a> ByLines<'a> {
+    pub(crate) fn new(input: &'a [u8], at_once: usize) -> ByLines<'a> {
+        ByLines {
             input,
+            at_once,
             lines: 0,
             answers: 0,
             sent: ArrayVec::new(),
@@ -274,7 +295,31 @@ impl<'a> LineByLine<'a> {
     }
 }
 
-impl<'a> Link for LineByLine<'a> {
+// How many bytes the first lines take, at most so many, and how many there are.
+fn whole_lines(input: &[u8], most: usize) -> (usize, u64) {
+    let (mut end, mut lines) = (0, 0u64);
+    for (i, byte) in input.iter().enumerate() {
+        if *byte == b'\n' && lines < most as u64 {
+            (end, lines) = (i + 1, lines.saturating_add(1));
+        }
+    }
+    (end, lines)
+}
+
+// How many answers begin here: a line of a number is one of the ranges of `held`.
+fn answers_in(bytes: &[u8]) -> u64 {
+    let mut answers = 0u64;
+    let mut is_first = true;
+    for byte in bytes {
+        if is_first && !byte.is_ascii_digit() {
+            answers = answers.saturating_add(1);
+        }
+        is_first = *byte == b'\n';
+    }
+    answers
+}
+
+impl<'a> Link for ByLines<'a> {
     ghost left = { λ l. None };
 
     ghost sent = { λ l. None };
@@ -291,18 +336,13 @@ impl<'a> Link for LineByLine<'a> {
             self.failed.up();
             return Err(LinkFault);
         }
-        let whole = self
-            .input
-            .iter()
-            .position(|b| *b == b'\n')
-            .map_or(0, |i| i + 1);
-        let n = whole.min(buf.len());
-        let (line, rest) = self.input.split_at(n);
-        buf[..n].copy_from_slice(line);
+        let (whole, lines) = whole_lines(self.input, self.at_once);
+        let n = whole.min(buf.len()).min(self.input.len());
+        let (front, rest) = self.input.split_at(n);
+        buf[..n].copy_from_slice(front);
         self.input = rest;
-        if n > 0 {
-            self.lines = self.lines.saturating_add(1);
-        } else if !buf.is_empty() {
+        self.lines = self.lines.saturating_add(lines);
+        if n == 0 && !buf.is_empty() {
             self.ended.up();
         }
         Ok(n)
@@ -314,61 +354,49 @@ impl<'a> Link for LineByLine<'a> {
             return Err(LinkFault);
         }
         if bytes.ends_with(b"\n") {
-            self.answers = self.answers.saturating_add(1);
+            self.answers = self.answers.saturating_add(answers_in(bytes));
         }
         Ok(bytes.len())
     }
-}
-
-#[test]
-fn each_line_is_answered_before_the_next_read(rt: HostRuntime) -> Result<(), Fail> {
-    let (input, _, _) = SESSIONS[14];
-    let mut link = LineByLine::new(input);
-    let end = serve(rt.alloc(), &mut link, &mut PlainDesk::new(16, 0));
-    assert!(rt; end == End::Bye && link.answers == 18);
-    Ok(())
 }
 
 // It passes whichever growth is refused, and prints where.
 #[test]
 fn a_session_with_a_refused_growth(rt: HostRuntime) -> Result<(), Fail> {
     let (input, text, _) = SESSIONS[14];
-    let seen = serve_over(&rt, input, text, 128, 0, &mut PlainDesk::new(16, 0));
+    let seen = serve_over(rt.alloc(), input, text, (128, 0), (16, 0));
     match seen.end {
         End::NoMemory => println!(rt; "refused at serve")?,
         End::LinkFault => println!(rt; "refused at write")?,
         _ => assert!(rt; seen.end == End::Bye),
     }
     assert!(rt; seen.is_front && seen.is_whole == (seen.end == End::Bye));
-    let seen = serve_over(&rt, input, text, 128, 0, &mut PlainDesk::new(16, 0));
+    let seen = serve_over(rt.alloc(), input, text, (128, 0), (16, 0));
     assert!(rt; seen.end == End::Bye && seen.is_whole);
     Ok(())
 }
 
+/// Serves a session over a socket.
+fn serve_socket(alloc: Global, stream: UnixStream) -> End {
+    let mut link = SocketLink::new(stream);
+    serve(alloc, &mut link, &mut PlainDesk::new(16, 0))
+}
+
 #[test]
-fn a_session_over_a_socket(rt: HostRuntime) -> Result<(), Fail> {
+fn sessions_over_sockets(rt: HostRuntime) -> Result<(), Fail> {
     let (input, text, end) = SESSIONS[0];
     let (mut peer, stream) = UnixStream::pair(&rt)?;
     // both fit into what a socket keeps
-    peer.write_all(input)?;
-    peer.shutdown(Shutdown::Write)?;
-    let mut link = SocketLink::new(stream);
-    assert!(rt; serve(rt.alloc(), &mut link, &mut PlainDesk::new(16, 0)) == end);
-    drop(link);
+    let is_sent = peer.write_all(input).is_ok() && peer.shutdown(Shutdown::Write).is_ok();
+    assert!(rt; is_sent && serve_socket(rt.alloc(), stream) == end);
     let mut seen = Vec::new(rt.alloc());
-    peer.read_to_end(&mut seen)?;
+    assert!(rt; peer.read_to_end(&mut seen).is_ok());
     assert_eq!(rt; seen.as_slice(), text);
-    Ok(())
-}
-
-// A peer that sends a request and goes: the answer to it finds nobody, or the read after it the end.
-#[test]
-fn a_peer_that_goes(rt: HostRuntime) -> Result<(), Fail> {
-    let (mut peer, stream) = UnixStream::pair(&rt)?;
-    peer.write_all(b"list\nli")?;
     drop(peer);
-    let mut link = SocketLink::new(stream);
-    let end = serve(rt.alloc(), &mut link, &mut PlainDesk::new(16, 0));
-    assert!(rt; end == End::LinkFault);
+    // a peer that sends a request and goes: the answer to it finds nobody, or the read after it the end
+    let (mut peer, stream) = UnixStream::pair(&rt)?;
+    assert!(rt; peer.write_all(b"list\nli").is_ok());
+    drop(peer);
+    assert!(rt; serve_socket(rt.alloc(), stream) == End::LinkFault);
     Ok(())
 }

@@ -21,46 +21,17 @@ use std::thread;
 /// at none), what it is to be answered, and the flag that is raised once it has been. Flags are named by their place in a list.
 #[derive(Clone, Copy)]
 pub struct Row<'a> {
-    input: &'a [u8],
-    before: Option<usize>,
-    fail_at: u64,
-    answers: &'a [u8],
-    answered: usize,
-}
-
-impl<'a> Row<'a> {
-    /// A session that waits for nothing, and whose link doesn't fail.
-    pub fn new(input: &'a [u8], answers: &'a [u8], answered: usize) -> Row<'a> {
-        Row {
-            input,
-            before: None,
-            fail_at: 0,
-            answers,
-            answered,
-        }
-    }
-
-    /// The same, but its peer sends once the flag is raised.
-    pub fn waits_for(self, flag: usize) -> Row<'a> {
-        Row {
-            before: Some(flag),
-            ..self
-        }
-    }
-
-    /// The same, but its link fails at this call.
-    pub fn fails_at(self, call: u64) -> Row<'a> {
-        Row {
-            fail_at: call,
-            ..self
-        }
-    }
+    pub input: &'a [u8],
+    pub before: Option<usize>,
+    pub fail_at: u64,
+    pub answers: &'a [u8],
+    pub answered: usize,
 }
 
 /// A link of such a session.
 #[derive(Drop)]
 pub struct RowLink<'a> {
-    row: Row<'a>,
+    row: &'a Row<'a>,
     flags: &'a [Flag],
     wire: MemoryLink<'a>,
 }
@@ -100,29 +71,11 @@ impl<'a> Link for RowLink<'a> {
 /// was called is counted.
 #[derive(Drop)]
 pub struct Rows<'a> {
-    alloc: Global,
-    failing: u64,
-    rows: &'a [Row<'a>],
-    flags: &'a [Flag],
-    calls: AtomicU64,
-}
-
-impl<'a> Rows<'a> {
-    /// Accepts these sessions once so many calls have failed.
-    pub fn new(alloc: Global, failing: u64, rows: &'a [Row<'a>], flags: &'a [Flag]) -> Rows<'a> {
-        Rows {
-            alloc,
-            failing,
-            rows,
-            flags,
-            calls: AtomicU64::new(0),
-        }
-    }
-
-    /// How often it was called.
-    pub fn calls(&self) -> u64 {
-        self.calls.load(Ordering::SeqCst)
-    }
+    pub alloc: Global,
+    pub failing: u64,
+    pub rows: &'a [Row<'a>],
+    pub flags: &'a [Flag],
+    pub calls: AtomicU64,
 }
 
 impl<'a> Accept<RowLink<'a>> for Rows<'a> {
@@ -135,7 +88,7 @@ impl<'a> Accept<RowLink<'a>> for Rows<'a> {
             return Err(LinkFault);
         };
         Ok(RowLink {
-            row: *row,
+            row,
             flags: self.flags,
             wire: MemoryLink::new(self.alloc, row.input, 4096, row.fail_at),
         })
@@ -146,20 +99,9 @@ impl<'a> Accept<RowLink<'a>> for Rows<'a> {
 /// stops, where it has such.
 #[derive(Drop)]
 pub struct Rounds<'a> {
-    before: Option<&'a Flag>,
-    left: Option<u64>,
-    after: Option<&'a Flag>,
-}
-
-impl<'a> Rounds<'a> {
-    /// So many rounds between these flags; none: without end.
-    pub fn new(before: Option<&'a Flag>, left: Option<u64>, after: Option<&'a Flag>) -> Rounds<'a> {
-        Rounds {
-            before,
-            left,
-            after,
-        }
-    }
+    pub before: Option<&'a Flag>,
+    pub left: Option<u64>,
+    pub after: Option<&'a Flag>,
 }
 
 impl<'a> Pause for Rounds<'a> {
@@ -185,20 +127,9 @@ impl<'a> Pause for Rounds<'a> {
 /// call of its own.
 #[derive(Drop)]
 pub struct GatedSink<'a> {
-    gate: GateSink<'a>,
-    sink: MemorySink,
-    calls: Calls,
-}
-
-impl<'a> GatedSink<'a> {
-    /// A sink that fails at its `fail_at`-th call, behind a gate of these flags.
-    pub fn new(inside: &'a Flag, open: &'a Flag, fail_at: u64) -> GatedSink<'a> {
-        GatedSink {
-            gate: GateSink::new(inside, open),
-            sink: MemorySink::new(fail_at),
-            calls: Calls::new(),
-        }
-    }
+    pub gate: GateSink<'a>,
+    pub sink: MemorySink,
+    pub calls: Calls,
 }
 
 impl<'a> Sink for GatedSink<'a> {
@@ -215,20 +146,7 @@ impl<'a> Sink for GatedSink<'a> {
 /// Counts notices, and prints none.
 #[derive(Drop)]
 pub struct Counted {
-    records: AtomicU64,
-}
-
-impl Counted {
-    pub fn new() -> Counted {
-        Counted {
-            records: AtomicU64::new(0),
-        }
-    }
-
-    /// How many there were.
-    pub fn count(&self) -> u64 {
-        self.records.load(Ordering::SeqCst)
-    }
+    pub records: AtomicU64,
 }
 
 impl Log for Counted {

@@ -1,4 +1,4 @@
-use Rattle.iova_session_tests.proofs.posts.sessions_are_answered.Given as goal
+use Rattle.iova_session_tests.proofs.fresh.at_post.Given as goal
 
 abbrev pub ghosts-in_shared-C-Ledger : goal.ghosts-in_shared-C-Ledger
 ghosts-in_shared-C-Ledger g a = record { name = a.count.name; parts = a.count.parts }
