@@ -3,7 +3,7 @@ use Rattle.std.specs.Prelude.{◌≡◌, ◌≢◌, Bool, true, false, List, Opt
 use Rattle.clap.specs.Words.{Row, Text, first_of, one_of}
 use Rattle.iova_command.specs.Numbers.{HasNumber, HasOptional}
 use Rattle.iova_command.specs.declared.asked.Asked.{Asked}
-use Rattle.iova_command.specs.declared.asked.Asked.TheVariants.{Replay, Serve, Ask}
+use Rattle.iova_command.specs.declared.asked.Asked.TheVariants.{Replay, Serve, Ask, Check}
 use Rattle.iova_command.specs.declared.plan.Plan.{Plan}
 
 -- the flag is there
@@ -26,9 +26,10 @@ pub record Plans (rows : List Row) (plan : Plan) : Type 0 where
 -- a subcommand of this name and what it matched ask for this
 abbrev pub AsksOf : Text → List Row → Asked → Type 0
 AsksOf name rows (Replay path has_report) =
-    (name ≢ codes "serve") × (name ≢ codes "ask") × (first_of (codes "file") rows ≡ Some path.now) × HasFlag rows (codes "report") has_report
+    (name ≢ codes "serve") × (name ≢ codes "ask") × (name ≢ codes "check") × (first_of (codes "file") rows ≡ Some path.now) × HasFlag rows (codes "report") has_report
 AsksOf name rows (Serve plan) = (name ≡ codes "serve") × Plans rows plan
 AsksOf name rows (Ask path) = (name ≡ codes "ask") × (first_of (codes "path") rows ≡ Some path.now)
+AsksOf name rows (Check path) = (name ≡ codes "check") × (first_of (codes "file") rows ≡ Some path.now)
 
 -- what matched words ask for; no subcommand asks for a replay of standard input
 abbrev pub AsksFor : Option (Text × List Row) → Asked → Type 0

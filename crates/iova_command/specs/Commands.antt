@@ -50,6 +50,9 @@ serve_app =
 abbrev pub ask_app : App
 ask_app = with_rule (new_app (codes "ask")) (place_rule (codes "path"))
 
+abbrev pub check_app : App
+check_app = with_rule (new_app (codes "check")) (place_rule (codes "file"))
+
 -- the program's own name; it tells its version
 abbrev pub versioned : App → App
 versioned app = record app { top = record app.top { has_version = true } }
@@ -57,7 +60,7 @@ versioned app = record app { top = record app.top { has_version = true } }
 -- the program
 abbrev pub iovad_app : App
 iovad_app =
-    with_subcommand (with_subcommand (with_subcommand (versioned (new_app (codes "iovad"))) replay_app.top) serve_app.top) ask_app.top
+    with_subcommand (with_subcommand (with_subcommand (with_subcommand (versioned (new_app (codes "iovad"))) replay_app.top) serve_app.top) ask_app.top) check_app.top
 
 -- a command that is read so, with no option for all of its subcommands
 pub record IsCommand (read : App) (c : Command) : Type 0 where

@@ -13,6 +13,11 @@ pub enum Asked<'a> {
     },
     /// A daemon.
     Serve(Plan<'a>),
+    /// The check of a log.
+    Check {
+        /// The log's file, or `-` for standard input.
+        path: &'a str,
+    },
     /// Lines sent to a daemon, and its answers.
     Ask {
         /// The path of the daemon's socket.

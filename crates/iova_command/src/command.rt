@@ -1,7 +1,7 @@
 //! The command and its help.
 ghost use Rattle.std.specs.Prelude.{◌≡◌, ◌<◌, ◌^◌, IfOk, false};
 ghost use Rattle.clap.specs.Words.{App, rule_of, with_rule, with_subcommand};
-ghost use Rattle.iova_command.specs.Commands.{IsCommand, place_rule, flag_rule, option_rule, optional_rule, number_rule, optional_number_rule, replay_app, serve_app, ask_app, iovad_app};
+ghost use Rattle.iova_command.specs.Commands.{IsCommand, place_rule, flag_rule, option_rule, optional_rule, number_rule, optional_number_rule, replay_app, serve_app, ask_app, check_app, iovad_app};
 
 use clap::{Arg, ArgAction, Command, value_parser};
 use iova_range::limits::{MAX_DEPOT, MAX_DOMAINS, MAX_SESSIONS, MAX_WORKERS, WIDE_TOP};
@@ -16,12 +16,14 @@ const USAGE: &str = "iovad < FILE
        iovad replay [--report] FILE
        iovad serve --socket PATH --workers N --domain N --start N --last N --sink FILE --sessions K
                    [--depot N] [--strict] [--record FILE]
-       iovad ask PATH";
+       iovad ask PATH
+       iovad check FILE";
 
 const STATUSES: &str = "Statuses:
   0  done
+  1  a log has a finding
   2  the words are not understood, or the bounds are refused
-  3  the trace is refused
+  3  the trace or the log is refused
   4  a file or a socket
   5  no memory";
 
@@ -49,6 +51,19 @@ const REQUESTS: &str = "Requests, a line each, and their answers:
   bye                         bye
 A request that is refused is answered no NUMBER NAME.";
 
+const LINES_OF_A_LOG: &str = "Lines of a log, the first one of this form:
+  iovalog 1 FIRST LAST
+and then what was done, in frames:
+  map FIRST FRAMES                gives frames to a device
+  unmap FIRST FRAMES              takes them back
+  use FIRST FRAMES                an access of the device
+  begin FLUSH                     begins an invalidation of everything
+  begin FLUSH FIRST FRAMES        or of these frames
+  end FLUSH ok|fail               ends it
+Findings: outside, overlap, reused, cut, unmapped, stale, wild, flush. A frame
+is reused where it is mapped again, and no flush of it that began after its
+unmap has ended well: then a device may still reach it.";
+
 /// The program's command.
 pub fn iovad_command<'a>(alloc: Global) -> Result<Command<'a>, AllocError>
     ensures { IfOk result (IsCommand iovad_app) }
@@ -60,7 +75,8 @@ pub fn iovad_command<'a>(alloc: Global) -> Result<Command<'a>, AllocError>
         .after_help(STATUSES);
     let command = with_subcommand(Ok(command), replay_command(alloc));
     let command = with_subcommand(command, serve_command(alloc));
-    with_subcommand(command, ask_command(alloc))
+    let command = with_subcommand(command, ask_command(alloc));
+    with_subcommand(command, check_command(alloc))
 }
 
 fn replay_command<'a>(alloc: Global) -> Result<Command<'a>, AllocError>
@@ -189,6 +205,20 @@ fn ask_command<'a>(alloc: Global) -> Result<Command<'a>, AllocError>
         .about("Sends lines from standard input to a socket and prints the answers")
         .after_help(REQUESTS)
         .arg(place(alloc, "path", "PATH", "The socket's path"))
+}
+
+fn check_command<'a>(alloc: Global) -> Result<Command<'a>, AllocError>
+    ensures { IfOk result (IsCommand check_app) }
+{
+    Command::new(alloc, "check")
+        .about("Checks a log of what was mapped, unmapped and flushed, by whomever")
+        .after_help(LINES_OF_A_LOG)
+        .arg(place(
+            alloc,
+            "file",
+            "FILE",
+            "The log's file, or - for standard input",
+        ))
 }
 
 /// The command with this argument too.

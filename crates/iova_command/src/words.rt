@@ -78,6 +78,9 @@ fn asked_of_command<'a>(name: &str, found: &ArgMatches<'a>) -> Option<Asked<'a>>
         "ask" => Some(Asked::Ask {
             path: found.get_str("path")?,
         }),
+        "check" => Some(Asked::Check {
+            path: found.get_str("file")?,
+        }),
         _ => Some(Asked::Replay {
             path: found.get_str("file")?,
             has_report: found.get_flag("report"),

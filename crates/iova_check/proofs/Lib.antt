@@ -1,0 +1,11 @@
+mod Lines
+mod Flights
+mod FrameStages
+mod Kept
+mod Examples
+mod Marks
+mod Reuses
+mod Streams
+mod LineSteps
+mod NextLines
+mod CountedFrames

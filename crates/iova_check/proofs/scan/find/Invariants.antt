@@ -1,0 +1,15 @@
+use Rattle.std.proofs.Common.{◌-◌, ◌≡◌, ℕ, ◌≤◌, ◌<◌, None}
+use Rattle.iova_check.specs.Marks.{shown}
+use Rattle.iova_check.specs.Findings.{told}
+use Rattle.iova_check.proofs.scan.find.Given as goal
+
+-- nothing is told of the frames before this one
+abbrev pub invariant-loop-at : goal.invariant-loop-at
+invariant-loop-at l = record {
+  from : l.lo ≤ l.at;
+  within : l.at ≤ l.to;
+  none : (f : ℕ) → l.lo ≤ f → f < l.at → told l.kind (shown l.stages f) ≡ None;
+}
+
+abbrev pub decreases-loop-at : goal.decreases-loop-at
+decreases-loop-at l = l.to - l.at

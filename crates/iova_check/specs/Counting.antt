@@ -1,0 +1,72 @@
+-- What is counted of a log. Own.
+use Rattle.std.specs.Prelude.{ℕ, zero, suc, ◌≡◌, ◌+◌, ◌-◌, ◌^◌, Bool, true, false, List, [], ◌∷◌, Option, is_some, if◌then◌else◌}
+use Rattle.iova_check.specs.declared.event.Event.{Event}
+use Rattle.iova_check.specs.declared.event.Event.TheVariants as event
+use Rattle.iova_check.specs.declared.finding.Finding.{Finding}
+use Rattle.iova_check.specs.declared.finding.Kind.{Kind}
+use Rattle.iova_check.specs.declared.stage.Stage.{Stage}
+use Rattle.iova_check.specs.Findings.{told}
+use Rattle.iova_check.specs.declared.counts.Counts.{Counts}
+
+-- with a line more, of which so many findings are told
+abbrev pub counts_after : Counts → Event → ℕ → Counts
+counts_after c (event.Map r) found = record { maps = c.maps + 1; unmaps = c.unmaps; flushes = c.flushes; uses = c.uses; findings = c.findings + found }
+counts_after c (event.Unmap r) found = record { maps = c.maps; unmaps = c.unmaps + 1; flushes = c.flushes; uses = c.uses; findings = c.findings + found }
+counts_after c (event.Use r) found = record { maps = c.maps; unmaps = c.unmaps; flushes = c.flushes; uses = c.uses + 1; findings = c.findings + found }
+counts_after c (event.Begin number range) found = record { maps = c.maps; unmaps = c.unmaps; flushes = c.flushes + 1; uses = c.uses; findings = c.findings + found }
+counts_after c (event.End number ok) found = record { maps = c.maps; unmaps = c.unmaps; flushes = c.flushes; uses = c.uses; findings = c.findings + found }
+
+abbrev pub is_map : Event → Bool
+is_map (event.Map r) = true
+is_map (event.Unmap r) = false
+is_map (event.Use r) = false
+is_map (event.Begin number range) = false
+is_map (event.End number ok) = false
+
+abbrev pub is_unmap : Event → Bool
+is_unmap (event.Map r) = false
+is_unmap (event.Unmap r) = true
+is_unmap (event.Use r) = false
+is_unmap (event.Begin number range) = false
+is_unmap (event.End number ok) = false
+
+abbrev pub is_use : Event → Bool
+is_use (event.Map r) = false
+is_use (event.Unmap r) = false
+is_use (event.Use r) = true
+is_use (event.Begin number range) = false
+is_use (event.End number ok) = false
+
+abbrev pub is_begin : Event → Bool
+is_begin (event.Map r) = false
+is_begin (event.Unmap r) = false
+is_begin (event.Use r) = false
+is_begin (event.Begin number range) = true
+is_begin (event.End number ok) = false
+
+-- how many lines pass
+abbrev pub count_lines : (Event → Bool) → List Event → ℕ
+count_lines passes [] = 0
+count_lines passes (e ∷ past) = (if passes e then 1 else 0) + count_lines passes past
+
+-- the lines of each kind among these, and as many findings
+pub record IsCounted (past : List Event) (found : ℕ) (c : Counts) : Type 0 where
+  pub maps : c.maps ≡ count_lines is_map past
+  pub unmaps : c.unmaps ≡ count_lines is_unmap past
+  pub flushes : c.flushes ≡ count_lines is_begin past
+  pub uses : c.uses ≡ count_lines is_use past
+  pub findings : c.findings ≡ found
+
+-- how many of three there are
+abbrev pub how_many : List (Option Finding) → ℕ
+how_many [] = 0
+how_many (f ∷ fs) = (if is_some f then 1 else 0) + how_many fs
+
+-- how many numbers below one pass
+unfoldable pub count_below : (ℕ → Bool) → ℕ → ℕ
+count_below passes zero = 0
+count_below passes (suc n) = (if passes n then 1 else 0) + count_below passes n
+
+-- of how many frames that a line can name the kind tells something, where they are at these stages
+abbrev pub frames_told : Kind → (ℕ → Stage) → ℕ
+frames_told kind at = count_below (λ f. is_some (told kind (at f))) (2 ^ 64 - 1)

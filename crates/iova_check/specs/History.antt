@@ -1,0 +1,63 @@
+-- What became of each frame, by the lines of a log. A list of lines is told with the newest one first. Own.
+use Rattle.std.specs.Prelude.{ℕ, ◌+◌, ◌==◌, Bool, true, false, nat_lt, List, [], ◌∷◌, length, Option, Some, None, if◌then◌else◌}
+use Rattle.iova_range.specs.Frames.{Frames, covers}
+use Rattle.iova_check.specs.declared.event.Event.{Event}
+use Rattle.iova_check.specs.declared.event.Event.TheVariants as event
+use Rattle.iova_check.specs.declared.stage.Stage.{Stage}
+use Rattle.iova_check.specs.declared.stage.Stage.TheVariants as stage
+use Rattle.iova_check.specs.declared.stage.Flight.{Flight}
+use Rattle.iova_check.specs.declared.stage.Change.{Change}
+use Rattle.iova_check.specs.declared.stage.Change.TheVariants as change
+
+-- the number of the line that comes next: the header is line 1, and the first of these line 2
+abbrev pub next_line : List Event → ℕ
+next_line past = length past + 2
+
+-- the frame is one of a flush's
+abbrev pub has : ℕ → Option Frames → Bool
+has f None = true
+has f (Some r) = covers f r
+
+-- Flushes in flight
+
+-- the flush of this number that is in flight after line `line`, where `was` was before
+abbrev pub flight_after : ℕ → Event → ℕ → Option Flight → Option Flight
+flight_after line (event.Map r) number was = was
+flight_after line (event.Unmap r) number was = was
+flight_after line (event.Use r) number was = was
+flight_after line (event.Begin begun range) number was = if begun == number then Some (record { line = line; range = range }) else was
+flight_after line (event.End ended ok) number was = if ended == number then None else was
+
+abbrev pub flight_of : List Event → ℕ → Option Flight
+flight_of [] number = None
+flight_of (e ∷ past) number = flight_after (next_line past) e number (flight_of past number)
+
+-- Frames
+
+-- what is mapped is stale since the line that unmaps it; what is stale is free once a flush that began after that line ended well
+abbrev pub changed : Change → Stage → Stage
+changed (change.Mapped line) s = stage.Mapped line
+changed (change.Unmapped line) stage.Free = stage.Free
+changed (change.Unmapped line) (stage.Mapped since) = stage.Stale line
+changed (change.Unmapped line) (stage.Stale since) = stage.Stale since
+changed (change.Flushed begun) stage.Free = stage.Free
+changed (change.Flushed begun) (stage.Mapped since) = stage.Mapped since
+changed (change.Flushed begun) (stage.Stale since) = if nat_lt since begun then stage.Free else stage.Stale since
+
+-- a flush ended well
+abbrev pub flushed_by : Option Flight → ℕ → Stage → Stage
+flushed_by None f was = was
+flushed_by (Some flight) f was = if has f flight.range then changed (change.Flushed flight.line) was else was
+
+-- the stage of the frame after line `line`, which is `e`, where `was` was before, and these flushes were in flight
+abbrev pub stage_after : ℕ → (ℕ → Option Flight) → Event → ℕ → Stage → Stage
+stage_after line flights (event.Map r) f was = if covers f r then changed (change.Mapped line) was else was
+stage_after line flights (event.Unmap r) f was = if covers f r then changed (change.Unmapped line) was else was
+stage_after line flights (event.Use r) f was = was
+stage_after line flights (event.Begin number range) f was = was
+stage_after line flights (event.End number true) f was = flushed_by (flights number) f was
+stage_after line flights (event.End number false) f was = was
+
+abbrev pub stage_of : List Event → ℕ → Stage
+stage_of [] f = stage.Free
+stage_of (e ∷ past) f = stage_after (next_line past) (flight_of past) e f (stage_of past f)

@@ -1,0 +1,13 @@
+pub mod Text
+pub mod History
+pub mod Promise
+pub mod Marks
+pub mod Following
+pub mod Findings
+pub mod Counting
+pub mod Output
+pub mod Checking
+pub mod Logs
+pub mod Runs
+pub mod Progress
+pub mod Summary

@@ -1,0 +1,64 @@
+//! A log checked line by line.
+ghost use Rattle.std.specs.Prelude.{◌≤◌};
+
+use crate::counts::Counts;
+use crate::event::Event;
+use crate::finding::how_many;
+use crate::line::Header;
+use crate::text::write_findings;
+use crate::told::findings;
+use crate::tracker::Tracker;
+use iova_range::refusal::Refusal;
+use std::alloc::Global;
+
+/// What is known of a log after its lines so far, and the bounds of its header.
+#[derive(Drop)]
+pub struct Checker {
+    /// The first and the last frame that may be mapped.
+    pub bounds: Header,
+    /// What became of each frame.
+    pub tracker: Tracker,
+    /// What was counted.
+    pub counts: Counts,
+    ghost in_order: { bounds.first ≤ bounds.last },
+}
+
+impl Checker {
+    ghost use Rattle.std.specs.Prelude.{◌≡◌, [], OnOk, OnErr};
+    ghost use Rattle.iova_check.specs.Text.{IsEvent};
+    ghost use Rattle.iova_check.specs.Checking.{HasChecked, ChecksNext};
+
+    /// The header has been read.
+    pub fn new(alloc: Global, bounds: Header) -> Checker
+        requires { bounds.first ≤ bounds.last }
+        ensures { HasChecked bounds [] result [] }
+    {
+        Checker {
+            bounds,
+            tracker: Tracker::new(alloc),
+            counts: Counts::new(),
+        }
+    }
+
+    /// Takes the next line, and appends what is told of it. Refused by `NoMemory`, also where no further line has
+    /// a number; nothing is appended then.
+    pub fn check(&mut self, event: Event, out: &mut Vec<u8>) -> Result<(), Refusal>
+        requires { IsEvent event }
+        ensures ok { OnOk result (ChecksNext self.old event out.old.items self.new out.new.items) }
+        ensures err { OnErr result (out.new.items ≡ out.old.items) }
+    {
+        if self.tracker.line == u64::MAX {
+            return Err(Refusal::NoMemory);
+        }
+        let told = findings(&self.tracker, &self.bounds, &event);
+        let line = self.tracker.line;
+        self.counts = self.counts.with_line(&event, how_many(&told))?;
+        if self.tracker.take(event).is_err() {
+            return Err(Refusal::NoMemory);
+        }
+        match write_findings(line, &told, out) {
+            Ok(()) => Ok(()),
+            Err(_) => Err(Refusal::NoMemory),
+        }
+    }
+}

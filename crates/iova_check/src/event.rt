@@ -1,0 +1,17 @@
+//! What a line of a log says.
+use iova_range::range::Range;
+
+/// What a line of a log says. Its ranges end below frame 2^64 - 1; the number of a flush is any number. Our own.
+#[derive(Clone, Copy, Debug, PartialEq, Eq)]
+pub enum Event {
+    /// The frames were mapped for a device.
+    Map(Range),
+    /// The frames were unmapped.
+    Unmap(Range),
+    /// A device was seen to reach the frames.
+    Use(Range),
+    /// A flush of these frames began, or of every frame.
+    Begin { no: u64, range: Option<Range> },
+    /// The flush of this number ended, well or not.
+    End { no: u64, ok: bool },
+}

@@ -1,0 +1,141 @@
+//! The lowest frames of a range of which something is told, and those after them of which the same is.
+ghost use Rattle.std.specs.Prelude.{◌≡◌, ◌≢◌, ℕ, ◌+◌, ◌-◌, ◌≤◌, ◌<◌, Some};
+ghost use Rattle.iova_check.specs.Marks.{shown};
+ghost use Rattle.iova_check.specs.declared.finding.Kind.TheVariants.{Overlap as Overlapping};
+ghost use Rattle.iova_check.specs.Counting.{frames_told};
+ghost use Rattle.iova_check.specs.Findings.{told, told_outside, is_joined, IsFound, IsCut};
+
+use crate::finding::{Kind, Run};
+use crate::line::Header;
+use crate::stage::Stage;
+use crate::stages::Stages;
+
+/// The lowest of the frames from `lo` on and below `to` of which the kind tells something, and the frames after it of which it tells
+/// the same.
+pub fn find(stages: &Stages, kind: Kind, lo: u64, to: u64) -> Option<Run>
+    requires { lo ≤ to }
+    ensures { IsFound (λ f. told kind (shown stages.now f)) lo to result }
+{
+    let mut at = lo;
+    while at < to {
+        if let Some(since) = kind.told(stages.stage(at)) {
+            let end = stretch(stages, kind, since, at, to);
+            let len = end - at;
+            return Some(Run { lo: at, len, since });
+        }
+        at = stages.end(at, to);
+    }
+    None
+}
+
+/// The end of the frames from `lo` on and below `to` of which the kind tells this.
+fn stretch(stages: &Stages, kind: Kind, since: Option<u64>, lo: u64, to: u64) -> u64
+    requires some { lo < to }
+    requires first { told kind (shown stages.now lo) ≡ Some since }
+    ensures after { lo < result }
+    ensures within { result ≤ to }
+    ensures same { (f : ℕ) → lo ≤ f → f < result → told kind (shown stages.now f) ≡ Some since }
+    ensures longest { result < to → told kind (shown stages.now result) ≢ Some since }
+{
+    let mut at = stages.end(lo, to);
+    while at < to && kind.told(stages.stage(at)) == Some(since) {
+        at = stages.end(at, to);
+    }
+    at
+}
+
+/// The lowest of the frames from `lo` on and below `to` that are out of the bounds, and those after it.
+pub fn find_outside(bounds: &Header, lo: u64, to: u64) -> Option<Run>
+    requires some { lo < to }
+    requires bounds { bounds.now.first ≤ bounds.now.last }
+    ensures { IsFound (told_outside bounds.now) lo to result }
+{
+    let (first, last) = (bounds.first, bounds.last);
+    if lo < first {
+        return Some(Run {
+            lo,
+            len: to.min(first) - lo,
+            since: None,
+        });
+    }
+    if to - 1 <= last {
+        return None;
+    }
+    let lo = lo.max(last + 1);
+    Some(Run {
+        lo,
+        len: to - lo,
+        since: None,
+    })
+}
+
+/// The frames from `lo` on and below `to` that are cut off from a frame beside them: those mapped with the frame before `lo`, else
+/// those mapped with `to`.
+pub fn find_cut(stages: &Stages, lo: u64, to: u64) -> Option<Run>
+    requires { lo < to }
+    ensures { IsCut (shown stages.now) lo to result }
+{
+    if joined(stages, lo) {
+        return find(stages, Kind::Overlap, lo, to);
+    }
+    if !joined(stages, to) {
+        return None;
+    }
+    let since = Kind::Overlap.told(stages.stage(to - 1))?;
+    let start = last_start(stages, since, lo, to);
+    Some(Run {
+        lo: start,
+        len: to - start,
+        since,
+    })
+}
+
+/// Whether this frame and the one before it are mapped since one line.
+fn joined(stages: &Stages, frame: u64) -> bool
+    ensures { result ≡ is_joined (shown stages.now) frame }
+{
+    if frame == 0 {
+        return false;
+    }
+    match (stages.stage(frame - 1), stages.stage(frame)) {
+        (Stage::Mapped(one), Stage::Mapped(other)) => one == other,
+        _ => false,
+    }
+}
+
+/// The first of the frames from `lo` on that are all mapped since this line up to the one before `to`.
+fn last_start(stages: &Stages, since: Option<u64>, lo: u64, to: u64) -> u64
+    requires some { lo < to }
+    requires last { told Overlapping (shown stages.now (to - 1)) ≡ Some since }
+    ensures from { lo ≤ result }
+    ensures within { result < to }
+    ensures same { (f : ℕ) → result ≤ f → f < to → told Overlapping (shown stages.now f) ≡ Some since }
+    ensures longest { lo < result → told Overlapping (shown stages.now (result - 1)) ≢ Some since }
+{
+    let mut start = lo;
+    let mut at = lo;
+    while at < to {
+        let end = stages.end(at, to);
+        if Kind::Overlap.told(stages.stage(at)) != Some(since) {
+            start = end;
+        }
+        at = end;
+    }
+    start
+}
+
+/// Of how many frames below frame 2^64 - 1 the kind tells something.
+pub fn count_frames(stages: &Stages, kind: Kind) -> u64
+    ensures { result ≡ frames_told kind (shown stages.now) }
+{
+    let mut count = 0;
+    let mut at = 0;
+    while at < u64::MAX {
+        let end = stages.end(at, u64::MAX);
+        if kind.told(stages.stage(at)).is_some() {
+            count += end - at;
+        }
+        at = end;
+    }
+    count
+}

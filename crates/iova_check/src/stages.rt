@@ -1,0 +1,150 @@
+//! The stages of all frames, as marks in an ordered map: a step costs the logarithm of how many there are.
+ghost use Rattle.std.specs.Prelude.{◌≡◌, ◌≢◌, ℕ, ◌-◌, ◌≤◌, ◌<◌, ◌^◌, Some, None, IsSome, OnOk, if◌then◌else◌};
+ghost use Rattle.std.specs.Ordering.{nat_cmp};
+ghost use Rattle.std.specs.BTreeMap.{get};
+ghost use Rattle.iova_range.specs.Frames.{covers};
+ghost use Rattle.iova_check.specs.declared.stage.Stage.TheVariants.{Free as IsFree};
+ghost use Rattle.iova_check.specs.History.{changed};
+ghost use Rattle.iova_check.specs.Marks.{shown, shown_before, IsBare};
+
+use crate::stage::{Change, Stage};
+use iova_range::range::Range;
+use std::alloc::{AllocError, Global};
+use std::collections::BTreeMap;
+
+/// The stage of each frame. A mark at a frame tells the stage of it and of those after it, up to the next mark; before the first
+/// mark all are free.
+#[derive(Drop)]
+pub struct Stages {
+    marks: BTreeMap<u64, Stage>,
+}
+
+impl Stages {
+    /// Each frame is free.
+    pub fn new(alloc: Global) -> Stages
+        ensures { (f : ℕ) → shown result f ≡ IsFree }
+    {
+        Stages {
+            marks: BTreeMap::new(alloc),
+        }
+    }
+
+    /// The stage of this frame.
+    pub fn stage(&self, frame: u64) -> Stage
+        ensures { result ≡ shown self.now frame }
+    {
+        match self.marks.range(..=frame).next_back() {
+            Some((_, stage)) => *stage,
+            None => Stage::Free,
+        }
+    }
+
+    /// A frame above `frame` and at most `to`, up to which the stage is that of `frame`.
+    pub fn end(&self, frame: u64, to: u64) -> u64
+        requires { frame < to }
+        ensures after { frame < result }
+        ensures within { result ≤ to }
+        ensures bare { IsBare self.now frame result }
+        ensures same { (f : ℕ) → frame ≤ f → f < result → shown self.now f ≡ shown self.now frame }
+    {
+        self.next_mark(frame, to)
+    }
+
+    /// The first mark above `frame` and below `to`, or `to`.
+    fn next_mark(&self, frame: u64, to: u64) -> u64
+        requires { frame < to }
+        ensures after { frame < result }
+        ensures within { result ≤ to }
+        ensures bare { IsBare self.now frame result }
+    {
+        match self.marks.range(frame + 1..).next() {
+            Some((mark, _)) if *mark < to => *mark,
+            _ => to,
+        }
+    }
+
+    /// Changes the stages of these frames below frame 2^64 - 1.
+    pub fn change_range(&mut self, range: Range, change: Change) -> Result<(), AllocError>
+        ensures below { OnOk result ((f : ℕ) → f < 2 ^ 64 - 1
+            → shown self.new f ≡ (if covers f range then changed change (shown self.old f) else shown self.old f)) }
+        ensures above { OnOk result ((f : ℕ) → 2 ^ 64 - 1 ≤ f → shown self.new f ≡ shown self.old f) }
+    {
+        let to = range.lo().saturating_add(range.len());
+        self.change(range.lo(), to, change)?;
+        Ok(())
+    }
+
+    /// Changes the stages of the frames from `lo` on and below `to`.
+    pub fn change(&mut self, lo: u64, to: u64, change: Change) -> Result<(), AllocError>
+        requires { lo ≤ to }
+        ensures inside { OnOk result ((f : ℕ) → lo ≤ f → f < to → shown self.new f ≡ changed change (shown self.old f)) }
+        ensures below { OnOk result ((f : ℕ) → f < lo → shown self.new f ≡ shown self.old f) }
+        ensures above { OnOk result ((f : ℕ) → to ≤ f → shown self.new f ≡ shown self.old f) }
+    {
+        let mut at = lo;
+        while at < to {
+            let end = self.end(at, to);
+            let stage = change.of(self.stage(at));
+            self.put(at, end, stage)?;
+            at = end;
+        }
+        Ok(())
+    }
+
+    /// Sets the stage of the frames from `at` on and below `end`, which had one.
+    fn put(&mut self, at: u64, end: u64, stage: Stage) -> Result<(), AllocError>
+        requires some { at < end }
+        requires bare { IsBare self.old at end }
+        ensures inside { OnOk result ((f : ℕ) → at ≤ f → f < end → shown self.new f ≡ stage) }
+        ensures below { OnOk result ((f : ℕ) → f < at → shown self.new f ≡ shown self.old f) }
+        ensures above { OnOk result ((f : ℕ) → end ≤ f → shown self.new f ≡ shown self.old f) }
+    {
+        self.cut(end)?;
+        self.mark(at, stage)?;
+        self.join(end);
+        self.join(at);
+        Ok(())
+    }
+
+    /// Sets a mark without a change of stages.
+    fn cut(&mut self, at: u64) -> Result<(), AllocError>
+        ensures same { OnOk result ((f : ℕ) → shown self.new f ≡ shown self.old f) }
+        ensures marked { OnOk result (IsSome (get nat_cmp self.new.marks at)) }
+        ensures others { OnOk result ((q : ℕ) → q ≢ at → get nat_cmp self.new.marks q ≡ get nat_cmp self.old.marks q) }
+    {
+        if self.marks.contains_key(&at) {
+            return Ok(());
+        }
+        let stage = self.stage(at);
+        self.mark(at, stage)?;
+        Ok(())
+    }
+
+    /// Sets the stage from a frame on.
+    fn mark(&mut self, at: u64, stage: Stage) -> Result<(), AllocError>
+        ensures marked { OnOk result (get nat_cmp self.new.marks at ≡ Some stage) }
+        ensures others { OnOk result ((q : ℕ) → q ≢ at → get nat_cmp self.new.marks q ≡ get nat_cmp self.old.marks q) }
+    {
+        self.marks.insert(at, stage)?;
+        Ok(())
+    }
+
+    /// Takes a mark away that tells what the one before it tells.
+    fn join(&mut self, at: u64)
+        ensures { (f : ℕ) → shown self.new f ≡ shown self.old f }
+    {
+        if self.stage_before(at) == self.stage(at) {
+            let _gone = self.marks.remove(&at);
+        }
+    }
+
+    /// The stage of the frame before this one.
+    fn stage_before(&self, at: u64) -> Stage
+        ensures { result ≡ shown_before self.now at }
+    {
+        if at == 0 {
+            return Stage::Free;
+        }
+        self.stage(at - 1)
+    }
+}

@@ -1,0 +1,109 @@
+//! What is told of a line: at most three findings.
+ghost use Rattle.std.specs.Prelude.{◌≡◌, ◌≤◌, List};
+ghost use Rattle.std.specs.Ordering.{nat_cmp};
+ghost use Rattle.std.specs.BTreeMap.{get};
+ghost use Rattle.iova_check.specs.declared.event.Event.{Event};
+ghost use Rattle.iova_check.specs.Text.{IsEvent, IsRange};
+ghost use Rattle.iova_check.specs.History.{flight_of, stage_of};
+ghost use Rattle.iova_check.specs.Marks.{shown};
+ghost use Rattle.iova_check.specs.Following.{Follows};
+ghost use Rattle.iova_check.specs.Findings.{framed, flush_told, IsMapTold, IsUnmapTold, IsUseTold, AreFindings, TellsBreaks};
+
+use crate::event::Event;
+use crate::finding::{Finding, Kind, Run};
+use crate::line::Header;
+use crate::scan::{find, find_cut, find_outside};
+use crate::stages::Stages;
+use crate::tracker::Tracker;
+use iova_range::range::Range;
+
+/// What is told of the next line, in order: at most three findings. None is of a frame that was given out too early exactly where
+/// the promise is kept for each frame that the line maps.
+pub fn findings(tracker: &Tracker, bounds: &Header, event: &Event) -> [Option<Finding>; 3]
+    requires event { IsEvent event.now }
+    requires bounds { bounds.now.first ≤ bounds.now.last }
+    ensures told { (past : List Event) → Follows past tracker.now
+        → AreFindings bounds.now (stage_of past) (flight_of past) event.now result }
+    ensures breaks { (past : List Event) → Follows past tracker.now → TellsBreaks past event.now result }
+{
+    tell(tracker, bounds, event)
+}
+
+/// What is told of the next line, by what the tracker knows.
+fn tell(tracker: &Tracker, bounds: &Header, event: &Event) -> [Option<Finding>; 3]
+    requires event { IsEvent event.now }
+    requires bounds { bounds.now.first ≤ bounds.now.last }
+    ensures { AreFindings bounds.now (shown tracker.now.stages) (get nat_cmp tracker.now.flights) event.now result }
+{
+    match event {
+        Event::Map(range) => of_map(&tracker.stages, bounds, *range),
+        Event::Unmap(range) => of_unmap(&tracker.stages, bounds, *range),
+        Event::Use(range) => of_use(&tracker.stages, bounds, *range),
+        Event::Begin { no, range: _ } => of_flush(*no, tracker.flights.contains_key(no)),
+        Event::End { no, ok: _ } => of_flush(*no, !tracker.flights.contains_key(no)),
+    }
+}
+
+fn of_map(stages: &Stages, bounds: &Header, range: Range) -> [Option<Finding>; 3]
+    requires range { IsRange range }
+    requires bounds { bounds.now.first ≤ bounds.now.last }
+    ensures { IsMapTold bounds.now (shown stages.now) range result }
+{
+    let (lo, to) = (range.lo(), range.lo() + range.len());
+    let outside = find_outside(bounds, lo, to);
+    let overlap = find(stages, Kind::Overlap, lo, to);
+    let reused = find(stages, Kind::Reused, lo, to);
+    [
+        framed(Kind::Outside, outside),
+        framed(Kind::Overlap, overlap),
+        framed(Kind::Reused, reused),
+    ]
+}
+
+fn of_unmap(stages: &Stages, bounds: &Header, range: Range) -> [Option<Finding>; 3]
+    requires range { IsRange range }
+    requires bounds { bounds.now.first ≤ bounds.now.last }
+    ensures { IsUnmapTold bounds.now (shown stages.now) range result }
+{
+    let (lo, to) = (range.lo(), range.lo() + range.len());
+    let outside = find_outside(bounds, lo, to);
+    let cut = find_cut(stages, lo, to);
+    let unmapped = find(stages, Kind::Unmapped, lo, to);
+    [
+        framed(Kind::Outside, outside),
+        framed(Kind::Cut, cut),
+        framed(Kind::Unmapped, unmapped),
+    ]
+}
+
+fn of_use(stages: &Stages, bounds: &Header, range: Range) -> [Option<Finding>; 3]
+    requires range { IsRange range }
+    requires bounds { bounds.now.first ≤ bounds.now.last }
+    ensures { IsUseTold bounds.now (shown stages.now) range result }
+{
+    let (lo, to) = (range.lo(), range.lo() + range.len());
+    let outside = find_outside(bounds, lo, to);
+    let stale = find(stages, Kind::Stale, lo, to);
+    let wild = find(stages, Kind::Wild, lo, to);
+    [
+        framed(Kind::Outside, outside),
+        framed(Kind::Stale, stale),
+        framed(Kind::Wild, wild),
+    ]
+}
+
+fn of_flush(no: u64, odd: bool) -> [Option<Finding>; 3]
+    ensures { result ≡ flush_told no odd }
+{
+    let finding = if odd { Some(Finding::Flush(no)) } else { None };
+    [finding, None, None]
+}
+
+fn framed(kind: Kind, found: Option<Run>) -> Option<Finding>
+    ensures { result ≡ framed kind found }
+{
+    match found {
+        Some(run) => Some(Finding::Frames { kind, run }),
+        None => None,
+    }
+}
