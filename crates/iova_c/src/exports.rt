@@ -1,8 +1,9 @@
 //! The functions that C calls. Each takes a pointer to a slot, which the caller lends for the call: it lies there before and
 //! after, and nobody else reads or writes it meanwhile. Each is one call of a function of this crate, whose contract it has.
-ghost use Rattle.std.specs.Prelude.{◌≡◌, None};
+ghost use Rattle.std.specs.Prelude.{◌≡◌, ◌≤◌, None};
 ghost use Rattle.std.specs.Borrow.{full_share, sem};
 ghost use Rattle.std.specs.Ptr.{lies_at, room_at};
+ghost use denote.Memory.{mem};
 ghost use Rattle.iova_c.specs.Bytes.{frame_at, frames_of, last_frame};
 ghost use Rattle.iova_c.specs.Lists.{ListsHoldings, ListsWindows};
 ghost use Rattle.iova_c.specs.Readers.{Reads, place_answer, counts_answer, totals_answer, share_answer, client_answer, bounds_answer, flushes_answer};
@@ -29,7 +30,10 @@ pub struct SlotRoom {
 
 /// How many bytes a slot has.
 #[unsafe(no_mangle)]
-pub extern "C" fn iova_domain_size() -> usize {
+pub extern "C" fn iova_domain_size() -> usize
+    ensures exact { result ≡ (mem the_row).size }
+    ensures small { result ≤ 1536 }
+{
     size_of::<Slot>()
 }
 

@@ -7,12 +7,10 @@ use Rattle.iova_c.proofs.answer.NumberAnswer.TheLaws as out_laws
 use types.Part.{whole, sub, agg}
 use types.Run.{fld, hop, from}
 use types.ByLocal.{get_in, look_in_at}
-use base.Fml.{fbor, Share}
-use types.SemTy.{Arr}
-use types.Hole.{Holey}
+use base.Fml.{Share}
 use denote.RattleType.{owns}
 use denote.Signature.{types_at}
-use denote.Slice.{MutSlice, Room, slice_val, mut_slice_vals, mut_slice_Tells, finally}
+use denote.Slice.{Room, slice_val, mut_slice_vals, mut_slice_Tells}
 use denote.Triple.Walked.{gave_slice, Goes-gave_slice}
 use Rattle.iova_c.specs.declared.answer.Listed.{Listed}
 use Rattle.iova_c.specs.contracts.answer.Listed.{the_row as Item}

@@ -1,5 +1,0 @@
-use Rattle.iova_bench.specs.Held.{AreHeld}
-use Rattle.iova_bench.proofs.tree.fill.Given as goal
-
-abbrev pub invariant-loop : goal.invariant-loop
-invariant-loop l = AreHeld l.tree.inserted l.held.items
