@@ -3,7 +3,7 @@ _iovad() {
   local word=${COMP_WORDS[COMP_CWORD]} before=${COMP_WORDS[COMP_CWORD-1]} command=${COMP_WORDS[1]}
   COMPREPLY=()
   if [ "$COMP_CWORD" = 1 ]; then
-    mapfile -t COMPREPLY < <(compgen -W "replay serve ask help --help --version" -- "$word")
+    mapfile -t COMPREPLY < <(compgen -W "replay serve ask check help --help --version" -- "$word")
     return
   fi
   case $before in
@@ -20,8 +20,8 @@ _iovad() {
         compgen -W "--socket --workers --domain --start --last --sink --sessions --depot --strict --record --help" -- "$word"
       )
       ;;
-    ask) mapfile -t COMPREPLY < <(compgen -W "--help" -- "$word"; compgen -f -- "$word") ;;
-    help) mapfile -t COMPREPLY < <(compgen -W "replay serve ask" -- "$word") ;;
+    ask | check) mapfile -t COMPREPLY < <(compgen -W "--help" -- "$word"; compgen -f -- "$word") ;;
+    help) mapfile -t COMPREPLY < <(compgen -W "replay serve ask check" -- "$word") ;;
   esac
 }
 complete -o filenames -F _iovad iovad

@@ -11,8 +11,6 @@ mod answers;
 mod buffer;
 pub mod fault;
 mod gather;
-#[cfg(test)]
-mod tests;
 
 use crate::answers::copy_answers;
 use crate::buffer::{Buffer, PIECE};

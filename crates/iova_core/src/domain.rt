@@ -662,6 +662,3 @@ fn place_in_rings(rings: &[Ring], frame: u64) -> Place
     }
     Place::Free
 }
-
-#[cfg(test)]
-mod tests;

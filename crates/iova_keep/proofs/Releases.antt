@@ -15,7 +15,7 @@ use Rattle.iova_keep.specs.declared.unmapped.Unmapped.{Unmapped}
 use Rattle.iova_keep.specs.declared.unmapped.Unmapped.TheVariants as unmapped
 use Rattle.iova_keep.specs.Views.{SeatState, WhereKnown, begun_of}
 use Rattle.iova_keep.specs.Events.{Event, Ran, Invalidated, sink_calls, Unmapping, run, not_run}
-use Rattle.iova_keep.specs.Releases.{ReleaseFirst, no_flush, flush, ReleaseAgain, no_flush_again, flush_again, ReleaseLast, reached, not_reached, not_drained, AfterQueued, stays, freed, not_freed, ReleaseRest, refused_again, queued_again, refused_first, queued_first, ring_was_full, ReleasesFirst, ReleasesAgain, ReleasesLast, DoesFollow, DoesReleaseRest, DoesRelease}
+use Rattle.iova_keep.specs.Releases.{ReleaseFirst, no_flush, flush, ReleaseAgain, no_flush_again, flush_again, ReleaseLast, reached, not_reached, AfterQueued, stays, freed, not_freed, ReleaseRest, refused_again, queued_again, refused_first, queued_first, ring_was_full, ReleasesFirst, ReleasesAgain, ReleasesLast, DoesFollow, DoesReleaseRest, DoesRelease}
 use Rattle.iova_keep.proofs.Doing.{known_both, known_one, good_within}
 use Rattle.iova_keep.proofs.Endings.{leads_more, sink_calls-more}
 
@@ -46,8 +46,7 @@ again_silent number (flush_again end r b es strictly u) = then_begin number es b
 
 last_silent : (number : ℕ) {w n : ℕ} {ok : Bool} {finish : ℕ} {result : Bool} {es : List Event} → ReleaseLast w n ok finish result es → sink_calls number es ≡ []
 last_silent number (reached end m enough) = refl
-last_silent number (not_reached end r short) = refl
-last_silent number (not_drained end e) = refl
+last_silent number (not_reached end m short) = refl
 
 -- what a hold that calls no sink leaves of a list of calls
 none_called : (number : ℕ) (calls : List Call) (es : List Event) → sink_calls number es ≡ [] → calls ≡ calls ++ sink_calls number es

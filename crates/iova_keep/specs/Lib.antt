@@ -4,3 +4,4 @@ pub mod Events
 pub mod Answers
 pub mod Releases
 pub mod Batches
+pub mod StepLogs

@@ -41,16 +41,12 @@ pub data ReleaseAgain (strict : Bool) (st : Step) (held : Totals) (n : ℕ) (ok 
       → ReleaseAgain strict st held n ok (Some r) (Some b) (Ran (step.End n ok) end ∷ (es ++ Ran step.Begin b ∷ []))
 
 -- The last hold, of worker w: the flush that began after the range ends, and the worker's ring is drained. It answers
--- whether the finish count that this leaves, which a drain doesn't move, is at least the flush's number and the ring
--- was drained.
+-- whether the finish count that this leaves, which a drain doesn't move, is at least the flush's number.
 pub data ReleaseLast (w n : ℕ) (ok : Bool) (finish : ℕ) : Bool → List Event → Type 0 where
   reached : (end : Reply) (m : ℕ) → n ≤ finish
       → ReleaseLast w n ok finish true (Ran (step.End n ok) end ∷ Ran (step.Drain w w) (reply.Drained m) ∷ [])
-  not_reached : (end r : Reply) → finish < n
-      → ReleaseLast w n ok finish false (Ran (step.End n ok) end ∷ Ran (step.Drain w w) r ∷ [])
-  -- the domain has no such worker; no run comes to it
-  not_drained : (end : Reply) (e : Refusal)
-      → ReleaseLast w n ok finish false (Ran (step.End n ok) end ∷ Ran (step.Drain w w) (reply.Refused e) ∷ [])
+  not_reached : (end : Reply) (m : ℕ) → finish < n
+      → ReleaseLast w n ok finish false (Ran (step.End n ok) end ∷ Ran (step.Drain w w) (reply.Drained m) ∷ [])
 
 -- What follows a range that was queued: nothing where no flush began; else the sink is told of that flush, and the last
 -- hold.

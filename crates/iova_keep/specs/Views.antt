@@ -120,17 +120,17 @@ abbrev pub begun_or : Result ℕ Refusal → Reply
 begun_or (Ok n) = reply.Begun n
 begun_or (Err e) = reply.Refused e
 
--- Refusals.
+-- Refusals, at the seat of a worker that there is.
 
 abbrev pub IsOpenRefusal : Refusal → Type 0
-IsOpenRefusal e = IsAmong e (refusal.NoWorker ∷ refusal.Worn ∷ refusal.ClientsFull ∷ refusal.NoMemory ∷ [])
+IsOpenRefusal e = IsAmong e (refusal.Worn ∷ refusal.ClientsFull ∷ refusal.NoMemory ∷ [])
 
 abbrev pub IsAllocRefusal : Refusal → Type 0
 IsAllocRefusal e =
-    IsAmong e (refusal.NoWorker ∷ refusal.Zero ∷ refusal.TooBig ∷ refusal.NoClient ∷ refusal.Closing ∷ refusal.HoldingsFull ∷ refusal.NoMemory ∷ refusal.NoSpace ∷ [])
+    IsAmong e (refusal.Zero ∷ refusal.TooBig ∷ refusal.NoClient ∷ refusal.Closing ∷ refusal.HoldingsFull ∷ refusal.NoMemory ∷ refusal.NoSpace ∷ [])
 
 abbrev pub IsUnmapRefusal : Refusal → Type 0
-IsUnmapRefusal e = IsAmong e (refusal.NoWorker ∷ refusal.NoClient ∷ refusal.Closing ∷ refusal.NotHeld ∷ refusal.RingFull ∷ [])
+IsUnmapRefusal e = IsAmong e (refusal.NoClient ∷ refusal.Closing ∷ refusal.NotHeld ∷ refusal.RingFull ∷ [])
 
 abbrev pub IsBeginRefusal : Refusal → Type 0
 IsBeginRefusal e = IsAmong e (refusal.FlightsFull ∷ refusal.Worn ∷ [])
@@ -138,9 +138,9 @@ IsBeginRefusal e = IsAmong e (refusal.FlightsFull ∷ refusal.Worn ∷ [])
 abbrev pub IsFlushRefusal : Refusal → Type 0
 IsFlushRefusal e = IsAmong e (refusal.FlightsFull ∷ refusal.Worn ∷ refusal.SinkFault ∷ [])
 
--- no such client of this worker, or no such worker
+-- no such client of this worker
 abbrev pub IsUnknown : Refusal → Type 0
-IsUnknown e = IsAmong e (refusal.NoClient ∷ refusal.NoWorker ∷ [])
+IsUnknown e = e ≡ refusal.NoClient
 
 -- what a hold of a client's end is refused by
 abbrev pub IsCloseRefusal : Refusal → Type 0

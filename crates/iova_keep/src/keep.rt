@@ -4,10 +4,12 @@ ghost use Rattle.iova_range.specs.declared.limits.TheConstants.{MAX_HOLDINGS};
 ghost use Rattle.iova_range.specs.Frames.{Frames};
 ghost use Rattle.iova_model.specs.Clients.{totals};
 ghost use Rattle.iova_model.specs.State.{State};
+ghost use Rattle.iova_model.specs.Valid.{Rises};
 ghost use Rattle.iova_model.specs.Laws.{MovesTotals, IsReplyTo, ended_well};
-ghost use Rattle.iova_keep.specs.Views.{TallyState, SeatState, WhereKnown, IsOpenRefusal, IsAllocRefusal, IsGivenTo, IsUnmapHeard, IsBeginHeard, IsReleaseBegin, IsSecondBegin, IsCloseHeard, MovesHeard, Lowers, queued_by, given_or, stat_of, IsKept};
+ghost use Rattle.iova_keep.specs.Views.{TallyState, SeatState, WhereKnown, IsOpenRefusal, IsAllocRefusal, IsGivenTo, IsUnmapHeard, IsBeginHeard, IsReleaseBegin, IsSecondBegin, IsCloseHeard, MovesHeard, Lowers, queued_by, given_or, stat_of, nothing, IsKept};
 ghost use Rattle.iova_keep.specs.Batches.{DoesBatch, TellsAsks};
 ghost use Rattle.iova_keep.specs.Releases.{ReleasesFirst, ReleasesAgain, ReleasesLast};
+ghost use Rattle.iova_keep.specs.StepLogs.{StepLog, GoesOn};
 ghost use Rattle.iova_keep.specs.Answers.{Opens, Allocs, UnmapsFirst, UnmapsAgain, Begins, Ends, ClosesFirst, ClosesAgain, Leaves, RaisesByEnd, DrainsAll, ReadsHoldings};
 
 use crate::ask::{Ask, Told};
@@ -48,6 +50,10 @@ pub trait Keep<C: Ledger, F: Ledger, S: Ledger, G: Ledger> {
     /// Whether the domain is strict, where it is known.
     ghost strict: { Self → Bool };
 
+    /// What is recorded of its steps, where that is known. No call ends the recording before it is full, and then it is over for
+    /// good.
+    ghost log: { Self → Option StepLog };
+
     /// The domain's number. It takes no hold.
     fn number(&self) -> u64
         ensures { result ≡ domain_number self.now };
@@ -61,6 +67,7 @@ pub trait Keep<C: Ledger, F: Ledger, S: Ledger, G: Ledger> {
     fn open(&mut self, seat: &mut Seat<C, F, S, G>, sac: bool) -> Result<ClientId, Refusal>
         ensures number { domain_number self.new ≡ domain_number self.old }
         ensures strict { strict self.new ≡ strict self.old }
+        ensures log { GoesOn (log self.old) (log self.new) }
         ensures domain { WhereKnown (domain self.old) (domain self.new) (Opens seat.old.worker sac result) }
         ensures refusal { IfErr result IsOpenRefusal }
         ensures seat { seat.new ≡ seat.old };
@@ -76,6 +83,7 @@ pub trait Keep<C: Ledger, F: Ledger, S: Ledger, G: Ledger> {
     ) -> Result<Range, Refusal>
         ensures number { domain_number self.new ≡ domain_number self.old }
         ensures strict { strict self.new ≡ strict self.old }
+        ensures log { GoesOn (log self.old) (log self.new) }
         ensures domain { WhereKnown (domain self.old) (domain self.new)
             (Allocs seat.old.worker id frames limit result) }
         ensures given { MatchResult result (IsGivenTo frames limit) IsAllocRefusal }
@@ -86,6 +94,7 @@ pub trait Keep<C: Ledger, F: Ledger, S: Ledger, G: Ledger> {
     fn unmap_first(&mut self, seat: &mut Seat<C, F, S, G>, id: ClientId, lo: u64) -> Heard
         ensures number { domain_number self.new ≡ domain_number self.old }
         ensures strict { strict self.new ≡ strict self.old }
+        ensures log { GoesOn (log self.old) (log self.new) }
         ensures domain { WhereKnown (domain self.old) (domain self.new)
             (UnmapsFirst seat.old id lo result.reply result.begun) }
         ensures left { WhereKnown (domain self.old) (domain self.new) (Leaves id result.left) }
@@ -107,6 +116,7 @@ pub trait Keep<C: Ledger, F: Ledger, S: Ledger, G: Ledger> {
     ) -> Heard
         ensures number { domain_number self.new ≡ domain_number self.old }
         ensures strict { strict self.new ≡ strict self.old }
+        ensures log { GoesOn (log self.old) (log self.new) }
         ensures domain { WhereKnown (domain self.old) (domain self.new)
             (UnmapsAgain seat.old id lo no ok result.reply) }
         ensures left { WhereKnown (domain self.old) (domain self.new) (Leaves id result.left) }
@@ -125,24 +135,30 @@ pub trait Keep<C: Ledger, F: Ledger, S: Ledger, G: Ledger> {
     fn begin(&mut self, tally: &mut Tally<G>) -> Heard
         ensures number { domain_number self.new ≡ domain_number self.old }
         ensures strict { strict self.new ≡ strict self.old }
+        ensures log { GoesOn (log self.old) (log self.new) }
         ensures domain { WhereKnown (domain self.old) (domain self.new) (Begins result.begun) }
         ensures tally { tally.new ≡ tally.old }
-        ensures heard { MatchOption result.begun ⊥ (λ b. IsReplyTo Step.Begin b) };
+        ensures heard { MatchOption result.begun ⊥ (λ b. IsReplyTo Step.Begin b) }
+        ensures none { (result.reply ≡ None) × (result.queued ≡ nothing) × (result.left ≡ 0) };
 
     /// The second hold of a flush: it ends, as `ok` says. Refused by `NoFlight`. `ok` is what a sink answered for this flush.
     fn end(&mut self, tally: &mut Tally<G>, no: u64, ok: bool) -> Heard
         ensures number { domain_number self.new ≡ domain_number self.old }
         ensures strict { strict self.new ≡ strict self.old }
+        ensures log { GoesOn (log self.old) (log self.new) }
         ensures domain { WhereKnown (domain self.old) (domain self.new) (Ends no ok result.reply) }
         ensures good { MatchOption result.reply ⊥
             (λ r. tally.new.good ≡ tally.old.good + ended_well (Step.End no ok) r) }
-        ensures parts { tally.new.parts ≡ tally.old.parts };
+        ensures parts { tally.new.parts ≡ tally.old.parts }
+        ensures heard { MatchOption result.reply ⊥ (λ r. IsReplyTo (Step.End no ok) r) }
+        ensures none { (result.begun ≡ None) × (result.queued ≡ nothing) × (result.left ≡ 0) };
 
     /// The first hold of a client's end: its ranges are queued, lowest first, until it is gone or a step is refused; where
     /// the ring is full, a flush begins.
     fn close_first(&mut self, seat: &mut Seat<C, F, S, G>, id: ClientId) -> Heard
         ensures number { domain_number self.new ≡ domain_number self.old }
         ensures strict { strict self.new ≡ strict self.old }
+        ensures log { GoesOn (log self.old) (log self.new) }
         ensures domain { WhereKnown (domain self.old) (domain self.new)
             (ClosesFirst seat.old seat.new.held id result.reply result.begun) }
         ensures left { WhereKnown (domain self.old) (domain self.new) (Leaves id result.left) }
@@ -157,6 +173,7 @@ pub trait Keep<C: Ledger, F: Ledger, S: Ledger, G: Ledger> {
     fn close_again(&mut self, seat: &mut Seat<C, F, S, G>, id: ClientId, no: u64, ok: bool) -> Heard
         ensures number { domain_number self.new ≡ domain_number self.old }
         ensures strict { strict self.new ≡ strict self.old }
+        ensures log { GoesOn (log self.old) (log self.new) }
         ensures domain { WhereKnown (domain self.old) (domain self.new)
             (ClosesAgain seat.old seat.new.held id no ok result.reply result.begun) }
         ensures left { WhereKnown (domain self.old) (domain self.new) (Leaves id result.left) }
@@ -175,6 +192,7 @@ pub trait Keep<C: Ledger, F: Ledger, S: Ledger, G: Ledger> {
     fn release_first(&mut self, seat: &mut Seat<C, F, S, G>, id: ClientId, lo: u64) -> Heard
         ensures number { domain_number self.new ≡ domain_number self.old }
         ensures strict { strict self.new ≡ strict self.old }
+        ensures log { GoesOn (log self.old) (log self.new) }
         ensures domain { WhereKnown (domain self.old) (domain self.new)
             (ReleasesFirst (strict self.old) seat.old id lo result.reply result.begun) }
         ensures left { WhereKnown (domain self.old) (domain self.new) (Leaves id result.left) }
@@ -196,6 +214,7 @@ pub trait Keep<C: Ledger, F: Ledger, S: Ledger, G: Ledger> {
     ) -> Heard
         ensures number { domain_number self.new ≡ domain_number self.old }
         ensures strict { strict self.new ≡ strict self.old }
+        ensures log { GoesOn (log self.old) (log self.new) }
         ensures domain { WhereKnown (domain self.old) (domain self.new)
             (ReleasesAgain (strict self.old) seat.old id lo no ok result.reply result.begun) }
         ensures left { WhereKnown (domain self.old) (domain self.new) (Leaves id result.left) }
@@ -211,11 +230,11 @@ pub trait Keep<C: Ledger, F: Ledger, S: Ledger, G: Ledger> {
         ensures begun { IsSecondBegin result.reply result.begun };
 
     /// The last hold of a release, after a range that was queued: the flush ends, as `ok` says, and the worker's ring is
-    /// drained. Whether the finish count is at least the flush's number then, and the ring was drained. `ok` is what a sink
-    /// answered for this flush.
+    /// drained. Whether the finish count is at least the flush's number then. `ok` is what a sink answered for this flush.
     fn release_last(&mut self, seat: &mut Seat<C, F, S, G>, no: u64, ok: bool) -> bool
         ensures number { domain_number self.new ≡ domain_number self.old }
         ensures strict { strict self.new ≡ strict self.old }
+        ensures log { GoesOn (log self.old) (log self.new) }
         ensures domain { WhereKnown (domain self.old) (domain self.new) (ReleasesLast seat.old no ok result) }
         ensures seat { (seat.new.worker ≡ seat.old.worker) × (seat.new.held ≡ seat.old.held) }
         ensures good { (seat.old.tally.good ≤ seat.new.tally.good)
@@ -225,12 +244,15 @@ pub trait Keep<C: Ledger, F: Ledger, S: Ledger, G: Ledger> {
         ensures parts { seat.new.tally.parts ≡ seat.old.tally.parts };
 
     /// Drains every ring, 0 first, into the magazines of worker `by`, and gives how many entries that frees. Refused by
-    /// `NoWorker`; then nothing has changed. Worker 0 is there in every domain.
+    /// `NoWorker`, where the domain has no such worker; then nothing has changed. Worker 0 is there in every domain, and so is
+    /// that of each seat.
     fn drain_all(&mut self, by: u64) -> Result<u64, Refusal>
         ensures number { domain_number self.new ≡ domain_number self.old }
         ensures strict { strict self.new ≡ strict self.old }
+        ensures log { GoesOn (log self.old) (log self.new) }
         ensures domain { WhereKnown (domain self.old) (domain self.new) (DrainsAll by result) }
         ensures refusal { IfErr result (λ e. e ≡ Refusal.NoWorker) }
+        ensures known { by < C.parts → IsOk result }
         ensures first { by ≡ 0 → IsOk result };
 
     /// Does the asks in order, in one hold, and stops before the first free whose ring is full, in a strict domain before the
@@ -246,6 +268,7 @@ pub trait Keep<C: Ledger, F: Ledger, S: Ledger, G: Ledger> {
         requires { (1 ≤ length asks.now) × (length asks.now ≤ MAX_RUN) }
         ensures number { domain_number self.new ≡ domain_number self.old }
         ensures strict { strict self.new ≡ strict self.old }
+        ensures log { GoesOn (log self.old) (log self.new) }
         ensures domain { WhereKnown (domain self.old) (domain self.new)
             (DoesBatch (strict self.old) seat.old seat.new.held id asks.now told.old.items told.new.items result) }
         ensures told { IfOk result (λ n. TellsAsks asks.now told.old.items told.new.items n seat.old.held
@@ -264,7 +287,7 @@ pub trait Keep<C: Ledger, F: Ledger, S: Ledger, G: Ledger> {
     ) -> Result<(), Refusal>
         ensures domain { IfSome (domain self.now)
             (ReadsHoldings seat.now.worker id ranges.old.items ranges.new.items result) }
-        ensures ok { IfOk result (λ u. (more : List Frames) × (ranges.new.items ≡ ranges.old.items ++ more)) }
+        ensures ok { IfOk result (λ u. (more : List Frames) × (ranges.new.items ≡ ranges.old.items ++ more) × Rises 0 more) }
         ensures most { length ranges.new.items ≤ length ranges.old.items + MAX_HOLDINGS }
         ensures err { IfErr result (λ e. ((e ≡ Refusal.NoClient) ⊎ (e ≡ Refusal.NoMemory))
             × (ranges.new.items ≡ ranges.old.items)) };

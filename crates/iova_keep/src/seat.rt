@@ -1,5 +1,5 @@
 //! What one worker keeps of its domain's totals.
-ghost use Rattle.std.specs.Prelude.{◌≡◌, ◌+◌, ◌≤◌};
+ghost use Rattle.std.specs.Prelude.{◌≡◌, ◌+◌, ◌<◌, ◌≤◌};
 ghost use Rattle.iova_keep.specs.Views.{TallyState, SeatState, nothing};
 
 use iova_model::totals::Totals;
@@ -71,7 +71,8 @@ impl<G: Ledger> Tally<G> {
 }
 
 /// A worker's place at the domain: its shares of the count, the frames and the sum of first frames of all holdings, which
-/// each call moves by what it answers, and its tally. A seat of another domain has another type. Own.
+/// each call moves by what it answers, and its tally. A seat of another domain has another type, and its worker is one of the
+/// domain's. Own.
 #[derive(Drop)]
 pub struct Seat<C: Ledger, F: Ledger, S: Ledger, G: Ledger> {
     pub(crate) worker: u64,
@@ -83,7 +84,7 @@ pub struct Seat<C: Ledger, F: Ledger, S: Ledger, G: Ledger> {
 }
 
 impl<C: Ledger, F: Ledger, S: Ledger, G: Ledger> Model for Seat<C, F, S, G> {
-    ghost use Rattle.std.specs.Prelude.{◌≡◌};
+    ghost use Rattle.std.specs.Prelude.{◌≡◌, ◌<◌};
     ghost use Rattle.iova_keep.specs.Views.{SeatState};
 
     ghost Value = { SeatState };
@@ -92,7 +93,7 @@ impl<C: Ledger, F: Ledger, S: Ledger, G: Ledger> Model for Seat<C, F, S, G> {
 
     ghost invariant = { λ s. (s.counted.amount ≡ s.held.count) × (s.counted.parts ≡ 1)
         × (s.framed.amount ≡ s.held.frames) × (s.framed.parts ≡ 1)
-        × (s.summed.amount ≡ s.held.sum_lo) × (s.summed.parts ≡ 1) };
+        × (s.summed.amount ≡ s.held.sum_lo) × (s.summed.parts ≡ 1) × (s.worker < C.parts) };
 }
 
 impl<C: Ledger, F: Ledger, S: Ledger, G: Ledger> Seat<C, F, S, G> {
@@ -111,6 +112,7 @@ impl<C: Ledger, F: Ledger, S: Ledger, G: Ledger> Seat<C, F, S, G> {
         requires counted { (counted.amount ≡ 0) × (counted.parts ≡ 1) }
         requires framed { (framed.amount ≡ 0) × (framed.parts ≡ 1) }
         requires summed { (summed.amount ≡ 0) × (summed.parts ≡ 1) }
+        requires worker { worker < C.parts }
         ensures { result ≡ record { worker = worker; held = nothing; tally = tally } }
     {
         Seat {
@@ -137,9 +139,10 @@ impl<C: Ledger, F: Ledger, S: Ledger, G: Ledger> Seat<C, F, S, G> {
         &mut self.tally
     }
 
-    /// The worker.
+    /// The worker, one of the domain's.
     pub fn worker(&self) -> u64
-        ensures { result ≡ self.now.worker }
+        ensures is { result ≡ self.now.worker }
+        ensures known { result < C.parts }
     {
         self.worker
     }

@@ -27,11 +27,9 @@ abbrev pub IsTranscriptOf : Extent → ℕ → List Pair → List ℕ → List �
 IsTranscriptOf bounds workers pairs old new n =
     (new ≡ old ++ trace_text (trace_of bounds workers pairs)) × (n ≡ length pairs) × AreSteps pairs
 
--- The text of some transcript from a new domain with these workers was appended. Where its steps are no more than a
--- trace may have, it is a trace.
-pub record HasRecorded (workers : ℕ) (old new : List ℕ) (n : ℕ) : Type 0 where
-  pub bounds : Extent
-  pub pairs : List Pair
+-- The text of these pairs was appended, which are a transcript from a new domain with these bounds and workers. Where its
+-- steps are no more than a trace may have, it is a trace.
+pub record HasRecorded (bounds : Extent) (workers : ℕ) (pairs : List Pair) (old new : List ℕ) (n : ℕ) : Type 0 where
   pub header : IsHeader bounds workers
   pub transcript : IsTranscript (new_domain bounds workers) pairs
   pub text : IsTranscriptOf bounds workers pairs old new n

@@ -75,18 +75,19 @@ settled w id (reply.Given q) now left (inr k) other moved = absurd k
 settled w id o now left kind other moved = moved
 
 -- and is heard as what ends a run
-pub heard_so : (w id : ℕ) (o : Reply) → (o ≡ reply.Refused refusal.NotHeld) ⊎ IsReplyTo (step.CloseOne w id) o → ((q : Frames) → o ≢ reply.Queued q) → IsCloseHeard (Some o)
-heard_so w id o (inl e) other = rw e (inr (inl refl))
-heard_so w id (reply.Queued q) (inr k) other = absurd (other q refl)
-heard_so w id reply.Empty (inr k) other = tt
-heard_so w id (reply.Refused e) (inr (inl none)) other = inl (inr (inl none))
-heard_so w id (reply.Refused e) (inr (inr (inl none))) other = inl (inl none)
-heard_so w id (reply.Refused e) (inr (inr (inr (inl full)))) other = inr (inr full)
-heard_so w id (reply.Refused e) (inr (inr (inr (inr none)))) other = absurd none
-heard_so w id (reply.Reserved r) (inr k) other = absurd k
-heard_so w id (reply.Opened n) (inr k) other = absurd k
-heard_so w id (reply.Given r) (inr k) other = absurd k
-heard_so w id (reply.Begun n) (inr k) other = absurd k
-heard_so w id reply.Ended (inr k) other = absurd k
-heard_so w id (reply.Drained n) (inr k) other = absurd k
-heard_so w id (reply.Marked n) (inr k) other = absurd k
+pub heard_so : (w id : ℕ) (o : Reply) → (o ≡ reply.Refused refusal.NotHeld) ⊎ IsReplyTo (step.CloseOne w id) o → o ≢ reply.Refused refusal.NoWorker → ((q : Frames) → o ≢ reply.Queued q)
+    → IsCloseHeard (Some o)
+heard_so w id o (inl e) known other = rw e (inr (inl refl))
+heard_so w id (reply.Queued q) (inr k) known other = absurd (other q refl)
+heard_so w id reply.Empty (inr k) known other = tt
+heard_so w id (reply.Refused e) (inr (inl none)) known other = absurd (known (ap (λ x. reply.Refused x) none))
+heard_so w id (reply.Refused e) (inr (inr (inl none))) known other = inl none
+heard_so w id (reply.Refused e) (inr (inr (inr (inl full)))) known other = inr (inr full)
+heard_so w id (reply.Refused e) (inr (inr (inr (inr none)))) known other = absurd none
+heard_so w id (reply.Reserved r) (inr k) known other = absurd k
+heard_so w id (reply.Opened n) (inr k) known other = absurd k
+heard_so w id (reply.Given r) (inr k) known other = absurd k
+heard_so w id (reply.Begun n) (inr k) known other = absurd k
+heard_so w id reply.Ended (inr k) known other = absurd k
+heard_so w id (reply.Drained n) (inr k) known other = absurd k
+heard_so w id (reply.Marked n) (inr k) known other = absurd k

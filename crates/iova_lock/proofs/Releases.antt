@@ -1,7 +1,5 @@
 -- What the holds of a release do.
-use Rattle.std.proofs.Common.{ℕ, ◌≡◌, ◌<◌, ◌≤◌, inl, inr, Bool, true, false, [], ◌∷◌, ◌++◌, Some, None, refl, ap, subst}
-use Rattle.std.specs.Prelude.{◌≢◌, ◌+◌}
-use Rattle.iova_range.specs.declared.refusal.Refusal.{Refusal}
+use Rattle.std.proofs.Common.{ℕ, ◌≡◌, ◌<◌, ◌≤◌, inl, inr, Bool, true, false, [], ◌∷◌, ◌++◌, Some, None, refl, ap}
 use Rattle.iova_model.specs.declared.step.Step.{Step}
 use Rattle.iova_model.specs.declared.step.Step.TheVariants as step
 use Rattle.iova_model.specs.declared.step.Reply.{Reply}
@@ -9,10 +7,10 @@ use Rattle.iova_model.specs.declared.step.Reply.TheVariants as reply
 use Rattle.iova_model.specs.declared.totals.Totals.{Totals}
 use Rattle.iova_model.specs.State.{State}
 use Rattle.iova_model.specs.Laws.{IsReplyTo}
-use Rattle.iova_keep.specs.Steps.{Takes, IsDrainReply}
+use Rattle.iova_keep.specs.Steps.{Takes}
 use Rattle.iova_keep.specs.Views.{SeatState, IsReleaseBegin, IsSecondBegin}
 use Rattle.iova_keep.specs.Events.{Ran, Does, Unmapping}
-use Rattle.iova_keep.specs.Releases.{QueuedStrictly, FlushFollows, ReleaseFirst, no_flush, flush, ReleaseAgain, no_flush_again, flush_again, ReleaseLast, reached, not_reached, not_drained, ReleasesLast}
+use Rattle.iova_keep.specs.Releases.{QueuedStrictly, FlushFollows, ReleaseFirst, no_flush, flush, ReleaseAgain, no_flush_again, flush_again, ReleaseLast, reached, not_reached, ReleasesLast}
 use Rattle.iova_lock.proofs.Ends.{leads_more}
 
 -- Single holds of a book.
@@ -49,35 +47,11 @@ last_of : (w n : ℕ) (ok : Bool) (end r : Reply) (result : Bool) (s m t : State
     → ReleaseLast w n ok t.flushes.finish result (Ran (step.End n ok) end ∷ Ran (step.Drain w w) r ∷ []) → Does (ReleaseLast w n ok t.flushes.finish result) s t
 last_of w n ok end r result s m t h k a = record { events = Ran (step.End n ok) end ∷ Ran (step.Drain w w) r ∷ []; allowed = a; leads = (m, h, (t, k, refl)) }
 
-pub last_reached : (seat : SeatState) (n : ℕ) (ok : Bool) (end r : Reply) (q : ℕ) (s m t : State) → Takes s (step.End n ok) end m → Takes m (step.Drain seat.worker seat.worker) r t
-    → r ≡ reply.Drained q → n ≤ t.flushes.finish → ReleasesLast seat n ok true s t
-last_reached seat n ok end r q s m t h k is enough =
-    last_of seat.worker n ok end (reply.Drained q) true s m t h (subst (λ x. Takes m (step.Drain seat.worker seat.worker) x t) is k) (reached end q enough)
-
-pub last_not_reached : (seat : SeatState) (n : ℕ) (ok : Bool) (end r : Reply) (s m t : State) → Takes s (step.End n ok) end m → Takes m (step.Drain seat.worker seat.worker) r t
-    → t.flushes.finish < n → ReleasesLast seat n ok false s t
-last_not_reached seat n ok end r s m t h k short = last_of seat.worker n ok end r false s m t h k (not_reached end r short)
-
-pub last_not_drained : (seat : SeatState) (n : ℕ) (ok : Bool) (end r : Reply) (e : Refusal) (s m t : State) → Takes s (step.End n ok) end m → Takes m (step.Drain seat.worker seat.worker) r t
-    → r ≡ reply.Refused e → ReleasesLast seat n ok false s t
-last_not_drained seat n ok end r e s m t h k is =
-    last_of seat.worker n ok end (reply.Refused e) false s m t h (subst (λ x. Takes m (step.Drain seat.worker seat.worker) x t) is k) (not_drained end e)
-
--- the last hold's answer, by what the drain answered
-pub last_answered : (seat : SeatState) (n : ℕ) (ok : Bool) (end r : Reply) (workers : ℕ) (result : Bool) (s m t : State) → Takes s (step.End n ok) end m
-    → Takes m (step.Drain seat.worker seat.worker) r t → n ≤ t.flushes.finish → IsDrainReply workers (step.Drain seat.worker seat.worker) r
-    → (result ≡ true → (q : ℕ) × (r ≡ reply.Drained q)) → (result ≡ false → (q : ℕ) → r ≢ reply.Drained q) → ReleasesLast seat n ok result s t
-last_answered seat n ok end r workers true s m t h k enough is some none = let q = some refl in last_reached seat n ok end r q.0 s m t h k q.1 enough
-last_answered seat n ok end (reply.Drained q) workers false s m t h k enough is some none = absurd (none refl q refl)
-last_answered seat n ok end (reply.Refused e) workers false s m t h k enough is some none = last_not_drained seat n ok end (reply.Refused e) e s m t h k refl
-last_answered seat n ok end (reply.Reserved q) workers false s m t h k enough is some none = absurd is
-last_answered seat n ok end (reply.Opened q) workers false s m t h k enough is some none = absurd is
-last_answered seat n ok end (reply.Given q) workers false s m t h k enough is some none = absurd is
-last_answered seat n ok end (reply.Queued q) workers false s m t h k enough is some none = absurd is
-last_answered seat n ok end (reply.Begun q) workers false s m t h k enough is some none = absurd is
-last_answered seat n ok end reply.Ended workers false s m t h k enough is some none = absurd is
-last_answered seat n ok end (reply.Marked q) workers false s m t h k enough is some none = absurd is
-last_answered seat n ok end reply.Empty workers false s m t h k enough is some none = absurd is
+pub last_answered : (seat : SeatState) (n : ℕ) (ok : Bool) (end : Reply) (q : ℕ) (result : Bool) (s m t : State) → Takes s (step.End n ok) end m
+    → Takes m (step.Drain seat.worker seat.worker) (reply.Drained q) t → (result ≡ true → n ≤ t.flushes.finish) → (result ≡ false → t.flushes.finish < n)
+    → ReleasesLast seat n ok result s t
+last_answered seat n ok end q true s m t h k enough short = last_of seat.worker n ok end (reply.Drained q) true s m t h k (reached end q (enough refl))
+last_answered seat n ok end q false s m t h k enough short = last_of seat.worker n ok end (reply.Drained q) false s m t h k (not_reached end q (short refl))
 
 -- A flush that began in a hold of a release.
 

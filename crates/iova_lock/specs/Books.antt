@@ -8,7 +8,7 @@ use Rattle.iova_model.specs.declared.totals.Totals.{Totals}
 use Rattle.iova_model.specs.Clients.{totals}
 use Rattle.iova_model.specs.State.{State, new_domain}
 use Rattle.iova_keep.specs.Views.{SeatState, IsKept, nothing}
-use Rattle.iova_record.specs.StepLogs.{StepLog, IsRecorded, GoesOn}
+use Rattle.iova_keep.specs.StepLogs.{StepLog, IsRecorded, GoesOn}
 
 -- A book: its domain's number, whether it is strict, its domain, and its log; and the totals of its four ledgers, which are the
 -- sums of the shares that all seats and tallies keep.
@@ -37,6 +37,11 @@ pub record IsBook (b : BookState) : Type 0 where
   pub shares : b.shares ≡ totals b.state.clients
   pub ended : b.ended ≡ b.state.flushes.good
   pub recorded : IsRecorded b.log b.state
+
+-- What a thread finds under the lock of a domain with so many workers.
+pub record IsFound (count : ℕ) (b : BookState) : Type 0 where
+  pub book : IsBook b
+  pub workers : b.state.workers ≡ count
 
 -- a book keeps its number, whether it is strict, and what it has recorded
 abbrev pub IsSame : BookState → BookState → Type 0

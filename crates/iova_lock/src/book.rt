@@ -1,14 +1,14 @@
 //! The value under the lock.
-ghost use Rattle.iova_line.specs.Recorded.{HasRecorded};
 ghost use Rattle.iova_record.specs.Records.{WritesLog};
 ghost use Rattle.std.specs.Prelude.{OnErr, ◌≡◌, ◌≢◌, ◌+◌, ◌<◌, ◌≤◌, ◌*◌, ◌⊎◌, ◌↔◌, Err, IsErr, option_copied, option_map, true, false, if◌then◌else◌, Some, None, [], ◌∷◌, IfOk, IfSome, MatchResult, MatchOption, List, length};
 ghost use Rattle.iova_range.specs.declared.limits.TheConstants.{MAX_HOLDINGS};
 ghost use Rattle.iova_range.specs.Frames.{Frames};
 ghost use Rattle.iova_model.specs.Clients.{totals, client_of};
 ghost use Rattle.iova_model.specs.State.{State, new_domain};
+ghost use Rattle.iova_model.specs.Valid.{Rises};
 ghost use Rattle.iova_model.specs.Laws.{MovesTotals, IsReplyTo, ended_well, to_queue, worker_of};
 ghost use Rattle.iova_keep.specs.Steps.{Takes, IsGivenWithin, IsDrainReply};
-ghost use Rattle.iova_record.specs.StepLogs.{StepLog, IsRecorded, is_recording, new_log};
+ghost use Rattle.iova_keep.specs.StepLogs.{StepLog, IsRecorded, is_recording, new_log};
 ghost use Rattle.iova_keep.specs.Events.{Does, Unmapping, IsShort, Closing, Draining, rings_from};
 ghost use Rattle.iova_lock.specs.Books.{BookState, IsSame, by_seat, by_tally, new_book, IsBook};
 ghost use Rattle.iova_keep.specs.Views.{TallyState, SeatState, Covers, new_seats, left_of, stat_of, nothing, IsLowered, IsCloseHeard, IsKept};
@@ -54,7 +54,8 @@ impl<C: Ledger, F: Ledger, S: Ledger, G: Ledger> Model for Book<C, F, S, G> {
     } };
 
     ghost invariant = { λ b. (b.ledgers.shares ≡ totals b.machine.state.clients)
-        × (b.ledgers.ended ≡ b.machine.state.flushes.good) × (b.machine.state.workers ≡ C.parts) };
+        × (b.ledgers.ended ≡ b.machine.state.flushes.good) × (b.machine.state.workers ≡ C.parts)
+        × (F.parts ≡ C.parts) × (S.parts ≡ C.parts) };
 }
 
 impl<C: Ledger, F: Ledger, S: Ledger, G: Ledger> Book<C, F, S, G> {
@@ -170,10 +171,9 @@ impl<C: Ledger, F: Ledger, S: Ledger, G: Ledger> Book<C, F, S, G> {
 
     /// Appends what was recorded, as a trace: the header's line and a line for each step; of a domain that isn't recorded the
     /// header alone. Gives the number of steps. What is recorded is a transcript from the new domain, so the promises hold of
-    /// it; and of at most 1,000,000 steps it is a trace. Refused by `NoMemory`, which appends nothing.
+    /// it; and of at most 1,000,000 steps it is a trace, whose replay prints those replies. Refused by `NoMemory`, which appends nothing.
     pub fn transcript(&self, out: &mut Vec<u8>) -> Result<u64, Refusal>
-        ensures recorded { IfOk result (HasRecorded self.now.state.workers out.old.items out.new.items) }
-        ensures ok { WritesLog self.now.state self.now.log out.old.items out.new.items result }
+        ensures recorded { WritesLog self.now.state self.now.log out.old.items out.new.items result }
         ensures err { OnErr result ((result ≡ Err Refusal.NoMemory) × (out.new.items ≡ out.old.items)) }
     {
         self.machine.transcript(out)
@@ -201,6 +201,7 @@ impl<C: Ledger, F: Ledger, S: Ledger, G: Ledger> Book<C, F, S, G> {
     /// How many workers the domain has.
     pub(crate) fn workers(&self) -> u64
         ensures is { result ≡ self.now.state.workers }
+        ensures parts { (C.parts ≡ result) × (F.parts ≡ result) × (S.parts ≡ result) }
         ensures some { 1 ≤ result }
         ensures few { result ≤ MAX_WORKERS }
     {
@@ -234,7 +235,7 @@ impl<C: Ledger, F: Ledger, S: Ledger, G: Ledger> Book<C, F, S, G> {
     pub(crate) fn holdings_of(&self, worker: u64, id: u64) -> Option<&[Range]>
         ensures is { option_copied result ≡ option_map (λ c. c.holdings)
             (client_of worker id self.now.state.clients) }
-        ensures few { IfSome (option_copied result) (λ held. length held ≤ MAX_HOLDINGS) }
+        ensures kept { IfSome (option_copied result) (λ held. (length held ≤ MAX_HOLDINGS) × Rises 0 held) }
     {
         // for the proof: what the domain keeps
         self.machine.is_kept();
@@ -284,6 +285,7 @@ impl<C: Ledger, F: Ledger, S: Ledger, G: Ledger> Book<C, F, S, G> {
         ensures does { Does (Unmapping step seat.old.held result) self.old.state self.new.state }
         ensures same { IsSame self.old self.new }
         ensures kind { (result ≡ Reply.Refused Refusal.NotHeld) ⊎ IsReplyTo step result }
+        ensures known { result ≢ Reply.Refused Refusal.NoWorker }
         ensures seat { MovesTotals result seat.old.held seat.new.held }
         ensures rest { (seat.new.worker ≡ seat.old.worker) × (seat.new.tally ≡ seat.old.tally) }
     {
@@ -340,8 +342,8 @@ impl<C: Ledger, F: Ledger, S: Ledger, G: Ledger> Book<C, F, S, G> {
     /// Drains `left` rings from `ring` on, and answers how many entries that frees.
     pub(crate) fn drain_rings(&mut self, ring: u64, left: u64, by: u64) -> u64
         requires few { ring + left ≤ MAX_WORKERS }
-        requires rings { ring + left ≡ self.old.state.workers }
-        requires worker { by < self.old.state.workers }
+        requires rings { ring + left ≡ C.parts }
+        requires worker { by < C.parts }
         ensures drains { Does (Draining by (rings_from ring left) result) self.old.state self.new.state }
         ensures bound { result ≤ MAX_ENTRIES * left }
         ensures same { IsSame self.old self.new }
@@ -354,15 +356,14 @@ impl<C: Ledger, F: Ledger, S: Ledger, G: Ledger> Book<C, F, S, G> {
     }
 
     /// Drains a ring, and answers how many entries that frees.
-    fn drain_one(&mut self, ring: u64, by: u64) -> u64
-        requires ring { ring < self.old.state.workers }
-        requires worker { by < self.old.state.workers }
+    pub(crate) fn drain_one(&mut self, ring: u64, by: u64) -> u64
+        requires ring { ring < C.parts }
+        requires worker { by < C.parts }
         ensures takes { Takes self.old.state (Step.Drain ring by) (Reply.Drained result) self.new.state }
         ensures bound { result ≤ MAX_ENTRIES }
-        ensures workers { self.new.state.workers ≡ self.old.state.workers }
         ensures same { IsSame self.old self.new }
     {
-        match self.run_drain(ring, by) {
+        match self.machine.step(Step::Drain { ring, by }) {
             Reply::Drained(n) => n,
             _ => unreachable!(),
         }
@@ -372,7 +373,6 @@ impl<C: Ledger, F: Ledger, S: Ledger, G: Ledger> Book<C, F, S, G> {
     pub(crate) fn run_drain(&mut self, ring: u64, by: u64) -> Reply
         ensures takes { Takes self.old.state (Step.Drain ring by) result self.new.state }
         ensures drained { IsDrainReply self.old.state.workers (Step.Drain ring by) result }
-        ensures workers { self.new.state.workers ≡ self.old.state.workers }
         ensures same { IsSame self.old self.new }
     {
         self.machine.step(Step::Drain { ring, by })
@@ -382,14 +382,18 @@ impl<C: Ledger, F: Ledger, S: Ledger, G: Ledger> Book<C, F, S, G> {
     #[inline]
     pub(crate) fn run(&mut self, seat: &mut Seat<C, F, S, G>, step: Step) -> Reply
         requires by_seat { by_seat step ≡ true }
+        requires worker { worker_of step ≡ Some seat.old.worker }
         requires enough { (r : Frames) → to_queue self.old.state step ≡ Some r → Covers seat.old.held r }
         ensures takes { Takes self.old.state step result self.new.state }
         ensures same { IsSame self.old self.new }
         ensures kind { IsReplyTo step result }
+        ensures known { result ≢ Reply.Refused Refusal.NoWorker }
         ensures given { IsGivenWithin step result }
         ensures seat { MovesTotals result seat.old.held seat.new.held }
         ensures rest { (seat.new.worker ≡ seat.old.worker) × (seat.new.tally ≡ seat.old.tally) }
     {
+        // for the proof: it is one of the domain's
+        let _worker = seat.worker();
         let reply = self.machine.step(step);
         match reply {
             Reply::Given(range) => self.ledgers.give(seat, range, self.machine.totals()),

@@ -72,20 +72,14 @@ fn flush_follows(strict: bool, reply: &Reply) -> bool
     is_full(reply) || queued_strictly(strict, reply)
 }
 
-/// Whether a ring was drained.
-fn is_drained(reply: &Reply) -> bool
-    ensures yes { result ≡ true → (n : ℕ) × (reply.now ≡ Reply.Drained n) }
-    ensures none { result ≡ false → (n : ℕ) → reply.now ≢ Reply.Drained n }
-{
-    matches!(reply, Reply::Drained(_))
-}
-
 impl<C: Ledger, F: Ledger, S: Ledger, G: Ledger> Keep<C, F, S, G> for Book<C, F, S, G> {
     ghost domain = { λ b. Some b.state };
 
     ghost domain_number = { λ b. b.number };
 
     ghost strict = { λ b. b.strict };
+
+    ghost log = { λ b. b.log };
 
     fn number(&self) -> u64 {
         self.number_of()
@@ -293,11 +287,8 @@ impl<C: Ledger, F: Ledger, S: Ledger, G: Ledger> Keep<C, F, S, G> for Book<C, F,
     fn release_last(&mut self, seat: &mut Seat<C, F, S, G>, no: u64, ok: bool) -> bool {
         let worker = seat.worker();
         let _ended = self.run_flush_at(seat, Step::End { no, ok });
-        let reply = self.run_drain(worker, worker);
-        if self.finish() < no {
-            return false;
-        }
-        is_drained(&reply)
+        let _freed = self.drain_one(worker, worker);
+        self.finish() >= no
     }
 
     fn drain_all(&mut self, by: u64) -> Result<u64, Refusal> {

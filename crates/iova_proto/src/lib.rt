@@ -9,5 +9,3 @@ pub mod held;
 pub mod lines;
 pub mod request;
 pub mod stream;
-#[cfg(test)]
-mod tests;

@@ -1,6 +1,6 @@
 -- What becomes of a record: nothing where no step is run, and what comes of some steps and then of others.
-use Rattle.std.proofs.Common.{◌≡◌, ◌+◌, ◌≤◌, Bool, true, false, [], ◌++◌, length, Option, Some, None, refl, sym, ap, ◌∙◌, subst, append_assoc, append-nil}
-use Rattle.iova_record.specs.StepLogs.{StepLog, LogGoesOn, GoesOn, unrecorded, recorded}
+use Rattle.std.proofs.Common.{◌≡◌, ◌≤◌, Bool, true, false, [], ◌++◌, length, Option, Some, None, refl, sym, ap, ◌∙◌, subst, append_assoc, append-nil}
+use Rattle.iova_keep.specs.StepLogs.{StepLog, LogGoesOn, GoesOn, unrecorded, recorded}
 
 -- What steps make of a log is what any one of them makes of it, none, or some and then others.
 

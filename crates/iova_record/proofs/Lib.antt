@@ -4,3 +4,4 @@ mod Keeping
 mod Drains
 mod Covering
 mod Recording
+mod KnownWorkers

@@ -1,5 +1,5 @@
 -- A step more on a log.
-use Rattle.std.proofs.Common.{◌≡◌, ◌+◌, ◌≤◌, ◌⊎◌, inl, inr, true, false, [], ◌∷◌, ◌++◌, length, Option, Some, None, refl, sym, ap, ◌∙◌, subst, arith, append-nil}
+use Rattle.std.proofs.Common.{◌≡◌, ◌≤◌, ◌⊎◌, inl, inr, true, false, [], ◌∷◌, ◌++◌, length, Option, Some, None, refl, sym, ap, ◌∙◌, subst, arith, append-nil}
 use Rattle.std.proofs.lemmas.List.{length_push}
 use Rattle.iova_model.specs.declared.step.Step.{Step}
 use Rattle.iova_model.specs.declared.step.Reply.{Reply}
@@ -10,7 +10,7 @@ use Rattle.iova_model.specs.Transcript.{Pair, IsTranscript, after}
 use Rattle.iova_model.specs.Laws.{StepsKeepTheDomain}
 use Rattle.iova_model.proofs.Runs.{transcript_push, after_push}
 use Rattle.iova_keep.specs.Steps.{Takes}
-use Rattle.iova_record.specs.StepLogs.{StepLog, StoresPair, Stores, LogGoesOn, GoesOn, unrecorded, recorded, IsLogOf, IsRecorded}
+use Rattle.iova_keep.specs.StepLogs.{StepLog, StoresPair, Stores, LogGoesOn, GoesOn, unrecorded, recorded, IsLogOf, IsRecorded}
 
 pub takes : (s : State) (st : Step) (m : Point) (r : Reply) (t : State) → r ≡ (next s st m).reply → t ≡ (next s st m).state → Takes s st r t
 unfolding Takes

@@ -1,2 +1,1 @@
-pub mod StepLogs
 pub mod Records

@@ -1,12 +1,13 @@
 //! The one door to a domain that a keeper has: every step goes through `Machine::step`, which records it.
-ghost use Rattle.std.specs.Prelude.{◌≡◌, ◌+◌, ◌<◌, ◌⊎◌, ◌++◌, ◌∷◌, IfOk, IfErr, IsErr, Err, ◌≤◌, ◌↔◌, Some, None, [], true, false, option_copied, option_map};
+ghost use Rattle.std.specs.Prelude.{ℕ, ◌≡◌, ◌≢◌, ◌+◌, ◌<◌, ◌⊎◌, ◌++◌, ◌∷◌, IfOk, IfErr, IsErr, Err, ◌≤◌, ◌↔◌, Some, None, [], true, false, option_copied, option_map};
 ghost use Rattle.iova_range.specs.Frames.{Frames};
 ghost use Rattle.iova_model.specs.Clients.{totals, client_of};
 ghost use Rattle.iova_model.specs.State.{State, new_domain};
 ghost use Rattle.iova_model.specs.Laws.{MovesTotals, IsReplyTo, ended_well, to_queue, worker_of};
 ghost use Rattle.iova_model.specs.Transcript.{Pair};
 ghost use Rattle.iova_keep.specs.Steps.{Takes, IsGivenWithin, IsDrainReply};
-ghost use Rattle.iova_record.specs.StepLogs.{StepLog, MachineState, IsRecorded, is_recording, new_log, StoresPair, StoresStep, GoesOn};
+ghost use Rattle.iova_record.specs.Records.{MachineState};
+ghost use Rattle.iova_keep.specs.StepLogs.{StepLog, IsRecorded, is_recording, new_log, StoresPair, StoresStep, GoesOn};
 ghost use Rattle.iova_model.specs.declared.step.Step.{Step};
 ghost use Rattle.iova_keep.specs.Views.{Covers, left_of, stat_of, IsKept};
 
@@ -55,7 +56,7 @@ pub struct Log {
 
 impl Model for Log {
     ghost use Rattle.std.specs.Prelude.{vec_capacity};
-    ghost use Rattle.iova_record.specs.StepLogs.{StepLog};
+    ghost use Rattle.iova_keep.specs.StepLogs.{StepLog};
 
     ghost Value = { StepLog };
 
@@ -86,7 +87,8 @@ pub struct Machine {
 }
 
 impl Model for Machine {
-    ghost use Rattle.iova_record.specs.StepLogs.{MachineState, IsRecorded};
+    ghost use Rattle.iova_record.specs.Records.{MachineState};
+    ghost use Rattle.iova_keep.specs.StepLogs.{IsRecorded};
 
     ghost Value = { MachineState };
 
@@ -140,6 +142,8 @@ impl Machine {
         ensures good { self.new.state.flushes.good ≡ self.old.state.flushes.good + ended_well step result }
         ensures kind { IsReplyTo step result }
         ensures given { IsGivenWithin step result }
+        ensures known { (w : ℕ) → worker_of step ≡ Some w → w < self.old.state.workers
+            → result ≢ Reply.Refused Refusal.NoWorker }
         ensures drained { IsDrainReply self.old.state.workers step result }
         ensures workers { self.new.state.workers ≡ self.old.state.workers }
         ensures held { (r : Frames) → result ≡ Reply.Queued r → to_queue self.old.state step ≡ Some r }

@@ -1,7 +1,7 @@
 //! What a recorded domain has recorded, written as a trace.
 ghost use Rattle.std.specs.Prelude.{◌≡◌, ℕ, List, ◌++◌, Err, IfOk, OnOk, OnErr};
-ghost use Rattle.iova_line.specs.Recorded.{HasRecorded, steps_text, AreSteps};
-ghost use Rattle.iova_record.specs.Records.{WritesLog};
+ghost use Rattle.iova_line.specs.Recorded.{steps_text, AreSteps};
+ghost use Rattle.iova_record.specs.Records.{WritesLog, WritesText};
 
 use crate::machine::{Machine, Stored};
 use iova_line::line::{write_header, write_step};
@@ -10,10 +10,9 @@ use iova_range::refusal::Refusal;
 impl Machine {
     /// Appends what was recorded, as a trace: the header's line and a line for each step; of a domain that isn't recorded the
     /// header alone. Gives the number of steps. What is recorded is a transcript from the new domain, so the promises hold of
-    /// it; and of at most 1,000,000 steps it is a trace. Refused by `NoMemory`, which appends nothing.
+    /// it; and of at most 1,000,000 steps it is a trace, whose replay prints those replies. Refused by `NoMemory`, which appends nothing.
     pub fn transcript(&self, out: &mut Vec<u8>) -> Result<u64, Refusal>
-        ensures recorded { IfOk result (HasRecorded self.now.state.workers out.old.items out.new.items) }
-        ensures ok { WritesLog self.now.state self.now.log out.old.items out.new.items result }
+        ensures recorded { WritesLog self.now.state self.now.log out.old.items out.new.items result }
         ensures err { OnErr result ((result ≡ Err Refusal.NoMemory) × (out.new.items ≡ out.old.items)) }
     {
         // for the proof: what every domain keeps, and that the log is a transcript
@@ -31,7 +30,7 @@ impl Machine {
 
     /// The same, but that a part of it may stand in `out` where memory is refused.
     fn write_record(&self, out: &mut Vec<u8>) -> Result<u64, Refusal>
-        ensures ok { WritesLog self.now.state self.now.log out.old.items out.new.items result }
+        ensures ok { WritesText self.now.state self.now.log out.old.items out.new.items result }
         ensures err { OnErr result ((result ≡ Err Refusal.NoMemory)
             × ((part : List ℕ) × (out.new.items ≡ out.old.items ++ part))) }
     {

@@ -1,5 +1,5 @@
 -- A client whose end is told as `Ended` is gone.
-use Rattle.std.proofs.Common.{ℕ, ◌≡◌, ◌+◌, ◌≤◌, inl, inr, Bool, true, false, List, [], ◌∷◌, ◌++◌, Option, Some, None, refl, sym, ap, ◌∙◌, subst, arith}
+use Rattle.std.proofs.Common.{ℕ, ◌≡◌, ◌+◌, ◌≤◌, Bool, true, false, List, [], ◌∷◌, ◌++◌, Option, Some, None, refl, sym, ap, ◌∙◌, subst, arith}
 use Rattle.std.specs.Prelude.{Result, Ok, length, option_and_then, nat_le}
 use Rattle.iova_range.specs.declared.limits.TheConstants.{MAX_ENTRIES}
 use Rattle.std.proofs.lemmas.Bool.{cond_both}
@@ -49,14 +49,10 @@ found_there : (w id : ℕ) (s : State) (there : IsThere w id s) → client_of w 
 found_there w id s there = ap (λ o. option_and_then (if_owned w) o) there.is ∙ found_mine w there.client there.mine
 
 full_is_known : (e : Refusal) → IsUnknown e → ◌≡◌ {A = Reply} (reply.Refused refusal.RingFull) (reply.Refused e) → ⊥
-full_is_known e (inl u) same = let h = same ∙ ap reply.Refused u in cc
-full_is_known e (inr (inl u)) same = let h = same ∙ ap reply.Refused u in cc
-full_is_known e (inr (inr u)) same = absurd u
+full_is_known e u same = let h = same ∙ ap reply.Refused u in cc
 
 short_is_known : (e : Refusal) → IsUnknown e → ◌≡◌ {A = Reply} (reply.Refused refusal.NotHeld) (reply.Refused e) → ⊥
-short_is_known e (inl u) same = let h = same ∙ ap reply.Refused u in cc
-short_is_known e (inr (inl u)) same = let h = same ∙ ap reply.Refused u in cc
-short_is_known e (inr (inr u)) same = absurd u
+short_is_known e u same = let h = same ∙ ap reply.Refused u in cc
 
 -- What the reply to a closing says of the client: gone where it is `Empty`, there where a range was queued or the ring is
 -- full; and it is known where it was there.

@@ -26,7 +26,7 @@ answers_more number client listed (q ∷ ps) p h a = (h.0, answers_more number (
 
 -- what a list may have keeps the limit
 pub list_fits : (number : ℕ) (client : Option ℕ) (listed : ℕ) (r : Request) (a : Answer) → listed ≤ MAX_LISTED → IsAnswer number client listed r a → listed + count_listed a ≤ MAX_LISTED
-list_fits number (Some id) listed request.List (answer.Held ranges) fits h = h
+list_fits number (Some id) listed request.List (answer.Held ranges) fits h = h.0
 list_fits number (Some id) listed (request.Hello domain sac) (answer.Held ranges) fits h = absurd cc
 list_fits number (Some id) listed (request.Alloc frames limit) (answer.Held ranges) fits h = absurd h
 list_fits number (Some id) listed (request.Free lo) (answer.Held ranges) fits h = absurd h

@@ -11,3 +11,6 @@ mod Gone
 mod Retrying
 mod Others
 mod Alone
+mod Leads
+mod Kept
+mod Each

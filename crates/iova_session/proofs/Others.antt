@@ -1,6 +1,6 @@
 -- Whose holdings the calls of the lock leave as they are.
-use Rattle.std.proofs.Common.{ℕ, ◌≡◌, ◌+◌, ◌⊎◌, inl, inr, List, [], ◌∷◌, ◌++◌, Option, Some, None, refl, sym, ap, ◌∙◌, subst, arith}
-use Rattle.std.specs.Prelude.{Result, Ok, Err, Bool, true, false, MatchResult, IfSome}
+use Rattle.std.proofs.Common.{ℕ, ◌≡◌, ◌+◌, List, [], ◌∷◌, ◌++◌, Option, Some, None, refl, sym, ap, ◌∙◌, subst, arith}
+use Rattle.std.specs.Prelude.{Result, Ok, Err, Bool, true, false, IfSome}
 use Rattle.iova_range.specs.declared.refusal.Refusal.{Refusal}
 use Rattle.iova_range.specs.Frames.{Frames}
 use Rattle.iova_model.specs.declared.step.Step.{Step}
@@ -10,31 +10,23 @@ use Rattle.iova_model.specs.declared.totals.Totals.{Totals}
 use Rattle.iova_model.specs.State.{State}
 use Rattle.iova_model.specs.Laws.{held_by, client_named, OthersKeepTheirHoldings, StepsKeepValidity}
 use Rattle.iova_sink.specs.Calls.{Call}
-use Rattle.iova_keep.specs.declared.ask.Ask.{Ask}
-use Rattle.iova_keep.specs.declared.ask.Ask.TheVariants as ask
-use Rattle.iova_keep.specs.declared.ask.Told.{Told}
 use Rattle.iova_keep.specs.declared.ending.Ending.{Ending}
 use Rattle.iova_keep.specs.declared.ending.Ending.TheVariants as ending
 use Rattle.iova_keep.specs.declared.ending.Why.{Why}
 use Rattle.iova_keep.specs.Steps.{Takes}
-use Rattle.iova_keep.specs.Views.{WhereKnown, SeatState, IsKept, opened_or, left_of}
+use Rattle.iova_keep.specs.Views.{WhereKnown, SeatState, IsKept, left_of}
 use Rattle.iova_keep.specs.Events.{Event, Ran, NotRun, Invalidated, Leads, Unmapping, run, not_run, Flush, refused, done, failed, Closing, stops, queues, CloseFirst, closed, closed_full, CloseAgain, closed_again, full_at_once, full_again, CloseRest, last, another, Answered, ended, unknown, gone, share, sink_failed, overlap, flights_full, worn, EndClient, in_one_hold, in_more, Draining, none_left, drains, DrainAll, drained, no_worker}
 use Rattle.iova_keep.specs.declared.unmapped.Unmapped.{Unmapped}
-use Rattle.iova_keep.specs.Releases.{DoesRelease, ReleaseFirst, no_flush, flush, ReleaseAgain, no_flush_again, flush_again, ReleaseLast, reached, not_reached, not_drained, AfterQueued, stays, freed, not_freed, ReleaseRest, refused_again, queued_again, Release, refused_first, queued_first, ring_was_full}
-use Rattle.iova_keep.specs.Answers.{DoesFlush, DoesEndClient, DrainsAll, Opens}
-use Rattle.iova_keep.specs.Batches.{DoesAsk, DoesAsks, StopsAt, Batched}
+use Rattle.iova_keep.specs.Releases.{ReleaseFirst, no_flush, flush, ReleaseAgain, no_flush_again, flush_again, ReleaseLast, reached, not_reached, AfterQueued, stays, freed, not_freed, ReleaseRest, refused_again, queued_again, Release, refused_first, queued_first, ring_was_full}
+use Rattle.iova_keep.specs.Answers.{DoesEndClient}
 use Rattle.iova_proto.specs.declared.answer.Answer.{Answer}
 use Rattle.iova_proto.specs.declared.answer.Answer.TheVariants as answer
 use Rattle.iova_proto.specs.declared.request.Request.{Request}
 use Rattle.iova_proto.specs.declared.request.Request.TheVariants as request
 use Rattle.iova_session.specs.Desks.{IsClientAnswer, next_client, client_after}
 use Rattle.iova_session.specs.Domains.{KeepsOthers, IsLeft, LeavesOthers}
+use Rattle.iova_session.specs.Leading.{TellsAtMost}
 use Rattle.iova_session.proofs.Gone.{ended_is_gone}
-
--- what is told of a client's end is what it came to, or nothing
-abbrev pub TellsAtMost : Option Ending → Result Ending Refusal → Type 0
-TellsAtMost None result = Unit {0}
-TellsAtMost (Some told) result = result ≡ Ok told
 
 abbrev left_in_or : ℕ → Result Ending Refusal → ℕ
 left_in_or d (Ok (ending.Waiting n why)) = n
@@ -71,23 +63,12 @@ known_one None b P R p f = tt
 known_one (Some s) None P R p f = absurd p
 known_one (Some s) (Some t) P R p f = f s t p
 
-pub same_known : (client : Option ℕ) (a b : Option State) → b ≡ a → WhereKnown a b (KeepsOthers client)
-same_known client None b e = tt
-same_known client (Some s) b e = subst (λ (o : Option State). WhereKnown (Some s) o (KeepsOthers client)) (sym e) (λ id other. refl)
-
-pub both_keep : (client : Option ℕ) (a b c : Option State) → WhereKnown a b (KeepsOthers client) → WhereKnown b c (KeepsOthers client) → WhereKnown a c (KeepsOthers client)
-both_keep client a b c p q = known_both a b c (KeepsOthers client) (KeepsOthers client) (KeepsOthers client) p q (λ s m t x y id other. y id other ∙ x id other)
-
--- where no client's holdings changed, none but this one's did
-pub any_keep : (client : Option ℕ) (a b : Option State) → WhereKnown a b (KeepsOthers None) → WhereKnown a b (KeepsOthers client)
-any_keep client a b p = known_one a b (KeepsOthers None) (KeepsOthers client) p (λ s t x id other. x id (λ e. absurd cc))
-
 -- the number in it
 abbrev number_in : ℕ → Option ℕ → ℕ
 number_in d None = d
 number_in d (Some n) = n
 
-some_same : {id other : ℕ} → Some id ≡ Some other → other ≡ id
+pub some_same : {id other : ℕ} → Some id ≡ Some other → other ≡ id
 some_same {id = id} e = sym (ap (number_in id) e)
 
 -- the steps name no client but this one
@@ -100,11 +81,11 @@ AllName id (Ran st r ∷ es) = NamesOnly id st × AllName id es
 AllName id (NotRun st held ∷ es) = AllName id es
 AllName id (Invalidated n ok ∷ es) = AllName id es
 
-takes_keep : OthersKeepTheirHoldings → (s : State) (st : Step) (r : Reply) (t : State) → Takes s st r t → (id : ℕ) → (client_named st ≡ Some id → ⊥) → held_by id t.clients ≡ held_by id s.clients
+pub takes_keep : OthersKeepTheirHoldings → (s : State) (st : Step) (r : Reply) (t : State) → Takes s st r t → (id : ℕ) → (client_named st ≡ Some id → ⊥) → held_by id t.clients ≡ held_by id s.clients
 unfolding Takes
 takes_keep law s st r t h id other = ap (λ (x : State). held_by id x.clients) h.2 ∙ law s st h.0 id other
 
-leads_keep : OthersKeepTheirHoldings → (id : ℕ) (es : List Event) (s t : State) → AllName id es → Leads s es t → KeepsOthers (Some id) s t
+pub leads_keep : OthersKeepTheirHoldings → (id : ℕ) (es : List Event) (s t : State) → AllName id es → Leads s es t → KeepsOthers (Some id) s t
 leads_keep law id [] s t n l = λ other ne. ap (λ (x : State). held_by other x.clients) l
 leads_keep law id (Ran st r ∷ es) s t n l = λ other ne.
     leads_keep law id es l.0 t n.1 l.2 other ne ∙ takes_keep law s st r l.0 l.1 other (λ e. ne (ap Some (sym (n.0 other e))))
@@ -130,7 +111,7 @@ unmapping_names : (id : ℕ) {st : Step} {held : Totals} {r : Reply} {es : List 
 unmapping_names id n (run r) = (n, tt)
 unmapping_names id n not_run = tt
 
-flush_names : (id : ℕ) {result : Result ℕ Refusal} {es : List Event} → Flush result es → AllName id es
+pub flush_names : (id : ℕ) {result : Result ℕ Refusal} {es : List Event} → Flush result es → AllName id es
 flush_names id (refused e) = (begin_names id, tt)
 flush_names id (done n end) = (begin_names id, (end_names id n true, tt))
 flush_names id (failed n end) = (begin_names id, (end_names id n false, tt))
@@ -139,7 +120,7 @@ draining_names : (id by : ℕ) {rings : List ℕ} {n : ℕ} {es : List Event} �
 draining_names id by none_left = tt
 draining_names id by (drains q rings n more es d) = (drain_names id q by, draining_names id by d)
 
-drain_all_names : (id workers by : ℕ) {result : Result ℕ Refusal} {es : List Event} → DrainAll workers by result es → AllName id es
+pub drain_all_names : (id workers by : ℕ) {result : Result ℕ Refusal} {es : List Event} → DrainAll workers by result es → AllName id es
 drain_all_names id workers by (drained n es lt d) = draining_names id by d
 drain_all_names id workers by (no_worker le) = (drain_names id 0 by, tt)
 
@@ -174,8 +155,7 @@ release_again_names id {k = k} {ok = ok} n (flush_again end r b es goes u) = (en
 
 release_last_names : (id : ℕ) {w k finish : ℕ} {ok is_freed : Bool} {es : List Event} → ReleaseLast w k ok finish is_freed es → AllName id es
 release_last_names id {w = w} {k = k} {ok = ok} (reached end m le) = (end_names id k ok, (drain_names id w w, tt))
-release_last_names id {w = w} {k = k} {ok = ok} (not_reached end r lt) = (end_names id k ok, (drain_names id w w, tt))
-release_last_names id {w = w} {k = k} {ok = ok} (not_drained end e) = (end_names id k ok, (drain_names id w w, tt))
+release_last_names id {w = w} {k = k} {ok = ok} (not_reached end m lt) = (end_names id k ok, (drain_names id w w, tt))
 
 after_queued_names : (id : ℕ) {w finish : ℕ} {q : Frames} {o : Option ℕ} {u : Unmapped} {es : List Event} → AfterQueued w finish q o u es → AllName id es
 after_queued_names id stays = tt
@@ -187,36 +167,16 @@ release_rest_names : (id : ℕ) {strict : Bool} {st : Step} {held : Totals} {w f
 release_rest_names id n (refused_again ok e b es a) = release_again_names id n a
 release_rest_names id n (queued_again ok q b u es fs a f) = names_join id es fs (release_again_names id n a) (after_queued_names id f)
 
-release_names : (id : ℕ) {strict : Bool} {st : Step} {held : Totals} {w finish : ℕ} {result : Result Unmapped Refusal} {es : List Event} → NamesOnly id st
+pub release_names : (id : ℕ) {strict : Bool} {st : Step} {held : Totals} {w finish : ℕ} {result : Result Unmapped Refusal} {es : List Event} → NamesOnly id st
     → Release strict st held w finish result es → AllName id es
 release_names id n (refused_first e b es f none) = release_first_names id n f
 release_names id n (queued_first q b u es fs f a) = names_join id es fs (release_first_names id n f) (after_queued_names id a)
 release_names id n (ring_was_full k b result es fs f is r) = names_join id es fs (release_first_names id n f) (release_rest_names id n r)
 
--- Each call.
-
-pub release_keeps : OthersKeepTheirHoldings → (strict : Bool) (seat : SeatState) (id lo : ℕ) (result : Result Unmapped Refusal) (number : ℕ) (before now : List Call) (a b : Option State)
-    → WhereKnown a b (DoesRelease strict seat id lo result number before now) → WhereKnown a b (KeepsOthers (Some id))
-release_keeps law strict seat id lo result number before now a b h =
-    known_one a b (DoesRelease strict seat id lo result number before now) (KeepsOthers (Some id)) h
-    (λ s t x. leads_keep law id x.events s t (release_names id (λ other e. some_same e) x.allowed.0) x.leads)
-
-pub open_keeps : OthersKeepTheirHoldings → (w : ℕ) (sac : Bool) (result : Result ℕ Refusal) (a b : Option State) → WhereKnown a b (Opens w sac result) → WhereKnown a b (KeepsOthers None)
-open_keeps law w sac result a b h = known_one a b (Opens w sac result) (KeepsOthers None) h (λ s t x id other. takes_keep law s (step.Open w sac) (opened_or result) t x id (λ e. absurd cc))
-
 -- steps that name no client leave the holdings of all
-leads_keep_all : OthersKeepTheirHoldings → (es : List Event) (s t : State) → ((id : ℕ) → AllName id es) → Leads s es t → KeepsOthers None s t
+pub leads_keep_all : OthersKeepTheirHoldings → (es : List Event) (s t : State) → ((id : ℕ) → AllName id es) → Leads s es t → KeepsOthers None s t
 leads_keep_all law es s t n l = λ other ne.
     leads_keep law (other + 1) es s t (n (other + 1)) l other (λ e. absurd (let same : other ≡ other + 1 = some_same e in omega (arith, same)))
-
-pub flush_keeps : OthersKeepTheirHoldings → (result : Result ℕ Refusal) (number : ℕ) (before now : List Call) (a b : Option State)
-    → WhereKnown a b (DoesFlush result number before now) → WhereKnown a b (KeepsOthers None)
-flush_keeps law result number before now a b h =
-    known_one a b (DoesFlush result number before now) (KeepsOthers None) h (λ s t x. leads_keep_all law x.events s t (λ id. flush_names id x.allowed.0) x.leads)
-
-pub drain_keeps : OthersKeepTheirHoldings → (by : ℕ) (result : Result ℕ Refusal) (a b : Option State) → WhereKnown a b (DrainsAll by result) → WhereKnown a b (KeepsOthers None)
-drain_keeps law by result a b h =
-    known_one a b (DrainsAll by result) (KeepsOthers None) h (λ s t x. leads_keep_all law x.events s t (λ id. drain_all_names id s.workers by x.allowed) x.leads)
 
 -- what is left of a client whose end was tried
 left_told : StepsKeepValidity → (id : ℕ) (seat : SeatState) (left : Totals) (told : Option Ending) (result : Result Ending Refusal) (number : ℕ) (before now : List Call) (s t : State) → IsKept s → TellsAtMost told result
@@ -237,38 +197,6 @@ pub end_keeps : OthersKeepTheirHoldings → StepsKeepValidity → (seat : SeatSt
 end_keeps law valid seat left id told result number before now a b kept m h =
     known_first a b IsKept (DoesEndClient seat left id result number before now) (LeavesOthers (Some id) told) kept h
     (λ s t k x. (leads_keep law id x.events s t (end_client_names id (λ other e. some_same e) x.allowed.0) x.leads, left_told valid id seat left told result number before now s t k m x))
-
-ask_keeps : OthersKeepTheirHoldings → (w id : ℕ) (a : Ask) (x : Told) (held : Totals) (s t : State) → DoesAsk w id a x held s t → KeepsOthers (Some id) s t
-ask_keeps law w id (ask.Alloc frames limit) x held s t h = λ other ne. takes_keep law s (step.Alloc w id frames limit) h.0 t h.2 other (λ e. ne e)
-ask_keeps law w id (ask.Free lo) x held s t h = leads_keep law id h.3.events s t (unmapping_names id (λ other e. some_same e) h.3.allowed) h.3.leads
-ask_keeps law w id ask.Stat x held s t h = λ other ne. ap (λ (y : State). held_by other y.clients) h.1
-
-stop_keeps : OthersKeepTheirHoldings → (w id : ℕ) (asks : List Ask) (held : Totals) (s t : State) → StopsAt w id asks held s t → KeepsOthers (Some id) s t
-stop_keeps law w id [] held s t h = λ other ne. ap (λ (y : State). held_by other y.clients) h
-stop_keeps law w id (ask.Free lo ∷ asks) held s t h = leads_keep law id h.events s t (unmapping_names id (λ other e. some_same e) h.allowed) h.leads
-stop_keeps law w id (ask.Alloc frames limit ∷ asks) held s t h = absurd h
-stop_keeps law w id (ask.Stat ∷ asks) held s t h = absurd h
-
-asks_keep : OthersKeepTheirHoldings → (w id : ℕ) (asks : List Ask) (xs : List Told) (held left : Totals) (s t : State) → DoesAsks w id asks xs held left s t → KeepsOthers (Some id) s t
-asks_keep law w id asks [] held left s t h = stop_keeps law w id asks held s t h.0
-asks_keep law w id [] (x ∷ xs) held left s t h = absurd h
-asks_keep law w id (a ∷ asks) (x ∷ xs) held left s t h = λ other ne.
-    asks_keep law w id asks xs h.1 left h.0 t h.4 other ne ∙ ask_keeps law w id a x held s h.0 h.2 other ne
-
-pub batch_keeps : OthersKeepTheirHoldings → (w id : ℕ) (asks : List Ask) (before now : List Told) (result : Result ℕ Refusal) (held left : Totals) (a b : Option State)
-    → WhereKnown a b (λ s t. MatchResult result (λ n. Batched w id asks before now n held left s t) (λ e. t ≡ s)) → WhereKnown a b (KeepsOthers (Some id))
-batch_keeps law w id asks before now (Ok n) held left a b h =
-    known_one a b (λ s t. Batched w id asks before now n held left s t) (KeepsOthers (Some id)) h (λ s t x. asks_keep law w id asks x.more held left s t x.does)
-batch_keeps law w id asks before now (Err e) held left a b h =
-    known_one a b (λ s t. t ≡ s) (KeepsOthers (Some id)) h (λ s t x other ne. ap (λ (y : State). held_by other y.clients) x)
-
--- a session's client is found once, and stays
-pub wider : (c d : Option ℕ) (a b : Option State) → (c ≡ None) ⊎ (d ≡ c) → WhereKnown a b (KeepsOthers c) → WhereKnown a b (KeepsOthers d)
-wider c d a b (inl e) h = any_keep d a b (subst (λ (o : Option ℕ). WhereKnown a b (KeepsOthers o)) e h)
-wider c d a b (inr e) h = subst (λ (o : Option ℕ). WhereKnown a b (KeepsOthers o)) (sym e) h
-
-pub then_keeps : (c d : Option ℕ) (o a b : Option State) → (c ≡ None) ⊎ (d ≡ c) → WhereKnown o a (KeepsOthers c) → WhereKnown a b (KeepsOthers d) → WhereKnown o b (KeepsOthers d)
-then_keeps c d o a b e h k = both_keep d o a b (wider c d o a e h) k
 
 -- an answer to a session with a client opens none
 pub client_stays : (listed id : ℕ) (r : Request) (a : Answer) → IsClientAnswer listed r a → next_client (Some id) a ≡ Some id

@@ -25,16 +25,16 @@ left_out (x ∷ xs) (z ∷ ys) y (inr h) = inr (left_out (x ∷ xs) ys y h)
 
 -- one client is tried, and then those after it
 pub tried_first : (number : ℕ) (ids : List ℕ) (at id : ℕ) (result : Result Ending Refusal) (more : List ℕ) (seat mid left : SeatState) (before calls now : List Call) (o p q : Option State)
-    → at < length ids → id ≡ get_or ids at id
+    → at < length ids → id ≡ get_or ids at id → mid.worker ≡ seat.worker
     → WhereKnown o p (DoesEndClient seat mid.held id result number before calls)
     → WhereKnown p q (Retries number (drop (at + 1) ids) more mid left calls now)
     → WhereKnown o q (Retries number (drop at ids) (kept_if (still_waits result) id ++ more) seat left before now)
-tried_first number ids at id result more seat mid left before calls now None p q lt e a b = tt
-tried_first number ids at id result more seat mid left before calls now (Some s) None q lt e a b = absurd a
-tried_first number ids at id result more seat mid left before calls now (Some s) (Some m) None lt e a b = absurd b
-tried_first number ids at id result more seat mid left before calls now (Some s) (Some m) (Some t) lt e a b =
+tried_first number ids at id result more seat mid left before calls now None p q lt e same a b = tt
+tried_first number ids at id result more seat mid left before calls now (Some s) None q lt e same a b = absurd a
+tried_first number ids at id result more seat mid left before calls now (Some s) (Some m) None lt e same a b = absurd b
+tried_first number ids at id result more seat mid left before calls now (Some s) (Some m) (Some t) lt e same a b =
     let here : drop at ids ≡ id ∷ drop (at + 1) ids = drop_more ids at id lt ∙ ap (λ x. x ∷ drop (at + 1) ids) (sym e) in
-    subst (λ (rest : List ℕ). Retries number rest (kept_if (still_waits result) id ++ more) seat left before now s t) (sym here) (result, mid, calls, m, more, a, refl, b)
+    subst (λ (rest : List ℕ). Retries number rest (kept_if (still_waits result) id ++ more) seat left before now s t) (sym here) (result, mid, calls, m, more, same, a, refl, b)
 
 -- all were tried
 pub tried_all : (number : ℕ) (ids : List ℕ) (at : ℕ) (seat : SeatState) (calls : List Call) (o : Option State) → length ids ≤ at → WhereKnown o o (Retries number (drop at ids) [] seat seat calls calls)

@@ -70,7 +70,7 @@ pub record FromBatch (rs : List Request) (xs : List Told) (held left : Totals) :
   pub told : told (told_pairs rs xs) ≡ map answer_of xs
   pub shares : MovesBy (given_in (told_pairs rs xs)) (taken_in (told_pairs rs xs)) held left
 
-none_taken : (rs : List Request) → [] ≡ take 0 rs
+none_taken : {A : Type 0} (rs : List A) → [] ≡ take 0 rs
 none_taken rs = search rules
 
 from_next : (r : Request) (o : Option Ask) → ask_of r ≡ o → (rs : List Request) (x : Told) (xs : List Told) (held left : Totals)
@@ -104,7 +104,13 @@ first_alone (request.List ∷ rs) h = tt
 first_alone (request.Flush ∷ rs) h = tt
 first_alone (request.Bye ∷ rs) h = tt
 
-length0 : (xs : List Told) → length xs ≡ 0 → xs ≡ []
+-- where no ask stands at the front, the first request is asked alone
+pub none_in_front : (rs : List Request) (asks : List Ask) (n : ℕ) → n ≡ 0 → take n asks ≡ asks_in rs → IsFirstAlone rs
+none_in_front rs asks n zero e =
+    let none : [] ≡ asks_in rs = none_taken asks ∙ ap (λ k. take k asks) (sym zero) ∙ e in
+    first_alone rs (subst MayStop none tt)
+
+pub length0 : (xs : List Told) → length xs ≡ 0 → xs ≡ []
 length0 [] e = refl
 length0 (x ∷ xs) e = absurd (omega (arith, e))
 

@@ -7,6 +7,7 @@ use Rattle.iova_range.specs.declared.refusal.Refusal.TheVariants as refusal
 use Rattle.iova_range.specs.Frames.{Frames}
 use Rattle.iova_model.specs.declared.totals.Totals.{Totals}
 use Rattle.iova_model.specs.Clients.{totals_of}
+use Rattle.iova_model.specs.Valid.{Rises}
 use Rattle.iova_model.specs.Laws.{add_totals}
 use Rattle.iova_keep.specs.declared.ask.Ask.{Ask}
 use Rattle.iova_keep.specs.declared.ask.Ask.TheVariants as ask
@@ -119,11 +120,11 @@ IsClientAnswer listed (request.Free lo) (answer.Queued r) = r.lo ≡ lo
 IsClientAnswer listed (request.Free lo) (answer.Freed r) = r.lo ≡ lo
 IsClientAnswer listed (request.Free lo) (answer.Refused e) = IsUnmapRefusal e
 IsClientAnswer listed (request.Free lo) a = ⊥
-IsClientAnswer listed request.List (answer.Held ranges) = listed + length ranges ≤ MAX_LISTED
+IsClientAnswer listed request.List (answer.Held ranges) = (listed + length ranges ≤ MAX_LISTED) × Rises 0 ranges
 IsClientAnswer listed request.List (answer.Refused e) = IsListRefusal listed e
 IsClientAnswer listed request.List a = ⊥
 IsClientAnswer listed request.Flush (answer.Flushed number freed) = Unit {0}
-IsClientAnswer listed request.Flush (answer.Refused e) = IsFlushRefusal e ⊎ (e ≡ refusal.NoWorker)
+IsClientAnswer listed request.Flush (answer.Refused e) = IsFlushRefusal e
 IsClientAnswer listed request.Flush a = ⊥
 IsClientAnswer listed request.Stat (answer.Stat stat) = Unit {0}
 IsClientAnswer listed request.Stat a = ⊥

@@ -60,7 +60,6 @@ abbrev pub FlushesAndDrains : ℕ → Answer → ℕ → List Call → List Call
 FlushesAndDrains w (answer.Flushed k freed) number before now s t =
     (m : State) × DoesFlush (Ok k) number before now s m × DrainsAll w (Ok freed) m t
 FlushesAndDrains w (answer.Refused e) number before now s t = DoesFlush (Err e) number before now s t
-    ⊎ ((k : ℕ) × (m : State) × DoesFlush (Ok k) number before now s m × DrainsAll w (Err e) m t)
 FlushesAndDrains w a number before now s t = ⊥
 
 -- two proofs of this are equal

@@ -4,4 +4,6 @@ pub mod Sessions
 pub mod Rounds
 pub mod Desks
 pub mod Domains
+pub mod Leading
 pub mod Posts
+pub mod OneByOne

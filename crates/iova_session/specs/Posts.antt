@@ -52,5 +52,6 @@ abbrev pub Retries : ℕ → List ℕ → List ℕ → SeatState → SeatState �
 Retries number [] kept seat left before now s t = (kept ≡ []) × (left ≡ seat) × (now ≡ before) × (t ≡ s)
 Retries number (id ∷ ids) kept seat left before now s t =
     (result : Result Ending Refusal) × (mid : SeatState) × (calls : List Call) × (here : State) × (more : List ℕ)
-    × DoesEndClient seat mid.held id result number before calls s here × (kept ≡ kept_if (still_waits result) id ++ more)
+    × (mid.worker ≡ seat.worker) × DoesEndClient seat mid.held id result number before calls s here
+    × (kept ≡ kept_if (still_waits result) id ++ more)
     × Retries number ids more mid left calls now here t

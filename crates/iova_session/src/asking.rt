@@ -1,10 +1,11 @@
 //! What a session's requests are answered, over any keeper: the checks of the session's own, and then the calls of
 //! the lock.
-ghost use Rattle.std.specs.Prelude.{◌≡◌, ◌≢◌, ℕ, ◌+◌, ◌≤◌, None, Some, IfSome};
+ghost use Rattle.std.specs.Prelude.{◌≡◌, ◌≢◌, ℕ, ◌+◌, ◌≤◌, IfSome};
 ghost use Rattle.iova_range.specs.declared.limits.TheConstants.{MAX_LISTED};
 ghost use Rattle.iova_sink.specs.Calls.{good_calls};
 ghost use Rattle.iova_keep.specs.Views.{WhereKnown};
-ghost use Rattle.iova_session.specs.Domains.{FlushesAndDrains, Frees, KeepsOthers, Lists};
+ghost use Rattle.iova_session.specs.Domains.{FlushesAndDrains, Lists};
+ghost use Rattle.iova_session.specs.Leading.{ClientDoes, FirstDoes};
 ghost use Rattle.iova_session.specs.Desks.{IsFirstAnswer, IsClientAnswer, MovesBy, given_by, released, taken_by};
 
 use iova_keep::calls::flush;
@@ -12,7 +13,6 @@ use iova_keep::keep::Keep;
 use iova_keep::release::release;
 use iova_keep::seat::Seat;
 use iova_keep::unmapped::Unmapped;
-use iova_laws::replies::others_keep_their_holdings;
 use iova_model::step::ClientId;
 use iova_proto::answer::Answer;
 use iova_proto::held::HeldRanges;
@@ -30,12 +30,13 @@ pub(crate) fn ask_first<C: Ledger, F: Ledger, S: Ledger, G: Ledger, K: Keep<C, F
     request: Request,
 ) -> Answer
     ensures number { K.domain_number keeper.new ≡ K.domain_number keeper.old }
-    ensures domain { WhereKnown (K.domain keeper.old) (K.domain keeper.new) (KeepsOthers None) }
+    ensures strict { K.strict keeper.new ≡ K.strict keeper.old }
+    ensures does { WhereKnown (K.domain keeper.old) (K.domain keeper.new)
+        (FirstDoes (K.domain_number keeper.old) seat.old.worker request result) }
     ensures answer { IsFirstAnswer (K.domain_number keeper.old) request result }
     ensures shares { MovesBy (given_by result) (taken_by result) seat.old.held seat.new.held }
     ensures seat { seat.new ≡ seat.old }
 {
-    others_keep_their_holdings();
     match request {
         Request::Hello { domain, sac } => {
             if domain != keeper.number() {
@@ -66,21 +67,17 @@ pub(crate) fn ask_alone<C: Ledger, F: Ledger, S: Ledger, G: Ledger, K: Keep<C, F
     requires alloc { (frames : ℕ) → (limit : ℕ) → request ≢ Request.Alloc frames limit }
     requires stat { request ≢ Request.Stat }
     ensures number { K.domain_number keeper.new ≡ K.domain_number keeper.old }
-    ensures domain { WhereKnown (K.domain keeper.old) (K.domain keeper.new) (KeepsOthers (Some id)) }
+    ensures strict { K.strict keeper.new ≡ K.strict keeper.old }
     ensures answer { IsClientAnswer listed request result }
-    ensures list { request ≡ Request.List → IfSome (K.domain keeper.old) (Lists seat.old.worker id listed result) }
-    ensures free { (lo : ℕ) → request ≡ Request.Free lo → WhereKnown (K.domain keeper.old) (K.domain keeper.new)
-        (Frees (K.strict keeper.old) seat.old id lo result (K.domain_number keeper.old) (D.calls sink.old)
-        (D.calls sink.new)) }
-    ensures flush { request ≡ Request.Flush → WhereKnown (K.domain keeper.old) (K.domain keeper.new)
-        (FlushesAndDrains seat.old.worker result (K.domain_number keeper.old) (D.calls sink.old) (D.calls sink.new)) }
+    ensures does { WhereKnown (K.domain keeper.old) (K.domain keeper.new)
+        (ClientDoes (K.strict keeper.old) (K.domain_number keeper.old) seat.old id listed request result
+        (D.calls sink.old) (D.calls sink.new)) }
     ensures shares { MovesBy (given_by result) (taken_by result) seat.old.held seat.new.held }
     ensures worker { seat.new.worker ≡ seat.old.worker }
     ensures tally { seat.new.tally.good + good_calls (D.calls sink.old) ≤ seat.old.tally.good + good_calls
         (D.calls sink.new) }
     ensures parts { seat.new.tally.parts ≡ seat.old.tally.parts }
 {
-    others_keep_their_holdings();
     match request {
         Request::Hello { domain: _, sac: _ } => Answer::Refused(Refusal::Twice),
         Request::Free { lo } => match release(keeper, seat, sink, id, lo) {
@@ -143,7 +140,7 @@ fn flush_and_drain<C: Ledger, F: Ledger, S: Ledger, G: Ledger, K: Keep<C, F, S, 
     sink: &mut D,
 ) -> Answer
     ensures number { K.domain_number keeper.new ≡ K.domain_number keeper.old }
-    ensures domain { WhereKnown (K.domain keeper.old) (K.domain keeper.new) (KeepsOthers None) }
+    ensures strict { K.strict keeper.new ≡ K.strict keeper.old }
     ensures flushes { WhereKnown (K.domain keeper.old) (K.domain keeper.new)
         (FlushesAndDrains seat.old.worker result (K.domain_number keeper.old) (D.calls sink.old) (D.calls sink.new)) }
     ensures answer { IsClientAnswer 0 Request.Flush result }
@@ -153,12 +150,11 @@ fn flush_and_drain<C: Ledger, F: Ledger, S: Ledger, G: Ledger, K: Keep<C, F, S, 
         (D.calls sink.new) }
     ensures parts { seat.new.tally.parts ≡ seat.old.tally.parts }
 {
-    others_keep_their_holdings();
     match flush(keeper, seat.tally(), sink) {
         Err(refusal) => Answer::Refused(refusal),
         Ok(no) => match keeper.drain_all(seat.worker()) {
             Ok(freed) => Answer::Flushed { no, freed },
-            Err(refusal) => Answer::Refused(refusal),
+            Err(_) => unreachable!(),
         },
     }
 }

@@ -1,10 +1,10 @@
 //! The session's own desk, over any keeper.
-ghost use Rattle.std.specs.Prelude.{◌≡◌, ◌+◌, ◌≤◌, ◌⊎◌, ℕ, IfOk, IfErr, List, [], Option, None, length};
+ghost use Rattle.std.specs.Prelude.{◌≡◌, ◌+◌, ◌≤◌, ℕ, Bool, false, IfOk, IfErr, List, [], Option, None, length};
 ghost use Rattle.iova_sink.specs.Calls.{Call, good_calls};
 ghost use Rattle.iova_model.specs.State.{State};
 ghost use Rattle.iova_keep.specs.Views.{SeatState, WhereKnown, new_seat};
-ghost use Rattle.iova_session.specs.Domains.{KeepsOthers, known_keeps-prop};
-ghost use Rattle.iova_session.specs.Desks.{SessionState, AnswersRun, KeepsPlace, MovesBy, MovesBy-prop, given_in, taken_in};
+ghost use Rattle.iova_session.specs.Desks.{SessionState, AnswersRun, KeepsPlace, MovesBy, MovesBy-prop, given_in, taken_in, client_after, listed_after};
+ghost use Rattle.iova_session.specs.Leading.{LeadsFrom, GoesOn};
 
 use crate::asking::{ask_alone, ask_first};
 use crate::desk::Desk;
@@ -30,6 +30,9 @@ pub(crate) trait Opening {
     /// The domain, where the keeper tells it.
     ghost domain: { Option State };
 
+    /// Whether it is strict, where the keeper tells it.
+    ghost strict: { Bool };
+
     /// The seat.
     ghost seat: { SeatState };
 
@@ -48,6 +51,8 @@ impl Opening for Brand {
     ghost number = { 0 };
 
     ghost domain = { None };
+
+    ghost strict = { false };
 
     ghost seat = { new_seat 0 };
 
@@ -77,7 +82,7 @@ pub(crate) struct Lent<
 }
 
 /// The desk of a session that began so. What it was asked has moved the seat's shares, and nothing else of it but its
-/// tally.
+/// tally, and has led the domain from where it was to where it is.
 #[derive(Drop)]
 pub(crate) struct KeeperDesk<
     'a,
@@ -92,12 +97,16 @@ pub(crate) struct KeeperDesk<
     pub(crate) alloc: Global,
     pub(crate) lent: Lent<'a, C, F, S, G, K, D>,
     pub(crate) session: Session,
+    /// The last hold stopped at a free, which is to be asked alone.
+    pub(crate) stopped: bool,
     pub(crate) told: Vec<Told>,
     pub(crate) opening: PhantomData<O>,
     ghost names: { (lent.keeper.ghost_name ≡ O.keeper_name) × (lent.seat.ghost_name ≡ O.seat_name)
         × (lent.sink.ghost_name ≡ O.sink_name) },
     ghost number: { (session.number ≡ O.number) × (K.domain_number lent.keeper.now ≡ O.number) },
-    ghost others: { WhereKnown O.domain (K.domain lent.keeper.now) (KeepsOthers session.client) } by { known_keeps-prop O.domain (K.domain lent.keeper.now) session.client },
+    ghost strict: { K.strict lent.keeper.now ≡ O.strict },
+    ghost leads: { ∥ WhereKnown O.domain (K.domain lent.keeper.now) (LeadsFrom O.strict O.number session.pairs
+        O.seat lent.seat.now O.calls (D.calls lent.sink.now)) ∥₁ },
     ghost shares: { MovesBy (given_in session.pairs) (taken_in session.pairs) O.seat.held lent.seat.now.held } by { MovesBy-prop (given_in session.pairs) (taken_in session.pairs) O.seat.held lent.seat.now.held },
     ghost worker: { lent.seat.now.worker ≡ O.seat.worker },
     ghost parts: { lent.seat.now.tally.parts ≡ O.seat.tally.parts },
@@ -118,6 +127,7 @@ impl<'a, C: Ledger, F: Ledger, S: Ledger, G: Ledger, K: Keep<C, F, S, G>, D: Sin
             self.alloc,
             &mut self.lent,
             &mut self.session,
+            &mut self.stopped,
             &mut self.told,
             requests,
             answers,
@@ -130,6 +140,7 @@ fn ask_lent<C: Ledger, F: Ledger, S: Ledger, G: Ledger, K: Keep<C, F, S, G>, D: 
     alloc: Global,
     lent: &mut Lent<'_, C, F, S, G, K, D>,
     session: &mut Session,
+    stopped: &mut bool,
     told: &mut Vec<Told>,
     requests: &[Request],
     answers: &mut Vec<Answer>,
@@ -141,9 +152,12 @@ fn ask_lent<C: Ledger, F: Ledger, S: Ledger, G: Ledger, K: Keep<C, F, S, G>, D: 
         × (lent.new.seat.ghost_name ≡ lent.old.seat.ghost_name)
         × (lent.new.sink.ghost_name ≡ lent.old.sink.ghost_name) }
     ensures number { K.domain_number lent.new.keeper.now ≡ K.domain_number lent.old.keeper.now }
-    ensures domain { WhereKnown (K.domain lent.old.keeper.now) (K.domain lent.new.keeper.now)
-        (KeepsOthers session.new.client) }
-    ensures client { (session.old.client ≡ None) ⊎ (session.new.client ≡ session.old.client) }
+    ensures strict { K.strict lent.new.keeper.now ≡ K.strict lent.old.keeper.now }
+    ensures after { (session.old.client ≡ client_after None session.old.pairs)
+        × (session.old.listed ≡ listed_after 0 session.old.pairs) }
+    ensures leads { WhereKnown (K.domain lent.old.keeper.now) (K.domain lent.new.keeper.now)
+        (GoesOn (K.strict lent.old.keeper.now) session.old session.new lent.old.seat.now lent.new.seat.now
+        (D.calls lent.old.sink.now) (D.calls lent.new.sink.now)) }
     ensures count { IfOk result (λ n. (1 ≤ n) × (n ≤ length requests.now)) }
     ensures ok { IfOk result
         (λ n. AnswersRun requests.now n session.old session.new answers.old.items answers.new.items
@@ -159,6 +173,7 @@ fn ask_lent<C: Ledger, F: Ledger, S: Ledger, G: Ledger, K: Keep<C, F, S, G>, D: 
         lent.seat,
         lent.sink,
         session,
+        stopped,
         told,
         requests,
         answers,
@@ -166,13 +181,15 @@ fn ask_lent<C: Ledger, F: Ledger, S: Ledger, G: Ledger, K: Keep<C, F, S, G>, D: 
 }
 
 /// Asks a front of the requests, at least one of them: with a client those that can be asked in one hold, else the
-/// first alone. Refused by `NoMemory` where there is no room for the answers; then nothing was asked.
+/// first alone, as a free that the last hold stopped at. Refused by `NoMemory` where there is no room for the answers;
+/// then nothing was asked.
 pub(crate) fn ask_front<C: Ledger, F: Ledger, S: Ledger, G: Ledger, K: Keep<C, F, S, G>, D: Sink>(
     alloc: Global,
     keeper: &mut K,
     seat: &mut Seat<C, F, S, G>,
     sink: &mut D,
     session: &mut Session,
+    stopped: &mut bool,
     told: &mut Vec<Told>,
     requests: &[Request],
     answers: &mut Vec<Answer>,
@@ -181,8 +198,12 @@ pub(crate) fn ask_front<C: Ledger, F: Ledger, S: Ledger, G: Ledger, K: Keep<C, F
     requires most { length requests.now ≤ MAX_RUN }
     requires number { session.old.number ≡ K.domain_number keeper.old }
     ensures number { K.domain_number keeper.new ≡ K.domain_number keeper.old }
-    ensures domain { WhereKnown (K.domain keeper.old) (K.domain keeper.new) (KeepsOthers session.new.client) }
-    ensures client { (session.old.client ≡ None) ⊎ (session.new.client ≡ session.old.client) }
+    ensures strict { K.strict keeper.new ≡ K.strict keeper.old }
+    ensures after { (session.old.client ≡ client_after None session.old.pairs)
+        × (session.old.listed ≡ listed_after 0 session.old.pairs) }
+    ensures leads { WhereKnown (K.domain keeper.old) (K.domain keeper.new)
+        (GoesOn (K.strict keeper.old) session.old session.new seat.old seat.new (D.calls sink.old)
+        (D.calls sink.new)) }
     ensures count { IfOk result (λ n. (1 ≤ n) × (n ≤ length requests.now)) }
     ensures ok { IfOk result
         (λ n. AnswersRun requests.now n session.old session.new answers.old.items answers.new.items seat.old.held
@@ -191,13 +212,14 @@ pub(crate) fn ask_front<C: Ledger, F: Ledger, S: Ledger, G: Ledger, K: Keep<C, F
         × (answers.new.items ≡ answers.old.items) × (seat.new ≡ seat.old)) }
     ensures place { KeepsPlace seat.old seat.new (D.calls sink.old) (D.calls sink.new) }
 {
+    let client = session.client();
     if answers.try_reserve(requests.len()).is_err() {
         return Err(Refusal::NoMemory);
     }
-    let answer = match session.client() {
+    let answer = match client {
         None => ask_first(keeper, seat, requests[0]),
         Some(id) => {
-            let count = ask_together(keeper, seat, session, id, requests, told, answers)?;
+            let count = ask_together(keeper, seat, session, id, requests, stopped, told, answers)?;
             if count > 0 {
                 return Ok(count);
             }

@@ -9,6 +9,7 @@ mod gathering;
 mod keeper_desk;
 pub mod link;
 pub mod memory_link;
+pub mod one_by_one;
 pub mod pairs;
 pub mod post;
 pub mod retry;

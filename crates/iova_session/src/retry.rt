@@ -20,6 +20,7 @@ pub fn retry<C: Ledger, F: Ledger, S: Ledger, G: Ledger, K: Keep<C, F, S, G>, D:
     sink: &mut D,
 ) -> u64
     ensures number { K.domain_number keeper.new ≡ K.domain_number keeper.old }
+    ensures strict { K.strict keeper.new ≡ K.strict keeper.old }
     ensures left { result ≡ length post.new.waiting.items }
     ensures waiting { IsSublist post.new.waiting.items post.old.waiting.items }
     ensures domain { WhereKnown (K.domain keeper.old) (K.domain keeper.new) (Retries (K.domain_number keeper.old)

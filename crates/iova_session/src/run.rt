@@ -4,7 +4,8 @@ ghost use Rattle.std.specs.Io.KnownBytes.{Appends, Consumes};
 ghost use Rattle.iova_range.specs.declared.limits.TheConstants.{MAX_REQUESTS};
 ghost use Rattle.iova_sink.specs.Calls.{Call};
 ghost use Rattle.iova_keep.specs.Views.{WhereKnown};
-ghost use Rattle.iova_session.specs.Domains.{KeepsOthers, LeavesOthers};
+ghost use Rattle.iova_session.specs.Domains.{LeavesOthers};
+ghost use Rattle.iova_session.specs.Leading.{EndDoes, LeadsFrom, SessionLeads, standing};
 ghost use Rattle.iova_session.specs.Pairs.{Pair};
 ghost use Rattle.iova_session.specs.Sessions.{Serves, failures_at, ends_at};
 ghost use Rattle.iova_session.specs.Desks.{AreAnswers, KeepsPlace, MovesBy, given_in, taken_in, client_after};
@@ -62,6 +63,7 @@ fn serve_lent<
     requires names { (lent.keeper.ghost_name ≡ O.keeper_name) × (lent.seat.ghost_name ≡ O.seat_name)
         × (lent.sink.ghost_name ≡ O.sink_name) }
     requires number { K.domain_number lent.keeper.now ≡ O.number }
+    requires strict { K.strict lent.keeper.now ≡ O.strict }
     requires domain { K.domain lent.keeper.now ≡ O.domain }
     requires seat { lent.seat.now ≡ O.seat }
     requires calls { D.calls lent.sink.now ≡ O.calls }
@@ -69,8 +71,7 @@ fn serve_lent<
         × (result.lent.seat.ghost_name ≡ lent.entry.seat.ghost_name)
         × (result.lent.sink.ghost_name ≡ lent.entry.sink.ghost_name) }
     ensures number { K.domain_number result.lent.keeper.now ≡ K.domain_number lent.entry.keeper.now }
-    ensures domain { WhereKnown (K.domain lent.entry.keeper.now) (K.domain result.lent.keeper.now)
-        (KeepsOthers result.client) }
+    ensures strict { K.strict result.lent.keeper.now ≡ K.strict lent.entry.keeper.now }
     ensures session { (taken : List ℕ) × (ps : List Pair) × (written : List ℕ) × (reads : ℕ)
         × Consumes (L.left link.old) (L.left link.new) taken
         × Appends (L.sent link.old) (L.sent link.new) written
@@ -78,7 +79,10 @@ fn serve_lent<
         × Serves MAX_REQUESTS taken ps written reads result.end
         × AreAnswers (K.domain_number lent.entry.keeper.now) None 0 ps
         × (result.client ≡ client_after None ps)
-        × MovesBy (given_in ps) (taken_in ps) lent.entry.seat.now.held result.lent.seat.now.held }
+        × MovesBy (given_in ps) (taken_in ps) lent.entry.seat.now.held result.lent.seat.now.held
+        × ∥ WhereKnown (K.domain lent.entry.keeper.now) (K.domain result.lent.keeper.now)
+        (LeadsFrom (K.strict lent.entry.keeper.now) (K.domain_number lent.entry.keeper.now) ps lent.entry.seat.now
+        result.lent.seat.now (D.calls lent.entry.sink.now) (D.calls result.lent.sink.now)) ∥₁ }
     ensures failures { L.failures link.new ≡ L.failures link.old + failures_at result.end }
     ensures ends { L.ends link.new ≡ L.ends link.old + ends_at result.end }
     ensures place { KeepsPlace lent.entry.seat.now result.lent.seat.now (D.calls lent.entry.sink.now)
@@ -89,6 +93,7 @@ fn serve_lent<
         alloc,
         lent,
         session,
+        stopped: false,
         told: Vec::new(alloc),
         opening: PhantomData,
     };
@@ -98,6 +103,7 @@ fn serve_lent<
         alloc: _,
         lent,
         session: _,
+        stopped: _,
         told: _,
         opening: _,
     } = desk;
@@ -113,7 +119,7 @@ fn serve_at<C: Ledger, F: Ledger, S: Ledger, G: Ledger, K: Keep<C, F, S, G>, D: 
     sink: &mut D,
 ) -> (End, Option<ClientId>)
     ensures number { K.domain_number keeper.new ≡ K.domain_number keeper.old }
-    ensures domain { WhereKnown (K.domain keeper.old) (K.domain keeper.new) (KeepsOthers result.1) }
+    ensures strict { K.strict keeper.new ≡ K.strict keeper.old }
     ensures session { (taken : List ℕ) × (ps : List Pair) × (written : List ℕ) × (reads : ℕ)
         × Consumes (L.left link.old) (L.left link.new) taken
         × Appends (L.sent link.old) (L.sent link.new) written
@@ -121,7 +127,9 @@ fn serve_at<C: Ledger, F: Ledger, S: Ledger, G: Ledger, K: Keep<C, F, S, G>, D: 
         × Serves MAX_REQUESTS taken ps written reads result.0
         × AreAnswers (K.domain_number keeper.old) None 0 ps
         × (result.1 ≡ client_after None ps)
-        × MovesBy (given_in ps) (taken_in ps) seat.old.held seat.new.held }
+        × MovesBy (given_in ps) (taken_in ps) seat.old.held seat.new.held
+        × ∥ WhereKnown (K.domain keeper.old) (K.domain keeper.new) (LeadsFrom (K.strict keeper.old)
+        (K.domain_number keeper.old) ps seat.old seat.new (D.calls sink.old) (D.calls sink.new)) ∥₁ }
     ensures failures { L.failures link.new ≡ L.failures link.old + failures_at result.0 }
     ensures ends { L.ends link.new ≡ L.ends link.old + ends_at result.0 }
     ensures place { KeepsPlace seat.old seat.new (D.calls sink.old) (D.calls sink.new) }
@@ -141,7 +149,8 @@ fn serve_at<C: Ledger, F: Ledger, S: Ledger, G: Ledger, K: Keep<C, F, S, G>, D: 
 /// Serves one session at the post, and then ends the client that its `hello` opened, whatever ended the session. A
 /// client that waits is put on the post's list, last. `NoMemory` without a read where there is no room for that.
 /// `client` is none where no client was opened; so it would be where the seat's shares weren't as they have to be,
-/// but no run comes to that. Own.
+/// but no run comes to that. Over a keeper that tells its domain, each request does there what its call of the lock
+/// does, and is answered by what that call answers. Own.
 pub fn run_session<
     C: Ledger,
     F: Ledger,
@@ -158,6 +167,7 @@ pub fn run_session<
     sink: &mut D,
 ) -> SessionEnd
     ensures number { K.domain_number keeper.new ≡ K.domain_number keeper.old }
+    ensures strict { K.strict keeper.new ≡ K.strict keeper.old }
     ensures session { (taken : List ℕ) × (ps : List Pair) × (written : List ℕ) × (reads : ℕ)
         × Consumes (L.left link.old) (L.left link.new) taken
         × Appends (L.sent link.old) (L.sent link.new) written
@@ -166,11 +176,16 @@ pub fn run_session<
         × AreAnswers (K.domain_number keeper.old) None 0 ps
         × EndsClient ps result.client post.old.seat.held post.new.seat.held post.old.waiting.items
         post.new.waiting.items
-        × WhereKnown (K.domain keeper.old) (K.domain keeper.new) (LeavesOthers (client_after None ps) result.client) }
+        × WhereKnown (K.domain keeper.old) (K.domain keeper.new) (LeavesOthers (client_after None ps) result.client)
+        × ∥ WhereKnown (K.domain keeper.old) (K.domain keeper.new) (SessionLeads (K.strict keeper.old)
+        (K.domain_number keeper.old) ps result.client post.old.seat post.new.seat (D.calls sink.old)
+        (D.calls sink.new)) ∥₁ }
     ensures failures { L.failures link.new ≡ L.failures link.old + failures_at result.end }
     ensures ends { L.ends link.new ≡ L.ends link.old + ends_at result.end }
     ensures place { KeepsPlace post.old.seat post.new.seat (D.calls sink.old) (D.calls sink.new) }
 {
+    // for the proof: whose holdings a step leaves
+    others_keep_their_holdings();
     if post.waiting.try_reserve(1).is_err() {
         return SessionEnd {
             end: End::NoMemory,
@@ -197,7 +212,11 @@ fn end_opened<C: Ledger, F: Ledger, S: Ledger, G: Ledger, K: Keep<C, F, S, G>, D
 ) -> Option<Ending>
     requires { vec_len post.old.waiting + 1 ≤ vec_capacity post.old.waiting }
     ensures number { K.domain_number keeper.new ≡ K.domain_number keeper.old }
+    ensures strict { K.strict keeper.new ≡ K.strict keeper.old }
     ensures domain { WhereKnown (K.domain keeper.old) (K.domain keeper.new) (LeavesOthers (Some id) result) }
+    ensures does { WhereKnown (K.domain keeper.old) (K.domain keeper.new) (λ s t. EndDoes (K.domain_number keeper.old)
+        (Some id) result (standing post.old.seat (D.calls sink.old) s)
+        (standing post.new.seat (D.calls sink.new) t)) }
     ensures ended { EndsFrom id result before post.old.seat.held post.new.seat.held post.old.waiting.items
         post.new.waiting.items }
     ensures place { KeepsPlace post.old.seat post.new.seat (D.calls sink.old) (D.calls sink.new) }

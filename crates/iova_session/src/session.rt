@@ -51,6 +51,7 @@ impl Session {
     pub(crate) fn client(&self) -> Option<ClientId>
         ensures value { result ≡ self.now.client }
         ensures after { self.now.client ≡ client_after None self.now.pairs }
+        ensures listed { self.now.listed ≡ listed_after 0 self.now.pairs }
         ensures answers { AreAnswers self.now.number None 0 self.now.pairs }
     {
         self.client

@@ -1,8 +1,9 @@
 //! A link over a socket.
 ghost use Rattle.std.specs.Prelude.{◌≡◌, None};
 
-use crate::link::{Link, LinkFault};
+use crate::link::{Link, LinkFault, bytes_read};
 use iova_sink::count::Count;
+use iova_sink::device::bytes_taken;
 use std::io::{Read, Write};
 use std::marker::Model;
 use std::os::unix::net::UnixStream;
@@ -53,7 +54,8 @@ impl Link for SocketLink {
 
     fn read(&mut self, buf: &mut [u8]) -> Result<usize, LinkFault> {
         self.reads.up();
-        let Ok(n) = self.stream.read(buf) else {
+        let read = self.stream.read(buf);
+        let Ok(n) = bytes_read(read) else {
             self.failed.up();
             return Err(LinkFault);
         };
@@ -64,9 +66,10 @@ impl Link for SocketLink {
     }
 
     fn write(&mut self, bytes: &[u8]) -> Result<usize, LinkFault> {
-        match self.stream.write(bytes) {
-            Ok(n) if n > 0 || bytes.is_empty() => Ok(n),
-            _ => {
+        let written = self.stream.write(bytes);
+        match bytes_taken(written, bytes.len()) {
+            Some(n) => Ok(n),
+            None => {
                 self.failed.up();
                 Err(LinkFault)
             }

@@ -1,14 +1,15 @@
 //! Requests that are asked together, in one hold of the lock.
-ghost use Rattle.std.specs.Prelude.{◌≡◌, ◌+◌, ◌≤◌, ◌++◌, ◌∷◌, [], Some, IsSome, IfOk, IfErr, length, map, take, vec_len, vec_capacity};
+ghost use Rattle.std.specs.Prelude.{◌≡◌, ◌+◌, ◌≤◌, ◌++◌, ◌∷◌, [], List, Some, IsSome, IsTrue, IfOk, IfErr, length, map, take, vec_len, vec_capacity};
+ghost use Rattle.iova_sink.specs.Calls.{Call};
 ghost use Rattle.iova_keep.specs.Views.{WhereKnown};
-ghost use Rattle.iova_session.specs.Domains.{KeepsOthers};
+ghost use Rattle.iova_session.specs.Leading.{GoesOn, IsSame};
 ghost use Rattle.iova_session.specs.Desks.{SessionState, ask_of as the_ask_of, asks_in, answer_of as the_answer_of, told_pairs, AreTold, IsFirstAlone, AnswersRun};
 
 use crate::session::Session;
 use iova_keep::ask::{Ask, Told};
 use iova_keep::keep::Keep;
 use iova_keep::seat::Seat;
-use iova_laws::replies::others_keep_their_holdings;
+use iova_laws::refusals::refusals_keep_the_state;
 use iova_model::step::ClientId;
 use iova_proto::answer::Answer;
 use iova_proto::request::Request;
@@ -17,14 +18,16 @@ use iova_range::refusal::Refusal;
 use std::sync::ledger::Ledger;
 
 /// Asks the longest front of `alloc`, `free` and `stat` in one hold, up to the first free whose ring is full, and
-/// gives how many were asked. `told` is room for what the lock tells. Refused by `NoMemory` where that has to grow
-/// and can't; then nothing was asked.
+/// gives how many were asked. `stopped` keeps that such a free comes next: it isn't tried in a hold again, since it is
+/// to be asked alone. `told` is room for what the lock tells. Refused by `NoMemory` where that has to grow and can't;
+/// then nothing was asked.
 pub(crate) fn ask_together<C: Ledger, F: Ledger, S: Ledger, G: Ledger, K: Keep<C, F, S, G>>(
     keeper: &mut K,
     seat: &mut Seat<C, F, S, G>,
     session: &mut Session,
     id: ClientId,
     requests: &[Request],
+    stopped: &mut bool,
     told: &mut Vec<Told>,
     answers: &mut Vec<Answer>,
 ) -> Result<usize, Refusal>
@@ -32,7 +35,9 @@ pub(crate) fn ask_together<C: Ledger, F: Ledger, S: Ledger, G: Ledger, K: Keep<C
     requires most { length requests.now ≤ MAX_RUN }
     requires room { vec_len answers.old + length requests.now ≤ vec_capacity answers.old }
     ensures number { K.domain_number keeper.new ≡ K.domain_number keeper.old }
-    ensures domain { WhereKnown (K.domain keeper.old) (K.domain keeper.new) (KeepsOthers (Some id)) }
+    ensures strict { K.strict keeper.new ≡ K.strict keeper.old }
+    ensures leads { (calls : List Call) → IfOk result (λ n. WhereKnown (K.domain keeper.old) (K.domain keeper.new)
+        (GoesOn (K.strict keeper.old) session.old session.new seat.old seat.new calls calls)) }
     ensures most { IfOk result (λ n. n ≤ length requests.now) }
     ensures ok { IfOk result
         (λ n. AnswersRun requests.now n session.old session.new answers.old.items answers.new.items seat.old.held
@@ -40,22 +45,53 @@ pub(crate) fn ask_together<C: Ledger, F: Ledger, S: Ledger, G: Ledger, K: Keep<C
     ensures client { session.new.client ≡ session.old.client }
     ensures alone { IfOk result (λ n. n ≡ 0 → IsFirstAlone requests.now) }
     ensures err { IfErr result (λ e. (e ≡ Refusal.NoMemory) × (session.new ≡ session.old)
-        × (answers.new.items ≡ answers.old.items) × (seat.new ≡ seat.old)) }
+        × (answers.new.items ≡ answers.old.items) × (seat.new ≡ seat.old)
+        × WhereKnown (K.domain keeper.old) (K.domain keeper.new) IsSame) }
     ensures none { IfOk result (λ n. n ≡ 0 → (session.new ≡ session.old) × (answers.new.items ≡ answers.old.items)
-        × (seat.new.held ≡ seat.old.held)) }
+        × (seat.new ≡ seat.old) × WhereKnown (K.domain keeper.old) (K.domain keeper.new) IsSame) }
     ensures rest { (seat.new.worker ≡ seat.old.worker) × (seat.new.tally ≡ seat.old.tally) }
     ensures kept { IfOk result (λ n. vec_capacity answers.old ≤ vec_capacity answers.new) }
 {
-    others_keep_their_holdings();
+    // for the proof: a free whose ring is full changes nothing
+    refusals_keep_the_state();
     let mut asks = [Ask::Stat; MAX_RUN];
-    let most = asks_of(requests, &mut asks);
+    let most = asks_from(requests, *stopped, &mut asks);
+    *stopped = false;
     if most == 0 {
         return Ok(0);
     }
     told.clear();
     let count = keeper.batch(seat, id, &asks[..most], told)?;
     tell_all(session, requests, told.as_slice(), answers);
+    *stopped = stops(count, requests.len());
     Ok(count)
+}
+
+/// Writes the asks at the front of the requests, and gives how many they are: none where the first is a free that the
+/// last hold stopped at.
+fn asks_from(requests: &[Request], stopped: bool, asks: &mut [Ask]) -> usize
+    requires { length requests.now ≤ length asks.old }
+    ensures asks { 1 ≤ result → take result asks.new ≡ asks_in requests.now }
+    ensures none { result ≡ 0 → IsFirstAlone requests.now }
+    ensures most { result ≤ length requests.now }
+{
+    if is_stopped_at(stopped, requests) {
+        0
+    } else {
+        asks_of(requests, asks)
+    }
+}
+
+/// Whether the first request is a free that the last hold stopped at.
+fn is_stopped_at(stopped: bool, requests: &[Request]) -> bool
+    ensures { IsTrue result → IsFirstAlone requests.now }
+{
+    stopped && matches!(requests.first(), Some(Request::Free { lo: _ }))
+}
+
+/// Whether a hold that did so many of the requests stopped at the next one, which isn't asked yet.
+fn stops(done: usize, requests: usize) -> bool {
+    done > 0 && done < requests
 }
 
 /// Writes the asks at the front of the requests, and gives how many they are.

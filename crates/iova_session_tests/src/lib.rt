@@ -1,11 +1,15 @@
-//! Tests of sessions, over desks of their own and over books and locks, and of the threads that serve them. They stand apart from
-//! `iova_session` and `iova_daemon`, which would be proved once more with them.
+//! Tests of the lines of the service, of sessions, over desks of their own and over books and locks, of the threads that serve them
+//! and of the peer that asks. They stand apart from the crates that they test, which would be proved once more with them.
 #![tactic(auto)]
 
+#[cfg(test)]
+mod asking;
 #[cfg(test)]
 mod daemon;
 #[cfg(test)]
 mod fresh;
+#[cfg(test)]
+mod lines;
 #[cfg(test)]
 mod links;
 #[cfg(test)]

@@ -813,6 +813,45 @@ fn a_long_session(rt: HostRuntime) {
     }
 }
 
+/// A session that asks for 300 single frames and frees them all.
+fn frees(alloc: Global) -> Result<Vec<u8>, AllocError> {
+    let mut text = repeated(alloc, &[(HELLO, 1), (ALLOC, 300)])?;
+    for n in 0..300u64 {
+        let line = format!(in alloc; "free {}\n", 4095 - n)?;
+        text.extend_from_slice(line.as_bytes())?;
+    }
+    Ok(text)
+}
+
+// `open`, and 300 steps of each kind; a ring has room for 255, so one `free` finds it full: two unmaps are refused, one in the
+// hold of its run and one before its flush, which is two steps. `closeone` at the end.
+#[test]
+fn the_steps_of_a_full_ring(rt: HostRuntime) -> Result<(), AllocError> {
+    let alloc = rt.alloc();
+    let input = frees(alloc)?;
+    for most in [16, 4096] {
+        let mut link = MemoryLink::new(alloc, input.as_slice(), most, 0);
+        let mut text = Vec::new(alloc);
+        let setup = Setup {
+            pairs: 1000,
+            ..DIES_ON
+        };
+        let seen = at_post(
+            &rt,
+            alloc,
+            &setup,
+            &mut link,
+            &mut MemorySink::new(0),
+            &mut text,
+        );
+        assert!(rt;
+            matches!(seen, Ok(Seen { steps: 606, .. })),
+            "{most} bytes a read"
+        );
+    }
+    Ok(())
+}
+
 #[test]
 fn the_limits_of_a_session(rt: HostRuntime) {
     let row = Row {

@@ -1,7 +1,9 @@
 //! What takes the bytes of records.
-ghost use Rattle.std.specs.Prelude.{◌<◌, ◌≤◌, ℕ, List, Option, IfOk, length};
+ghost use Rattle.std.specs.Prelude.{◌≡◌, ◌<◌, ◌≤◌, ◌⊎◌, ℕ, List, Option, None, Ok, IfOk, IfSome, IsErr, length};
 ghost use Rattle.std.specs.Io.KnownBytes.{WriteAppends, Keeps};
 ghost use Rattle.iova_sink.specs.Counts.{CountsFailure};
+
+use std::io;
 
 /// The device failed.
 #[derive(Clone, Copy, PartialEq, Eq, Debug)]
@@ -28,4 +30,16 @@ pub trait Device {
     fn push_out(&mut self) -> Result<(), DeviceFault>
         ensures bytes { Keeps (taken self.old) (taken self.new) }
         ensures failures { CountsFailure result (failures self.old) (failures self.new) };
+}
+
+/// How many bytes a write of `wanted` bytes took. None where it failed: any error of the operating system is a failure, an
+/// interruption too, and so is a call that took none of some. Nothing is tried again.
+pub fn bytes_taken(written: io::Result<usize>, wanted: usize) -> Option<usize>
+    ensures some { IfSome result (λ n. (written ≡ Ok n) × (n ≡ 0 → wanted ≡ 0)) }
+    ensures none { result ≡ None → IsErr written ⊎ ((written ≡ Ok 0) × (0 < wanted)) }
+{
+    match written {
+        Ok(n) if n > 0 || wanted == 0 => Some(n),
+        _ => None,
+    }
 }

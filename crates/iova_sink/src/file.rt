@@ -2,7 +2,7 @@
 ghost use Rattle.std.specs.Prelude.{◌≡◌, None, IfOk};
 
 use crate::count::Count;
-use crate::device::{Device, DeviceFault};
+use crate::device::{Device, DeviceFault, bytes_taken};
 use std::fs::{File, Files, OpenOptions};
 use std::io;
 use std::io::Write;
@@ -47,9 +47,10 @@ impl Device for FileDevice {
     ghost failures = { λ d. d };
 
     fn put(&mut self, bytes: &[u8]) -> Result<usize, DeviceFault> {
-        match self.file.write(bytes) {
-            Ok(n) if n > 0 || bytes.is_empty() => Ok(n),
-            _ => {
+        let written = self.file.write(bytes);
+        match bytes_taken(written, bytes.len()) {
+            Some(n) => Ok(n),
+            None => {
                 self.failed.up();
                 Err(DeviceFault)
             }

@@ -76,6 +76,6 @@ same_rest [] xs ys e = e
 same_rest (x ∷ front) xs ys e = same_rest front xs ys (same_tails x (front ++ xs) (front ++ ys) e)
 
 pub transcripts_replay : RecordsReplay → TranscriptsReplay
-transcripts_replay law = λ workers n steps old new text written state h appended few done.
-    let is : text ≡ trace_text (trace_of h.bounds workers h.pairs) = same_rest old text (trace_text (trace_of h.bounds workers h.pairs)) (sym appended ∙ h.text.0) in
-    law h.bounds workers h.pairs written state steps h.transcript (h.trace few) (subst (λ (t : List ℕ). IsDone t written state steps) is done)
+transcripts_replay law = λ bounds workers n steps pairs old new text written state h appended few done.
+    let is : text ≡ trace_text (trace_of bounds workers pairs) = same_rest old text (trace_text (trace_of bounds workers pairs)) (sym appended ∙ h.text.0) in
+    law bounds workers pairs written state steps h.transcript (h.trace few) (subst (λ (t : List ℕ). IsDone t written state steps) is done)

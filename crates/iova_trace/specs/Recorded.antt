@@ -34,6 +34,6 @@ RecordsReplay = (bounds : Extent) (workers : ℕ) (pairs : List Pair) (written :
 -- A text that was appended so, of no more steps than a trace may have, is replayed to the replies that are stored and
 -- the state that they leave, where the replay is done to its end and memory was refused neither then nor now.
 abbrev pub TranscriptsReplay : Type 0
-TranscriptsReplay = (workers n steps : ℕ) (old new text written : List ℕ) (state : State)
-    → (h : HasRecorded workers old new n) → new ≡ old ++ text → n ≤ MAX_STEPS → IsDone text written state steps
-    → PrintsStored (map (λ p. p.reply) h.pairs) (after (new_domain h.bounds workers) h.pairs) written state
+TranscriptsReplay = (bounds : Extent) (workers n steps : ℕ) (pairs : List Pair) (old new text written : List ℕ) (state : State)
+    → HasRecorded bounds workers pairs old new n → new ≡ old ++ text → n ≤ MAX_STEPS → IsDone text written state steps
+    → PrintsStored (map (λ p. p.reply) pairs) (after (new_domain bounds workers) pairs) written state

@@ -261,6 +261,3 @@ fn bytes_read(read: io::Result<usize>) -> Result<usize, ReplayFault>
         Err(_) => Err(ReplayFault::ReadFault),
     }
 }
-
-#[cfg(test)]
-mod tests;

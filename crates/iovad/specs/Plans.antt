@@ -1,7 +1,12 @@
--- The bounds of a daemon's domain. Own.
-use Rattle.std.specs.Prelude.{ℕ, ◌≡◌, ◌<◌, Option, Some, None}
+-- A daemon's domain. Own.
+use Rattle.std.specs.Prelude.{ℕ, ◌≡◌, ◌<◌, ◌≤◌, Option, Some, None}
 use Rattle.iova_range.specs.Bounds.{Capacities, Extent, first_profile, second_profile}
+use Rattle.iova_range.specs.declared.limits.TheConstants.{RECORDED_STEPS}
+use Rattle.iova_keep.specs.StepLogs.{StepLog, new_log}
+use Rattle.iova_lock.specs.Books.{BookState, new_book}
 use Rattle.iova_command.specs.declared.plan.Plan.{Plan}
+use Rattle.iovad.specs.declared.fault.Fault.{Fault}
+use Rattle.iovad.specs.declared.fault.Fault.TheVariants as fault
 
 -- the profile of a plan: the second where it has a depot
 abbrev pub profile_of : Option ℕ → Capacities
@@ -15,3 +20,26 @@ IsAboveProfile plan = (profile_of plan.depot).top < plan.last
 -- the plan's frames, in its profile
 abbrev pub IsBoundsOf : Plan → Extent → Type 0
 IsBoundsOf plan bounds = bounds ≡ record { start = plan.start; last = plan.last; profile = profile_of plan.depot }
+
+-- what is recorded of it: nothing, where no record is wanted
+abbrev pub planned_log : {A : Type 0} → Option A → Option StepLog
+planned_log None = None
+planned_log (Some path) = Some (new_log RECORDED_STEPS)
+
+-- the plan's new domain with these bounds
+abbrev pub planned_book : Plan → Extent → BookState
+planned_book plan bounds = record (new_book plan.domain bounds plan.workers (planned_log plan.record)) { strict = plan.strict }
+
+-- how serving what a plan says may end: the two faults of the plan come only where it has them, and else the daemon's own
+abbrev pub IsFaultOfServing : Plan → Fault → Type 0
+IsFaultOfServing plan fault.StartAboveLast = plan.last < plan.start
+IsFaultOfServing plan fault.LastAboveProfile = (plan.start ≤ plan.last) × IsAboveProfile plan
+IsFaultOfServing plan fault.CannotOpenSink = Unit {0}
+IsFaultOfServing plan fault.SocketFault = Unit {0}
+IsFaultOfServing plan fault.NoMemory = Unit {0}
+IsFaultOfServing plan fault.CannotWrite = Unit {0}
+IsFaultOfServing plan (fault.Words usage) = ⊥
+IsFaultOfServing plan (fault.TraceRefused line) = ⊥
+IsFaultOfServing plan (fault.LogRefused line) = ⊥
+IsFaultOfServing plan fault.Found = ⊥
+IsFaultOfServing plan (fault.CannotRead path) = ⊥

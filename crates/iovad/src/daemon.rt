@@ -1,17 +1,20 @@
 //! A daemon: the sessions of a plan, served on a socket, and the report of what they leave.
-ghost use Rattle.std.specs.Prelude.{◌≡◌, ◌<◌, ◌≤◌, ◌+◌, ◌*◌, ◌↔◌, Err, IfOk, IfSome, map, vec_len};
+ghost use Rattle.std.specs.Prelude.{◌≡◌, ◌<◌, ◌≤◌, ◌+◌, ◌*◌, ◌↔◌, Err, IfErr, IfOk, IfSome, map, vec_len};
 ghost use Rattle.iova_range.specs.declared.limits.TheConstants.{TALLY_PARTS};
 ghost use Rattle.iova_keep.specs.Views.{new_seats};
-ghost use Rattle.iovad.specs.Plans.{IsAboveProfile, IsBoundsOf};
+ghost use Rattle.iova_command.specs.declared.plan.Plan.{Plan};
+ghost use Rattle.iovad.specs.Plans.{IsAboveProfile, IsBoundsOf, IsFaultOfServing, planned_book};
 
 use crate::fault::Fault;
 use crate::outcome::print_domain;
 use iova_command::plan::Plan;
+use iova_core::domain::Domain;
 use iova_daemon::pause::Ticks;
 use iova_daemon::socket::SocketAccept;
 use iova_daemon::{Served, serve_on};
 use iova_keep::keep::Keep;
 use iova_keep::seat::Seat;
+use iova_lock::book::Book;
 use iova_lock::shared::Shared;
 use iova_range::bounds::Bounds;
 use iova_range::limits::{RECORDED_STEPS, TALLY_PARTS};
@@ -61,6 +64,7 @@ where
     requires good { (good.name ≡ G.name) × (good.parts ≡ G.parts) × (good.parts ≡ TALLY_PARTS * plan.now.workers) }
     ensures order { plan.now.last < plan.now.start → result ≡ Err Fault.StartAboveLast }
     ensures profile { plan.now.start ≤ plan.now.last → IsAboveProfile plan.now → result ≡ Err Fault.LastAboveProfile }
+    ensures faults { IfErr result (IsFaultOfServing plan.now) }
 {
     let bounds = bounds_of(plan)?;
     match new_domain::<R, C, F, S, G>(rt, plan, bounds, count, frames, sum_lo, good) {
@@ -80,7 +84,9 @@ enum Hindrance {
 
 impl Hindrance {
     /// The fault of the run.
-    fn fault(self) -> Fault<'static> {
+    fn fault(self) -> Fault<'static>
+        ensures { (plan : Plan) → IsFaultOfServing plan result }
+    {
         match self {
             Hindrance::CannotOpenSink => Fault::CannotOpenSink,
             Hindrance::SocketFault => Fault::SocketFault,
@@ -105,6 +111,7 @@ where
     G: Ledger + Send + Sync,
     requires workers { shared.workers ≡ plan.now.workers }
     requires posts { map (λ p. p.seat) posts.items ≡ new_seats plan.now.workers }
+    ensures { IfErr result (IsFaultOfServing plan.now) }
 {
     match serve_links(rt, plan, shared, posts) {
         Ok(Served { shared, posts }) => finish(rt, plan, shared, posts),
@@ -238,15 +245,28 @@ where
     S: Ledger,
     G: Ledger,
     requires posts { map (λ p. p.seat.worker) posts.items ≡ map (λ s. s.worker) (new_seats shared.workers) }
+    ensures { IfErr result (IsFaultOfServing plan.now) }
 {
     let recorded = gather_all(rt, plan, &shared, posts);
     let domain = shared.into_domain();
-    let printed = match recorded {
-        Ok(()) => print_domain(rt.alloc(), plan.domain, &domain, &mut io::writer(rt)),
-        Err(why) => Err(why.fault()),
-    };
+    let told = tell(rt, plan, &domain, recorded);
     drop(domain);
-    printed
+    told
+}
+
+/// Prints the domain, where the record was written.
+fn tell<R: Runtime + AllocGlobal>(
+    rt: &R,
+    plan: &Plan<'_>,
+    domain: &Domain,
+    recorded: Result<(), Hindrance>,
+) -> Result<(), Fault<'static>>
+    ensures { IfErr result (IsFaultOfServing plan.now) }
+{
+    match recorded {
+        Ok(()) => print_domain(rt.alloc(), plan.domain, domain, &mut io::writer(rt)),
+        Err(why) => Err(why.fault()),
+    }
 }
 
 /// Gathers the seats of the posts, and writes the record where one is wanted.
@@ -283,6 +303,7 @@ fn bounds_of(plan: &Plan<'_>) -> Result<Bounds, Fault<'static>>
     ensures ok { IfOk result (λ b. IsBoundsOf plan.now b) }
     ensures order { plan.now.last < plan.now.start → result ≡ Err Fault.StartAboveLast }
     ensures profile { plan.now.start ≤ plan.now.last → IsAboveProfile plan.now → result ≡ Err Fault.LastAboveProfile }
+    ensures faults { IfErr result (IsFaultOfServing plan.now) }
 {
     if plan.start > plan.last {
         return Err(Fault::StartAboveLast);
@@ -300,8 +321,7 @@ fn bounds_of(plan: &Plan<'_>) -> Result<Bounds, Fault<'static>>
     }
 }
 
-/// The plan's domain under a lock, recorded and strict where the plan says so, and a post at each of its seats. None for want
-/// of memory.
+/// The plan's domain under a lock, and a post at each of its seats. None for want of memory.
 fn new_domain<'a, R, C, F, S, G>(
     rt: &'a R,
     plan: &Plan<'_>,
@@ -321,12 +341,35 @@ where
     requires frames { (frames.name ≡ F.name) × (frames.parts ≡ F.parts) × (frames.parts ≡ plan.now.workers) }
     requires sum_lo { (sum_lo.name ≡ S.name) × (sum_lo.parts ≡ S.parts) × (sum_lo.parts ≡ plan.now.workers) }
     requires good { (good.name ≡ G.name) × (good.parts ≡ G.parts) × (good.parts ≡ TALLY_PARTS * plan.now.workers) }
-    ensures { IfSome result (λ r. (r.0.workers ≡ plan.now.workers) × (map (λ p. p.seat) r.1.items ≡ new_seats plan.now.workers)) }
+    ensures number { IfSome result (λ r. r.0.number ≡ plan.now.domain) }
+    ensures workers { IfSome result (λ r. r.0.workers ≡ plan.now.workers) }
+    ensures seats { IfSome result (λ r. map (λ p. p.seat) r.1.items ≡ new_seats plan.now.workers) }
+{
+    match book_of(rt.alloc(), plan, bounds, count, frames, sum_lo, good) {
+        Some((book, seats)) => posted(rt.alloc(), Shared::over(rt, book), seats),
+        None => None,
+    }
+}
+
+/// The plan's new domain, recorded and strict where the plan says so, and its seats. None for want of memory.
+fn book_of<C: Ledger, F: Ledger, S: Ledger, G: Ledger>(
+    alloc: Global,
+    plan: &Plan<'_>,
+    bounds: Bounds,
+    count: Blank,
+    frames: Blank,
+    sum_lo: Blank,
+    good: Blank,
+) -> Option<(Book<C, F, S, G>, Vec<Seat<C, F, S, G>>)>
+    requires count { (count.name ≡ C.name) × (count.parts ≡ C.parts) × (count.parts ≡ plan.now.workers) }
+    requires frames { (frames.name ≡ F.name) × (frames.parts ≡ F.parts) × (frames.parts ≡ plan.now.workers) }
+    requires sum_lo { (sum_lo.name ≡ S.name) × (sum_lo.parts ≡ S.parts) × (sum_lo.parts ≡ plan.now.workers) }
+    requires good { (good.name ≡ G.name) × (good.parts ≡ G.parts) × (good.parts ≡ TALLY_PARTS * plan.now.workers) }
+    ensures { IfSome result (λ r. (r.0 ≡ planned_book plan.now bounds) × (r.1.items ≡ new_seats plan.now.workers)) }
 {
     let made = if plan.record.is_some() {
-        Shared::<&R, C, F, S, G>::recorded(
-            rt,
-            rt.alloc(),
+        Book::recorded(
+            alloc,
             plan.domain,
             bounds,
             plan.workers,
@@ -337,9 +380,8 @@ where
             good,
         )
     } else {
-        Shared::<&R, C, F, S, G>::new(
-            rt,
-            rt.alloc(),
+        Book::new(
+            alloc,
             plan.domain,
             bounds,
             plan.workers,
@@ -350,26 +392,25 @@ where
         )
     };
     match made {
-        Ok((shared, seats)) => posted(rt.alloc(), plan.strict, shared, seats),
+        Ok((book, seats)) => if plan.strict {
+            Some((book.strict(), seats))
+        } else {
+            Some((book, seats))
+        },
         Err(_) => None,
     }
 }
 
-/// The domain, strict where that is wanted, and a post at each seat. None for want of memory.
+/// The domain, and a post at each seat. None for want of memory.
 fn posted<Q: Drop, C: Ledger, F: Ledger, S: Ledger, G: Ledger>(
     alloc: Global,
-    strict: bool,
     shared: Shared<Q, C, F, S, G>,
     seats: Vec<Seat<C, F, S, G>>,
 ) -> Option<(Shared<Q, C, F, S, G>, Vec<Post<C, F, S, G>>)>
     ensures { IfSome result (λ r. (r.0 ≡ shared) × (map (λ p. p.seat) r.1.items ≡ seats.items)) }
 {
     match posts_of(alloc, seats) {
-        Some(posts) => if strict {
-            Some((shared.strict(), posts))
-        } else {
-            Some((shared, posts))
-        },
+        Some(posts) => Some((shared, posts)),
         None => {
             drop(shared);
             None

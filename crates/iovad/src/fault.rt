@@ -4,6 +4,7 @@ ghost use Rattle.std.specs.Process.{exit_status};
 ghost use Rattle.iovad.specs.Faults.{IfUnread, IsFaultOfWords, fault_text, fault_status};
 
 use iova_ask::fault::AskFault;
+use iova_check::fault::CheckFault;
 use iova_command::usage::{Usage, WordsFault};
 use iova_command::words::STANDARD_INPUT;
 use iova_trace::fault::ReplayFault;
@@ -21,6 +22,10 @@ pub enum Fault<'a> {
     LastAboveProfile,
     /// The line with this number, counted from 1, is no line of a trace, or one too many.
     TraceRefused(u64),
+    /// The line with this number, counted from 1, is no line of a log.
+    LogRefused(u64),
+    /// A log has a finding, which was told.
+    Found,
     /// The file of this name cannot be opened or read; `-` is standard input.
     CannotRead(&'a str),
     /// Standard output cannot be written.
@@ -49,6 +54,21 @@ impl<'a> Fault<'a> {
         }
     }
 
+    /// The fault of the check of the log of this name.
+    pub fn of_check(fault: CheckFault, path: &'a str) -> Fault<'a>
+        ensures refused { (line : ℕ) → fault ≡ CheckFault.BadLog line → result ≡ Fault.LogRefused line }
+        ensures unread { fault ≡ CheckFault.ReadFault → result ≡ Fault.CannotRead path.entry }
+        ensures unwritten { fault ≡ CheckFault.WriteFault → result ≡ Fault.CannotWrite }
+        ensures memory { fault ≡ CheckFault.NoMemory → result ≡ Fault.NoMemory }
+    {
+        match fault {
+            CheckFault::BadLog(line) => Fault::LogRefused(line),
+            CheckFault::ReadFault => Fault::CannotRead(path),
+            CheckFault::WriteFault => Fault::CannotWrite,
+            CheckFault::NoMemory => Fault::NoMemory,
+        }
+    }
+
     /// The fault of lines asked from standard input.
     pub fn of_ask(fault: AskFault) -> Fault<'static>
         ensures unread { fault ≡ AskFault.Read → IfUnread result (λ path. path ≡ codes "-") }
@@ -64,15 +84,17 @@ impl<'a> Fault<'a> {
         }
     }
 
-    /// The status that the process ends with: 0 where help was asked for, 2 where the words are not understood or can't be followed, 3 for a trace
-    /// that is refused, 4 for a file that cannot be read or written, 5 for memory.
+    /// The status that the process ends with: 0 where help was asked for, 1 for a log that has a finding, 2 where the words are
+    /// not understood or can't be followed, 3 for a trace or a log that is refused, 4 for a file that cannot be read or written,
+    /// 5 for memory.
     pub fn status(&self) -> u8
         ensures { result ≡ fault_status self.now }
     {
         match self {
             Fault::Words(usage) => usage.status(),
             Fault::StartAboveLast | Fault::LastAboveProfile => 2,
-            Fault::TraceRefused(_) => 3,
+            Fault::Found => 1,
+            Fault::TraceRefused(_) | Fault::LogRefused(_) => 3,
             Fault::CannotRead(_)
             | Fault::CannotWrite
             | Fault::SocketFault
@@ -81,7 +103,8 @@ impl<'a> Fault<'a> {
         }
     }
 
-    /// Prints the fault's line on standard error, or help on standard output, and gives the status. Help that can't be
+    /// Prints the fault's line on standard error, or help on standard output, and gives the status. A finding has been told, and
+    /// prints nothing. Help that can't be
     /// written is the fault `CannotWrite`; where a fault's line can't be, nobody is left to tell.
     pub fn tell<R: Print + Eprint>(&self, rt: &R) -> ExitCode
         ensures { (exit_status result ≡ fault_status self.now)
@@ -89,6 +112,7 @@ impl<'a> Fault<'a> {
     {
         let told = match self {
             Fault::Words(usage) => usage.print(rt),
+            Fault::Found => Ok(()),
             fault => eprintln!(rt; "{fault}"),
         };
         if told.is_err() && self.status() == 0 {
@@ -121,6 +145,8 @@ impl<'a> fmt::Display for Fault<'a> {
             Fault::StartAboveLast => f.write_str("iovad: start is above last"),
             Fault::LastAboveProfile => f.write_str("iovad: last is above the profile"),
             Fault::TraceRefused(line) => write!(f, "iovad: trace refused at line {line}"),
+            Fault::LogRefused(line) => write!(f, "iovad: log refused at line {line}"),
+            Fault::Found => f.write_str("iovad: the log has a finding"),
             Fault::CannotRead(path) => write!(f, "iovad: cannot read {path}"),
             Fault::CannotWrite => f.write_str("iovad: cannot write the output"),
             Fault::SocketFault => f.write_str("iovad: socket fault"),

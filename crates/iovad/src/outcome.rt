@@ -1,5 +1,5 @@
 //! What a daemon prints at its end.
-ghost use Rattle.std.specs.Prelude.{◌≡◌, [], OnOk};
+ghost use Rattle.std.specs.Prelude.{◌≡◌, ◌⊎◌, [], IfErr, OnOk};
 ghost use Rattle.iovad.specs.Outcomes.{PrintsDomain, domain_text};
 
 use crate::fault::Fault;
@@ -19,7 +19,8 @@ pub fn print_domain<W: Write>(
     domain: &Domain,
     writer: &mut W,
 ) -> Result<(), Fault<'static>>
-    ensures { PrintsDomain number domain.now (W.contents writer.old) (W.contents writer.new) result }
+    ensures prints { PrintsDomain number domain.now (W.contents writer.old) (W.contents writer.new) result }
+    ensures faults { IfErr result (λ e. (e ≡ Fault.NoMemory) ⊎ (e ≡ Fault.CannotWrite)) }
 {
     let mut text = Vec::new(alloc);
     match put_domain(number, domain, &mut text) {

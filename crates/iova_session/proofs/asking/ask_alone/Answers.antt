@@ -4,14 +4,10 @@ use Rattle.iova_proto.specs.declared.answer.Answer.TheVariants as answer
 use Rattle.iova_proto.specs.declared.request.Request.{Request}
 use Rattle.iova_proto.specs.declared.request.Request.TheVariants as request
 use Rattle.iova_session.specs.Desks.{IsClientAnswer, MovesBy, given_by, taken_by}
-use Rattle.iova_session.proofs.Others.{release_keeps}
 use Rattle.iova_session.specs.Domains.{release_answer}
-use Rattle.iova_session.proofs.Alone.{frees}
+use Rattle.iova_session.proofs.Alone.{free_does, flush_does, list_does, hello_does, bye_does}
 use Rattle.iova_session.proofs.ToldPairs.{released_answers, released_moves}
 use Rattle.iova_session.proofs.asking.ask_alone.Goals as goal
-
-pub returns-in-Ok-clause-domain : goal.returns-in-Ok-clause-domain
-returns-in-Ok-clause-domain g c = release_keeps c.others_keep_their_holdings.ensures _ c.args.seat.now c.args.id _ c.release.result _ _ _ _ _ c.release.ensures.domain
 
 pub returns-in-Ok-clause-answer : goal.returns-in-Ok-clause-answer
 returns-in-Ok-clause-answer g c =
@@ -24,15 +20,24 @@ returns-in-Ok-clause-shares g c =
     subst (λ (a : Answer). MovesBy (given_by a) (taken_by a) c.args.seat.now.held c.release.new.seat.held) (sym c.released.ensures)
     (released_moves c.in-Ok.unmapped c.args.seat.now.held c.release.new.seat.held c.in-Ok.ensures.seat)
 
-pub returns-in-Err-clause-domain : goal.returns-in-Err-clause-domain
-returns-in-Err-clause-domain g c = release_keeps c.others_keep_their_holdings.ensures _ c.args.seat.now c.args.id _ c.release.result _ _ _ _ _ c.release.ensures.domain
-
-pub returns-in-Ok-clause-free : goal.returns-in-Ok-clause-free
-returns-in-Ok-clause-free g c lo named =
-    frees _ _ _ c.args.seat.now c.args.id c.in-Free.lo lo c.args.request c.release.result c.released.result _ _ _ c.in-Free.is named
+pub returns-in-Ok-clause-does : goal.returns-in-Ok-clause-does
+returns-in-Ok-clause-does g c =
+    free_does _ _ _ _ c.args.seat.now c.args.id c.args.listed c.in-Free.lo c.args.request c.release.result c.released.result _ _ c.in-Free.is
     (c.released.ensures ∙ sym (ap release_answer c.in-Ok.is)) c.release.ensures.domain
 
-pub returns-in-Err-clause-free : goal.returns-in-Err-clause-free
-returns-in-Err-clause-free g c lo named =
-    frees _ _ _ c.args.seat.now c.args.id c.in-Free.lo lo c.args.request c.release.result (answer.Refused c.in-Err.refusal) _ _ _ c.in-Free.is named
+pub returns-in-Err-clause-does : goal.returns-in-Err-clause-does
+returns-in-Err-clause-does g c =
+    free_does _ _ _ _ c.args.seat.now c.args.id c.args.listed c.in-Free.lo c.args.request c.release.result (answer.Refused c.in-Err.refusal) _ _ c.in-Free.is
     (sym (ap release_answer c.in-Err.is)) c.release.ensures.domain
+
+pub returns-in-Hello-clause-does : goal.returns-in-Hello-clause-does
+returns-in-Hello-clause-does g c = hello_does _ _ _ c.args.seat.now c.args.id c.args.listed _ _ c.args.request _ c.in-Hello.is
+
+pub returns-in-List-clause-does : goal.returns-in-List-clause-does
+returns-in-List-clause-does g c = list_does _ _ _ c.args.seat.now c.args.id c.args.listed c.args.request c.list.result _ c.in-List.is c.list.ensures.domain
+
+pub returns-in-Flush-clause-does : goal.returns-in-Flush-clause-does
+returns-in-Flush-clause-does g c = flush_does _ _ _ _ c.args.seat.now c.args.id c.args.listed c.args.request c.flush_and_drain.result _ _ c.in-Flush.is c.flush_and_drain.ensures.flushes
+
+pub returns-in-Bye-clause-does : goal.returns-in-Bye-clause-does
+returns-in-Bye-clause-does g c = bye_does _ _ _ c.args.seat.now c.args.id c.args.listed c.args.request _ c.in-Bye.is

@@ -22,9 +22,10 @@ trying-preserved g c =
           record {
             tried = rw (w.post-is, w.left-is) next;
             number = n.number ∙ i.number;
+            strict = n.strict ∙ i.strict;
             place = rw seat (record { worker = n.worker ∙ i.place.worker; parts = n.parts ∙ i.place.parts; tally = omega (arith, n.tally, i.place.tally) });
             goes_on = λ more left now o k.
-                let first = tried_first _ old c.trying.at id c.end_client.result more c.trying.post.seat c.end_client.new.seat left _ _ now _ _ o lt there does (rw seat at k) in
+                let first = tried_first _ old c.trying.at id c.end_client.result more c.trying.post.seat c.end_client.new.seat left _ _ now _ _ o lt there n.worker does (rw seat at k) in
                 let kept = rw yes at first in
                 let before = i.goes_on (id ∷ more) left now o kept in
                 let here : c.trying.left < length c.trying.post.waiting.items = omega (arith, lt, i.tried.few, i.tried.long) in
@@ -39,9 +40,10 @@ trying-preserved g c =
           record {
             tried = rw (w.post-is, w.left-is) next;
             number = n.number ∙ i.number;
+            strict = n.strict ∙ i.strict;
             place = rw seat (record { worker = n.worker ∙ i.place.worker; parts = n.parts ∙ i.place.parts; tally = omega (arith, n.tally, i.place.tally) });
             goes_on = λ more left now o k.
-                let first = tried_first _ old c.trying.at id c.end_client.result more c.trying.post.seat c.end_client.new.seat left _ _ now _ _ o lt there does (rw seat at k) in
+                let first = tried_first _ old c.trying.at id c.end_client.result more c.trying.post.seat c.end_client.new.seat left _ _ now _ _ o lt there n.worker does (rw seat at k) in
                 let kept = rw no at first in
                 let before = i.goes_on more left now o kept in
                 rw (w.post-is, w.left-is) before;

@@ -11,6 +11,7 @@ abbrev pub invariant-trying : goal.invariant-trying
 invariant-trying g l = record {
   tried : Tried l.initial.post.waiting.items l.post.waiting.items l.at l.left;
   number : g.K.Keep.domain_number l.keeper ≡ g.K.Keep.domain_number l.initial.keeper;
+  strict : g.K.Keep.strict l.keeper ≡ g.K.Keep.strict l.initial.keeper;
   place : KeepsPlace l.initial.post.seat l.post.seat (g.D.Sink.calls l.initial.sink) (g.D.Sink.calls l.sink);
   goes_on : (more : List ℕ) (left : SeatState) (now : List Call) (o : Option State)
       → WhereKnown (g.K.Keep.domain l.keeper) o (Retries (g.K.Keep.domain_number l.initial.keeper) (drop l.at l.initial.post.waiting.items) more l.post.seat left (g.D.Sink.calls l.sink) now)

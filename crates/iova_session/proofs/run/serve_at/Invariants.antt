@@ -3,6 +3,7 @@ use Rattle.iova_session.proofs.run.serve_at.Given as goal
 abbrev pub ghosts-serve_lent : goal.ghosts-serve_lent
 ghosts-serve_lent g a = record {
   number = g.K.Keep.domain_number a.lent.keeper.now;
+  strict = g.K.Keep.strict a.lent.keeper.now;
   domain = g.K.Keep.domain a.lent.keeper.now;
   seat = a.lent.seat.now;
   calls = g.D.Sink.calls a.lent.sink.now;

@@ -2,7 +2,7 @@ use Rattle.std.proofs.Common.{ap, subst}
 use Rattle.iova_keep.specs.Views.{SeatState}
 use Rattle.iova_session.specs.Desks.{SessionState, MovesBy, given_in, taken_in}
 use Rattle.iova_session.proofs.ToldPairs.{moved_none}
-use Rattle.iova_session.proofs.Others.{same_known}
+use Rattle.iova_session.proofs.Leads.{leads_yet}
 use Rattle.iova_session.proofs.run.serve_lent.Goals as goal
 
 pub invariant_of-desk-clause-shares : goal.invariant_of-desk-clause-shares
@@ -11,5 +11,7 @@ invariant_of-desk-clause-shares g c =
     subst (λ (x : SeatState). MovesBy (given_in c.new-session.result.pairs) (taken_in c.new-session.result.pairs) x.held c.args.lent.seat.now.held) c.requires.seat
     (moved_none c.new-session.result c.args.lent.seat.now.held none)
 
-pub invariant_of-desk-clause-others : goal.invariant_of-desk-clause-others
-invariant_of-desk-clause-others g c = same_known _ _ _ c.requires.domain
+pub invariant_of-desk-clause-leads : goal.invariant_of-desk-clause-leads
+invariant_of-desk-clause-leads g c =
+    leads_yet g.O.Opening.strict g.O.Opening.number c.new-session.result.pairs g.O.Opening.seat c.args.lent.seat.now g.O.Opening.calls (g.D.Sink.calls c.args.lent.sink.now)
+    g.O.Opening.domain (g.K.Keep.domain c.args.lent.keeper.now) (ap (λ (s : SessionState). s.pairs) c.new-session.ensures) c.requires.domain c.requires.seat c.requires.calls

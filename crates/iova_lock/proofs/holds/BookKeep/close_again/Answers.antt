@@ -1,7 +1,7 @@
 use Rattle.std.proofs.Common.{◌≡◌, ◌<◌, ap, arith}
 use Rattle.iova_model.specs.declared.totals.Totals.{Totals}
-use Rattle.iova_keep.specs.Views.{SeatState}
 use Rattle.iova_lock.proofs.Ends.{again_closed, again_full_at_once, again_full}
+use Rattle.iova_record.proofs.GoingOn.{goes_on_further}
 use Rattle.iova_lock.proofs.holds.BookKeep.close_again.Goals.{then-is_full+then-count-before, else-is_full, else-is_full-via-then-is_full+else-count-before, else-is_full-via-else-is_full}
 use Rattle.iova_lock.proofs.holds.BookKeep.close_again.Goals as goal
 
@@ -23,4 +23,12 @@ returns-clause-domain g c =
             again_full_at_once _ _ _ _ _ _ _ _ _ _ c.run_flush_at-ended.ensures.takes (rw v.if-is_full.true at c.is_full.ensures) none closes
         | else-is_full-via-else-is_full v ↦ again_closed _ _ _ _ _ _ _ _ _ _ c.run_flush_at-ended.ensures.takes (rw v.if-is_full.false at c.is_full.ensures) closes
       ])
+    ]
+
+pub returns-clause-log : goal.returns-clause-log
+returns-clause-log g c =
+    let closed = goes_on_further c.run_flush_at-ended.ensures.same.2 c.close_all-reply.ensures.same.2 in
+    elim c.if-is_full.branch [
+      | then-is_full+then-count-before w ↦ rw w.self-is (goes_on_further closed w.run_flush_at.ensures.same.2)
+      | else-is_full w ↦ rw w.self-is closed
     ]

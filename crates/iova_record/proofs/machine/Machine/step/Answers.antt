@@ -1,9 +1,10 @@
 use Rattle.std.proofs.Common.{Some}
 use Rattle.iova_model.specs.Transcript.{Pair}
-use Rattle.iova_record.specs.StepLogs.{Stores}
+use Rattle.iova_keep.specs.StepLogs.{Stores}
 use Rattle.iova_record.proofs.StepLogs.{takes, recorded_goes_on, stores_goes_on}
 use Rattle.iova_record.proofs.GoingOn.{goes_on_here}
 use Rattle.iova_record.proofs.Drains.{drain_replies}
+use Rattle.iova_record.proofs.KnownWorkers.{known}
 use Rattle.iova_record.proofs.machine.Machine.step.Goals as goal
 
 pub returns-in_default-clause-takes : goal.returns-in_default-clause-takes
@@ -13,6 +14,11 @@ returns-in_default-clause-takes c =
 
 pub returns-in_default-clause-goes_on : goal.returns-in_default-clause-goes_on
 returns-in_default-clause-goes_on c = rw (← c.self.view_is) (goes_on_here c.self.inside.log)
+
+pub returns-in_default-clause-known : goal.returns-in_default-clause-known
+returns-in_default-clause-known c =
+    let m = c.step_at-answer in
+    rw (← c.self.view_is) (known c.self.inside.domain c.args.step m.result.1 m.result.0 m.ensures.reply)
 
 pub returns-in_default-clause-drained : goal.returns-in_default-clause-drained
 returns-in_default-clause-drained c =
@@ -41,6 +47,11 @@ returns-clause-goes_on c =
     let p : Pair = record { step = c.args.step; point = m.result.1; reply = m.result.0 } in
     let stored : Stores c.self.inside.log p (Some c.store.new.self) = rw c.in-Some.is c.store.ensures in
     rw (← c.self.view_is) (stores_goes_on c.self.inside.log (Some c.store.new.self) p stored)
+
+pub returns-clause-known : goal.returns-clause-known
+returns-clause-known c =
+    let m = c.step_at-answer in
+    rw (← c.self.view_is) (known c.self.inside.domain c.args.step m.result.1 m.result.0 m.ensures.reply)
 
 pub returns-clause-drained : goal.returns-clause-drained
 returns-clause-drained c =

@@ -1,11 +1,15 @@
 use Rattle.iova_session.proofs.ToldPairs.{moved_either}
-use Rattle.iova_session.proofs.Others.{then_keeps}
+use Rattle.iova_session.proofs.Leads.{leads_on}
 use Rattle.iova_session.proofs.keeper_desk.KeeperDeskDesk.ask_run.Goals as goal
 
 pub invariant_of-self-clause-shares : goal.invariant_of-self-clause-shares
 invariant_of-self-clause-shares g c =
     moved_either c.ask_lent.result _ _ _ _ _ _ c.args.self.now.lent.seat.now c.ask_lent.new.lent.seat.now c.args.self.now.shares c.ask_lent.ensures.ok c.ask_lent.ensures.err
 
-pub invariant_of-self-clause-others : goal.invariant_of-self-clause-others
-invariant_of-self-clause-others g c =
-    then_keeps c.args.self.now.session.client c.ask_lent.new.session.client _ _ _ c.ask_lent.ensures.client c.args.self.now.others c.ask_lent.ensures.domain
+pub invariant_of-self-clause-leads : goal.invariant_of-self-clause-leads
+invariant_of-self-clause-leads g c =
+    leads_on g.O.Opening.strict (g.K.Keep.strict c.args.self.now.lent.keeper.now) g.O.Opening.number c.args.self.now.session c.ask_lent.new.session
+    g.O.Opening.seat c.args.self.now.lent.seat.now c.ask_lent.new.lent.seat.now
+    g.O.Opening.calls (g.D.Sink.calls c.args.self.now.lent.sink.now) (g.D.Sink.calls c.ask_lent.new.lent.sink.now)
+    g.O.Opening.domain (g.K.Keep.domain c.args.self.now.lent.keeper.now) (g.K.Keep.domain c.ask_lent.new.lent.keeper.now)
+    c.args.self.now.strict c.args.self.now.number.0 c.ask_lent.ensures.after c.args.self.now.leads c.ask_lent.ensures.leads

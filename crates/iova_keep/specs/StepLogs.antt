@@ -1,9 +1,7 @@
 -- What is recorded of the steps of a domain.
-use Rattle.std.specs.Prelude.{ℕ, ◌≡◌, ◌+◌, ◌<◌, ◌≤◌, ◌⊎◌, Bool, true, false, List, [], ◌∷◌, ◌++◌, length, Option, Some, None, MatchOption}
+use Rattle.std.specs.Prelude.{ℕ, ◌≡◌, ◌<◌, ◌≤◌, ◌⊎◌, Bool, true, false, List, [], ◌∷◌, ◌++◌, length, Option, Some, None, MatchOption}
 use Rattle.iova_model.specs.declared.step.Step.{Step}
-use Rattle.iova_model.specs.declared.step.Step.TheVariants as step
 use Rattle.iova_model.specs.declared.step.Reply.{Reply}
-use Rattle.iova_model.specs.declared.step.Reply.TheVariants as reply
 use Rattle.iova_model.specs.declared.step.Point.{Point}
 use Rattle.iova_model.specs.State.{State, new_domain}
 use Rattle.iova_model.specs.Transcript.{Pair, IsTranscript, after}
@@ -64,8 +62,3 @@ IsRecorded (Some log) s = IsLogOf log s
 abbrev pub is_recording : Option StepLog → Bool
 is_recording None = false
 is_recording (Some log) = log.recording
-
--- a domain, and where it is recorded its log
-pub record MachineState : Type 0 where
-  pub state : State
-  pub log : Option StepLog

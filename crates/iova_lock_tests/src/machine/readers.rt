@@ -129,19 +129,6 @@ fn frames_at_all_six_kinds_of_place(rt: HostRuntime) -> Result<(), Fail> {
 }
 
 #[test]
-fn one_to_sixteen_workers(rt: HostRuntime) -> Result<(), Fail> {
-    let bounds = Bounds::new(1, 1023)?;
-    for workers in [0, 17, u64::MAX] {
-        let refusal = Domain::new(rt.alloc(), bounds, workers).err();
-        assert_eq!(rt; refusal, Some(Refusal::NoWorker));
-    }
-    let domain = domain_in(rt.alloc(), bounds, 16)?;
-    assert_eq!(rt; (domain.workers(), domain.bounds()), (16, bounds));
-    drop(domain);
-    Ok(())
-}
-
-#[test]
 fn windows_over_frames_in_caches_and_rings(rt: HostRuntime) -> Result<(), Fail> {
     let mut domain = domain(rt.alloc(), 1023, 1)?;
     answers(

@@ -1,19 +1,19 @@
 //! Lines read and written, and streams cut into pieces. The texts named `SESSION_` come from an independent model of the
 //! rules: what a peer sends, and what it is answered.
-use crate::answer::Answer;
-use crate::decode::{BadLine, decode};
-use crate::encode::encode;
-use crate::fed::Fed;
-use crate::held::HeldRanges;
-use crate::lines::Lines;
-use crate::request::Request;
 use arrayvec::ArrayVec;
+use iova_proto::answer::Answer;
+use iova_proto::decode::{BadLine, decode};
+use iova_proto::encode::encode;
+use iova_proto::fed::Fed;
+use iova_proto::held::HeldRanges;
+use iova_proto::lines::Lines;
+use iova_proto::request::Request;
 use iova_range::range::Range;
 use iova_range::refusal::Refusal;
 use iova_range::stat::Stat;
 use std::alloc::Global;
 use std::process::Abort;
-use std::test::Fail;
+use std::test::*;
 
 const HELLO: Request = Request::Hello {
     domain: 0,

@@ -2,7 +2,6 @@
 //! these are `Once`, `First` and `Second`, with N = 28 `Once`, `Ledger` and `Last`, and with N = 302 `Second` where the walk
 //! has moved a magazine.
 use super::*;
-use std::io::Print;
 
 // Runs a step. Where a growth is refused, at one of these points, it leaves the counts beside the point; with memory the
 // same step then comes to none.

@@ -1,12 +1,12 @@
 //! Lines asked over links in memory.
-use crate::ask_lines;
-use crate::fault::AskFault;
+use iova_ask::ask_lines;
+use iova_ask::fault::AskFault;
 use iova_session::memory_link::MemoryLink;
 use std::alloc::Global;
 use std::io;
 use std::io::{ErrorKind, Read, Write};
 use std::process::Abort;
-use std::test::Fail;
+use std::test::*;
 
 /// A reader of a text in pieces of at most `most` bytes, and then fails where it should.
 #[derive(Drop)]

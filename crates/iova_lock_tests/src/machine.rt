@@ -1,10 +1,15 @@
 //! What domains answer to lists of steps.
 ghost use Rattle.std.specs.Prelude.{◌≤◌, ◌<◌, ◌+◌, ◌^◌};
 
-use super::*;
+use iova_core::domain::{Domain, run};
+use iova_core::{ClientId, Counts, Place, Point, Reply, Step, Totals};
+use iova_range::bounds::Bounds;
 use iova_range::profile::Profile;
+use iova_range::range::Range;
+use iova_range::refusal::Refusal;
+use std::alloc::Global;
 use std::process::Abort;
-use std::test::Fail;
+use std::test::*;
 
 // A domain. Where memory is refused once, the same call then succeeds.
 fn domain_in(alloc: Global, bounds: Bounds, workers: u64) -> Result<Domain, Refusal> {

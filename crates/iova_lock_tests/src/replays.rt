@@ -1,10 +1,14 @@
 //! Replays over readers and writers that give and take few bytes at a call, and fail at one.
-use super::*;
 use arrayvec::ArrayVec;
+use iova_trace::fault::ReplayFault;
+use iova_trace::replay::replay;
 use memchr::memmem;
+use std::alloc::Global;
 use std::cell::Cell;
-use std::io::{ErrorKind, Print};
+use std::io;
+use std::io::{ErrorKind, Read, Write};
 use std::process::Abort;
+use std::test::*;
 
 /// A reader of bytes, at most `most` of them a call. Its call of number `fail_at` is interrupted.
 #[derive(Drop)]

@@ -1,0 +1,124 @@
+-- How a session leads a domain that is known, request by request. Own.
+use Rattle.std.specs.Prelude.{ℕ, ◌≡◌, ◌≢◌, ◌+◌, ◌⊎◌, Bool, List, [], ◌∷◌, ◌++◌, Option, Some, None, Result, Ok, Err}
+use Rattle.iova_range.specs.declared.refusal.Refusal.{Refusal}
+use Rattle.iova_range.specs.declared.refusal.Refusal.TheVariants as refusal
+use Rattle.iova_range.specs.Frames.{Frames}
+use Rattle.iova_model.specs.State.{State}
+use Rattle.iova_sink.specs.Calls.{Call}
+use Rattle.iova_keep.specs.declared.ending.Ending.{Ending}
+use Rattle.iova_keep.specs.Views.{SeatState, stat_of}
+use Rattle.iova_keep.specs.Answers.{Opens, Allocs, DoesEndClient}
+use Rattle.iova_proto.specs.declared.answer.Answer.{Answer}
+use Rattle.iova_proto.specs.declared.answer.Answer.TheVariants as answer
+use Rattle.iova_proto.specs.declared.request.Request.{Request}
+use Rattle.iova_proto.specs.declared.request.Request.TheVariants as request
+use Rattle.iova_session.specs.Pairs.{Pair}
+use Rattle.iova_session.specs.Desks.{MovesBy, SessionState, given_by, taken_by, next_client, count_listed, client_after}
+use Rattle.iova_session.specs.Domains.{Lists, Frees, FlushesAndDrains}
+
+-- how things stand at one moment of a session: its seat, the calls of its sink, and the domain
+pub record Standing : Type 0 where
+  pub seat : SeatState
+  pub calls : List Call
+  pub domain : State
+
+abbrev pub standing : SeatState → List Call → State → Standing
+standing seat calls s = record { seat = seat; calls = calls; domain = s }
+
+abbrev pub IsSame : State → State → Type 0
+IsSame s t = t ≡ s
+
+-- what a hello is answered, of which the open came to this
+abbrev pub open_answer : Result ℕ Refusal → Answer
+open_answer (Ok id) = answer.Opened id
+open_answer (Err e) = answer.Refused e
+
+-- and a request for frames, of which the alloc did
+abbrev pub alloc_answer : Result Frames Refusal → Answer
+alloc_answer (Ok r) = answer.Given r
+alloc_answer (Err e) = answer.Refused e
+
+-- A hello opens a client of worker w, and none where it names another domain.
+abbrev pub Greets : ℕ → ℕ → ℕ → Bool → Answer → State → State → Type 0
+Greets number w domain sac a s t =
+    ((domain ≢ number) × (a ≡ answer.Refused refusal.NoDomain) × (t ≡ s))
+    ⊎ ((domain ≡ number) × ((result : Result ℕ Refusal) × Opens w sac result s t × (a ≡ open_answer result)))
+
+-- What a request does without a client, in a domain of this number, at a seat of worker w.
+abbrev pub FirstDoes : ℕ → ℕ → Request → Answer → State → State → Type 0
+FirstDoes number w (request.Hello domain sac) a s t = Greets number w domain sac a s t
+FirstDoes number w (request.Alloc frames limit) a s t = (a ≡ answer.Refused refusal.NoClient) × (t ≡ s)
+FirstDoes number w (request.Free lo) a s t = (a ≡ answer.Refused refusal.NoClient) × (t ≡ s)
+FirstDoes number w request.List a s t = (a ≡ answer.Refused refusal.NoClient) × (t ≡ s)
+FirstDoes number w request.Flush a s t = (a ≡ answer.Refused refusal.NoClient) × (t ≡ s)
+FirstDoes number w request.Stat a s t = (a ≡ answer.Refused refusal.NoClient) × (t ≡ s)
+FirstDoes number w request.Bye a s t = (a ≡ answer.Bye) × (t ≡ s)
+
+-- What a request does with a client that was told so many ranges in lists: what its call of the lock does, which it is
+-- answered by, between these calls of the sink.
+abbrev pub ClientDoes : Bool → ℕ → SeatState → ℕ → ℕ → Request → Answer → List Call → List Call → State → State
+    → Type 0
+ClientDoes strict number seat id listed (request.Alloc frames limit) a before now s t =
+    (result : Result Frames Refusal) × Allocs seat.worker id frames limit result s t × (a ≡ alloc_answer result)
+    × (now ≡ before)
+ClientDoes strict number seat id listed (request.Free lo) a before now s t =
+    Frees strict seat id lo a number before now s t
+ClientDoes strict number seat id listed request.List a before now s t =
+    Lists seat.worker id listed a s × (now ≡ before) × (t ≡ s)
+ClientDoes strict number seat id listed request.Flush a before now s t =
+    FlushesAndDrains seat.worker a number before now s t
+ClientDoes strict number seat id listed request.Stat a before now s t =
+    (a ≡ answer.Stat (stat_of s)) × (now ≡ before) × (t ≡ s)
+ClientDoes strict number seat id listed (request.Hello domain sac) a before now s t =
+    (a ≡ answer.Refused refusal.Twice) × (now ≡ before) × (t ≡ s)
+ClientDoes strict number seat id listed request.Bye a before now s t = (a ≡ answer.Bye) × (now ≡ before) × (t ≡ s)
+
+-- One request with its answer leads from a to b, by the client so far and the ranges listed so far.
+abbrev pub PairDoes : Bool → ℕ → Option ℕ → ℕ → Pair → Standing → Standing → Type 0
+PairDoes strict number None listed p a b =
+    FirstDoes number a.seat.worker p.request p.answer a.domain b.domain × (b.calls ≡ a.calls)
+PairDoes strict number (Some id) listed p a b =
+    ClientDoes strict number a.seat id listed p.request p.answer a.calls b.calls a.domain b.domain
+
+-- and moves the seat's shares by the answer
+pub record MovesSeat (a : Answer) (old new : SeatState) : Type 0 where
+  pub worker : new.worker ≡ old.worker
+  pub shares : MovesBy (given_by a) (taken_by a) old.held new.held
+
+-- All of these requests with their answers lead from a to b, in their order.
+unfoldable pub PairsLead : Bool → ℕ → Option ℕ → ℕ → List Pair → Standing → Standing → Type 0
+PairsLead strict number client listed [] a b = b ≡ a
+PairsLead strict number client listed (p ∷ ps) a b =
+    (mid : Standing) × PairDoes strict number client listed p a mid × MovesSeat p.answer a.seat mid.seat
+    × PairsLead strict number (next_client client p.answer) (listed + count_listed p.answer) ps mid b
+
+-- A session's pairs from its first request on: from one seat to another, between these calls of the sink.
+abbrev pub LeadsFrom : Bool → ℕ → List Pair → SeatState → SeatState → List Call → List Call → State → State → Type 0
+LeadsFrom strict number ps old new before now s t =
+    PairsLead strict number None 0 ps (standing old before s) (standing new now t)
+
+-- A session goes on by some pairs, which lead so.
+abbrev pub GoesOn : Bool → SessionState → SessionState → SeatState → SeatState → List Call → List Call → State → State
+    → Type 0
+GoesOn strict was now old new before calls s t =
+    (ps : List Pair) × (now.pairs ≡ was.pairs ++ ps)
+    × PairsLead strict was.number was.client was.listed ps (standing old before s) (standing new calls t)
+
+-- what is told of a client's end is what it came to, or nothing
+abbrev pub TellsAtMost : Option Ending → Result Ending Refusal → Type 0
+TellsAtMost None result = Unit {0}
+TellsAtMost (Some told) result = result ≡ Ok told
+
+-- The end of the client that a session opened, of which this is told; where none was opened, nothing is done.
+abbrev pub EndDoes : ℕ → Option ℕ → Option Ending → Standing → Standing → Type 0
+EndDoes number None told a b = (told ≡ None) × (b ≡ a)
+EndDoes number (Some id) told a b =
+    (result : Result Ending Refusal) × TellsAtMost told result
+    × DoesEndClient a.seat b.seat.held id result number a.calls b.calls a.domain b.domain
+
+-- A whole session: its pairs lead from where it began to where its client is ended, and that end leads on.
+pub record SessionLeads (strict : Bool) (number : ℕ) (ps : List Pair) (told : Option Ending) (old new : SeatState)
+    (before now : List Call) (s t : State) : Type 0 where
+  pub here : Standing
+  pub asked : PairsLead strict number None 0 ps (standing old before s) here
+  pub ended : EndDoes number (client_after None ps) told here (standing new now t)

@@ -1,0 +1,57 @@
+//! Sessions at a post, one after another.
+ghost use Rattle.std.specs.Prelude.{◌≡◌, ◌+◌, ◌≤◌, ◌++◌, ◌∷◌, [], List, length, vec_len, vec_capacity};
+ghost use Rattle.iova_session.specs.declared.run.SessionEnd.{SessionEnd};
+ghost use Rattle.iova_session.specs.Desks.{KeepsPlace};
+ghost use Rattle.iova_session.specs.OneByOne.{ServesEach, between};
+
+use crate::link::Link;
+use crate::post::Post;
+use crate::run::{SessionEnd, run_session};
+use iova_keep::keep::Keep;
+use iova_sink::sink::Sink;
+use std::alloc::Global;
+use std::sync::ledger::Ledger;
+
+/// Serves a session over each of the links in turn, all at one post, and appends how each of them ended. Over a keeper
+/// that tells its domain, each leads it on from where the one before it left it. Own.
+pub fn serve_one_by_one<
+    C: Ledger,
+    F: Ledger,
+    S: Ledger,
+    G: Ledger,
+    L: Link,
+    K: Keep<C, F, S, G>,
+    D: Sink,
+>(
+    alloc: Global,
+    links: &mut [L],
+    keeper: &mut K,
+    post: &mut Post<C, F, S, G>,
+    sink: &mut D,
+    ends: &mut Vec<SessionEnd>,
+)
+    requires room { vec_len ends.old + length links.old ≤ vec_capacity ends.old }
+    ensures number { K.domain_number keeper.new ≡ K.domain_number keeper.old }
+    ensures strict { K.strict keeper.new ≡ K.strict keeper.old }
+    ensures sessions { (told : List SessionEnd) × (ends.new.items ≡ ends.old.items ++ told)
+        × ServesEach L.left L.sent L.reads (K.strict keeper.old) (K.domain_number keeper.old) links.old links.new told
+        (between post.old.seat post.old.waiting.items (D.calls sink.old) (K.domain keeper.old))
+        (between post.new.seat post.new.waiting.items (D.calls sink.new) (K.domain keeper.new)) }
+    ensures place { KeepsPlace post.old.seat post.new.seat (D.calls sink.old) (D.calls sink.new) }
+{
+    for at in 0..links.len() {
+        let end = run_session(alloc, &mut links[at], keeper, post, sink);
+        push_end(ends, end);
+    }
+}
+
+/// Appends the end, for which there is room.
+fn push_end(ends: &mut Vec<SessionEnd>, end: SessionEnd)
+    requires { vec_len ends.old + 1 ≤ vec_capacity ends.old }
+    ensures items { ends.new.items ≡ ends.old.items ++ end ∷ [] }
+    ensures kept { vec_capacity ends.old ≤ vec_capacity ends.new }
+{
+    let Ok(()) = ends.push(end) else {
+        unreachable!();
+    };
+}
