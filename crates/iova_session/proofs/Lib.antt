@@ -14,3 +14,4 @@ mod Alone
 mod Leads
 mod Kept
 mod Each
+mod Histories

@@ -7,3 +7,4 @@ pub mod Domains
 pub mod Leading
 pub mod Posts
 pub mod OneByOne
+pub mod Histories

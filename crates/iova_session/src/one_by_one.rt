@@ -2,18 +2,22 @@
 ghost use Rattle.std.specs.Prelude.{◌≡◌, ◌+◌, ◌≤◌, ◌++◌, ◌∷◌, [], List, length, vec_len, vec_capacity};
 ghost use Rattle.iova_session.specs.declared.run.SessionEnd.{SessionEnd};
 ghost use Rattle.iova_session.specs.Desks.{KeepsPlace};
+ghost use Rattle.iova_keep.specs.Views.{WhereKnown};
+ghost use Rattle.iova_session.specs.Histories.{KeepsPromises};
 ghost use Rattle.iova_session.specs.OneByOne.{ServesEach, between};
 
 use crate::link::Link;
 use crate::post::Post;
 use crate::run::{SessionEnd, run_session};
 use iova_keep::keep::Keep;
+use iova_laws::promises::promises_are_kept;
 use iova_sink::sink::Sink;
 use std::alloc::Global;
 use std::sync::ledger::Ledger;
 
 /// Serves a session over each of the links in turn, all at one post, and appends how each of them ended. Over a keeper
-/// that tells its domain, each leads it on from where the one before it left it. Own.
+/// that tells its domain, each leads it on from where the one before it left it; so all of them run one transcript of
+/// steps, which keeps the promises. Own.
 pub fn serve_one_by_one<
     C: Ledger,
     F: Ledger,
@@ -37,8 +41,12 @@ pub fn serve_one_by_one<
         × ServesEach L.left L.sent L.reads (K.strict keeper.old) (K.domain_number keeper.old) links.old links.new told
         (between post.old.seat post.old.waiting.items (D.calls sink.old) (K.domain keeper.old))
         (between post.new.seat post.new.waiting.items (D.calls sink.new) (K.domain keeper.new)) }
+    ensures promises { ∥ WhereKnown (K.domain keeper.old) (K.domain keeper.new) KeepsPromises ∥₁ }
     ensures place { KeepsPlace post.old.seat post.new.seat (D.calls sink.old) (D.calls sink.new) }
 {
+    // for the proof: a domain that is known is valid, and what every transcript from there keeps
+    keeper.domain_is_kept();
+    promises_are_kept();
     for at in 0..links.len() {
         let end = run_session(alloc, &mut links[at], keeper, post, sink);
         push_end(ends, end);

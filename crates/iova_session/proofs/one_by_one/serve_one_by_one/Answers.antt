@@ -1,5 +1,10 @@
-use Rattle.std.proofs.Common.{◌<◌, ◌∷◌, ◌++◌, [], length, length-set, refl, sym, ap, ◌∙◌, arith, append-nil, append_assoc}
+use Rattle.std.proofs.Common.{◌≡◌, ◌<◌, ◌∷◌, ◌++◌, [], length, length-set, refl, sym, ap, subst, ◌∙◌, arith, append-nil, append_assoc}
 use Rattle.std.proofs.lemmas.Grind.{common_steps}
+use Rattle.std.specs.Prelude.{Option, Some, IfSome}
+use Rattle.iova_model.specs.State.{State}
+use Rattle.iova_model.specs.Valid.{IsValid}
+use Rattle.iova_keep.specs.Views.{IsKept}
+use Rattle.iova_session.proofs.Histories.{each_keeps}
 use Rattle.iova_session.proofs.Each.{none_served, next_served, rest_after}
 use Rattle.iova_session.proofs.one_by_one.serve_one_by_one.Goals as goal
 
@@ -53,3 +58,10 @@ loop-at-preserved g c =
             }),
       );
     }
+
+pub returns-clause-promises : goal.returns-clause-promises
+returns-clause-promises g c =
+    let i = c.loop-at.invariant in
+    let P : Option State → Type 0 = λ x. IfSome x IsKept in
+    let valid : (s : State) → g.K.Keep.domain c.args.keeper.now ≡ Some s → IsValid s = λ s is. (let kept : IsKept s = subst P is c.domain_is_kept.ensures in kept.valid) in
+    each_keeps _ _ _ _ _ c.promises_are_kept.ensures _ _ i.sessions.0 _ _ valid i.sessions.2
