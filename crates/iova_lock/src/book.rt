@@ -82,17 +82,10 @@ impl<C: Ledger, F: Ledger, S: Ledger, G: Ledger> Book<C, F, S, G> {
         ensures workers { (result ≡ Err Refusal.NoWorker) ↔ ((workers ≡ 0) ⊎ (MAX_WORKERS < workers)) }
         ensures memory { IsErr result → (result ≡ Err Refusal.NoWorker) ⊎ (result ≡ Err Refusal.NoMemory) }
     {
-        let machine = Machine::new(alloc, bounds, workers)?;
-        let (ledgers, seats) = Ledgers::open(alloc, workers, count, frames, sum_lo, good)?;
-        Ok((
-            Book {
-                number,
-                strict: false,
-                machine,
-                ledgers,
-            },
-            seats,
-        ))
+        match Machine::new(alloc, bounds, workers) {
+            Ok(machine) => Book::over(alloc, number, workers, machine, count, frames, sum_lo, good),
+            Err(refusal) => Err(refusal),
+        }
     }
 
     /// A new domain whose first steps are recorded, `pairs` of them, and a seat for each worker. Refused by `NoWorker` where
@@ -121,17 +114,54 @@ impl<C: Ledger, F: Ledger, S: Ledger, G: Ledger> Book<C, F, S, G> {
         ensures workers { (result ≡ Err Refusal.NoWorker) ↔ ((workers ≡ 0) ⊎ (MAX_WORKERS < workers)) }
         ensures memory { IsErr result → (result ≡ Err Refusal.NoWorker) ⊎ (result ≡ Err Refusal.NoMemory) }
     {
-        let machine = Machine::recorded(alloc, bounds, workers, pairs)?;
-        let (ledgers, seats) = Ledgers::open(alloc, workers, count, frames, sum_lo, good)?;
-        Ok((
-            Book {
-                number,
-                strict: false,
-                machine,
-                ledgers,
-            },
-            seats,
-        ))
+        match Machine::recorded(alloc, bounds, workers, pairs) {
+            Ok(machine) => Book::over(alloc, number, workers, machine, count, frames, sum_lo, good),
+            Err(refusal) => Err(refusal),
+        }
+    }
+
+    /// A book over this new machine, and a seat for each worker. Refused by `NoMemory`.
+    fn over(
+        alloc: Global,
+        number: u64,
+        workers: u64,
+        machine: Machine,
+        count: Blank,
+        frames: Blank,
+        sum_lo: Blank,
+        good: Blank,
+    ) -> Result<(Book<C, F, S, G>, Vec<Seat<C, F, S, G>>), Refusal>
+        requires count { (count.name ≡ C.name) × (count.parts ≡ C.parts) × (count.parts ≡ workers) }
+        requires frames { (frames.name ≡ F.name) × (frames.parts ≡ F.parts) × (frames.parts ≡ workers) }
+        requires sum_lo { (sum_lo.name ≡ S.name) × (sum_lo.parts ≡ S.parts) × (sum_lo.parts ≡ workers) }
+        requires good { (good.name ≡ G.name) × (good.parts ≡ G.parts) × (good.parts ≡ TALLY_PARTS * workers) }
+        requires workers { (workers ≤ MAX_WORKERS) × (machine.state.workers ≡ workers) }
+        requires new { (totals machine.state.clients ≡ nothing) × (machine.state.flushes.good ≡ 0) }
+        ensures ok { IfOk result (λ r. (r.0 ≡ record {
+          number = number;
+          strict = false;
+          state = machine.state;
+          log = machine.log;
+          shares = nothing;
+          ended = 0;
+        }) × (r.1.items ≡ new_seats workers)) }
+        ensures err { IsErr result → result ≡ Err Refusal.NoMemory }
+    {
+        match Ledgers::open(alloc, workers, count, frames, sum_lo, good) {
+            Ok((ledgers, seats)) => Ok((
+                Book {
+                    number,
+                    strict: false,
+                    machine,
+                    ledgers,
+                },
+                seats,
+            )),
+            Err(refusal) => {
+                drop(machine);
+                Err(refusal)
+            }
+        }
     }
 
     /// The domain becomes strict: a range that is released there waits for a flush of its own. It takes no memory.
