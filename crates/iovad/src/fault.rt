@@ -1,5 +1,5 @@
 //! What keeps a run from its end, the line that it says then, and the status.
-ghost use Rattle.std.specs.Prelude.{◌≡◌, ◌⊎◌, ℕ, codes};
+ghost use Rattle.std.specs.Prelude.{◌≡◌, ◌≢◌, ◌⊎◌, ℕ, Some, codes};
 ghost use Rattle.std.specs.Process.{exit_status};
 ghost use Rattle.iovad.specs.Faults.{IfUnread, IsFaultOfWords, fault_text, fault_status};
 
@@ -103,6 +103,26 @@ impl<'a> Fault<'a> {
         }
     }
 
+    /// The line of a fault that names neither words nor a number nor a file.
+    fn line(&self) -> &'static str
+        requires words { (status : ℕ) → self.now ≢ Fault.Words status }
+        requires trace { (line : ℕ) → self.now ≢ Fault.TraceRefused line }
+        requires log { (line : ℕ) → self.now ≢ Fault.LogRefused line }
+        requires file { IfUnread self.now (λ path. Unit {0}) → ⊥ }
+        ensures { fault_text self.now ≡ Some result.now }
+    {
+        match self {
+            Fault::StartAboveLast => "iovad: start is above last",
+            Fault::LastAboveProfile => "iovad: last is above the profile",
+            Fault::Found => "iovad: the log has a finding",
+            Fault::CannotWrite => "iovad: cannot write the output",
+            Fault::SocketFault => "iovad: socket fault",
+            Fault::CannotOpenSink => "iovad: cannot open the sink",
+            Fault::NoMemory => "iovad: no memory",
+            _ => unreachable!(),
+        }
+    }
+
     /// Prints the fault's line on standard error, or help on standard output, and gives the status. A finding has been told, and
     /// prints nothing. Help that can't be
     /// written is the fault `CannotWrite`; where a fault's line can't be, nobody is left to tell.
@@ -142,16 +162,10 @@ impl<'a> fmt::Display for Fault<'a> {
     fn fmt<W: fmt::Write>(&self, f: &mut fmt::Formatter<W>) -> fmt::Result {
         match self {
             Fault::Words(usage) => write!(f, "{usage}"),
-            Fault::StartAboveLast => f.write_str("iovad: start is above last"),
-            Fault::LastAboveProfile => f.write_str("iovad: last is above the profile"),
             Fault::TraceRefused(line) => write!(f, "iovad: trace refused at line {line}"),
             Fault::LogRefused(line) => write!(f, "iovad: log refused at line {line}"),
-            Fault::Found => f.write_str("iovad: the log has a finding"),
             Fault::CannotRead(path) => write!(f, "iovad: cannot read {path}"),
-            Fault::CannotWrite => f.write_str("iovad: cannot write the output"),
-            Fault::SocketFault => f.write_str("iovad: socket fault"),
-            Fault::CannotOpenSink => f.write_str("iovad: cannot open the sink"),
-            Fault::NoMemory => f.write_str("iovad: no memory"),
+            _ => f.write_str(self.line()),
         }
     }
 }
