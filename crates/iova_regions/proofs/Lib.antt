@@ -1,0 +1,4 @@
+mod Hex
+mod Insertions
+mod Lines
+mod Taking

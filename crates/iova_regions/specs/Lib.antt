@@ -1,0 +1,4 @@
+pub mod Text
+pub mod Windows
+pub mod Regions
+pub mod Span
