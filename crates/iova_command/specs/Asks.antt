@@ -4,6 +4,7 @@ use Rattle.clap.specs.Words.{Row, Text, first_of, one_of}
 use Rattle.iova_command.specs.Numbers.{HasNumber, HasOptional}
 use Rattle.iova_command.specs.declared.asked.Asked.{Asked}
 use Rattle.iova_command.specs.declared.asked.Asked.TheVariants.{Replay, Serve, Ask, Check}
+use Rattle.iova_command.specs.declared.check_plan.CheckPlan.{CheckPlan}
 use Rattle.iova_command.specs.declared.plan.Plan.{Plan}
 
 -- the flag is there
@@ -23,13 +24,23 @@ pub record Plans (rows : List Row) (plan : Plan) : Type 0 where
   pub strict : HasFlag rows (codes "strict") plan.strict
   pub record_path : first_of (codes "record") rows ≡ option_map (λ path. path.now) plan.record
 
+-- each part of a check is the option of its name
+pub record PlansCheck (rows : List Row) (plan : CheckPlan) : Type 0 where
+  pub path : first_of (codes "file") rows ≡ Some plan.path.now
+  pub quiet : HasFlag rows (codes "quiet") plan.quiet
+  pub first : HasOptional rows (codes "first") plan.first
+  pub last : HasOptional rows (codes "last") plan.last
+  pub regions : first_of (codes "reserved-regions") rows ≡ option_map (λ path. path.now) plan.regions
+  pub ftrace : HasFlag rows (codes "ftrace") plan.ftrace
+  pub did : HasOptional rows (codes "did") plan.did
+
 -- a subcommand of this name and what it matched ask for this
 abbrev pub AsksOf : Text → List Row → Asked → Type 0
 AsksOf name rows (Replay path has_report) =
     (name ≢ codes "serve") × (name ≢ codes "ask") × (name ≢ codes "check") × (first_of (codes "file") rows ≡ Some path.now) × HasFlag rows (codes "report") has_report
 AsksOf name rows (Serve plan) = (name ≡ codes "serve") × Plans rows plan
 AsksOf name rows (Ask path) = (name ≡ codes "ask") × (first_of (codes "path") rows ≡ Some path.now)
-AsksOf name rows (Check path) = (name ≡ codes "check") × (first_of (codes "file") rows ≡ Some path.now)
+AsksOf name rows (Check plan) = (name ≡ codes "check") × PlansCheck rows plan
 
 -- what matched words ask for; no subcommand asks for a replay of standard input
 abbrev pub AsksFor : Option (Text × List Row) → Asked → Type 0

@@ -5,6 +5,7 @@ use Rattle.clap.specs.declared.builder.command.Command.{Command}
 use Rattle.clap.specs.declared.builder.command.Command.TheViews.{out-Command}
 use Rattle.clap.specs.declared.builder.action.ArgAction.TheVariants.{Set, SetTrue}
 use Rattle.clap.specs.declared.builder.value_parser.ValueParser.TheVariants as parser
+use Rattle.iova_command.specs.declared.check_plan.TheConstants.{LAST_DOMAIN_ID}
 use Rattle.iova_range.specs.declared.limits.TheConstants.{MAX_DEPOT, MAX_WORKERS, MAX_DOMAINS, MAX_SESSIONS, WIDE_TOP}
 
 -- an argument that must be there, named by its place
@@ -51,7 +52,15 @@ abbrev pub ask_app : App
 ask_app = with_rule (new_app (codes "ask")) (place_rule (codes "path"))
 
 abbrev pub check_app : App
-check_app = with_rule (new_app (codes "check")) (place_rule (codes "file"))
+check_app =
+    with_rule (with_rule (with_rule (with_rule (with_rule (with_rule (with_rule (new_app (codes "check"))
+    (flag_rule (codes "quiet")))
+    (optional_number_rule (codes "first") 0 WIDE_TOP))
+    (optional_number_rule (codes "last") 0 WIDE_TOP))
+    (optional_rule (codes "reserved-regions")))
+    (flag_rule (codes "ftrace")))
+    (optional_number_rule (codes "did") 0 LAST_DOMAIN_ID))
+    (place_rule (codes "file"))
 
 -- the program's own name; it tells its version
 abbrev pub versioned : App → App

@@ -1,4 +1,5 @@
 //! What the words of the command line ask for.
+use crate::check_plan::CheckPlan;
 use crate::plan::Plan;
 
 /// What the words ask for. Own.
@@ -14,10 +15,7 @@ pub enum Asked<'a> {
     /// A daemon.
     Serve(Plan<'a>),
     /// The check of a log.
-    Check {
-        /// The log's file, or `-` for standard input.
-        path: &'a str,
-    },
+    Check(CheckPlan<'a>),
     /// Lines sent to a daemon, and its answers.
     Ask {
         /// The path of the daemon's socket.

@@ -3,6 +3,7 @@ ghost use Rattle.std.specs.Prelude.{◌≡◌, ◌<◌, ◌^◌, IfOk, false};
 ghost use Rattle.clap.specs.Words.{App, rule_of, with_rule, with_subcommand};
 ghost use Rattle.iova_command.specs.Commands.{IsCommand, place_rule, flag_rule, option_rule, optional_rule, number_rule, optional_number_rule, replay_app, serve_app, ask_app, check_app, iovad_app};
 
+use crate::check_plan::LAST_DOMAIN_ID;
 use clap::{Arg, ArgAction, Command, value_parser};
 use iova_range::limits::{MAX_DEPOT, MAX_DOMAINS, MAX_SESSIONS, MAX_WORKERS, WIDE_TOP};
 use std::alloc::{AllocError, Global};
@@ -17,7 +18,8 @@ const USAGE: &str = "iovad < FILE
        iovad serve --socket PATH --workers N --domain N --start N --last N --sink FILE --sessions K
                    [--depot N] [--strict] [--record FILE]
        iovad ask PATH
-       iovad check FILE";
+       iovad check [--quiet] [--first N] [--last N] [--reserved-regions PATH]
+                   [--ftrace [--did N]] FILE";
 
 const STATUSES: &str = "Statuses:
   0  done
@@ -210,15 +212,67 @@ fn ask_command<'a>(alloc: Global) -> Result<Command<'a>, AllocError>
 fn check_command<'a>(alloc: Global) -> Result<Command<'a>, AllocError>
     ensures { IfOk result (IsCommand check_app) }
 {
-    Command::new(alloc, "check")
+    let command = Command::new(alloc, "check")
         .about("Checks a log of what was mapped, unmapped and flushed, by whomever")
-        .after_help(LINES_OF_A_LOG)
-        .arg(place(
+        .after_help(LINES_OF_A_LOG);
+    let command = with_arg(
+        Ok(command),
+        flag(alloc, "quiet", "Prints the counts alone"),
+    );
+    let command = with_arg(
+        command,
+        optional_number(
             alloc,
-            "file",
-            "FILE",
-            "The log's file, or - for standard input",
-        ))
+            "first",
+            0,
+            WIDE_TOP,
+            "The first frame that may be mapped, in place of the log's",
+        ),
+    );
+    let command = with_arg(
+        command,
+        optional_number(
+            alloc,
+            "last",
+            0,
+            WIDE_TOP,
+            "The last frame that may be mapped, in place of the log's",
+        ),
+    );
+    let command = with_arg(
+        command,
+        optional_path(
+            alloc,
+            "reserved-regions",
+            "PATH",
+            "A group's reserved_regions, or - for standard input: its msi and reserved ones may not be mapped",
+        ),
+    );
+    let command = with_arg(
+        command,
+        flag(
+            alloc,
+            "ftrace",
+            "Reads what tracefs or perf script print of iommu:map, iommu:unmap and intel_iommu:qi_submit",
+        ),
+    );
+    let command = with_arg(
+        command,
+        optional_number(
+            alloc,
+            "did",
+            0,
+            LAST_DOMAIN_ID,
+            "With --ftrace: counts the flushes of this domain of the IOMMU and those of all, 0 to 65535",
+        ),
+    );
+    let file = place(
+        alloc,
+        "file",
+        "FILE",
+        "The log's file, or - for standard input",
+    );
+    with_arg(command, file)
 }
 
 /// The command with this argument too.

@@ -2,6 +2,7 @@
 #![tactic(auto)]
 
 pub mod asked;
+pub mod check_plan;
 mod command;
 pub mod plan;
 pub mod usage;

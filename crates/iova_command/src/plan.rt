@@ -74,7 +74,7 @@ fn number(found: &ArgMatches<'_>, name: &str, low: u64, high: u64) -> Option<u64
 }
 
 /// The number of an option that may be missing, where it is at most `high`.
-fn optional(found: &ArgMatches<'_>, name: &str, high: u64) -> Option<Option<u64>>
+pub(crate) fn optional(found: &ArgMatches<'_>, name: &str, high: u64) -> Option<Option<u64>>
     ensures range { IfSome result (λ o. ForSome o (λ n. n ≤ high)) }
     ensures read { IfSome result (λ o. HasOptional (rows_of (found_of found.now)) name.now o) }
 {

@@ -6,6 +6,7 @@ ghost use Rattle.iova_command.specs.Commands.{iovad_app};
 ghost use Rattle.iova_command.specs.Refuses.{IsNotUnderstood, RefusesBy};
 
 use crate::asked::Asked;
+use crate::check_plan::CheckPlan;
 use crate::command::iovad_command;
 use crate::plan::Plan;
 use crate::usage::WordsFault;
@@ -52,7 +53,7 @@ fn asked_of<'a, S: AsStr>(
     let matches = command.try_get_matches_from(words)?;
     match asked_by(&matches) {
         Some(asked) => Ok(asked),
-        None => Err(fault(alloc, "an option is missing or outside its range")),
+        None => Err(fault(alloc, "an option is missing, outside its range, or without the one that it is for")),
     }
 }
 
@@ -78,9 +79,7 @@ fn asked_of_command<'a>(name: &str, found: &ArgMatches<'a>) -> Option<Asked<'a>>
         "ask" => Some(Asked::Ask {
             path: found.get_str("path")?,
         }),
-        "check" => Some(Asked::Check {
-            path: found.get_str("file")?,
-        }),
+        "check" => Some(Asked::Check(CheckPlan::of(found)?)),
         _ => Some(Asked::Replay {
             path: found.get_str("file")?,
             has_report: found.get_flag("report"),

@@ -7,10 +7,6 @@ pub returns-in_ok-get_str-in-ask : goal.returns-in_ok-get_str-in-ask
 returns-in_ok-get_str-in-ask c =
     (search rules, text_read (found_of c.args.found.now) _ c.get_str.result c.in_ok-get_str-in-ask.field-0 c.get_str.ensures c.in_ok-get_str-in-ask.was)
 
-pub returns-in_ok-get_str-in-check : goal.returns-in_ok-get_str-in-check
-returns-in_ok-get_str-in-check c =
-    (search rules, text_read (found_of c.args.found.now) _ c.get_str-in-check.result c.in_ok-get_str-in-check.field-0 c.get_str-in-check.ensures c.in_ok-get_str-in-check.was)
-
 pub returns-in_ok-get_str-in_default : goal.returns-in_ok-get_str-in_default
 returns-in_ok-get_str-in_default c = (
   search rules,
