@@ -8,7 +8,10 @@ use Rattle.std.proofs.lemmas.Bool.Decides.{nat_tests}
 use Rattle.std.proofs.lemmas.Bool.{cases_eq, cases_lt, both_ways}
 use Rattle.iova_check.specs.declared.stage.Stage.{Stage}
 use Rattle.iova_check.specs.declared.stage.Stage.TheVariants as stage
+use Rattle.iova_check.specs.declared.stage.Change.TheVariants as change
+use Rattle.iova_check.specs.History.{changed}
 use Rattle.iova_check.specs.Marks.{shown_by, before_by}
+use Rattle.iova_check.specs.StaleIndex.{is_stale}
 
 -- at a mark
 pub shown_at : (mark : ℕ → Option Stage) (k : ℕ) (s : Stage) → mark k ≡ Some s → shown_by mark k ≡ s
@@ -118,3 +121,27 @@ before_is mark (suc f) some = let is : f ≡ suc f - 1 = omega arith in ap (show
 pub same_at : (mark other : ℕ → Option Stage) (k : ℕ) (o : Option Stage) → mark k ≡ o → IsSome o → other k ≡ mark k → shown_by other k ≡ shown_by mark k
 same_at mark other k None is some same = absurd cc
 same_at mark other k (Some s) is some same = shown_at other k s (same ∙ is) ∙ sym (shown_at mark k s is)
+
+-- What a flush leaves
+
+-- what is not stale
+pub leaves : (begun : ℕ) (s : Stage) → is_stale s ≡ false → changed (change.Flushed begun) s ≡ s
+leaves begun stage.Free h = refl
+leaves begun (stage.Mapped since) h = refl
+leaves begun (stage.Stale since) h = absurd cc
+
+unmarked : (o : Option Stage) (s : Stage) → ((since : ℕ) → o ≢ Some (stage.Stale since)) → is_stale s ≡ false → is_stale (unwrap_or o s) ≡ false
+unmarked None s none before = before
+unmarked (Some stage.Free) s none before = refl
+unmarked (Some (stage.Mapped since)) s none before = refl
+unmarked (Some (stage.Stale since)) s none before = absurd (none since refl)
+
+-- no frame is stale from one that is not up to the next mark that tells it
+pub unstale_along : (mark : ℕ → Option Stage) (k f : ℕ) → is_stale (shown_by mark k) ≡ false → k ≤ f
+    → ((q : ℕ) → k < q → q ≤ f → (since : ℕ) → mark q ≢ Some (stage.Stale since)) → is_stale (shown_by mark f) ≡ false
+unstale_along mark k zero here le none = let zero_is : 0 ≡ k = omega arith in ap (λ (x : ℕ). is_stale (shown_by mark x)) zero_is ∙ here
+unstale_along mark k (suc f) here le none = elim (cases_eq k (suc f)) [
+  | inl same ↦ ap (λ (x : ℕ). is_stale (shown_by mark x)) (sym same) ∙ here
+  | inr other ↦ unmarked (mark (suc f)) (shown_by mark f) (none (suc f) (omega arith) (omega arith))
+      (unstale_along mark k f here (omega arith) (λ q lt le. none q lt (omega arith)))
+]

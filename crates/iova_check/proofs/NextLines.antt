@@ -11,7 +11,7 @@ use Rattle.iova_check.specs.Following.{Follows}
 use Rattle.iova_check.specs.Findings.{AreFindings, TellsBreaks}
 use Rattle.iova_check.specs.Counting.{IsCounted, counts_after, how_many}
 use Rattle.iova_check.specs.Output.{findings_text}
-use Rattle.iova_check.specs.Checking.{HasChecked, ChecksNext}
+use Rattle.iova_check.specs.Checking.{ChecksNext}
 
 counted_more : (past : List Event) (e : Event) (found n : ℕ) (c : Counts) → IsCounted past found c → IsCounted (e ∷ past) (found + n) (counts_after c e n)
 counted_more past (event.Map r) found n c h =

@@ -9,5 +9,6 @@ pub mod Output
 pub mod Checking
 pub mod Logs
 pub mod Runs
+pub mod StaleIndex
 pub mod Progress
 pub mod Summary

@@ -36,6 +36,17 @@ pub enum Change {
     Flushed(u64),
 }
 
+impl Stage {
+    ghost use Rattle.iova_check.specs.StaleIndex.{is_stale};
+
+    /// Whether a device may still reach a frame that was unmapped.
+    pub fn is_stale(self) -> bool
+        ensures { result ≡ is_stale self }
+    {
+        matches!(self, Stage::Stale(_))
+    }
+}
+
 impl Change {
     /// The stage of a frame after the change.
     pub fn of(self, stage: Stage) -> Stage

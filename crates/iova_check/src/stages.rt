@@ -1,31 +1,38 @@
-//! The stages of all frames, as marks in an ordered map: a step costs the logarithm of how many there are.
-ghost use Rattle.std.specs.Prelude.{◌≡◌, ◌≢◌, ℕ, ◌-◌, ◌≤◌, ◌<◌, ◌^◌, Some, None, IsSome, OnOk, if◌then◌else◌};
-ghost use Rattle.std.specs.Ordering.{nat_cmp};
-ghost use Rattle.std.specs.BTreeMap.{get};
-ghost use Rattle.iova_range.specs.Frames.{covers};
-ghost use Rattle.iova_check.specs.declared.stage.Stage.TheVariants.{Free as IsFree};
-ghost use Rattle.iova_check.specs.History.{changed};
-ghost use Rattle.iova_check.specs.Marks.{shown, shown_before, IsBare};
+//! The stages of all frames, as marks in an ordered map: a step costs the logarithm of how many there are. Those that tell
+//! stale are in an index, so that a flush looks at these alone.
+ghost use Rattle.iova_check.specs.StaleIndex.{IsIndexed};
 
 use crate::stage::{Change, Stage};
 use iova_range::range::Range;
 use std::alloc::{AllocError, Global};
-use std::collections::BTreeMap;
+use std::collections::{BTreeMap, BTreeSet};
 
 /// The stage of each frame. A mark at a frame tells the stage of it and of those after it, up to the next mark; before the first
 /// mark all are free.
 #[derive(Drop)]
 pub struct Stages {
     marks: BTreeMap<u64, Stage>,
+    /// The marks that tell stale are at these frames; where memory was refused there may be more of them.
+    stale: BTreeSet<u64>,
+    ghost indexed: { IsIndexed marks stale },
 }
 
 impl Stages {
+    ghost use Rattle.std.specs.Prelude.{◌≡◌, ◌≢◌, ℕ, ◌-◌, ◌≤◌, ◌<◌, ◌^◌, Some, None, IsSome, OnOk, if◌then◌else◌};
+    ghost use Rattle.std.specs.Ordering.{nat_cmp};
+    ghost use Rattle.std.specs.BTreeMap.{get};
+    ghost use Rattle.iova_range.specs.Frames.{covers};
+    ghost use Rattle.iova_check.specs.declared.stage.Stage.TheVariants.{Free as IsFree, Stale as IsStale};
+    ghost use Rattle.iova_check.specs.History.{changed};
+    ghost use Rattle.iova_check.specs.Marks.{shown, shown_before, IsBare};
+
     /// Each frame is free.
     pub fn new(alloc: Global) -> Stages
         ensures { (f : ℕ) → shown result f ≡ IsFree }
     {
         Stages {
             marks: BTreeMap::new(alloc),
+            stale: BTreeSet::new(alloc),
         }
     }
 
@@ -83,12 +90,44 @@ impl Stages {
     {
         let mut at = lo;
         while at < to {
-            let end = self.end(at, to);
-            let stage = change.of(self.stage(at));
-            self.put(at, end, stage)?;
+            let end = self.end_of_change(at, to, change);
+            let before = self.stage(at);
+            let stage = change.of(before);
+            if stage != before {
+                self.put(at, end, stage)?;
+            }
             at = end;
         }
         Ok(())
+    }
+
+    /// A frame above `frame` and at most `to`. Where the change changes `frame`, the stage up to there is one; else it changes
+    /// none up to there: a flush leaves all frames up to the next one that is stale.
+    fn end_of_change(&self, frame: u64, to: u64, change: Change) -> u64
+        requires { frame < to }
+        ensures after { frame < result }
+        ensures within { result ≤ to }
+        ensures bare { changed change (shown self.now frame) ≢ shown self.now frame → IsBare self.now frame result }
+        ensures kept { changed change (shown self.now frame) ≡ shown self.now frame
+            → (f : ℕ) → frame ≤ f → f < result → changed change (shown self.now f) ≡ shown self.now f }
+    {
+        match change {
+            Change::Flushed(_) if !self.stage(frame).is_stale() => self.next_stale(frame, to),
+            _ => self.end(frame, to),
+        }
+    }
+
+    /// A frame above `frame` and at most `to`, with no mark between the two that tells stale.
+    fn next_stale(&self, frame: u64, to: u64) -> u64
+        requires { frame < to }
+        ensures after { frame < result }
+        ensures within { result ≤ to }
+        ensures none { (q : ℕ) → frame < q → q < result → (since : ℕ) → get nat_cmp self.now.marks q ≢ Some (IsStale since) }
+    {
+        match self.stale.range(frame + 1..).next() {
+            Some(next) if *next < to => *next,
+            _ => to,
+        }
     }
 
     /// Sets the stage of the frames from `at` on and below `end`, which had one.
@@ -125,7 +164,13 @@ impl Stages {
         ensures marked { OnOk result (get nat_cmp self.new.marks at ≡ Some stage) }
         ensures others { OnOk result ((q : ℕ) → q ≢ at → get nat_cmp self.new.marks q ≡ get nat_cmp self.old.marks q) }
     {
+        if let Stage::Stale(_) = stage {
+            self.stale.insert(at)?;
+            self.marks.insert(at, stage)?;
+            return Ok(());
+        }
         self.marks.insert(at, stage)?;
+        let _was_stale = self.stale.remove(&at);
         Ok(())
     }
 
@@ -135,6 +180,7 @@ impl Stages {
     {
         if self.stage_before(at) == self.stage(at) {
             let _gone = self.marks.remove(&at);
+            let _was_stale = self.stale.remove(&at);
         }
     }
 

@@ -1,4 +1,4 @@
-use Rattle.std.proofs.Common.{refl, ◌∙◌, ap, ℕ, ◌≡◌, List, ◌∷◌, rules}
+use Rattle.std.proofs.Common.{refl, ◌∙◌, ap, List, ◌∷◌, rules}
 use Rattle.iova_check.specs.declared.event.Event.{Event}
 use Rattle.iova_check.specs.Following.{Follows}
 use Rattle.iova_check.specs.Counting.{counts_after}
