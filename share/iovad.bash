@@ -7,11 +7,11 @@ _iovad() {
     return
   fi
   case $before in
-    --socket | --sink | --record)
+    --socket | --sink | --record | --reserved-regions)
       mapfile -t COMPREPLY < <(compgen -f -- "$word")
       return
       ;;
-    --workers | --domain | --start | --last | --sessions | --depot) return ;;
+    --workers | --domain | --start | --first | --last | --sessions | --depot | --did) return ;;
   esac
   case $command in
     replay) mapfile -t COMPREPLY < <(compgen -W "--report --help" -- "$word"; compgen -f -- "$word") ;;
@@ -20,7 +20,13 @@ _iovad() {
         compgen -W "--socket --workers --domain --start --last --sink --sessions --depot --strict --record --help" -- "$word"
       )
       ;;
-    ask | check) mapfile -t COMPREPLY < <(compgen -W "--help" -- "$word"; compgen -f -- "$word") ;;
+    ask) mapfile -t COMPREPLY < <(compgen -W "--help" -- "$word"; compgen -f -- "$word") ;;
+    check)
+      mapfile -t COMPREPLY < <(
+        compgen -W "--quiet --first --last --reserved-regions --ftrace --did --help" -- "$word"
+        compgen -f -- "$word"
+      )
+      ;;
     help) mapfile -t COMPREPLY < <(compgen -W "replay serve ask check" -- "$word") ;;
   esac
 }
