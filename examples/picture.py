@@ -1,18 +1,15 @@
 #!/usr/bin/env python3
-"""Draws a log that `iovad check` reads, as an SVG: examples/picture.py LOG > log.svg
+"""Draws a log that `iovad check` reads, or a kernel's trace, as an SVG: examples/picture.py LOG > log.svg
 
-Lines of the log go across, frames go down: those that were ever named, the gaps between them folded. Blue is mapped,
-orange is stale, white is free. A green stroke is a flush that ended well, over the frames that it has; a dashed one
-failed. Red is what `iovad check` found, with its words as a tooltip.
-
-LOG is a log, or a kernel's trace of iommu:map, iommu:unmap and intel_iommu:qi_submit. The program is that of the
-environment's IOVAD, else bin/iovad of this checkout, else the one on the PATH.
+Lines go across, frames down: those that were ever named, the gaps folded. Blue is mapped, orange stale, white free. A
+green stroke is a flush that ended well, over the frames that it has; a dashed one failed. Red is what `iovad check`
+found, with its words as a tooltip. The program is the environment's IOVAD, else bin/iovad, else the one on the PATH.
 """
 import bisect
+import itertools
 import math
 import os
 import re
-import shutil
 import subprocess
 import sys
 from html import escape
@@ -21,12 +18,12 @@ WIDTH, HEIGHT, LEFT, TOP = 1200, 700, 130, 40
 EVERYTHING = (0, 1 << 64)
 MAPPING = re.compile(r"(?:iommu:| )(map|unmap): IOMMU: iova=0x([0-9a-f]+) - 0x([0-9a-f]+) \S+ \S+$")
 FLUSH = re.compile(r"qi_submit: iotlb_inv \S+ 0x([0-9a-f]+) 0x([0-9a-f]+) 0x[0-9a-f]+ 0x[0-9a-f]+$")
-LOOK = """text{font:12px sans-serif} .m{fill:#0072b2} .s{fill:#e69f00} .f{stroke:#009e73;fill:none}
-.x{stroke:#009e73;stroke-dasharray:2 3;fill:none} .r{fill:#d00000;stroke:#d00000;stroke-width:2} .g{stroke:#ccc;fill:none}"""
+COLOURS = {"mapped": "#0072b2", "stale": "#e69f00", "flushes": "#009e73", "findings": "#d00000"}
+LOOK = "text{font:12px sans-serif} .m{fill:#0072b2} .s{fill:#e69f00} .f,.x{stroke:#009e73}.x{stroke-dasharray:2 3}"
 
 
 def event_of(line):
-    """What a line of a kernel's trace says."""
+    """What a line of a kernel's trace says: (map|unmap, lo, end), (flush, lo, end) or nothing."""
     if found := MAPPING.search(line):
         return (found[1], int(found[2], 16) >> 12, (int(found[3], 16) + 4095) >> 12)
     if found := FLUSH.search(line):
@@ -36,21 +33,13 @@ def event_of(line):
     return None
 
 
-def events_of(lines):
-    """Each line as (map|unmap|use, lo, end), (begin, number, lo, end), (end, number, well), (flush, lo, end) or None."""
-    if not lines or not lines[0].startswith("iovalog "):
-        return [event_of(line) for line in lines]
-    events = [None]
-    for words in map(str.split, lines[1:]):
-        numbers = [int(word) for word in words[1:] if word.isdigit()]
-        if words[0] == "begin":
-            frames = (numbers[1], numbers[1] + numbers[2]) if len(numbers) == 3 else EVERYTHING
-            events.append(("begin", numbers[0], *frames))
-        elif words[0] == "end":
-            events.append(("end", numbers[0], words[2] == "ok"))
-        else:
-            events.append((words[0], numbers[0], numbers[0] + numbers[1]))
-    return events
+def told_by(line):
+    """What a line of a log says: (map|unmap|use, lo, end), (begin, number, lo, end) or (end, number, whether well)."""
+    verb, *words = line.split()
+    if verb == "end":
+        return (verb, words[0], words[1] == "ok")
+    lo, count = map(int, words[-2:]) if len(words) > 1 else EVERYTHING
+    return (verb, *words[: verb == "begin"], lo, lo + count)
 
 
 class Frames:
@@ -80,7 +69,7 @@ class Frames:
 
 
 def boxes_of(events, frames):
-    """(mapped or stale, first line, last line, first piece, last piece)"""
+    """What is drawn: (m for mapped or s for stale, from line, to line, piece) and (line, lo, end, whether it ended well)."""
     state, flights, boxes, strokes = {}, {}, [], []
 
     def change(lo, end, line, changes, new):
@@ -115,9 +104,10 @@ def boxes_of(events, frames):
 def findings_of(path, is_log):
     """What iovad check tells of the log."""
     beside = os.path.join(os.path.dirname(os.path.realpath(__file__)), "..", "bin", "iovad")
-    program = os.environ.get("IOVAD") or (beside if os.path.exists(beside) else shutil.which("iovad") or "iovad")
+    program = os.environ.get("IOVAD") or (beside if os.path.exists(beside) else "iovad")
     words = [program, "check", *([] if is_log else ["--ftrace", "--first", "0"]), path]
-    return re.findall(r"^line (\d+): (\w+) (\d+)(?: (\d+))?.*$", subprocess.run(words, stdout=subprocess.PIPE, text=True, check=False).stdout, re.M)
+    told = subprocess.run(words, stdout=subprocess.PIPE, text=True, check=False).stdout
+    return re.findall(r"^line (\d+): (\w+) (\d+)(?: (\d+))?.*$", told, re.M)
 
 
 def main():
@@ -125,31 +115,33 @@ def main():
         sys.exit("usage: examples/picture.py LOG > log.svg")
     with open(sys.argv[1], encoding="utf-8", errors="replace") as file:
         lines = file.read().splitlines()
-    events = events_of(lines)
+    is_log = bool(lines) and lines[0].startswith("iovalog ")
+    events = [None, *map(told_by, lines[1:])] if is_log else [event_of(line) for line in lines]
     frames = Frames(events)
     boxes, strokes = boxes_of(events, frames)
     across = lambda line: round(LEFT + (WIDTH - LEFT) * (line - 1) / max(len(events), 1), 1)
     print(f'<svg xmlns="http://www.w3.org/2000/svg" viewBox="0 0 {WIDTH + 10} {TOP + HEIGHT + 30}"><style>{LOOK}</style>')
-    print(f'<text x="{LEFT}" y="15">lines 1 to {len(events)}, frames downwards: '
-          '<tspan fill="#0072b2">mapped</tspan>, <tspan fill="#b57d00">stale</tspan>, '
-          '<tspan fill="#009e73">flushes</tspan>, <tspan fill="#d00000">findings</tspan></text>')
+    names = "".join(f', <tspan fill="{colour}">{name}</tspan>' for name, colour in COLOURS.items())
+    print(f'<text x="{LEFT}" y="15">lines 1 to {len(events)} go across, frames down{names}</text>')
     labelled = -20
     for cut, is_named, y in zip(frames.cuts, frames.named, frames.at):
         if is_named and y - labelled > 14:
             print(f'<text x="{LEFT - 5}" y="{y + 10:.0f}" text-anchor="end">{cut}</text>')
             labelled = y
     paths = {"m": "", "s": "", "f": "", "x": ""}
-    for kind, a, b, piece in boxes:
-        paths[kind] += f"M{across(a)} {frames.at[piece]:.1f}H{across(b)}V{frames.at[piece + 1]:.1f}H{across(a)}z"
+    for (kind, a, b, _), alike in itertools.groupby(enumerate(boxes), lambda box: (*box[1][:3], box[1][3] - box[0])):
+        pieces = [box[3] for _, box in alike]
+        y, to = frames.at[pieces[0]], frames.at[pieces[-1] + 1]
+        paths[kind] += f"M{across(a)} {y:.1f}H{across(b)}V{to:.1f}H{across(a)}z"
     for line, lo, end, well in strokes:
         y, to = frames.span(lo, end)
         paths["f" if well else "x"] += f"M{across(line)} {y:.1f}V{to:.1f}"
     for kind, path in paths.items():
         print(f'<path class="{kind}" d="{path}"/>')
-    for line, kind, lo, count in findings_of(sys.argv[1], bool(lines) and lines[0].startswith("iovalog ")):
+    for line, kind, lo, count in findings_of(sys.argv[1], is_log):
         y, to = frames.span(int(lo), int(lo) + int(count)) if count else (TOP, TOP + HEIGHT)
         told = f"line {line}: {kind} {lo} {count}".strip()
-        print(f'<rect class="r" x="{across(int(line))}" y="{y:.1f}" width="2" height="{max(to - y, 1):.1f}">'
+        print(f'<rect stroke="#d00000" x="{across(int(line))}" y="{y:.1f}" width="2" height="{max(to - y, 1):.1f}">'
               f"<title>{escape(told)}</title></rect>")
     print("</svg>")
 
