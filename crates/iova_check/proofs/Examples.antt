@@ -1,18 +1,18 @@
 -- Worked examples of the stages of frames: what the definitions compute, against stages worked out by hand. Logs are told with the
--- newest line first; their first line is line 2.
+-- newest line first.
 use Rattle.std.proofs.Common.{◌≡◌, true, false, List, [], ◌∷◌, Some, None, ℕ, refl}
 use Rattle.iova_range.specs.Frames.{Frames}
 use Rattle.iova_check.specs.declared.event.Event.{Event}
-use Rattle.iova_check.specs.declared.event.Event.TheVariants.{Map, Unmap, Use, Begin, End}
+use Rattle.iova_check.specs.declared.event.Event.TheVariants.{Map, Unmap, Use, Begin, End, Flush, Other}
 use Rattle.iova_check.specs.declared.stage.Stage.TheVariants.{Free, Mapped, Stale}
 use Rattle.iova_check.specs.History.{stage_of, flight_of}
 
 abbrev at : ℕ → ℕ → Frames
 at lo len = record { lo = lo; len = len }
 
--- line 2 maps the frames 8 to 11, and line 3 unmaps 8 and 9
+-- line 1 says nothing, line 2 maps the frames 8 to 11, and line 3 unmaps 8 and 9
 abbrev unmapped : List Event
-unmapped = Unmap (at 8 2) ∷ Map (at 8 4) ∷ []
+unmapped = Unmap (at 8 2) ∷ Map (at 8 4) ∷ Other ∷ []
 
 nothing_is_mapped : stage_of [] 8 ≡ Free
 nothing_is_mapped = refl
@@ -41,7 +41,7 @@ what_is_mapped_stays = refl
 not_ended : stage_of (Begin 1 None ∷ unmapped) 8 ≡ Stale 3
 not_ended = refl
 
-began_too_early : stage_of (End 1 true ∷ Unmap (at 8 2) ∷ Begin 1 None ∷ Map (at 8 4) ∷ []) 8 ≡ Stale 4
+began_too_early : stage_of (End 1 true ∷ Unmap (at 8 2) ∷ Begin 1 None ∷ Map (at 8 4) ∷ []) 8 ≡ Stale 3
 began_too_early = refl
 
 failed : stage_of (End 1 false ∷ Begin 1 None ∷ unmapped) 8 ≡ Stale 3
@@ -70,3 +70,15 @@ mapped_twice = refl
 
 a_use_changes_nothing : stage_of (Use (at 8 4) ∷ unmapped) 8 ≡ Stale 3
 a_use_changes_nothing = refl
+
+flushed_at_once : stage_of (Flush None ∷ unmapped) 8 ≡ Free
+flushed_at_once = refl
+
+flushed_at_once_of_its_frames_alone : stage_of (Flush (Some (at 9 100)) ∷ unmapped) 8 ≡ Stale 3
+flushed_at_once_of_its_frames_alone = refl
+
+flushed_at_once_before_the_unmap : stage_of (Unmap (at 8 2) ∷ Flush None ∷ Map (at 8 4) ∷ []) 8 ≡ Stale 3
+flushed_at_once_before_the_unmap = refl
+
+other_lines_change_nothing : stage_of (Other ∷ unmapped) 8 ≡ Stale 3
+other_lines_change_nothing = refl

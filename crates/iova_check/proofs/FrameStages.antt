@@ -2,7 +2,7 @@
 use Rattle.std.proofs.Common.{ℕ, ◌≡◌, ◌∙◌, ◌<◌, inl, inr, true, false, List, [], ◌∷◌, Option, Some, None, refl, sym, ap, subst, arith}
 use Rattle.std.specs.Prelude.{◌==◌, nat_lt}
 use Rattle.std.proofs.lemmas.Bool.{cond-true, cond-false, cases_Bool, cases_eq, cases_lt, cases_order, both_ways, and_parts, and_from, ltb-true, lt-ltb}
-use Rattle.iova_range.specs.Frames.{covers}
+use Rattle.iova_range.specs.Frames.{Frames, covers}
 use Rattle.iova_check.specs.declared.event.Event.{Event}
 use Rattle.iova_check.specs.declared.event.Event.TheVariants as event
 use Rattle.iova_check.specs.declared.stage.Stage.{Stage}
@@ -10,8 +10,8 @@ use Rattle.iova_check.specs.declared.stage.Stage.TheVariants as stage
 use Rattle.iova_check.specs.declared.stage.Flight.{Flight}
 use Rattle.iova_check.specs.declared.stage.Change.TheVariants as change
 use Rattle.iova_check.specs.History.{next_line, has, flight_of, stage_of, changed, flushed_by}
-use Rattle.iova_check.specs.Promise.{is_line, IsLine, NoneAfter, maps, unmaps, begins, ends_well, is_of, IsFlush, TakesBack, MayBeGiven, IsMappedSince, IsStaleSince, IsStage, StagesAreTold}
-use Rattle.iova_check.proofs.Lines.{line_new, line_old, line_bound, line_cases, line_more, line_apart, after_more, after_less, after_newest, between_more, between_less, flush_more, flush_less, takes_more, takes_less}
+use Rattle.iova_check.specs.Promise.{is_line, IsLine, NoneAfter, maps, unmaps, begins, ends_well, is_of, flushes, IsLongFlush, IsShortFlush, IsFlush, TakesBack, MayBeGiven, IsMappedSince, IsStaleSince, IsStage, StagesAreTold}
+use Rattle.iova_check.proofs.Lines.{line_new, line_old, line_bound, line_cases, line_more, line_apart, after_more, after_less, after_newest, between_more, between_less, flush_bound, flush_more, flush_less, takes_more, takes_less}
 use Rattle.iova_check.proofs.Flights.{IsFlight, IsNoFlight, IsFlightOf, flight_is}
 
 -- no line maps and unmaps
@@ -21,6 +21,8 @@ maps_apart f (event.Unmap r) h = absurd cc
 maps_apart f (event.Use r) h = absurd cc
 maps_apart f (event.Begin number range) h = absurd cc
 maps_apart f (event.End number ok) h = absurd cc
+maps_apart f (event.Flush range) h = absurd cc
+maps_apart f event.Other h = absurd cc
 
 -- the line that unmaps is another than one that maps
 other_line : (past : List Event) (f n m : ℕ) → IsLine (maps f) past n → IsLine (unmaps f) past m → n ≡ m → ⊥
@@ -118,22 +120,28 @@ stale_kept : (e : Event) (past : List Event) (f n : ℕ) → maps f e ≡ false 
 stale_kept e past f n none none_ends h = record {
   takes_back = takes_more e past f n h.takes_back;
   last = after_more (maps f) e past n none h.last;
-  unflushed = λ begun ended lt flush. elim (line_cases (ends_well flush.number) e past ended flush.ends) [
-    | inl new ↦ let P : ℕ → Type 0 = λ x. IsFlush (e ∷ past) f begun x in none_ends begun lt (subst P new.0 flush)
-    | inr old ↦ h.unflushed begun ended lt (flush_less e past f begun ended old.0 flush)
-  ];
+  unflushed = λ begun ended lt flush.
+      let bound : ended < next_line (e ∷ past) = flush_bound (e ∷ past) f begun ended flush in
+      elim (cases_lt ended (next_line past)) [
+        | inl below ↦ h.unflushed begun ended lt (flush_less e past f begun ended below flush)
+        | inr above ↦
+            let P : ℕ → Type 0 = λ x. IsFlush (e ∷ past) f begun x in
+            let newest : ended ≡ next_line past = omega arith in
+            none_ends begun lt (subst P newest flush)
+      ];
 }
 
--- a line that ends no flush well
-none_ends : (e : Event) (past : List Event) (f n : ℕ) → ((number : ℕ) → ends_well number e ≡ false) → NoneEnds e past f n
-none_ends e past f n not begun lt flush = both_ways (ends_well flush.number e) (not flush.number) (sym (line_new (ends_well flush.number) e past) ∙ flush.ends)
+-- a line that ends no flush well, and is none
+none_ends : (e : Event) (past : List Event) (f n : ℕ) → ((number : ℕ) → ends_well number e ≡ false) → flushes f e ≡ false → NoneEnds e past f n
+none_ends e past f n not short begun lt (inr flush) = both_ways (flushes f e) short (sym (line_new (flushes f) e past) ∙ flush.line)
+none_ends e past f n not short begun lt (inl flush) = both_ways (ends_well flush.number e) (not flush.number) (sym (line_new (ends_well flush.number) e past) ∙ flush.ends)
 
--- a line that neither maps nor unmaps the frame, and ends no flush well
+-- a line that neither maps nor unmaps the frame, ends no flush well, and is none that has it
 stage_kept : (e : Event) (past : List Event) (f : ℕ) (s : Stage) → maps f e ≡ false → unmaps f e ≡ false → ((number : ℕ) → ends_well number e ≡ false)
-    → IsStage past f s → IsStage (e ∷ past) f s
-stage_kept e past f stage.Free none kept not h = free_kept e past f none h
-stage_kept e past f (stage.Mapped n) none kept not h = mapped_kept e past f n none kept h
-stage_kept e past f (stage.Stale n) none kept not h = stale_kept e past f n none (none_ends e past f n not) h
+    → flushes f e ≡ false → IsStage past f s → IsStage (e ∷ past) f s
+stage_kept e past f stage.Free none kept not short h = free_kept e past f none h
+stage_kept e past f (stage.Mapped n) none kept not short h = mapped_kept e past f n none kept h
+stage_kept e past f (stage.Stale n) none kept not short h = stale_kept e past f n none (none_ends e past f n not short) h
 
 mapped_now : (e : Event) (past : List Event) (f : ℕ) → maps f e ≡ true → IsMappedSince (e ∷ past) f (next_line past)
 mapped_now e past f is = record {
@@ -141,6 +149,13 @@ mapped_now e past f is = record {
   last = after_newest (maps f) e past;
   kept = after_newest (unmaps f) e past;
 }
+
+-- no flush began after the newest line
+none_after : (e : Event) (past : List Event) (f begun ended : ℕ) → next_line past < begun → IsFlush (e ∷ past) f begun ended → ⊥
+none_after e past f begun ended lt (inl flush) =
+    both_ways (is_line (begins flush.number f) (e ∷ past) begun) (after_newest (begins flush.number f) e past begun lt) flush.starts
+none_after e past f begun ended lt (inr flush) =
+    both_ways (is_line (flushes f) (e ∷ past) ended) (after_newest (flushes f) e past ended (omega (arith, flush.at_once))) flush.line
 
 taken_now : (e : Event) (past : List Event) (f n : ℕ) → unmaps f e ≡ true → IsMappedSince past f n → IsStaleSince (e ∷ past) f (next_line past)
 taken_now e past f n is h = record {
@@ -152,35 +167,25 @@ taken_now e past f n is h = record {
     unmapped = line_new (unmaps f) e past ∙ is;
   };
   last = after_newest (maps f) e past;
-  unflushed = λ begun ended lt flush.
-      both_ways (is_line (begins flush.number f) (e ∷ past) begun) (after_newest (begins flush.number f) e past begun lt) flush.starts;
+  unflushed = none_after e past f;
 }
 
 unmapped_now : (e : Event) (past : List Event) (f : ℕ) (s : Stage) → maps f e ≡ false → unmaps f e ≡ true → ((number : ℕ) → ends_well number e ≡ false)
-    → IsStage past f s → IsStage (e ∷ past) f (changed (change.Unmapped (next_line past)) s)
-unmapped_now e past f stage.Free none is not h = free_kept e past f none h
-unmapped_now e past f (stage.Mapped n) none is not h = taken_now e past f n is h
-unmapped_now e past f (stage.Stale n) none is not h = stale_kept e past f n none (none_ends e past f n not) h
+    → flushes f e ≡ false → IsStage past f s → IsStage (e ∷ past) f (changed (change.Unmapped (next_line past)) s)
+unmapped_now e past f stage.Free none is not short h = free_kept e past f none h
+unmapped_now e past f (stage.Mapped n) none is not short h = taken_now e past f n is h
+unmapped_now e past f (stage.Stale n) none is not short h = stale_kept e past f n none (none_ends e past f n not short) h
 
 -- A flush that ends well
 
-freed : (past : List Event) (f number n : ℕ) (flight : Flight) → IsFlight past number flight → has f flight.range ≡ true → n < flight.line
-    → IsStaleSince past f n → MayBeGiven (event.End number true ∷ past) f
-freed past f number n flight is having after h =
-    let e = event.End number true in
-    let below : flight.line < next_line past = line_bound (is_of number) past flight.line is.is in
-    let ends : IsLine (ends_well number) (e ∷ past) (next_line past) = line_new (ends_well number) e past ∙ eq_self number in
-    let flush : IsFlush (e ∷ past) f flight.line (next_line past) = record {
-      number = number;
-      starts = line_more (begins number f) e past flight.line (is.starts f ∙ having);
-      ends = ends;
-      in_order = below;
-      alone = λ m lt under. line_old (is_of number) e past m under ∙ is.last m lt;
-    } in
+-- the flush began after line n
+freed_by : (e : Event) (past : List Event) (f n begun : ℕ) → maps f e ≡ false → unmaps f e ≡ false → n < begun
+    → IsFlush (e ∷ past) f begun (next_line past) → IsStaleSince past f n → MayBeGiven (e ∷ past) f
+freed_by e past f n begun none kept after flush h =
     let taken = h.takes_back in
     record {
       unmapped = λ m is_map. elim (line_cases (maps f) e past m is_map) [
-        | inl new ↦ absurd cc
+        | inl new ↦ absurd (both_ways (maps f e) none new.1)
         | inr old ↦ elim (cases_order m n) [
           | inl same ↦ absurd (other_line past f m n old.1 taken.unmapped same)
           | inr (inl before) ↦ (n, before, line_more (unmaps f) e past n taken.unmapped)
@@ -188,17 +193,32 @@ freed past f number n flight is having after h =
         ]
       ];
       flushed = λ m other last. elim (line_cases (unmaps f) e past m other.unmapped) [
-        | inl new ↦ absurd cc
+        | inl new ↦ absurd (both_ways (unmaps f e) kept new.1)
         | inr old ↦
             let less = takes_less e past f m old.0 other in
             let last_less = after_less (maps f) e past m last in
             elim (cases_order m n) [
-              | inl same ↦ (flight.line, next_line past, omega arith, flush)
+              | inl same ↦ (begun, next_line past, omega arith, flush)
               | inr (inl before) ↦ absurd (last_taken past f m n taken last_less old.1 before)
               | inr (inr later) ↦ absurd (last_taken past f n m less h.last taken.unmapped later)
             ]
       ];
     }
+
+freed : (past : List Event) (f number n : ℕ) (flight : Flight) → IsFlight past number flight → has f flight.range ≡ true → n < flight.line
+    → IsStaleSince past f n → MayBeGiven (event.End number true ∷ past) f
+freed past f number n flight is having after h =
+    let e = event.End number true in
+    let below : flight.line < next_line past = line_bound (is_of number) past flight.line is.is in
+    let ends : IsLine (ends_well number) (e ∷ past) (next_line past) = line_new (ends_well number) e past ∙ eq_self number in
+    let flush : IsLongFlush (e ∷ past) f flight.line (next_line past) = record {
+      number = number;
+      starts = line_more (begins number f) e past flight.line (is.starts f ∙ having);
+      ends = ends;
+      in_order = below;
+      alone = λ m lt under. line_old (is_of number) e past m under ∙ is.last m lt;
+    } in
+    freed_by e past f n flight.line refl refl after (inl flush) h
   where
     eq_self : (x : ℕ) → (x == x) ≡ true
     eq_self x = Rattle.std.proofs.lemmas.Bool.eq-eqb x x refl
@@ -207,7 +227,11 @@ freed past f number n flight is having after h =
 
 ended_no : (past : List Event) (f number begun : ℕ) → IsFlush (event.End number true ∷ past) f begun (next_line past)
     → IsLine (begins number f) past begun × NoneAfter (is_of number) past begun
-ended_no past f number begun flush =
+ended_no past f number begun (inr flush) =
+    let e = event.End number true in
+    let short : flushes f e ≡ true = sym (line_new (flushes f) e past) ∙ flush.line in
+    absurd cc
+ended_no past f number begun (inl flush) =
     let e = event.End number true in
     let ends : ends_well flush.number e ≡ true = sym (line_new (ends_well flush.number) e past) ∙ flush.ends in
     let same : number ≡ flush.number = Rattle.std.proofs.lemmas.Bool.eqb-true number flush.number ends in
@@ -228,6 +252,8 @@ begins_of number f (event.Unmap r) h = absurd cc
 begins_of number f (event.Use r) h = absurd cc
 begins_of number f (event.Begin begun range) h = (and_parts (begun == number) (has f range) h).0
 begins_of number f (event.End ended ok) h = absurd cc
+begins_of number f (event.Flush range) h = absurd cc
+begins_of number f event.Other h = absurd cc
 
 line_of : (number f : ℕ) (past : List Event) (n : ℕ) → IsLine (begins number f) past n → IsLine (is_of number) past n
 line_of number f [] n h = absurd cc
@@ -288,6 +314,31 @@ ended_well past f number (Some flight) s is h =
           (end_kept past f number s (λ n. not_it past f number n flight is (λ so _. both_ways (has f flight.range) not so)) h)
     ]
 
+-- A whole flush at one line
+
+freed_at_once : (past : List Event) (f : ℕ) (range : Option Frames) (s : Stage) → has f range ≡ true
+    → IsStage past f s → IsStage (event.Flush range ∷ past) f (changed (change.Flushed (next_line past)) s)
+freed_at_once past f range stage.Free having h = free_kept (event.Flush range) past f refl h
+freed_at_once past f range (stage.Mapped n) having h = mapped_kept (event.Flush range) past f n refl refl h
+freed_at_once past f range (stage.Stale n) having h =
+    let e = event.Flush range in
+    let P : Stage → Type 0 = IsStage (e ∷ past) f in
+    let before : n < next_line past = line_bound (unmaps f) past n h.takes_back.unmapped in
+    let flush : IsShortFlush (e ∷ past) f (next_line past) (next_line past) = record { line = line_new (flushes f) e past ∙ having; at_once = refl } in
+    subst P (sym (cond-true (nat_lt n (next_line past)) stage.Free (stage.Stale n) (lt-ltb n (next_line past) before)))
+    (freed_by e past f n (next_line past) refl refl before (inr flush) h)
+
+flushed_at_once : (past : List Event) (f : ℕ) (range : Option Frames) (s : Stage) → IsStage past f s
+    → IsStage (event.Flush range ∷ past) f (flushed_by (Some (record { line = next_line past; range = range })) f s)
+flushed_at_once past f range s h =
+    let e = event.Flush range in
+    let P : Stage → Type 0 = IsStage (e ∷ past) f in
+    let freed_stage = changed (change.Flushed (next_line past)) s in
+    elim (cases_Bool (has f range)) [
+      | inl so ↦ subst P (sym (cond-true (has f range) freed_stage s so)) (freed_at_once past f range s so h)
+      | inr not ↦ subst P (sym (cond-false (has f range) freed_stage s not)) (stage_kept e past f s refl refl (λ number. refl) not h)
+    ]
+
 -- Any lines
 
 pub stage_is : (past : List Event) (f : ℕ) → IsStage past f (stage_of past f)
@@ -298,7 +349,7 @@ stage_is (event.Map r ∷ past) f =
     elim (cases_Bool (covers f r)) [
       | inl so ↦ subst P (sym (cond-true (covers f r) (stage.Mapped (next_line past)) (stage_of past f) so)) (mapped_now e past f so)
       | inr not ↦ subst P (sym (cond-false (covers f r) (stage.Mapped (next_line past)) (stage_of past f) not))
-          (stage_kept e past f (stage_of past f) not refl (λ number. refl) (stage_is past f))
+          (stage_kept e past f (stage_of past f) not refl (λ number. refl) refl (stage_is past f))
     ]
 stage_is (event.Unmap r ∷ past) f =
     let e = event.Unmap r in
@@ -306,14 +357,16 @@ stage_is (event.Unmap r ∷ past) f =
     let taken = changed (change.Unmapped (next_line past)) (stage_of past f) in
     elim (cases_Bool (covers f r)) [
       | inl so ↦ subst P (sym (cond-true (covers f r) taken (stage_of past f) so))
-          (unmapped_now e past f (stage_of past f) refl so (λ number. refl) (stage_is past f))
+          (unmapped_now e past f (stage_of past f) refl so (λ number. refl) refl (stage_is past f))
       | inr not ↦ subst P (sym (cond-false (covers f r) taken (stage_of past f) not))
-          (stage_kept e past f (stage_of past f) refl not (λ number. refl) (stage_is past f))
+          (stage_kept e past f (stage_of past f) refl not (λ number. refl) refl (stage_is past f))
     ]
-stage_is (event.Use r ∷ past) f = stage_kept (event.Use r) past f (stage_of past f) refl refl (λ number. refl) (stage_is past f)
-stage_is (event.Begin number range ∷ past) f = stage_kept (event.Begin number range) past f (stage_of past f) refl refl (λ number. refl) (stage_is past f)
+stage_is (event.Use r ∷ past) f = stage_kept (event.Use r) past f (stage_of past f) refl refl (λ number. refl) refl (stage_is past f)
+stage_is (event.Begin number range ∷ past) f = stage_kept (event.Begin number range) past f (stage_of past f) refl refl (λ number. refl) refl (stage_is past f)
 stage_is (event.End number true ∷ past) f = ended_well past f number (flight_of past number) (stage_of past f) (flight_is past number) (stage_is past f)
-stage_is (event.End number false ∷ past) f = stage_kept (event.End number false) past f (stage_of past f) refl refl (λ number. refl) (stage_is past f)
+stage_is (event.End number false ∷ past) f = stage_kept (event.End number false) past f (stage_of past f) refl refl (λ number. refl) refl (stage_is past f)
+stage_is (event.Flush range ∷ past) f = flushed_at_once past f range (stage_of past f) (stage_is past f)
+stage_is (event.Other ∷ past) f = stage_kept event.Other past f (stage_of past f) refl refl (λ number. refl) refl (stage_is past f)
 
 pub stages_are_told : StagesAreTold
 stages_are_told past f = record {

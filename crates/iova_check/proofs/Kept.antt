@@ -7,7 +7,7 @@ use Rattle.iova_check.specs.declared.stage.Stage.{Stage}
 use Rattle.iova_check.specs.declared.stage.Stage.TheVariants as stage
 use Rattle.iova_check.specs.History.{next_line, stage_of}
 use Rattle.iova_check.specs.Promise.{NoneAfter, maps, unmaps, MayBeGiven, IsStage, lines_before, IsKeptAt, PromiseIsTold}
-use Rattle.iova_check.proofs.Lines.{line_old, line_bound, line_above, line_cases, line_more, between_more, between_less, flush_more, flush_less, takes_more, takes_less}
+use Rattle.iova_check.proofs.Lines.{line_old, line_bound, line_above, line_cases, line_more, between_more, between_less, flush_bound, flush_more, flush_less, takes_more, takes_less}
 use Rattle.iova_check.proofs.FrameStages.{stage_is, stages_are_told}
 
 -- At the newest line
@@ -23,7 +23,7 @@ kept_from_given e past f h = record {
         | inr above ↦ line_above (maps f) past k above
       ] in
       let flush = h.flushed m (takes_less e past f m lt taken) last in
-      (flush.0, flush.1, flush.2, line_bound _ past flush.1 flush.3.ends, flush_more e past f flush.0 flush.1 flush.3);
+      (flush.0, flush.1, flush.2, flush_bound past f flush.0 flush.1 flush.3, flush_more e past f flush.0 flush.1 flush.3);
 }
 
 pub given_from_kept : (e : Event) (past : List Event) (f : ℕ) → IsKeptAt (e ∷ past) f (next_line past) → MayBeGiven past f

@@ -4,13 +4,14 @@ use Rattle.std.specs.List.{list_all}
 use Rattle.std.proofs.lemmas.List.{take-append-drop}
 use Rattle.std.proofs.lemmas.Bool.{and_parts, and_from}
 use Rattle.iova_check.specs.declared.event.Event.{Event}
+use Rattle.iova_check.specs.declared.event.Event.TheVariants.{Other}
 use Rattle.iova_check.specs.declared.checker.Checker.{Checker}
 use Rattle.iova_check.specs.declared.line.Header.{Header}
 use Rattle.iova_check.specs.declared.fault.CheckFault.TheVariants as fault
 use Rattle.iova_check.specs.declared.run.Progress.{Progress}
 use Rattle.iova_text.specs.Lines.{is_not_lf, HasNoLf, whole_line}
 use Rattle.iova_check.specs.Text.{IsHeader, IsEvent, header_text, event_text}
-use Rattle.iova_check.specs.Logs.{Log, log_text, events_text, first_lines_text, next_line_number, BeginsWithLines, AreFirstLines}
+use Rattle.iova_check.specs.Logs.{Log, lines_of, log_text, events_text, first_lines_text, next_line_number, BeginsWithLines, AreFirstLines}
 use Rattle.iova_check.specs.Checking.{HasChecked, ChecksNext}
 use Rattle.iova_check.specs.Runs.{IsChecked}
 use Rattle.iova_check.specs.Progress.{number_at, Goes, Stops}
@@ -31,26 +32,28 @@ no_lines (Some l) c text e r = absurd (let P : Option Checker → Type 0 = λ x.
 abbrev header_log : Header → Log
 header_log h = record { bounds = h; past = [] }
 
-pub header_taken : (p q : Progress) (line : List ℕ) (h : Header) (c : Checker) → p.line.items ≡ [] → p.checker ≡ None
+pub header_taken : (p q : Progress) (line : List ℕ) (h : Header) (fresh c : Checker) → p.line.items ≡ [] → p.checker ≡ None
     → IsHeader h.first h.last → line ≡ header_text h.first h.last
-    → q.line.items ≡ p.line.items → q.findings.items ≡ p.findings.items → q.checker ≡ Some c → HasChecked h [] c []
+    → q.line.items ≡ p.line.items → q.checker ≡ Some c → HasChecked h [] fresh [] → ChecksNext fresh Other p.findings.items c q.findings.items
     → Goes p (whole_line line) [] q
-header_taken p q line h c empty none good is kept findings checker fresh taken written st =
+header_taken p q line h fresh c empty none good is kept checker known next taken written st =
     let first = no_lines st.lines p.checker st.text none st.checked in
     let l = header_log h in
+    let more = next.more in
     let whole : taken ≡ [] = st.begins.whole ∙ (ap (λ (x : Option Log). first_lines_text x ++ p.line.items) first.0 ∙ empty) in
     let text : whole_line line ≡ log_text l = ap whole_line is ∙ sym (append-nil (whole_line (header_text h.first h.last))) in
     record {
       lines = Some l;
-      text = st.text;
+      text = st.text ++ more;
       begins = record {
         good = record { header = good; events = tt };
         whole = ap (λ (x : List ℕ). x ++ whole_line line) whole ∙ (text ∙ (sym (append-nil (log_text l)) ∙ ap (λ (x : List ℕ). log_text l ++ x) (sym (kept ∙ empty))));
       };
-      checked = (let P : Option Checker → Type 0 = λ x. IsChecked (Some l) x st.text in
-          let Q : List ℕ → Type 0 = HasChecked h [] c in
-          subst P (sym checker) (subst Q (sym first.1) fresh));
-      gathered = st.gathered ∙ (ap (λ (x : List ℕ). written ++ x) (sym findings) ∙ ap (λ (x : List ℕ). x ++ q.findings.items) (sym (append-nil written)));
+      checked = (let P : Option Checker → Type 0 = λ x. IsChecked (Some l) x (st.text ++ more) in
+          let Q : List ℕ → Type 0 = λ x. HasChecked h (Other ∷ []) c (x ++ more) in
+          subst P (sym checker) (subst Q (sym first.1) (next.checks h [] [] known)));
+      gathered = ap (λ (x : List ℕ). x ++ more) st.gathered ∙ (append_assoc written p.findings.items more
+          ∙ (ap (λ (x : List ℕ). written ++ x) (sym next.appended) ∙ ap (λ (x : List ℕ). x ++ q.findings.items) (sym (append-nil written))));
     }
 
 -- a line more
@@ -67,7 +70,7 @@ one_more : (lines : Option Log) (checker : Option Checker) (old new : Checker) (
 one_more None checker old new text before after e is r next = absurd (let P : Option Checker → Type 0 = λ x. IsChecked None x text in subst P is r)
 one_more (Some l) checker old new text before after e is r next =
     let P : Option Checker → Type 0 = λ x. IsChecked (Some l) x text in
-    record { log = l; is = refl; checked = next.checks l.bounds l.past text (subst P is r) }
+    record { log = l; is = refl; checked = next.checks l.bounds (lines_of l) text (subst P is r) }
 
 log_text-more : (l : Log) (e : Event) → log_text (with_event l e) ≡ log_text l ++ whole_line (event_text e)
 log_text-more l e = sym (append_assoc (whole_line (header_text l.bounds.first l.bounds.last)) (events_text l.past) (whole_line (event_text e)))

@@ -4,7 +4,7 @@ use Rattle.std.specs.Prelude.{◌==◌}
 use Rattle.std.proofs.lemmas.Bool.{cond-true, cond-false, eq-eqb, ne_eqb, cases_eq, both_ways, false_from_ne_true}
 use Rattle.iova_check.specs.declared.event.Event.{Event}
 use Rattle.iova_check.specs.History.{next_line}
-use Rattle.iova_check.specs.Promise.{is_line, IsLine, NoneAfter, NoneBetween, IsFlush, TakesBack}
+use Rattle.iova_check.specs.Promise.{is_line, IsLine, NoneAfter, NoneBetween, flushes, IsFlush, TakesBack}
 
 pub line_new : (p : Event → Bool) (e : Event) (past : List Event) → is_line p (e ∷ past) (next_line past) ≡ p e
 line_new p e past = cond-true (next_line past == next_line past) (p e) (is_line p past (next_line past)) (eq-eqb (next_line past) (next_line past) refl)
@@ -71,27 +71,33 @@ between_less p e past n to le h m lt below = sym (line_old p e past m (omega ari
 
 -- Flushes and unmaps among fewer and more lines
 
+pub flush_bound : (past : List Event) (f begun ended : ℕ) → IsFlush past f begun ended → ended < next_line past
+flush_bound past f begun ended (inl h) = line_bound _ past ended h.ends
+flush_bound past f begun ended (inr h) = line_bound (flushes f) past ended h.line
+
 pub flush_more : (e : Event) (past : List Event) (f begun ended : ℕ) → IsFlush past f begun ended → IsFlush (e ∷ past) f begun ended
-flush_more e past f begun ended h =
+flush_more e past f begun ended (inl h) =
     let below : ended < next_line past = line_bound _ past ended h.ends in
-    record {
+    inl (record {
       number = h.number;
       starts = line_more _ e past begun h.starts;
       ends = line_more _ e past ended h.ends;
       in_order = h.in_order;
       alone = between_more _ e past begun ended (omega arith) h.alone;
-    }
+    })
+flush_more e past f begun ended (inr h) = inr (record { line = line_more (flushes f) e past ended h.line; at_once = h.at_once })
 
 pub flush_less : (e : Event) (past : List Event) (f begun ended : ℕ) → ended < next_line past → IsFlush (e ∷ past) f begun ended → IsFlush past f begun ended
-flush_less e past f begun ended below h =
+flush_less e past f begun ended below (inl h) =
     let earlier : begun < ended = h.in_order in
-    record {
+    inl (record {
       number = h.number;
       starts = sym (line_old _ e past begun (omega arith)) ∙ h.starts;
       ends = sym (line_old _ e past ended below) ∙ h.ends;
       in_order = h.in_order;
       alone = between_less _ e past begun ended (omega arith) h.alone;
-    }
+    })
+flush_less e past f begun ended below (inr h) = inr (record { line = sym (line_old (flushes f) e past ended below) ∙ h.line; at_once = h.at_once })
 
 pub takes_more : (e : Event) (past : List Event) (f n : ℕ) → TakesBack past f n → TakesBack (e ∷ past) f n
 takes_more e past f n h =

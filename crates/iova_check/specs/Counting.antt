@@ -10,11 +10,13 @@ use Rattle.iova_check.specs.declared.counts.Counts.{Counts}
 
 -- with a line more, of which so many findings are told
 abbrev pub counts_after : Counts → Event → ℕ → Counts
-counts_after c (event.Map r) found = record { maps = c.maps + 1; unmaps = c.unmaps; flushes = c.flushes; uses = c.uses; findings = c.findings + found }
-counts_after c (event.Unmap r) found = record { maps = c.maps; unmaps = c.unmaps + 1; flushes = c.flushes; uses = c.uses; findings = c.findings + found }
-counts_after c (event.Use r) found = record { maps = c.maps; unmaps = c.unmaps; flushes = c.flushes; uses = c.uses + 1; findings = c.findings + found }
-counts_after c (event.Begin number range) found = record { maps = c.maps; unmaps = c.unmaps; flushes = c.flushes + 1; uses = c.uses; findings = c.findings + found }
-counts_after c (event.End number ok) found = record { maps = c.maps; unmaps = c.unmaps; flushes = c.flushes; uses = c.uses; findings = c.findings + found }
+counts_after c (event.Map r) found = record { maps = c.maps + 1; unmaps = c.unmaps; flushes = c.flushes; uses = c.uses; others = c.others; findings = c.findings + found }
+counts_after c (event.Unmap r) found = record { maps = c.maps; unmaps = c.unmaps + 1; flushes = c.flushes; uses = c.uses; others = c.others; findings = c.findings + found }
+counts_after c (event.Use r) found = record { maps = c.maps; unmaps = c.unmaps; flushes = c.flushes; uses = c.uses + 1; others = c.others; findings = c.findings + found }
+counts_after c (event.Begin number range) found = record { maps = c.maps; unmaps = c.unmaps; flushes = c.flushes + 1; uses = c.uses; others = c.others; findings = c.findings + found }
+counts_after c (event.End number ok) found = record { maps = c.maps; unmaps = c.unmaps; flushes = c.flushes; uses = c.uses; others = c.others; findings = c.findings + found }
+counts_after c (event.Flush range) found = record { maps = c.maps; unmaps = c.unmaps; flushes = c.flushes + 1; uses = c.uses; others = c.others; findings = c.findings + found }
+counts_after c event.Other found = record { maps = c.maps; unmaps = c.unmaps; flushes = c.flushes; uses = c.uses; others = c.others + 1; findings = c.findings + found }
 
 abbrev pub is_map : Event → Bool
 is_map (event.Map r) = true
@@ -22,6 +24,8 @@ is_map (event.Unmap r) = false
 is_map (event.Use r) = false
 is_map (event.Begin number range) = false
 is_map (event.End number ok) = false
+is_map (event.Flush range) = false
+is_map event.Other = false
 
 abbrev pub is_unmap : Event → Bool
 is_unmap (event.Map r) = false
@@ -29,6 +33,8 @@ is_unmap (event.Unmap r) = true
 is_unmap (event.Use r) = false
 is_unmap (event.Begin number range) = false
 is_unmap (event.End number ok) = false
+is_unmap (event.Flush range) = false
+is_unmap event.Other = false
 
 abbrev pub is_use : Event → Bool
 is_use (event.Map r) = false
@@ -36,13 +42,27 @@ is_use (event.Unmap r) = false
 is_use (event.Use r) = true
 is_use (event.Begin number range) = false
 is_use (event.End number ok) = false
+is_use (event.Flush range) = false
+is_use event.Other = false
 
-abbrev pub is_begin : Event → Bool
-is_begin (event.Map r) = false
-is_begin (event.Unmap r) = false
-is_begin (event.Use r) = false
-is_begin (event.Begin number range) = true
-is_begin (event.End number ok) = false
+-- a flush begins at it
+abbrev pub is_flush : Event → Bool
+is_flush (event.Map r) = false
+is_flush (event.Unmap r) = false
+is_flush (event.Use r) = false
+is_flush (event.Begin number range) = true
+is_flush (event.End number ok) = false
+is_flush (event.Flush range) = true
+is_flush event.Other = false
+
+abbrev pub is_other : Event → Bool
+is_other (event.Map r) = false
+is_other (event.Unmap r) = false
+is_other (event.Use r) = false
+is_other (event.Begin number range) = false
+is_other (event.End number ok) = false
+is_other (event.Flush range) = false
+is_other event.Other = true
 
 -- how many lines pass
 abbrev pub count_lines : (Event → Bool) → List Event → ℕ
@@ -53,8 +73,9 @@ count_lines passes (e ∷ past) = (if passes e then 1 else 0) + count_lines pass
 pub record IsCounted (past : List Event) (found : ℕ) (c : Counts) : Type 0 where
   pub maps : c.maps ≡ count_lines is_map past
   pub unmaps : c.unmaps ≡ count_lines is_unmap past
-  pub flushes : c.flushes ≡ count_lines is_begin past
+  pub flushes : c.flushes ≡ count_lines is_flush past
   pub uses : c.uses ≡ count_lines is_use past
+  pub others : c.others ≡ count_lines is_other past
   pub findings : c.findings ≡ found
 
 -- how many of three there are

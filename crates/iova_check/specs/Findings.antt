@@ -131,6 +131,8 @@ AreFindings bounds at flights (event.Unmap r) fs = IsUnmapTold bounds at r fs
 AreFindings bounds at flights (event.Use r) fs = IsUseTold bounds at r fs
 AreFindings bounds at flights (event.Begin number range) fs = fs ≡ flush_told number (is_some (flights number))
 AreFindings bounds at flights (event.End number ok) fs = fs ≡ flush_told number (not (is_some (flights number)))
+AreFindings bounds at flights (event.Flush range) fs = fs ≡ None ∷ None ∷ None ∷ []
+AreFindings bounds at flights event.Other fs = fs ≡ None ∷ None ∷ None ∷ []
 
 -- The promise
 
@@ -160,3 +162,5 @@ TellsBreaks past (event.Unmap r) fs = Unit {0}
 TellsBreaks past (event.Use r) fs = Unit {0}
 TellsBreaks past (event.Begin number range) fs = Unit {0}
 TellsBreaks past (event.End number ok) fs = Unit {0}
+TellsBreaks past (event.Flush range) fs = Unit {0}
+TellsBreaks past event.Other fs = Unit {0}

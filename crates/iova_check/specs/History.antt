@@ -1,5 +1,5 @@
 -- What became of each frame, by the lines of a log. A list of lines is told with the newest one first. Own.
-use Rattle.std.specs.Prelude.{ℕ, ◌+◌, ◌==◌, Bool, true, false, nat_lt, List, [], ◌∷◌, length, Option, Some, None, if◌then◌else◌}
+use Rattle.std.specs.Prelude.{ℕ, ◌+◌, ◌<◌, ◌≤◌, ◌^◌, ◌==◌, Bool, true, false, nat_lt, List, [], ◌∷◌, length, Option, Some, None, if◌then◌else◌}
 use Rattle.iova_range.specs.Frames.{Frames, covers}
 use Rattle.iova_check.specs.declared.event.Event.{Event}
 use Rattle.iova_check.specs.declared.event.Event.TheVariants as event
@@ -9,9 +9,28 @@ use Rattle.iova_check.specs.declared.stage.Flight.{Flight}
 use Rattle.iova_check.specs.declared.stage.Change.{Change}
 use Rattle.iova_check.specs.declared.stage.Change.TheVariants as change
 
--- the number of the line that comes next: the header is line 1, and the first of these line 2
+-- the number of the line that comes next: the first one is line 1
 abbrev pub next_line : List Event → ℕ
-next_line past = length past + 2
+next_line past = length past + 1
+
+-- a frame at least, and the frame behind the last one is one that a number of 64 bits can name
+pub record IsRange (r : Frames) : Type 0 where
+  pub some : 1 ≤ r.len
+  pub fits : r.lo + r.len < 2 ^ 64
+
+abbrev pub IsScope : Option Frames → Type 0
+IsScope None = Unit {0}
+IsScope (Some r) = IsRange r
+
+-- the frames that the event names are such
+abbrev pub IsInReach : Event → Type 0
+IsInReach (event.Map r) = IsRange r
+IsInReach (event.Unmap r) = IsRange r
+IsInReach (event.Use r) = IsRange r
+IsInReach (event.Begin number range) = IsScope range
+IsInReach (event.End number ok) = Unit {0}
+IsInReach (event.Flush range) = IsScope range
+IsInReach event.Other = Unit {0}
 
 -- the frame is one of a flush's
 abbrev pub has : ℕ → Option Frames → Bool
@@ -27,6 +46,8 @@ flight_after line (event.Unmap r) number was = was
 flight_after line (event.Use r) number was = was
 flight_after line (event.Begin begun range) number was = if begun == number then Some (record { line = line; range = range }) else was
 flight_after line (event.End ended ok) number was = if ended == number then None else was
+flight_after line (event.Flush range) number was = was
+flight_after line event.Other number was = was
 
 abbrev pub flight_of : List Event → ℕ → Option Flight
 flight_of [] number = None
@@ -57,6 +78,8 @@ stage_after line flights (event.Use r) f was = was
 stage_after line flights (event.Begin number range) f was = was
 stage_after line flights (event.End number true) f was = flushed_by (flights number) f was
 stage_after line flights (event.End number false) f was = was
+stage_after line flights (event.Flush range) f was = flushed_by (Some (record { line = line; range = range })) f was
+stage_after line flights event.Other f was = was
 
 abbrev pub stage_of : List Event → ℕ → Stage
 stage_of [] f = stage.Free

@@ -3,6 +3,7 @@ use Rattle.std.specs.Prelude.{ℕ, ◌≡◌, ◌≢◌, ◌⊎◌, List, [], �
 use Rattle.std.specs.List.{AllByRecursion}
 use Rattle.iova_text.specs.Lines.{HasNoLf, whole_line, IsOverlong}
 use Rattle.iova_check.specs.declared.event.Event.{Event}
+use Rattle.iova_check.specs.declared.event.Event.TheVariants.{Other}
 use Rattle.iova_check.specs.declared.line.Header.{Header}
 use Rattle.iova_check.specs.Text.{header_text, event_text, IsHeader, IsEvent}
 use Rattle.iova_check.specs.History.{next_line}
@@ -15,6 +16,10 @@ pub record Log : Type 0 where
 pub record IsLog (l : Log) : Type 0 where
   pub header : IsHeader l.bounds.first l.bounds.last
   pub events : AllByRecursion IsEvent l.past
+
+-- what all its lines say, the newest one first: the header says nothing of frames or flushes
+abbrev pub lines_of : Log → List Event
+lines_of l = l.past ++ Other ∷ []
 
 -- a line for each, the newest one last
 abbrev pub events_text : List Event → List ℕ
@@ -35,10 +40,10 @@ abbrev pub first_lines_text : Option Log → List ℕ
 first_lines_text None = []
 first_lines_text (Some l) = log_text l
 
--- the number of the line after them, the header being line 1
+-- the number of the line after them
 abbrev pub next_line_number : Option Log → ℕ
 next_line_number None = 1
-next_line_number (Some l) = next_line l.past
+next_line_number (Some l) = next_line (lines_of l)
 
 -- this line, which is without its LF, may stand after them
 abbrev pub MayFollow : Option Log → List ℕ → Type 0

@@ -1,5 +1,5 @@
 -- The promise of a log in words that need no state: lines, their order, and the frames that they name. Own.
-use Rattle.std.specs.Prelude.{ℕ, ◌≡◌, ◌<◌, ◌↔◌, ◌==◌, ◌&&◌, Bool, true, false, List, [], ◌∷◌, if◌then◌else◌}
+use Rattle.std.specs.Prelude.{ℕ, ◌≡◌, ◌<◌, ◌↔◌, ◌⊎◌, ◌==◌, ◌&&◌, Bool, true, false, List, [], ◌∷◌, if◌then◌else◌}
 use Rattle.iova_range.specs.Frames.{covers}
 use Rattle.iova_check.specs.declared.event.Event.{Event}
 use Rattle.iova_check.specs.declared.event.Event.TheVariants as event
@@ -21,6 +21,8 @@ maps f (event.Unmap r) = false
 maps f (event.Use r) = false
 maps f (event.Begin number range) = false
 maps f (event.End number ok) = false
+maps f (event.Flush range) = false
+maps f event.Other = false
 
 -- it unmaps the frame
 abbrev pub unmaps : ℕ → Event → Bool
@@ -29,6 +31,8 @@ unmaps f (event.Unmap r) = covers f r
 unmaps f (event.Use r) = false
 unmaps f (event.Begin number range) = false
 unmaps f (event.End number ok) = false
+unmaps f (event.Flush range) = false
+unmaps f event.Other = false
 
 -- a flush of this number begins, which has the frame
 abbrev pub begins : ℕ → ℕ → Event → Bool
@@ -37,6 +41,8 @@ begins number f (event.Unmap r) = false
 begins number f (event.Use r) = false
 begins number f (event.Begin begun range) = begun == number && has f range
 begins number f (event.End ended ok) = false
+begins number f (event.Flush range) = false
+begins number f event.Other = false
 
 -- a flush of this number ends well
 abbrev pub ends_well : ℕ → Event → Bool
@@ -46,6 +52,8 @@ ends_well number (event.Use r) = false
 ends_well number (event.Begin begun range) = false
 ends_well number (event.End ended true) = ended == number
 ends_well number (event.End ended false) = false
+ends_well number (event.Flush range) = false
+ends_well number event.Other = false
 
 -- a flush of this number begins or ends
 abbrev pub is_of : ℕ → Event → Bool
@@ -54,6 +62,18 @@ is_of number (event.Unmap r) = false
 is_of number (event.Use r) = false
 is_of number (event.Begin begun range) = begun == number
 is_of number (event.End ended ok) = ended == number
+is_of number (event.Flush range) = false
+is_of number event.Other = false
+
+-- it is a whole flush, which has the frame
+abbrev pub flushes : ℕ → Event → Bool
+flushes f (event.Map r) = false
+flushes f (event.Unmap r) = false
+flushes f (event.Use r) = false
+flushes f (event.Begin number range) = false
+flushes f (event.End number ok) = false
+flushes f (event.Flush range) = has f range
+flushes f event.Other = false
 
 abbrev pub IsLine : (Event → Bool) → List Event → ℕ → Type 0
 IsLine passes past n = is_line passes past n ≡ true
@@ -68,13 +88,21 @@ NoneBetween passes past n to = (m : ℕ) → n < m → m < to → is_line passes
 
 -- What has to hold of a frame
 
--- a flush that has the frame began at line `begun` and ended well at line `ended`
-pub record IsFlush (past : List Event) (f begun ended : ℕ) : Type 0 where
+-- a flush that has the frame began at line `begun` and ended well at line `ended`, told by two lines of its number
+pub record IsLongFlush (past : List Event) (f begun ended : ℕ) : Type 0 where
   pub number : ℕ
   pub starts : IsLine (begins number f) past begun
   pub ends : IsLine (ends_well number) past ended
   pub in_order : begun < ended
   pub alone : NoneBetween (is_of number) past begun ended
+
+-- the same, told by one line: it begins and ends there
+pub record IsShortFlush (past : List Event) (f begun ended : ℕ) : Type 0 where
+  pub line : IsLine (flushes f) past ended
+  pub at_once : begun ≡ ended
+
+abbrev pub IsFlush : List Event → ℕ → ℕ → ℕ → Type 0
+IsFlush past f begun ended = IsLongFlush past f begun ended ⊎ IsShortFlush past f begun ended
 
 -- line n unmaps the frame while it is mapped: a line before it maps it, and none between unmaps it
 pub record TakesBack (past : List Event) (f n : ℕ) : Type 0 where

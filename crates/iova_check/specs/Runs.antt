@@ -5,7 +5,7 @@ use Rattle.iova_text.specs.Lines.{IsUnended}
 use Rattle.iova_check.specs.declared.checker.Checker.{Checker}
 use Rattle.iova_check.specs.declared.fault.CheckFault.{CheckFault}
 use Rattle.iova_check.specs.declared.fault.CheckFault.TheVariants as fault
-use Rattle.iova_check.specs.Logs.{Log, IsLog, log_text, next_line_number, BeginsWithLines, IsBad, IsCutOff}
+use Rattle.iova_check.specs.Logs.{Log, IsLog, lines_of, log_text, next_line_number, BeginsWithLines, IsBad, IsCutOff}
 use Rattle.iova_check.specs.Checking.{HasChecked}
 use Rattle.iova_check.specs.Summary.{summary_text}
 
@@ -14,14 +14,14 @@ abbrev pub IsChecked : Option Log → Option Checker → List ℕ → Type 0
 IsChecked None None text = text ≡ []
 IsChecked None (Some c) text = ⊥
 IsChecked (Some l) None text = ⊥
-IsChecked (Some l) (Some c) text = HasChecked l.bounds l.past c text
+IsChecked (Some l) (Some c) text = HasChecked l.bounds (lines_of l) c text
 
 -- all that was taken is a log, what was told of each line is written, and this is known of it
 pub record IsDone (taken written : List ℕ) (c : Checker) : Type 0 where
   pub log : Log
   pub good : IsLog log
   pub whole : taken ≡ log_text log
-  pub checked : HasChecked log.bounds log.past c written
+  pub checked : HasChecked log.bounds (lines_of log) c written
 
 -- what was told of the good lines is written, and the line after them, of this number, is bad
 pub record StopsAtBad (taken written : List ℕ) (number : ℕ) : Type 0 where

@@ -6,6 +6,7 @@ use Rattle.iova_range.specs.declared.limits.TheConstants.{WIDE_TOP}
 use Rattle.iova_text.specs.Words.{line_text}
 use Rattle.iova_check.specs.declared.event.Event.{Event}
 use Rattle.iova_check.specs.declared.event.Event.TheVariants as event
+use Rattle.iova_check.specs.History.{IsRange, IsScope}
 use Rattle.iova_check.specs.declared.line.Verb.{Verb}
 use Rattle.iova_check.specs.declared.line.Verb.TheVariants as verb
 
@@ -16,12 +17,19 @@ verb_text verb.Use = codes "use"
 verb_text verb.Begin = codes "begin"
 verb_text verb.End = codes "end"
 
-abbrev pub verb_of : Event → Verb
-verb_of (event.Map r) = verb.Map
-verb_of (event.Unmap r) = verb.Unmap
-verb_of (event.Use r) = verb.Use
-verb_of (event.Begin number range) = verb.Begin
-verb_of (event.End number ok) = verb.End
+-- the first word of an event's line, where a line of a log may say it
+abbrev pub verb_of : Event → Option Verb
+verb_of (event.Map r) = Some verb.Map
+verb_of (event.Unmap r) = Some verb.Unmap
+verb_of (event.Use r) = Some verb.Use
+verb_of (event.Begin number range) = Some verb.Begin
+verb_of (event.End number ok) = Some verb.End
+verb_of (event.Flush range) = None
+verb_of event.Other = None
+
+abbrev pub word_of : Option Verb → List ℕ
+word_of None = []
+word_of (Some v) = verb_text v
 
 abbrev pub outcome_text : Bool → List ℕ
 outcome_text true = codes "ok"
@@ -42,27 +50,22 @@ arguments_of (event.Unmap r) = range_words r
 arguments_of (event.Use r) = range_words r
 arguments_of (event.Begin number range) = decimal number ∷ scope_words range
 arguments_of (event.End number ok) = decimal number ∷ outcome_text ok ∷ []
+arguments_of (event.Flush range) = []
+arguments_of event.Other = []
 
 -- an event's line without its LF
 abbrev pub event_text : Event → List ℕ
-event_text e = line_text (verb_text (verb_of e)) (arguments_of e)
+event_text e = line_text (word_of (verb_of e)) (arguments_of e)
 
--- a frame at least, and the frame behind the last one is one that a number of 64 bits can name
-pub record IsRange (r : Frames) : Type 0 where
-  pub some : 1 ≤ r.len
-  pub fits : r.lo + r.len < 2 ^ 64
-
-abbrev pub IsScope : Option Frames → Type 0
-IsScope None = Unit {0}
-IsScope (Some r) = IsRange r
-
--- an event that a line may say
+-- an event that a line of a log may say
 abbrev pub IsEvent : Event → Type 0
 IsEvent (event.Map r) = IsRange r
 IsEvent (event.Unmap r) = IsRange r
 IsEvent (event.Use r) = IsRange r
 IsEvent (event.Begin number range) = (number < 2 ^ 64) × IsScope range
 IsEvent (event.End number ok) = number < 2 ^ 64
+IsEvent (event.Flush range) = ⊥
+IsEvent event.Other = ⊥
 
 -- The header
 

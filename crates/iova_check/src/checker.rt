@@ -11,7 +11,7 @@ use crate::tracker::Tracker;
 use iova_range::refusal::Refusal;
 use std::alloc::Global;
 
-/// What is known of a log after its lines so far, and the bounds of its header.
+/// What is known of a log after its lines so far, and its bounds.
 #[derive(Drop)]
 pub struct Checker {
     /// The first and the last frame that may be mapped.
@@ -25,10 +25,10 @@ pub struct Checker {
 
 impl Checker {
     ghost use Rattle.std.specs.Prelude.{◌≡◌, [], OnOk, OnErr};
-    ghost use Rattle.iova_check.specs.Text.{IsEvent};
+    ghost use Rattle.iova_check.specs.History.{IsInReach};
     ghost use Rattle.iova_check.specs.Checking.{HasChecked, ChecksNext};
 
-    /// The header has been read.
+    /// No line was taken.
     pub fn new(alloc: Global, bounds: Header) -> Checker
         requires { bounds.first ≤ bounds.last }
         ensures { HasChecked bounds [] result [] }
@@ -43,7 +43,7 @@ impl Checker {
     /// Takes the next line, and appends what is told of it. Refused by `NoMemory`, also where no further line has
     /// a number; nothing is appended then.
     pub fn check(&mut self, event: Event, out: &mut Vec<u8>) -> Result<(), Refusal>
-        requires { IsEvent event }
+        requires { IsInReach event }
         ensures ok { OnOk result (ChecksNext self.old event out.old.items self.new out.new.items) }
         ensures err { OnErr result (out.new.items ≡ out.old.items) }
     {

@@ -12,10 +12,12 @@ pub struct Counts {
     pub maps: u64,
     /// The lines `unmap`.
     pub unmaps: u64,
-    /// The lines `begin`.
+    /// The lines `begin`, and those that are a whole flush.
     pub flushes: u64,
     /// The lines `use`.
     pub uses: u64,
+    /// The lines that say nothing of frames or flushes, a log's header among them.
+    pub others: u64,
     /// The findings.
     pub findings: u64,
 }
@@ -32,6 +34,7 @@ impl Counts {
             unmaps: 0,
             flushes: 0,
             uses: 0,
+            others: 0,
             findings: 0,
         }
     }
@@ -46,8 +49,11 @@ impl Counts {
             Event::Map(_) => counts.maps = sum(counts.maps, 1)?,
             Event::Unmap(_) => counts.unmaps = sum(counts.unmaps, 1)?,
             Event::Use(_) => counts.uses = sum(counts.uses, 1)?,
-            Event::Begin { no: _, range: _ } => counts.flushes = sum(counts.flushes, 1)?,
+            Event::Begin { no: _, range: _ } | Event::Flush(_) => {
+                counts.flushes = sum(counts.flushes, 1)?;
+            }
             Event::End { no: _, ok: _ } => {}
+            Event::Other => counts.others = sum(counts.others, 1)?,
         }
         Ok(counts)
     }

@@ -4,7 +4,8 @@ ghost use Rattle.iova_range.specs.Frames.{Frames};
 ghost use Rattle.iova_check.specs.declared.event.Event.{Event};
 ghost use Rattle.iova_check.specs.declared.line.Verb.{Verb};
 ghost use Rattle.iova_text.specs.Words.{spaced_words};
-ghost use Rattle.iova_check.specs.Text.{verb_text, verb_of, outcome_text, range_words, scope_words, arguments_of, event_text, header_text, header_words, IsRange, IsScope, IsEvent, IsHeader};
+ghost use Rattle.iova_check.specs.History.{IsRange, IsScope};
+ghost use Rattle.iova_check.specs.Text.{verb_text, verb_of, outcome_text, range_words, scope_words, arguments_of, event_text, header_text, header_words, IsEvent, IsHeader};
 
 use crate::event::Event;
 use iova_range::limits::WIDE_TOP;
@@ -42,8 +43,10 @@ pub fn read_event(line: &[u8]) -> Option<Event>
     ensures all { IsNone result → (e : Event) → IsEvent e → line.now ≢ event_text e }
 {
     let (word, arguments) = first_word(line);
-    let verb = verb_named(word)?;
-    event_of(verb, arguments)
+    match verb_named(word) {
+        Some(verb) => event_of(verb, arguments),
+        None => None,
+    }
 }
 
 /// The header of this line, which is without its LF: `iovalog 1 <first> <last>`. None exactly where the line is no header's,
@@ -85,9 +88,9 @@ fn verb_named(word: &[u8]) -> Option<Verb>
 }
 
 fn event_of(verb: Verb, arguments: &[u8]) -> Option<Event>
-    ensures spelled { IfSome result (λ e. (verb_of e ≡ verb) × (arguments.now ≡ spaced_words (arguments_of e))) }
+    ensures spelled { IfSome result (λ e. (verb_of e ≡ Some verb) × (arguments.now ≡ spaced_words (arguments_of e))) }
     ensures good { IfSome result (λ e. IsEvent e) }
-    ensures read { (e : Event) → IsEvent e → verb_of e ≡ verb → arguments.now ≡ spaced_words (arguments_of e)
+    ensures read { (e : Event) → IsEvent e → verb_of e ≡ Some verb → arguments.now ≡ spaced_words (arguments_of e)
         → result ≡ Some e }
 {
     match verb {

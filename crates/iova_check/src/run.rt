@@ -5,6 +5,7 @@ ghost use Rattle.iova_text.specs.Lines.{IsUnended};
 ghost use Rattle.iova_check.specs.Runs.{Checks, Counts, ChecksAndCounts};
 
 use crate::checker::Checker;
+use crate::event::Event;
 use crate::fault::CheckFault;
 use crate::line::{read_event, read_header};
 use crate::summary::summary;
@@ -203,7 +204,12 @@ impl Progress {
         let Some(header) = read_header(line) else {
             return Err(CheckFault::BadLog(1));
         };
-        self.checker = Some(Checker::new(self.alloc, header));
+        let mut checker = Checker::new(self.alloc, header);
+        match checker.check(Event::Other, &mut self.findings) {
+            Ok(()) => {}
+            Err(_) => return Err(CheckFault::NoMemory),
+        }
+        self.checker = Some(checker);
         Ok(())
     }
 

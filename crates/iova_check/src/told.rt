@@ -3,8 +3,7 @@ ghost use Rattle.std.specs.Prelude.{◌≡◌, ◌≤◌, List};
 ghost use Rattle.std.specs.Ordering.{nat_cmp};
 ghost use Rattle.std.specs.BTreeMap.{get};
 ghost use Rattle.iova_check.specs.declared.event.Event.{Event};
-ghost use Rattle.iova_check.specs.Text.{IsEvent, IsRange};
-ghost use Rattle.iova_check.specs.History.{flight_of, stage_of};
+ghost use Rattle.iova_check.specs.History.{IsRange, IsInReach, flight_of, stage_of};
 ghost use Rattle.iova_check.specs.Marks.{shown};
 ghost use Rattle.iova_check.specs.Following.{Follows};
 ghost use Rattle.iova_check.specs.Findings.{framed, flush_told, IsMapTold, IsUnmapTold, IsUseTold, AreFindings, TellsBreaks};
@@ -20,7 +19,7 @@ use iova_range::range::Range;
 /// What is told of the next line, in order: at most three findings. None is of a frame that was given out too early exactly where
 /// the promise is kept for each frame that the line maps.
 pub fn findings(tracker: &Tracker, bounds: &Header, event: &Event) -> [Option<Finding>; 3]
-    requires event { IsEvent event.now }
+    requires event { IsInReach event.now }
     requires bounds { bounds.now.first ≤ bounds.now.last }
     ensures told { (past : List Event) → Follows past tracker.now
         → AreFindings bounds.now (stage_of past) (flight_of past) event.now result }
@@ -31,7 +30,7 @@ pub fn findings(tracker: &Tracker, bounds: &Header, event: &Event) -> [Option<Fi
 
 /// What is told of the next line, by what the tracker knows.
 fn tell(tracker: &Tracker, bounds: &Header, event: &Event) -> [Option<Finding>; 3]
-    requires event { IsEvent event.now }
+    requires event { IsInReach event.now }
     requires bounds { bounds.now.first ≤ bounds.now.last }
     ensures { AreFindings bounds.now (shown tracker.now.stages) (get nat_cmp tracker.now.flights) event.now result }
 {
@@ -41,6 +40,7 @@ fn tell(tracker: &Tracker, bounds: &Header, event: &Event) -> [Option<Finding>; 
         Event::Use(range) => of_use(&tracker.stages, bounds, *range),
         Event::Begin { no, range: _ } => of_flush(*no, tracker.flights.contains_key(no)),
         Event::End { no, ok: _ } => of_flush(*no, !tracker.flights.contains_key(no)),
+        Event::Flush(_) | Event::Other => [None, None, None],
     }
 }
 

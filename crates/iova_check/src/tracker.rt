@@ -3,7 +3,7 @@ ghost use Rattle.std.specs.Prelude.{◌≡◌, ℕ, ◌+◌, ◌-◌, ◌≤◌,
 ghost use Rattle.std.specs.Ordering.{nat_cmp};
 ghost use Rattle.std.specs.BTreeMap.{get};
 ghost use Rattle.iova_check.specs.declared.event.Event.{Event};
-ghost use Rattle.iova_check.specs.Text.{IsEvent};
+ghost use Rattle.iova_check.specs.History.{IsInReach};
 ghost use Rattle.iova_check.specs.History.{flight_after, stage_after, flushed_by};
 ghost use Rattle.iova_check.specs.Marks.{shown};
 ghost use Rattle.iova_check.specs.Following.{Follows};
@@ -22,25 +22,25 @@ pub struct Tracker {
     pub stages: Stages,
     /// The flushes in flight.
     pub flights: BTreeMap<u64, Flight>,
-    /// The number of the line that comes next, 2 at least.
+    /// The number of the line that comes next, 1 at least.
     pub line: u64,
 }
 
 impl Tracker {
-    /// Nothing but the header was read.
+    /// No line was taken.
     pub fn new(alloc: Global) -> Tracker
         ensures { Follows [] result }
     {
         Tracker {
             stages: Stages::new(alloc),
             flights: BTreeMap::new(alloc),
-            line: 2,
+            line: 1,
         }
     }
 
     /// Takes the next line. Refused where memory is: what is known then is no more than of some of it.
     pub fn take(&mut self, event: Event) -> Result<(), AllocError>
-        requires event { IsEvent event }
+        requires event { IsInReach event }
         requires few { self.old.line < 2 ^ 64 - 1 }
         ensures { OnOk result ((past : List Event) → Follows past self.old → Follows (event ∷ past) self.new) }
     {
@@ -52,6 +52,8 @@ impl Tracker {
             Event::Use(_) => {}
             Event::Begin { no, range } => self.begin(no, range)?,
             Event::End { no, ok } => self.end(no, ok)?,
+            Event::Flush(range) => self.flush_at_once(range)?,
+            Event::Other => {}
         }
         self.line += 1;
         Ok(())
@@ -67,6 +69,18 @@ impl Tracker {
         let line = self.line;
         self.flights.insert(no, Flight { line, range })?;
         Ok(())
+    }
+
+    /// A flush begins and ends at the next line.
+    fn flush_at_once(&mut self, range: Option<Range>) -> Result<(), AllocError>
+        ensures stages { OnOk result ((f : ℕ) → f < 2 ^ 64 - 1 → shown self.new.stages f
+            ≡ flushed_by (Some (record { line = self.old.line; range = range })) f (shown self.old.stages f)) }
+        ensures top { OnOk result ((f : ℕ) → 2 ^ 64 - 1 ≤ f → shown self.new.stages f ≡ shown self.old.stages f) }
+        ensures flights { self.new.flights ≡ self.old.flights }
+        ensures line { self.new.line ≡ self.old.line }
+    {
+        let line = self.line;
+        flush(&mut self.stages, &Flight { line, range })
     }
 
     /// A flush ends.
