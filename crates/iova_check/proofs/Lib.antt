@@ -4,6 +4,7 @@ mod FrameStages
 mod Kept
 mod Examples
 mod Marks
+mod AllowedFrames
 mod Reuses
 mod Streams
 mod LineSteps

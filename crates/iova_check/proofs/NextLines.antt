@@ -1,9 +1,11 @@
 -- One line more of a checker.
-use Rattle.std.proofs.Common.{ℕ, ◌≡◌, ◌∙◌, ◌+◌, List, ◌∷◌, ◌++◌, Option, refl, sym, ap, subst, arith}
+use Rattle.std.proofs.Common.{ℕ, ◌≡◌, ◌+◌, List, ◌∷◌, ◌++◌, Option, refl, sym, ap, subst, arith}
 use Rattle.iova_check.specs.declared.event.Event.{Event}
 use Rattle.iova_check.specs.declared.event.Event.TheVariants as event
 use Rattle.iova_check.specs.declared.finding.Finding.{Finding}
-use Rattle.iova_check.specs.declared.line.Header.{Header}
+use Rattle.iova_check.specs.declared.allowed.Allowed.{Allowed}
+use Rattle.iova_check.specs.Bounds.{Bounds}
+use Rattle.iova_check.specs.Allowing.{Allows}
 use Rattle.iova_check.specs.declared.counts.Counts.{Counts}
 use Rattle.iova_check.specs.declared.checker.Checker.{Checker}
 use Rattle.iova_check.specs.History.{flight_of, stage_of}
@@ -29,20 +31,20 @@ counted_more past (event.Flush range) found n c h =
 counted_more past event.Other found n c h =
     record { maps = omega (arith, h.maps); unmaps = omega (arith, h.unmaps); flushes = omega (arith, h.flushes); uses = omega (arith, h.uses); others = omega (arith, h.others); findings = omega (arith, h.findings) }
 
-pub checks_next : (old new : Checker) (e : Event) (before after : List ℕ) (told : List (Option Finding)) → new.bounds ≡ old.bounds
+pub checks_next : (old new : Checker) (e : Event) (before after : List ℕ) (told : List (Option Finding)) → new.allowed ≡ old.allowed
     → after ≡ before ++ findings_text old.tracker.line told
-    → ((past : List Event) → Follows past old.tracker → AreFindings old.bounds (stage_of past) (flight_of past) e told)
-    → ((past : List Event) → Follows past old.tracker → TellsBreaks past e told)
+    → ((bounds : Bounds) (past : List Event) → Allows old.allowed bounds → Follows past old.tracker → AreFindings bounds (stage_of past) (flight_of past) e told)
+    → ((bounds : Bounds) (past : List Event) → Allows old.allowed bounds → Follows past old.tracker → TellsBreaks past e told)
     → ((past : List Event) → Follows past old.tracker → Follows (e ∷ past) new.tracker)
     → new.counts ≡ counts_after old.counts e (how_many told) → ChecksNext old e before new after
 checks_next old new e before after told same appended are breaks follows counts = record {
   more = findings_text old.tracker.line told;
   appended = appended;
   checks = λ bounds past text h.
-      let P : Header → Type 0 = λ b. AreFindings b (stage_of past) (flight_of past) e told in
+      let P : Allowed → Type 0 = λ a. Allows a bounds in
       let Q : Counts → Type 0 = IsCounted (e ∷ past) (h.found + how_many told) in
       record {
-        under = same ∙ h.under;
+        under = subst P (sym same) h.under;
         follows = follows past h.follows;
         found = h.found + how_many told;
         told = (
@@ -51,8 +53,8 @@ checks_next old new e before after told same appended are breaks follows counts 
           h.told,
           record {
             findings = told;
-            are = subst P h.under (are past h.follows);
-            breaks = breaks past h.follows;
+            are = are bounds past h.under h.follows;
+            breaks = breaks bounds past h.under h.follows;
             whole = ap (λ n. text ++ findings_text n told) h.follows.line;
             count = refl;
           },

@@ -4,6 +4,7 @@ use Rattle.std.specs.List.{list_all}
 use Rattle.std.proofs.lemmas.List.{take-append-le, take_at}
 use Rattle.std.proofs.KnownBytes.{Appends-trans, Appends-nil, Consumes-trans, Consumes-nil, Consumes-kept}
 use Rattle.std.specs.Io.KnownBytes.{Appends, Consumes, Keeps, IsAtEnd}
+use Rattle.iova_check.specs.declared.allowed.Asked.{Asked}
 use Rattle.iova_check.specs.declared.checker.Checker.{Checker}
 use Rattle.iova_check.specs.Logs.{Log}
 use Rattle.iova_check.specs.declared.fault.CheckFault.{CheckFault}
@@ -16,16 +17,16 @@ use Rattle.iova_check.specs.Progress.{Stands, Goes, EndsCheck, Stops, Outcome, T
 
 -- Outcomes
 
-pub Goes-then : (a b c : Progress) (p q v w : List ℕ) → Goes a p v b → Goes b q w c → Goes a (p ++ q) (v ++ w) c
-Goes-then a b c p q v w first second taken written st =
-    let P : List ℕ → Type 0 = λ x. Stands x ((written ++ v) ++ w) c in
-    let Q : List ℕ → Type 0 = λ x. Stands (taken ++ (p ++ q)) x c in
+pub Goes-then : (asked : Asked) → (a b c : Progress) (p q v w : List ℕ) → Goes asked a p v b → Goes asked b q w c → Goes asked a (p ++ q) (v ++ w) c
+Goes-then asked a b c p q v w first second taken written st =
+    let P : List ℕ → Type 0 = λ x. Stands asked x ((written ++ v) ++ w) c in
+    let Q : List ℕ → Type 0 = λ x. Stands asked (taken ++ (p ++ q)) x c in
     subst Q (append_assoc written v w) (subst P (append_assoc taken p q) (second (taken ++ p) (written ++ v) (first taken written st)))
 
-pub Stops-then : (a b : Progress) (p q v w : List ℕ) (e : CheckFault) → Goes a p v b → Stops b q w e → Stops a (p ++ q) (v ++ w) e
-Stops-then a b p q v w e first second taken written st =
-    let P : List ℕ → Type 0 = λ x. EndsCheck x ((written ++ v) ++ w) e in
-    let Q : List ℕ → Type 0 = λ x. EndsCheck (taken ++ (p ++ q)) x e in
+pub Stops-then : (asked : Asked) → (a b : Progress) (p q v w : List ℕ) (e : CheckFault) → Goes asked a p v b → Stops asked b q w e → Stops asked a (p ++ q) (v ++ w) e
+Stops-then asked a b p q v w e first second taken written st =
+    let P : List ℕ → Type 0 = λ x. EndsCheck asked x ((written ++ v) ++ w) e in
+    let Q : List ℕ → Type 0 = λ x. EndsCheck asked (taken ++ (p ++ q)) x e in
     subst Q (append_assoc written v w) (subst P (append_assoc taken p q) (second (taken ++ p) (written ++ v) (first taken written st)))
 
 BeginsWithLines-more : (taken more rest : List ℕ) (lines : Option Log) → BeginsWithLines taken lines rest → BeginsWithLines (taken ++ more) lines (rest ++ more)
@@ -51,8 +52,8 @@ IsBad-more lines rest more (inr b) = inr (record {
 })
 
 -- what is not read any more changes nothing
-EndsCheck-more : (taken more written : List ℕ) (e : CheckFault) → EndsCheck taken written e → EndsCheck (taken ++ more) written e
-EndsCheck-more taken more written (fault.BadLog number) s = record {
+EndsCheck-more : (asked : Asked) → (taken more written : List ℕ) (e : CheckFault) → EndsCheck asked taken written e → EndsCheck asked (taken ++ more) written e
+EndsCheck-more asked taken more written (fault.BadLog number) s = record {
   lines = s.lines;
   rest = s.rest ++ more;
   checker = s.checker;
@@ -61,7 +62,7 @@ EndsCheck-more taken more written (fault.BadLog number) s = record {
   number_is = s.number_is;
   bad = IsBad-more s.lines s.rest more s.bad;
 }
-EndsCheck-more taken more written fault.NoMemory s = record {
+EndsCheck-more asked taken more written fault.NoMemory s = record {
   lines = s.lines;
   rest = s.rest ++ more;
   checker = s.checker;
@@ -71,8 +72,8 @@ EndsCheck-more taken more written fault.NoMemory s = record {
   unwritten = s.unwritten;
   begun = s.begun;
 }
-EndsCheck-more taken more written fault.ReadFault s = absurd s
-EndsCheck-more taken more written fault.WriteFault s = record {
+EndsCheck-more asked taken more written fault.ReadFault s = absurd s
+EndsCheck-more asked taken more written fault.WriteFault s = record {
   lines = s.lines;
   rest = s.rest ++ more;
   checker = s.checker;
@@ -83,10 +84,10 @@ EndsCheck-more taken more written fault.WriteFault s = record {
   begun = s.begun;
 }
 
-pub Stops-more : (p : Progress) (bytes more written : List ℕ) (e : CheckFault) → Stops p bytes written e → Stops p (bytes ++ more) written e
-Stops-more p bytes more written e s taken before st =
-    let P : List ℕ → Type 0 = λ x. EndsCheck x (before ++ written) e in
-    subst P (append_assoc taken bytes more) (EndsCheck-more (taken ++ bytes) more (before ++ written) e (s taken before st))
+pub Stops-more : (asked : Asked) → (p : Progress) (bytes more written : List ℕ) (e : CheckFault) → Stops asked p bytes written e → Stops asked p (bytes ++ more) written e
+Stops-more asked p bytes more written e s taken before st =
+    let P : List ℕ → Type 0 = λ x. EndsCheck asked x (before ++ written) e in
+    subst P (append_assoc taken bytes more) (EndsCheck-more asked (taken ++ bytes) more (before ++ written) e (s taken before st))
 
 -- a write that breaks off
 broken : (before more : List ℕ) (n : ℕ) (text unwritten : List ℕ) → text ≡ (before ++ more) ++ unwritten
@@ -94,8 +95,8 @@ broken : (before more : List ℕ) (n : ℕ) (text unwritten : List ℕ) → text
 broken before more n text unwritten e =
     e ∙ (ap (λ (x : List ℕ). (before ++ x) ++ unwritten) (sym (take-append-drop n more)) ∙ simp append_assoc)
 
-EndsCheck-broken : (taken before more : List ℕ) (n : ℕ) (e : CheckFault) → EndsCheck taken (before ++ more) e → BreaksOff taken (before ++ take n more)
-EndsCheck-broken taken before more n (fault.BadLog number) s = record {
+EndsCheck-broken : (asked : Asked) → (taken before more : List ℕ) (n : ℕ) (e : CheckFault) → EndsCheck asked taken (before ++ more) e → BreaksOff asked taken (before ++ take n more)
+EndsCheck-broken asked taken before more n (fault.BadLog number) s = record {
   lines = s.lines;
   rest = s.rest;
   checker = s.checker;
@@ -105,7 +106,7 @@ EndsCheck-broken taken before more n (fault.BadLog number) s = record {
   unwritten = drop n more ++ [];
   begun = broken before more n (before ++ more) [] (sym (append-nil (before ++ more)));
 }
-EndsCheck-broken taken before more n fault.NoMemory s = record {
+EndsCheck-broken asked taken before more n fault.NoMemory s = record {
   lines = s.lines;
   rest = s.rest;
   checker = s.checker;
@@ -115,8 +116,8 @@ EndsCheck-broken taken before more n fault.NoMemory s = record {
   unwritten = drop n more ++ s.unwritten;
   begun = broken before more n s.text s.unwritten s.begun;
 }
-EndsCheck-broken taken before more n fault.ReadFault s = absurd s
-EndsCheck-broken taken before more n fault.WriteFault s = record {
+EndsCheck-broken asked taken before more n fault.ReadFault s = absurd s
+EndsCheck-broken asked taken before more n fault.WriteFault s = record {
   lines = s.lines;
   rest = s.rest;
   checker = s.checker;
@@ -128,12 +129,12 @@ EndsCheck-broken taken before more n fault.WriteFault s = record {
 }
 
 -- the fault is that of the write, where the kept findings are not all written
-pub Stops-broken : (p : Progress) (bytes more : List ℕ) (n : ℕ) (e : CheckFault) → Stops p bytes more e → Stops p bytes (take n more) fault.WriteFault
-Stops-broken p bytes more n e s taken before st = EndsCheck-broken (taken ++ bytes) before more n e (s taken before st)
+pub Stops-broken : (asked : Asked) → (p : Progress) (bytes more : List ℕ) (n : ℕ) (e : CheckFault) → Stops asked p bytes more e → Stops asked p bytes (take n more) fault.WriteFault
+Stops-broken asked p bytes more n e s taken before st = EndsCheck-broken asked (taken ++ bytes) before more n e (s taken before st)
 
 -- after bytes that were taken the kept findings are not all written
-pub Goes-broken : (p q : Progress) (bytes : List ℕ) (n : ℕ) → Goes p bytes [] q → Stops p bytes (take n q.findings.items) fault.WriteFault
-Goes-broken p q bytes n goes taken before st =
+pub Goes-broken : (asked : Asked) → (p q : Progress) (bytes : List ℕ) (n : ℕ) → Goes asked p bytes [] q → Stops asked p bytes (take n q.findings.items) fault.WriteFault
+Goes-broken asked p q bytes n goes taken before st =
     let at = goes taken before st in
     record {
       lines = at.lines;
@@ -148,49 +149,49 @@ Goes-broken p q bytes n goes taken before st =
     }
 
 -- after bytes that were taken the kept findings are written
-pub Goes-written : (p q r : Progress) (bytes : List ℕ) → Goes p bytes [] q → r.line.items ≡ q.line.items → r.checker ≡ q.checker
-    → r.findings.items ≡ [] → Goes p bytes q.findings.items r
-Goes-written p q r bytes goes line domain none taken before st =
+pub Goes-written : (asked : Asked) → (p q r : Progress) (bytes : List ℕ) → Goes asked p bytes [] q → r.line.items ≡ q.line.items → r.checker ≡ q.checker
+    → r.findings.items ≡ [] → Goes asked p bytes q.findings.items r
+Goes-written asked p q r bytes goes line domain none taken before st =
     let at = goes taken before st in
     record {
       lines = at.lines;
       text = at.text;
       begins = record { good = at.begins.good; whole = at.begins.whole ∙ ap (λ (x : List ℕ). first_lines_text at.lines ++ x) (sym line) };
-      checked = (let P : Option Checker → Type 0 = λ d. IsChecked at.lines d at.text in subst P (sym domain) at.checked);
+      checked = (let P : Option Checker → Type 0 = λ d. IsChecked asked at.lines d at.text in subst P (sym domain) at.checked);
       gathered = at.gathered ∙ (ap (λ (x : List ℕ). x ++ q.findings.items) (append-nil before)
           ∙ (sym (append-nil (before ++ q.findings.items)) ∙ ap (λ (x : List ℕ). (before ++ q.findings.items) ++ x) (sym none)));
     }
 
-pub TakesBytes-broken : (p q : Progress) (bytes : List ℕ) (n : ℕ) (r : Result Unit CheckFault) → TakesBytes p bytes q r → Stops p bytes (take n q.findings.items) fault.WriteFault
-TakesBytes-broken p q bytes n (Ok u) t = Goes-broken p q bytes n t
-TakesBytes-broken p q bytes n (Err e) t =
-    let P : List ℕ → Type 0 = λ x. Stops p bytes (take n x) fault.WriteFault in
-    subst P (sym t.1) (Stops-broken p bytes p.findings.items n e t.0)
+pub TakesBytes-broken : (asked : Asked) → (p q : Progress) (bytes : List ℕ) (n : ℕ) (r : Result Unit CheckFault) → TakesBytes asked p bytes q r → Stops asked p bytes (take n q.findings.items) fault.WriteFault
+TakesBytes-broken asked p q bytes n (Ok u) t = Goes-broken asked p q bytes n t
+TakesBytes-broken asked p q bytes n (Err e) t =
+    let P : List ℕ → Type 0 = λ x. Stops asked p bytes (take n x) fault.WriteFault in
+    subst P (sym t.1) (Stops-broken asked p bytes p.findings.items n e t.0)
 
-pub TakesBytes-written : (p q r : Progress) (bytes : List ℕ) (result : Result Unit CheckFault) → TakesBytes p bytes q result
-    → r ≡ record q { findings = r.findings } → r.findings.items ≡ [] → Outcome p bytes q.findings.items r result
-TakesBytes-written p q r bytes (Ok u) t same none =
-    Goes-written p q r bytes t (ap (λ (x : Progress). x.line.items) same) (ap (λ (x : Progress). x.checker) same) none
-TakesBytes-written p q r bytes (Err e) t same none =
-    let P : List ℕ → Type 0 = λ x. Stops p bytes x e in
+pub TakesBytes-written : (asked : Asked) → (p q r : Progress) (bytes : List ℕ) (result : Result Unit CheckFault) → TakesBytes asked p bytes q result
+    → r ≡ record q { findings = r.findings } → r.findings.items ≡ [] → Outcome asked p bytes q.findings.items r result
+TakesBytes-written asked p q r bytes (Ok u) t same none =
+    Goes-written asked p q r bytes t (ap (λ (x : Progress). x.line.items) same) (ap (λ (x : Progress). x.checker) same) none
+TakesBytes-written asked p q r bytes (Err e) t same none =
+    let P : List ℕ → Type 0 = λ x. Stops asked p bytes x e in
     subst P (sym t.1) t.0
 
-pub Outcome-then : (a b c : Progress) (p q v w : List ℕ) (r : Result Unit CheckFault) → Goes a p v b → Outcome b q w c r → Outcome a (p ++ q) (v ++ w) c r
-Outcome-then a b c p q v w (Ok u) first second = Goes-then a b c p q v w first second
-Outcome-then a b c p q v w (Err e) first second = Stops-then a b p q v w e first second
+pub Outcome-then : (asked : Asked) → (a b c : Progress) (p q v w : List ℕ) (r : Result Unit CheckFault) → Goes asked a p v b → Outcome asked b q w c r → Outcome asked a (p ++ q) (v ++ w) c r
+Outcome-then asked a b c p q v w (Ok u) first second = Goes-then asked a b c p q v w first second
+Outcome-then asked a b c p q v w (Err e) first second = Stops-then asked a b p q v w e first second
 
 -- The line that was kept is whole once its last bytes have come.
 
-fresh_line : (taken written : List ℕ) (q mid : Progress) (st : Stands taken written q) → mid.line.items ≡ [] → mid.checker ≡ q.checker
-    → mid.findings.items ≡ q.findings.items → Stands (first_lines_text st.lines) written mid
-fresh_line taken written q mid st empty domain replies = record {
+fresh_line : (asked : Asked) → (taken written : List ℕ) (q mid : Progress) (st : Stands asked taken written q) → mid.line.items ≡ [] → mid.checker ≡ q.checker
+    → mid.findings.items ≡ q.findings.items → Stands asked (first_lines_text st.lines) written mid
+fresh_line asked taken written q mid st empty domain replies = record {
   lines = st.lines;
   text = st.text;
   begins = record {
     good = st.begins.good;
     whole = sym (append-nil (first_lines_text st.lines)) ∙ ap (λ (x : List ℕ). first_lines_text st.lines ++ x) (sym empty);
   };
-  checked = (let P : Option Checker → Type 0 = λ d. IsChecked st.lines d st.text in subst P (sym domain) st.checked);
+  checked = (let P : Option Checker → Type 0 = λ d. IsChecked asked st.lines d st.text in subst P (sym domain) st.checked);
   gathered = st.gathered ∙ ap (λ (x : List ℕ). written ++ x) (sym replies);
 }
 
@@ -204,21 +205,21 @@ ended_text : (taken bytes line kept : List ℕ) (lines : Option Log) → line �
     → first_lines_text lines ++ whole_line line ≡ taken ++ whole_line bytes
 ended_text taken bytes line kept lines is e = ap (λ (x : List ℕ). first_lines_text lines ++ whole_line x) is ∙ line_whole taken bytes kept lines e
 
-pub TakesBytes-ended : (p q mid new : Progress) (bytes line : List ℕ) (r : Result Unit CheckFault) → Goes p bytes [] q → q.findings.items ≡ p.findings.items
+pub TakesBytes-ended : (asked : Asked) → (p q mid new : Progress) (bytes line : List ℕ) (r : Result Unit CheckFault) → Goes asked p bytes [] q → q.findings.items ≡ p.findings.items
     → mid.line.items ≡ [] → mid.checker ≡ q.checker → mid.findings.items ≡ q.findings.items
-    → line ≡ q.line.items → TakesBytes mid (whole_line line) new r → TakesBytes p (whole_line bytes) new r
-TakesBytes-ended p q mid new bytes line (Ok u) goes same empty domain replies kept t = λ taken written st.
+    → line ≡ q.line.items → TakesBytes asked mid (whole_line line) new r → TakesBytes asked p (whole_line bytes) new r
+TakesBytes-ended asked p q mid new bytes line (Ok u) goes same empty domain replies kept t = λ taken written st.
     let at = goes taken written st in
-    let after = t (first_lines_text at.lines) (written ++ []) (fresh_line (taken ++ bytes) (written ++ []) q mid at empty domain replies) in
-    let P : List ℕ → Type 0 = λ x. Stands x ((written ++ []) ++ []) new in
-    let Q : List ℕ → Type 0 = λ x. Stands (taken ++ whole_line bytes) x new in
+    let after = t (first_lines_text at.lines) (written ++ []) (fresh_line asked (taken ++ bytes) (written ++ []) q mid at empty domain replies) in
+    let P : List ℕ → Type 0 = λ x. Stands asked x ((written ++ []) ++ []) new in
+    let Q : List ℕ → Type 0 = λ x. Stands asked (taken ++ whole_line bytes) x new in
     subst Q (append-nil (written ++ [])) (subst P (ended_text taken bytes line q.line.items at.lines kept at.begins.whole) after)
-TakesBytes-ended p q mid new bytes line (Err e) goes same empty domain replies kept t = (
+TakesBytes-ended asked p q mid new bytes line (Err e) goes same empty domain replies kept t = (
   (λ taken written st.
       let at = goes taken written st in
-      let after = t.0 (first_lines_text at.lines) (written ++ []) (fresh_line (taken ++ bytes) (written ++ []) q mid at empty domain replies) in
-      let P : List ℕ → Type 0 = λ x. EndsCheck x ((written ++ []) ++ mid.findings.items) e in
-      let Q : List ℕ → Type 0 = λ x. EndsCheck (taken ++ whole_line bytes) x e in
+      let after = t.0 (first_lines_text at.lines) (written ++ []) (fresh_line asked (taken ++ bytes) (written ++ []) q mid at empty domain replies) in
+      let P : List ℕ → Type 0 = λ x. EndsCheck asked x ((written ++ []) ++ mid.findings.items) e in
+      let Q : List ℕ → Type 0 = λ x. EndsCheck asked (taken ++ whole_line bytes) x e in
       let text : (written ++ []) ++ mid.findings.items ≡ written ++ p.findings.items =
       ap (λ (x : List ℕ). x ++ mid.findings.items) (append-nil written) ∙ ap (λ (x : List ℕ). written ++ x) (replies ∙ same) in
       subst Q text (subst P (ended_text taken bytes line q.line.items at.lines kept at.begins.whole) after)),
@@ -227,8 +228,8 @@ TakesBytes-ended p q mid new bytes line (Err e) goes same empty domain replies k
 
 -- Whole checks
 
-pub nothing_told : (input output : Option (List ℕ)) → Checks input input output output (Err fault.NoMemory)
-nothing_told input output = record {
+pub nothing_told : (asked : Asked) → (input output : Option (List ℕ)) → Checks asked input input output output (Err fault.NoMemory)
+nothing_told asked input output = record {
   taken = [];
   written = [];
   takes = Consumes-nil input;
@@ -237,53 +238,53 @@ nothing_told input output = record {
 }
 
 -- what was told of all that was taken is written
-pub Stands-stops : (taken written : List ℕ) (p : Progress) → Stands taken written p → p.findings.items ≡ [] → IsUnended p.line.items → StopsInLine taken written
-Stands-stops taken written p st none unended = record {
+pub Stands-stops : (asked : Asked) → (taken written : List ℕ) (p : Progress) → Stands asked taken written p → p.findings.items ≡ [] → IsUnended p.line.items → StopsInLine asked taken written
+Stands-stops asked taken written p st none unended = record {
   lines = st.lines;
   rest = p.line.items;
   checker = p.checker;
   begins = st.begins;
-  checked = (let P : List ℕ → Type 0 = IsChecked st.lines p.checker in
+  checked = (let P : List ℕ → Type 0 = IsChecked asked st.lines p.checker in
       subst P (st.gathered ∙ (ap (λ (x : List ℕ). written ++ x) none ∙ append-nil written)) st.checked);
   unended = unended;
 }
 
-pub EndsCheck-tells : (taken written : List ℕ) (left : Option (List ℕ)) (e : CheckFault) → EndsCheck taken written e → TellsOfCheck taken written left (Err e)
-EndsCheck-tells taken written left (fault.BadLog number) s = inl s
-EndsCheck-tells taken written left fault.NoMemory s = s
-EndsCheck-tells taken written left fault.ReadFault s = absurd s
-EndsCheck-tells taken written left fault.WriteFault s = s
+pub EndsCheck-tells : (asked : Asked) → (taken written : List ℕ) (left : Option (List ℕ)) (e : CheckFault) → EndsCheck asked taken written e → TellsOfCheck asked taken written left (Err e)
+EndsCheck-tells asked taken written left (fault.BadLog number) s = inl s
+EndsCheck-tells asked taken written left fault.NoMemory s = s
+EndsCheck-tells asked taken written left fault.ReadFault s = absurd s
+EndsCheck-tells asked taken written left fault.WriteFault s = s
 
-pub Closes-tells : (taken written : List ℕ) (left : Option (List ℕ)) (r : Result Checker CheckFault) → Closes taken written r → IsAtEnd left → TellsOfCheck taken written left r
-Closes-tells taken written left (Ok done) s end = (s, end)
-Closes-tells taken written left (Err (fault.BadLog number)) s end = inr (s, end)
-Closes-tells taken written left (Err fault.NoMemory) s end = absurd s
-Closes-tells taken written left (Err fault.ReadFault) s end = absurd s
-Closes-tells taken written left (Err fault.WriteFault) s end = absurd s
+pub Closes-tells : (asked : Asked) → (taken written : List ℕ) (left : Option (List ℕ)) (r : Result Checker CheckFault) → Closes asked taken written r → IsAtEnd left → TellsOfCheck asked taken written left r
+Closes-tells asked taken written left (Ok done) s end = (s, end)
+Closes-tells asked taken written left (Err (fault.BadLog number)) s end = inr (s, end)
+Closes-tells asked taken written left (Err fault.NoMemory) s end = absurd s
+Closes-tells asked taken written left (Err fault.ReadFault) s end = absurd s
+Closes-tells asked taken written left (Err fault.WriteFault) s end = absurd s
 
 -- a reader and a writer before and now, between two reads: what was told of all that was taken is written
-pub record SoFar (input left output filled : Option (List ℕ)) (p : Progress) : Type 0 where
+pub record SoFar (asked : Asked) (input left output filled : Option (List ℕ)) (p : Progress) : Type 0 where
   pub taken : List ℕ
   pub written : List ℕ
   pub takes : Consumes input left taken
   pub writes : Appends output filled written
-  pub stands : Stands taken written p
+  pub stands : Stands asked taken written p
   pub none : p.findings.items ≡ []
 
-pub read_fails : (input mid left output filled : Option (List ℕ)) (p : Progress) → SoFar input mid output filled p → IsUnended p.line.items → Keeps mid left
-    → Checks input left output filled (Err fault.ReadFault)
-read_fails input mid left output filled p s unended keeps = record {
+pub read_fails : (asked : Asked) → (input mid left output filled : Option (List ℕ)) (p : Progress) → SoFar asked input mid output filled p → IsUnended p.line.items → Keeps mid left
+    → Checks asked input left output filled (Err fault.ReadFault)
+read_fails asked input mid left output filled p s unended keeps = record {
   taken = s.taken;
   written = s.written;
   takes = Consumes-kept input mid left s.taken s.takes keeps;
   writes = s.writes;
-  tells = Stands-stops s.taken s.written p s.stands s.none unended;
+  tells = Stands-stops asked s.taken s.written p s.stands s.none unended;
 }
 
-pub read_ends : (input mid left output filled : Option (List ℕ)) (p : Progress) (n : ℕ) (buffer : List ℕ) (r : Result Checker CheckFault)
-    → SoFar input mid output filled p → Consumes mid left (take n buffer) → n ≡ 0 → IsAtEnd left
-    → ((taken written : List ℕ) → Stands taken written p → Closes taken written r) → Checks input left output filled r
-read_ends input mid left output filled p n buffer r s consumes no_bytes end closes =
+pub read_ends : (asked : Asked) → (input mid left output filled : Option (List ℕ)) (p : Progress) (n : ℕ) (buffer : List ℕ) (r : Result Checker CheckFault)
+    → SoFar asked input mid output filled p → Consumes mid left (take n buffer) → n ≡ 0 → IsAtEnd left
+    → ((taken written : List ℕ) → Stands asked taken written p → Closes asked taken written r) → Checks asked input left output filled r
+read_ends asked input mid left output filled p n buffer r s consumes no_bytes end closes =
     let P : List ℕ → Type 0 = Consumes input left in
     let nothing : s.taken ++ take n buffer ≡ s.taken = ap (λ (k : ℕ). s.taken ++ take k buffer) no_bytes ∙ append-nil s.taken in
     record {
@@ -291,24 +292,24 @@ read_ends input mid left output filled p n buffer r s consumes no_bytes end clos
       written = s.written;
       takes = subst P nothing (Consumes-trans input mid left s.taken (take n buffer) s.takes consumes);
       writes = s.writes;
-      tells = Closes-tells s.taken s.written left r (closes s.taken s.written s.stands) end;
+      tells = Closes-tells asked s.taken s.written left r (closes s.taken s.written s.stands) end;
     }
 
-pub piece_stops : (input mid left output filled full : Option (List ℕ)) (p : Progress) (piece more : List ℕ) (e : CheckFault)
-    → SoFar input mid output filled p → Consumes mid left piece → Appends filled full more → Stops p piece more e
-    → Checks input left output full (Err e)
-piece_stops input mid left output filled full p piece more e s consumes appends stops = record {
+pub piece_stops : (asked : Asked) → (input mid left output filled full : Option (List ℕ)) (p : Progress) (piece more : List ℕ) (e : CheckFault)
+    → SoFar asked input mid output filled p → Consumes mid left piece → Appends filled full more → Stops asked p piece more e
+    → Checks asked input left output full (Err e)
+piece_stops asked input mid left output filled full p piece more e s consumes appends stops = record {
   taken = s.taken ++ piece;
   written = s.written ++ more;
   takes = Consumes-trans input mid left s.taken piece s.takes consumes;
   writes = Appends-trans output filled full s.written more s.writes appends;
-  tells = EndsCheck-tells (s.taken ++ piece) (s.written ++ more) left e (stops s.taken s.written s.stands);
+  tells = EndsCheck-tells asked (s.taken ++ piece) (s.written ++ more) left e (stops s.taken s.written s.stands);
 }
 
-pub piece_goes : (input mid left output filled full : Option (List ℕ)) (p q : Progress) (piece more : List ℕ)
-    → SoFar input mid output filled p → Consumes mid left piece → Appends filled full more → Goes p piece more q → q.findings.items ≡ []
-    → SoFar input left output full q
-piece_goes input mid left output filled full p q piece more s consumes appends goes none = record {
+pub piece_goes : (asked : Asked) → (input mid left output filled full : Option (List ℕ)) (p q : Progress) (piece more : List ℕ)
+    → SoFar asked input mid output filled p → Consumes mid left piece → Appends filled full more → Goes asked p piece more q → q.findings.items ≡ []
+    → SoFar asked input left output full q
+piece_goes asked input mid left output filled full p q piece more s consumes appends goes none = record {
   taken = s.taken ++ piece;
   written = s.written ++ more;
   takes = Consumes-trans input mid left s.taken piece s.takes consumes;

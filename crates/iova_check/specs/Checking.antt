@@ -1,15 +1,16 @@
 -- What a checker knows, and what it has told. Own.
 use Rattle.std.specs.Prelude.{ℕ, ◌≡◌, List, ◌∷◌, ◌++◌}
 use Rattle.iova_check.specs.declared.event.Event.{Event}
-use Rattle.iova_check.specs.declared.line.Header.{Header}
+use Rattle.iova_check.specs.Bounds.{Bounds}
+use Rattle.iova_check.specs.Allowing.{Allows}
 use Rattle.iova_check.specs.declared.checker.Checker.{Checker}
 use Rattle.iova_check.specs.Following.{Follows}
 use Rattle.iova_check.specs.Counting.{IsCounted}
 use Rattle.iova_check.specs.Output.{IsTold}
 
 -- it has taken these lines under these bounds, and this is the text of what was told of them
-pub record HasChecked (bounds : Header) (past : List Event) (c : Checker) (text : List ℕ) : Type 0 where
-  pub under : c.bounds ≡ bounds
+pub record HasChecked (bounds : Bounds) (past : List Event) (c : Checker) (text : List ℕ) : Type 0 where
+  pub under : Allows c.allowed bounds
   pub follows : Follows past c.tracker
   pub found : ℕ
   pub told : IsTold bounds past text found
@@ -19,4 +20,4 @@ pub record HasChecked (bounds : Header) (past : List Event) (c : Checker) (text 
 pub record ChecksNext (old : Checker) (e : Event) (before : List ℕ) (new : Checker) (after : List ℕ) : Type 0 where
   pub more : List ℕ
   pub appended : after ≡ before ++ more
-  pub checks : (bounds : Header) (past : List Event) (text : List ℕ) → HasChecked bounds past old text → HasChecked bounds (e ∷ past) new (text ++ more)
+  pub checks : (bounds : Bounds) (past : List Event) (text : List ℕ) → HasChecked bounds past old text → HasChecked bounds (e ∷ past) new (text ++ more)

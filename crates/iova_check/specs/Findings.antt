@@ -12,7 +12,7 @@ use Rattle.iova_check.specs.declared.finding.Kind.TheVariants as kind
 use Rattle.iova_check.specs.declared.finding.Run.{Run}
 use Rattle.iova_check.specs.declared.finding.Finding.{Finding}
 use Rattle.iova_check.specs.declared.finding.Finding.TheVariants as finding
-use Rattle.iova_check.specs.declared.line.Header.{Header}
+use Rattle.iova_check.specs.Bounds.{Bounds}
 use Rattle.iova_check.specs.History.{next_line}
 use Rattle.iova_check.specs.Promise.{IsKeptAt}
 
@@ -50,8 +50,8 @@ IsFound tells lo to None = (f : ℕ) → lo ≤ f → f < to → tells f ≡ Non
 IsFound tells lo to (Some run) = IsRun tells lo to run
 
 -- what is told of a frame that is out of the bounds
-abbrev pub told_outside : Header → ℕ → Option (Option ℕ)
-told_outside bounds f = if nat_lt f bounds.first || nat_lt bounds.last f then Some None else None
+abbrev pub told_outside : Bounds → ℕ → Option (Option ℕ)
+told_outside bounds f = if (nat_lt f bounds.first || nat_lt bounds.last f) || list_any (covers f) bounds.windows then Some None else None
 
 -- the two are mapped since one line
 abbrev pub are_joined : Stage → Stage → Bool
@@ -91,7 +91,7 @@ framed kind None = None
 framed kind (Some run) = Some (finding.Frames kind run)
 
 -- what is told of a line that maps these frames
-pub record IsMapTold (bounds : Header) (at : ℕ → Stage) (r : Frames) (fs : List (Option Finding)) : Type 0 where
+pub record IsMapTold (bounds : Bounds) (at : ℕ → Stage) (r : Frames) (fs : List (Option Finding)) : Type 0 where
   pub outside : Option Run
   pub overlap : Option Run
   pub reused : Option Run
@@ -101,7 +101,7 @@ pub record IsMapTold (bounds : Header) (at : ℕ → Stage) (r : Frames) (fs : L
   pub are : fs ≡ framed kind.Outside outside ∷ framed kind.Overlap overlap ∷ framed kind.Reused reused ∷ []
 
 -- that unmaps them
-pub record IsUnmapTold (bounds : Header) (at : ℕ → Stage) (r : Frames) (fs : List (Option Finding)) : Type 0 where
+pub record IsUnmapTold (bounds : Bounds) (at : ℕ → Stage) (r : Frames) (fs : List (Option Finding)) : Type 0 where
   pub outside : Option Run
   pub cut : Option Run
   pub unmapped : Option Run
@@ -111,7 +111,7 @@ pub record IsUnmapTold (bounds : Header) (at : ℕ → Stage) (r : Frames) (fs :
   pub are : fs ≡ framed kind.Outside outside ∷ framed kind.Cut cut ∷ framed kind.Unmapped unmapped ∷ []
 
 -- at which a device reached them
-pub record IsUseTold (bounds : Header) (at : ℕ → Stage) (r : Frames) (fs : List (Option Finding)) : Type 0 where
+pub record IsUseTold (bounds : Bounds) (at : ℕ → Stage) (r : Frames) (fs : List (Option Finding)) : Type 0 where
   pub outside : Option Run
   pub stale : Option Run
   pub wild : Option Run
@@ -125,7 +125,7 @@ abbrev pub flush_told : ℕ → Bool → List (Option Finding)
 flush_told number odd = (if odd then Some (finding.Flush number) else None) ∷ None ∷ None ∷ []
 
 -- what is told of a line that says `e`, where the frames are at these stages and these flushes in flight before it
-abbrev pub AreFindings : Header → (ℕ → Stage) → (ℕ → Option Flight) → Event → List (Option Finding) → Type 0
+abbrev pub AreFindings : Bounds → (ℕ → Stage) → (ℕ → Option Flight) → Event → List (Option Finding) → Type 0
 AreFindings bounds at flights (event.Map r) fs = IsMapTold bounds at r fs
 AreFindings bounds at flights (event.Unmap r) fs = IsUnmapTold bounds at r fs
 AreFindings bounds at flights (event.Use r) fs = IsUseTold bounds at r fs

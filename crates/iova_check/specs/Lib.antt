@@ -1,9 +1,11 @@
 pub mod Text
 pub mod History
+pub mod Bounds
 pub mod Promise
 pub mod Marks
 pub mod Following
 pub mod Findings
+pub mod Allowing
 pub mod Counting
 pub mod Output
 pub mod Checking

@@ -5,17 +5,23 @@ use Rattle.iova_text.specs.Lines.{HasNoLf, whole_line, IsOverlong}
 use Rattle.iova_check.specs.declared.event.Event.{Event}
 use Rattle.iova_check.specs.declared.event.Event.TheVariants.{Other}
 use Rattle.iova_check.specs.declared.line.Header.{Header}
+use Rattle.iova_check.specs.declared.allowed.Asked.{Asked}
+use Rattle.iova_check.specs.Bounds.{Bounds, bounds_asked}
 use Rattle.iova_check.specs.Text.{header_text, event_text, IsHeader, IsEvent}
 use Rattle.iova_check.specs.History.{next_line}
 
 -- a header, and what the lines after it say, the newest one first
 pub record Log : Type 0 where
-  pub bounds : Header
+  pub header : Header
   pub past : List Event
 
 pub record IsLog (l : Log) : Type 0 where
-  pub header : IsHeader l.bounds.first l.bounds.last
+  pub header : IsHeader l.header.first l.header.last
   pub events : AllByRecursion IsEvent l.past
+
+-- the frames that may be mapped, where this is asked for
+abbrev pub bounds_of : Asked → Log → Bounds
+bounds_of asked l = bounds_asked asked l.header.first l.header.last
 
 -- what all its lines say, the newest one first: the header says nothing of frames or flushes
 abbrev pub lines_of : Log → List Event
@@ -28,7 +34,7 @@ events_text (e ∷ past) = events_text past ++ whole_line (event_text e)
 
 -- the header's line, and a line for each event
 abbrev pub log_text : Log → List ℕ
-log_text l = whole_line (header_text l.bounds.first l.bounds.last) ++ events_text l.past
+log_text l = whole_line (header_text l.header.first l.header.last) ++ events_text l.past
 
 -- The good lines at the front of some bytes: none, or the header and some events, which are a log themselves.
 

@@ -1,40 +1,38 @@
 //! A log checked line by line.
-ghost use Rattle.std.specs.Prelude.{◌≤◌};
-
+use crate::allowed::Allowed;
 use crate::counts::Counts;
 use crate::event::Event;
 use crate::finding::how_many;
-use crate::line::Header;
 use crate::text::write_findings;
 use crate::told::findings;
 use crate::tracker::Tracker;
 use iova_range::refusal::Refusal;
 use std::alloc::Global;
 
-/// What is known of a log after its lines so far, and its bounds.
+/// What is known of a log after its lines so far, and the frames that may be mapped.
 #[derive(Drop)]
 pub struct Checker {
-    /// The first and the last frame that may be mapped.
-    pub bounds: Header,
+    /// The frames that may be mapped.
+    pub allowed: Allowed,
     /// What became of each frame.
     pub tracker: Tracker,
     /// What was counted.
     pub counts: Counts,
-    ghost in_order: { bounds.first ≤ bounds.last },
 }
 
 impl Checker {
     ghost use Rattle.std.specs.Prelude.{◌≡◌, [], OnOk, OnErr};
     ghost use Rattle.iova_check.specs.History.{IsInReach};
+    ghost use Rattle.iova_check.specs.Bounds.{Bounds};
+    ghost use Rattle.iova_check.specs.Allowing.{Allows};
     ghost use Rattle.iova_check.specs.Checking.{HasChecked, ChecksNext};
 
     /// No line was taken.
-    pub fn new(alloc: Global, bounds: Header) -> Checker
-        requires { bounds.first ≤ bounds.last }
-        ensures { HasChecked bounds [] result [] }
+    pub fn new(alloc: Global, allowed: Allowed) -> Checker
+        ensures { (bounds : Bounds) → Allows allowed bounds → HasChecked bounds [] result [] }
     {
         Checker {
-            bounds,
+            allowed,
             tracker: Tracker::new(alloc),
             counts: Counts::new(),
         }
@@ -50,7 +48,7 @@ impl Checker {
         if self.tracker.line == u64::MAX {
             return Err(Refusal::NoMemory);
         }
-        let told = findings(&self.tracker, &self.bounds, &event);
+        let told = findings(&self.tracker, &self.allowed, &event);
         let line = self.tracker.line;
         self.counts = self.counts.with_line(&event, how_many(&told))?;
         if self.tracker.take(event).is_err() {

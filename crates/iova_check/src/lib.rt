@@ -2,6 +2,7 @@
 //! that no frame is given out again while a device might still reach it.
 #![tactic(auto)]
 
+pub mod allowed;
 pub mod checker;
 pub mod counts;
 pub mod event;

@@ -1,26 +1,31 @@
 //! A log checked from a reader to a writer, one line after another.
-ghost use Rattle.std.specs.Prelude.{◌≡◌, ◌≤◌, ◌<◌, ℕ, take, length, IfOk, IfErr, OnOk, OnErr, IsErr};
+ghost use Rattle.std.specs.Prelude.{◌≡◌, ◌≤◌, ◌<◌, ℕ, [], take, length, IfOk, IfErr, OnOk, OnErr, IsErr};
 ghost use Rattle.std.specs.Io.KnownBytes.{Appends, Consumes, Keeps, IsAtEnd};
 ghost use Rattle.iova_text.specs.Lines.{IsUnended};
+ghost use Rattle.iova_check.specs.declared.allowed.Asked.{Asked};
+ghost use Rattle.iova_check.specs.Bounds.{bounds_asked};
+ghost use Rattle.iova_check.specs.Checking.{HasChecked};
 ghost use Rattle.iova_check.specs.Runs.{Checks, Counts, ChecksAndCounts};
 
+use crate::allowed::{Allowed, Asked};
 use crate::checker::Checker;
 use crate::event::Event;
 use crate::fault::CheckFault;
-use crate::line::{read_event, read_header};
+use crate::line::{Header, read_event, read_header};
 use crate::summary::summary;
 use iova_range::limits::MAX_LINE;
 use iova_text::buffer::LineBuffer;
 use iova_text::write::write_all;
 use memchr::memchr;
-use std::alloc::Global;
+use std::alloc::{AllocError, Global};
 use std::io;
 use std::io::{Read, Write};
 
 /// How many bytes are read, or gathered before they are written.
 const BUFFER: usize = 65_536;
 
-/// Checks a log: reads its lines, and writes a line for each finding. It gives what is known after the last line. One line is kept
+/// Checks a log under the bounds of its header, or those that are asked for in their place, and without the windows: reads its
+/// lines, and writes a line for each finding. It gives what is known after the last line. One line is kept
 /// at a time, and findings are written before each read, so that a peer that waits for them gets them.
 ///
 /// The answer is the fault of the earliest line. `BadLog` where a line is none of a log's, or where the input ends in a line
@@ -29,10 +34,11 @@ const BUFFER: usize = 65_536;
 /// first bytes of the findings are written. Our own.
 pub fn check<R: Read, W: Write>(
     alloc: Global,
+    asked: &Asked<'_>,
     reader: &mut R,
     writer: &mut W,
 ) -> Result<Checker, CheckFault>
-    ensures { Checks (R.remaining reader.old) (R.remaining reader.new)
+    ensures { Checks asked.now (R.remaining reader.old) (R.remaining reader.new)
         (W.contents writer.old) (W.contents writer.new) result }
 {
     let mut input: Vec<u8> = vec![in alloc; 0u8; BUFFER]?;
@@ -40,7 +46,7 @@ pub fn check<R: Read, W: Write>(
     for _ in 0..u64::MAX {
         match read_some(reader, &mut input)? {
             0 => return progress.finish(),
-            len => progress.check_piece(&input[..len], writer)?,
+            len => progress.check_piece(&input[..len], asked, writer)?,
         }
     }
     Err(CheckFault::ReadFault)
@@ -50,20 +56,22 @@ pub fn check<R: Read, W: Write>(
 /// no count is written, or by `WriteFault`.
 pub fn check_and_count<R: Read, W: Write>(
     alloc: Global,
+    asked: &Asked<'_>,
     reader: &mut R,
     writer: &mut W,
 ) -> Result<bool, CheckFault>
-    ensures { ChecksAndCounts (R.remaining reader.old) (R.remaining reader.new)
+    ensures { ChecksAndCounts asked.now (R.remaining reader.old) (R.remaining reader.new)
         (W.contents writer.old) (W.contents writer.new) result }
 {
-    let checked = check(alloc, reader, writer);
-    let told = count(&checked, writer);
+    let checked = check(alloc, asked, reader, writer);
+    let told = write_counts(&checked, writer);
     drop(checked);
     told
 }
 
-/// Writes what comes after the findings of this check.
-fn count<W: Write>(
+/// Writes the counts of a log that was checked, and gives whether there is a finding. Where the check failed its fault is given
+/// and nothing is written. Refused by `WriteFault` where a write fails or takes nothing; some first bytes are written then.
+pub fn write_counts<W: Write>(
     checked: &Result<Checker, CheckFault>,
     writer: &mut W,
 ) -> Result<bool, CheckFault>
@@ -92,12 +100,12 @@ struct Progress {
 }
 
 impl Progress {
-    ghost use Rattle.std.specs.Prelude.{List, []};
+    ghost use Rattle.std.specs.Prelude.{List};
     ghost use Rattle.iova_text.specs.Lines.{HasNoLf, whole_line};
     ghost use Rattle.iova_check.specs.Progress.{Stands, number_at, TakesBytes, Outcome, Closes};
 
     fn new(alloc: Global) -> Result<Self, CheckFault>
-        ensures ok { IfOk result (λ p. Stands [] [] p) }
+        ensures ok { IfOk result (λ p. (asked : Asked) → Stands asked [] [] p) }
         ensures none { IfOk result (λ p. p.findings.items ≡ []) }
         ensures err { OnErr result (result ≡ Err CheckFault.NoMemory) }
     {
@@ -120,16 +128,21 @@ impl Progress {
     }
 
     /// Takes the next bytes of the log, and writes the findings of the lines that they end.
-    fn check_piece<W: Write>(&mut self, piece: &[u8], writer: &mut W) -> Result<(), CheckFault>
+    fn check_piece<W: Write>(
+        &mut self,
+        piece: &[u8],
+        asked: &Asked<'_>,
+        writer: &mut W,
+    ) -> Result<(), CheckFault>
         ensures outcome { (more : List ℕ) × Appends (W.contents writer.old) (W.contents writer.new) more
-            × Outcome self.old piece.now more self.new result }
+            × Outcome asked.now self.old piece.now more self.new result }
         ensures written { OnOk result (self.new.findings.items ≡ []) }
     {
         let mut rest = piece;
         while let Some(end) = memchr(b'\n', rest) {
             let line = &rest[..end];
             rest = &rest[end + 1..];
-            self.tell_line(line, writer)?;
+            self.tell_line(line, asked, writer)?;
         }
         let kept = self.keep_part(rest);
         self.write_findings(writer)?;
@@ -138,12 +151,17 @@ impl Progress {
 
     /// Takes the rest of a line, without its LF, and writes the findings where they are many. Where the line is
     /// refused, those of the lines before it are written first.
-    fn tell_line<W: Write>(&mut self, end: &[u8], writer: &mut W) -> Result<(), CheckFault>
+    fn tell_line<W: Write>(
+        &mut self,
+        end: &[u8],
+        asked: &Asked<'_>,
+        writer: &mut W,
+    ) -> Result<(), CheckFault>
         requires { HasNoLf end.now }
         ensures { (more : List ℕ) × Appends (W.contents writer.old) (W.contents writer.new) more
-            × Outcome self.old (whole_line end.now) more self.new result }
+            × Outcome asked.now self.old (whole_line end.now) more self.new result }
     {
-        let ended = self.complete_line(end);
+        let ended = self.complete_line(end, asked);
         if ended.is_err() || self.findings.len() > BUFFER - MAX_LINE {
             self.write_findings(writer)?;
         }
@@ -151,22 +169,22 @@ impl Progress {
     }
 
     /// Takes the rest of a line, without its LF.
-    fn complete_line(&mut self, end: &[u8]) -> Result<(), CheckFault>
+    fn complete_line(&mut self, end: &[u8], asked: &Asked<'_>) -> Result<(), CheckFault>
         requires { HasNoLf end.now }
-        ensures { TakesBytes self.old (whole_line end.now) self.new result }
+        ensures { TakesBytes asked.now self.old (whole_line end.now) self.new result }
     {
         if self.line.is_empty() {
-            return self.run_line(end);
+            return self.run_line(end, asked);
         }
         self.keep_part(end)?;
         let line = std::mem::take(&mut self.line);
-        self.run_line(line.as_slice())
+        self.run_line(line.as_slice(), asked)
     }
 
     /// Keeps what has come of a line. One of 128 bytes without an LF is refused.
     fn keep_part(&mut self, bytes: &[u8]) -> Result<(), CheckFault>
         requires { HasNoLf bytes.now }
-        ensures takes { TakesBytes self.old bytes.now self.new result }
+        ensures takes { (asked : Asked) → TakesBytes asked self.old bytes.now self.new result }
         ensures findings { self.new.findings.items ≡ self.old.findings.items }
     {
         if self.line.len() + bytes.len() >= MAX_LINE {
@@ -177,14 +195,14 @@ impl Progress {
     }
 
     /// Takes a whole line, the header first.
-    fn run_line(&mut self, line: &[u8]) -> Result<(), CheckFault>
+    fn run_line(&mut self, line: &[u8], asked: &Asked<'_>) -> Result<(), CheckFault>
         requires one { HasNoLf line.now }
         requires fresh { self.old.line.items ≡ [] }
-        ensures { TakesBytes self.old (whole_line line.now) self.new result }
+        ensures { TakesBytes asked.now self.old (whole_line line.now) self.new result }
     {
         let number = self.number();
         let Some(checker) = &mut self.checker else {
-            return self.run_header(line);
+            return self.run_header(line, asked);
         };
         let Some(event) = read_event(line) else {
             return Err(CheckFault::BadLog(number));
@@ -195,16 +213,18 @@ impl Progress {
         }
     }
 
-    fn run_header(&mut self, line: &[u8]) -> Result<(), CheckFault>
+    fn run_header(&mut self, line: &[u8], asked: &Asked<'_>) -> Result<(), CheckFault>
         requires one { HasNoLf line.now }
         requires fresh { self.old.line.items ≡ [] }
         requires first { self.old.checker ≡ None }
-        ensures { TakesBytes self.old (whole_line line.now) self.new result }
+        ensures { TakesBytes asked.now self.old (whole_line line.now) self.new result }
     {
         let Some(header) = read_header(line) else {
             return Err(CheckFault::BadLog(1));
         };
-        let mut checker = Checker::new(self.alloc, header);
+        let Ok(mut checker) = opened(self.alloc, asked, &header) else {
+            return Err(CheckFault::NoMemory);
+        };
         match checker.check(Event::Other, &mut self.findings) {
             Ok(()) => {}
             Err(_) => return Err(CheckFault::NoMemory),
@@ -232,7 +252,7 @@ impl Progress {
     /// What the check comes to where the log ends here.
     fn finish(self) -> Result<Checker, CheckFault>
         requires { self.findings.items ≡ [] }
-        ensures { (taken written : List ℕ) → Stands taken written self → Closes taken written result }
+        ensures { (asked : Asked) (taken written : List ℕ) → Stands asked taken written self → Closes asked taken written result }
     {
         let number = self.number();
         if !self.line.is_empty() {
@@ -249,6 +269,16 @@ impl Progress {
             None => Err(CheckFault::BadLog(number)),
         }
     }
+}
+
+/// A checker of no line under the bounds of this header, or those that are asked for in their place.
+fn opened(alloc: Global, asked: &Asked<'_>, header: &Header) -> Result<Checker, AllocError>
+    ensures { IfOk result (λ c. HasChecked (bounds_asked asked.now header.now.first header.now.last) [] c []) }
+{
+    let first = asked.first.unwrap_or(header.first);
+    let last = asked.last.unwrap_or(header.last);
+    let allowed = Allowed::new(alloc, first, last, asked.windows)?;
+    Ok(Checker::new(alloc, allowed))
 }
 
 /// Reads once, and gives how many bytes came, none only at the end. Any error is a fault, an interruption too.

@@ -3,10 +3,9 @@ ghost use Rattle.std.specs.Prelude.{◌≡◌, ◌≢◌, ℕ, ◌+◌, ◌-◌,
 ghost use Rattle.iova_check.specs.Marks.{shown};
 ghost use Rattle.iova_check.specs.declared.finding.Kind.TheVariants.{Overlap as Overlapping};
 ghost use Rattle.iova_check.specs.Counting.{frames_told};
-ghost use Rattle.iova_check.specs.Findings.{told, told_outside, is_joined, IsFound, IsCut};
+ghost use Rattle.iova_check.specs.Findings.{told, is_joined, IsFound, IsCut};
 
 use crate::finding::{Kind, Run};
-use crate::line::Header;
 use crate::stage::Stage;
 use crate::stages::Stages;
 
@@ -42,31 +41,6 @@ fn stretch(stages: &Stages, kind: Kind, since: Option<u64>, lo: u64, to: u64) ->
         at = stages.end(at, to);
     }
     at
-}
-
-/// The lowest of the frames from `lo` on and below `to` that are out of the bounds, and those after it.
-pub fn find_outside(bounds: &Header, lo: u64, to: u64) -> Option<Run>
-    requires some { lo < to }
-    requires bounds { bounds.now.first ≤ bounds.now.last }
-    ensures { IsFound (told_outside bounds.now) lo to result }
-{
-    let (first, last) = (bounds.first, bounds.last);
-    if lo < first {
-        return Some(Run {
-            lo,
-            len: to.min(first) - lo,
-            since: None,
-        });
-    }
-    if to - 1 <= last {
-        return None;
-    }
-    let lo = lo.max(last + 1);
-    Some(Run {
-        lo,
-        len: to - lo,
-        since: None,
-    })
 }
 
 /// The frames from `lo` on and below `to` that are cut off from a frame beside them: those mapped with the frame before `lo`, else

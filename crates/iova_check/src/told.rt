@@ -1,56 +1,57 @@
 //! What is told of a line: at most three findings.
-ghost use Rattle.std.specs.Prelude.{◌≡◌, ◌≤◌, List};
+ghost use Rattle.std.specs.Prelude.{◌≡◌, List};
 ghost use Rattle.std.specs.Ordering.{nat_cmp};
 ghost use Rattle.std.specs.BTreeMap.{get};
 ghost use Rattle.iova_check.specs.declared.event.Event.{Event};
 ghost use Rattle.iova_check.specs.History.{IsRange, IsInReach, flight_of, stage_of};
 ghost use Rattle.iova_check.specs.Marks.{shown};
+ghost use Rattle.iova_check.specs.Bounds.{Bounds};
+ghost use Rattle.iova_check.specs.Allowing.{Allows};
 ghost use Rattle.iova_check.specs.Following.{Follows};
 ghost use Rattle.iova_check.specs.Findings.{framed, flush_told, IsMapTold, IsUnmapTold, IsUseTold, AreFindings, TellsBreaks};
 
+use crate::allowed::Allowed;
 use crate::event::Event;
 use crate::finding::{Finding, Kind, Run};
-use crate::line::Header;
-use crate::scan::{find, find_cut, find_outside};
+use crate::scan::{find, find_cut};
 use crate::stages::Stages;
 use crate::tracker::Tracker;
 use iova_range::range::Range;
 
 /// What is told of the next line, in order: at most three findings. None is of a frame that was given out too early exactly where
 /// the promise is kept for each frame that the line maps.
-pub fn findings(tracker: &Tracker, bounds: &Header, event: &Event) -> [Option<Finding>; 3]
-    requires event { IsInReach event.now }
-    requires bounds { bounds.now.first ≤ bounds.now.last }
-    ensures told { (past : List Event) → Follows past tracker.now
-        → AreFindings bounds.now (stage_of past) (flight_of past) event.now result }
-    ensures breaks { (past : List Event) → Follows past tracker.now → TellsBreaks past event.now result }
+pub fn findings(tracker: &Tracker, allowed: &Allowed, event: &Event) -> [Option<Finding>; 3]
+    requires { IsInReach event.now }
+    ensures told { (bounds : Bounds) (past : List Event) → Allows allowed.now bounds → Follows past tracker.now
+        → AreFindings bounds (stage_of past) (flight_of past) event.now result }
+    ensures breaks { (bounds : Bounds) (past : List Event) → Allows allowed.now bounds → Follows past tracker.now
+        → TellsBreaks past event.now result }
 {
-    tell(tracker, bounds, event)
+    tell(tracker, allowed, event)
 }
 
 /// What is told of the next line, by what the tracker knows.
-fn tell(tracker: &Tracker, bounds: &Header, event: &Event) -> [Option<Finding>; 3]
-    requires event { IsInReach event.now }
-    requires bounds { bounds.now.first ≤ bounds.now.last }
-    ensures { AreFindings bounds.now (shown tracker.now.stages) (get nat_cmp tracker.now.flights) event.now result }
+fn tell(tracker: &Tracker, allowed: &Allowed, event: &Event) -> [Option<Finding>; 3]
+    requires { IsInReach event.now }
+    ensures { (bounds : Bounds) → Allows allowed.now bounds
+        → AreFindings bounds (shown tracker.now.stages) (get nat_cmp tracker.now.flights) event.now result }
 {
     match event {
-        Event::Map(range) => of_map(&tracker.stages, bounds, *range),
-        Event::Unmap(range) => of_unmap(&tracker.stages, bounds, *range),
-        Event::Use(range) => of_use(&tracker.stages, bounds, *range),
+        Event::Map(range) => of_map(&tracker.stages, allowed, *range),
+        Event::Unmap(range) => of_unmap(&tracker.stages, allowed, *range),
+        Event::Use(range) => of_use(&tracker.stages, allowed, *range),
         Event::Begin { no, range: _ } => of_flush(*no, tracker.flights.contains_key(no)),
         Event::End { no, ok: _ } => of_flush(*no, !tracker.flights.contains_key(no)),
         Event::Flush(_) | Event::Other => [None, None, None],
     }
 }
 
-fn of_map(stages: &Stages, bounds: &Header, range: Range) -> [Option<Finding>; 3]
-    requires range { IsRange range }
-    requires bounds { bounds.now.first ≤ bounds.now.last }
-    ensures { IsMapTold bounds.now (shown stages.now) range result }
+fn of_map(stages: &Stages, allowed: &Allowed, range: Range) -> [Option<Finding>; 3]
+    requires { IsRange range }
+    ensures { (bounds : Bounds) → Allows allowed.now bounds → IsMapTold bounds (shown stages.now) range result }
 {
     let (lo, to) = (range.lo(), range.lo() + range.len());
-    let outside = find_outside(bounds, lo, to);
+    let outside = allowed.find_outside(lo, to);
     let overlap = find(stages, Kind::Overlap, lo, to);
     let reused = find(stages, Kind::Reused, lo, to);
     [
@@ -60,13 +61,12 @@ fn of_map(stages: &Stages, bounds: &Header, range: Range) -> [Option<Finding>; 3
     ]
 }
 
-fn of_unmap(stages: &Stages, bounds: &Header, range: Range) -> [Option<Finding>; 3]
-    requires range { IsRange range }
-    requires bounds { bounds.now.first ≤ bounds.now.last }
-    ensures { IsUnmapTold bounds.now (shown stages.now) range result }
+fn of_unmap(stages: &Stages, allowed: &Allowed, range: Range) -> [Option<Finding>; 3]
+    requires { IsRange range }
+    ensures { (bounds : Bounds) → Allows allowed.now bounds → IsUnmapTold bounds (shown stages.now) range result }
 {
     let (lo, to) = (range.lo(), range.lo() + range.len());
-    let outside = find_outside(bounds, lo, to);
+    let outside = allowed.find_outside(lo, to);
     let cut = find_cut(stages, lo, to);
     let unmapped = find(stages, Kind::Unmapped, lo, to);
     [
@@ -76,13 +76,12 @@ fn of_unmap(stages: &Stages, bounds: &Header, range: Range) -> [Option<Finding>;
     ]
 }
 
-fn of_use(stages: &Stages, bounds: &Header, range: Range) -> [Option<Finding>; 3]
-    requires range { IsRange range }
-    requires bounds { bounds.now.first ≤ bounds.now.last }
-    ensures { IsUseTold bounds.now (shown stages.now) range result }
+fn of_use(stages: &Stages, allowed: &Allowed, range: Range) -> [Option<Finding>; 3]
+    requires { IsRange range }
+    ensures { (bounds : Bounds) → Allows allowed.now bounds → IsUseTold bounds (shown stages.now) range result }
 {
     let (lo, to) = (range.lo(), range.lo() + range.len());
-    let outside = find_outside(bounds, lo, to);
+    let outside = allowed.find_outside(lo, to);
     let stale = find(stages, Kind::Stale, lo, to);
     let wild = find(stages, Kind::Wild, lo, to);
     [

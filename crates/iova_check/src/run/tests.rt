@@ -1,5 +1,7 @@
 //! Logs of every form, with what is told of them worked out by hand.
 use super::*;
+use iova_range::range::Range;
+use std::test::Fail;
 
 /// A log, what is written, and the answer.
 const LOGS: [(&str, &str, Result<bool, CheckFault>); 8] = [
@@ -31,10 +33,89 @@ const LOGS: [(&str, &str, Result<bool, CheckFault>); 8] = [
 
 #[test]
 fn logs_of_every_form(rt: HostRuntime) {
+    let asked = Asked {
+        first: None,
+        last: None,
+        windows: &[],
+    };
     for (log, told, answer) in &LOGS {
         let mut written = Vec::new(rt.alloc());
-        let checked = check_and_count(rt.alloc(), &mut log.as_bytes(), &mut written);
+        let checked = check_and_count(rt.alloc(), &asked, &mut log.as_bytes(), &mut written);
         assert_eq!(rt; checked, *answer, "{log}");
         assert_eq!(rt; written.as_slice(), told.as_bytes(), "{log}");
     }
+}
+
+/// The first and the last frame that are asked for, windows, a log, and what is written.
+type Row = (
+    Option<u64>,
+    Option<u64>,
+    &'static [(u64, u64)],
+    &'static str,
+    &'static str,
+);
+
+const BOUNDED: [Row; 5] = [
+    (
+        Some(0),
+        None,
+        &[],
+        "iovalog 1 10 20\nmap 0 22\n",
+        "line 2: outside 21 1\n",
+    ),
+    (
+        None,
+        Some(30),
+        &[],
+        "iovalog 1 10 20\nmap 8 30\n",
+        "line 2: outside 8 2\n",
+    ),
+    (
+        Some(9),
+        Some(3),
+        &[],
+        "iovalog 1 1 20\nmap 1 4\n",
+        "line 2: outside 1 4\n",
+    ),
+    (
+        None,
+        None,
+        &[(14, 2), (12, 3), (16, 3)],
+        "iovalog 1 10 20\nmap 10 9\nunmap 11 8\n",
+        "line 2: outside 12 7\nline 3: outside 12 7\nline 3: cut 11 8 since 2\n",
+    ),
+    (
+        None,
+        None,
+        &[(15, 1)],
+        "iovalog 1 10 20\nmap 10 9\nuse 15 1\nunmap 10 9\nuse 15 1\n",
+        "line 2: outside 15 1\nline 3: outside 15 1\nline 4: outside 15 1\nline 5: outside 15 1\nline 5: stale 15 1 since 4\n",
+    ),
+];
+
+fn ranges(alloc: Global, pairs: &[(u64, u64)]) -> Result<Vec<Range>, AllocError> {
+    let mut ranges = Vec::new(alloc);
+    for (lo, len) in pairs {
+        if *len > 0 && *len <= u64::MAX - *lo {
+            ranges.push(Range::new(*lo, *len))?;
+        }
+    }
+    Ok(ranges)
+}
+
+#[test]
+fn bounds_that_are_asked_for(rt: HostRuntime) -> Result<(), Fail> {
+    for (first, last, windows, log, told) in &BOUNDED {
+        let windows = ranges(rt.alloc(), windows)?;
+        let asked = Asked {
+            first: *first,
+            last: *last,
+            windows: &windows,
+        };
+        let mut written = Vec::new(rt.alloc());
+        let checked = check(rt.alloc(), &asked, &mut log.as_bytes(), &mut written);
+        assert!(rt; checked.is_ok(), "{log}");
+        assert_eq!(rt; written.as_slice(), told.as_bytes(), "{log}");
+    }
+    Ok(())
 }

@@ -10,7 +10,7 @@ pub returns-in_err-progress : goal.returns-in_err-progress
 returns-in_err-progress g c =
     let p = err_from_is_err_and c.from_residual-in_err-progress.result c.from_residual-in_err-progress.ensures.1 in
     rw (p.1, p.2, err_is c.in_err-progress.field-0.0 NoMemory c.in_err-progress.ensures.err)
-    (nothing_told (g.R.Read.remaining c.args.reader.now) (g.W.Write.contents c.args.writer.now))
+    (nothing_told c.args.asked.now (g.R.Read.remaining c.args.reader.now) (g.W.Write.contents c.args.writer.now))
 
 pub loop-init : goal.loop-init
 loop-init g c = record {
@@ -19,7 +19,7 @@ loop-init g c = record {
     written = [];
     takes = Consumes-nil (g.R.Read.remaining c.args.reader.now);
     writes = Appends-nil (g.W.Write.contents c.args.writer.now);
-    stands = c.in_ok-progress.ensures.ok;
+    stands = c.in_ok-progress.ensures.ok c.args.asked.now;
     none = c.in_ok-progress.ensures.none;
   };
   room = omega (arith, c.in_ok-input.ensures.len, c.in_ok-input.input.ok.0);
@@ -30,15 +30,15 @@ returns-in_err-len g c =
     let p = err_from_is_err_and c.from_residual-in_err-len.result c.from_residual-in_err-len.ensures.1 in
     let failed = c.in_err-len.ensures.err in
     rw (p.1, p.2, err_is c.in_err-len.field-0.0 ReadFault failed.0)
-    (read_fails (g.R.Read.remaining c.args.reader.now) (g.R.Read.remaining c.loop.reader) (g.R.Read.remaining c.read_some.new.reader)
+    (read_fails c.args.asked.now (g.R.Read.remaining c.args.reader.now) (g.R.Read.remaining c.loop.reader) (g.R.Read.remaining c.read_some.new.reader)
     (g.W.Write.contents c.args.writer.now) (g.W.Write.contents c.loop.writer) c.loop.progress c.loop.invariant.so_far c.loop.progress.unended failed.1)
 
 pub returns-in-0 : goal.returns-in-0
 returns-in-0 g c =
     let read = c.in_ok-len.ensures in
-    read_ends (g.R.Read.remaining c.args.reader.now) (g.R.Read.remaining c.loop.reader) (g.R.Read.remaining c.read_some.new.reader)
+    read_ends c.args.asked.now (g.R.Read.remaining c.args.reader.now) (g.R.Read.remaining c.loop.reader) (g.R.Read.remaining c.read_some.new.reader)
     (g.W.Write.contents c.args.writer.now) (g.W.Write.contents c.loop.writer) c.loop.progress c.in_ok-len.len c.read_some.new.buffer c.finish.result
-    c.loop.invariant.so_far read.ok c.in-0.is (read.end c.in-0.is) c.finish.ensures
+    c.loop.invariant.so_far read.ok c.in-0.is (read.end c.in-0.is) (c.finish.ensures c.args.asked.now)
 
 pub slice_bounds-check_piece-end : goal.slice_bounds-check_piece-end
 slice_bounds-check_piece-end g c =
@@ -54,7 +54,7 @@ returns-in_err-check_piece-in_default g c =
     let is = sym (c.deref.ensures.value ∙ back) in
     let P : List ℕ → Type 0 = λ x. Consumes (g.R.Read.remaining c.loop.reader) (g.R.Read.remaining c.read_some.new.reader) (take c.in_ok-len.len x) in
     let out = c.in_err-check_piece-in_default.ensures.outcome in
-    rw (p.1, p.2) (piece_stops (g.R.Read.remaining c.args.reader.now) (g.R.Read.remaining c.loop.reader) (g.R.Read.remaining c.read_some.new.reader)
+    rw (p.1, p.2) (piece_stops c.args.asked.now (g.R.Read.remaining c.args.reader.now) (g.R.Read.remaining c.loop.reader) (g.R.Read.remaining c.read_some.new.reader)
     (g.W.Write.contents c.args.writer.now) (g.W.Write.contents c.loop.writer) (g.W.Write.contents c.check_piece.new.writer)
     c.loop.progress (take c.in_ok-len.len c.deref.result.now) out.0 c.in_err-check_piece-in_default.field-0.0
     c.loop.invariant.so_far (subst P is c.in_ok-len.ensures.ok) out.1 out.2)
@@ -66,7 +66,7 @@ loop-preserved g c =
     let P : List ℕ → Type 0 = λ x. Consumes (g.R.Read.remaining c.loop.reader) (g.R.Read.remaining c.read_some.new.reader) (take c.in_ok-len.len x) in
     let out = c.in_ok-check_piece-in_default.ensures in
     record {
-      so_far = piece_goes (g.R.Read.remaining c.args.reader.now) (g.R.Read.remaining c.loop.reader) (g.R.Read.remaining c.read_some.new.reader)
+      so_far = piece_goes c.args.asked.now (g.R.Read.remaining c.args.reader.now) (g.R.Read.remaining c.loop.reader) (g.R.Read.remaining c.read_some.new.reader)
           (g.W.Write.contents c.args.writer.now) (g.W.Write.contents c.loop.writer) (g.W.Write.contents c.check_piece.new.writer)
           c.loop.progress c.check_piece.new.self (take c.in_ok-len.len c.deref.result.now) out.outcome.0
           c.loop.invariant.so_far (subst P is c.in_ok-len.ensures.ok) out.outcome.1 out.outcome.2 out.written;
@@ -75,6 +75,6 @@ loop-preserved g c =
 
 pub returns : goal.returns
 returns g c =
-    read_fails (g.R.Read.remaining c.args.reader.now) (g.R.Read.remaining c.loop.reader) (g.R.Read.remaining c.loop.reader)
+    read_fails c.args.asked.now (g.R.Read.remaining c.args.reader.now) (g.R.Read.remaining c.loop.reader) (g.R.Read.remaining c.loop.reader)
     (g.W.Write.contents c.args.writer.now) (g.W.Write.contents c.loop.writer) c.loop.progress c.loop.invariant.so_far c.loop.progress.unended
     (Keeps-refl (g.R.Read.remaining c.loop.reader))

@@ -4,5 +4,5 @@ use Rattle.iova_check.proofs.run.Progress.run_header.Goals as goal
 
 pub returns : goal.returns
 returns c =
-    header_taken c.args.self.now _ c.args.line.now c.in-Some.header c.new-checker.result c.check.new.self c.requires.fresh c.requires.first
-    c.in-Some.ensures.spelled.0 c.in-Some.ensures.spelled.1 refl refl c.new-checker.ensures c.in-Ok.ensures.ok
+    header_taken c.args.asked.now c.args.self.now _ c.args.line.now c.in-Some.header c.in-Ok.checker c.check.new.self c.requires.fresh c.requires.first
+    c.in-Some.ensures.spelled.0 c.in-Some.ensures.spelled.1 refl refl c.in-Ok.ensures c.in-Ok-check.ensures.ok

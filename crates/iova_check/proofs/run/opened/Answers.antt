@@ -1,0 +1,15 @@
+use Rattle.std.proofs.Common.{ℕ}
+use Rattle.std.specs.Prelude.{unwrap_or}
+use Rattle.iova_check.specs.Allowing.{Allows}
+use Rattle.iova_check.specs.Bounds.{bounds_asked}
+use Rattle.iova_check.proofs.AllowedFrames.{moved}
+use Rattle.iova_check.proofs.run.opened.Goals as goal
+
+pub returns : goal.returns
+returns c =
+    let asked = c.args.asked.now in
+    let header = c.args.header.now in
+    let P : ℕ → ℕ → Type 0 = λ a b. Allows c.in_ok-allowed.allowed (record { first = a; last = b; windows = asked.windows.now }) in
+    c.new-2.ensures (bounds_asked asked header.first header.last)
+    (moved P c.unwrap_or-first.result c.unwrap_or-last.result (unwrap_or asked.first header.first) (unwrap_or asked.last header.last)
+    c.unwrap_or-first.ensures c.unwrap_or-last.ensures c.in_ok-allowed.ensures)
