@@ -5,6 +5,8 @@ mod Kept
 mod Examples
 mod Marks
 mod AllowedFrames
+mod TraceWords
+mod HexDigits
 mod Reuses
 mod Streams
 mod LineSteps

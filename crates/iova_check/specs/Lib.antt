@@ -14,3 +14,4 @@ pub mod Runs
 pub mod StaleIndex
 pub mod Progress
 pub mod Summary
+pub mod Trace

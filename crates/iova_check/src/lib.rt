@@ -17,4 +17,5 @@ pub mod stages;
 pub mod summary;
 pub mod text;
 pub mod told;
+pub mod trace;
 pub mod tracker;

@@ -1,0 +1,311 @@
+//! The lines of a kernel's trace, read.
+ghost use Rattle.std.specs.Prelude.{◌≡◌, ℕ, ◌+◌, ◌<◌, ◌≤◌, List, [], ◌∷◌, ◌++◌, Some, None, IfSome, IfNone, length, codes};
+ghost use Rattle.iova_check.specs.History.{IsRange, IsInReach};
+ghost use Rattle.iova_check.specs.Trace.{spaced, hex_digit, hex_from, hex_number, after, hex_after, are_digits, are_digits_after, frames_of, frames_between, mapped_frames, unmapped_frames, paged_frames, is_other_domain, flush_at, flush_said, is_either, said, event_said};
+
+use crate::event::Event;
+use iova_range::range::Range;
+use iova_text::words::first_word;
+use memchr::memrchr;
+
+/// The longest line of a trace of which something is read, with its LF, in bytes. Our own.
+pub const MAX_TRACE_LINE: usize = 1_024;
+
+/// The bytes of a frame.
+const FRAME: u64 = 4_096;
+
+/// The last seven words of a line.
+#[derive(Drop)]
+struct Seven<'a> {
+    name: &'a [u8],
+    about: &'a [u8],
+    a: &'a [u8],
+    b: &'a [u8],
+    c: &'a [u8],
+    d: &'a [u8],
+    e: &'a [u8],
+}
+
+/// What this line, which is without its LF, says. Flushes of this domain count, or of each.
+pub fn read_trace_line(domain: Option<u64>, line: &[u8]) -> Event
+    ensures said { result ≡ event_said domain line.now }
+    ensures reach { IsInReach result }
+{
+    if line.len() >= MAX_TRACE_LINE {
+        return Event::Other;
+    }
+    match seven_words(line) {
+        Some(words) => event_of(domain, &words),
+        None => Event::Other,
+    }
+}
+
+/// Whether this line says that events were lost.
+pub fn tells_lost(line: &[u8]) -> bool {
+    let Some(processor) = after(b"CPU:", line) else {
+        return false;
+    };
+    let (number, rest) = first_word(processor);
+    let Some(lost) = after(b" [LOST ", rest) else {
+        return false;
+    };
+    let (count, end) = first_word(lost);
+    are_digits(number) && are_digits(count) && end == b" EVENTS]".as_slice()
+}
+
+fn event_of(domain: Option<u64>, words: &Seven<'_>) -> Event
+    ensures said { result ≡ said domain words.now.name.now words.now.about.now words.now.a.now words.now.b.now words.now.c.now
+        words.now.d.now words.now.e.now }
+    ensures reach { IsInReach result }
+{
+    if is_either(words.name, b"map:", b"iommu:map:") && words.about == b"IOMMU:".as_slice() {
+        match mapped_frames(words) {
+            Some(range) => Event::Map(range),
+            None => Event::Other,
+        }
+    } else if is_either(words.name, b"unmap:", b"iommu:unmap:")
+        && words.about == b"IOMMU:".as_slice()
+    {
+        match unmapped_frames(words) {
+            Some(range) => Event::Unmap(range),
+            None => Event::Other,
+        }
+    } else if is_either(words.name, b"qi_submit:", b"intel_iommu:qi_submit:")
+        && words.about == b"iotlb_inv".as_slice()
+    {
+        flush_said(domain, words)
+    } else {
+        Event::Other
+    }
+}
+
+fn is_either(name: &[u8], short: &[u8], long: &[u8]) -> bool
+    ensures { result ≡ is_either short.now long.now name.now }
+{
+    name == short || name == long
+}
+
+fn mapped_frames(words: &Seven<'_>) -> Option<Range>
+    ensures is { result ≡ mapped_frames words.now.a.now words.now.b.now words.now.c.now words.now.d.now words.now.e.now }
+    ensures reach { IfSome result (λ r. IsRange r) }
+{
+    let dash = words.b == b"-".as_slice();
+    if dash && hex_after(b"paddr=0x", words.d).is_some() && are_digits_after(b"size=", words.e) {
+        frames_of(words)
+    } else {
+        None
+    }
+}
+
+fn unmapped_frames(words: &Seven<'_>) -> Option<Range>
+    ensures is { result ≡ unmapped_frames words.now.a.now words.now.b.now words.now.c.now words.now.d.now words.now.e.now }
+    ensures reach { IfSome result (λ r. IsRange r) }
+{
+    let dash = words.b == b"-".as_slice();
+    if dash && are_digits_after(b"size=", words.d) && are_digits_after(b"unmapped_size=", words.e) {
+        frames_of(words)
+    } else {
+        None
+    }
+}
+
+/// The frames between the first byte and the byte behind the last one.
+fn frames_of(words: &Seven<'_>) -> Option<Range>
+    ensures is { result ≡ frames_of (hex_after (codes "iova=0x") words.now.a.now) (hex_after (codes "0x") words.now.c.now) }
+    ensures reach { IfSome result (λ r. IsRange r) }
+{
+    let start = hex_after(b"iova=0x", words.a)?;
+    let behind = hex_after(b"0x", words.c)?;
+    frames_between(start, behind)
+}
+
+fn frames_between(start: u64, behind: u64) -> Option<Range>
+    ensures is { result ≡ frames_between start behind }
+    ensures reach { IfSome result (λ r. IsRange r) }
+{
+    if start < behind {
+        let (lo, hi) = (start / FRAME, (behind - 1) / FRAME);
+        Some(Range::new(lo, hi - lo + 1))
+    } else {
+        None
+    }
+}
+
+fn flush_said(domain: Option<u64>, words: &Seven<'_>) -> Event
+    ensures said { result ≡ flush_said domain words.now.b.now words.now.c.now words.now.d.now words.now.e.now }
+    ensures reach { IsInReach result }
+{
+    if hex_after(b"0x", words.d).is_none() || hex_after(b"0x", words.e).is_none() {
+        return Event::Other;
+    }
+    match (hex_after(b"0x", words.b), hex_after(b"0x", words.c)) {
+        (Some(q0), Some(q1)) => flush_at(domain, q0 / 16 % 4, q0 / 65_536 % 65_536, q1),
+        _ => Event::Other,
+    }
+}
+
+fn flush_at(domain: Option<u64>, granularity: u64, number: u64, q1: u64) -> Event
+    ensures said { result ≡ flush_at domain granularity number q1 }
+    ensures reach { IsInReach result }
+{
+    if granularity == 1 {
+        Event::Flush(None)
+    } else if is_other_domain(domain, number) {
+        Event::Other
+    } else if granularity == 2 {
+        Event::Flush(None)
+    } else if granularity == 3 {
+        Event::Flush(Some(paged_frames(q1)))
+    } else {
+        Event::Other
+    }
+}
+
+fn is_other_domain(domain: Option<u64>, number: u64) -> bool
+    ensures { result ≡ is_other_domain domain number }
+{
+    match domain {
+        Some(domain) => domain != number,
+        None => false,
+    }
+}
+
+/// 2^n frames from a multiple of 2^n on.
+fn paged_frames(q1: u64) -> Range
+    ensures is { result ≡ paged_frames q1 }
+    ensures reach { IsRange result }
+{
+    let len = 1u64 << (q1 % 64);
+    let lo = q1 / FRAME / len * len;
+    Range::new(lo, len)
+}
+
+fn are_digits_after(prefix: &[u8], word: &[u8]) -> bool
+    ensures { result ≡ are_digits_after prefix.now word.now }
+{
+    match after(prefix, word) {
+        Some(digits) => are_digits(digits),
+        None => false,
+    }
+}
+
+fn are_digits(digits: &[u8]) -> bool
+    ensures { result ≡ are_digits (Some digits.now) }
+{
+    if digits.is_empty() {
+        return false;
+    }
+    for digit in digits {
+        if !digit.is_ascii_digit() {
+            return false;
+        }
+    }
+    true
+}
+
+fn hex_after(prefix: &[u8], word: &[u8]) -> Option<u64>
+    ensures { result ≡ hex_after prefix.now word.now }
+{
+    match after(prefix, word) {
+        Some(digits) => hex_number(digits),
+        None => None,
+    }
+}
+
+/// What stands in the word behind these bytes.
+fn after<'a>(prefix: &[u8], word: &'a [u8]) -> Option<&'a [u8]>
+    ensures some { IfSome result (λ rest. after prefix.now word.now ≡ Some rest.now) }
+    ensures none { IfNone result (after prefix.now word.now ≡ None) }
+{
+    if prefix.len() > word.len() {
+        return None;
+    }
+    let (front, rest) = word.split_at(prefix.len());
+    if front == prefix { Some(rest) } else { None }
+}
+
+/// A number of 1 to 16 digits.
+fn hex_number(digits: &[u8]) -> Option<u64>
+    ensures { result ≡ hex_number digits.now }
+{
+    if digits.is_empty() || digits.len() > 16 {
+        return None;
+    }
+    hex_from(digits)
+}
+
+fn hex_from(digits: &[u8]) -> Option<u64>
+    requires { length digits.now ≤ 16 }
+    ensures { result ≡ hex_from (Some 0) digits.now }
+{
+    let mut value = 0u64;
+    let mut rest = digits;
+    while let Some((first, others)) = rest.split_first() {
+        let digit = hex_digit(*first)?;
+        value = value * 16 + u64::from(digit);
+        rest = others;
+    }
+    Some(value)
+}
+
+fn hex_digit(byte: u8) -> Option<u8>
+    ensures is { result ≡ hex_digit byte }
+    ensures small { IfSome result (λ d. d < 16) }
+{
+    if b'0' <= byte && byte <= b'9' {
+        Some(byte - b'0')
+    } else if b'a' <= byte && byte <= b'f' {
+        Some(byte - b'a' + 10)
+    } else {
+        None
+    }
+}
+
+/// The last seven words that have a blank before them. None where there are fewer.
+fn seven_words(line: &[u8]) -> Option<Seven<'_>>
+    ensures some { IfSome result (λ w. (before : List (List ℕ)) × (spaced line.now ≡ before ++ w.name.now ∷ w.about.now ∷ w.a.now
+        ∷ w.b.now ∷ w.c.now ∷ w.d.now ∷ w.e.now ∷ [])) }
+    ensures none { IfNone result (length (spaced line.now) < 7) }
+{
+    let (line, b, c, d, e) = four_words(line)?;
+    let (line, about, a) = two_words(line)?;
+    let (_, name) = last_word(line)?;
+    Some(Seven {
+        name,
+        about,
+        a,
+        b,
+        c,
+        d,
+        e,
+    })
+}
+
+fn four_words(line: &[u8]) -> Option<(&[u8], &[u8], &[u8], &[u8], &[u8])>
+    ensures some { IfSome result (λ p. spaced line.now ≡ spaced p.0.now ++ p.1.now ∷ p.2.now ∷ p.3.now ∷ p.4.now ∷ []) }
+    ensures none { IfNone result (length (spaced line.now) < 4) }
+{
+    let (line, c, d) = two_words(line)?;
+    let (line, a, b) = two_words(line)?;
+    Some((line, a, b, c, d))
+}
+
+fn two_words(line: &[u8]) -> Option<(&[u8], &[u8], &[u8])>
+    ensures some { IfSome result (λ p. spaced line.now ≡ spaced p.0.now ++ p.1.now ∷ p.2.now ∷ []) }
+    ensures none { IfNone result (length (spaced line.now) < 2) }
+{
+    let (line, b) = last_word(line)?;
+    let (line, a) = last_word(line)?;
+    Some((line, a, b))
+}
+
+/// The last word that has a blank before it, and what stands before that blank.
+fn last_word(line: &[u8]) -> Option<(&[u8], &[u8])>
+    ensures some { IfSome result (λ p. spaced line.now ≡ spaced p.0.now ++ p.1.now ∷ []) }
+    ensures none { IfNone result (spaced line.now ≡ []) }
+{
+    match memrchr(b' ', line) {
+        Some(blank) => Some((&line[..blank], &line[blank + 1..])),
+        None => None,
+    }
+}
