@@ -41,5 +41,6 @@ IsFaultOfServing plan fault.CannotWrite = Unit {0}
 IsFaultOfServing plan (fault.Words usage) = ⊥
 IsFaultOfServing plan (fault.TraceRefused line) = ⊥
 IsFaultOfServing plan (fault.LogRefused line) = ⊥
+IsFaultOfServing plan (fault.RegionsRefused line) = ⊥
 IsFaultOfServing plan fault.Found = ⊥
 IsFaultOfServing plan (fault.CannotRead path) = ⊥

@@ -7,6 +7,7 @@ use iova_ask::fault::AskFault;
 use iova_check::fault::CheckFault;
 use iova_command::usage::{Usage, WordsFault};
 use iova_command::words::STANDARD_INPUT;
+use iova_regions::fault::RegionsFault;
 use iova_trace::fault::ReplayFault;
 use std::fmt;
 use std::process::ExitCode;
@@ -24,6 +25,8 @@ pub enum Fault<'a> {
     TraceRefused(u64),
     /// The line with this number, counted from 1, is no line of a log.
     LogRefused(u64),
+    /// The line with this number, counted from 1, is none of reserved regions, or makes too many windows.
+    RegionsRefused(u64),
     /// A log has a finding, which was told.
     Found,
     /// The file of this name cannot be opened or read; `-` is standard input.
@@ -69,6 +72,19 @@ impl<'a> Fault<'a> {
         }
     }
 
+    /// The fault of the reserved regions of this name.
+    pub fn of_regions(fault: RegionsFault, path: &'a str) -> Fault<'a>
+        ensures refused { (line : ℕ) → fault ≡ RegionsFault.Line line → result ≡ Fault.RegionsRefused line }
+        ensures unread { fault ≡ RegionsFault.Read → result ≡ Fault.CannotRead path.entry }
+        ensures memory { fault ≡ RegionsFault.NoMemory → result ≡ Fault.NoMemory }
+    {
+        match fault {
+            RegionsFault::Line(line) => Fault::RegionsRefused(line),
+            RegionsFault::Read => Fault::CannotRead(path),
+            RegionsFault::NoMemory => Fault::NoMemory,
+        }
+    }
+
     /// The fault of lines asked from standard input.
     pub fn of_ask(fault: AskFault) -> Fault<'static>
         ensures unread { fault ≡ AskFault.Read → IfUnread result (λ path. path ≡ codes "-") }
@@ -85,7 +101,7 @@ impl<'a> Fault<'a> {
     }
 
     /// The status that the process ends with: 0 where help was asked for, 1 for a log that has a finding, 2 where the words are
-    /// not understood or can't be followed, 3 for a trace or a log that is refused, 4 for a file that cannot be read or written,
+    /// not understood or can't be followed, 3 for a trace, a log or regions that are refused, 4 for a file that cannot be read or written,
     /// 5 for memory.
     pub fn status(&self) -> u8
         ensures { result ≡ fault_status self.now }
@@ -94,7 +110,7 @@ impl<'a> Fault<'a> {
             Fault::Words(usage) => usage.status(),
             Fault::StartAboveLast | Fault::LastAboveProfile => 2,
             Fault::Found => 1,
-            Fault::TraceRefused(_) | Fault::LogRefused(_) => 3,
+            Fault::TraceRefused(_) | Fault::LogRefused(_) | Fault::RegionsRefused(_) => 3,
             Fault::CannotRead(_)
             | Fault::CannotWrite
             | Fault::SocketFault
@@ -108,6 +124,7 @@ impl<'a> Fault<'a> {
         requires words { (status : ℕ) → self.now ≢ Fault.Words status }
         requires trace { (line : ℕ) → self.now ≢ Fault.TraceRefused line }
         requires log { (line : ℕ) → self.now ≢ Fault.LogRefused line }
+        requires regions { (line : ℕ) → self.now ≢ Fault.RegionsRefused line }
         requires file { IfUnread self.now (λ path. Unit {0}) → ⊥ }
         ensures { fault_text self.now ≡ Some result.now }
     {
@@ -164,6 +181,9 @@ impl<'a> fmt::Display for Fault<'a> {
             Fault::Words(usage) => write!(f, "{usage}"),
             Fault::TraceRefused(line) => write!(f, "iovad: trace refused at line {line}"),
             Fault::LogRefused(line) => write!(f, "iovad: log refused at line {line}"),
+            Fault::RegionsRefused(line) => {
+                write!(f, "iovad: reserved regions refused at line {line}")
+            }
             Fault::CannotRead(path) => write!(f, "iovad: cannot read {path}"),
             _ => f.write_str(self.line()),
         }

@@ -2,15 +2,16 @@
 #![tactic(auto)]
 
 mod answer;
+mod checking;
 mod daemon;
 mod fault;
 mod outcome;
 
 use answer::answer;
+use checking::check_planned;
 use daemon::serve;
 use fault::Fault;
 use iova_ask::ask_lines;
-use iova_check::run::check_and_count;
 use iova_command::asked::Asked;
 use iova_command::plan::Plan;
 use iova_command::words::{STANDARD_INPUT, asked, words};
@@ -49,7 +50,7 @@ where
         Asked::Replay { path, has_report } => replay(rt, path, has_report),
         Asked::Serve(plan) => serve_plan(rt, &plan),
         Asked::Ask { path } => ask_at(rt, path),
-        Asked::Check { path } => check_at(rt, path),
+        Asked::Check(plan) => check_planned(rt, &plan),
     }
 }
 
@@ -77,33 +78,6 @@ fn print<'a, R: Runtime + AllocGlobal, I: Read>(
     match answer(rt.alloc(), reader, &mut io::writer(rt), has_report) {
         Ok(()) => Ok(()),
         Err(fault) => Err(Fault::of_replay(fault, path)),
-    }
-}
-
-/// Checks the log of this name, and prints what is found.
-fn check_at<'a, R>(rt: &R, path: &'a str) -> Result<(), Fault<'a>>
-where
-    R: Runtime + AllocGlobal + Files<File = File>,
-{
-    if path == STANDARD_INPUT {
-        return check(rt, &mut rt.reader(), path);
-    }
-    match File::open(rt, path) {
-        Ok(mut file) => check(rt, &mut file, path),
-        Err(_) => Err(Fault::CannotRead(path)),
-    }
-}
-
-/// Checks the log from this reader.
-fn check<'a, R: Runtime + AllocGlobal, I: Read>(
-    rt: &R,
-    reader: &mut I,
-    path: &'a str,
-) -> Result<(), Fault<'a>> {
-    match check_and_count(rt.alloc(), reader, &mut io::writer(rt)) {
-        Ok(false) => Ok(()),
-        Ok(true) => Err(Fault::Found),
-        Err(fault) => Err(Fault::of_check(fault, path)),
     }
 }
 
