@@ -6,14 +6,14 @@ use Rattle.std.specs.Io.KnownBytes.{Appends}
 use mathlib.Core.Bool.{not}
 use Rattle.iova_sink.specs.Calls.{Call, is_last_failed}
 
-take_plus : (bs : List ℕ) (i n : ℕ) → take (i + n) bs ≡ take i bs ++ take n (drop i bs)
+pub take_plus : (bs : List ℕ) (i n : ℕ) → take (i + n) bs ≡ take i bs ++ take n (drop i bs)
 take_plus bs i n =
     let front : take i (take (i + n) bs) ≡ take i bs = take-take i (i + n) bs (omega arith) in
     let back : drop i (take (i + n) bs) ≡ take n (drop i bs) = drop-take i n bs in
     sym (take-append-drop i (take (i + n) bs)) ∙ (ap (λ (x : List ℕ). x ++ drop i (take (i + n) bs)) front ∙ ap (λ (x : List ℕ). take i bs ++ x) back)
 
 -- all that is left after a place
-rest_of : (bs : List ℕ) (i : ℕ) → take (length bs - i) (drop i bs) ≡ drop i bs
+pub rest_of : (bs : List ℕ) (i : ℕ) → take (length bs - i) (drop i bs) ≡ drop i bs
 rest_of bs i = take_all (length bs - i) (drop i bs) (omega (arith, length-drop i bs))
 
 -- a put goes on where the last one stopped

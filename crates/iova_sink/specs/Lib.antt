@@ -2,3 +2,4 @@ pub mod Counts
 pub mod Calls
 pub mod Records
 pub mod Devices
+pub mod Channels

@@ -1,5 +1,6 @@
--- The record of one invalidation. Own.
-use Rattle.std.specs.Prelude.{ℕ, Bool, true, false, List, [], ◌∷◌, ◌++◌, codes, decimal}
+-- The record of one invalidation, and what is asked of a peer that answers. Own.
+use Rattle.std.specs.Prelude.{ℕ, Bool, true, false, List, [], ◌∷◌, ◌++◌, length, codes, decimal}
+use Rattle.iova_sink.specs.declared.channel_sink.Span.{Span}
 
 -- the line of one invalidation: a word, the domain's number, the flush's number, with a space between them, and a line feed
 abbrev pub inval_line : ℕ → ℕ → List ℕ
@@ -9,3 +10,36 @@ inval_line domain number = codes "inval" ++ (32 ∷ (decimal domain ++ (32 ∷ (
 abbrev pub record_text : Bool → ℕ → ℕ → List ℕ
 record_text false domain number = inval_line domain number
 record_text true domain number = 10 ∷ inval_line domain number
+
+-- Requests to a peer that answers, and its answers: words with a space between them, and a line feed.
+
+-- the answer to a request of this word and number, which says how it went
+abbrev pub answer_line : List ℕ → List ℕ → ℕ → List ℕ
+answer_line outcome word number = outcome ++ (32 ∷ (word ++ (32 ∷ (decimal number ++ 10 ∷ []))))
+
+-- all of it is done
+abbrev pub done_line : List ℕ → ℕ → List ℕ
+done_line word number = answer_line (codes "done") word number
+
+-- it failed
+abbrev pub fail_line : List ℕ → ℕ → List ℕ
+fail_line word number = answer_line (codes "fail") word number
+
+-- the domain has no mapping any more
+abbrev pub reset_line : ℕ → List ℕ
+reset_line domain = codes "reset" ++ (32 ∷ (decimal domain ++ 10 ∷ []))
+
+-- this client of the domain is gone, which had so many ranges
+abbrev pub gone_line : ℕ → ℕ → ℕ → List ℕ
+gone_line domain client count = codes "gone" ++ (32 ∷ (decimal domain ++ (32 ∷ (decimal client ++ (32 ∷ (decimal count ++ 10 ∷ []))))))
+
+-- a range: its first frame, and how many there are
+abbrev pub span_line : Span → List ℕ
+span_line s = decimal s.lo ++ (32 ∷ (decimal s.len ++ 10 ∷ []))
+
+abbrev pub spans_text : List Span → List ℕ
+spans_text [] = []
+spans_text (s ∷ ss) = span_line s ++ spans_text ss
+
+abbrev pub gone_text : ℕ → ℕ → List Span → List ℕ
+gone_text domain client spans = gone_line domain client (length spans) ++ spans_text spans

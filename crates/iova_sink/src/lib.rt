@@ -1,12 +1,18 @@
-//! Where invalidations go: sinks, which are told of each flush, and the devices that records of them are written to.
+//! Where invalidations go: sinks, which are told of each flush, the devices that records of them are written to, and the channels to
+//! a peer that answers.
 #![tactic(auto)]
 
+pub mod asking;
 pub mod calls;
+pub mod channel;
+pub mod channel_sink;
 pub mod count;
 pub mod device;
 pub mod file;
 pub mod gate;
 pub mod memory;
+pub mod memory_channel;
 pub mod memory_device;
 pub mod record;
 pub mod sink;
+pub mod socket;

@@ -12,8 +12,8 @@ use arrayvec::ArrayVec;
 use itoa::Buffer;
 use std::marker::Model;
 
-/// The most bytes of a record: a line feed, the word, two numbers, and a line feed.
-const MAX_RECORD: usize = 64;
+/// The most bytes of a record, of a line of a request and of an answer: words, at most three numbers, and line feeds.
+pub(crate) const MAX_RECORD: usize = 72;
 
 /// Writes `inval <domain> <number>` and a line feed for each invalidation. The first record after one that failed begins
 /// with a line feed of its own, so that what was written of the failed one stays a line by itself. Own.
@@ -78,7 +78,7 @@ impl<D: Device> Sink for RecordSink<D> {
 }
 
 /// The bytes of a record, which follows a call that failed or doesn't.
-fn record_of(after_failure: bool, domain: u64, no: u64) -> ArrayVec<u8, MAX_RECORD>
+pub(crate) fn record_of(after_failure: bool, domain: u64, no: u64) -> ArrayVec<u8, MAX_RECORD>
     ensures { result.items ≡ record_text after_failure domain no }
 {
     let mut text = ArrayVec::new();
@@ -92,7 +92,8 @@ fn record_of(after_failure: bool, domain: u64, no: u64) -> ArrayVec<u8, MAX_RECO
     text
 }
 
-fn put(text: &mut ArrayVec<u8, MAX_RECORD>, bytes: &[u8])
+/// Appends the bytes, for which there is room.
+pub(crate) fn put(text: &mut ArrayVec<u8, MAX_RECORD>, bytes: &[u8])
     requires { length text.old.items + length bytes.now ≤ MAX_RECORD }
     ensures { text.new.items ≡ text.old.items ++ bytes.now }
 {
@@ -100,12 +101,21 @@ fn put(text: &mut ArrayVec<u8, MAX_RECORD>, bytes: &[u8])
 }
 
 /// Appends a space and the number.
-fn put_number(text: &mut ArrayVec<u8, MAX_RECORD>, number: u64)
+pub(crate) fn put_number(text: &mut ArrayVec<u8, MAX_RECORD>, number: u64)
     requires { length text.old.items + 21 ≤ MAX_RECORD }
     ensures items { text.new.items ≡ text.old.items ++ 32 ∷ decimal number }
     ensures longer { length text.new.items ≤ length text.old.items + 21 }
 {
     put(text, b" ");
+    put_digits(text, number);
+}
+
+/// Appends the number.
+pub(crate) fn put_digits(text: &mut ArrayVec<u8, MAX_RECORD>, number: u64)
+    requires { length text.old.items + 20 ≤ MAX_RECORD }
+    ensures items { text.new.items ≡ text.old.items ++ decimal number }
+    ensures longer { length text.new.items ≤ length text.old.items + 20 }
+{
     put(text, Buffer::new().format(number).as_bytes());
 }
 

@@ -1,0 +1,258 @@
+-- Requests and answers, one part after another.
+use Rattle.std.proofs.Common.{◌≡◌, ◌≢◌, ℕ, suc, ◌+◌, ◌-◌, ◌<◌, ◌≤◌, ◌⊎◌, inl, inr, Bool, true, List, [], ◌∷◌, ◌++◌, Option, Some, None, Result, Ok, Err, length, take, drop, get_or, refl, sym, ap, ◌∙◌, subst, arith, append_assoc, append-nil, length-append, take-append-drop}
+use Rattle.std.specs.Io.KnownBytes.{append_known}
+use Rattle.std.proofs.Math.Seq.{drop-cons}
+use Rattle.std.proofs.lemmas.List.{take_all, take_more, get_or_append_left, get_or-append-add}
+use Rattle.std.proofs.lemmas.Bool.{cases_lt}
+use Rattle.iova_sink.specs.declared.channel.ChannelFault.{ChannelFault}
+use Rattle.iova_sink.specs.declared.sink.SinkFault.{SinkFault}
+use Rattle.iova_sink.specs.declared.asking.Heard.{Heard}
+use Rattle.iova_sink.specs.declared.asking.Heard.TheVariants as heard
+use Rattle.iova_sink.specs.declared.channel_sink.Span.{Span}
+use Rattle.iova_sink.specs.Records.{span_line, spans_text}
+use Rattle.iova_sink.specs.Channels.{Talk, with_sent, with_received, with_failure, with_stray, opened, closed, Connects, HasFailed, IsFront, IsCutOff, Readies, SendsAll, Requests, EndsAtLf, IsAnswer, IsSaid, Hears, Concludes, Answers}
+use Rattle.iova_sink.proofs.Records.{take_plus, rest_of}
+
+known_more : (r : Option (List ℕ)) (xs ys : List ℕ) → append_known (append_known r xs) ys ≡ append_known r (xs ++ ys)
+known_more None xs ys = refl
+known_more (Some z) xs ys = ap (λ (x : List ℕ). Some x) (append_assoc z xs ys)
+
+known_nothing : (r : Option (List ℕ)) → r ≡ append_known r []
+known_nothing None = refl
+known_nothing (Some z) = ap (λ (x : List ℕ). Some x) (sym (append-nil z))
+
+pub sent_more : (t : Talk) (xs ys : List ℕ) → with_sent (with_sent t xs) ys ≡ with_sent t (xs ++ ys)
+sent_more t xs ys = ap (λ (x : Option (List ℕ)). record t { sent = x }) (known_more t.sent xs ys)
+
+pub sent_nothing : (t : Talk) → t ≡ with_sent t []
+sent_nothing t = ap (λ (x : Option (List ℕ)). record t { sent = x }) (known_nothing t.sent)
+
+pub received_more : (t : Talk) (xs ys : List ℕ) → with_received (with_received t xs) ys ≡ with_received t (xs ++ ys)
+received_more t xs ys = ap (λ (x : Option (List ℕ)). record t { received = x }) (known_more t.received xs ys)
+
+pub received_nothing : (t : Talk) → t ≡ with_received t []
+received_nothing t = ap (λ (x : Option (List ℕ)). record t { received = x }) (known_nothing t.received)
+
+-- A connection made ready
+
+pub cut_by_failure : (old new : Talk) → new.sent ≡ old.sent → new.received ≡ old.received → HasFailed old new → (request : List ℕ) → IsCutOff old new request
+cut_by_failure old new sent received failed request = record {
+  front = [];
+  is_front = (request, refl);
+  sent = sent ∙ known_nothing old.sent;
+  received = received;
+  failed = failed;
+}
+
+pub readies_from_connects : (old new : Talk) (r : Result Unit ChannelFault) → Connects old new r → Readies old new r
+readies_from_connects old new (Ok u) e = e
+readies_from_connects old new (Err f) e =
+    cut_by_failure old new (ap (λ (t : Talk). t.sent) e) (ap (λ (t : Talk). t.received) e)
+    (inl (let more : new.failures ≡ old.failures + 1 = ap (λ (t : Talk). t.failures) e in omega arith))
+
+pub readies_by_failure : (old new : Talk) → new ≡ with_failure old → (request : List ℕ) → IsCutOff old new request
+readies_by_failure old new e =
+    cut_by_failure old new (ap (λ (t : Talk). t.sent) e) (ap (λ (t : Talk). t.received) e)
+    (inl (let more : new.failures ≡ old.failures + 1 = ap (λ (t : Talk). t.failures) e in omega arith))
+
+pub readies_by_stray : (old new : Talk) → new ≡ with_stray old → (request : List ℕ) → IsCutOff old new request
+readies_by_stray old new e =
+    cut_by_failure old new (ap (λ (t : Talk). t.sent) e) (ap (λ (t : Talk). t.received) e)
+    (inr (let more : new.strays ≡ old.strays + 1 = ap (λ (t : Talk). t.strays) e in omega arith))
+
+pub stays_open : (old new : Talk) → new ≡ old → old.connected ≡ true → new ≡ opened old
+stays_open old new e is = e ∙ ap (λ (b : Bool). record old { connected = b }) is
+
+-- A request sent
+
+pub sends_more : (a b c : Talk) (bs : List ℕ) (i n : ℕ) → b ≡ with_sent a (take i bs) → c ≡ with_sent b (take n (take (length bs - i) (drop i bs)))
+    → c ≡ with_sent a (take (i + n) bs)
+sends_more a b c bs i n p q =
+    q ∙ (ap (λ (t : Talk). with_sent t (take n (take (length bs - i) (drop i bs)))) p
+    ∙ (sent_more a (take i bs) (take n (take (length bs - i) (drop i bs)))
+    ∙ (ap (λ (x : List ℕ). with_sent a (take i bs ++ take n x)) (rest_of bs i) ∙ ap (with_sent a) (sym (take_plus bs i n)))))
+
+pub sends_all : (a b : Talk) (bs : List ℕ) (i : ℕ) → length bs ≤ i → b ≡ with_sent a (take i bs) → b ≡ with_sent a bs
+sends_all a b bs i le p = p ∙ ap (with_sent a) (take_all i bs le)
+
+pub sends_cut : (a b c : Talk) (bs : List ℕ) (i : ℕ) → b ≡ with_sent a (take i bs) → c ≡ with_failure b
+    → (front : List ℕ) × IsFront front bs × (c ≡ with_failure (with_sent a front))
+sends_cut a b c bs i p q = (take i bs, (drop i bs, sym (take-append-drop i bs)), q ∙ ap with_failure p)
+
+-- one part and then another
+pub sends_both : (a b c : Talk) (xs ys : List ℕ) (r : Result Unit ChannelFault) → b ≡ with_sent a xs → SendsAll b c ys r → SendsAll a c (xs ++ ys) r
+sends_both a b c xs ys (Ok u) p q = q ∙ (ap (λ (t : Talk). with_sent t ys) p ∙ sent_more a xs ys)
+sends_both a b c xs ys (Err f) p q =
+    let front = q.0 in
+    let rest = q.1.0 in
+    let is : ys ≡ front ++ rest = q.1.1 in (
+      xs ++ front,
+      (rest, ap (λ (y : List ℕ). xs ++ y) is ∙ sym (append_assoc xs front rest)),
+      q.2 ∙ ap with_failure (ap (λ (t : Talk). with_sent t front) p ∙ sent_more a xs front),
+    )
+
+pub sends_first : (a c : Talk) (xs ys : List ℕ) (f : ChannelFault) → SendsAll a c xs (Err f) → SendsAll a c (xs ++ ys) (Err f)
+sends_first a c xs ys f q =
+    let front = q.0 in
+    let rest = q.1.0 in
+    let is : xs ≡ front ++ rest = q.1.1 in
+    (front, (rest ++ ys, ap (λ (x : List ℕ). x ++ ys) is ∙ append_assoc front rest ys), q.2)
+
+pub requests_from : (a b c : Talk) (request : List ℕ) (r : Result Unit ChannelFault) → b ≡ opened a → SendsAll b c request r → Requests a c request r
+requests_from a b c request (Ok u) p q = q ∙ ap (λ (t : Talk). with_sent t request) p
+requests_from a b c request (Err f) p q =
+    let whole : c ≡ with_failure (with_sent (opened a) q.0) = q.2 ∙ ap (λ (t : Talk). with_failure (with_sent t q.0)) p in
+    record {
+      front = q.0;
+      is_front = q.1;
+      sent = ap (λ (t : Talk). t.sent) whole;
+      received = ap (λ (t : Talk). t.received) whole;
+      failed = inl (let more : c.failures ≡ a.failures + 1 = ap (λ (t : Talk). t.failures) whole in omega arith);
+    }
+
+-- the lines of ranges
+spans_append : (xs ys : List Span) → spans_text (xs ++ ys) ≡ spans_text xs ++ spans_text ys
+spans_append [] ys = refl
+spans_append (x ∷ xs) ys =
+    ap (λ (t : List ℕ). span_line x ++ t) (spans_append xs ys) ∙ sym (append_assoc (span_line x) (spans_text xs) (spans_text ys))
+
+pub spans_more : (spans : List Span) (i : ℕ) (d : Span) → i < length spans
+    → spans_text (take (i + 1) spans) ≡ spans_text (take i spans) ++ span_line (get_or spans i d)
+spans_more spans i d lt =
+    ap spans_text (take_more spans i d lt)
+    ∙ (spans_append (take i spans) (get_or spans i d ∷ []) ∙ ap (λ (x : List ℕ). spans_text (take i spans) ++ x) (append-nil (span_line (get_or spans i d))))
+
+pub spans_whole : (spans : List Span) (i : ℕ) (d : Span) → i < length spans
+    → spans_text spans ≡ spans_text (take i spans) ++ (span_line (get_or spans i d) ++ spans_text (drop (suc i) spans))
+spans_whole spans i d lt =
+    ap spans_text (sym (take-append-drop i spans))
+    ∙ (spans_append (take i spans) (drop i spans) ∙ ap (λ (x : List Span). spans_text (take i spans) ++ spans_text x) (drop-cons spans i d lt))
+
+-- one line more, or the failure in it
+pub span_sent : (a b c : Talk) (spans : List Span) (i : ℕ) (d : Span) (line : List ℕ) → i < length spans → b ≡ with_sent a (spans_text (take i spans))
+    → line ≡ span_line (get_or spans i d) → c ≡ with_sent b line → c ≡ with_sent a (spans_text (take (i + 1) spans))
+span_sent a b c spans i d line lt p is q =
+    q ∙ (ap (λ (t : Talk). with_sent t line) p
+    ∙ (sent_more a (spans_text (take i spans)) line
+    ∙ (ap (λ (x : List ℕ). with_sent a (spans_text (take i spans) ++ x)) is ∙ ap (with_sent a) (sym (spans_more spans i d lt)))))
+
+pub span_cut : (a b c : Talk) (spans : List Span) (i : ℕ) (d : Span) (line : List ℕ) (f : ChannelFault) → i < length spans
+    → b ≡ with_sent a (spans_text (take i spans)) → line ≡ span_line (get_or spans i d) → SendsAll b c line (Err f) → SendsAll a c (spans_text spans) (Err f)
+span_cut a b c spans i d line f lt p is q =
+    let rest = spans_text (drop (suc i) spans) in
+    let first : SendsAll b c (line ++ rest) (Err f) = sends_first b c line rest f q in
+    let whole : spans_text spans ≡ spans_text (take i spans) ++ (line ++ rest) =
+    spans_whole spans i d lt ∙ ap (λ (x : List ℕ). spans_text (take i spans) ++ (x ++ rest)) (sym is) in
+    subst (λ (x : List ℕ). SendsAll a c x (Err f)) (sym whole) (sends_both a b c (spans_text (take i spans)) (line ++ rest) (Err f) p first)
+
+-- An answer received
+
+pub one_taken : (xs : List ℕ) (n : ℕ) → length xs ≡ 1 → n ≤ 1 → 0 < n → take n xs ≡ get_or xs 0 0 ∷ []
+one_taken [] n long le lt = absurd (omega arith)
+one_taken (x ∷ []) n long le lt = let is : n ≡ 1 = omega arith in ap (λ (k : ℕ). take k (x ∷ [])) is
+one_taken (x ∷ y ∷ xs) n long le lt = absurd (omega arith)
+
+-- no byte so far is an LF
+pub record HasNone (got : List ℕ) : Type 0 where
+  pub none : (k : ℕ) → k < length got → get_or got k 0 ≢ 10
+
+pub none_yet : HasNone []
+none_yet = record { none = λ k lt. absurd (omega arith) }
+
+pub ends_none : (got : List ℕ) → HasNone got → EndsAtLf got
+ends_none got h = λ k lt. h.none k (omega arith)
+
+at_end : (got : List ℕ) (b k : ℕ) → k + 1 < length (got ++ b ∷ []) → k < length got
+at_end got b k lt = omega (arith, length-append got (b ∷ []))
+
+pub ends_one : (got : List ℕ) (b : ℕ) → HasNone got → EndsAtLf (got ++ b ∷ [])
+ends_one got b h = λ k lt e.
+    let within = at_end got b k lt in h.none k within (sym (get_or_append_left got (b ∷ []) 0 k within) ∙ e)
+
+pub none_more : (got : List ℕ) (b : ℕ) → HasNone got → b ≢ 10 → HasNone (got ++ b ∷ [])
+none_more got b h other = record { none = λ k lt e. split k lt e (cases_lt k (length got)) }
+  where
+    split : (k : ℕ) → k < length (got ++ b ∷ []) → get_or (got ++ b ∷ []) k 0 ≡ 10 → (k < length got) ⊎ (length got ≤ k) → ⊥
+    split k lt e (inl within) = h.none k within (sym (get_or_append_left got (b ∷ []) 0 k within) ∙ e)
+    split k lt e (inr le) =
+        let here : k ≡ length got + 0 = omega (arith, length-append got (b ∷ [])) in
+        other (sym (ap (λ (j : ℕ). get_or (got ++ b ∷ []) j 0) here ∙ get_or-append-add got (b ∷ []) 0 0) ∙ e)
+
+pub received_one : (a b c : Talk) (got xs : List ℕ) (n : ℕ) → b ≡ with_received a got → c ≡ with_received b (take n xs) → length xs ≡ 1 → n ≤ 1 → 0 < n
+    → c ≡ with_received a (got ++ get_or xs 0 0 ∷ [])
+received_one a b c got xs n p q long le lt =
+    q ∙ (ap (λ (t : Talk). with_received t (take n xs)) p ∙ (received_more a got (take n xs) ∙ ap (λ (x : List ℕ). with_received a (got ++ x)) (one_taken xs n long le lt)))
+
+pub received_end : (a b c : Talk) (got xs : List ℕ) (n : ℕ) → b ≡ with_received a got → c ≡ with_received b (take n xs) → n ≡ 0 → c ≡ with_received a got
+received_end a b c got xs n p q is =
+    q ∙ (ap (λ (k : ℕ). with_received b (take k xs)) is ∙ (sym (received_nothing b) ∙ p))
+
+pub hears_said : (old new : Talk) (got done failed : List ℕ) (what : Heard) → new ≡ with_received old got → IsAnswer got done → IsSaid got done failed what
+    → Hears old new done failed what
+hears_said old new got done failed heard.Done e answer is = e ∙ ap (with_received old) is
+hears_said old new got done failed heard.Failed e answer is = e ∙ ap (with_received old) is
+hears_said old new got done failed heard.Broken e answer is = (got, answer, inr (e, is.0, is.1))
+
+-- a connection closed after what is no answer
+pub settles_closed : (a b c : Talk) (done failed : List ℕ) → Hears a b done failed heard.Broken → c ≡ closed b
+    → (got : List ℕ) × IsAnswer got done × ((c ≡ closed (with_failure (with_received a got))) ⊎ ((c ≡ closed (with_received a got)) × (got ≢ done) × (got ≢ failed)))
+settles_closed a b c done failed h e = (h.0, h.1, split h.2)
+  where
+    split : (b ≡ with_failure (with_received a h.0)) ⊎ ((b ≡ with_received a h.0) × (h.0 ≢ done) × (h.0 ≢ failed))
+        → (c ≡ closed (with_failure (with_received a h.0))) ⊎ ((c ≡ closed (with_received a h.0)) × (h.0 ≢ done) × (h.0 ≢ failed))
+    split (inl is) = inl (e ∙ ap closed is)
+    split (inr is) = inr (e ∙ ap closed is.0, is.1, is.2)
+
+-- A request and its answer
+
+nothing_heard : (done : List ℕ) → IsAnswer [] done
+nothing_heard done = record { short = omega arith; one = λ k lt. absurd (omega arith) }
+
+pub answers_from : (a b c : Talk) (request done failed : List ℕ) (s : Result Unit ChannelFault) (r : Result Unit SinkFault) → Requests a b request s
+    → Concludes b c done failed s r → Answers a c request done failed r
+answers_from a b c request done failed (Ok u) (Ok v) p q = q ∙ ap (λ (t : Talk). with_received t done) p
+answers_from a b c request done failed (Ok u) (Err e) p q = split q
+  where
+    split : (c ≡ with_received b failed)
+        ⊎ ((got : List ℕ) × IsAnswer got done × ((c ≡ closed (with_failure (with_received b got))) ⊎ ((c ≡ closed (with_received b got)) × (got ≢ done) × (got ≢ failed))))
+        → Answers a c request done failed (Err e)
+    split (inl is) = inl (is ∙ ap (λ (t : Talk). with_received t failed) p)
+    split (inr (got, answer, inl is)) =
+        let whole : c ≡ closed (with_failure (with_received (with_sent (opened a) request) got)) = is ∙ ap (λ (t : Talk). closed (with_failure (with_received t got))) p in
+        inr (record {
+          front = request;
+          got = got;
+          is_front = ([], sym (append-nil request));
+          sent = ap (λ (t : Talk). t.sent) whole;
+          received = ap (λ (t : Talk). t.received) whole;
+          answer = answer;
+          unconnected = ap (λ (t : Talk). t.connected) whole;
+          failure = inl (inl (let more : c.failures ≡ a.failures + 1 = ap (λ (t : Talk). t.failures) whole in omega arith));
+        })
+    split (inr (got, answer, inr is)) =
+        let whole : c ≡ closed (with_received (with_sent (opened a) request) got) = is.0 ∙ ap (λ (t : Talk). closed (with_received t got)) p in
+        inr (record {
+          front = request;
+          got = got;
+          is_front = ([], sym (append-nil request));
+          sent = ap (λ (t : Talk). t.sent) whole;
+          received = ap (λ (t : Talk). t.received) whole;
+          answer = answer;
+          unconnected = ap (λ (t : Talk). t.connected) whole;
+          failure = inr (is.1, is.2);
+        })
+answers_from a b c request done failed (Err f) (Ok v) p q = absurd q
+answers_from a b c request done failed (Err f) (Err e) p q = inr (record {
+  front = p.front;
+  got = [];
+  is_front = p.is_front;
+  sent = ap (λ (t : Talk). t.sent) q ∙ p.sent;
+  received = ap (λ (t : Talk). t.received) q ∙ (p.received ∙ known_nothing a.received);
+  answer = nothing_heard done;
+  unconnected = ap (λ (t : Talk). t.connected) q;
+  failure = inl (split p.failed);
+})
+  where
+    split : HasFailed a b → HasFailed a c
+    split (inl lt) = inl (let same : c.failures ≡ b.failures = ap (λ (t : Talk). t.failures) q in omega arith)
+    split (inr lt) = inr (let same : c.strays ≡ b.strays = ap (λ (t : Talk). t.strays) q in omega arith)

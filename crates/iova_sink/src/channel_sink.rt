@@ -1,0 +1,170 @@
+//! A sink over a channel: a peer invalidates, and answers.
+ghost use Rattle.std.specs.Prelude.{◌≡◌, ◌≤◌, [], is_ok, length, codes};
+ghost use Rattle.iova_sink.specs.Calls.{with_call};
+ghost use Rattle.iova_sink.specs.Channels.{Answers, Requests, SendsAll};
+ghost use Rattle.iova_sink.specs.Records.{inval_line, reset_line, gone_line, span_line, spans_text, gone_text, done_line, fail_line};
+
+use crate::asking::{conclude, ready, send_all, tell};
+use crate::calls::Calls;
+use crate::channel::{Channel, ChannelFault};
+use crate::record::{MAX_RECORD, put, put_digits, put_number, record_of};
+use crate::sink::{Sink, SinkFault};
+use arrayvec::ArrayVec;
+use std::marker::Model;
+
+/// Frames in a row.
+#[derive(Clone, Copy, PartialEq, Eq, Debug)]
+pub struct Span {
+    /// The first frame.
+    pub lo: u64,
+    /// How many frames.
+    pub len: u64,
+}
+
+/// A sink over a channel. It sends a request for each call, one at a time, and takes the answer: `done` or `fail`, the request's
+/// word and its number, and a line feed. Any other bytes, the end of the stream and a failure of the channel, a time-out too,
+/// close the connection, and the next call connects anew. Own.
+#[derive(Drop)]
+pub struct ChannelSink<C: Channel> {
+    channel: C,
+    calls: Calls,
+}
+
+impl<C: Channel> Model for ChannelSink<C> {
+    ghost use Rattle.iova_sink.specs.Channels.{Asking};
+
+    ghost Value = { Asking C };
+
+    ghost view = { λ s. record { channel = s.channel; calls = s.calls } };
+}
+
+impl<C: Channel> ChannelSink<C> {
+    /// A sink over this channel that was never called.
+    pub fn new(channel: C) -> ChannelSink<C>
+        ensures { result ≡ record { channel = channel; calls = [] } }
+    {
+        ChannelSink {
+            channel,
+            calls: Calls::new(),
+        }
+    }
+
+    /// The channel.
+    pub fn channel(&self) -> &C
+        ensures { result.now ≡ self.now.channel }
+    {
+        &self.channel
+    }
+
+    /// Tells the peer that nothing of the domain is mapped. Good exactly where it answers `done reset <domain>`.
+    pub fn reset(&mut self, domain: u64) -> Result<(), SinkFault>
+        ensures answers { Answers (C.talk self.old.channel) (C.talk self.new.channel) (reset_line domain)
+            (done_line (codes "reset") domain) (fail_line (codes "reset") domain) result }
+        ensures calls { self.new.calls ≡ self.old.calls }
+    {
+        let mut line = ArrayVec::new();
+        put(&mut line, b"reset");
+        put_number(&mut line, domain);
+        put(&mut line, b"\n");
+        tell(&mut self.channel, line.as_slice(), b"reset", domain)
+    }
+
+    /// Tells the peer that a client of the domain is gone, which had these ranges. Good exactly where it answers
+    /// `done gone <client>`. It takes no memory: the request goes out a line at a time.
+    pub fn gone(&mut self, domain: u64, client: u64, spans: &[Span]) -> Result<(), SinkFault>
+        ensures answers { Answers (C.talk self.old.channel) (C.talk self.new.channel) (gone_text domain client spans.now)
+            (done_line (codes "gone") client) (fail_line (codes "gone") client) result }
+        ensures calls { self.new.calls ≡ self.old.calls }
+    {
+        let sent = begin_gone(&mut self.channel, domain, client, spans);
+        conclude(&mut self.channel, sent, b"gone", client)
+    }
+}
+
+impl<C: Channel> Sink for ChannelSink<C> {
+    ghost calls = { λ s. s.calls };
+
+    /// Sends the record of the invalidation. Good exactly where the peer answers `done inval <number>`.
+    fn invalidate(&mut self, domain: u64, no: u64) -> Result<(), SinkFault>
+        ensures calls { self.new.calls ≡ with_call self.old.calls domain no (is_ok result) }
+        ensures answers { Answers (C.talk self.old.channel) (C.talk self.new.channel) (inval_line domain no)
+            (done_line (codes "inval") no) (fail_line (codes "inval") no) result }
+    {
+        let line = record_of(false, domain, no);
+        let told = tell(&mut self.channel, line.as_slice(), b"inval", no);
+        self.calls.add(domain, no, told.is_ok());
+        told
+    }
+}
+
+/// Makes a connection ready, and sends that the client is gone.
+fn begin_gone<C: Channel>(
+    channel: &mut C,
+    domain: u64,
+    client: u64,
+    spans: &[Span],
+) -> Result<(), ChannelFault>
+    ensures { Requests (C.talk channel.old) (C.talk channel.new) (gone_text domain client spans.now) result }
+{
+    match ready(channel) {
+        Ok(()) => send_gone(channel, domain, client, spans),
+        Err(fault) => Err(fault),
+    }
+}
+
+/// Sends the line of a client that is gone, and those of its ranges.
+fn send_gone<C: Channel>(
+    channel: &mut C,
+    domain: u64,
+    client: u64,
+    spans: &[Span],
+) -> Result<(), ChannelFault>
+    ensures { SendsAll (C.talk channel.old) (C.talk channel.new) (gone_text domain client spans.now) result }
+{
+    let line = gone_of(domain, client, spans.len());
+    match send_all(channel, line.as_slice()) {
+        Ok(()) => send_spans(channel, spans),
+        Err(fault) => Err(fault),
+    }
+}
+
+/// The line of a client that is gone.
+fn gone_of(domain: u64, client: u64, count: usize) -> ArrayVec<u8, MAX_RECORD>
+    ensures { result.items ≡ gone_line domain client count }
+{
+    let mut line = ArrayVec::new();
+    put(&mut line, b"gone");
+    put_number(&mut line, domain);
+    put_number(&mut line, client);
+    put_number(&mut line, count as u64);
+    put(&mut line, b"\n");
+    line
+}
+
+/// Sends a line for each range.
+fn send_spans<C: Channel>(channel: &mut C, spans: &[Span]) -> Result<(), ChannelFault>
+    ensures { SendsAll (C.talk channel.old) (C.talk channel.new) (spans_text spans.now) result }
+{
+    for span in spans {
+        let line = span_of(*span);
+        match send_all(channel, line.as_slice()) {
+            Ok(()) => {}
+            Err(fault) => return Err(fault),
+        }
+    }
+    Ok(())
+}
+
+/// The line of a range.
+fn span_of(span: Span) -> ArrayVec<u8, MAX_RECORD>
+    ensures { result.items ≡ span_line span }
+{
+    let mut line = ArrayVec::new();
+    put_digits(&mut line, span.lo);
+    put_number(&mut line, span.len);
+    put(&mut line, b"\n");
+    line
+}
+
+#[cfg(test)]
+mod tests;
