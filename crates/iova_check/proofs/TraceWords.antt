@@ -1,12 +1,12 @@
 -- The last words of a line, cut off at its blanks.
 use Rattle.std.proofs.Common.{ℕ, zero, suc, ◌≡◌, ◌∙◌, ◌+◌, ◌-◌, ◌<◌, ◌≤◌, ◌==◌, inl, inr, true, false, List, [], ◌∷◌, ◌++◌, length, take, drop, get_or, refl, sym, ap, arith, append_assoc, length-append, length-drop, length-take, Option}
-use Rattle.std.specs.Prelude.{if◌then◌else◌}
+use Rattle.std.specs.Prelude.{nat_lt, if◌then◌else◌}
 use Rattle.std.proofs.Math.Seq.{drop-append_seam}
-use Rattle.std.proofs.lemmas.Bool.{cond-true, cond-false, cases_Bool, eqb-true, false_from_ne_true}
+use Rattle.std.proofs.lemmas.Bool.{cond-true, cond-false, cases_Bool, eqb-true, false_from_ne_true, ltb-true}
 use Rattle.std.proofs.lemmas.List.{take_more, get_or-drop, get_or-take}
 use Rattle.iova_text.proofs.Cuts.{cut_at}
 use Rattle.iova_check.specs.declared.event.Event.TheVariants as event
-use Rattle.iova_check.specs.Trace.{word_at_front, spaced, last_seven, said_by}
+use Rattle.iova_check.specs.Trace.{word_at_front, spaced, last_seven, said_by, event_said}
 
 -- no byte of them is a blank
 abbrev IsOneWord : List ℕ → Type 0
@@ -91,3 +91,9 @@ pub too_few : (domain : Option ℕ) (ws : List (List ℕ)) → length ws < 7 →
 too_few domain ws lt =
     let none : length ws - 7 ≡ 0 = omega arith in
     ap (λ (k : ℕ). said_by domain (drop k ws)) none ∙ few domain ws lt
+
+-- nothing is read of a long line
+pub long_says : (domain : Option ℕ) (line : List ℕ) → 1024 ≤ length line → event_said domain line ≡ event.Other
+long_says domain line long =
+    cond-false (nat_lt (length line) 1024) (said_by domain (last_seven (spaced line))) event.Other
+    (false_from_ne_true (nat_lt (length line) 1024) (λ is. let lt : length line < 1024 = ltb-true (length line) 1024 is in absurd (omega arith)))

@@ -1,19 +1,59 @@
 -- What a check keeps between two reads.
-use Rattle.std.specs.Prelude.{ℕ, ◌≡◌, List, [], ◌++◌, Option, Some, None, Result, Ok, Err}
+use Rattle.std.specs.Prelude.{ℕ, ◌≡◌, ◌⊎◌, ◌≤◌, Bool, true, false, length, List, [], ◌∷◌, ◌++◌, Option, Some, None, Result, Ok, Err}
 use Rattle.iova_check.specs.declared.allowed.Asked.{Asked}
 use Rattle.iova_check.specs.declared.checker.Checker.{Checker}
 use Rattle.iova_check.specs.declared.fault.CheckFault.{CheckFault}
 use Rattle.iova_check.specs.declared.fault.CheckFault.TheVariants as fault
 use Rattle.iova_check.specs.declared.run.Progress.{Progress}
-use Rattle.iova_check.specs.Logs.{Log, BeginsWithLines}
+use Rattle.iova_check.specs.declared.source.Form.{Form}
+use Rattle.iova_check.specs.declared.source.Form.TheVariants as form
+use Rattle.iova_check.specs.declared.source.Source.{Source}
+use Rattle.iova_check.specs.declared.trace.TheConstants.{MAX_TRACE_LINE}
+use Rattle.iova_range.specs.declared.limits.TheConstants.{WIDE_TOP}
+use Rattle.iova_text.specs.Lines.{HasNoLf, IsUnended}
+use Rattle.iova_check.specs.Bounds.{bounds_asked}
+use Rattle.iova_check.specs.Checking.{HasChecked}
+use Rattle.iova_check.specs.Logs.{Lines, BeginsWithLines}
 use Rattle.iova_check.specs.Runs.{IsChecked, IsDone, StopsAtBad, StopsAtCut, BreaksOff}
 
--- What was taken is good lines and the kept part of one. What was written and the kept findings are the text of what was told of them.
-pub record Stands (asked : Asked) (taken written : List ℕ) (p : Progress) : Type 0 where
-  pub lines : Option Log
+-- the front of a line is kept: all of it, or as much as the longest line has of which something is read
+pub record IsFront (kept line : List ℕ) : Type 0 where
+  pub dropped : List ℕ
+  pub whole : line ≡ kept ++ dropped
+  pub one : HasNoLf line
+  pub all_or_long : (dropped ≡ []) ⊎ (MAX_TRACE_LINE ≤ length kept)
+
+-- this is kept of a line
+abbrev pub IsKeptOf : Form → List ℕ → List ℕ → Type 0
+IsKeptOf form.Log kept line = line ≡ kept
+IsKeptOf (form.Trace domain) kept line = IsFront kept line
+
+-- this is kept of what has come of a line
+abbrev pub IsRestOf : Form → List ℕ → List ℕ → Type 0
+IsRestOf form.Log kept rest = (rest ≡ kept) × IsUnended kept
+IsRestOf (form.Trace domain) kept rest = IsFront kept rest
+
+-- a trace has no header
+abbrev pub IsOpen : Form → Option Checker → Type 0
+IsOpen form.Log checker = Unit {0}
+IsOpen (form.Trace domain) None = ⊥
+IsOpen (form.Trace domain) (Some c) = Unit {0}
+
+-- what is known before the first line
+abbrev pub IsBegun : Form → Asked → Option Checker → Type 0
+IsBegun form.Log asked checker = checker ≡ None
+IsBegun (form.Trace domain) asked None = ⊥
+IsBegun (form.Trace domain) asked (Some c) = HasChecked (bounds_asked asked 0 WIDE_TOP) [] c []
+
+-- What was taken is good lines and the front of one. What was written and the kept findings are the text of what was told of them.
+pub record Stands (source : Source) (taken written : List ℕ) (p : Progress) : Type 0 where
+  pub lines : Option Lines
   pub text : List ℕ
-  pub begins : BeginsWithLines taken lines p.line.items
-  pub checked : IsChecked asked lines p.checker text
+  pub rest : List ℕ
+  pub begins : BeginsWithLines source taken lines rest
+  pub kept : IsRestOf source.form p.line.items rest
+  pub opened : IsOpen source.form p.checker
+  pub checked : IsChecked lines p.checker text
   pub gathered : text ≡ written ++ p.findings.items
 
 -- the number of the line that comes next
@@ -22,32 +62,38 @@ number_at None = 1
 number_at (Some c) = c.tracker.line
 
 -- from wherever it stood, it takes these bytes and writes these
-abbrev pub Goes : Asked → Progress → List ℕ → List ℕ → Progress → Type 0
-Goes asked old bytes more new = (taken written : List ℕ) → Stands asked taken written old → Stands asked (taken ++ bytes) (written ++ more) new
+abbrev pub Goes : Source → Progress → List ℕ → List ℕ → Progress → Type 0
+Goes source old bytes more new = (taken written : List ℕ) → Stands source taken written old → Stands source (taken ++ bytes) (written ++ more) new
 
 -- what a fault says of all bytes taken and written, but for those of reading
-abbrev pub EndsCheck : Asked → List ℕ → List ℕ → CheckFault → Type 0
-EndsCheck asked taken written (fault.BadLog number) = StopsAtBad asked taken written number
-EndsCheck asked taken written fault.NoMemory = BreaksOff asked taken written
-EndsCheck asked taken written fault.ReadFault = ⊥
-EndsCheck asked taken written fault.WriteFault = BreaksOff asked taken written
+abbrev pub EndsCheck : Source → List ℕ → List ℕ → CheckFault → Type 0
+EndsCheck source taken written (fault.BadLog number) = StopsAtBad source taken written number
+EndsCheck source taken written fault.NoMemory = BreaksOff source taken written
+EndsCheck source taken written fault.ReadFault = ⊥
+EndsCheck source taken written fault.WriteFault = BreaksOff source taken written
 
 -- from wherever it stood, it ends with this fault among these bytes, after writing these
-abbrev pub Stops : Asked → Progress → List ℕ → List ℕ → CheckFault → Type 0
-Stops asked old bytes more e = (taken written : List ℕ) → Stands asked taken written old → EndsCheck asked (taken ++ bytes) (written ++ more) e
+abbrev pub Stops : Source → Progress → List ℕ → List ℕ → CheckFault → Type 0
+Stops source old bytes more e = (taken written : List ℕ) → Stands source taken written old → EndsCheck source (taken ++ bytes) (written ++ more) e
 
 -- these bytes are taken and these written
-abbrev pub Outcome : Asked → Progress → List ℕ → List ℕ → Progress → Result Unit CheckFault → Type 0
-Outcome asked old bytes more new (Ok u) = Goes asked old bytes more new
-Outcome asked old bytes more new (Err e) = Stops asked old bytes more e
+abbrev pub Outcome : Source → Progress → List ℕ → List ℕ → Progress → Result Unit CheckFault → Type 0
+Outcome source old bytes more new (Ok u) = Goes source old bytes more new
+Outcome source old bytes more new (Err e) = Stops source old bytes more e
 
 -- These bytes are taken and nothing is written: it goes on, or it ends once the kept findings are written.
-abbrev pub TakesBytes : Asked → Progress → List ℕ → Progress → Result Unit CheckFault → Type 0
-TakesBytes asked old bytes new (Ok u) = Goes asked old bytes [] new
-TakesBytes asked old bytes new (Err e) = Stops asked old bytes old.findings.items e × (new.findings.items ≡ old.findings.items)
+abbrev pub TakesBytes : Source → Progress → List ℕ → Progress → Result Unit CheckFault → Type 0
+TakesBytes source old bytes new (Ok u) = Goes source old bytes [] new
+TakesBytes source old bytes new (Err e) = Stops source old bytes old.findings.items e × (new.findings.items ≡ old.findings.items)
 
 -- what the end of the input says
-abbrev pub Closes : Asked → List ℕ → List ℕ → Result Checker CheckFault → Type 0
-Closes asked taken written (Ok done) = IsDone asked taken written done
-Closes asked taken written (Err (fault.BadLog number)) = StopsAtCut asked taken written number
-Closes asked taken written (Err e) = ⊥
+abbrev pub Closes : Source → List ℕ → List ℕ → Result Checker CheckFault → Type 0
+Closes source taken written (Ok done) = IsDone source taken written done
+Closes source taken written (Err (fault.BadLog number)) = StopsAtCut source taken written number
+Closes source taken written (Err e) = ⊥
+
+-- something of a trace's last line has come, and no LF
+abbrev pub is_last : Form → List ℕ → Bool
+is_last form.Log kept = false
+is_last (form.Trace domain) [] = false
+is_last (form.Trace domain) (b ∷ kept) = true

@@ -1,84 +1,110 @@
 -- What a check tells: of the bytes that it took, what it wrote, and what it answers. Own.
-use Rattle.std.specs.Prelude.{ℕ, ◌≡◌, ◌⊎◌, Bool, nat_lt, List, [], ◌++◌, take, Option, Some, None, Result, Ok, Err}
+use Rattle.std.specs.Prelude.{ℕ, ◌≡◌, ◌≢◌, ◌⊎◌, Bool, nat_lt, List, [], ◌++◌, take, Option, Some, None, Result, Ok, Err}
 use Rattle.std.specs.Io.KnownBytes.{Consumes, Appends, IsAtEnd}
-use Rattle.iova_text.specs.Lines.{IsUnended}
-use Rattle.iova_check.specs.declared.allowed.Asked.{Asked}
+use Rattle.iova_text.specs.Lines.{HasNoLf, whole_line, IsUnended}
+use Rattle.iova_check.specs.declared.source.Form.{Form}
+use Rattle.iova_check.specs.declared.source.Form.TheVariants as form
+use Rattle.iova_check.specs.declared.source.Source.{Source}
 use Rattle.iova_check.specs.declared.checker.Checker.{Checker}
 use Rattle.iova_check.specs.declared.fault.CheckFault.{CheckFault}
 use Rattle.iova_check.specs.declared.fault.CheckFault.TheVariants as fault
-use Rattle.iova_check.specs.Logs.{Log, IsLog, bounds_of, lines_of, log_text, next_line_number, BeginsWithLines, IsBad, IsCutOff}
+use Rattle.iova_check.specs.Logs.{Lines, AreLines, IsOfLog, next_line_number, BeginsWithLines, IsBad, IsCutOff}
 use Rattle.iova_check.specs.Checking.{HasChecked}
 use Rattle.iova_check.specs.Summary.{summary_text}
 
--- lines were checked: once there is a header, this is known of them, and this is the text of what was told of them
-abbrev pub IsChecked : Asked → Option Log → Option Checker → List ℕ → Type 0
-IsChecked asked None None text = text ≡ []
-IsChecked asked None (Some c) text = ⊥
-IsChecked asked (Some l) None text = ⊥
-IsChecked asked (Some l) (Some c) text = HasChecked (bounds_of asked l) (lines_of l) c text
+-- lines were checked: this is known of them, nothing before the header of a log, and this is the text of what was told of them
+abbrev pub IsChecked : Option Lines → Option Checker → List ℕ → Type 0
+IsChecked None None text = text ≡ []
+IsChecked None (Some c) text = ⊥
+IsChecked (Some l) None text = ⊥
+IsChecked (Some l) (Some c) text = HasChecked l.bounds l.past c text
 
--- all that was taken is a log, what was told of each line is written, and this is known of it
-pub record IsDone (asked : Asked) (taken written : List ℕ) (c : Checker) : Type 0 where
-  pub log : Log
-  pub good : IsLog log
-  pub whole : taken ≡ log_text log
-  pub checked : HasChecked (bounds_of asked log) (lines_of log) c written
+-- all that was taken are whole lines, what was told of each line is written, and this is known of it
+pub record IsDone (source : Source) (taken written : List ℕ) (c : Checker) : Type 0 where
+  pub lines : Lines
+  pub good : AreLines source lines
+  pub whole : taken ≡ lines.text
+  pub checked : HasChecked lines.bounds lines.past c written
 
--- what was told of the good lines is written, and the line after them, of this number, is bad
-pub record StopsAtBad (asked : Asked) (taken written : List ℕ) (number : ℕ) : Type 0 where
-  pub lines : Option Log
+-- what has come of a line that has not ended: in a log it is shorter than the longest line
+abbrev pub IsUnendedIn : Form → List ℕ → Type 0
+IsUnendedIn form.Log rest = IsUnended rest
+IsUnendedIn (form.Trace domain) rest = HasNoLf rest
+
+-- what was told of the good lines of a log is written, and the line after them, of this number, is bad
+pub record StopsAtBad (source : Source) (taken written : List ℕ) (number : ℕ) : Type 0 where
+  pub lines : Option Lines
   pub rest : List ℕ
   pub checker : Option Checker
-  pub begins : BeginsWithLines taken lines rest
-  pub checked : IsChecked asked lines checker written
+  pub begins : BeginsWithLines source taken lines rest
+  pub checked : IsChecked lines checker written
   pub number_is : number ≡ next_line_number lines
+  pub of_log : IsOfLog source.form
   pub bad : IsBad lines rest
 
 -- the same where the input ends in the line
-pub record StopsAtCut (asked : Asked) (taken written : List ℕ) (number : ℕ) : Type 0 where
-  pub lines : Option Log
+pub record StopsAtCut (source : Source) (taken written : List ℕ) (number : ℕ) : Type 0 where
+  pub lines : Option Lines
   pub rest : List ℕ
   pub checker : Option Checker
-  pub begins : BeginsWithLines taken lines rest
-  pub checked : IsChecked asked lines checker written
+  pub begins : BeginsWithLines source taken lines rest
+  pub checked : IsChecked lines checker written
   pub number_is : number ≡ next_line_number lines
+  pub of_log : IsOfLog source.form
   pub cut : IsCutOff lines rest
 
 -- what was told of all whole lines is written, and no bad line has been taken
-pub record StopsInLine (asked : Asked) (taken written : List ℕ) : Type 0 where
-  pub lines : Option Log
+pub record StopsInLine (source : Source) (taken written : List ℕ) : Type 0 where
+  pub lines : Option Lines
   pub rest : List ℕ
   pub checker : Option Checker
-  pub begins : BeginsWithLines taken lines rest
-  pub checked : IsChecked asked lines checker written
-  pub unended : IsUnended rest
+  pub begins : BeginsWithLines source taken lines rest
+  pub checked : IsChecked lines checker written
+  pub unended : IsUnendedIn source.form rest
 
 -- of what was told of good lines the first bytes are written
-pub record BreaksOff (asked : Asked) (taken written : List ℕ) : Type 0 where
-  pub lines : Option Log
+pub record BreaksOff (source : Source) (taken written : List ℕ) : Type 0 where
+  pub lines : Option Lines
   pub rest : List ℕ
   pub checker : Option Checker
   pub text : List ℕ
-  pub begins : BeginsWithLines taken lines rest
-  pub checked : IsChecked asked lines checker text
+  pub begins : BeginsWithLines source taken lines rest
+  pub checked : IsChecked lines checker text
   pub unwritten : List ℕ
   pub begun : text ≡ written ++ unwritten
 
 -- what each answer says, where `left` is what the reader has left
-abbrev pub TellsOfCheck : Asked → List ℕ → List ℕ → Option (List ℕ) → Result Checker CheckFault → Type 0
-TellsOfCheck asked taken written left (Ok done) = IsDone asked taken written done × IsAtEnd left
-TellsOfCheck asked taken written left (Err (fault.BadLog number)) = StopsAtBad asked taken written number ⊎ (StopsAtCut asked taken written number × IsAtEnd left)
-TellsOfCheck asked taken written left (Err fault.NoMemory) = BreaksOff asked taken written
-TellsOfCheck asked taken written left (Err fault.ReadFault) = StopsInLine asked taken written
-TellsOfCheck asked taken written left (Err fault.WriteFault) = BreaksOff asked taken written
+abbrev pub TellsOfCheck : Source → List ℕ → List ℕ → Option (List ℕ) → Result Checker CheckFault → Type 0
+TellsOfCheck source taken written left (Ok done) = IsDone source taken written done × IsAtEnd left
+TellsOfCheck source taken written left (Err (fault.BadLog number)) = StopsAtBad source taken written number ⊎ (StopsAtCut source taken written number × IsAtEnd left)
+TellsOfCheck source taken written left (Err fault.NoMemory) = BreaksOff source taken written
+TellsOfCheck source taken written left (Err fault.ReadFault) = StopsInLine source taken written
+TellsOfCheck source taken written left (Err fault.WriteFault) = BreaksOff source taken written
+
+-- the input ends in a line of a trace without its LF, which is read as if it had one
+pub record EndsInLine (taken : List ℕ) (left : Option (List ℕ)) (read : List ℕ) : Type 0 where
+  pub before : List ℕ
+  pub line : List ℕ
+  pub whole : taken ≡ before ++ line
+  pub one : HasNoLf line
+  pub some : line ≢ []
+  pub ended : read ≡ before ++ whole_line line
+  pub end : IsAtEnd left
+
+-- the bytes that were taken are read so
+abbrev pub AreRead : Form → List ℕ → Option (List ℕ) → List ℕ → Type 0
+AreRead form.Log taken left read = read ≡ taken
+AreRead (form.Trace domain) taken left read = (read ≡ taken) ⊎ EndsInLine taken left read
 
 -- A reader and a writer before and after, where they tell their bytes: some were taken from the one and some written to the other.
-pub record Checks (asked : Asked) (input left output filled : Option (List ℕ)) (answer : Result Checker CheckFault) : Type 0 where
+pub record Checks (source : Source) (input left output filled : Option (List ℕ)) (answer : Result Checker CheckFault) : Type 0 where
   pub taken : List ℕ
+  pub read : List ℕ
   pub written : List ℕ
   pub takes : Consumes input left taken
+  pub reads : AreRead source.form taken left read
   pub writes : Appends output filled written
-  pub tells : TellsOfCheck asked taken written left answer
+  pub tells : TellsOfCheck source read written left answer
 
 -- what a writer gets after the findings, and the answer: the counts, or their first bytes where a write fails; nothing after a check
 -- that fails
@@ -89,8 +115,8 @@ Counts told filled (Ok c) (Err e) = ⊥
 Counts told filled (Err e) answer = (filled ≡ told) × (answer ≡ Err e)
 
 -- A check, and then, where it succeeds, the counts of the log.
-pub record ChecksAndCounts (asked : Asked) (input left output filled : Option (List ℕ)) (answer : Result Bool CheckFault) : Type 0 where
+pub record ChecksAndCounts (source : Source) (input left output filled : Option (List ℕ)) (answer : Result Bool CheckFault) : Type 0 where
   pub told : Option (List ℕ)
   pub check : Result Checker CheckFault
-  pub checks : Checks asked input left output told check
+  pub checks : Checks source input left output told check
   pub counts : Counts told filled check answer

@@ -12,6 +12,7 @@ pub mod law;
 pub mod line;
 pub mod run;
 pub mod scan;
+pub mod source;
 pub mod stage;
 pub mod stages;
 pub mod summary;

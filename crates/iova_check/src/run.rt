@@ -1,8 +1,8 @@
 //! A log checked from a reader to a writer, one line after another.
-ghost use Rattle.std.specs.Prelude.{◌≡◌, ◌≤◌, ◌<◌, ℕ, [], take, length, IfOk, IfErr, OnOk, OnErr, IsErr};
+ghost use Rattle.std.specs.Prelude.{◌≡◌, ◌≤◌, ◌<◌, ℕ, [], ◌∷◌, Option, take, length, IfOk, IfErr, OnOk, OnErr, IsErr};
 ghost use Rattle.std.specs.Io.KnownBytes.{Appends, Consumes, Keeps, IsAtEnd};
-ghost use Rattle.iova_text.specs.Lines.{IsUnended};
-ghost use Rattle.iova_check.specs.declared.allowed.Asked.{Asked};
+ghost use Rattle.iova_check.specs.declared.source.Source.{Source};
+ghost use Rattle.iova_check.specs.Progress.{IsBegun, is_last};
 ghost use Rattle.iova_check.specs.Bounds.{bounds_asked};
 ghost use Rattle.iova_check.specs.Checking.{HasChecked};
 ghost use Rattle.iova_check.specs.Runs.{Checks, Counts, ChecksAndCounts};
@@ -11,10 +11,13 @@ use crate::allowed::{Allowed, Asked};
 use crate::checker::Checker;
 use crate::event::Event;
 use crate::fault::CheckFault;
-use crate::line::{Header, read_event, read_header};
+use crate::line::{read_event, read_header};
+use crate::source::{Form, Source};
 use crate::summary::summary;
-use iova_range::limits::MAX_LINE;
-use iova_text::buffer::LineBuffer;
+use crate::trace::{MAX_TRACE_LINE, read_trace_line, tells_lost};
+use arrayvec::ArrayVec;
+use iova_range::limits::{MAX_LINE, WIDE_TOP};
+use iova_text::buffer::{put, put_number};
 use iova_text::write::write_all;
 use memchr::memchr;
 use std::alloc::{AllocError, Global};
@@ -24,9 +27,12 @@ use std::io::{Read, Write};
 /// How many bytes are read, or gathered before they are written.
 const BUFFER: usize = 65_536;
 
+/// Room for a notice of the longest line, in bytes.
+const NOTICE: usize = 1_051;
+
 /// Checks a log under the bounds of its header, or those that are asked for in their place, and without the windows: reads its
-/// lines, and writes a line for each finding. It gives what is known after the last line. One line is kept
-/// at a time, and findings are written before each read, so that a peer that waits for them gets them.
+/// lines, and writes a line for each finding. It gives what is known after the last line. One line is kept at a time, and findings
+/// are written before each read, so that a peer that waits for them gets them.
 ///
 /// The answer is the fault of the earliest line. `BadLog` where a line is none of a log's, or where the input ends in a line
 /// without LF or has no line; the findings of the lines before it are written. `ReadFault` where a read fails, an interruption
@@ -38,15 +44,60 @@ pub fn check<R: Read, W: Write>(
     reader: &mut R,
     writer: &mut W,
 ) -> Result<Checker, CheckFault>
-    ensures { Checks asked.now (R.remaining reader.old) (R.remaining reader.new)
+    ensures { Checks (record { form = Form.Log; asked = asked.now }) (R.remaining reader.old) (R.remaining reader.new)
+        (W.contents writer.old) (W.contents writer.new) result }
+{
+    let source = Source {
+        form: Form::Log,
+        asked: *asked,
+    };
+    run(alloc, &source, reader, writer, &mut io::sink())
+}
+
+/// Checks a kernel's trace as a log is checked, under the bounds that are asked for, else from frame 0 to frame 2^40 - 1. Of its
+/// flushes of a domain those of `domain` count, or all. No line is refused: one that says nothing of frames or flushes is passed
+/// over, as is one of more than 1,024 bytes with its LF, and a last line needs no LF. A line that says that events were lost is
+/// told to `notices` with its number before the next one is taken; what fails there is passed over.
+///
+/// Refused as a log is, without `BadLog`. Our own.
+pub fn check_trace<R: Read, W: Write, N: Write>(
+    alloc: Global,
+    asked: &Asked<'_>,
+    domain: Option<u64>,
+    reader: &mut R,
+    writer: &mut W,
+    notices: &mut N,
+) -> Result<Checker, CheckFault>
+    ensures { Checks (record { form = Form.Trace domain; asked = asked.now }) (R.remaining reader.old) (R.remaining reader.new)
+        (W.contents writer.old) (W.contents writer.new) result }
+{
+    let source = Source {
+        form: Form::Trace(domain),
+        asked: *asked,
+    };
+    run(alloc, &source, reader, writer, notices)
+}
+
+/// Checks a text of either form.
+fn run<R: Read, W: Write, N: Write>(
+    alloc: Global,
+    source: &Source<'_>,
+    reader: &mut R,
+    writer: &mut W,
+    notices: &mut N,
+) -> Result<Checker, CheckFault>
+    ensures { Checks source.now (R.remaining reader.old) (R.remaining reader.new)
         (W.contents writer.old) (W.contents writer.new) result }
 {
     let mut input: Vec<u8> = vec![in alloc; 0u8; BUFFER]?;
-    let mut progress = Progress::new(alloc)?;
+    let mut progress = Progress::new(alloc, source)?;
     for _ in 0..u64::MAX {
         match read_some(reader, &mut input)? {
-            0 => return progress.finish(),
-            len => progress.check_piece(&input[..len], asked, writer)?,
+            0 => {
+                progress.end_line(source, writer, notices)?;
+                return progress.finish();
+            }
+            len => progress.check_piece(&input[..len], source, writer, notices)?,
         }
     }
     Err(CheckFault::ReadFault)
@@ -60,7 +111,7 @@ pub fn check_and_count<R: Read, W: Write>(
     reader: &mut R,
     writer: &mut W,
 ) -> Result<bool, CheckFault>
-    ensures { ChecksAndCounts asked.now (R.remaining reader.old) (R.remaining reader.new)
+    ensures { ChecksAndCounts (record { form = Form.Log; asked = asked.now }) (R.remaining reader.old) (R.remaining reader.new)
         (W.contents writer.old) (W.contents writer.new) result }
 {
     let checked = check(alloc, asked, reader, writer);
@@ -90,34 +141,36 @@ pub fn write_counts<W: Write>(
 #[derive(Drop)]
 struct Progress {
     alloc: Global,
-    /// What is known of the log, once its header has been read.
+    /// What is known of the lines: nothing before the header of a log.
     checker: Option<Checker>,
-    /// What has come of a line that has not ended.
-    line: LineBuffer,
+    /// What has come of a line that has not ended, and is kept of it.
+    line: ArrayVec<u8, MAX_TRACE_LINE>,
     /// Findings that have not been written.
     findings: Vec<u8>,
-    ghost unended: { IsUnended line.items },
 }
 
 impl Progress {
-    ghost use Rattle.std.specs.Prelude.{List};
+    ghost use Rattle.std.specs.Prelude.{List, false, true, ◌++◌};
     ghost use Rattle.iova_text.specs.Lines.{HasNoLf, whole_line};
-    ghost use Rattle.iova_check.specs.Progress.{Stands, number_at, TakesBytes, Outcome, Closes};
+    ghost use Rattle.iova_check.specs.Progress.{Stands, number_at, IsKeptOf, IsFront, Goes, TakesBytes, Outcome, Closes, is_last};
 
-    fn new(alloc: Global) -> Result<Self, CheckFault>
-        ensures ok { IfOk result (λ p. (asked : Asked) → Stands asked [] [] p) }
+    /// Nothing has been taken.
+    fn new(alloc: Global, source: &Source<'_>) -> Result<Self, CheckFault>
+        ensures ok { IfOk result (λ p. Stands source.now [] [] p) }
         ensures none { IfOk result (λ p. p.findings.items ≡ []) }
         ensures err { OnErr result (result ≡ Err CheckFault.NoMemory) }
     {
+        let findings = Vec::with_capacity(alloc, BUFFER)?;
+        let checker = first_checker(alloc, source)?;
         Ok(Progress {
             alloc,
-            checker: None,
-            line: LineBuffer::new(),
-            findings: Vec::with_capacity(alloc, BUFFER)?,
+            checker,
+            line: ArrayVec::new(),
+            findings,
         })
     }
 
-    /// The number of the line that comes next, the header being line 1.
+    /// The number of the line that comes next.
     fn number(&self) -> u64
         ensures { result ≡ number_at self.now.checker }
     {
@@ -127,41 +180,62 @@ impl Progress {
         }
     }
 
-    /// Takes the next bytes of the log, and writes the findings of the lines that they end.
-    fn check_piece<W: Write>(
+    /// Takes the next bytes, and writes the findings of the lines that they end.
+    fn check_piece<W: Write, N: Write>(
         &mut self,
         piece: &[u8],
-        asked: &Asked<'_>,
+        source: &Source<'_>,
         writer: &mut W,
+        notices: &mut N,
     ) -> Result<(), CheckFault>
         ensures outcome { (more : List ℕ) × Appends (W.contents writer.old) (W.contents writer.new) more
-            × Outcome asked.now self.old piece.now more self.new result }
+            × Outcome source.now self.old piece.now more self.new result }
         ensures written { OnOk result (self.new.findings.items ≡ []) }
     {
         let mut rest = piece;
         while let Some(end) = memchr(b'\n', rest) {
             let line = &rest[..end];
             rest = &rest[end + 1..];
-            self.tell_line(line, asked, writer)?;
+            self.tell_line(line, source, writer, notices)?;
         }
-        let kept = self.keep_part(rest);
+        let kept = self.keep_part(rest, source);
         self.write_findings(writer)?;
         kept
     }
 
+    /// Ends a trace's last line that has no LF.
+    fn end_line<W: Write, N: Write>(
+        &mut self,
+        source: &Source<'_>,
+        writer: &mut W,
+        notices: &mut N,
+    ) -> Result<(), CheckFault>
+        ensures other { is_last source.now.form self.old.line.items ≡ false
+            → (result ≡ Ok tt) × (self.new ≡ self.old) × (W.contents writer.new ≡ W.contents writer.old) }
+        ensures last { is_last source.now.form self.old.line.items ≡ true
+            → (more : List ℕ) × Appends (W.contents writer.old) (W.contents writer.new) more
+            × Outcome source.now self.old (10 ∷ []) more self.new result × OnOk result (self.new.findings.items ≡ []) }
+    {
+        if is_last(source.form, &self.line) {
+            return self.check_piece(b"\n", source, writer, notices);
+        }
+        Ok(())
+    }
+
     /// Takes the rest of a line, without its LF, and writes the findings where they are many. Where the line is
     /// refused, those of the lines before it are written first.
-    fn tell_line<W: Write>(
+    fn tell_line<W: Write, N: Write>(
         &mut self,
         end: &[u8],
-        asked: &Asked<'_>,
+        source: &Source<'_>,
         writer: &mut W,
+        notices: &mut N,
     ) -> Result<(), CheckFault>
         requires { HasNoLf end.now }
         ensures { (more : List ℕ) × Appends (W.contents writer.old) (W.contents writer.new) more
-            × Outcome asked.now self.old (whole_line end.now) more self.new result }
+            × Outcome source.now self.old (whole_line end.now) more self.new result }
     {
-        let ended = self.complete_line(end, asked);
+        let ended = self.complete_line(end, source, notices);
         if ended.is_err() || self.findings.len() > BUFFER - MAX_LINE {
             self.write_findings(writer)?;
         }
@@ -169,22 +243,42 @@ impl Progress {
     }
 
     /// Takes the rest of a line, without its LF.
-    fn complete_line(&mut self, end: &[u8], asked: &Asked<'_>) -> Result<(), CheckFault>
+    fn complete_line<N: Write>(
+        &mut self,
+        end: &[u8],
+        source: &Source<'_>,
+        notices: &mut N,
+    ) -> Result<(), CheckFault>
         requires { HasNoLf end.now }
-        ensures { TakesBytes asked.now self.old (whole_line end.now) self.new result }
+        ensures { TakesBytes source.now self.old (whole_line end.now) self.new result }
     {
         if self.line.is_empty() {
-            return self.run_line(end, asked);
+            return self.run_line(end, source, notices);
         }
-        self.keep_part(end)?;
+        self.keep_part(end, source)?;
         let line = std::mem::take(&mut self.line);
-        self.run_line(line.as_slice(), asked)
+        self.run_line(line.as_slice(), source, notices)
     }
 
-    /// Keeps what has come of a line. One of 128 bytes without an LF is refused.
-    fn keep_part(&mut self, bytes: &[u8]) -> Result<(), CheckFault>
+    /// Keeps what has come of a line.
+    fn keep_part(&mut self, bytes: &[u8], source: &Source<'_>) -> Result<(), CheckFault>
         requires { HasNoLf bytes.now }
-        ensures takes { (asked : Asked) → TakesBytes asked self.old bytes.now self.new result }
+        ensures takes { TakesBytes source.now self.old bytes.now self.new result }
+        ensures findings { self.new.findings.items ≡ self.old.findings.items }
+    {
+        match source.form {
+            Form::Log => self.keep_all(bytes),
+            Form::Trace(_) => {
+                self.keep_front(bytes);
+                Ok(())
+            }
+        }
+    }
+
+    /// Keeps what has come of a log's line. One of 128 bytes without an LF is refused.
+    fn keep_all(&mut self, bytes: &[u8]) -> Result<(), CheckFault>
+        requires { HasNoLf bytes.now }
+        ensures takes { (source : Source) → source.form ≡ Form.Log → TakesBytes source self.old bytes.now self.new result }
         ensures findings { self.new.findings.items ≡ self.old.findings.items }
     {
         if self.line.len() + bytes.len() >= MAX_LINE {
@@ -194,15 +288,45 @@ impl Progress {
         Ok(())
     }
 
-    /// Takes a whole line, the header first.
-    fn run_line(&mut self, line: &[u8], asked: &Asked<'_>) -> Result<(), CheckFault>
-        requires one { HasNoLf line.now }
+    /// Keeps as much of what has come of a trace's line as there is room for.
+    fn keep_front(&mut self, bytes: &[u8])
+        requires { HasNoLf bytes.now }
+        ensures goes { (source : Source) (domain : Option ℕ) → source.form ≡ Form.Trace domain
+            → Goes source self.old bytes.now [] self.new }
+        ensures findings { self.new.findings.items ≡ self.old.findings.items }
+    {
+        let room = MAX_TRACE_LINE - self.line.len();
+        put(&mut self.line, &bytes[..room.min(bytes.len())]);
+    }
+
+    /// Takes a whole line, of which this is kept.
+    fn run_line<N: Write>(
+        &mut self,
+        line: &[u8],
+        source: &Source<'_>,
+        notices: &mut N,
+    ) -> Result<(), CheckFault>
+        requires { self.old.line.items ≡ [] }
+        ensures takes { (whole : List ℕ) → HasNoLf whole → IsKeptOf source.now.form line.now whole
+            → TakesBytes source.now self.old (whole_line whole) self.new result }
+        ensures findings { OnErr result (self.new.findings.items ≡ self.old.findings.items) }
+    {
+        match source.form {
+            Form::Log => self.run_log_line(line, source),
+            Form::Trace(domain) => self.run_trace_line(line, domain, notices),
+        }
+    }
+
+    /// Takes a whole line of a log, the header first.
+    fn run_log_line(&mut self, line: &[u8], source: &Source<'_>) -> Result<(), CheckFault>
+        requires log { source.now.form ≡ Form.Log }
         requires fresh { self.old.line.items ≡ [] }
-        ensures { TakesBytes asked.now self.old (whole_line line.now) self.new result }
+        ensures takes { HasNoLf line.now → TakesBytes source.now self.old (whole_line line.now) self.new result }
+        ensures findings { OnErr result (self.new.findings.items ≡ self.old.findings.items) }
     {
         let number = self.number();
         let Some(checker) = &mut self.checker else {
-            return self.run_header(line, asked);
+            return self.run_header(line, source);
         };
         let Some(event) = read_event(line) else {
             return Err(CheckFault::BadLog(number));
@@ -213,16 +337,17 @@ impl Progress {
         }
     }
 
-    fn run_header(&mut self, line: &[u8], asked: &Asked<'_>) -> Result<(), CheckFault>
-        requires one { HasNoLf line.now }
+    fn run_header(&mut self, line: &[u8], source: &Source<'_>) -> Result<(), CheckFault>
+        requires log { source.now.form ≡ Form.Log }
         requires fresh { self.old.line.items ≡ [] }
         requires first { self.old.checker ≡ None }
-        ensures { TakesBytes asked.now self.old (whole_line line.now) self.new result }
+        ensures takes { HasNoLf line.now → TakesBytes source.now self.old (whole_line line.now) self.new result }
+        ensures findings { OnErr result (self.new.findings.items ≡ self.old.findings.items) }
     {
         let Some(header) = read_header(line) else {
             return Err(CheckFault::BadLog(1));
         };
-        let Ok(mut checker) = opened(self.alloc, asked, &header) else {
+        let Ok(mut checker) = opened(self.alloc, &source.asked, header.first, header.last) else {
             return Err(CheckFault::NoMemory);
         };
         match checker.check(Event::Other, &mut self.findings) {
@@ -231,6 +356,32 @@ impl Progress {
         }
         self.checker = Some(checker);
         Ok(())
+    }
+
+    /// Takes a whole line of a trace, of which this is kept, and tells notices where it says that events were lost.
+    fn run_trace_line<N: Write>(
+        &mut self,
+        line: &[u8],
+        domain: Option<u64>,
+        notices: &mut N,
+    ) -> Result<(), CheckFault>
+        requires { self.old.line.items ≡ [] }
+        ensures takes { (source : Source) (whole : List ℕ) → source.form ≡ Form.Trace domain → HasNoLf whole → IsFront line.now whole
+            → TakesBytes source self.old (whole_line whole) self.new result }
+        ensures findings { OnErr result (self.new.findings.items ≡ self.old.findings.items) }
+    {
+        // a trace has a checker from its beginning
+        let Some(checker) = &mut self.checker else {
+            return Ok(());
+        };
+        if tells_lost(line) {
+            notify(checker.tracker.line, line, notices);
+        }
+        let event = read_trace_line(domain, line);
+        match checker.check(event, &mut self.findings) {
+            Ok(()) => Ok(()),
+            Err(_) => Err(CheckFault::NoMemory),
+        }
     }
 
     /// Writes the findings that have been gathered.
@@ -249,10 +400,10 @@ impl Progress {
         Ok(())
     }
 
-    /// What the check comes to where the log ends here.
+    /// What the check comes to where the text ends here.
     fn finish(self) -> Result<Checker, CheckFault>
-        requires { self.findings.items ≡ [] }
-        ensures { (asked : Asked) (taken written : List ℕ) → Stands asked taken written self → Closes asked taken written result }
+        ensures { (source : Source) (taken written : List ℕ) → Stands source taken written self → self.findings.items ≡ []
+            → is_last source.form self.line.items ≡ false → Closes source taken written result }
     {
         let number = self.number();
         if !self.line.is_empty() {
@@ -271,14 +422,51 @@ impl Progress {
     }
 }
 
-/// A checker of no line under the bounds of this header, or those that are asked for in their place.
-fn opened(alloc: Global, asked: &Asked<'_>, header: &Header) -> Result<Checker, AllocError>
-    ensures { IfOk result (λ c. HasChecked (bounds_asked asked.now header.now.first header.now.last) [] c []) }
+/// Whether something of a trace's last line has come.
+fn is_last(form: Form, kept: &[u8]) -> bool
+    ensures { result ≡ is_last form kept.now }
 {
-    let first = asked.first.unwrap_or(header.first);
-    let last = asked.last.unwrap_or(header.last);
+    match form {
+        Form::Log => false,
+        Form::Trace(_) => !kept.is_empty(),
+    }
+}
+
+/// What is known before the first line: of a log nothing, since its header has the bounds. Refused by `NoMemory`.
+fn first_checker(alloc: Global, source: &Source<'_>) -> Result<Option<Checker>, CheckFault>
+    ensures ok { IfOk result (λ c. IsBegun source.now.form source.now.asked c) }
+    ensures err { OnErr result (result ≡ Err CheckFault.NoMemory) }
+{
+    match source.form {
+        Form::Log => Ok(None),
+        Form::Trace(_) => match opened(alloc, &source.asked, 0, WIDE_TOP) {
+            Ok(checker) => Ok(Some(checker)),
+            Err(_) => Err(CheckFault::NoMemory),
+        },
+    }
+}
+
+/// A checker of no line under these bounds, or those that are asked for in their place.
+fn opened(alloc: Global, asked: &Asked<'_>, first: u64, last: u64) -> Result<Checker, AllocError>
+    ensures { IfOk result (λ c. HasChecked (bounds_asked asked.now first last) [] c []) }
+{
+    let first = asked.first.unwrap_or(first);
+    let last = asked.last.unwrap_or(last);
     let allowed = Allowed::new(alloc, first, last, asked.windows)?;
     Ok(Checker::new(alloc, allowed))
+}
+
+/// Tells of this line, which is short. What fails is passed over: nobody is left to tell.
+fn notify<N: Write>(number: u64, line: &[u8], notices: &mut N)
+    requires { length line.now < MAX_TRACE_LINE }
+{
+    let mut text: ArrayVec<u8, NOTICE> = ArrayVec::new();
+    put(&mut text, b"line ");
+    put_number(&mut text, number);
+    put(&mut text, b": ");
+    put(&mut text, line);
+    put(&mut text, b"\n");
+    let _told = write_all(notices, text.as_slice());
 }
 
 /// Reads once, and gives how many bytes came, none only at the end. Any error is a fault, an interruption too.

@@ -1,5 +1,5 @@
 //! The lines of a kernel's trace, read.
-ghost use Rattle.std.specs.Prelude.{◌≡◌, ℕ, ◌+◌, ◌<◌, ◌≤◌, List, [], ◌∷◌, ◌++◌, Some, None, IfSome, IfNone, length, codes};
+ghost use Rattle.std.specs.Prelude.{◌≡◌, ℕ, ◌+◌, ◌<◌, ◌≤◌, List, [], ◌∷◌, ◌++◌, Some, None, IfSome, IfNone, IsTrue, length, codes};
 ghost use Rattle.iova_check.specs.History.{IsRange, IsInReach};
 ghost use Rattle.iova_check.specs.Trace.{spaced, hex_digit, hex_from, hex_number, after, hex_after, are_digits, are_digits_after, frames_of, frames_between, mapped_frames, unmapped_frames, paged_frames, is_other_domain, flush_at, flush_said, is_either, said, event_said};
 
@@ -40,8 +40,14 @@ pub fn read_trace_line(domain: Option<u64>, line: &[u8]) -> Event
     }
 }
 
-/// Whether this line says that events were lost.
-pub fn tells_lost(line: &[u8]) -> bool {
+/// Whether this line, which is without its LF, says that events were lost.
+pub fn tells_lost(line: &[u8]) -> bool
+    ensures { IsTrue result → length line.now < MAX_TRACE_LINE }
+{
+    line.len() < MAX_TRACE_LINE && is_lost(line)
+}
+
+fn is_lost(line: &[u8]) -> bool {
     let Some(processor) = after(b"CPU:", line) else {
         return false;
     };

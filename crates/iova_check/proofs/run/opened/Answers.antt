@@ -8,8 +8,7 @@ use Rattle.iova_check.proofs.run.opened.Goals as goal
 pub returns : goal.returns
 returns c =
     let asked = c.args.asked.now in
-    let header = c.args.header.now in
     let P : ℕ → ℕ → Type 0 = λ a b. Allows c.in_ok-allowed.allowed (record { first = a; last = b; windows = asked.windows.now }) in
-    c.new-2.ensures (bounds_asked asked header.first header.last)
-    (moved P c.unwrap_or-first.result c.unwrap_or-last.result (unwrap_or asked.first header.first) (unwrap_or asked.last header.last)
+    c.new-2.ensures (bounds_asked asked c.args.first c.args.last)
+    (moved P c.unwrap_or-first.result c.unwrap_or-last.result (unwrap_or asked.first c.args.first) (unwrap_or asked.last c.args.last)
     c.unwrap_or-first.ensures c.unwrap_or-last.ensures c.in_ok-allowed.ensures)

@@ -1,4 +1,4 @@
-use Rattle.std.proofs.Common.{ℕ, ◌∙◌, ◌+◌, ◌<◌, ◌≤◌, length, sym, arith}
+use Rattle.std.proofs.Common.{◌∙◌, ◌+◌, ◌<◌, ◌≤◌, length, sym, arith}
 use Rattle.iova_check.proofs.HexDigits.{has_room, one_more_digit, hex_step}
 use Rattle.iova_check.proofs.trace.hex_from.Goals as goal
 

@@ -1,10 +1,4 @@
-use Rattle.std.proofs.Common.{refl, arith}
-use Rattle.iova_check.proofs.LineSteps.{overlong}
 use Rattle.iova_check.proofs.run.Progress.keep_part.Goals as goal
 
-pub returns-then-len-bytes-ge-MAX_LINE-clause-takes : goal.returns-then-len-bytes-ge-MAX_LINE-clause-takes
-returns-then-len-bytes-ge-MAX_LINE-clause-takes c = λ asked. (
-  overlong asked c.args.self.now c.args.bytes.now c.number.result c.args.self.now.unended.one c.requires
-      (omega (arith, c.len.ensures.value, c.if-len-bytes-ge-MAX_LINE.true)) c.number.ensures,
-  refl,
-)
+pub returns-in-Log-clause-takes : goal.returns-in-Log-clause-takes
+returns-in-Log-clause-takes c = c.keep_all.ensures.takes c.args.source.now c.in-Log.is

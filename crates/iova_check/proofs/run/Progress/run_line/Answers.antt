@@ -1,8 +1,9 @@
-use Rattle.std.proofs.Common.{refl}
-use Rattle.iova_check.proofs.LineSteps.{line_taken}
+use Rattle.std.proofs.Common.{subst}
+use Rattle.iova_check.specs.declared.source.Form.{Form}
+use Rattle.iova_check.specs.Progress.{IsKeptOf}
 use Rattle.iova_check.proofs.run.Progress.run_line.Goals as goal
 
-pub returns-in-Ok : goal.returns-in-Ok
-returns-in-Ok c =
-    line_taken c.args.asked.now c.args.self.now _ c.args.line.now c.in-Some.checker c.check.new.self c.in-Some-read_event.event c.requires.fresh c.in-Some.is
-    c.in-Some-read_event.ensures.spelled.0 c.in-Some-read_event.ensures.spelled.1 c.in-Ok.ensures.ok refl refl
+pub returns-in-Trace-clause-takes : goal.returns-in-Trace-clause-takes
+returns-in-Trace-clause-takes g c = λ whole one kept.
+    let P : Form → Type 0 = λ f. IsKeptOf f c.args.line.now whole in
+    c.run_trace_line.ensures.takes c.args.source.now whole c.in-Trace.is one (subst P c.in-Trace.is kept)

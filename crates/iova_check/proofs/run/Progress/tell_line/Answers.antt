@@ -12,5 +12,5 @@ returns-in_err-write_findings g c =
     rw (p.1, p.2, cut.0) (
       take cut.1.0 ended.new.self.findings.items,
       cut.1.1,
-      TakesBytes-broken c.args.asked.now c.args.self.now ended.new.self (whole_line c.args.end.now) cut.1.0 ended.result ended.ensures,
+      TakesBytes-broken c.args.source.now c.args.self.now ended.new.self (whole_line c.args.end.now) cut.1.0 ended.result ended.ensures,
     )
