@@ -119,3 +119,123 @@ fn bounds_that_are_asked_for(rt: HostRuntime) -> Result<(), Fail> {
     }
     Ok(())
 }
+
+/// A domain, a trace, what is written, the notices, and how many flushes and other lines there are.
+type Traced = (
+    Option<u64>,
+    &'static str,
+    &'static str,
+    &'static str,
+    u64,
+    u64,
+);
+
+const TRACES: [Traced; 6] = [
+    (
+        None,
+        "# tracer: nop\n a-b: <c> map:-7 [000] d..1. 0.1: map: IOMMU: iova=0x0000000000001fff - 0x0000000000003001 paddr=0x00000000a0000000 size=8192\n x-1 [0] 0.2: unmap: IOMMU: iova=0x1000 - 0x4000 size=12288 unmapped_size=12288\n x-1 [0] 0.3: iommu:map: IOMMU: iova=0x3000 - 0x4000 paddr=0xa0000000 size=4096\n x 0.4: intel_iommu:qi_submit: iotlb_inv dmar0: 0x200f2 0x2 0x0 0x0\n x 0.5: map: IOMMU: iova=0x0 - 0x3000 paddr=0x0 size=12288",
+        "line 4: reused 3 1 since 3\n",
+        "",
+        1,
+        1,
+    ),
+    (
+        Some(2),
+        " x 1: map: IOMMU: iova=0x5000 - 0x6000 paddr=0x0 size=4096\n x 2: iommu:unmap: IOMMU: iova=0x5000 - 0x6000 size=4096 unmapped_size=4096\n x 3: qi_submit: iotlb_inv dmar0: 0x300e2 0x0 0x0 0x0\n x 4: qi_submit: iotlb_inv dmar0: 0x200c2 0x0 0x0 0x0\n x 5: map: IOMMU: iova=0x5000 - 0x6000 paddr=0x0 size=4096\n x 6: unmap: IOMMU: iova=0x5000 - 0x6000 size=4096 unmapped_size=4096\n x 7: qi_submit: iotlb_inv dmar0: 0x200e2 0x0 0x0 0x0\n x 8: map: IOMMU: iova=0x5000 - 0x6000 paddr=0x0 size=4096\n",
+        "line 5: reused 5 1 since 2\n",
+        "",
+        1,
+        2,
+    ),
+    (
+        Some(2),
+        " x 1: map: IOMMU: iova=0x4000 - 0x8000 paddr=0x0 size=4\n x 2: unmap: IOMMU: iova=0x4000 - 0x8000 size=4 unmapped_size=4\n x 3: qi_submit: iotlb_inv dmar0: 0x200f2 0x5001 0x0 0x0\n x 4: map: IOMMU: iova=0x4000 - 0x8000 paddr=0x0 size=4\n x 5: qi_submit: iotlb_inv dmar0: 0x300d2 0x0 0x0 0x0\n",
+        "line 4: reused 6 2 since 2\n",
+        "",
+        2,
+        0,
+    ),
+    (
+        None,
+        "CPU:1 [LOST 23 EVENTS]\nCPU: [LOST 23 EVENTS]\n",
+        "",
+        "line 1: CPU:1 [LOST 23 EVENTS]\n",
+        0,
+        2,
+    ),
+    (None, "", "", "", 0, 0),
+    (
+        None,
+        "map: IOMMU: iova=0x0 - 0x1000 paddr=0x0 size=1\n x map: IOMMU: iova=0x00000000000000000 - 0x1000 paddr=0x0 size=1\n x map: IOMMU: iova=0x1000 - 0x1000 paddr=0x0 size=1\n x map: IOMMU: iova=0xA - 0x1000 paddr=0x0 size=1\n x map: IOMMU: iova=0x0 - 0x1000 paddr=0x0 size=\n x map: IOMMU:  iova=0x0 - 0x1000 paddr=0x0 size=1\n",
+        "",
+        "",
+        0,
+        6,
+    ),
+];
+
+#[test]
+fn traces_of_every_form(rt: HostRuntime) {
+    let asked = Asked {
+        first: None,
+        last: None,
+        windows: &[],
+    };
+    for (domain, trace, told, notices, flushes, others) in &TRACES {
+        let mut written = Vec::new(rt.alloc());
+        let mut noted = Vec::new(rt.alloc());
+        let checked = check_trace(
+            rt.alloc(),
+            &asked,
+            *domain,
+            &mut trace.as_bytes(),
+            &mut written,
+            &mut noted,
+        );
+        assert_eq!(rt; written.as_slice(), told.as_bytes(), "{trace}");
+        assert_eq!(rt; noted.as_slice(), notices.as_bytes(), "{trace}");
+        let counts = checked.map(|checker| (checker.counts.flushes, checker.counts.others));
+        assert_eq!(rt; counts, Ok((*flushes, *others)), "{trace}");
+    }
+}
+
+/// A line of so many bytes with its LF, which maps frame 0, before another that does.
+fn long_line(alloc: Global, len: usize) -> Result<Vec<u8>, AllocError> {
+    let map = b" x map: IOMMU: iova=0x0 - 0x1000 paddr=0x0 size=1\n";
+    let mut text = Vec::new(alloc);
+    for _ in map.len()..len {
+        text.push(b'.')?;
+    }
+    text.extend_from_slice(map)?;
+    text.extend_from_slice(map)?;
+    Ok(text)
+}
+
+#[test]
+fn a_line_is_read_up_to_1024_bytes(rt: HostRuntime) -> Result<(), Fail> {
+    let asked = Asked {
+        first: None,
+        last: None,
+        windows: &[],
+    };
+    for (len, told) in [
+        (1_024, "line 2: overlap 0 1 since 1\n"),
+        (1_025, ""),
+        (70_000, ""),
+        (200_000, ""),
+    ] {
+        let text = long_line(rt.alloc(), len)?;
+        let mut written = Vec::new(rt.alloc());
+        let checked = check_trace(
+            rt.alloc(),
+            &asked,
+            None,
+            &mut text.as_slice(),
+            &mut written,
+            &mut io::sink(),
+        );
+        assert!(rt; checked.is_ok(), "{len}");
+        assert_eq!(rt; written.as_slice(), told.as_bytes(), "{len}");
+    }
+    Ok(())
+}
