@@ -129,6 +129,7 @@ fn tell_passed_over<R: Eprint>(rt: &R, checked: &Result<Checker, CheckFault>) {
 }
 
 /// Standard error, as a writer of text.
+#[derive(Drop)]
 struct Notices<'a, R> {
     rt: &'a R,
 }
