@@ -31,8 +31,8 @@ where
     is_send::<Post<C, F, S, G>>();
 }
 
-/// Threads may share a domain under its lock. Call it before a reference to one serves as a keeper.
-pub fn domains_are_sync<Q, C: Ledger, F: Ledger, S: Ledger, G: Ledger>()
+/// Threads may share a domain under its lock.
+pub(crate) fn domains_are_sync<Q, C: Ledger, F: Ledger, S: Ledger, G: Ledger>()
 where
     Q: Sync,
     C: Send,

@@ -16,11 +16,10 @@ mod turns;
 mod worker;
 
 use crate::accept::Accept;
-use crate::crossing::{posts_are_send, turns_are_sync};
+use crate::crossing::{domains_are_sync, posts_are_send, turns_are_sync};
 use crate::pause::Pause;
 use crate::turns::Turns;
 use crate::worker::Lent;
-pub use crossing::domains_are_sync;
 use flusher::Flusher;
 use iova_keep::keep::Keep;
 use iova_lock::shared::Shared;
@@ -87,7 +86,7 @@ where
 {
     // for the proof: that threads may share the domain
     domains_are_sync::<Q, C, F, S, G>();
-    let served = serve_by::<R, N, C, F, S, G, &Shared<Q, C, F, S, G>, L, A, D, P>(
+    let served = serve_kept::<R, N, C, F, S, G, &Shared<Q, C, F, S, G>, L, A, D, P>(
         rt, alloc, notices, &shared, posts, sinks, accept, pause, sessions,
     );
     match served {
@@ -99,8 +98,8 @@ where
     }
 }
 
-/// The same by a keeper of the domain, which is copied for each thread: gives the posts back.
-pub fn serve_by<R, N, C, F, S, G, K, L, A, D, P>(
+/// The same on a domain that is kept elsewhere: gives the posts back.
+fn serve_kept<R, N, C, F, S, G, K, L, A, D, P>(
     rt: &R,
     alloc: Global,
     notices: &N,

@@ -11,7 +11,7 @@ use iova_command::plan::Plan;
 use iova_core::domain::Domain;
 use iova_daemon::pause::Ticks;
 use iova_daemon::socket::SocketAccept;
-use iova_daemon::{domains_are_sync, serve_by};
+use iova_daemon::{Served, serve_on};
 use iova_keep::keep::Keep;
 use iova_keep::seat::Seat;
 use iova_lock::book::Book;
@@ -67,8 +67,8 @@ where
     ensures faults { IfErr result (IsFaultOfServing plan.now) }
 {
     let bounds = bounds_of(plan)?;
-    match book_of::<C, F, S, G>(rt.alloc(), plan, bounds, count, frames, sum_lo, good) {
-        Some((book, seats)) => serve_book(rt, plan, book, seats),
+    match new_domain::<R, C, F, S, G>(rt, plan, bounds, count, frames, sum_lo, good) {
+        Some((shared, posts)) => serve_domain(rt, plan, shared, posts),
         None => Err(Fault::NoMemory),
     }
 }
@@ -96,42 +96,15 @@ impl Hindrance {
     }
 }
 
-/// Serves on this domain with its new seats, at a post each.
-fn serve_book<R, C, F, S, G>(
-    rt: &R,
-    plan: &Plan<'_>,
-    book: Book<C, F, S, G>,
-    seats: Vec<Seat<C, F, S, G>>,
-) -> Result<(), Fault<'static>>
-where
-    R: Runtime + AllocGlobal + Net + Threads + Wait + Sync + Files<File = File> + Log,
-    C: Ledger + Send + Sync,
-    F: Ledger + Send + Sync,
-    S: Ledger + Send + Sync,
-    G: Ledger + Send + Sync,
-    requires workers { book.state.workers ≡ plan.now.workers }
-    requires seats { seats.items ≡ new_seats plan.now.workers }
-    ensures { IfErr result (IsFaultOfServing plan.now) }
-{
-    match posts_of(rt.alloc(), seats) {
-        Some(posts) => serve_domain(rt, plan, Shared::over(rt, book), posts),
-        None => {
-            drop(book);
-            Err(Fault::NoMemory)
-        }
-    }
-}
-
 /// Serves on this domain at posts of all its workers, and tells what is left of it.
-fn serve_domain<R, Q, C, F, S, G>(
+fn serve_domain<R, C, F, S, G>(
     rt: &R,
     plan: &Plan<'_>,
-    shared: Shared<Q, C, F, S, G>,
+    shared: Shared<&R, C, F, S, G>,
     posts: Vec<Post<C, F, S, G>>,
 ) -> Result<(), Fault<'static>>
 where
     R: Runtime + AllocGlobal + Net + Threads + Wait + Sync + Files<File = File> + Log,
-    Q: Wait + Sync + Drop,
     C: Ledger + Send + Sync,
     F: Ledger + Send + Sync,
     S: Ledger + Send + Sync,
@@ -140,72 +113,68 @@ where
     requires posts { map (λ p. p.seat) posts.items ≡ new_seats plan.now.workers }
     ensures { IfErr result (IsFaultOfServing plan.now) }
 {
-    // for the proof: that threads may share the domain
-    domains_are_sync::<Q, C, F, S, G>();
-    let seats = serve_kept::<R, C, F, S, G, &Shared<Q, C, F, S, G>>(rt, plan, &shared, posts);
-    let recorded = gather_all(rt, plan, &shared, seats);
-    let domain = shared.into_domain();
-    let told = tell(rt, plan, &domain, recorded);
-    drop(domain);
-    told
+    match serve_links(rt, plan, shared, posts) {
+        Ok(Served { shared, posts }) => finish(rt, plan, shared, posts),
+        Err(why) => Err(why.fault()),
+    }
 }
 
-/// Opens what the plan names, serves its sessions by this keeper of the domain, and gives the posts' seats. What is done with
-/// the keeper alone knows of no lock and no book: a function that does is proved with all types that these are made of.
-fn serve_kept<R, C, F, S, G, K>(
-    rt: &R,
+/// Opens what the plan names, and serves its sessions. The posts that come back are those of all workers.
+fn serve_links<'a, R, C, F, S, G>(
+    rt: &'a R,
     plan: &Plan<'_>,
-    keeper: K,
+    shared: Shared<&'a R, C, F, S, G>,
     posts: Vec<Post<C, F, S, G>>,
-) -> Result<Vec<Seat<C, F, S, G>>, Hindrance>
+) -> Result<Served<&'a R, C, F, S, G>, Hindrance>
 where
     R: Runtime + AllocGlobal + Net + Threads + Wait + Sync + Files<File = File> + Log,
     C: Ledger + Send + Sync,
     F: Ledger + Send + Sync,
     S: Ledger + Send + Sync,
     G: Ledger + Send + Sync,
-    K: Keep<C, F, S, G> + Copy + Sync + Drop,
+    requires workers { shared.workers ≡ plan.now.workers }
     requires posts { map (λ p. p.seat) posts.items ≡ new_seats plan.now.workers }
-    ensures { IfOk result (λ v. map (λ s. s.worker) v.items ≡ map (λ s. s.worker) (new_seats plan.now.workers)) }
+    ensures { IfOk result (λ r. map (λ p. p.seat.worker) r.posts.items ≡ map (λ s. s.worker) (new_seats r.shared.workers)) }
 {
     match open_all(rt, plan, posts.len() + 1) {
-        Ok((sinks, listener)) => serve_opened(rt, plan, keeper, posts, sinks, listener),
+        Ok((sinks, listener)) => serve_opened(rt, plan, shared, posts, sinks, listener),
         Err(why) => {
             drop(posts);
+            drop(shared);
             Err(why)
         }
     }
 }
 
-/// The same, with a sink for each post and one more, and the socket. Its file is removed once the sessions are over.
-fn serve_opened<R, C, F, S, G, K>(
-    rt: &R,
+/// The same, with a sink for each post and one more, and the socket. Its file is removed at the end.
+fn serve_opened<'a, R, C, F, S, G>(
+    rt: &'a R,
     plan: &Plan<'_>,
-    keeper: K,
+    shared: Shared<&'a R, C, F, S, G>,
     posts: Vec<Post<C, F, S, G>>,
     sinks: Vec<RecordSink<FileDevice>>,
     listener: UnixListener,
-) -> Result<Vec<Seat<C, F, S, G>>, Hindrance>
+) -> Result<Served<&'a R, C, F, S, G>, Hindrance>
 where
     R: Runtime + AllocGlobal + Net + Threads + Wait + Sync + Files<File = File> + Log,
     C: Ledger + Send + Sync,
     F: Ledger + Send + Sync,
     S: Ledger + Send + Sync,
     G: Ledger + Send + Sync,
-    K: Keep<C, F, S, G> + Copy + Sync + Drop,
+    requires workers { shared.workers ≡ plan.now.workers }
     requires posts { map (λ p. p.seat) posts.items ≡ new_seats plan.now.workers }
     requires sinks { vec_len sinks ≡ vec_len posts + 1 }
-    ensures { IfOk result (λ v. map (λ s. s.worker) v.items ≡ map (λ s. s.worker) (new_seats plan.now.workers)) }
+    ensures { IfOk result (λ r. map (λ p. p.seat.worker) r.posts.items ≡ map (λ s. s.worker) (new_seats r.shared.workers)) }
 {
     let accept = SocketAccept::new(rt, rt, listener);
-    let served = serve_by::<
+    let served = serve_on::<
         R,
+        &R,
         R,
         C,
         F,
         S,
         G,
-        K,
         SocketLink,
         SocketAccept<'_, R, R>,
         RecordSink<FileDevice>,
@@ -214,7 +183,7 @@ where
         rt,
         rt.alloc(),
         rt,
-        keeper,
+        shared,
         posts,
         sinks,
         &accept,
@@ -223,31 +192,8 @@ where
     );
     drop(accept);
     remove(rt, plan.socket);
-    seats_served(rt, plan, keeper, served)
-}
-
-/// The seats of the posts that came back, or what kept sessions from being served.
-fn seats_served<R, C, F, S, G, K>(
-    rt: &R,
-    plan: &Plan<'_>,
-    keeper: K,
-    served: Result<Vec<Post<C, F, S, G>>, Refusal>,
-) -> Result<Vec<Seat<C, F, S, G>>, Hindrance>
-where
-    R: AllocGlobal + Files<File = File>,
-    C: Ledger,
-    F: Ledger,
-    S: Ledger,
-    G: Ledger,
-    K: Keep<C, F, S, G> + Copy + Drop,
-    requires { IfOk served (λ v. map (λ p. p.seat.worker) v.items ≡ map (λ s. s.worker) (new_seats plan.now.workers)) }
-    ensures { IfOk result (λ v. map (λ s. s.worker) v.items ≡ map (λ s. s.worker) (new_seats plan.now.workers)) }
-{
     match served {
-        Ok(posts) => match seats_of(rt, rt.alloc(), plan.sink, keeper, posts) {
-            Some(seats) => Ok(seats),
-            None => Err(Hindrance::NoMemory),
-        },
+        Ok(served) => Ok(served),
         Err(Refusal::NoMemory) => Err(Hindrance::NoMemory),
         Err(_) => Err(Hindrance::SocketFault),
     }
@@ -285,6 +231,29 @@ fn bound<R: Net + Files<File = File>>(rt: &R, path: &str) -> Option<UnixListener
     UnixListener::bind(rt, path).ok()
 }
 
+/// Gathers what was served on, writes the record where one is wanted, and prints the domain. The posts are those of all workers.
+fn finish<R, C, F, S, G>(
+    rt: &R,
+    plan: &Plan<'_>,
+    shared: Shared<&R, C, F, S, G>,
+    posts: Vec<Post<C, F, S, G>>,
+) -> Result<(), Fault<'static>>
+where
+    R: Runtime + AllocGlobal + Wait + Files<File = File>,
+    C: Ledger,
+    F: Ledger,
+    S: Ledger,
+    G: Ledger,
+    requires posts { map (λ p. p.seat.worker) posts.items ≡ map (λ s. s.worker) (new_seats shared.workers) }
+    ensures { IfErr result (IsFaultOfServing plan.now) }
+{
+    let recorded = gather_all(rt, plan, &shared, posts);
+    let domain = shared.into_domain();
+    let told = tell(rt, plan, &domain, recorded);
+    drop(domain);
+    told
+}
+
 /// Prints the domain, where the record was written.
 fn tell<R: Runtime + AllocGlobal>(
     rt: &R,
@@ -300,12 +269,12 @@ fn tell<R: Runtime + AllocGlobal>(
     }
 }
 
-/// Gathers the seats of all workers, and writes the record where one is wanted.
+/// Gathers the seats of the posts, and writes the record where one is wanted.
 fn gather_all<R, Q, C, F, S, G>(
     rt: &R,
     plan: &Plan<'_>,
     shared: &Shared<Q, C, F, S, G>,
-    seats: Result<Vec<Seat<C, F, S, G>>, Hindrance>,
+    posts: Vec<Post<C, F, S, G>>,
 ) -> Result<(), Hindrance>
 where
     R: AllocGlobal + Files<File = File>,
@@ -314,12 +283,10 @@ where
     F: Ledger,
     S: Ledger,
     G: Ledger,
-    requires workers { shared.now.workers ≡ plan.now.workers }
-    requires seats { IfOk seats (λ v. map (λ s. s.worker) v.items ≡ map (λ s. s.worker) (new_seats plan.now.workers)) }
+    requires posts { map (λ p. p.seat.worker) posts.items ≡ map (λ s. s.worker) (new_seats shared.now.workers) }
 {
-    let seats = match seats {
-        Ok(seats) => seats,
-        Err(why) => return Err(why),
+    let Some(seats) = seats_of(rt, rt.alloc(), plan.sink, shared, posts) else {
+        return Err(Hindrance::NoMemory);
     };
     let Ok(_totals) = shared.gather(seats) else {
         unreachable!();
@@ -351,6 +318,36 @@ fn bounds_of(plan: &Plan<'_>) -> Result<Bounds, Fault<'static>>
     match Bounds::new_in(profile, plan.start, plan.last) {
         Ok(bounds) => Ok(bounds),
         Err(_) => Err(Fault::LastAboveProfile),
+    }
+}
+
+/// The plan's domain under a lock, and a post at each of its seats. None for want of memory.
+fn new_domain<'a, R, C, F, S, G>(
+    rt: &'a R,
+    plan: &Plan<'_>,
+    bounds: Bounds,
+    count: Blank,
+    frames: Blank,
+    sum_lo: Blank,
+    good: Blank,
+) -> Option<(Shared<&'a R, C, F, S, G>, Vec<Post<C, F, S, G>>)>
+where
+    R: AllocGlobal,
+    C: Ledger,
+    F: Ledger,
+    S: Ledger,
+    G: Ledger,
+    requires count { (count.name ≡ C.name) × (count.parts ≡ C.parts) × (count.parts ≡ plan.now.workers) }
+    requires frames { (frames.name ≡ F.name) × (frames.parts ≡ F.parts) × (frames.parts ≡ plan.now.workers) }
+    requires sum_lo { (sum_lo.name ≡ S.name) × (sum_lo.parts ≡ S.parts) × (sum_lo.parts ≡ plan.now.workers) }
+    requires good { (good.name ≡ G.name) × (good.parts ≡ G.parts) × (good.parts ≡ TALLY_PARTS * plan.now.workers) }
+    ensures number { IfSome result (λ r. r.0.number ≡ plan.now.domain) }
+    ensures workers { IfSome result (λ r. r.0.workers ≡ plan.now.workers) }
+    ensures seats { IfSome result (λ r. map (λ p. p.seat) r.1.items ≡ new_seats plan.now.workers) }
+{
+    match book_of(rt.alloc(), plan, bounds, count, frames, sum_lo, good) {
+        Some((book, seats)) => posted(rt.alloc(), Shared::over(rt, book), seats),
+        None => None,
     }
 }
 
@@ -401,6 +398,23 @@ fn book_of<C: Ledger, F: Ledger, S: Ledger, G: Ledger>(
             Some((book, seats))
         },
         Err(_) => None,
+    }
+}
+
+/// The domain, and a post at each seat. None for want of memory.
+fn posted<Q: Drop, C: Ledger, F: Ledger, S: Ledger, G: Ledger>(
+    alloc: Global,
+    shared: Shared<Q, C, F, S, G>,
+    seats: Vec<Seat<C, F, S, G>>,
+) -> Option<(Shared<Q, C, F, S, G>, Vec<Post<C, F, S, G>>)>
+    ensures { IfSome result (λ r. (r.0 ≡ shared) × (map (λ p. p.seat) r.1.items ≡ seats.items)) }
+{
+    match posts_of(alloc, seats) {
+        Some(posts) => Some((shared, posts)),
+        None => {
+            drop(shared);
+            None
+        }
     }
 }
 
@@ -478,27 +492,27 @@ fn open_sinks<R: Files<File = File>>(
 }
 
 /// The posts' seats, in their order, once the clients that still wait were tried again. None for want of memory.
-fn seats_of<R, C, F, S, G, K>(
+fn seats_of<R, Q, C, F, S, G>(
     rt: &R,
     alloc: Global,
     path: &str,
-    keeper: K,
+    shared: &Shared<Q, C, F, S, G>,
     posts: Vec<Post<C, F, S, G>>,
 ) -> Option<Vec<Seat<C, F, S, G>>>
 where
     R: Files<File = File>,
+    Q: Wait,
     C: Ledger,
     F: Ledger,
     S: Ledger,
     G: Ledger,
-    K: Keep<C, F, S, G> + Copy + Drop,
     ensures { IfSome result (λ v. map (λ s. s.worker) v.items ≡ map (λ p. p.seat.worker) posts.items) }
 {
     let Ok(mut seats) = Vec::with_capacity(alloc, posts.len()) else {
         return None;
     };
     for post in posts {
-        let Ok(()) = seats.push(seat_of(rt, path, keeper, post)) else {
+        let Ok(()) = seats.push(seat_of(rt, path, shared, post)) else {
             unreachable!();
         };
     }

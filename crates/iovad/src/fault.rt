@@ -1,5 +1,5 @@
 //! What keeps a run from its end, the line that it says then, and the status.
-ghost use Rattle.std.specs.Prelude.{◌≡◌, ◌≢◌, ◌⊎◌, ℕ, Some, codes};
+ghost use Rattle.std.specs.Prelude.{◌≡◌, ◌⊎◌, ℕ, codes};
 ghost use Rattle.std.specs.Process.{exit_status};
 ghost use Rattle.iovad.specs.Faults.{IfUnread, IsFaultOfWords, fault_text, fault_status};
 
@@ -100,9 +100,9 @@ impl<'a> Fault<'a> {
         }
     }
 
-    /// The status that the process ends with: 0 where help was asked for, 1 for a log that has a finding, 2 where the words are
-    /// not understood or can't be followed, 3 for a trace, a log or regions that are refused, 4 for a file that cannot be read or written,
-    /// 5 for memory.
+    /// The status that the process ends with: 0 where help was asked for, 1 for a log that has a finding, 2 where the words
+    /// are not understood or can't be followed, 3 for a trace, a log or regions that are refused, 4 for a file that cannot
+    /// be read or written, 5 for memory.
     pub fn status(&self) -> u8
         ensures { result ≡ fault_status self.now }
     {
@@ -116,27 +116,6 @@ impl<'a> Fault<'a> {
             | Fault::SocketFault
             | Fault::CannotOpenSink => 4,
             Fault::NoMemory => 5,
-        }
-    }
-
-    /// The line of a fault that names neither words nor a number nor a file.
-    fn line(&self) -> &'static str
-        requires words { (status : ℕ) → self.now ≢ Fault.Words status }
-        requires trace { (line : ℕ) → self.now ≢ Fault.TraceRefused line }
-        requires log { (line : ℕ) → self.now ≢ Fault.LogRefused line }
-        requires regions { (line : ℕ) → self.now ≢ Fault.RegionsRefused line }
-        requires file { IfUnread self.now (λ path. Unit {0}) → ⊥ }
-        ensures { fault_text self.now ≡ Some result.now }
-    {
-        match self {
-            Fault::StartAboveLast => "iovad: start is above last",
-            Fault::LastAboveProfile => "iovad: last is above the profile",
-            Fault::Found => "iovad: the log has a finding",
-            Fault::CannotWrite => "iovad: cannot write the output",
-            Fault::SocketFault => "iovad: socket fault",
-            Fault::CannotOpenSink => "iovad: cannot open the sink",
-            Fault::NoMemory => "iovad: no memory",
-            _ => unreachable!(),
         }
     }
 
@@ -179,13 +158,19 @@ impl<'a> fmt::Display for Fault<'a> {
     fn fmt<W: fmt::Write>(&self, f: &mut fmt::Formatter<W>) -> fmt::Result {
         match self {
             Fault::Words(usage) => write!(f, "{usage}"),
+            Fault::StartAboveLast => f.write_str("iovad: start is above last"),
+            Fault::LastAboveProfile => f.write_str("iovad: last is above the profile"),
             Fault::TraceRefused(line) => write!(f, "iovad: trace refused at line {line}"),
             Fault::LogRefused(line) => write!(f, "iovad: log refused at line {line}"),
             Fault::RegionsRefused(line) => {
                 write!(f, "iovad: reserved regions refused at line {line}")
             }
+            Fault::Found => f.write_str("iovad: the log has a finding"),
             Fault::CannotRead(path) => write!(f, "iovad: cannot read {path}"),
-            _ => f.write_str(self.line()),
+            Fault::CannotWrite => f.write_str("iovad: cannot write the output"),
+            Fault::SocketFault => f.write_str("iovad: socket fault"),
+            Fault::CannotOpenSink => f.write_str("iovad: cannot open the sink"),
+            Fault::NoMemory => f.write_str("iovad: no memory"),
         }
     }
 }

@@ -1,8 +1,4 @@
-use denote.Param.Send.{shr_sync, sendable}
 use Rattle.iovad.proofs.daemon.serve_domain.Goals as goal
 
--- threads may share a reference to the domain
-pub serve_kept-seats-requires-sync-K : goal.serve_kept-seats-requires-sync-K
-serve_kept-seats-requires-sync-K g c κs within =
-    let domain = c.domains_are_sync.ensures in
-    search (shr_sync, sendable) depth 20
+pub returns-in-Err : goal.returns-in-Err
+returns-in-Err g c = c.fault.ensures c.args.plan.now

@@ -1,6 +1,6 @@
 use denote.Param.Send.{shr_sync, sendable}
 use Rattle.iova_daemon.proofs.Sends.{Lent-sync}
-use Rattle.iova_daemon.proofs.serve_by.Goals as goal
+use Rattle.iova_daemon.proofs.serve_kept.Goals as goal
 
 -- threads may share what they are lent
 pub run_all-requires-sync-W : goal.run_all-requires-sync-W
