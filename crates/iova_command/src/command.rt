@@ -215,10 +215,7 @@ fn check_command<'a>(alloc: Global) -> Result<Command<'a>, AllocError>
     let command = Command::new(alloc, "check")
         .about("Checks a log of what was mapped, unmapped and flushed, by whomever")
         .after_help(LINES_OF_A_LOG);
-    let command = with_arg(
-        Ok(command),
-        flag(alloc, "quiet", "Prints the counts alone"),
-    );
+    let command = with_arg(Ok(command), flag(alloc, "quiet", "Prints the counts alone"));
     let command = with_arg(
         command,
         optional_number(

@@ -53,7 +53,10 @@ fn asked_of<'a, S: AsStr>(
     let matches = command.try_get_matches_from(words)?;
     match asked_by(&matches) {
         Some(asked) => Ok(asked),
-        None => Err(fault(alloc, "an option is missing, outside its range, or without the one that it is for")),
+        None => Err(fault(
+            alloc,
+            "an option is missing, outside its range, or without the one that it is for",
+        )),
     }
 }
 
