@@ -94,3 +94,13 @@ pub const FLUSH_PAUSE: u64 = 10;
 /// The time after an accept that failed, in milliseconds. With no descriptor left an accept fails at once, and each one that
 /// fails uses up a session's number. Own.
 pub const ACCEPT_PAUSE: u64 = 100;
+
+/// The greatest time that a daemon's sink may be given to answer, in seconds. Own.
+pub const MAX_SINK_TIMEOUT: u64 = 3_600;
+
+/// The time that a daemon's sink is given to answer where none is asked for, in seconds. Own.
+pub const SINK_TIMEOUT: u64 = 10;
+
+/// The time between two rounds in which a daemon's clients that wait are tried again, in milliseconds: a worker that waits for a
+/// session looks about it so often. Own.
+pub const RETRY_PAUSE: u64 = 1_000;
