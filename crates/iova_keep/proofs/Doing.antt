@@ -9,7 +9,7 @@ use Rattle.iova_model.specs.declared.step.Reply.{Reply}
 use Rattle.iova_model.specs.declared.step.Reply.TheVariants as reply
 use Rattle.iova_model.specs.declared.totals.Totals.{Totals}
 use Rattle.iova_model.specs.State.{State}
-use Rattle.iova_sink.specs.Calls.{Call, good_calls}
+use Rattle.iova_sink.specs.Calls.{Invalidation, Call, good_in, good_calls}
 use Rattle.iova_model.specs.Laws.{ended_well}
 use Rattle.iova_keep.specs.Steps.{Takes}
 use Rattle.iova_keep.specs.Views.{WhereKnown, IsBeginHeard}
@@ -67,7 +67,7 @@ silent_again : (domain : ℕ) {st : Step} {held : Totals} {n : ℕ} {ok : Bool} 
 silent_again domain (again end r es u) = silent domain u
 
 two_holds : (st : Step) (held : Totals) (n : ℕ) (ok : Bool) (r : Reply) (domain : ℕ) (before now : List Call) (s m t : State) {o b : Option Reply} {es : List Event} → UnmapFirst st held o b es → b ≡ Some (reply.Begun n)
-    → Leads s es m → now ≡ before ++ record { domain = domain; number = n; ok = ok } ∷ [] → Does (UnmapAgain st held n ok (Some r)) m t → Does (UnmapsWith st held r domain before now) s t
+    → Leads s es m → now ≡ before ++ Invalidation domain n ok ∷ [] → Does (UnmapAgain st held n ok (Some r)) m t → Does (UnmapsWith st held r domain before now) s t
 two_holds st held n ok r domain before now s m t (tried q es other u) is l told d = absurd cc
 two_holds st held n ok r domain before now s m t (full begin) is l told d =
     let same : begin ≡ reply.Begun n = cc in
@@ -76,13 +76,13 @@ two_holds st held n ok r domain before now s m t (full begin) is l told d =
       events = Ran st (reply.Refused refusal.RingFull) ∷ Ran step.Begin (reply.Begun n) ∷ Invalidated n ok ∷ d.events;
       allowed = (
         flushed n ok r d.events d.allowed,
-        told ∙ ap (λ cs. before ++ record { domain = domain; number = n; ok = ok } ∷ cs) (sym (silent_again domain d.allowed)),
+        told ∙ ap (λ cs. before ++ Invalidation domain n ok ∷ cs) (sym (silent_again domain d.allowed)),
       );
       leads = (l.0, l.1, (k.0, subst (λ x. Takes l.0 step.Begin x k.0) same k.1, subst (λ x. Leads x d.events t) k.2 d.leads));
     }
 
 pub in_two_holds : (st : Step) (held : Totals) (n : ℕ) (ok : Bool) (o b : Option Reply) (r : Reply) (domain : ℕ) (before now : List Call) (s m t : State) → b ≡ Some (reply.Begun n)
-    → now ≡ before ++ record { domain = domain; number = n; ok = ok } ∷ []
+    → now ≡ before ++ Invalidation domain n ok ∷ []
     → Does (UnmapFirst st held o b) s m → Does (UnmapAgain st held n ok (Some r)) m t → Does (UnmapsWith st held r domain before now) s t
 in_two_holds st held n ok o b r domain before now s m t is told d e = two_holds st held n ok r domain before now s m t d.allowed is d.leads told e
 
@@ -91,7 +91,7 @@ in_two_holds st held n ok o b r domain before now s m t is told d e = two_holds 
 pub flush_refused : (e : Refusal) (domain : ℕ) (calls : List Call) (s t : State) → Takes s step.Begin (reply.Refused e) t → Does (FlushesWith (Err e) domain calls calls) s t
 flush_refused e domain calls s t h = record { events = Ran step.Begin (reply.Refused e) ∷ []; allowed = (refused e, sym (append-nil calls)); leads = (t, h, refl) }
 
-pub flush_done : (n : ℕ) (end : Reply) (domain : ℕ) (before now : List Call) (s m t : State) → Takes s step.Begin (reply.Begun n) m → now ≡ before ++ record { domain = domain; number = n; ok = true } ∷ []
+pub flush_done : (n : ℕ) (end : Reply) (domain : ℕ) (before now : List Call) (s m t : State) → Takes s step.Begin (reply.Begun n) m → now ≡ before ++ Invalidation domain n true ∷ []
     → Takes m (step.End n true) end t → Does (FlushesWith (Ok n) domain before now) s t
 flush_done n end domain before now s m t h told k = record {
   events = Ran step.Begin (reply.Begun n) ∷ Invalidated n true ∷ Ran (step.End n true) end ∷ [];
@@ -99,7 +99,7 @@ flush_done n end domain before now s m t h told k = record {
   leads = (m, h, (t, k, refl));
 }
 
-pub flush_failed : (n : ℕ) (end : Reply) (domain : ℕ) (before now : List Call) (s m t : State) → Takes s step.Begin (reply.Begun n) m → now ≡ before ++ record { domain = domain; number = n; ok = false } ∷ []
+pub flush_failed : (n : ℕ) (end : Reply) (domain : ℕ) (before now : List Call) (s m t : State) → Takes s step.Begin (reply.Begun n) m → now ≡ before ++ Invalidation domain n false ∷ []
     → Takes m (step.End n false) end t → Does (FlushesWith (Err refusal.SinkFault) domain before now) s t
 flush_failed n end domain before now s m t h told k = record {
   events = Ran step.Begin (reply.Begun n) ∷ Invalidated n false ∷ Ran (step.End n false) end ∷ [];
@@ -112,17 +112,17 @@ heard_end : (o : Option Reply) (n : ℕ) (ok : Bool) (s t : State) → MatchOpti
 heard_end None n ok s t h = absurd h
 heard_end (Some r) n ok s t h = (r, h)
 
-pub flush_all_done : (n : ℕ) (o : Option Reply) (domain : ℕ) (before now : List Call) (s m t : State) → Takes s step.Begin (reply.Begun n) m → now ≡ before ++ record { domain = domain; number = n; ok = true } ∷ []
+pub flush_all_done : (n : ℕ) (o : Option Reply) (domain : ℕ) (before now : List Call) (s m t : State) → Takes s step.Begin (reply.Begun n) m → now ≡ before ++ Invalidation domain n true ∷ []
     → MatchOption o ⊥ (λ r. Takes m (step.End n true) r t) → Does (FlushesWith (Ok n) domain before now) s t
 flush_all_done n o domain before now s m t h told k = let e = heard_end o n true m t k in flush_done n e.0 domain before now s m t h told e.1
 
-pub flush_all_failed : (n : ℕ) (o : Option Reply) (domain : ℕ) (before now : List Call) (s m t : State) → Takes s step.Begin (reply.Begun n) m → now ≡ before ++ record { domain = domain; number = n; ok = false } ∷ []
+pub flush_all_failed : (n : ℕ) (o : Option Reply) (domain : ℕ) (before now : List Call) (s m t : State) → Takes s step.Begin (reply.Begun n) m → now ≡ before ++ Invalidation domain n false ∷ []
     → MatchOption o ⊥ (λ r. Takes m (step.End n false) r t) → Does (FlushesWith (Err refusal.SinkFault) domain before now) s t
 flush_all_failed n o domain before now s m t h told k = let e = heard_end o n false m t k in flush_failed n e.0 domain before now s m t h told e.1
 
 -- Good calls.
 
-pub good-add : (calls : List Call) (c : Call) → good_calls (calls ++ c ∷ []) ≡ good_calls calls + (if c.ok then 1 else 0)
+pub good-add : (calls : List Call) (c : Call) → good_calls (calls ++ c ∷ []) ≡ good_calls calls + good_in c
 good-add [] c = omega arith
 good-add (x ∷ xs) c = let h = good-add xs c in omega (arith, h)
 
@@ -132,18 +132,18 @@ ended_at_most n false reply.Ended = omega arith
 ended_at_most n ok r = omega arith
 
 pub good_within : (n : ℕ) (ok : Bool) (old new domain : ℕ) (before now : List Call) → new ≤ old + (if ok then 1 else 0)
-    → now ≡ before ++ record { domain = domain; number = n; ok = ok } ∷ [] → new + good_calls before ≤ old + good_calls now
+    → now ≡ before ++ Invalidation domain n ok ∷ [] → new + good_calls before ≤ old + good_calls now
 good_within n ok old new domain before now h told =
-    let c : Call = record { domain = domain; number = n; ok = ok } in
+    let c : Call = Invalidation domain n ok in
     let k : good_calls now ≡ good_calls before + (if ok then 1 else 0) = ap good_calls told ∙ good-add before c in
     omega (arith, h, k)
 
 -- an end raises a tally by at most a good call
 pub good_bound : (o : Option Reply) (n : ℕ) (ok : Bool) (old new domain : ℕ) (before now : List Call) → MatchOption o ⊥ (λ r. new ≡ old + ended_well (step.End n ok) r)
-    → now ≡ before ++ record { domain = domain; number = n; ok = ok } ∷ [] → new + good_calls before ≤ old + good_calls now
+    → now ≡ before ++ Invalidation domain n ok ∷ [] → new + good_calls before ≤ old + good_calls now
 good_bound None n ok old new domain before now h told = absurd h
 good_bound (Some r) n ok old new domain before now h told =
-    let c : Call = record { domain = domain; number = n; ok = ok } in
+    let c : Call = Invalidation domain n ok in
     let e = good-add before c in
     let f = ended_at_most n ok r in
     let k : good_calls now ≡ good_calls before + (if ok then 1 else 0) = ap good_calls told ∙ e in
@@ -157,14 +157,14 @@ known_flush_refused a b begun e domain calls is p =
     known_one a b (λ s t. Takes s step.Begin (reply.Refused e) t) (Does (FlushesWith (Err e) domain calls calls)) (rw is at p) (λ s t h. flush_refused e domain calls s t h)
 
 pub known_flush_done : (a b c : Option State) (n : ℕ) (begun o : Option Reply) (ok : Bool) (domain : ℕ) (before now : List Call) → begun ≡ Some (reply.Begun n) → ok ≡ true
-    → now ≡ before ++ record { domain = domain; number = n; ok = ok } ∷ []
+    → now ≡ before ++ Invalidation domain n ok ∷ []
     → WhereKnown a b (λ s t. MatchOption begun ⊥ (λ x. Takes s step.Begin x t)) → WhereKnown b c (λ s t. MatchOption o ⊥ (λ r. Takes s (step.End n ok) r t)) → WhereKnown a c (Does (FlushesWith (Ok n) domain before now))
 known_flush_done a b c n begun o ok domain before now is well told p q =
     known_both a b c (λ s t. Takes s step.Begin (reply.Begun n) t) (λ s t. MatchOption o ⊥ (λ r. Takes s (step.End n true) r t)) (Does (FlushesWith (Ok n) domain before now))
     (rw is at p) (rw well at q) (λ s m t x y. flush_all_done n o domain before now s m t x (rw well at told) y)
 
 pub known_flush_failed : (a b c : Option State) (n : ℕ) (begun o : Option Reply) (ok : Bool) (domain : ℕ) (before now : List Call) → begun ≡ Some (reply.Begun n) → ok ≡ false
-    → now ≡ before ++ record { domain = domain; number = n; ok = ok } ∷ []
+    → now ≡ before ++ Invalidation domain n ok ∷ []
     → WhereKnown a b (λ s t. MatchOption begun ⊥ (λ x. Takes s step.Begin x t)) → WhereKnown b c (λ s t. MatchOption o ⊥ (λ r. Takes s (step.End n ok) r t)) → WhereKnown a c (Does (FlushesWith (Err refusal.SinkFault) domain before now))
 known_flush_failed a b c n begun o ok domain before now is well told p q =
     known_both a b c (λ s t. Takes s step.Begin (reply.Begun n) t) (λ s t. MatchOption o ⊥ (λ r. Takes s (step.End n false) r t)) (Does (FlushesWith (Err refusal.SinkFault) domain before now))
@@ -183,7 +183,7 @@ known_in_vain a b st held o begun r e domain calls is ends heard p =
     rw same (known_one a b (Does (UnmapFirst st held o begun)) (Does (UnmapsWith st held (reply.Refused refusal.RingFull) domain calls calls)) p (λ s t d. in_vain st held o begun e domain calls s t is d))
 
 pub known_in_two : (a b c : Option State) (st : Step) (held : Totals) (n : ℕ) (ok : Bool) (o begun last : Option Reply) (r : Reply) (domain : ℕ) (before now : List Call) → begun ≡ Some (reply.Begun n) → last ≡ Some r
-    → now ≡ before ++ record { domain = domain; number = n; ok = ok } ∷ []
+    → now ≡ before ++ Invalidation domain n ok ∷ []
     → WhereKnown a b (Does (UnmapFirst st held o begun)) → WhereKnown b c (Does (UnmapAgain st held n ok last)) → WhereKnown a c (Does (UnmapsWith st held r domain before now))
 known_in_two a b c st held n ok o begun last r domain before now is ends told p q =
     known_both a b c (Does (UnmapFirst st held o begun)) (Does (UnmapAgain st held n ok (Some r))) (Does (UnmapsWith st held r domain before now))

@@ -12,7 +12,7 @@ use Rattle.iova_model.specs.declared.step.Reply.TheVariants as reply
 use Rattle.iova_model.specs.declared.totals.Totals.{Totals}
 use Rattle.iova_model.specs.State.{State, counts}
 use Rattle.iova_model.specs.Laws.{StepsKeepTheDomain}
-use Rattle.iova_sink.specs.Calls.{Call, failed_calls}
+use Rattle.iova_sink.specs.Calls.{Invalidation, Call, failed_in, failed_calls}
 use Rattle.iova_keep.specs.declared.ending.Ending.{Ending}
 use Rattle.iova_keep.specs.declared.ending.Ending.TheVariants as ending
 use Rattle.iova_keep.specs.declared.ending.Why.TheVariants as why
@@ -33,7 +33,7 @@ pub sink_calls-more : (number : ℕ) (es fs : List Event) → sink_calls number 
 sink_calls-more number [] fs = refl
 sink_calls-more number (Ran st r ∷ es) fs = sink_calls-more number es fs
 sink_calls-more number (NotRun st held ∷ es) fs = sink_calls-more number es fs
-sink_calls-more number (Invalidated n ok ∷ es) fs = ap (λ cs. record { domain = number; number = n; ok = ok } ∷ cs) (sink_calls-more number es fs)
+sink_calls-more number (Invalidated n ok ∷ es) fs = ap (λ cs. Invalidation number n ok ∷ cs) (sink_calls-more number es fs)
 
 -- No hold calls the sink.
 
@@ -60,33 +60,33 @@ again_silent number (full_again end begin es some c) = then_begin_silent number 
 -- All further holds.
 
 call_of : ℕ → ℕ → Bool → Call
-call_of number n ok = record { domain = number; number = n; ok = ok }
+call_of number n ok = Invalidation number n ok
 
 rest_last : (seat : SeatState) (left : Totals) (id n : ℕ) (ok : Bool) (o b : Option Reply) (number : ℕ) (before now : List Call) (s t : State)
-    → now ≡ before ++ record { domain = number; number = n; ok = ok } ∷ [] → ClosesAgain seat left id n ok o b s t → DoesRest seat left id n ok o b number before now s t
+    → now ≡ before ++ Invalidation number n ok ∷ [] → ClosesAgain seat left id n ok o b s t → DoesRest seat left id n ok o b number before now s t
 rest_last seat left id n ok o b number before now s t told d = record {
   events = Invalidated n ok ∷ d.events;
   allowed = (
     last n ok seat.held left o b d.events d.allowed,
-    told ∙ ap (λ cs. before ++ record { domain = number; number = n; ok = ok } ∷ cs) (sym (again_silent number d.allowed)),
+    told ∙ ap (λ cs. before ++ Invalidation number n ok ∷ cs) (sym (again_silent number d.allowed)),
   );
   leads = d.leads;
 }
 
 pub known_rest_last : (a c : Option State) (seat : SeatState) (left : Totals) (id n : ℕ) (ok : Bool) (o b : Option Reply) (number : ℕ) (before now : List Call)
-    → now ≡ before ++ record { domain = number; number = n; ok = ok } ∷ [] → WhereKnown a c (ClosesAgain seat left id n ok o b) → WhereKnown a c (DoesRest seat left id n ok o b number before now)
+    → now ≡ before ++ Invalidation number n ok ∷ [] → WhereKnown a c (ClosesAgain seat left id n ok o b) → WhereKnown a c (DoesRest seat left id n ok o b number before now)
 known_rest_last a c seat left id n ok o b number before now told p =
     known_one a c (ClosesAgain seat left id n ok o b) (DoesRest seat left id n ok o b number before now) p (λ s t d. rest_last seat left id n ok o b number before now s t told d)
 
 rest_more : (seat next : SeatState) (left : Totals) (id n m : ℕ) (ok well : Bool) (o b : Option Reply) (number : ℕ) (before mid now : List Call) (s u t : State)
-    → mid ≡ before ++ record { domain = number; number = n; ok = ok } ∷ [] → next.worker ≡ seat.worker
+    → mid ≡ before ++ Invalidation number n ok ∷ [] → next.worker ≡ seat.worker
     → ClosesAgain seat next.held id n ok (Some (reply.Refused refusal.RingFull)) (Some (reply.Begun m)) s u → DoesRest next left id m well o b number mid now u t
     → DoesRest seat left id n well o b number before now s t
 rest_more seat next left id n m ok well o b number before mid now s u t told same d k =
     let es = d.events in let fs = k.events in
     let rest : CloseRest (step.CloseOne seat.worker id) m next.held left well o b fs = subst (λ w. CloseRest (step.CloseOne w id) m next.held left well o b fs) same k.allowed.0 in
     let quiet : sink_calls number (es ++ fs) ≡ sink_calls number fs = sink_calls-more number es fs ∙ ap (λ cs. cs ++ sink_calls number fs) (again_silent number d.allowed) in
-    let c : Call = record { domain = number; number = n; ok = ok } in
+    let c : Call = Invalidation number n ok in
     let calls : now ≡ before ++ c ∷ sink_calls number (es ++ fs) =
     k.allowed.1 ∙ (ap (λ cs. cs ++ sink_calls number fs) told ∙ (append_assoc before (c ∷ []) (sink_calls number fs) ∙ ap (λ cs. before ++ c ∷ cs) (sym quiet))) in
     record {
@@ -96,7 +96,7 @@ rest_more seat next left id n m ok well o b number before mid now s u t told sam
     }
 
 pub known_rest_more : (a c e : Option State) (seat next : SeatState) (left : Totals) (id n m : ℕ) (ok well : Bool) (ho hb o b : Option Reply) (number : ℕ) (before mid now : List Call)
-    → mid ≡ before ++ record { domain = number; number = n; ok = ok } ∷ [] → next.worker ≡ seat.worker → ho ≡ Some (reply.Refused refusal.RingFull) → hb ≡ Some (reply.Begun m)
+    → mid ≡ before ++ Invalidation number n ok ∷ [] → next.worker ≡ seat.worker → ho ≡ Some (reply.Refused refusal.RingFull) → hb ≡ Some (reply.Begun m)
     → WhereKnown a c (ClosesAgain seat next.held id n ok ho hb) → WhereKnown c e (DoesRest next left id m well o b number mid now) → WhereKnown a e (DoesRest seat left id n well o b number before now)
 known_rest_more a c e seat next left id n m ok well ho hb o b number before mid now told same full begun p q =
     known_both a c e (ClosesAgain seat next.held id n ok (Some (reply.Refused refusal.RingFull)) (Some (reply.Begun m))) (DoesRest next left id m well o b number mid now) (DoesRest seat left id n well o b number before now)
@@ -187,18 +187,18 @@ failed_sink queued remains left flushed Events.worn e = absurd cc
 
 -- Failed calls.
 
-pub failed-add : (calls : List Call) (c : Call) → failed_calls (calls ++ c ∷ []) ≡ failed_calls calls + (if c.ok then 0 else 1)
+pub failed-add : (calls : List Call) (c : Call) → failed_calls (calls ++ c ∷ []) ≡ failed_calls calls + failed_in c
 failed-add [] c = omega arith
 failed-add (x ∷ xs) c = let h = failed-add xs c in omega (arith, h)
 
-pub failed_once : (number n : ℕ) (ok : Bool) (before now : List Call) → now ≡ before ++ record { domain = number; number = n; ok = ok } ∷ []
+pub failed_once : (number n : ℕ) (ok : Bool) (before now : List Call) → now ≡ before ++ Invalidation number n ok ∷ []
     → failed_calls now ≡ failed_calls before + (if ok then 0 else 1)
-failed_once number n ok before now told = ap failed_calls told ∙ failed-add before (record { domain = number; number = n; ok = ok })
+failed_once number n ok before now told = ap failed_calls told ∙ failed-add before (Invalidation number n ok)
 
-pub failed_at_most : (number n : ℕ) (ok : Bool) (before now : List Call) → now ≡ before ++ record { domain = number; number = n; ok = ok } ∷ [] → failed_calls before ≤ failed_calls now
+pub failed_at_most : (number n : ℕ) (ok : Bool) (before now : List Call) → now ≡ before ++ Invalidation number n ok ∷ [] → failed_calls before ≤ failed_calls now
 failed_at_most number n ok before now told = let k = failed_once number n ok before now told in omega (arith, k)
 
-pub failed_then : (number n : ℕ) (ok : Bool) (before now : List Call) → now ≡ before ++ record { domain = number; number = n; ok = ok } ∷ [] → ok ≡ false → failed_calls before < failed_calls now
+pub failed_then : (number n : ℕ) (ok : Bool) (before now : List Call) → now ≡ before ++ Invalidation number n ok ∷ [] → ok ≡ false → failed_calls before < failed_calls now
 failed_then number n true before now told e = absurd cc
 failed_then number n false before now told e = let k = failed_once number n false before now told in omega (arith, k)
 

@@ -10,7 +10,7 @@ use Rattle.iova_model.specs.declared.step.Reply.{Reply}
 use Rattle.iova_model.specs.declared.step.Reply.TheVariants as reply
 use Rattle.iova_model.specs.declared.totals.Totals.{Totals}
 use Rattle.iova_model.specs.State.{State}
-use Rattle.iova_sink.specs.Calls.{Call, good_calls}
+use Rattle.iova_sink.specs.Calls.{Invalidation, Call, good_calls}
 use Rattle.iova_keep.specs.declared.unmapped.Unmapped.{Unmapped}
 use Rattle.iova_keep.specs.declared.unmapped.Unmapped.TheVariants as unmapped
 use Rattle.iova_keep.specs.Views.{SeatState, WhereKnown, begun_of}
@@ -23,7 +23,7 @@ use Rattle.iova_keep.proofs.Endings.{leads_more, sink_calls-more}
 
 -- a hold with an end, and then what follows it, raise a tally by at most the good calls
 pub good_then : (n : ℕ) (ok : Bool) (old mid new domain : ℕ) (before between now : List Call) → mid ≤ old + (if ok then 1 else 0)
-    → between ≡ before ++ record { domain = domain; number = n; ok = ok } ∷ [] → new + good_calls between ≤ mid + good_calls now → new + good_calls before ≤ old + good_calls now
+    → between ≡ before ++ Invalidation domain n ok ∷ [] → new + good_calls between ≤ mid + good_calls now → new + good_calls before ≤ old + good_calls now
 good_then n ok old mid new domain before between now h told k =
     let first : mid + good_calls before ≤ old + good_calls between = good_within n ok old mid domain before between h told in omega (arith, first, k)
 
@@ -62,37 +62,37 @@ pub known_stays : (a : Option State) (w : ℕ) (q : Frames) (number : ℕ) (call
 known_stays None w q number calls = tt
 known_stays (Some s) w q number calls = record { events = []; allowed = (stays, sym (append-nil calls)); leads = refl }
 
-follows_freed : (seat : SeatState) (q : Frames) (n : ℕ) (ok : Bool) (number : ℕ) (before now : List Call) (s t : State) → now ≡ before ++ record { domain = number; number = n; ok = ok } ∷ []
+follows_freed : (seat : SeatState) (q : Frames) (n : ℕ) (ok : Bool) (number : ℕ) (before now : List Call) (s t : State) → now ≡ before ++ Invalidation number n ok ∷ []
     → ReleasesLast seat n ok true s t → DoesFollow seat.worker q (Some n) (unmapped.Freed q) number before now s t
 follows_freed seat q n ok number before now s t told d = record {
   events = Invalidated n ok ∷ d.events;
   allowed = (
     freed n ok d.events d.allowed,
-    told ∙ ap (λ cs. before ++ record { domain = number; number = n; ok = ok } ∷ cs) (sym (last_silent number d.allowed)),
+    told ∙ ap (λ cs. before ++ Invalidation number n ok ∷ cs) (sym (last_silent number d.allowed)),
   );
   leads = d.leads;
 }
 
-follows_not_freed : (seat : SeatState) (q : Frames) (n : ℕ) (ok : Bool) (number : ℕ) (before now : List Call) (s t : State) → now ≡ before ++ record { domain = number; number = n; ok = ok } ∷ []
+follows_not_freed : (seat : SeatState) (q : Frames) (n : ℕ) (ok : Bool) (number : ℕ) (before now : List Call) (s t : State) → now ≡ before ++ Invalidation number n ok ∷ []
     → ReleasesLast seat n ok false s t → DoesFollow seat.worker q (Some n) (unmapped.Queued q) number before now s t
 follows_not_freed seat q n ok number before now s t told d = record {
   events = Invalidated n ok ∷ d.events;
   allowed = (
     not_freed n ok d.events d.allowed,
-    told ∙ ap (λ cs. before ++ record { domain = number; number = n; ok = ok } ∷ cs) (sym (last_silent number d.allowed)),
+    told ∙ ap (λ cs. before ++ Invalidation number n ok ∷ cs) (sym (last_silent number d.allowed)),
   );
   leads = d.leads;
 }
 
 pub known_freed : (a c : Option State) (seat : SeatState) (q : Frames) (n : ℕ) (ok result : Bool) (number : ℕ) (before now : List Call) → result ≡ true
-    → now ≡ before ++ record { domain = number; number = n; ok = ok } ∷ [] → WhereKnown a c (ReleasesLast seat n ok result)
+    → now ≡ before ++ Invalidation number n ok ∷ [] → WhereKnown a c (ReleasesLast seat n ok result)
     → WhereKnown a c (DoesFollow seat.worker q (Some n) (unmapped.Freed q) number before now)
 known_freed a c seat q n ok result number before now is told p =
     known_one a c (ReleasesLast seat n ok true) (DoesFollow seat.worker q (Some n) (unmapped.Freed q) number before now) (rw is at p)
     (λ s t d. follows_freed seat q n ok number before now s t told d)
 
 pub known_not_freed : (a c : Option State) (seat : SeatState) (q : Frames) (n : ℕ) (ok result : Bool) (number : ℕ) (before now : List Call) → result ≡ false
-    → now ≡ before ++ record { domain = number; number = n; ok = ok } ∷ [] → WhereKnown a c (ReleasesLast seat n ok result)
+    → now ≡ before ++ Invalidation number n ok ∷ [] → WhereKnown a c (ReleasesLast seat n ok result)
     → WhereKnown a c (DoesFollow seat.worker q (Some n) (unmapped.Queued q) number before now)
 known_not_freed a c seat q n ok result number before now is told p =
     known_one a c (ReleasesLast seat n ok false) (DoesFollow seat.worker q (Some n) (unmapped.Queued q) number before now) (rw is at p)
@@ -101,31 +101,31 @@ known_not_freed a c seat q n ok result number before now is told p =
 -- After a full ring.
 
 rest_refused : (strict : Bool) (seat : SeatState) (id lo n : ℕ) (ok : Bool) (e : Refusal) (b : Option Reply) (number : ℕ) (before now : List Call) (s t : State)
-    → now ≡ before ++ record { domain = number; number = n; ok = ok } ∷ [] → ReleasesAgain strict seat id lo n ok (Some (reply.Refused e)) b s t
+    → now ≡ before ++ Invalidation number n ok ∷ [] → ReleasesAgain strict seat id lo n ok (Some (reply.Refused e)) b s t
     → DoesReleaseRest strict seat id lo n (Err e) number before now s t
 rest_refused strict seat id lo n ok e b number before now s t told d = record {
   events = Invalidated n ok ∷ d.events;
   allowed = (
     refused_again ok e b d.events d.allowed,
-    told ∙ ap (λ cs. before ++ record { domain = number; number = n; ok = ok } ∷ cs) (sym (again_silent number d.allowed)),
+    told ∙ ap (λ cs. before ++ Invalidation number n ok ∷ cs) (sym (again_silent number d.allowed)),
   );
   leads = d.leads;
 }
 
 pub known_rest_refused : (a c : Option State) (strict : Bool) (seat : SeatState) (id lo n : ℕ) (ok : Bool) (e : Refusal) (o b : Option Reply) (number : ℕ) (before now : List Call)
-    → o ≡ Some (reply.Refused e) → now ≡ before ++ record { domain = number; number = n; ok = ok } ∷ [] → WhereKnown a c (ReleasesAgain strict seat id lo n ok o b)
+    → o ≡ Some (reply.Refused e) → now ≡ before ++ Invalidation number n ok ∷ [] → WhereKnown a c (ReleasesAgain strict seat id lo n ok o b)
     → WhereKnown a c (DoesReleaseRest strict seat id lo n (Err e) number before now)
 known_rest_refused a c strict seat id lo n ok e o b number before now is told p =
     known_one a c (ReleasesAgain strict seat id lo n ok (Some (reply.Refused e)) b) (DoesReleaseRest strict seat id lo n (Err e) number before now) (rw is at p)
     (λ s t d. rest_refused strict seat id lo n ok e b number before now s t told d)
 
 rest_queued : (strict : Bool) (seat : SeatState) (w id lo n : ℕ) (ok : Bool) (q : Frames) (b : Option Reply) (u : Unmapped) (number : ℕ) (before mid now : List Call) (s m t : State)
-    → mid ≡ before ++ record { domain = number; number = n; ok = ok } ∷ [] → w ≡ seat.worker → ReleasesAgain strict seat id lo n ok (Some (reply.Queued q)) b s m
+    → mid ≡ before ++ Invalidation number n ok ∷ [] → w ≡ seat.worker → ReleasesAgain strict seat id lo n ok (Some (reply.Queued q)) b s m
     → DoesFollow w q (begun_of b) u number mid now m t → DoesReleaseRest strict seat id lo n (Ok u) number before now s t
 rest_queued strict seat w id lo n ok q b u number before mid now s m t told same d k =
     let es = d.events in let fs = k.events in
     let after : AfterQueued seat.worker t.flushes.finish q (begun_of b) u fs = subst (λ x. AfterQueued x t.flushes.finish q (begun_of b) u fs) same k.allowed.0 in
-    let c : Call = record { domain = number; number = n; ok = ok } in
+    let c : Call = Invalidation number n ok in
     let calls : now ≡ before ++ c ∷ sink_calls number (es ++ fs) =
     k.allowed.1 ∙ (ap (λ cs. cs ++ sink_calls number fs) told ∙ (append_assoc before (c ∷ []) (sink_calls number fs)
     ∙ ap (λ cs. before ++ c ∷ cs) (sym (quiet_then number es fs (again_silent number d.allowed))))) in
@@ -136,7 +136,7 @@ rest_queued strict seat w id lo n ok q b u number before mid now s m t told same
     }
 
 pub known_rest_queued : (a c e : Option State) (strict : Bool) (seat : SeatState) (w id lo n : ℕ) (ok : Bool) (q : Frames) (o b : Option Reply) (u : Unmapped) (number : ℕ) (before mid now : List Call)
-    → o ≡ Some (reply.Queued q) → mid ≡ before ++ record { domain = number; number = n; ok = ok } ∷ [] → w ≡ seat.worker → WhereKnown a c (ReleasesAgain strict seat id lo n ok o b)
+    → o ≡ Some (reply.Queued q) → mid ≡ before ++ Invalidation number n ok ∷ [] → w ≡ seat.worker → WhereKnown a c (ReleasesAgain strict seat id lo n ok o b)
     → WhereKnown c e (DoesFollow w q (begun_of b) u number mid now) → WhereKnown a e (DoesReleaseRest strict seat id lo n (Ok u) number before now)
 known_rest_queued a c e strict seat w id lo n ok q o b u number before mid now is told same p k =
     known_both a c e (ReleasesAgain strict seat id lo n ok (Some (reply.Queued q)) b) (DoesFollow w q (begun_of b) u number mid now) (DoesReleaseRest strict seat id lo n (Ok u) number before now)

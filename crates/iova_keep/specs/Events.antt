@@ -11,7 +11,7 @@ use Rattle.iova_model.specs.declared.totals.Totals.{Totals}
 use Rattle.iova_model.specs.Clients.{totals_of}
 use Rattle.iova_model.specs.State.{State}
 use Rattle.iova_model.specs.Laws.{add_totals, to_queue}
-use Rattle.iova_sink.specs.Calls.{Call}
+use Rattle.iova_sink.specs.Calls.{Invalidation, Call}
 use Rattle.iova_keep.specs.Steps.{Takes}
 use Rattle.iova_keep.specs.declared.ending.Ending.{Ending}
 use Rattle.iova_keep.specs.declared.ending.Ending.TheVariants as ending
@@ -41,7 +41,7 @@ abbrev pub sink_calls : ℕ → List Event → List Call
 sink_calls domain [] = []
 sink_calls domain (Ran st r ∷ es) = sink_calls domain es
 sink_calls domain (NotRun st held ∷ es) = sink_calls domain es
-sink_calls domain (Invalidated n ok ∷ es) = record { domain = domain; number = n; ok = ok } ∷ sink_calls domain es
+sink_calls domain (Invalidated n ok ∷ es) = Invalidation domain n ok ∷ sink_calls domain es
 
 -- A call does what is allowed of it.
 pub record Does (Allowed : List Event → Type 0) (s t : State) : Type 0 where

@@ -1,7 +1,7 @@
 //! Calls of several holds, over any keeper. The sink runs between two holds, never in one.
 ghost use Rattle.std.specs.Prelude.{◌≡◌, ℕ, ◌+◌, ◌<◌, ◌≤◌, ◌++◌, List, [], ◌∷◌, Some, Err, true, false, IfOk, IfErr, MatchResult};
 ghost use Rattle.iova_model.specs.Laws.{MovesTotals, IsReplyTo};
-ghost use Rattle.iova_sink.specs.Calls.{failed_calls};
+ghost use Rattle.iova_sink.specs.Calls.{Invalidation, failed_calls};
 ghost use Rattle.iova_keep.specs.Views.{TallyState, SeatState, WhereKnown, RisesWithin, queued_or, begun_or, IsUnmapRefusal, IsBeginRefusal, IsFlushRefusal, IsUnmapHeard};
 ghost use Rattle.iova_keep.specs.Answers.{DoesUnmap, DoesFlush, DoesTimeout};
 
@@ -25,10 +25,10 @@ pub fn flush<C: Ledger, F: Ledger, S: Ledger, G: Ledger, K: Keep<C, F, S, G>, D:
     ensures domain { WhereKnown (K.domain keeper.old) (K.domain keeper.new)
         (DoesFlush result (K.domain_number keeper.old) (D.calls sink.old) (D.calls sink.new)) }
     ensures sunk { IfOk result (λ no. D.calls sink.new ≡ D.calls
-        sink.old ++ record { domain = K.domain_number keeper.old; number = no; ok = true } ∷ []) }
+        sink.old ++ Invalidation (K.domain_number keeper.old) no true ∷ []) }
     ensures fault { result ≡ Err Refusal.SinkFault → (no : ℕ)
         × (D.calls sink.new ≡ D.calls
-        sink.old ++ record { domain = K.domain_number keeper.old; number = no; ok = false } ∷ []) }
+        sink.old ++ Invalidation (K.domain_number keeper.old) no false ∷ []) }
     ensures refusal { IfErr result IsFlushRefusal }
     ensures tally { RisesWithin tally.old.good tally.new.good (D.calls sink.old) (D.calls sink.new) }
     ensures parts { tally.new.parts ≡ tally.old.parts }
@@ -121,7 +121,7 @@ pub fn timeout<C: Ledger, F: Ledger, S: Ledger, G: Ledger, K: Keep<C, F, S, G>, 
 
 /// Calls the sink for a flush of the domain. Whether that was good.
 pub(crate) fn invalidated<D: Sink>(sink: &mut D, domain: u64, no: u64) -> bool
-    ensures { D.calls sink.new ≡ D.calls sink.old ++ record { domain = domain; number = no; ok = result } ∷ [] }
+    ensures { D.calls sink.new ≡ D.calls sink.old ++ Invalidation domain no result ∷ [] }
 {
     sink.invalidate(domain, no).is_ok()
 }

@@ -1,5 +1,5 @@
 //! What keeps a domain: the book itself, or a lock round it.
-ghost use Rattle.std.specs.Prelude.{◌≡◌, ◌≢◌, ℕ, ◌+◌, ◌<◌, ◌≤◌, ◌++◌, Bool, Option, Some, None, List, IfOk, IfErr, IfSome, IsOk, MatchOption, MatchResult, length, ◌⊎◌, if◌then◌else◌};
+ghost use Rattle.std.specs.Prelude.{◌≡◌, ◌≢◌, ℕ, ◌+◌, ◌<◌, ◌≤◌, ◌++◌, Bool, Option, Some, None, List, IfOk, IfErr, IfSome, IsOk, MatchOption, MatchResult, length, vec_len, vec_capacity, ◌⊎◌, if◌then◌else◌};
 ghost use Rattle.iova_range.specs.declared.limits.TheConstants.{MAX_HOLDINGS};
 ghost use Rattle.iova_range.specs.Frames.{Frames};
 ghost use Rattle.iova_model.specs.Clients.{totals};
@@ -278,7 +278,7 @@ pub trait Keep<C: Ledger, F: Ledger, S: Ledger, G: Ledger> {
         ensures rest { (seat.new.worker ≡ seat.old.worker) × (seat.new.tally ≡ seat.old.tally) };
 
     /// Appends the holdings of the seat's client, at most 4,096, rising by first frame. Refused by `NoClient` and `NoMemory`;
-    /// then nothing is appended.
+    /// then nothing is appended. With room for 4,096 more it takes no memory.
     fn holdings(
         &self,
         seat: &Seat<C, F, S, G>,
@@ -289,6 +289,8 @@ pub trait Keep<C: Ledger, F: Ledger, S: Ledger, G: Ledger> {
             (ReadsHoldings seat.now.worker id ranges.old.items ranges.new.items result) }
         ensures ok { IfOk result (λ u. (more : List Frames) × (ranges.new.items ≡ ranges.old.items ++ more) × Rises 0 more) }
         ensures most { length ranges.new.items ≤ length ranges.old.items + MAX_HOLDINGS }
+        ensures room { vec_len ranges.old + MAX_HOLDINGS ≤ vec_capacity ranges.old → result ≢ Err Refusal.NoMemory }
+        ensures capacity { vec_capacity ranges.old ≤ vec_capacity ranges.new }
         ensures err { IfErr result (λ e. ((e ≡ Refusal.NoClient) ⊎ (e ≡ Refusal.NoMemory))
             × (ranges.new.items ≡ ranges.old.items)) };
 

@@ -4,7 +4,9 @@ use Rattle.std.proofs.lemmas.List.{take-take, drop-take, take_all}
 use Rattle.std.proofs.KnownBytes.{Appends-trans}
 use Rattle.std.specs.Io.KnownBytes.{Appends}
 use mathlib.Core.Bool.{not}
-use Rattle.iova_sink.specs.Calls.{Call, is_last_failed}
+use Rattle.std.specs.Prelude.{if◌then◌else◌}
+use Rattle.iova_range.specs.Frames.{Frames}
+use Rattle.iova_sink.specs.Calls.{Call, Invalidation, Gone, last_failed_or, is_last_failed}
 
 pub take_plus : (bs : List ℕ) (i n : ℕ) → take (i + n) bs ≡ take i bs ++ take n (drop i bs)
 take_plus bs i n =
@@ -24,10 +26,22 @@ Appends-more a b c bs i n p q =
     let R : List ℕ → Type 0 = λ x. Appends b c (take n x) in
     subst P (sym (take_plus bs i n)) (Appends-trans a b c (take i bs) (take n (drop i bs)) p (subst R (rest_of bs i) q))
 
--- the last call decides
-pub last-added : (cs : List Call) (domain number : ℕ) (ok : Bool) → is_last_failed (cs ++ record { domain = domain; number = number; ok = ok } ∷ []) ≡ not ok
-last-added [] domain number true = refl
-last-added [] domain number false = refl
-last-added (x ∷ []) domain number true = refl
-last-added (x ∷ []) domain number false = refl
-last-added (x ∷ y ∷ cs) domain number ok = last-added (y ∷ cs) domain number ok
+-- the last invalidation decides
+last_of : (before : Bool) (cs : List Call) (domain number : ℕ) (ok : Bool) → last_failed_or before (cs ++ Invalidation domain number ok ∷ []) ≡ not ok
+last_of before [] domain number true = refl
+last_of before [] domain number false = refl
+last_of before (Invalidation d n o ∷ cs) domain number ok = last_of (if o then false else true) cs domain number ok
+last_of before (Gone d c rs o ∷ cs) domain number ok = last_of before cs domain number ok
+
+pub last-added : (cs : List Call) (domain number : ℕ) (ok : Bool) → is_last_failed (cs ++ Invalidation domain number ok ∷ []) ≡ not ok
+last-added cs domain number ok = last_of false cs domain number ok
+
+-- and a client that is gone changes nothing
+still_of : (before : Bool) (cs : List Call) (domain client : ℕ) (ranges : List Frames) (ok : Bool)
+    → last_failed_or before (cs ++ Gone domain client ranges ok ∷ []) ≡ last_failed_or before cs
+still_of before [] domain client ranges ok = refl
+still_of before (Invalidation d n o ∷ cs) domain client ranges ok = still_of (if o then false else true) cs domain client ranges ok
+still_of before (Gone d c rs o ∷ cs) domain client ranges ok = still_of before cs domain client ranges ok
+
+pub still-failed : (cs : List Call) (domain client : ℕ) (ranges : List Frames) (ok : Bool) → is_last_failed (cs ++ Gone domain client ranges ok ∷ []) ≡ is_last_failed cs
+still-failed cs domain client ranges ok = still_of false cs domain client ranges ok

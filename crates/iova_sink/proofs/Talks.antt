@@ -6,10 +6,11 @@ use Rattle.std.proofs.lemmas.List.{take_all, take_more, get_or_append_left, get_
 use Rattle.std.proofs.lemmas.Bool.{cases_lt}
 use Rattle.iova_sink.specs.declared.channel.ChannelFault.{ChannelFault}
 use Rattle.iova_sink.specs.declared.sink.SinkFault.{SinkFault}
+use Rattle.iova_sink.specs.declared.sink.SinkFault.TheVariants as fault
 use Rattle.iova_sink.specs.declared.asking.Heard.{Heard}
 use Rattle.iova_sink.specs.declared.asking.Heard.TheVariants as heard
-use Rattle.iova_sink.specs.declared.channel_sink.Span.{Span}
-use Rattle.iova_sink.specs.Records.{span_line, spans_text}
+use Rattle.iova_range.specs.Frames.{Frames}
+use Rattle.iova_sink.specs.Records.{range_line, ranges_text}
 use Rattle.iova_sink.specs.Channels.{Talk, with_sent, with_received, with_failure, with_stray, opened, closed, Connects, HasFailed, IsFront, IsCutOff, Readies, SendsAll, Requests, EndsAtLf, IsAnswer, IsSaid, Hears, Concludes, Answers}
 use Rattle.iova_sink.proofs.Records.{take_plus, rest_of}
 
@@ -111,39 +112,39 @@ requests_from a b c request (Err f) p q =
     }
 
 -- the lines of ranges
-spans_append : (xs ys : List Span) → spans_text (xs ++ ys) ≡ spans_text xs ++ spans_text ys
-spans_append [] ys = refl
-spans_append (x ∷ xs) ys =
-    ap (λ (t : List ℕ). span_line x ++ t) (spans_append xs ys) ∙ sym (append_assoc (span_line x) (spans_text xs) (spans_text ys))
+ranges_append : (xs ys : List Frames) → ranges_text (xs ++ ys) ≡ ranges_text xs ++ ranges_text ys
+ranges_append [] ys = refl
+ranges_append (x ∷ xs) ys =
+    ap (λ (t : List ℕ). range_line x ++ t) (ranges_append xs ys) ∙ sym (append_assoc (range_line x) (ranges_text xs) (ranges_text ys))
 
-pub spans_more : (spans : List Span) (i : ℕ) (d : Span) → i < length spans
-    → spans_text (take (i + 1) spans) ≡ spans_text (take i spans) ++ span_line (get_or spans i d)
-spans_more spans i d lt =
-    ap spans_text (take_more spans i d lt)
-    ∙ (spans_append (take i spans) (get_or spans i d ∷ []) ∙ ap (λ (x : List ℕ). spans_text (take i spans) ++ x) (append-nil (span_line (get_or spans i d))))
+pub ranges_more : (ranges : List Frames) (i : ℕ) (d : Frames) → i < length ranges
+    → ranges_text (take (i + 1) ranges) ≡ ranges_text (take i ranges) ++ range_line (get_or ranges i d)
+ranges_more ranges i d lt =
+    ap ranges_text (take_more ranges i d lt)
+    ∙ (ranges_append (take i ranges) (get_or ranges i d ∷ []) ∙ ap (λ (x : List ℕ). ranges_text (take i ranges) ++ x) (append-nil (range_line (get_or ranges i d))))
 
-pub spans_whole : (spans : List Span) (i : ℕ) (d : Span) → i < length spans
-    → spans_text spans ≡ spans_text (take i spans) ++ (span_line (get_or spans i d) ++ spans_text (drop (suc i) spans))
-spans_whole spans i d lt =
-    ap spans_text (sym (take-append-drop i spans))
-    ∙ (spans_append (take i spans) (drop i spans) ∙ ap (λ (x : List Span). spans_text (take i spans) ++ spans_text x) (drop-cons spans i d lt))
+pub ranges_whole : (ranges : List Frames) (i : ℕ) (d : Frames) → i < length ranges
+    → ranges_text ranges ≡ ranges_text (take i ranges) ++ (range_line (get_or ranges i d) ++ ranges_text (drop (suc i) ranges))
+ranges_whole ranges i d lt =
+    ap ranges_text (sym (take-append-drop i ranges))
+    ∙ (ranges_append (take i ranges) (drop i ranges) ∙ ap (λ (x : List Frames). ranges_text (take i ranges) ++ ranges_text x) (drop-cons ranges i d lt))
 
 -- one line more, or the failure in it
-pub span_sent : (a b c : Talk) (spans : List Span) (i : ℕ) (d : Span) (line : List ℕ) → i < length spans → b ≡ with_sent a (spans_text (take i spans))
-    → line ≡ span_line (get_or spans i d) → c ≡ with_sent b line → c ≡ with_sent a (spans_text (take (i + 1) spans))
-span_sent a b c spans i d line lt p is q =
+pub range_sent : (a b c : Talk) (ranges : List Frames) (i : ℕ) (d : Frames) (line : List ℕ) → i < length ranges → b ≡ with_sent a (ranges_text (take i ranges))
+    → line ≡ range_line (get_or ranges i d) → c ≡ with_sent b line → c ≡ with_sent a (ranges_text (take (i + 1) ranges))
+range_sent a b c ranges i d line lt p is q =
     q ∙ (ap (λ (t : Talk). with_sent t line) p
-    ∙ (sent_more a (spans_text (take i spans)) line
-    ∙ (ap (λ (x : List ℕ). with_sent a (spans_text (take i spans) ++ x)) is ∙ ap (with_sent a) (sym (spans_more spans i d lt)))))
+    ∙ (sent_more a (ranges_text (take i ranges)) line
+    ∙ (ap (λ (x : List ℕ). with_sent a (ranges_text (take i ranges) ++ x)) is ∙ ap (with_sent a) (sym (ranges_more ranges i d lt)))))
 
-pub span_cut : (a b c : Talk) (spans : List Span) (i : ℕ) (d : Span) (line : List ℕ) (f : ChannelFault) → i < length spans
-    → b ≡ with_sent a (spans_text (take i spans)) → line ≡ span_line (get_or spans i d) → SendsAll b c line (Err f) → SendsAll a c (spans_text spans) (Err f)
-span_cut a b c spans i d line f lt p is q =
-    let rest = spans_text (drop (suc i) spans) in
+pub range_cut : (a b c : Talk) (ranges : List Frames) (i : ℕ) (d : Frames) (line : List ℕ) (f : ChannelFault) → i < length ranges
+    → b ≡ with_sent a (ranges_text (take i ranges)) → line ≡ range_line (get_or ranges i d) → SendsAll b c line (Err f) → SendsAll a c (ranges_text ranges) (Err f)
+range_cut a b c ranges i d line f lt p is q =
+    let rest = ranges_text (drop (suc i) ranges) in
     let first : SendsAll b c (line ++ rest) (Err f) = sends_first b c line rest f q in
-    let whole : spans_text spans ≡ spans_text (take i spans) ++ (line ++ rest) =
-    spans_whole spans i d lt ∙ ap (λ (x : List ℕ). spans_text (take i spans) ++ (x ++ rest)) (sym is) in
-    subst (λ (x : List ℕ). SendsAll a c x (Err f)) (sym whole) (sends_both a b c (spans_text (take i spans)) (line ++ rest) (Err f) p first)
+    let whole : ranges_text ranges ≡ ranges_text (take i ranges) ++ (line ++ rest) =
+    ranges_whole ranges i d lt ∙ ap (λ (x : List ℕ). ranges_text (take i ranges) ++ (x ++ rest)) (sym is) in
+    subst (λ (x : List ℕ). SendsAll a c x (Err f)) (sym whole) (sends_both a b c (ranges_text (take i ranges)) (line ++ rest) (Err f) p first)
 
 -- An answer received
 
@@ -208,51 +209,49 @@ settles_closed a b c done failed h e = (h.0, h.1, split h.2)
 nothing_heard : (done : List ℕ) → IsAnswer [] done
 nothing_heard done = record { short = omega arith; one = λ k lt. absurd (omega arith) }
 
+still_failed : (a b c : Talk) → c ≡ closed b → HasFailed a b → HasFailed a c
+still_failed a b c is (inl lt) = inl (let same : c.failures ≡ b.failures = ap (λ (t : Talk). t.failures) is in omega arith)
+still_failed a b c is (inr lt) = inr (let same : c.strays ≡ b.strays = ap (λ (t : Talk). t.strays) is in omega arith)
+
 pub answers_from : (a b c : Talk) (request done failed : List ℕ) (s : Result Unit ChannelFault) (r : Result Unit SinkFault) → Requests a b request s
     → Concludes b c done failed s r → Answers a c request done failed r
 answers_from a b c request done failed (Ok u) (Ok v) p q = q ∙ ap (λ (t : Talk). with_received t done) p
-answers_from a b c request done failed (Ok u) (Err e) p q = split q
-  where
-    split : (c ≡ with_received b failed)
-        ⊎ ((got : List ℕ) × IsAnswer got done × ((c ≡ closed (with_failure (with_received b got))) ⊎ ((c ≡ closed (with_received b got)) × (got ≢ done) × (got ≢ failed))))
-        → Answers a c request done failed (Err e)
-    split (inl is) = inl (is ∙ ap (λ (t : Talk). with_received t failed) p)
-    split (inr (got, answer, inl is)) =
-        let whole : c ≡ closed (with_failure (with_received (with_sent (opened a) request) got)) = is ∙ ap (λ (t : Talk). closed (with_failure (with_received t got))) p in
-        inr (record {
-          front = request;
-          got = got;
-          is_front = ([], sym (append-nil request));
-          sent = ap (λ (t : Talk). t.sent) whole;
-          received = ap (λ (t : Talk). t.received) whole;
-          answer = answer;
-          unconnected = ap (λ (t : Talk). t.connected) whole;
-          failure = inl (inl (let more : c.failures ≡ a.failures + 1 = ap (λ (t : Talk). t.failures) whole in omega arith));
-        })
-    split (inr (got, answer, inr is)) =
-        let whole : c ≡ closed (with_received (with_sent (opened a) request) got) = is.0 ∙ ap (λ (t : Talk). closed (with_received t got)) p in
-        inr (record {
-          front = request;
-          got = got;
-          is_front = ([], sym (append-nil request));
-          sent = ap (λ (t : Talk). t.sent) whole;
-          received = ap (λ (t : Talk). t.received) whole;
-          answer = answer;
-          unconnected = ap (λ (t : Talk). t.connected) whole;
-          failure = inr (is.1, is.2);
-        })
+answers_from a b c request done failed (Ok u) (Err fault.Refused) p q = q ∙ ap (λ (t : Talk). with_received t failed) p
+answers_from a b c request done failed (Ok u) (Err fault.Broken) p (got, answer, inl is) =
+    let whole : c ≡ closed (with_failure (with_received (with_sent (opened a) request) got)) = is ∙ ap (λ (t : Talk). closed (with_failure (with_received t got))) p in
+    record {
+      front = request;
+      got = got;
+      is_front = ([], sym (append-nil request));
+      sent = ap (λ (t : Talk). t.sent) whole;
+      received = ap (λ (t : Talk). t.received) whole;
+      answer = answer;
+      unconnected = ap (λ (t : Talk). t.connected) whole;
+      failure = inl (inl (let more : c.failures ≡ a.failures + 1 = ap (λ (t : Talk). t.failures) whole in omega arith));
+    }
+answers_from a b c request done failed (Ok u) (Err fault.Broken) p (got, answer, inr is) =
+    let whole : c ≡ closed (with_received (with_sent (opened a) request) got) = is.0 ∙ ap (λ (t : Talk). closed (with_received t got)) p in
+    record {
+      front = request;
+      got = got;
+      is_front = ([], sym (append-nil request));
+      sent = ap (λ (t : Talk). t.sent) whole;
+      received = ap (λ (t : Talk). t.received) whole;
+      answer = answer;
+      unconnected = ap (λ (t : Talk). t.connected) whole;
+      failure = inr (is.1, is.2);
+    }
 answers_from a b c request done failed (Err f) (Ok v) p q = absurd q
-answers_from a b c request done failed (Err f) (Err e) p q = inr (record {
-  front = p.front;
-  got = [];
-  is_front = p.is_front;
-  sent = ap (λ (t : Talk). t.sent) q ∙ p.sent;
-  received = ap (λ (t : Talk). t.received) q ∙ (p.received ∙ known_nothing a.received);
-  answer = nothing_heard done;
-  unconnected = ap (λ (t : Talk). t.connected) q;
-  failure = inl (split p.failed);
-})
-  where
-    split : HasFailed a b → HasFailed a c
-    split (inl lt) = inl (let same : c.failures ≡ b.failures = ap (λ (t : Talk). t.failures) q in omega arith)
-    split (inr lt) = inr (let same : c.strays ≡ b.strays = ap (λ (t : Talk). t.strays) q in omega arith)
+answers_from a b c request done failed (Err f) (Err fault.Refused) p q = absurd (let no = q.0 in cc)
+answers_from a b c request done failed (Err f) (Err fault.Broken) p q =
+    let is = q.1 in
+    record {
+      front = p.front;
+      got = [];
+      is_front = p.is_front;
+      sent = ap (λ (t : Talk). t.sent) is ∙ p.sent;
+      received = ap (λ (t : Talk). t.received) is ∙ (p.received ∙ known_nothing a.received);
+      answer = nothing_heard done;
+      unconnected = ap (λ (t : Talk). t.connected) is;
+      failure = inl (still_failed a b c is p.failed);
+    }

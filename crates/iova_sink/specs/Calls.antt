@@ -1,42 +1,55 @@
 -- The calls of a sink.
 use Rattle.std.specs.Prelude.{ℕ, ◌+◌, Bool, true, false, List, [], ◌∷◌, ◌++◌, Option, Some, None, if◌then◌else◌}
 use Rattle.std.specs.declared.snapshot.Snapshot.{Snapshot}
+use Rattle.iova_range.specs.Frames.{Frames}
 
--- one call: the number of the domain, the number of the flush, and whether it was good
-pub record Call : Type 0 where
-  pub domain : ℕ
-  pub number : ℕ
-  pub ok : Bool
+-- One call, and whether it was good: a flush of a domain; or that a client of a domain is gone, which had these ranges.
+pub data Call : Type 0 where
+  Invalidation : (domain number : ℕ) → (ok : Bool) → Call
+  Gone : (domain client : ℕ) → (ranges : List Frames) → (ok : Bool) → Call
 
 -- one call more
 abbrev pub with_call : List Call → ℕ → ℕ → Bool → List Call
-with_call calls domain number ok = calls ++ record { domain = domain; number = number; ok = ok } ∷ []
+with_call calls domain number ok = calls ++ Invalidation domain number ok ∷ []
+
+abbrev pub with_gone : List Call → ℕ → ℕ → List Frames → Bool → List Call
+with_gone calls domain client ranges ok = calls ++ Gone domain client ranges ok ∷ []
+
+-- the last call, by what is kept of it
+abbrev pub last_call : Option (List Frames) → ℕ → ℕ → Bool → Call
+last_call None domain number ok = Invalidation domain number ok
+last_call (Some ranges) domain client ok = Gone domain client ranges ok
 
 -- the calls that are kept as a snapshot of those before the last
-abbrev pub calls_after : Option (Snapshot (List Call)) → ℕ → ℕ → Bool → List Call
-calls_after None domain number ok = []
-calls_after (Some before) domain number ok = with_call before.value domain number ok
+abbrev pub calls_after : Option (Snapshot (List Call)) → Call → List Call
+calls_after None last = []
+calls_after (Some before) last = before.value ++ last ∷ []
 
--- how many were good
+-- how many flushes a call is that ended well
+abbrev pub good_in : Call → ℕ
+good_in (Invalidation domain number ok) = if ok then 1 else 0
+good_in (Gone domain client ranges ok) = 0
+
+-- and how many calls that failed
+abbrev pub failed_in : Call → ℕ
+failed_in (Invalidation domain number ok) = if ok then 0 else 1
+failed_in (Gone domain client ranges ok) = if ok then 0 else 1
+
+-- how many invalidations were good
 abbrev pub good_calls : List Call → ℕ
 good_calls [] = 0
-good_calls (c ∷ cs) = (if c.ok then 1 else 0) + good_calls cs
+good_calls (c ∷ cs) = good_in c + good_calls cs
 
--- how many failed
+-- how many calls failed
 abbrev pub failed_calls : List Call → ℕ
 failed_calls [] = 0
-failed_calls (c ∷ cs) = (if c.ok then 0 else 1) + failed_calls cs
+failed_calls (c ∷ cs) = failed_in c + failed_calls cs
 
--- the last good one, oldest first, with what is to be answered where none is
-abbrev pub last_good_or : Option Call → List Call → Option Call
-last_good_or last [] = last
-last_good_or last (c ∷ cs) = last_good_or (if c.ok then Some c else last) cs
+-- whether the last invalidation failed, with what is to be answered where there was none
+abbrev pub last_failed_or : Bool → List Call → Bool
+last_failed_or before [] = before
+last_failed_or before (Invalidation domain number ok ∷ cs) = last_failed_or (if ok then false else true) cs
+last_failed_or before (Gone domain client ranges ok ∷ cs) = last_failed_or before cs
 
-abbrev pub last_good : List Call → Option Call
-last_good cs = last_good_or None cs
-
--- whether the last call failed; not where there was none
 abbrev pub is_last_failed : List Call → Bool
-is_last_failed [] = false
-is_last_failed (c ∷ []) = if c.ok then false else true
-is_last_failed (c ∷ d ∷ cs) = is_last_failed (d ∷ cs)
+is_last_failed cs = last_failed_or false cs

@@ -6,6 +6,7 @@ use Rattle.iova_sink.specs.declared.channel.ChannelFault.{ChannelFault}
 use Rattle.iova_sink.specs.declared.channel.Standing.{Standing}
 use Rattle.iova_sink.specs.declared.channel.Standing.TheVariants as standing
 use Rattle.iova_sink.specs.declared.sink.SinkFault.{SinkFault}
+use Rattle.iova_sink.specs.declared.sink.SinkFault.TheVariants as fault
 use Rattle.iova_sink.specs.declared.asking.Heard.{Heard}
 use Rattle.iova_sink.specs.declared.asking.Heard.TheVariants as heard
 
@@ -145,17 +146,19 @@ IsAnsweredBy old new request answer = new ≡ with_received (with_sent (opened o
 -- what became of a request that has these two answers
 abbrev pub Answers : Talk → Talk → List ℕ → List ℕ → List ℕ → Result Unit SinkFault → Type 0
 Answers old new request done failed (Ok u) = IsAnsweredBy old new request done
-Answers old new request done failed (Err e) = IsAnsweredBy old new request failed ⊎ BreaksOff old new request done failed
+Answers old new request done failed (Err fault.Refused) = IsAnsweredBy old new request failed
+Answers old new request done failed (Err fault.Broken) = BreaksOff old new request done failed
 
 -- what becomes of a request that was sent
 abbrev pub Settles : Talk → Talk → List ℕ → List ℕ → Result Unit SinkFault → Type 0
 Settles middle new done failed (Ok u) = new ≡ with_received middle done
-Settles middle new done failed (Err e) =
-    (new ≡ with_received middle failed)
-    ⊎ ((got : List ℕ) × IsAnswer got done × ((new ≡ closed (with_failure (with_received middle got))) ⊎ ((new ≡ closed (with_received middle got)) × (got ≢ done) × (got ≢ failed))))
+Settles middle new done failed (Err fault.Refused) = new ≡ with_received middle failed
+Settles middle new done failed (Err fault.Broken) =
+    (got : List ℕ) × IsAnswer got done
+    × ((new ≡ closed (with_failure (with_received middle got))) ⊎ ((new ≡ closed (with_received middle got)) × (got ≢ done) × (got ≢ failed)))
 
 -- what becomes of one that was sent or cut off
 abbrev pub Concludes : Talk → Talk → List ℕ → List ℕ → Result Unit ChannelFault → Result Unit SinkFault → Type 0
 Concludes middle new done failed (Ok u) result = Settles middle new done failed result
 Concludes middle new done failed (Err f) (Ok u) = ⊥
-Concludes middle new done failed (Err f) (Err e) = new ≡ closed middle
+Concludes middle new done failed (Err f) (Err e) = (e ≡ fault.Broken) × (new ≡ closed middle)

@@ -1,6 +1,6 @@
 -- The record of one invalidation, and what is asked of a peer that answers. Own.
 use Rattle.std.specs.Prelude.{ℕ, Bool, true, false, List, [], ◌∷◌, ◌++◌, length, codes, decimal}
-use Rattle.iova_sink.specs.declared.channel_sink.Span.{Span}
+use Rattle.iova_range.specs.Frames.{Frames}
 
 -- the line of one invalidation: a word, the domain's number, the flush's number, with a space between them, and a line feed
 abbrev pub inval_line : ℕ → ℕ → List ℕ
@@ -34,12 +34,12 @@ abbrev pub gone_line : ℕ → ℕ → ℕ → List ℕ
 gone_line domain client count = codes "gone" ++ (32 ∷ (decimal domain ++ (32 ∷ (decimal client ++ (32 ∷ (decimal count ++ 10 ∷ []))))))
 
 -- a range: its first frame, and how many there are
-abbrev pub span_line : Span → List ℕ
-span_line s = decimal s.lo ++ (32 ∷ (decimal s.len ++ 10 ∷ []))
+abbrev pub range_line : Frames → List ℕ
+range_line r = decimal r.lo ++ (32 ∷ (decimal r.len ++ 10 ∷ []))
 
-abbrev pub spans_text : List Span → List ℕ
-spans_text [] = []
-spans_text (s ∷ ss) = span_line s ++ spans_text ss
+abbrev pub ranges_text : List Frames → List ℕ
+ranges_text [] = []
+ranges_text (r ∷ rs) = range_line r ++ ranges_text rs
 
-abbrev pub gone_text : ℕ → ℕ → List Span → List ℕ
-gone_text domain client spans = gone_line domain client (length spans) ++ spans_text spans
+abbrev pub gone_text : ℕ → ℕ → List Frames → List ℕ
+gone_text domain client ranges = gone_line domain client (length ranges) ++ ranges_text ranges

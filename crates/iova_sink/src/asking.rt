@@ -88,7 +88,7 @@ pub(crate) fn conclude<C: Channel>(
         Ok(()) => settle(channel, word, number),
         Err(_) => {
             channel.close();
-            Err(SinkFault)
+            Err(SinkFault::Broken)
         }
     }
 }
@@ -102,10 +102,10 @@ fn settle<C: Channel>(channel: &mut C, word: &[u8], number: u64) -> Result<(), S
     let failed = answer(b"fail", word, number);
     match hear(channel, done.as_slice(), failed.as_slice()) {
         Heard::Done => Ok(()),
-        Heard::Failed => Err(SinkFault),
+        Heard::Failed => Err(SinkFault::Refused),
         Heard::Broken => {
             channel.close();
-            Err(SinkFault)
+            Err(SinkFault::Broken)
         }
     }
 }

@@ -1,7 +1,8 @@
 //! The calls of a sink, which only proofs see.
 ghost use Rattle.std.specs.Prelude.{◌≡◌, []};
-ghost use Rattle.iova_sink.specs.Calls.{with_call};
+ghost use Rattle.iova_sink.specs.Calls.{with_call, with_gone};
 
+use iova_range::range::Range;
 use std::marker::Model;
 use std::snapshot::Snapshot;
 
@@ -11,17 +12,20 @@ use std::snapshot::Snapshot;
 pub struct Calls {
     before: Option<Snapshot<Calls>>,
     domain: u64,
-    no: u64,
+    number: u64,
+    /// The ranges that the last call told of, where it was of a client that is gone.
+    ranges: Option<Snapshot<Vec<Range>>>,
     ok: bool,
 }
 
 impl Model for Calls {
-    ghost use Rattle.std.specs.Prelude.{List, length};
-    ghost use Rattle.iova_sink.specs.Calls.{Call, calls_after};
+    ghost use Rattle.std.specs.Prelude.{List, length, option_map};
+    ghost use Rattle.iova_sink.specs.Calls.{Call, calls_after, last_call};
 
     ghost Value = { List Call };
 
-    ghost view = { λ c. calls_after c.before c.domain c.no c.ok };
+    ghost view = { λ c. calls_after c.before
+        (last_call (option_map (λ s. s.value.items) c.ranges) c.domain c.number c.ok) };
 
     ghost size = { λ cs. length cs };
 
@@ -38,7 +42,8 @@ impl Calls {
         Calls {
             before: None,
             domain: 0,
-            no: 0,
+            number: 0,
+            ranges: None,
             ok: false,
         }
     }
@@ -50,7 +55,20 @@ impl Calls {
         let before = Snapshot::of(self);
         self.before = Some(before);
         self.domain = domain;
-        self.no = no;
+        self.number = no;
+        self.ranges = None;
+        self.ok = ok;
+    }
+
+    /// One call more, that this client of the domain is gone, which had these ranges: it was good or failed.
+    pub fn add_gone(&mut self, domain: u64, client: u64, ranges: &Vec<Range>, ok: bool)
+        ensures { self.new ≡ with_gone self.old domain client ranges.now.items ok }
+    {
+        let before = Snapshot::of(self);
+        self.before = Some(before);
+        self.domain = domain;
+        self.number = client;
+        self.ranges = Some(Snapshot::of(ranges));
         self.ok = ok;
     }
 }

@@ -1,8 +1,8 @@
 //! A sink over a channel: a peer invalidates, and answers.
 ghost use Rattle.std.specs.Prelude.{◌≡◌, ◌≤◌, [], is_ok, length, codes};
-ghost use Rattle.iova_sink.specs.Calls.{with_call};
+ghost use Rattle.iova_sink.specs.Calls.{with_call, with_gone};
 ghost use Rattle.iova_sink.specs.Channels.{Answers, Requests, SendsAll};
-ghost use Rattle.iova_sink.specs.Records.{inval_line, reset_line, gone_line, span_line, spans_text, gone_text, done_line, fail_line};
+ghost use Rattle.iova_sink.specs.Records.{inval_line, reset_line, gone_line, range_line, ranges_text, gone_text, done_line, fail_line};
 
 use crate::asking::{conclude, ready, send_all, tell};
 use crate::calls::Calls;
@@ -10,16 +10,8 @@ use crate::channel::{Channel, ChannelFault};
 use crate::record::{MAX_RECORD, put, put_digits, put_number, record_of};
 use crate::sink::{Sink, SinkFault};
 use arrayvec::ArrayVec;
+use iova_range::range::Range;
 use std::marker::Model;
-
-/// Frames in a row.
-#[derive(Clone, Copy, PartialEq, Eq, Debug)]
-pub struct Span {
-    /// The first frame.
-    pub lo: u64,
-    /// How many frames.
-    pub len: u64,
-}
 
 /// A sink over a channel. It sends a request for each call, one at a time, and takes the answer: `done` or `fail`, the request's
 /// word and its number, and a line feed. Any other bytes, the end of the stream and a failure of the channel, a time-out too,
@@ -68,17 +60,6 @@ impl<C: Channel> ChannelSink<C> {
         put(&mut line, b"\n");
         tell(&mut self.channel, line.as_slice(), b"reset", domain)
     }
-
-    /// Tells the peer that a client of the domain is gone, which had these ranges. Good exactly where it answers
-    /// `done gone <client>`. It takes no memory: the request goes out a line at a time.
-    pub fn gone(&mut self, domain: u64, client: u64, spans: &[Span]) -> Result<(), SinkFault>
-        ensures answers { Answers (C.talk self.old.channel) (C.talk self.new.channel) (gone_text domain client spans.now)
-            (done_line (codes "gone") client) (fail_line (codes "gone") client) result }
-        ensures calls { self.new.calls ≡ self.old.calls }
-    {
-        let sent = begin_gone(&mut self.channel, domain, client, spans);
-        conclude(&mut self.channel, sent, b"gone", client)
-    }
 }
 
 impl<C: Channel> Sink for ChannelSink<C> {
@@ -95,6 +76,20 @@ impl<C: Channel> Sink for ChannelSink<C> {
         self.calls.add(domain, no, told.is_ok());
         told
     }
+
+    /// Sends the line of the client that is gone, and one for each range. Good exactly where the peer answers
+    /// `done gone <client>`. It takes no memory: the request goes out a line at a time.
+    fn gone(&mut self, domain: u64, client: u64, ranges: &Vec<Range>) -> Result<(), SinkFault>
+        ensures calls { self.new.calls ≡ with_gone self.old.calls domain client ranges.now.items (is_ok result) }
+        ensures answers { Answers (C.talk self.old.channel) (C.talk self.new.channel)
+            (gone_text domain client ranges.now.items) (done_line (codes "gone") client) (fail_line (codes "gone") client)
+            result }
+    {
+        let sent = begin_gone(&mut self.channel, domain, client, ranges.as_slice());
+        let told = conclude(&mut self.channel, sent, b"gone", client);
+        self.calls.add_gone(domain, client, ranges, told.is_ok());
+        told
+    }
 }
 
 /// Makes a connection ready, and sends that the client is gone.
@@ -102,12 +97,12 @@ fn begin_gone<C: Channel>(
     channel: &mut C,
     domain: u64,
     client: u64,
-    spans: &[Span],
+    ranges: &[Range],
 ) -> Result<(), ChannelFault>
-    ensures { Requests (C.talk channel.old) (C.talk channel.new) (gone_text domain client spans.now) result }
+    ensures { Requests (C.talk channel.old) (C.talk channel.new) (gone_text domain client ranges.now) result }
 {
     match ready(channel) {
-        Ok(()) => send_gone(channel, domain, client, spans),
+        Ok(()) => send_gone(channel, domain, client, ranges),
         Err(fault) => Err(fault),
     }
 }
@@ -117,13 +112,13 @@ fn send_gone<C: Channel>(
     channel: &mut C,
     domain: u64,
     client: u64,
-    spans: &[Span],
+    ranges: &[Range],
 ) -> Result<(), ChannelFault>
-    ensures { SendsAll (C.talk channel.old) (C.talk channel.new) (gone_text domain client spans.now) result }
+    ensures { SendsAll (C.talk channel.old) (C.talk channel.new) (gone_text domain client ranges.now) result }
 {
-    let line = gone_of(domain, client, spans.len());
+    let line = gone_of(domain, client, ranges.len());
     match send_all(channel, line.as_slice()) {
-        Ok(()) => send_spans(channel, spans),
+        Ok(()) => send_ranges(channel, ranges),
         Err(fault) => Err(fault),
     }
 }
@@ -142,11 +137,11 @@ fn gone_of(domain: u64, client: u64, count: usize) -> ArrayVec<u8, MAX_RECORD>
 }
 
 /// Sends a line for each range.
-fn send_spans<C: Channel>(channel: &mut C, spans: &[Span]) -> Result<(), ChannelFault>
-    ensures { SendsAll (C.talk channel.old) (C.talk channel.new) (spans_text spans.now) result }
+fn send_ranges<C: Channel>(channel: &mut C, ranges: &[Range]) -> Result<(), ChannelFault>
+    ensures { SendsAll (C.talk channel.old) (C.talk channel.new) (ranges_text ranges.now) result }
 {
-    for span in spans {
-        let line = span_of(*span);
+    for range in ranges {
+        let line = line_of(*range);
         match send_all(channel, line.as_slice()) {
             Ok(()) => {}
             Err(fault) => return Err(fault),
@@ -156,12 +151,12 @@ fn send_spans<C: Channel>(channel: &mut C, spans: &[Span]) -> Result<(), Channel
 }
 
 /// The line of a range.
-fn span_of(span: Span) -> ArrayVec<u8, MAX_RECORD>
-    ensures { result.items ≡ span_line span }
+fn line_of(range: Range) -> ArrayVec<u8, MAX_RECORD>
+    ensures { result.items ≡ range_line range }
 {
     let mut line = ArrayVec::new();
-    put_digits(&mut line, span.lo);
-    put_number(&mut line, span.len);
+    put_digits(&mut line, range.lo());
+    put_number(&mut line, range.len());
     put(&mut line, b"\n");
     line
 }

@@ -3,6 +3,7 @@ ghost use Rattle.std.specs.Prelude.{◌≡◌, []};
 
 use crate::calls::Calls;
 use crate::sink::{Sink, SinkFault};
+use iova_range::range::Range;
 use std::marker::Model;
 use std::sync::atomic::{AtomicBool, Ordering};
 use std::thread;
@@ -82,6 +83,12 @@ impl<'a> Sink for GateSink<'a> {
         self.inside.raise();
         let ok = self.open.wait();
         self.calls.add(domain, no, ok);
-        if ok { Ok(()) } else { Err(SinkFault) }
+        if ok { Ok(()) } else { Err(SinkFault::Broken) }
+    }
+
+    /// Is good at once.
+    fn gone(&mut self, domain: u64, client: u64, ranges: &Vec<Range>) -> Result<(), SinkFault> {
+        self.calls.add_gone(domain, client, ranges, true);
+        Ok(())
     }
 }

@@ -1,9 +1,10 @@
 //! A sink that writes nothing.
 ghost use Rattle.std.specs.Prelude.{◌≡◌, ◌+◌, ◌↔◌, [], is_ok, IsErr, length};
-ghost use Rattle.iova_sink.specs.Calls.{with_call};
+ghost use Rattle.iova_sink.specs.Calls.{with_call, with_gone};
 
 use crate::calls::Calls;
 use crate::sink::{Sink, SinkFault};
+use iova_range::range::Range;
 use std::marker::Model;
 
 /// Fails at its `fail_at`-th call, at none where that is 0. For tests.
@@ -50,6 +51,17 @@ impl Sink for MemorySink {
         let ok = self.ahead != 1;
         self.ahead = self.ahead.saturating_sub(1);
         self.calls.add(domain, no, ok);
-        if ok { Ok(()) } else { Err(SinkFault) }
+        if ok { Ok(()) } else { Err(SinkFault::Broken) }
+    }
+
+    fn gone(&mut self, domain: u64, client: u64, ranges: &Vec<Range>) -> Result<(), SinkFault>
+        ensures calls { self.new.calls ≡ with_gone self.old.calls domain client ranges.now.items (is_ok result) }
+        ensures fails { IsErr result ↔ (length self.old.calls + 1 ≡ self.old.fail_at) }
+        ensures same { self.new.fail_at ≡ self.old.fail_at }
+    {
+        let ok = self.ahead != 1;
+        self.ahead = self.ahead.saturating_sub(1);
+        self.calls.add_gone(domain, client, ranges, ok);
+        if ok { Ok(()) } else { Err(SinkFault::Refused) }
     }
 }

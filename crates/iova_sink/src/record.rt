@@ -1,7 +1,7 @@
 //! A sink that writes a record of each good invalidation.
-ghost use Rattle.std.specs.Prelude.{◌≡◌, ℕ, ◌+◌, ◌<◌, ◌≤◌, [], ◌∷◌, ◌++◌, is_ok, length, take, decimal, OnOk, OnErr};
+ghost use Rattle.std.specs.Prelude.{◌≡◌, ℕ, ◌+◌, ◌<◌, ◌≤◌, [], ◌∷◌, ◌++◌, is_ok, length, take, decimal, IsOk, OnOk, OnErr};
 ghost use Rattle.std.specs.Io.KnownBytes.{Appends};
-ghost use Rattle.iova_sink.specs.Calls.{is_last_failed, with_call};
+ghost use Rattle.iova_sink.specs.Calls.{is_last_failed, with_call, with_gone};
 ghost use Rattle.iova_sink.specs.Counts.{CountsFailure};
 ghost use Rattle.iova_sink.specs.Records.{record_text};
 
@@ -9,6 +9,7 @@ use crate::calls::Calls;
 use crate::device::{Device, DeviceFault};
 use crate::sink::{Sink, SinkFault};
 use arrayvec::ArrayVec;
+use iova_range::range::Range;
 use itoa::Buffer;
 use std::marker::Model;
 
@@ -73,7 +74,17 @@ impl<D: Device> Sink for RecordSink<D> {
         let ok = put_all(&mut self.device, text.as_slice()).is_ok();
         self.broken = !ok;
         self.calls.add(domain, no, ok);
-        if ok { Ok(()) } else { Err(SinkFault) }
+        if ok { Ok(()) } else { Err(SinkFault::Broken) }
+    }
+
+    /// Does nothing, and is good: a device doesn't answer.
+    fn gone(&mut self, domain: u64, client: u64, ranges: &Vec<Range>) -> Result<(), SinkFault>
+        ensures calls { self.new.calls ≡ with_gone self.old.calls domain client ranges.now.items (is_ok result) }
+        ensures good { IsOk result }
+        ensures same { self.new.device ≡ self.old.device }
+    {
+        self.calls.add_gone(domain, client, ranges, true);
+        Ok(())
     }
 }
 

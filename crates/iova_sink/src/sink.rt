@@ -1,13 +1,20 @@
-//! What is told of each flush.
+//! What is told of each flush, and of each client that is gone.
 ghost use Rattle.std.specs.Prelude.{◌≡◌, is_ok, List};
-ghost use Rattle.iova_sink.specs.Calls.{Call, with_call};
+ghost use Rattle.iova_sink.specs.Calls.{Call, with_call, with_gone};
 
-/// The invalidation failed.
+use iova_range::range::Range;
+
+/// A call of a sink failed.
 #[derive(Clone, Copy, PartialEq, Eq, Debug)]
-pub struct SinkFault;
+pub enum SinkFault {
+    /// Whoever was told answered that it failed.
+    Refused,
+    /// It wasn't told whole, or no whole answer came.
+    Broken,
+}
 
-/// A sink of invalidations. It tells the list of its calls; how many of them were good, how many failed, and which was
-/// the last good one are functions of that list. Own.
+/// A sink of invalidations, which is also told which clients are gone. It tells the list of its calls; how many of them
+/// were good and how many failed are functions of that list. Own.
 pub trait Sink {
     /// The calls that it was made, oldest first, with their answers.
     ghost calls: { Self → List Call };
@@ -16,4 +23,10 @@ pub trait Sink {
     /// the flush hasn't ended well then.
     fn invalidate(&mut self, domain: u64, no: u64) -> Result<(), SinkFault>
         ensures { calls self.new ≡ with_call (calls self.old) domain no (is_ok result) };
+
+    /// Tells that this client of the domain is gone, which had these ranges: nothing of them may be mapped any more once
+    /// this has ended well. A sink without an answer has nothing to do. The ranges come in a `Vec`, of which proofs keep
+    /// what it was.
+    fn gone(&mut self, domain: u64, client: u64, ranges: &Vec<Range>) -> Result<(), SinkFault>
+        ensures { calls self.new ≡ with_gone (calls self.old) domain client ranges.now.items (is_ok result) };
 }
