@@ -7,11 +7,13 @@ use Rattle.iova_model.specs.State.{State}
 use Rattle.iova_sink.specs.Calls.{Call}
 use Rattle.iova_keep.specs.declared.ending.Ending.{Ending}
 use Rattle.iova_keep.specs.Views.{SeatState, stat_of}
-use Rattle.iova_keep.specs.Answers.{Opens, Allocs, DoesEndClient}
+use Rattle.iova_keep.specs.Answers.{Opens, Allocs}
 use Rattle.iova_proto.specs.declared.answer.Answer.{Answer}
 use Rattle.iova_proto.specs.declared.answer.Answer.TheVariants as answer
 use Rattle.iova_proto.specs.declared.request.Request.{Request}
 use Rattle.iova_proto.specs.declared.request.Request.TheVariants as request
+use Rattle.iova_session.specs.declared.leaving.Leaving.{Leaving}
+use Rattle.iova_session.specs.Leaving.{Departs}
 use Rattle.iova_session.specs.Pairs.{Pair}
 use Rattle.iova_session.specs.Desks.{MovesBy, SessionState, given_by, taken_by, next_client, count_listed, client_after}
 use Rattle.iova_session.specs.Domains.{Lists, Frees, FlushesAndDrains}
@@ -109,12 +111,12 @@ abbrev pub TellsAtMost : Option Ending → Result Ending Refusal → Type 0
 TellsAtMost None result = Unit {0}
 TellsAtMost (Some told) result = result ≡ Ok told
 
--- The end of the client that a session opened, of which this is told; where none was opened, nothing is done.
+-- The client that a session opened leaves, of whose end this is told; where none was opened, nothing is done.
 abbrev pub EndDoes : ℕ → Option ℕ → Option Ending → Standing → Standing → Type 0
 EndDoes number None told a b = (told ≡ None) × (b ≡ a)
 EndDoes number (Some id) told a b =
-    (result : Result Ending Refusal) × TellsAtMost told result
-    × DoesEndClient a.seat b.seat.held id result number a.calls b.calls a.domain b.domain
+    (l : Leaving) × TellsAtMost told l.ended
+    × Departs a.seat b.seat.held id l number a.calls b.calls a.domain b.domain
 
 -- A whole session: its pairs lead from where it began to where its client is ended, and that end leads on.
 pub record SessionLeads (strict : Bool) (number : ℕ) (ps : List Pair) (told : Option Ending) (old new : SeatState)

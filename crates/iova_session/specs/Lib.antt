@@ -4,6 +4,7 @@ pub mod Sessions
 pub mod Rounds
 pub mod Desks
 pub mod Domains
+pub mod Leaving
 pub mod Leading
 pub mod Posts
 pub mod OneByOne

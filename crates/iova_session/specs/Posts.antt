@@ -1,13 +1,14 @@
 -- How a session ends at a post. Own.
-use Rattle.std.specs.Prelude.{ℕ, ◌≡◌, ◌+◌, ◌⊎◌, List, [], ◌∷◌, ◌++◌, length, Option, Some, None, Result, Ok, Err, Bool, true, false}
-use Rattle.iova_range.specs.declared.refusal.Refusal.{Refusal}
+use Rattle.std.specs.Prelude.{ℕ, ◌≡◌, ◌+◌, ◌<◌, ◌⊎◌, List, [], ◌∷◌, ◌++◌, length, Option, Some, None, Bool, true, false}
 use Rattle.iova_model.specs.declared.totals.Totals.{Totals}
 use Rattle.iova_model.specs.State.{State}
 use Rattle.iova_sink.specs.Calls.{Call}
-use Rattle.iova_keep.specs.Answers.{DoesEndClient}
 use Rattle.iova_keep.specs.Views.{SeatState}
 use Rattle.iova_keep.specs.declared.ending.Ending.{Ending}
 use Rattle.iova_keep.specs.declared.ending.Ending.TheVariants as ending
+use Rattle.iova_range.specs.declared.limits.TheConstants.{MAX_HOLDINGS}
+use Rattle.iova_session.specs.declared.leaving.Attempt.{Attempt}
+use Rattle.iova_session.specs.Leaving.{Attempts}
 use Rattle.iova_session.specs.Pairs.{Pair}
 use Rattle.iova_session.specs.Desks.{client_after, given_in, taken_in}
 
@@ -36,22 +37,22 @@ IsSublist [] ys = Unit {0}
 IsSublist (x ∷ xs) [] = ⊥
 IsSublist (x ∷ xs) (y ∷ ys) = ((x ≡ y) × IsSublist xs ys) ⊎ IsSublist (x ∷ xs) ys
 
--- a client is left after its end was tried
-abbrev pub still_waits : Result Ending Refusal → Bool
-still_waits (Ok (ending.Ended queued)) = false
-still_waits (Ok (ending.Waiting left why)) = true
-still_waits (Err e) = false
-
--- and then it is kept
+-- a client that is left is kept
 abbrev pub kept_if : Bool → ℕ → List ℕ
 kept_if true id = id ∷ []
 kept_if false id = []
 
--- Each of the clients is tried once, in their order, and those that wait still are kept: in a domain of this number, from s to t.
-abbrev pub Retries : ℕ → List ℕ → List ℕ → SeatState → SeatState → List Call → List Call → State → State → Type 0
-Retries number [] kept seat left before now s t = (kept ≡ []) × (left ≡ seat) × (now ≡ before) × (t ≡ s)
-Retries number (id ∷ ids) kept seat left before now s t =
-    (result : Result Ending Refusal) × (mid : SeatState) × (calls : List Call) × (here : State) × (more : List ℕ)
-    × (mid.worker ≡ seat.worker) × DoesEndClient seat mid.held id result number before calls s here
-    × (kept ≡ kept_if (still_waits result) id ++ more)
-    × Retries number ids more mid left calls now here t
+-- Each of the clients is tried once, in their order, until the round is over, and those that wait still are kept: in a domain of
+-- this number, from s to t.
+abbrev pub Retries : Bool → ℕ → List ℕ → List ℕ → SeatState → SeatState → List Call → List Call → State → State → Type 0
+Retries over number [] kept seat left before now s t = (kept ≡ []) × (left ≡ seat) × (now ≡ before) × (t ≡ s)
+Retries over number (id ∷ ids) kept seat left before now s t =
+    (a : Attempt) × (mid : SeatState) × (calls : List Call) × (here : State) × (more : List ℕ)
+    × (mid.worker ≡ seat.worker) × Attempts over seat mid id a number before calls s here
+    × (kept ≡ kept_if a.kept id ++ more)
+    × Retries a.over number ids more mid left calls now here t
+
+-- and no round is over before it begins where there is room for the ranges of a client
+abbrev pub RetriesAll : ℕ → ℕ → List ℕ → List ℕ → SeatState → SeatState → List Call → List Call → State → State → Type 0
+RetriesAll room number ids kept seat left before now s t =
+    (over : Bool) × (over ≡ true → room < MAX_HOLDINGS) × Retries over number ids kept seat left before now s t

@@ -7,6 +7,7 @@ pub mod desk;
 pub mod end;
 mod gathering;
 mod keeper_desk;
+pub mod leaving;
 pub mod link;
 pub mod memory_link;
 pub mod one_by_one;

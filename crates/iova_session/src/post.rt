@@ -1,8 +1,11 @@
 //! A worker's post: its seat, and the clients whose end waits.
-ghost use Rattle.std.specs.Prelude.{◌≡◌, []};
+ghost use Rattle.std.specs.Prelude.{◌≡◌, ◌≤◌, ◌+◌, true, [], vec_len, vec_capacity};
+ghost use Rattle.iova_range.specs.declared.limits.TheConstants.{MAX_HOLDINGS};
 
 use iova_keep::seat::Seat;
 use iova_model::step::ClientId;
+use iova_range::limits::MAX_HOLDINGS;
+use iova_range::range::Range;
 use std::alloc::Global;
 use std::sync::ledger::Ledger;
 
@@ -13,6 +16,9 @@ pub struct Post<C: Ledger, F: Ledger, S: Ledger, G: Ledger> {
     pub seat: Seat<C, F, S, G>,
     /// The clients of ended sessions that are not gone yet, oldest first.
     pub waiting: Vec<ClientId>,
+    /// Room for the ranges of a client that leaves: what is in it is what the sink was told last. The first session at the
+    /// post takes it.
+    pub ranges: Vec<Range>,
 }
 
 impl<C: Ledger, F: Ledger, S: Ledger, G: Ledger> Post<C, F, S, G> {
@@ -24,6 +30,28 @@ impl<C: Ledger, F: Ledger, S: Ledger, G: Ledger> Post<C, F, S, G> {
         Post {
             seat,
             waiting: Vec::new(alloc),
+            ranges: Vec::new(alloc),
         }
+    }
+
+    /// Takes room for one client more that waits, and for the ranges of one that leaves. Whether it was had.
+    pub(crate) fn take_room(&mut self) -> bool
+        ensures seat { self.new.seat ≡ self.old.seat }
+        ensures waiting { self.new.waiting.items ≡ self.old.waiting.items }
+        ensures room { result ≡ true → vec_len self.new.waiting + 1 ≤ vec_capacity self.new.waiting }
+        ensures ranges { result ≡ true → MAX_HOLDINGS ≤ vec_capacity self.new.ranges }
+    {
+        self.waiting.try_reserve(1).is_ok() && self.has_ranges()
+    }
+
+    /// Takes room for the ranges of a client that leaves, where it isn't there. Whether it was had.
+    pub(crate) fn has_ranges(&mut self) -> bool
+        ensures seat { self.new.seat ≡ self.old.seat }
+        ensures waiting { self.new.waiting ≡ self.old.waiting }
+        ensures there { MAX_HOLDINGS ≤ vec_capacity self.old.ranges → result ≡ true }
+        ensures ranges { result ≡ true → MAX_HOLDINGS ≤ vec_capacity self.new.ranges }
+    {
+        self.ranges.clear();
+        self.ranges.try_reserve(MAX_HOLDINGS).is_ok()
     }
 }

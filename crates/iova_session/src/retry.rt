@@ -1,19 +1,20 @@
 //! The clients of a post whose end waits, tried again.
-ghost use Rattle.std.specs.Prelude.{◌≡◌, length};
+ghost use Rattle.std.specs.Prelude.{◌≡◌, ◌≢◌, ◌≤◌, true, length, vec_capacity};
+ghost use Rattle.iova_range.specs.declared.limits.TheConstants.{MAX_HOLDINGS};
 ghost use Rattle.iova_keep.specs.Views.{WhereKnown};
-ghost use Rattle.iova_session.specs.Posts.{IsSublist, Retries, still_waits};
+ghost use Rattle.iova_session.specs.Posts.{IsSublist, Retries, RetriesAll};
 ghost use Rattle.iova_session.specs.Desks.{KeepsPlace};
 
+use crate::leaving::attempt;
 use crate::post::Post;
-use iova_keep::closing::end_client;
-use iova_keep::ending::Ending;
 use iova_keep::keep::Keep;
-use iova_range::refusal::Refusal;
 use iova_sink::sink::Sink;
 use std::sync::ledger::Ledger;
 
-/// Tries once to end each client that waits, in the order of the list, and gives how many are left. One that is gone
-/// leaves the list, and so does one that isn't known any more. Takes no memory. Own.
+/// Tries once to end each client that waits, in the order of the list, and gives how many are left: the sink is told again
+/// that it is gone, and which ranges it still holds, and then they are queued. One that is gone leaves the list, and so does
+/// one that isn't known any more. A sink that gives no answer to that ends the round: those behind the client wait on. Takes
+/// no memory where a session was served at the post. Own.
 pub fn retry<C: Ledger, F: Ledger, S: Ledger, G: Ledger, K: Keep<C, F, S, G>, D: Sink>(
     keeper: &mut K,
     post: &mut Post<C, F, S, G>,
@@ -23,29 +24,46 @@ pub fn retry<C: Ledger, F: Ledger, S: Ledger, G: Ledger, K: Keep<C, F, S, G>, D:
     ensures strict { K.strict keeper.new ≡ K.strict keeper.old }
     ensures left { result ≡ length post.new.waiting.items }
     ensures waiting { IsSublist post.new.waiting.items post.old.waiting.items }
-    ensures domain { WhereKnown (K.domain keeper.old) (K.domain keeper.new) (Retries (K.domain_number keeper.old)
+    ensures domain { WhereKnown (K.domain keeper.old) (K.domain keeper.new) (RetriesAll (vec_capacity post.old.ranges)
+        (K.domain_number keeper.old) post.old.waiting.items post.new.waiting.items post.old.seat post.new.seat
+        (D.calls sink.old) (D.calls sink.new)) }
+    ensures place { KeepsPlace post.old.seat post.new.seat (D.calls sink.old) (D.calls sink.new) }
+{
+    if post.waiting.is_empty() {
+        return 0;
+    }
+    let over = !post.has_ranges();
+    retry_until(keeper, post, sink, over)
+}
+
+/// The same, where the round may be over.
+fn retry_until<C: Ledger, F: Ledger, S: Ledger, G: Ledger, K: Keep<C, F, S, G>, D: Sink>(
+    keeper: &mut K,
+    post: &mut Post<C, F, S, G>,
+    sink: &mut D,
+    over: bool,
+) -> u64
+    requires { over ≢ true → MAX_HOLDINGS ≤ vec_capacity post.old.ranges }
+    ensures number { K.domain_number keeper.new ≡ K.domain_number keeper.old }
+    ensures strict { K.strict keeper.new ≡ K.strict keeper.old }
+    ensures left { result ≡ length post.new.waiting.items }
+    ensures waiting { IsSublist post.new.waiting.items post.old.waiting.items }
+    ensures domain { WhereKnown (K.domain keeper.old) (K.domain keeper.new) (Retries over (K.domain_number keeper.old)
         post.old.waiting.items post.new.waiting.items post.old.seat post.new.seat (D.calls sink.old)
         (D.calls sink.new)) }
     ensures place { KeepsPlace post.old.seat post.new.seat (D.calls sink.old) (D.calls sink.new) }
 {
+    let mut over = over;
     let mut left = 0;
     'trying: for at in 0..post.waiting.len() {
         let id = post.waiting[at];
-        if waits(end_client(keeper, &mut post.seat, sink, id)) {
+        let tried = attempt(over, keeper, &mut post.seat, sink, &mut post.ranges, id);
+        over = tried.over;
+        if tried.kept {
             post.waiting[left] = id;
             left += 1;
         }
     }
     post.waiting.truncate(left);
     left as u64
-}
-
-/// Whether a client is left after its end was tried.
-fn waits(ended: Result<Ending, Refusal>) -> bool
-    ensures { result ≡ still_waits ended }
-{
-    match ended {
-        Ok(Ending::Waiting(_, _)) => true,
-        Ok(Ending::Ended(_)) | Err(_) => false,
-    }
 }

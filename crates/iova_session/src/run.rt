@@ -1,7 +1,7 @@
 //! A session at a post, from its first byte to the end of its client.
 ghost use Rattle.std.specs.Prelude.{◌≡◌, ℕ, ◌+◌, ◌++◌, ◌≤◌, List, None, Some, vec_len, vec_capacity};
 ghost use Rattle.std.specs.Io.KnownBytes.{Appends, Consumes};
-ghost use Rattle.iova_range.specs.declared.limits.TheConstants.{MAX_REQUESTS};
+ghost use Rattle.iova_range.specs.declared.limits.TheConstants.{MAX_HOLDINGS, MAX_REQUESTS};
 ghost use Rattle.iova_sink.specs.Calls.{Call};
 ghost use Rattle.iova_keep.specs.Views.{WhereKnown};
 ghost use Rattle.iova_session.specs.Domains.{LeavesOthers};
@@ -13,11 +13,11 @@ ghost use Rattle.iova_session.specs.Posts.{EndsClient, EndsFrom};
 
 use crate::end::End;
 use crate::keeper_desk::{KeeperDesk, Lent, Opening};
+use crate::leaving::leave;
 use crate::link::Link;
 use crate::post::Post;
 use crate::serve::serve;
 use crate::session::Session;
-use iova_keep::closing::end_client;
 use iova_keep::ending::Ending;
 use iova_keep::keep::Keep;
 use iova_keep::seat::Seat;
@@ -147,7 +147,8 @@ fn serve_at<C: Ledger, F: Ledger, S: Ledger, G: Ledger, K: Keep<C, F, S, G>, D: 
 }
 
 /// Serves one session at the post, and then ends the client that its `hello` opened, whatever ended the session. A
-/// client that waits is put on the post's list, last. `NoMemory` without a read where there is no room for that.
+/// client that waits is put on the post's list, last. `NoMemory` without a read where there is no room for that. Where the client
+/// holds ranges, the sink is told that it is gone, and of all of them, before the first is queued; where the sink fails, none is.
 /// `client` is none where no client was opened; so it would be where the seat's shares weren't as they have to be,
 /// but no run comes to that. Over a keeper that tells its domain, each request does there what its call of the lock
 /// does, and is answered by what that call answers. Own.
@@ -186,7 +187,7 @@ pub fn run_session<
 {
     // for the proof: whose holdings a step leaves
     others_keep_their_holdings();
-    if post.waiting.try_reserve(1).is_err() {
+    if !post.take_room() {
         return SessionEnd {
             end: End::NoMemory,
             client: None,
@@ -210,7 +211,8 @@ fn end_opened<C: Ledger, F: Ledger, S: Ledger, G: Ledger, K: Keep<C, F, S, G>, D
     id: ClientId,
     before: Totals,
 ) -> Option<Ending>
-    requires { vec_len post.old.waiting + 1 ≤ vec_capacity post.old.waiting }
+    requires room { vec_len post.old.waiting + 1 ≤ vec_capacity post.old.waiting }
+    requires ranges { MAX_HOLDINGS ≤ vec_capacity post.old.ranges }
     ensures number { K.domain_number keeper.new ≡ K.domain_number keeper.old }
     ensures strict { K.strict keeper.new ≡ K.strict keeper.old }
     ensures domain { WhereKnown (K.domain keeper.old) (K.domain keeper.new) (LeavesOthers (Some id) result) }
@@ -225,7 +227,8 @@ fn end_opened<C: Ledger, F: Ledger, S: Ledger, G: Ledger, K: Keep<C, F, S, G>, D
     others_keep_their_holdings();
     steps_keep_validity();
     keeper.domain_is_kept();
-    match end_client(keeper, &mut post.seat, sink, id) {
+    let left = leave(keeper, &mut post.seat, sink, &mut post.ranges, id);
+    match left.ended {
         Err(_) => None,
         Ok(Ending::Ended(queued)) => {
             if shares_of(&post.seat) == before {

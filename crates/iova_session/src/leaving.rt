@@ -1,0 +1,129 @@
+//! The end of a client whose session is over: its sink is told of its ranges first.
+ghost use Rattle.std.specs.Prelude.{◌≡◌, ◌≤◌, [], true, is_ok, vec_capacity, IfSome};
+ghost use Rattle.iova_range.specs.declared.limits.TheConstants.{MAX_HOLDINGS};
+ghost use Rattle.iova_keep.specs.Views.{WhereKnown, LowersTold};
+ghost use Rattle.iova_session.specs.Desks.{KeepsPlace};
+ghost use Rattle.iova_session.specs.Leaving.{Attempts, Departs, IsTold, holdings_in, still_waits};
+ghost use Rattle.iova_model.specs.Clients.{client_of};
+
+use iova_keep::closing::end_client;
+use iova_keep::ending::{Ending, Why};
+use iova_keep::keep::Keep;
+use iova_keep::seat::Seat;
+use iova_model::step::ClientId;
+use iova_range::range::Range;
+use iova_range::refusal::Refusal;
+use iova_sink::sink::{Sink, SinkFault};
+use std::sync::ledger::Ledger;
+
+/// What the end of a client that leaves came to. Own.
+#[derive(Clone, Copy)]
+pub struct Leaving {
+    /// How its end went; an error where it isn't known.
+    pub ended: Result<Ending, Refusal>,
+    /// Whether the sink was told that it is gone, and gave no answer.
+    pub silent: bool,
+}
+
+/// What became of a client that waits, in a round of tries. Own.
+#[derive(Clone, Copy)]
+pub struct Attempt {
+    /// Whether it waits still.
+    pub kept: bool,
+    /// Whether the round is over: no other client is tried.
+    pub over: bool,
+}
+
+/// Ends a client of the seat. Where it holds ranges, the sink is told first that it is gone, and of all of them; where
+/// the sink fails, none of them is queued, and the client waits with all of them. It takes no memory. Own.
+pub(crate) fn leave<C: Ledger, F: Ledger, S: Ledger, G: Ledger, K: Keep<C, F, S, G>, D: Sink>(
+    keeper: &mut K,
+    seat: &mut Seat<C, F, S, G>,
+    sink: &mut D,
+    ranges: &mut Vec<Range>,
+    id: ClientId,
+) -> Leaving
+    requires { MAX_HOLDINGS ≤ vec_capacity ranges.old }
+    ensures domain { WhereKnown (K.domain keeper.old) (K.domain keeper.new) (Departs seat.old seat.new.held id result
+        (K.domain_number keeper.old) (D.calls sink.old) (D.calls sink.new)) }
+    ensures shares { LowersTold result.ended seat.old.held seat.new.held }
+    ensures place { KeepsPlace seat.old seat.new (D.calls sink.old) (D.calls sink.new) }
+    ensures number { K.domain_number keeper.new ≡ K.domain_number keeper.old }
+    ensures strict { K.strict keeper.new ≡ K.strict keeper.old }
+    ensures room { MAX_HOLDINGS ≤ vec_capacity ranges.new }
+{
+    ranges.clear();
+    match tell(keeper, seat, sink, ranges, id) {
+        Ok(()) => Leaving {
+            ended: end_client(keeper, seat, sink, id),
+            silent: false,
+        },
+        Err(fault) => Leaving {
+            ended: Ok(Ending::Waiting(ranges.len() as u64, Why::SinkFailed)),
+            silent: fault == SinkFault::Broken,
+        },
+    }
+}
+
+/// Tells the sink that the client is gone, and which ranges it holds, where it holds any.
+fn tell<C: Ledger, F: Ledger, S: Ledger, G: Ledger, K: Keep<C, F, S, G>, D: Sink>(
+    keeper: &K,
+    seat: &Seat<C, F, S, G>,
+    sink: &mut D,
+    ranges: &mut Vec<Range>,
+    id: ClientId,
+) -> Result<(), SinkFault>
+    requires empty { ranges.old.items ≡ [] }
+    requires room { MAX_HOLDINGS ≤ vec_capacity ranges.old }
+    ensures told { IsTold (K.domain_number keeper.now) id ranges.new.items (is_ok result) (D.calls sink.old)
+        (D.calls sink.new) }
+    ensures held { IfSome (K.domain keeper.now)
+        (λ s. ranges.new.items ≡ holdings_in (client_of seat.now.worker id s.clients)) }
+    ensures room { MAX_HOLDINGS ≤ vec_capacity ranges.new }
+{
+    let _known = keeper.holdings(seat, id, ranges);
+    if ranges.is_empty() {
+        return Ok(());
+    }
+    sink.gone(keeper.number(), id, ranges)
+}
+
+/// Tries to end a client that waits, where the round isn't over.
+pub(crate) fn attempt<C: Ledger, F: Ledger, S: Ledger, G: Ledger, K: Keep<C, F, S, G>, D: Sink>(
+    over: bool,
+    keeper: &mut K,
+    seat: &mut Seat<C, F, S, G>,
+    sink: &mut D,
+    ranges: &mut Vec<Range>,
+    id: ClientId,
+) -> Attempt
+    requires { over ≢ true → MAX_HOLDINGS ≤ vec_capacity ranges.old }
+    ensures domain { WhereKnown (K.domain keeper.old) (K.domain keeper.new) (Attempts over seat.old seat.new id result
+        (K.domain_number keeper.old) (D.calls sink.old) (D.calls sink.new)) }
+    ensures place { KeepsPlace seat.old seat.new (D.calls sink.old) (D.calls sink.new) }
+    ensures number { K.domain_number keeper.new ≡ K.domain_number keeper.old }
+    ensures strict { K.strict keeper.new ≡ K.strict keeper.old }
+    ensures room { result.over ≢ true → MAX_HOLDINGS ≤ vec_capacity ranges.new }
+{
+    if over {
+        return Attempt {
+            kept: true,
+            over: true,
+        };
+    }
+    let left = leave(keeper, seat, sink, ranges, id);
+    Attempt {
+        kept: waits(left.ended),
+        over: left.silent,
+    }
+}
+
+/// Whether a client is left after its end was tried.
+fn waits(ended: Result<Ending, Refusal>) -> bool
+    ensures { result ≡ still_waits ended }
+{
+    match ended {
+        Ok(Ending::Waiting(_, _)) => true,
+        Ok(Ending::Ended(_)) | Err(_) => false,
+    }
+}
