@@ -1,4 +1,5 @@
 //! A sink whose failures are notices.
+use iova_range::range::Range;
 use iova_sink::sink::{Sink, SinkFault};
 use log::{Log, warn};
 
@@ -26,9 +27,17 @@ impl<'a, D: Sink, N: Log> Sink for NotingSink<'a, D, N> {
         }
         told
     }
+
+    fn gone(&mut self, domain: u64, client: u64, ranges: &Vec<Range>) -> Result<(), SinkFault> {
+        let told = self.sink.gone(domain, client, ranges);
+        if told.is_err() {
+            note(self.notices, "client", client, "the sink failed");
+        }
+        told
+    }
 }
 
-/// A notice of what happened to the flush or the session of this number.
+/// A notice of what happened to the flush, the client or the session of this number.
 pub(crate) fn note<N: Log>(notices: &N, what: &str, number: u64, how: &str) {
     warn!(notices; "{what} {number}: {how}");
 }

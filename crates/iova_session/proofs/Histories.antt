@@ -1,7 +1,7 @@
 -- What sessions do to a domain is a transcript of steps.
 use Rattle.std.proofs.Common.{ℕ, ◌≡◌, ◌+◌, inl, inr, List, [], ◌∷◌, ◌++◌, Option, Some, None, refl, sym, ap, ◌∙◌, subst}
 use Rattle.std.proofs.Math.Logic.{∥∥₁_elim, ∥∥₁_map, ∥∥₁_prop}
-use Rattle.std.specs.Prelude.{Result, Ok, Err, Bool}
+use Rattle.std.specs.Prelude.{Result, Ok, Err, Bool, true, false}
 use Rattle.iova_model.specs.declared.step.Step.{Step}
 use Rattle.iova_model.specs.declared.step.Reply.{Reply}
 use Rattle.iova_model.specs.State.{State}
@@ -23,6 +23,10 @@ use Rattle.iova_session.specs.declared.run.SessionEnd.{SessionEnd}
 use Rattle.iova_session.specs.Pairs.{Pair}
 use Rattle.iova_session.specs.Desks.{next_client, count_listed, client_after}
 use Rattle.iova_session.specs.Domains.{FlushesAndDrains}
+use Rattle.iova_range.specs.Frames.{Frames}
+use Rattle.iova_model.specs.declared.totals.Totals.{Totals}
+use Rattle.iova_session.specs.declared.leaving.Leaving.{Leaving}
+use Rattle.iova_session.specs.Leaving.{EndsAfter}
 use Rattle.iova_session.specs.Leading.{Standing, standing, FirstDoes, ClientDoes, PairsLead, EndDoes, SessionLeads}
 use Rattle.iova_session.specs.OneByOne.{Between, ServesOne, ServesEach}
 use Rattle.iova_session.specs.Histories.{KeepsPromises}
@@ -101,9 +105,14 @@ pairs_reach strict number (Some id) listed (p ∷ ps) a b k =
     reaches_then a.domain k.0.domain b.domain (client_reaches strict number a.seat id listed p.request p.answer a.calls k.0.calls a.domain k.0.domain k.1)
     (pairs_reach strict number (next_client (Some id) p.answer) (listed + count_listed p.answer) ps k.0 b k.3)
 
+departs_reach : (well : Bool) (seat : SeatState) (left : Totals) (id : ℕ) (held : List Frames) (l : Leaving) (number : ℕ) (before now : List Call) (s t : State)
+    → EndsAfter well seat left id held l number before now s t → Reaches s t
+departs_reach true seat left id held l number before now s t h = reaches_all h.1.events s t h.1.leads
+departs_reach false seat left id held l number before now s t h = reaches_same s t h.3
+
 end_reaches : (number : ℕ) (client : Option ℕ) (told : Option Ending) (a b : Standing) → EndDoes number client told a b → Reaches a.domain b.domain
 end_reaches number None told a b h = reaches_same a.domain b.domain (ap (λ (x : Standing). x.domain) h.1)
-end_reaches number (Some id) told a b h = reaches_all h.2.events a.domain b.domain h.2.leads
+end_reaches number (Some id) told a b h = departs_reach h.2.well a.seat b.seat.held id _ h.0 number h.2.calls b.calls a.domain b.domain h.2.ended
 
 session_reaches : (strict : Bool) (number : ℕ) (ps : List Pair) (told : Option Ending) (old new : SeatState) (before now : List Call) (s t : State)
     → SessionLeads strict number ps told old new before now s t → Reaches s t

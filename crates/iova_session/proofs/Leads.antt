@@ -23,7 +23,7 @@ use Rattle.iova_keep.specs.Steps.{Takes}
 use Rattle.iova_keep.specs.Views.{WhereKnown, SeatState, TallyState}
 use Rattle.iova_keep.specs.Events.{Event, Leads, Does, Unmapping, run, not_run, sink_calls}
 use Rattle.iova_keep.specs.Releases.{FlushFollows, no_flush, stays, refused_first, queued_first, DoesRelease}
-use Rattle.iova_keep.specs.Answers.{Allocs, DoesEndClient}
+use Rattle.iova_keep.specs.Answers.{Allocs}
 use Rattle.iova_keep.specs.Batches.{DoesAsk, DoesAsks, StopsAt, Batched, IsReplyTold, IsToldOf, MovesTold, may_do}
 use Rattle.iova_proto.specs.declared.answer.Answer.{Answer}
 use Rattle.iova_proto.specs.declared.request.Request.{Request}
@@ -31,6 +31,8 @@ use Rattle.iova_proto.specs.declared.request.Request.TheVariants as request
 use Rattle.iova_session.specs.Pairs.{Pair}
 use Rattle.iova_session.specs.Desks.{SessionState, next_client, count_listed, client_after, listed_after, asks_in, answer_of, told_pairs, AreTold}
 use Rattle.iova_session.specs.Domains.{Frees}
+use Rattle.iova_session.specs.declared.leaving.Leaving.{Leaving}
+use Rattle.iova_session.specs.Leaving.{Departs}
 use Rattle.iova_session.specs.Leading.{Standing, standing, IsSame, alloc_answer, FirstDoes, ClientDoes, PairDoes, MovesSeat, PairsLead, LeadsFrom, GoesOn, TellsAtMost, EndDoes, SessionLeads}
 use Rattle.iova_session.proofs.Others.{known_both, known_one}
 use Rattle.iova_session.proofs.ToldPairs.{told_moves, length0}
@@ -330,12 +332,12 @@ batch_goes law strict id rs asks before told count was now old new calls a b is 
 
 -- Whole sessions.
 
-pub end_does : (number : ℕ) (id : ℕ) (told : Option Ending) (result : Result Ending Refusal) (old new : SeatState) (before now : List Call) (a b : Option State)
-    → TellsAtMost told result → WhereKnown a b (DoesEndClient old new.held id result number before now)
+pub end_does : (number : ℕ) (id : ℕ) (told : Option Ending) (l : Leaving) (old new : SeatState) (before now : List Call) (a b : Option State)
+    → TellsAtMost told l.ended → WhereKnown a b (Departs old new.held id l number before now)
     → WhereKnown a b (λ s t. EndDoes number (Some id) told (standing old before s) (standing new now t))
-end_does number id told result old new before now a b tells h =
-    known_one a b (DoesEndClient old new.held id result number before now) (λ s t. EndDoes number (Some id) told (standing old before s) (standing new now t)) h
-    (λ s t d. (result, tells, d))
+end_does number id told l old new before now a b tells h =
+    known_one a b (Departs old new.held id l number before now) (λ s t. EndDoes number (Some id) told (standing old before s) (standing new now t)) h
+    (λ s t d. (l, tells, d))
 
 pub session_leads : (strict : Bool) (number there id : ℕ) (ps : List Pair) (told : Option Ending) (old mid new : SeatState) (before calls now : List Call) (o a b : Option State)
     → client_after None ps ≡ Some id → there ≡ number → ∥ WhereKnown o a (LeadsFrom strict number ps old mid before calls) ∥₁

@@ -8,6 +8,7 @@ mod InTurn
 mod ToldPairs
 mod EndedClients
 mod Gone
+mod Departures
 mod Retrying
 mod Others
 mod Alone

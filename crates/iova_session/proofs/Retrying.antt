@@ -1,14 +1,15 @@
 -- Waiting clients, tried one after another.
 use Rattle.std.proofs.Common.{length-set, ℕ, ◌≡◌, ◌+◌, ◌<◌, ◌≤◌, inl, inr, List, [], ◌∷◌, ◌++◌, Option, Some, None, refl, sym, ap, ◌∙◌, arith, subst, take, drop, get_or, append_assoc}
-use Rattle.std.specs.Prelude.{length, slice_set, Result}
+use Rattle.std.specs.Prelude.{Bool, true, false, length, slice_set}
 use Rattle.std.proofs.lemmas.List.{drop_more, drop_all, take_more, take_more_set, drop-set-lt}
-use Rattle.iova_range.specs.declared.refusal.Refusal.{Refusal}
+use Rattle.iova_range.specs.declared.limits.TheConstants.{MAX_HOLDINGS}
 use Rattle.iova_model.specs.State.{State}
 use Rattle.iova_sink.specs.Calls.{Call}
-use Rattle.iova_keep.specs.declared.ending.Ending.{Ending}
-use Rattle.iova_keep.specs.Answers.{DoesEndClient}
 use Rattle.iova_keep.specs.Views.{SeatState, WhereKnown}
-use Rattle.iova_session.specs.Posts.{IsSublist, Retries, kept_if, still_waits}
+use Rattle.iova_session.specs.Posts.{IsSublist, Retries, RetriesAll, kept_if}
+use Rattle.iova_session.specs.declared.leaving.Attempt.{Attempt}
+use Rattle.iova_session.specs.Leaving.{Attempts}
+use Rattle.iova_session.proofs.Others.{known_one}
 
 pub kept_last : (xs ys : List ℕ) (y : ℕ) → IsSublist xs ys → IsSublist (xs ++ y ∷ []) (ys ++ y ∷ [])
 kept_last [] [] y h = inl (refl, tt)
@@ -24,22 +25,33 @@ left_out (x ∷ xs) (z ∷ ys) y (inl h) = inl (h.0, left_out xs ys y h.1)
 left_out (x ∷ xs) (z ∷ ys) y (inr h) = inr (left_out (x ∷ xs) ys y h)
 
 -- one client is tried, and then those after it
-pub tried_first : (number : ℕ) (ids : List ℕ) (at id : ℕ) (result : Result Ending Refusal) (more : List ℕ) (seat mid left : SeatState) (before calls now : List Call) (o p q : Option State)
+pub tried_first : (over : Bool) (number : ℕ) (ids : List ℕ) (at id : ℕ) (a : Attempt) (more : List ℕ) (seat mid left : SeatState) (before calls now : List Call) (o p q : Option State)
     → at < length ids → id ≡ get_or ids at id → mid.worker ≡ seat.worker
-    → WhereKnown o p (DoesEndClient seat mid.held id result number before calls)
-    → WhereKnown p q (Retries number (drop (at + 1) ids) more mid left calls now)
-    → WhereKnown o q (Retries number (drop at ids) (kept_if (still_waits result) id ++ more) seat left before now)
-tried_first number ids at id result more seat mid left before calls now None p q lt e same a b = tt
-tried_first number ids at id result more seat mid left before calls now (Some s) None q lt e same a b = absurd a
-tried_first number ids at id result more seat mid left before calls now (Some s) (Some m) None lt e same a b = absurd b
-tried_first number ids at id result more seat mid left before calls now (Some s) (Some m) (Some t) lt e same a b =
+    → WhereKnown o p (Attempts over seat mid id a number before calls)
+    → WhereKnown p q (Retries a.over number (drop (at + 1) ids) more mid left calls now)
+    → WhereKnown o q (Retries over number (drop at ids) (kept_if a.kept id ++ more) seat left before now)
+tried_first over number ids at id a more seat mid left before calls now None p q lt e same x y = tt
+tried_first over number ids at id a more seat mid left before calls now (Some s) None q lt e same x y = absurd x
+tried_first over number ids at id a more seat mid left before calls now (Some s) (Some m) None lt e same x y = absurd y
+tried_first over number ids at id a more seat mid left before calls now (Some s) (Some m) (Some t) lt e same x y =
     let here : drop at ids ≡ id ∷ drop (at + 1) ids = drop_more ids at id lt ∙ ap (λ x. x ∷ drop (at + 1) ids) (sym e) in
-    subst (λ (rest : List ℕ). Retries number rest (kept_if (still_waits result) id ++ more) seat left before now s t) (sym here) (result, mid, calls, m, more, same, a, refl, b)
+    subst (λ (rest : List ℕ). Retries over number rest (kept_if a.kept id ++ more) seat left before now s t) (sym here) (a, mid, calls, m, more, same, x, refl, y)
 
 -- all were tried
-pub tried_all : (number : ℕ) (ids : List ℕ) (at : ℕ) (seat : SeatState) (calls : List Call) (o : Option State) → length ids ≤ at → WhereKnown o o (Retries number (drop at ids) [] seat seat calls calls)
-tried_all number ids at seat calls None le = tt
-tried_all number ids at seat calls (Some s) le = subst (λ (rest : List ℕ). Retries number rest [] seat seat calls calls s s) (sym (drop_all at ids le)) (refl, refl, refl, refl)
+pub tried_all : (over : Bool) (number : ℕ) (ids : List ℕ) (at : ℕ) (seat : SeatState) (calls : List Call) (o : Option State) → length ids ≤ at → WhereKnown o o (Retries over number (drop at ids) [] seat seat calls calls)
+tried_all over number ids at seat calls None le = tt
+tried_all over number ids at seat calls (Some s) le = subst (λ (rest : List ℕ). Retries over number rest [] seat seat calls calls s s) (sym (drop_all at ids le)) (refl, refl, refl, refl)
+
+-- a round, which was over before it began only for want of room
+pub tried_with : (over : Bool) (room number : ℕ) (ids kept : List ℕ) (seat left : SeatState) (before now : List Call) (o p : Option State) → (over ≡ true → room < MAX_HOLDINGS)
+    → WhereKnown o p (Retries over number ids kept seat left before now) → WhereKnown o p (RetriesAll room number ids kept seat left before now)
+tried_with over room number ids kept seat left before now o p few h =
+    known_one o p (Retries over number ids kept seat left before now) (RetriesAll room number ids kept seat left before now) h (λ s t x. (over, few, x))
+
+-- with none waiting there is nothing to try
+pub tried_none : (room number : ℕ) (ids : List ℕ) (seat : SeatState) (calls : List Call) (o : Option State) → ids ≡ [] → WhereKnown o o (RetriesAll room number ids ids seat seat calls calls)
+tried_none room number ids seat calls None none = tt
+tried_none room number ids seat calls (Some s) none = rw none (false, (λ e. absurd cc), (refl, refl, refl, refl))
 
 abbrev tail : List ℕ → List ℕ
 tail [] = []

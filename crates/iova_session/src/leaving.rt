@@ -1,5 +1,5 @@
 //! The end of a client whose session is over: its sink is told of its ranges first.
-ghost use Rattle.std.specs.Prelude.{◌≡◌, ◌≤◌, [], true, is_ok, vec_capacity, IfSome};
+ghost use Rattle.std.specs.Prelude.{◌≡◌, ◌≢◌, ◌≤◌, [], true, is_ok, vec_capacity, IfSome};
 ghost use Rattle.iova_range.specs.declared.limits.TheConstants.{MAX_HOLDINGS};
 ghost use Rattle.iova_keep.specs.Views.{WhereKnown, LowersTold};
 ghost use Rattle.iova_session.specs.Desks.{KeepsPlace};
@@ -89,7 +89,7 @@ fn tell<C: Ledger, F: Ledger, S: Ledger, G: Ledger, K: Keep<C, F, S, G>, D: Sink
 }
 
 /// Tries to end a client that waits, where the round isn't over.
-pub(crate) fn attempt<C: Ledger, F: Ledger, S: Ledger, G: Ledger, K: Keep<C, F, S, G>, D: Sink>(
+pub(crate) fn try_to_end<C: Ledger, F: Ledger, S: Ledger, G: Ledger, K: Keep<C, F, S, G>, D: Sink>(
     over: bool,
     keeper: &mut K,
     seat: &mut Seat<C, F, S, G>,

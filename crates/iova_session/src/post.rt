@@ -33,25 +33,22 @@ impl<C: Ledger, F: Ledger, S: Ledger, G: Ledger> Post<C, F, S, G> {
             ranges: Vec::new(alloc),
         }
     }
+}
 
-    /// Takes room for one client more that waits, and for the ranges of one that leaves. Whether it was had.
-    pub(crate) fn take_room(&mut self) -> bool
-        ensures seat { self.new.seat ≡ self.old.seat }
-        ensures waiting { self.new.waiting.items ≡ self.old.waiting.items }
-        ensures room { result ≡ true → vec_len self.new.waiting + 1 ≤ vec_capacity self.new.waiting }
-        ensures ranges { result ≡ true → MAX_HOLDINGS ≤ vec_capacity self.new.ranges }
-    {
-        self.waiting.try_reserve(1).is_ok() && self.has_ranges()
-    }
+/// Takes room for one client more that waits, and for the ranges of one that leaves. Whether it was had.
+pub(crate) fn take_room(waiting: &mut Vec<ClientId>, ranges: &mut Vec<Range>) -> bool
+    ensures waiting { waiting.new.items ≡ waiting.old.items }
+    ensures room { result ≡ true → vec_len waiting.new + 1 ≤ vec_capacity waiting.new }
+    ensures ranges { result ≡ true → MAX_HOLDINGS ≤ vec_capacity ranges.new }
+{
+    waiting.try_reserve(1).is_ok() && has_ranges(ranges)
+}
 
-    /// Takes room for the ranges of a client that leaves, where it isn't there. Whether it was had.
-    pub(crate) fn has_ranges(&mut self) -> bool
-        ensures seat { self.new.seat ≡ self.old.seat }
-        ensures waiting { self.new.waiting ≡ self.old.waiting }
-        ensures there { MAX_HOLDINGS ≤ vec_capacity self.old.ranges → result ≡ true }
-        ensures ranges { result ≡ true → MAX_HOLDINGS ≤ vec_capacity self.new.ranges }
-    {
-        self.ranges.clear();
-        self.ranges.try_reserve(MAX_HOLDINGS).is_ok()
-    }
+/// Takes room for the ranges of a client that leaves, where it isn't there. Whether it was had.
+pub(crate) fn has_ranges(ranges: &mut Vec<Range>) -> bool
+    ensures there { MAX_HOLDINGS ≤ vec_capacity ranges.old → result ≡ true }
+    ensures ranges { result ≡ true → MAX_HOLDINGS ≤ vec_capacity ranges.new }
+{
+    ranges.clear();
+    ranges.try_reserve(MAX_HOLDINGS).is_ok()
 }

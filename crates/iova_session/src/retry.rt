@@ -5,8 +5,8 @@ ghost use Rattle.iova_keep.specs.Views.{WhereKnown};
 ghost use Rattle.iova_session.specs.Posts.{IsSublist, Retries, RetriesAll};
 ghost use Rattle.iova_session.specs.Desks.{KeepsPlace};
 
-use crate::leaving::attempt;
-use crate::post::Post;
+use crate::leaving::try_to_end;
+use crate::post::{Post, has_ranges};
 use iova_keep::keep::Keep;
 use iova_sink::sink::Sink;
 use std::sync::ledger::Ledger;
@@ -32,7 +32,7 @@ pub fn retry<C: Ledger, F: Ledger, S: Ledger, G: Ledger, K: Keep<C, F, S, G>, D:
     if post.waiting.is_empty() {
         return 0;
     }
-    let over = !post.has_ranges();
+    let over = !has_ranges(&mut post.ranges);
     retry_until(keeper, post, sink, over)
 }
 
@@ -57,7 +57,7 @@ fn retry_until<C: Ledger, F: Ledger, S: Ledger, G: Ledger, K: Keep<C, F, S, G>, 
     let mut left = 0;
     'trying: for at in 0..post.waiting.len() {
         let id = post.waiting[at];
-        let tried = attempt(over, keeper, &mut post.seat, sink, &mut post.ranges, id);
+        let tried = try_to_end(over, keeper, &mut post.seat, sink, &mut post.ranges, id);
         over = tried.over;
         if tried.kept {
             post.waiting[left] = id;

@@ -13,9 +13,9 @@ ghost use Rattle.iova_session.specs.Posts.{EndsClient, EndsFrom};
 
 use crate::end::End;
 use crate::keeper_desk::{KeeperDesk, Lent, Opening};
-use crate::leaving::leave;
+use crate::leaving::{Leaving, leave};
 use crate::link::Link;
-use crate::post::Post;
+use crate::post::{Post, take_room};
 use crate::serve::serve;
 use crate::session::Session;
 use iova_keep::ending::Ending;
@@ -26,6 +26,7 @@ use iova_laws::validity::steps_keep_validity;
 use iova_model::step::ClientId;
 use iova_model::totals::Totals;
 use iova_range::limits::MAX_REQUESTS;
+use iova_range::refusal::Refusal;
 use iova_sink::sink::Sink;
 use std::alloc::Global;
 use std::marker::{Brand, PhantomData};
@@ -187,7 +188,7 @@ pub fn run_session<
 {
     // for the proof: whose holdings a step leaves
     others_keep_their_holdings();
-    if !post.take_room() {
+    if !take_room(&mut post.waiting, &mut post.ranges) {
         return SessionEnd {
             end: End::NoMemory,
             client: None,
@@ -228,7 +229,7 @@ fn end_opened<C: Ledger, F: Ledger, S: Ledger, G: Ledger, K: Keep<C, F, S, G>, D
     steps_keep_validity();
     keeper.domain_is_kept();
     let left = leave(keeper, &mut post.seat, sink, &mut post.ranges, id);
-    match left.ended {
+    match ended_of(left) {
         Err(_) => None,
         Ok(Ending::Ended(queued)) => {
             if shares_of(&post.seat) == before {
@@ -248,6 +249,13 @@ fn end_opened<C: Ledger, F: Ledger, S: Ledger, G: Ledger, K: Keep<C, F, S, G>, D
             }
         }
     }
+}
+
+/// How the end of a client that left went.
+fn ended_of(left: Leaving) -> Result<Ending, Refusal>
+    ensures { result ≡ left.ended }
+{
+    left.ended
 }
 
 /// The seat's three shares.

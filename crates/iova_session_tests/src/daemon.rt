@@ -547,7 +547,11 @@ fn gathered<Q: Wait, C: Ledger, F: Ledger, S: Ledger, G: Ledger>(
     let mut seats = Vec::new(alloc);
     for post in posts {
         in_order = in_order && post.seat.worker() == seats.len() as u64;
-        let Post { seat, waiting: _ } = post;
+        let Post {
+        seat,
+        waiting: _,
+        ranges: _,
+    } = post;
         let Ok(()) = seats.push(seat) else {
             return None;
         };

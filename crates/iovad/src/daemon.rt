@@ -540,7 +540,11 @@ where
     if !post.waiting.is_empty() {
         retry_at(rt, path, &mut keeper, &mut post);
     }
-    let Post { seat, waiting: _ } = post;
+    let Post {
+        seat,
+        waiting: _,
+        ranges: _,
+    } = post;
     seat
 }
 

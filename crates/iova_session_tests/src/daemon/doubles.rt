@@ -5,6 +5,7 @@ use iova_daemon::accept::Accept;
 use iova_daemon::pause::Pause;
 use iova_session::link::{Link, LinkFault};
 use iova_session::memory_link::MemoryLink;
+use iova_range::range::Range;
 use iova_sink::calls::Calls;
 use iova_sink::gate::{Flag, GateSink};
 use iova_sink::memory::MemorySink;
@@ -139,7 +140,13 @@ impl<'a> Sink for GatedSink<'a> {
         let is_open = self.gate.invalidate(domain, no).is_ok();
         let ok = self.sink.invalidate(domain, no).is_ok() && is_open;
         self.calls.add(domain, no, ok);
-        if ok { Ok(()) } else { Err(SinkFault) }
+        if ok { Ok(()) } else { Err(SinkFault::Broken) }
+    }
+
+    /// Is good at once.
+    fn gone(&mut self, domain: u64, client: u64, ranges: &Vec<Range>) -> Result<(), SinkFault> {
+        self.calls.add_gone(domain, client, ranges, true);
+        Ok(())
     }
 }
 

@@ -7,9 +7,9 @@ use Rattle.iova_session.proofs.Kept.{keeps_others}
 use Rattle.iova_session.proofs.Leads.{nothing_leads, unopened_leads, session_leads}
 use Rattle.iova_session.proofs.run.run_session.Goals as goal
 
-pub returns-then-is_err-clause-session : goal.returns-then-is_err-clause-session
-returns-then-is_err-clause-session g c =
-    ([], [], [], 0, none_taken _, none_sent _, omega arith, nothing_served _, nothing_answered _, rw c.try_reserve.ensures.items (nothing_ended _ _), nothing_left _, nothing_leads _ _ _ _ _)
+pub returns-then-not-take_room-clause-session : goal.returns-then-not-take_room-clause-session
+returns-then-not-take_room-clause-session g c =
+    ([], [], [], 0, none_taken _, none_sent _, omega arith, nothing_served _, nothing_answered _, rw c.take_room.ensures.waiting (nothing_ended _ _), nothing_left _, nothing_leads _ _ _ _ _)
 
 pub returns-in-None-clause-session : goal.returns-in-None-clause-session
 returns-in-None-clause-session g c =
@@ -23,7 +23,7 @@ returns-in-None-clause-session g c =
       h.6,
       h.7,
       h.8,
-      rw c.try_reserve.ensures.items (none_opened _ h.1 c.serve_at-end.result.1 _ _ _ h.9 c.in-None.is h.8 h.10),
+      rw c.take_room.ensures.waiting (none_opened _ h.1 c.serve_at-end.result.1 _ _ _ h.9 c.in-None.is h.8 h.10),
       unopened_keeps (client_after None h.1) _ _ (sym h.9 ∙ c.in-None.is) (keeps_others c.others_keep_their_holdings.ensures _ _ h.1 _ _ _ _ _ _ h.8 h.11),
       unopened_leads _ _ h.1 _ _ _ _ _ _ (sym h.9 ∙ c.in-None.is) h.11,
     )
@@ -31,7 +31,7 @@ returns-in-None-clause-session g c =
 pub returns-in-Some-clause-session : goal.returns-in-Some-clause-session
 returns-in-Some-clause-session g c =
     let h = c.serve_at-end.ensures.session in
-    let ended = rw (c.shares_of-before.ensures, c.try_reserve.ensures.items) at c.end_opened-client.ensures.ended in (
+    let ended = rw (c.shares_of-before.ensures, c.take_room.ensures.waiting) at c.end_opened-client.ensures.ended in (
       h.0,
       h.1,
       h.2,

@@ -1,0 +1,11 @@
+use Rattle.std.proofs.Common.{refl, arith}
+use Rattle.iova_session.proofs.Departures.{told_good, departs_well, departs_ill}
+use Rattle.iova_session.proofs.leaving.leave.Goals as goal
+
+pub returns-in-Ok-clause-place : goal.returns-in-Ok-clause-place
+returns-in-Ok-clause-place g c =
+    let k = told_good _ _ _ _ _ _ c.tell.ensures.told in
+    record { worker = c.end_client.ensures.worker; parts = c.end_client.ensures.parts; tally = omega (arith, c.end_client.ensures.tally, k) }
+
+pub returns-in-Err-clause-place : goal.returns-in-Err-clause-place
+returns-in-Err-clause-place g c = let k = told_good _ _ _ _ _ _ c.tell.ensures.told in record { worker = refl; parts = refl; tally = omega (arith, k) }
