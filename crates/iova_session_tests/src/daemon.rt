@@ -548,10 +548,10 @@ fn gathered<Q: Wait, C: Ledger, F: Ledger, S: Ledger, G: Ledger>(
     for post in posts {
         in_order = in_order && post.seat.worker() == seats.len() as u64;
         let Post {
-        seat,
-        waiting: _,
-        ranges: _,
-    } = post;
+            seat,
+            waiting: _,
+            ranges: _,
+        } = post;
         let Ok(()) = seats.push(seat) else {
             return None;
         };

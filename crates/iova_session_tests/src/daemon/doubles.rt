@@ -3,9 +3,9 @@ ghost use Rattle.std.specs.Prelude.{Some, None};
 
 use iova_daemon::accept::Accept;
 use iova_daemon::pause::Pause;
+use iova_range::range::Range;
 use iova_session::link::{Link, LinkFault};
 use iova_session::memory_link::MemoryLink;
-use iova_range::range::Range;
 use iova_sink::calls::Calls;
 use iova_sink::gate::{Flag, GateSink};
 use iova_sink::memory::MemorySink;
