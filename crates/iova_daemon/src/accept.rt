@@ -3,6 +3,7 @@ use iova_session::link::LinkFault;
 
 /// Gives links, one a call, to several threads at a time. Own.
 pub trait Accept<L> {
-    /// Waits for the next link. One that can't be had is a fault, and the next call may have one.
-    fn accept(&self) -> Result<L, LinkFault>;
+    /// Waits for the next link, where a limit is given no longer than so many milliseconds. None where none came, or
+    /// another thread had it. One that can't be had is a fault, and the next call may have one.
+    fn accept(&self, limit: Option<u64>) -> Result<Option<L>, LinkFault>;
 }

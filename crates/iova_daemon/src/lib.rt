@@ -47,8 +47,9 @@ pub struct Served<R, C: Ledger, F: Ledger, S: Ledger, G: Ledger> {
 /// thread has a sink of its own, the flusher the last one; the flusher's tally is split from the first post's seat. It
 /// returns once all sessions have ended, and gives the domain back, and the posts in their order.
 ///
-/// A worker repeats: it tries its waiting clients again, takes the next session number, and, where that is below `sessions`,
-/// accepts a link and serves a session over it; else it stops. An accept that fails uses up the number. The flusher repeats:
+/// A worker repeats: it tries its waiting clients again, takes the next session number, where it has none, and, where that is
+/// below `sessions`, accepts a link and serves a session over it; else it stops. While clients wait an accept takes no longer
+/// than a second, and one that had none keeps the number; an accept that fails uses it up. The flusher repeats:
 /// it pauses, and stops where the pause says so or all workers have ended; else it makes a round (`timeout`). A session that
 /// ends by `LinkFault` or `NoMemory`, a sink that fails and a round that is refused are notices, a line each.
 ///

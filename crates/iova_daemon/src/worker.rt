@@ -6,6 +6,7 @@ use crate::noting::{NotingSink, note};
 use crate::threads::{Place, Work};
 use crate::turns::Turns;
 use iova_keep::keep::Keep;
+use iova_range::limits::RETRY_PAUSE;
 use iova_session::end::End;
 use iova_session::link::Link;
 use iova_session::post::Post;
@@ -52,33 +53,48 @@ where
     D: Sink + Drop,
 {
     /// Waits at the gate, and then serves sessions at the post until no number is left. Its waiting clients are tried again
-    /// before each number is taken.
+    /// before each accept, and no later than a second after the last try while it waits for a link.
     fn work(&self, place: Post<C, F, S, G>, sink: D) -> Post<C, F, S, G> {
         let mut post = place;
         let mut keeper = self.keeper;
         let mut sink = NotingSink::new(sink, self.notices);
         if *self.turns.gate.lock(self.rt) {
+            // the number of the session that is waited for
+            let mut number = None;
             'sessions: for _ in self.rt.forever() {
-                let _left = retry(&mut keeper, &mut post, &mut sink);
-                let Some(session) = self.turns.next_session() else {
+                let left = retry(&mut keeper, &mut post, &mut sink);
+                if number.is_none() {
+                    number = self.turns.next_session();
+                }
+                let Some(session) = number else {
                     break 'sessions;
                 };
-                // an accept that fails uses up the number
-                if let Ok(mut link) = self.accept.accept() {
-                    let ended = run_session(
-                        self.alloc,
-                        &mut link,
-                        &mut keeper,
-                        &mut post,
-                        &mut sink,
-                    );
-                    note_end(self.notices, session, ended.end);
+                match self.accept.accept(limit_of(left)) {
+                    Ok(None) => {}
+                    Ok(Some(mut link)) => {
+                        number = None;
+                        let ended = run_session(
+                            self.alloc,
+                            &mut link,
+                            &mut keeper,
+                            &mut post,
+                            &mut sink,
+                        );
+                        note_end(self.notices, session, ended.end);
+                    }
+                    // an accept that fails uses up the number
+                    Err(_) => number = None,
                 }
             }
         }
         self.turns.end();
         post
     }
+}
+
+/// How long a link may be waited for, in milliseconds, where so many clients wait: they are tried again then.
+fn limit_of(waiting: u64) -> Option<u64> {
+    if waiting > 0 { Some(RETRY_PAUSE) } else { None }
 }
 
 /// A session's end is a notice where the link failed, or memory was refused.

@@ -45,6 +45,15 @@ abbrev pub failed_calls : List Call → ℕ
 failed_calls [] = 0
 failed_calls (c ∷ cs) = failed_in c + failed_calls cs
 
+-- the last invalidation that was good, oldest first, with what is to be answered where none is
+abbrev pub last_good_or : Option Call → List Call → Option Call
+last_good_or last [] = last
+last_good_or last (Invalidation domain number ok ∷ cs) = last_good_or (if ok then Some (Invalidation domain number ok) else last) cs
+last_good_or last (Gone domain client ranges ok ∷ cs) = last_good_or last cs
+
+abbrev pub last_good : List Call → Option Call
+last_good cs = last_good_or None cs
+
 -- whether the last invalidation failed, with what is to be answered where there was none
 abbrev pub last_failed_or : Bool → List Call → Bool
 last_failed_or before [] = before

@@ -13,8 +13,9 @@ pub enum SinkFault {
     Broken,
 }
 
-/// A sink of invalidations, which is also told which clients are gone. It tells the list of its calls; how many of them
-/// were good and how many failed are functions of that list. Own.
+/// A sink of invalidations, which is also told which clients are gone. It tells the list of its calls; how many
+/// invalidations were good, how many calls failed, and which invalidation was the last good one are functions of that list.
+/// Own.
 pub trait Sink {
     /// The calls that it was made, oldest first, with their answers.
     ghost calls: { Self → List Call };

@@ -80,7 +80,7 @@ pub struct Rows<'a> {
 }
 
 impl<'a> Accept<RowLink<'a>> for Rows<'a> {
-    fn accept(&self) -> Result<RowLink<'a>, LinkFault> {
+    fn accept(&self, _limit: Option<u64>) -> Result<Option<RowLink<'a>>, LinkFault> {
         let call = self.calls.fetch_add(1, Ordering::SeqCst);
         let Some(at) = call.checked_sub(self.failing) else {
             return Err(LinkFault);
@@ -88,11 +88,11 @@ impl<'a> Accept<RowLink<'a>> for Rows<'a> {
         let Some(row) = self.rows.get(at as usize) else {
             return Err(LinkFault);
         };
-        Ok(RowLink {
+        Ok(Some(RowLink {
             row,
             flags: self.flags,
             wire: MemoryLink::new(self.alloc, row.input, 4096, row.fail_at),
-        })
+        }))
     }
 }
 
