@@ -222,13 +222,20 @@ fn open_all<R: AllocGlobal + Net + Files<File = File>>(
     }
 }
 
-/// The socket at this path, where it can be bound.
+/// The socket at this path, where it can be bound. It doesn't block.
 fn bound<R: Net + Files<File = File>>(rt: &R, path: &str) -> Option<UnixListener> {
     // the system would take an empty path for a socket without a name
     if path.is_empty() {
         return None;
     }
-    UnixListener::bind(rt, path).ok()
+    let listener = UnixListener::bind(rt, path).ok()?;
+    match listener.set_nonblocking(true) {
+        Ok(()) => Some(listener),
+        Err(_) => {
+            remove(rt, path);
+            None
+        }
+    }
 }
 
 /// Gathers what was served on, writes the record where one is wanted, and prints the domain. The posts are those of all workers.
