@@ -138,6 +138,7 @@ class Driver(Session):
         words = [answer() for answer in answers]
         self.ranges = [(int(first), int(length)) for verb, first, length in words if verb == "given"]
         device.given(self.ranges)
+        time.sleep(0 if self.ranges else 0.01)  # where nothing fits before a flush
         yield "given"
         device.map(self.number, self.ranges)
         device.use(self.ranges)
