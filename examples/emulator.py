@@ -164,7 +164,8 @@ def drive(device, path, mappings, seed):
         driver.close() if end == "bye" else driver.stream.close()
         if end == "given" and dice.random() < 0.5:
             device.map(driver.number, driver.ranges)  # the last word of a dead driver comes late
-        device.counts["drivers"] += 1
+        with device.lock:
+            device.counts["drivers"] += 1
 
 
 def settle(path):
@@ -174,9 +175,8 @@ def settle(path):
         time.sleep(0.05)
         _flushed, stat, _bye = [answer() for answer in Driver(path).send(["flush", "stat", "bye"])]
     with contextlib.suppress(OSError):
-        while True:  # each connection is a session
-            with socket.socket(socket.AF_UNIX) as peer:
-                peer.connect(path)
+        while True:
+            socket.socket(socket.AF_UNIX).connect(path)  # a session, which ends at once
 
 
 def main():
