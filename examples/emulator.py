@@ -97,9 +97,9 @@ class Device:
                 self.pages.update((frame, (client, self.counts["mapped"])) for frame in frames_of([each]))
 
     def use(self, ranges):
-        """The device reaches these ranges, and the frame that is mapped longest, whose driver may be dead."""
+        """The device reaches these ranges, and goes on with all that is mapped, also where its driver is dead."""
         with self.lock:
-            for frame in list(self.pages)[:1] + frames_of(ranges):
+            for frame in [*self.pages, *frames_of(ranges)]:
                 entry = self.pages.get(frame)
                 seen = self.iotlb.get(frame, entry)
                 self.counts["faults" if seen is None else "stale" if seen != entry else "used"] += 1
