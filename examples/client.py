@@ -22,7 +22,7 @@ class Session:
         peer = socket.socket(socket.AF_UNIX)
         peer.connect(path)
         self.stream = peer.makefile("rw", encoding="ascii", newline="\n")
-        self.ask(f"hello iova1 {domain} {reach}")
+        self.number = int(self.ask(f"hello iova1 {domain} {reach}")[1])
 
     def line(self):
         text = self.stream.readline()
