@@ -13,10 +13,13 @@ use Rattle.iova_model.specs.Laws.{ended_well}
 use Rattle.iova_sink.specs.Calls.{Call}
 use Rattle.iova_keep.specs.declared.ending.Ending.{Ending}
 use Rattle.iova_keep.specs.Steps.{Takes}
-use Rattle.iova_keep.specs.Views.{SeatState, opened_or, given_or, queued_or, left_of}
+use Rattle.iova_keep.specs.Views.{SeatState, reserved_or, opened_or, given_or, queued_or, left_of}
 use Rattle.iova_keep.specs.Events.{Event, sink_calls, Does, UnmapFirst, UnmapAgain, Unmap, Flush, CloseFirst, CloseAgain, CloseRest, EndClient, DrainAll, Timeout}
 
 -- Calls of one hold.
+
+abbrev pub Reserves : ℕ → ℕ → Result Frames Refusal → State → State → Type 0
+Reserves lo hi result s t = Takes s (step.Reserve lo hi) (reserved_or result) t
 
 abbrev pub Opens : ℕ → Bool → Result ℕ Refusal → State → State → Type 0
 Opens w sac result s t = Takes s (step.Open w sac) (opened_or result) t

@@ -104,6 +104,10 @@ abbrev pub opened_or : Result ℕ Refusal → Reply
 opened_or (Ok id) = reply.Opened id
 opened_or (Err e) = reply.Refused e
 
+abbrev pub reserved_or : Result Frames Refusal → Reply
+reserved_or (Ok window) = reply.Reserved window
+reserved_or (Err e) = reply.Refused e
+
 abbrev pub given_or : Result Frames Refusal → Reply
 given_or (Ok r) = reply.Given r
 given_or (Err e) = reply.Refused e
@@ -124,6 +128,9 @@ begun_or (Err e) = reply.Refused e
 
 abbrev pub IsOpenRefusal : Refusal → Type 0
 IsOpenRefusal e = IsAmong e (refusal.Worn ∷ refusal.ClientsFull ∷ refusal.NoMemory ∷ [])
+
+abbrev pub IsReserveRefusal : Refusal → Type 0
+IsReserveRefusal e = IsAmong e (refusal.BadWindow ∷ refusal.Taken ∷ refusal.WindowsFull ∷ refusal.NoMemory ∷ [])
 
 abbrev pub IsAllocRefusal : Refusal → Type 0
 IsAllocRefusal e =

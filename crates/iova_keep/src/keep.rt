@@ -6,11 +6,11 @@ ghost use Rattle.iova_model.specs.Clients.{totals};
 ghost use Rattle.iova_model.specs.State.{State};
 ghost use Rattle.iova_model.specs.Valid.{Rises};
 ghost use Rattle.iova_model.specs.Laws.{MovesTotals, IsReplyTo, ended_well};
-ghost use Rattle.iova_keep.specs.Views.{TallyState, SeatState, WhereKnown, IsOpenRefusal, IsAllocRefusal, IsGivenTo, IsUnmapHeard, IsBeginHeard, IsReleaseBegin, IsSecondBegin, IsCloseHeard, MovesHeard, Lowers, queued_by, given_or, stat_of, nothing, IsKept};
+ghost use Rattle.iova_keep.specs.Views.{TallyState, SeatState, WhereKnown, IsReserveRefusal, IsOpenRefusal, IsAllocRefusal, IsGivenTo, IsUnmapHeard, IsBeginHeard, IsReleaseBegin, IsSecondBegin, IsCloseHeard, MovesHeard, Lowers, queued_by, given_or, stat_of, nothing, IsKept};
 ghost use Rattle.iova_keep.specs.Batches.{DoesBatch, TellsAsks};
 ghost use Rattle.iova_keep.specs.Releases.{ReleasesFirst, ReleasesAgain, ReleasesLast};
 ghost use Rattle.iova_keep.specs.StepLogs.{StepLog, GoesOn};
-ghost use Rattle.iova_keep.specs.Answers.{Opens, Allocs, UnmapsFirst, UnmapsAgain, Begins, Ends, ClosesFirst, ClosesAgain, Leaves, RaisesByEnd, DrainsAll, ReadsHoldings};
+ghost use Rattle.iova_keep.specs.Answers.{Reserves, Opens, Allocs, UnmapsFirst, UnmapsAgain, Begins, Ends, ClosesFirst, ClosesAgain, Leaves, RaisesByEnd, DrainsAll, ReadsHoldings};
 
 use crate::ask::{Ask, Told};
 use crate::seat::{Seat, Tally};
@@ -61,6 +61,15 @@ pub trait Keep<C: Ledger, F: Ledger, S: Ledger, G: Ledger> {
     /// A domain that is known keeps what each domain keeps. It takes no hold, and does nothing: it is there for proofs.
     fn domain_is_kept(&self)
         ensures { IfSome (domain self.now) IsKept };
+
+    /// Makes one window of the frames `lo` to `hi`, both inside the bounds, and of all windows that overlap them, and gives it.
+    /// Refused by `BadWindow`, `Taken`, `WindowsFull` and `NoMemory`; then nothing has changed. No seat has a share in it.
+    fn reserve(&mut self, lo: u64, hi: u64) -> Result<Range, Refusal>
+        ensures number { domain_number self.new ≡ domain_number self.old }
+        ensures strict { strict self.new ≡ strict self.old }
+        ensures log { GoesOn (log self.old) (log self.new) }
+        ensures domain { WhereKnown (domain self.old) (domain self.new) (Reserves lo hi result) }
+        ensures refusal { IfErr result IsReserveRefusal };
 
     /// Opens a client of the seat's worker, which is first sought places below 4 GiB where it is `sac`. Refused by `Worn`,
     /// `ClientsFull` and `NoMemory`; then nothing has changed.

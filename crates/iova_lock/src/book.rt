@@ -408,6 +408,15 @@ impl<C: Ledger, F: Ledger, S: Ledger, G: Ledger> Book<C, F, S, G> {
         self.machine.step(Step::Drain { ring, by })
     }
 
+    /// Makes a window. No share and no tally moves.
+    pub(crate) fn run_reserve(&mut self, lo: u64, hi: u64) -> Reply
+        ensures takes { Takes self.old.state (Step.Reserve lo hi) result self.new.state }
+        ensures kind { IsReplyTo (Step.Reserve lo hi) result }
+        ensures same { IsSame self.old self.new }
+    {
+        self.machine.step(Step::Reserve { lo, hi })
+    }
+
     /// Runs a seat's step, and moves the seat's shares by what was answered.
     #[inline]
     pub(crate) fn run(&mut self, seat: &mut Seat<C, F, S, G>, step: Step) -> Reply

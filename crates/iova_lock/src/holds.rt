@@ -90,6 +90,14 @@ impl<C: Ledger, F: Ledger, S: Ledger, G: Ledger> Keep<C, F, S, G> for Book<C, F,
         self.is_kept();
     }
 
+    fn reserve(&mut self, lo: u64, hi: u64) -> Result<Range, Refusal> {
+        match self.run_reserve(lo, hi) {
+            Reply::Reserved(window) => Ok(window),
+            Reply::Refused(refusal) => Err(refusal),
+            _ => unreachable!(),
+        }
+    }
+
     fn open(&mut self, seat: &mut Seat<C, F, S, G>, sac: bool) -> Result<ClientId, Refusal> {
         let worker = seat.worker();
         match self.run(seat, Step::Open { worker, sac }) {
