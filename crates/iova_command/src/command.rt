@@ -1,7 +1,7 @@
 //! The command and its help.
 ghost use Rattle.std.specs.Prelude.{◌≡◌, ◌<◌, ◌^◌, IfOk, false};
 ghost use Rattle.clap.specs.Words.{App, rule_of, with_rule, with_subcommand};
-ghost use Rattle.iova_command.specs.Commands.{IsCommand, place_rule, flag_rule, option_rule, optional_rule, number_rule, optional_number_rule, replay_app, serve_app, ask_app, check_app, iovad_app};
+ghost use Rattle.iova_command.specs.Commands.{IsCommand, place_rule, flag_rule, option_rule, optional_rule, repeated_rule, number_rule, optional_number_rule, replay_app, serve_app, ask_app, check_app, iovad_app};
 
 use crate::check_plan::LAST_DOMAIN_ID;
 use clap::{Arg, ArgAction, Command, value_parser};
@@ -16,7 +16,8 @@ rattle-kit-13f logic dac8208d650f15bf";
 const USAGE: &str = "iovad < FILE
        iovad replay [--report] FILE
        iovad serve --socket PATH --workers N --domain N --start N --last N --sink FILE --sessions K
-                   [--depot N] [--strict] [--record FILE]
+                   [--depot N] [--strict] [--record FILE] [--reserve FIRST-LAST]..
+                   [--reserved-regions FILE]
        iovad ask PATH
        iovad check [--quiet] [--first N] [--last N] [--reserved-regions PATH]
                    [--ftrace [--did N]] FILE";
@@ -189,13 +190,31 @@ fn serve_command<'a>(alloc: Global) -> Result<Command<'a>, AllocError>
         command,
         flag(alloc, "strict", "Flushes each range at once that is freed"),
     );
-    with_arg(
+    let command = with_arg(
         command,
         optional_path(
             alloc,
             "record",
             "FILE",
             "The file that the domain's first 100000 steps are written to, as a trace",
+        ),
+    );
+    let command = with_arg(
+        command,
+        repeated(
+            alloc,
+            "reserve",
+            "FIRST-LAST",
+            "Frames that are given to nobody; it may be there any number of times",
+        ),
+    );
+    with_arg(
+        command,
+        optional_path(
+            alloc,
+            "reserved-regions",
+            "FILE",
+            "A group's reserved_regions, or - for standard input: their frames are given to nobody",
         ),
     )
 }
@@ -332,6 +351,16 @@ fn optional_path<'a>(alloc: Global, name: &'a str, value: &'a str, help: &'a str
 {
     flag(alloc, name, help)
         .action(ArgAction::Set)
+        .value_name(value)
+}
+
+/// An option with a value, which may be there any number of times.
+fn repeated<'a>(alloc: Global, name: &'a str, value: &'a str, help: &'a str) -> Arg<'a>
+    ensures rule { rule_of result ≡ repeated_rule name.entry.now }
+    ensures local { result.global ≡ false }
+{
+    flag(alloc, name, help)
+        .action(ArgAction::Append)
         .value_name(value)
 }
 

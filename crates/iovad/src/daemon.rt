@@ -1,12 +1,13 @@
 //! A daemon: the sessions of a plan, served on a socket, and the report of what they leave.
-ghost use Rattle.std.specs.Prelude.{◌≡◌, ◌<◌, ◌≤◌, ◌+◌, ◌*◌, ◌↔◌, Err, IfErr, IfOk, IfSome, map, vec_len};
+ghost use Rattle.std.specs.Prelude.{◌≡◌, ◌<◌, ◌≤◌, ◌+◌, ◌*◌, ◌↔◌, [], ◌∷◌, None, Err, IfErr, IfOk, IfSome, map, vec_len};
 ghost use Rattle.iova_range.specs.declared.limits.TheConstants.{TALLY_PARTS};
 ghost use Rattle.iova_keep.specs.Views.{new_seats};
 ghost use Rattle.iova_command.specs.declared.plan.Plan.{Plan};
-ghost use Rattle.iovad.specs.Plans.{IsAboveProfile, IsBoundsOf, IsFaultOfServing, planned_book};
+ghost use Rattle.iovad.specs.Plans.{IsAboveProfile, IsBoundsOf, IsFaultOfServing, IsReserved, planned_book};
 
 use crate::fault::Fault;
 use crate::outcome::print_domain;
+use crate::regions::add_regions;
 use iova_command::plan::Plan;
 use iova_core::domain::Domain;
 use iova_daemon::pause::Ticks;
@@ -19,7 +20,10 @@ use iova_lock::shared::Shared;
 use iova_range::bounds::Bounds;
 use iova_range::limits::{RECORDED_STEPS, TALLY_PARTS};
 use iova_range::profile::Profile;
+use iova_range::range::Range;
 use iova_range::refusal::Refusal;
+use iova_regions::region::Counted;
+use iova_regions::windows::Windows;
 use iova_session::post::Post;
 use iova_session::retry::retry;
 use iova_session::socket_link::SocketLink;
@@ -41,17 +45,18 @@ use std::{fs, io};
 /// with the domain's number and the domain's report. The socket's file is removed once the sessions are over, also where no
 /// thread could be started. Clients that still wait then are tried once more.
 ///
-/// Faults come in this order: `StartAboveLast`; `LastAboveProfile`; `NoMemory` for the domain; `CannotOpenSink`; `SocketFault`
+/// Faults come in this order: `StartAboveLast`; `LastAboveProfile`; `CannotRead`, `RegionsRefused` or `NoMemory` for the
+/// reserved regions; `NoMemory` for the domain; `CannotOpenSink`; `SocketFault`
 /// where the socket can't be bound, as where something stands at its path, or a thread can't be started; `NoMemory` or
 /// `CannotWrite` for the record; `NoMemory` for the report; `CannotWrite`. Own.
-pub fn serve<R, C, F, S, G>(
+pub fn serve<'a, R, C, F, S, G>(
     rt: &R,
-    plan: &Plan<'_>,
+    plan: &Plan<'a>,
     count: Blank,
     frames: Blank,
     sum_lo: Blank,
     good: Blank,
-) -> Result<(), Fault<'static>>
+) -> Result<(), Fault<'a>>
 where
     R: Runtime + AllocGlobal + Net + Threads + Wait + Sync + Files<File = File> + Log,
     C: Ledger + Send + Sync,
@@ -67,7 +72,9 @@ where
     ensures faults { IfErr result (IsFaultOfServing plan.now) }
 {
     let bounds = bounds_of(plan)?;
-    match new_domain::<R, C, F, S, G>(rt, plan, bounds, count, frames, sum_lo, good) {
+    let windows = windows_of(rt, plan, bounds)?;
+    let made = new_domain::<R, C, F, S, G>(rt, plan, bounds, &windows, count, frames, sum_lo, good);
+    match made {
         Some((shared, posts)) => serve_domain(rt, plan, shared, posts),
         None => Err(Fault::NoMemory),
     }
@@ -328,11 +335,30 @@ fn bounds_of(plan: &Plan<'_>) -> Result<Bounds, Fault<'static>>
     }
 }
 
+/// The windows of the plan: those that are named, and those of its reserved regions, of whatever kind. Refused as these are.
+#[tactic(auto, using(crate::proofs::Reserving::of_regions))]
+fn windows_of<'a, R>(rt: &R, plan: &Plan<'a>, bounds: Bounds) -> Result<Windows, Fault<'a>>
+where
+    R: Runtime + AllocGlobal + Files<File = File>,
+    ensures named { plan.now.regions ≡ None → IfOk result (λ ws. ws ≡ plan.now.windows) }
+    ensures faults { IfErr result (IsFaultOfServing plan.now) }
+{
+    let mut windows = plan.windows.copied();
+    let Some(path) = plan.regions else {
+        return Ok(windows);
+    };
+    match add_regions(rt, path, Counted::All, bounds, &mut windows) {
+        Ok(()) => Ok(windows),
+        Err(fault) => Err(fault),
+    }
+}
+
 /// The plan's domain under a lock, and a post at each of its seats. None for want of memory.
 fn new_domain<'a, R, C, F, S, G>(
     rt: &'a R,
     plan: &Plan<'_>,
     bounds: Bounds,
+    windows: &Windows,
     count: Blank,
     frames: Blank,
     sum_lo: Blank,
@@ -352,9 +378,85 @@ where
     ensures workers { IfSome result (λ r. r.0.workers ≡ plan.now.workers) }
     ensures seats { IfSome result (λ r. map (λ p. p.seat) r.1.items ≡ new_seats plan.now.workers) }
 {
-    match book_of(rt.alloc(), plan, bounds, count, frames, sum_lo, good) {
+    match reserved_book(
+        rt.alloc(),
+        plan,
+        bounds,
+        windows,
+        count,
+        frames,
+        sum_lo,
+        good,
+    ) {
         Some((book, seats)) => posted(rt.alloc(), Shared::over(rt, book), seats),
         None => None,
+    }
+}
+
+/// The plan's new domain, in which these windows are reserved, and its seats. None for want of memory.
+fn reserved_book<C: Ledger, F: Ledger, S: Ledger, G: Ledger>(
+    alloc: Global,
+    plan: &Plan<'_>,
+    bounds: Bounds,
+    windows: &Windows,
+    count: Blank,
+    frames: Blank,
+    sum_lo: Blank,
+    good: Blank,
+) -> Option<(Book<C, F, S, G>, Vec<Seat<C, F, S, G>>)>
+    requires count { (count.name ≡ C.name) × (count.parts ≡ C.parts) × (count.parts ≡ plan.now.workers) }
+    requires frames { (frames.name ≡ F.name) × (frames.parts ≡ F.parts) × (frames.parts ≡ plan.now.workers) }
+    requires sum_lo { (sum_lo.name ≡ S.name) × (sum_lo.parts ≡ S.parts) × (sum_lo.parts ≡ plan.now.workers) }
+    requires good { (good.name ≡ G.name) × (good.parts ≡ G.parts) × (good.parts ≡ TALLY_PARTS * plan.now.workers) }
+    ensures reserved { IfSome result (λ r. IsReserved windows.now (planned_book plan.now bounds) r.0) }
+    ensures workers { IfSome result (λ r. r.0.state.workers ≡ plan.now.workers) }
+    ensures seats { IfSome result (λ r. r.1.items ≡ new_seats plan.now.workers) }
+{
+    let Some((mut book, seats)) = book_of(alloc, plan, bounds, count, frames, sum_lo, good) else {
+        return None;
+    };
+    match reserve_all(&mut book, windows.ranges()) {
+        Ok(()) => Some((book, seats)),
+        Err(_) => {
+            drop(seats);
+            drop(book);
+            None
+        }
+    }
+}
+
+/// Reserves these windows in the book, in their order, up to the first one that is refused.
+#[tactic(auto, using(crate::proofs::Reserving::reserved_more))]
+fn reserve_all<C: Ledger, F: Ledger, S: Ledger, G: Ledger>(
+    book: &mut Book<C, F, S, G>,
+    windows: &[Range],
+) -> Result<(), Refusal>
+    ensures reserved { IfOk result (λ u. IsReserved windows.now book.old book.new) }
+    ensures workers { book.new.state.workers ≡ book.old.state.workers }
+{
+    let Some((window, more)) = windows.split_first() else {
+        return Ok(());
+    };
+    reserve(book, *window)?;
+    reserve_all(book, more)
+}
+
+/// Reserves this window in the book.
+#[tactic(auto, using(crate::proofs::Reserving::reserved_window))]
+fn reserve<C: Ledger, F: Ledger, S: Ledger, G: Ledger>(
+    book: &mut Book<C, F, S, G>,
+    window: Range,
+) -> Result<(), Refusal>
+    ensures reserved { IfOk result (λ u. IsReserved (window ∷ []) book.old book.new) }
+    ensures workers { book.new.state.workers ≡ book.old.state.workers }
+{
+    // for the proof: a domain keeps its workers
+    book.is_kept();
+    let reserved = Keep::<C, F, S, G>::reserve(book, window.lo(), window.hi());
+    book.is_kept();
+    match reserved {
+        Ok(_window) => Ok(()),
+        Err(refusal) => Err(refusal),
     }
 }
 
