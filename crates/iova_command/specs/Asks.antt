@@ -26,6 +26,7 @@ pub record Plans (rows : List Row) (plan : Plan) : Type 0 where
   pub record_path : first_of (codes "record") rows ≡ option_map (λ path. path.now) plan.record
   pub windows : HasSpans rows (codes "reserve") plan.start plan.last plan.windows
   pub regions : first_of (codes "reserved-regions") rows ≡ option_map (λ path. path.now) plan.regions
+  pub sink_timeout : HasOptional rows (codes "sink-timeout") plan.sink_timeout
 
 -- each part of a check is the option of its name
 pub record PlansCheck (rows : List Row) (plan : CheckPlan) : Type 0 where

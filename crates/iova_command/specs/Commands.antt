@@ -6,7 +6,7 @@ use Rattle.clap.specs.declared.builder.command.Command.TheViews.{out-Command}
 use Rattle.clap.specs.declared.builder.action.ArgAction.TheVariants.{Append, Set, SetTrue}
 use Rattle.clap.specs.declared.builder.value_parser.ValueParser.TheVariants as parser
 use Rattle.iova_command.specs.declared.check_plan.TheConstants.{LAST_DOMAIN_ID}
-use Rattle.iova_range.specs.declared.limits.TheConstants.{MAX_DEPOT, MAX_WORKERS, MAX_DOMAINS, MAX_SESSIONS, WIDE_TOP}
+use Rattle.iova_range.specs.declared.limits.TheConstants.{MAX_DEPOT, MAX_WORKERS, MAX_DOMAINS, MAX_SESSIONS, MAX_SINK_TIMEOUT, WIDE_TOP}
 
 -- an argument that must be there, named by its place
 abbrev pub place_rule : Text → Rule
@@ -40,7 +40,7 @@ replay_app = with_rule (with_rule (new_app (codes "replay")) (flag_rule (codes "
 
 abbrev pub serve_app : App
 serve_app =
-    with_rule (with_rule (with_rule (with_rule (with_rule (with_rule (with_rule (with_rule (with_rule (with_rule (with_rule (with_rule (new_app (codes "serve"))
+    with_rule (with_rule (with_rule (with_rule (with_rule (with_rule (with_rule (with_rule (with_rule (with_rule (with_rule (with_rule (with_rule (new_app (codes "serve"))
     (option_rule (codes "socket")))
     (number_rule (codes "workers") 1 MAX_WORKERS))
     (number_rule (codes "domain") 0 (MAX_DOMAINS - 1)))
@@ -52,7 +52,8 @@ serve_app =
     (flag_rule (codes "strict")))
     (optional_rule (codes "record")))
     (repeated_rule (codes "reserve")))
-    (optional_rule (codes "reserved-regions"))
+    (optional_rule (codes "reserved-regions")))
+    (optional_number_rule (codes "sink-timeout") 1 MAX_SINK_TIMEOUT)
 
 abbrev pub ask_app : App
 ask_app = with_rule (new_app (codes "ask")) (place_rule (codes "path"))

@@ -5,7 +5,9 @@ ghost use Rattle.iova_command.specs.Commands.{IsCommand, place_rule, flag_rule, 
 
 use crate::check_plan::LAST_DOMAIN_ID;
 use clap::{Arg, ArgAction, Command, value_parser};
-use iova_range::limits::{MAX_DEPOT, MAX_DOMAINS, MAX_SESSIONS, MAX_WORKERS, WIDE_TOP};
+use iova_range::limits::{
+    MAX_DEPOT, MAX_DOMAINS, MAX_SESSIONS, MAX_SINK_TIMEOUT, MAX_WORKERS, WIDE_TOP,
+};
 use std::alloc::{AllocError, Global};
 
 /// The program's version, and the kit that it is written for.
@@ -17,7 +19,7 @@ const USAGE: &str = "iovad < FILE
        iovad replay [--report] FILE
        iovad serve --socket PATH --workers N --domain N --start N --last N --sink FILE --sessions K
                    [--depot N] [--strict] [--record FILE] [--reserve FIRST-LAST]..
-                   [--reserved-regions FILE]
+                   [--reserved-regions FILE] [--sink-timeout SECONDS]
        iovad ask PATH
        iovad check [--quiet] [--first N] [--last N] [--reserved-regions PATH]
                    [--ftrace [--did N]] FILE";
@@ -163,7 +165,7 @@ fn serve_command<'a>(alloc: Global) -> Result<Command<'a>, AllocError>
             alloc,
             "sink",
             "FILE",
-            "The file that the records of flushes are appended to",
+            "The file that the records of flushes are appended to, or the socket of a peer that answers",
         ),
     );
     let command = with_arg(
@@ -208,13 +210,23 @@ fn serve_command<'a>(alloc: Global) -> Result<Command<'a>, AllocError>
             "Frames that are given to nobody; it may be there any number of times",
         ),
     );
-    with_arg(
+    let command = with_arg(
         command,
         optional_path(
             alloc,
             "reserved-regions",
             "FILE",
             "A group's reserved_regions, or - for standard input: their frames are given to nobody",
+        ),
+    );
+    with_arg(
+        command,
+        optional_number(
+            alloc,
+            "sink-timeout",
+            1,
+            MAX_SINK_TIMEOUT,
+            "The seconds that a sink which is a socket has to answer, 1 to 3600; without it 10",
         ),
     )
 }

@@ -4,10 +4,12 @@ ghost use Rattle.std.specs.Option.{ForSome};
 ghost use Rattle.clap.specs.Words.{rows_of, found_of};
 ghost use Rattle.iova_command.specs.Numbers.{HasNumber, HasOptional};
 ghost use Rattle.iova_command.specs.Spans.{HasSpans, InsertsSpan, InsertsSpans};
-ghost use Rattle.iova_range.specs.declared.limits.TheConstants.{MAX_DEPOT, MAX_WORKERS, MAX_DOMAINS, MAX_SESSIONS, WIDE_TOP};
+ghost use Rattle.iova_range.specs.declared.limits.TheConstants.{MAX_DEPOT, MAX_WORKERS, MAX_DOMAINS, MAX_SESSIONS, MAX_SINK_TIMEOUT, WIDE_TOP};
 
 use clap::ArgMatches;
-use iova_range::limits::{MAX_DEPOT, MAX_DOMAINS, MAX_SESSIONS, MAX_WORKERS, WIDE_TOP};
+use iova_range::limits::{
+    MAX_DEPOT, MAX_DOMAINS, MAX_SESSIONS, MAX_SINK_TIMEOUT, MAX_WORKERS, WIDE_TOP,
+};
 use iova_range::range::Range;
 use iova_regions::span::read_span;
 use iova_regions::windows::Windows;
@@ -25,7 +27,7 @@ pub struct Plan<'a> {
     pub start: u64,
     /// The last frame that may be given; it may be below the first one.
     pub last: u64,
-    /// The path of the file that the records of flushes are appended to.
+    /// The path of the file that the records of flushes are appended to, or of the socket of a peer that answers.
     pub sink: &'a str,
     /// How many sessions are served.
     pub sessions: u64,
@@ -39,12 +41,15 @@ pub struct Plan<'a> {
     pub windows: Windows,
     /// The path of the file with a group's reserved regions, or `-` for standard input, which are windows too.
     pub regions: Option<&'a str>,
+    /// How many seconds a sink that answers has for that, where it is said.
+    pub sink_timeout: Option<u64>,
     pub ghost workers_in_range: { (1 ≤ workers) × (workers ≤ MAX_WORKERS) },
     pub ghost domain_in_range: { domain < MAX_DOMAINS },
     pub ghost start_in_range: { (1 ≤ start) × (start ≤ WIDE_TOP) },
     pub ghost last_in_range: { (1 ≤ last) × (last ≤ WIDE_TOP) },
     pub ghost sessions_in_range: { (1 ≤ sessions) × (sessions ≤ MAX_SESSIONS) },
     pub ghost depot_in_range: { ForSome depot (λ n. n ≤ MAX_DEPOT) },
+    pub ghost timeout_in_range: { ForSome sink_timeout (λ n. n ≤ MAX_SINK_TIMEOUT) },
 }
 
 impl<'a> Plan<'a> {
@@ -70,6 +75,7 @@ impl<'a> Plan<'a> {
             record: found.get_str("record"),
             windows: windows(found, "reserve", start, last)?,
             regions: found.get_str("reserved-regions"),
+            sink_timeout: optional(found, "sink-timeout", MAX_SINK_TIMEOUT)?,
         })
     }
 }

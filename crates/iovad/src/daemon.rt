@@ -8,6 +8,7 @@ ghost use Rattle.iovad.specs.Plans.{IsAboveProfile, IsBoundsOf, IsFaultOfServing
 use crate::fault::Fault;
 use crate::outcome::print_domain;
 use crate::regions::add_regions;
+use crate::sinks::{DaemonSink, SinkPlace, open_sink};
 use iova_command::plan::Plan;
 use iova_core::domain::Domain;
 use iova_daemon::pause::Ticks;
@@ -27,8 +28,6 @@ use iova_regions::windows::Windows;
 use iova_session::post::Post;
 use iova_session::retry::retry;
 use iova_session::socket_link::SocketLink;
-use iova_sink::file::FileDevice;
-use iova_sink::record::RecordSink;
 use iova_text::write::write_all;
 use log::Log;
 use std::alloc::Global;
@@ -120,8 +119,9 @@ where
     requires posts { map (λ p. p.seat) posts.items ≡ new_seats plan.now.workers }
     ensures { IfErr result (IsFaultOfServing plan.now) }
 {
-    match serve_links(rt, plan, shared, posts) {
-        Ok(Served { shared, posts }) => finish(rt, plan, shared, posts),
+    let place = SinkPlace::of(rt, plan);
+    match serve_links(rt, plan, place, shared, posts) {
+        Ok(Served { shared, posts }) => finish(rt, plan, place, shared, posts),
         Err(why) => Err(why.fault()),
     }
 }
@@ -130,6 +130,7 @@ where
 fn serve_links<'a, R, C, F, S, G>(
     rt: &'a R,
     plan: &Plan<'_>,
+    place: SinkPlace<'a>,
     shared: Shared<&'a R, C, F, S, G>,
     posts: Vec<Post<C, F, S, G>>,
 ) -> Result<Served<&'a R, C, F, S, G>, Hindrance>
@@ -143,7 +144,7 @@ where
     requires posts { map (λ p. p.seat) posts.items ≡ new_seats plan.now.workers }
     ensures { IfOk result (λ r. map (λ p. p.seat.worker) r.posts.items ≡ map (λ s. s.worker) (new_seats r.shared.workers)) }
 {
-    match open_all(rt, plan, posts.len() + 1) {
+    match open_all(rt, plan, place, posts.len() + 1) {
         Ok((sinks, listener)) => serve_opened(rt, plan, shared, posts, sinks, listener),
         Err(why) => {
             drop(posts);
@@ -159,7 +160,7 @@ fn serve_opened<'a, R, C, F, S, G>(
     plan: &Plan<'_>,
     shared: Shared<&'a R, C, F, S, G>,
     posts: Vec<Post<C, F, S, G>>,
-    sinks: Vec<RecordSink<FileDevice>>,
+    sinks: Vec<DaemonSink<'a, R>>,
     listener: UnixListener,
 ) -> Result<Served<&'a R, C, F, S, G>, Hindrance>
 where
@@ -184,7 +185,7 @@ where
         G,
         SocketLink,
         SocketAccept<'_, R, R>,
-        RecordSink<FileDevice>,
+        DaemonSink<'_, R>,
         Ticks<'_, R>,
     >(
         rt,
@@ -212,14 +213,15 @@ fn remove<R: Files<File = File>>(rt: &R, path: &str) {
 }
 
 /// So many sinks, and the socket. Refused by `NoMemory`, `CannotOpenSink` and `SocketFault`, in this order.
-fn open_all<R: AllocGlobal + Net + Files<File = File>>(
-    rt: &R,
+fn open_all<'a, R: AllocGlobal + Net + Files<File = File>>(
+    rt: &'a R,
     plan: &Plan<'_>,
+    place: SinkPlace<'a>,
     count: usize,
-) -> Result<(Vec<RecordSink<FileDevice>>, UnixListener), Hindrance>
+) -> Result<(Vec<DaemonSink<'a, R>>, UnixListener), Hindrance>
     ensures { IfOk result (λ r. vec_len r.0 ≡ count) }
 {
-    let sinks = open_sinks(rt, rt.alloc(), plan.sink, count)?;
+    let sinks = open_sinks(rt, rt.alloc(), place, plan.domain, count)?;
     match bound(rt, plan.socket) {
         Some(listener) => Ok((sinks, listener)),
         None => {
@@ -229,7 +231,7 @@ fn open_all<R: AllocGlobal + Net + Files<File = File>>(
     }
 }
 
-/// The socket at this path, where it can be bound. It doesn't block.
+/// The socket at this path, where it can be bound. An accept there doesn't block: it has a limit of its own.
 fn bound<R: Net + Files<File = File>>(rt: &R, path: &str) -> Option<UnixListener> {
     // the system would take an empty path for a socket without a name
     if path.is_empty() {
@@ -246,14 +248,15 @@ fn bound<R: Net + Files<File = File>>(rt: &R, path: &str) -> Option<UnixListener
 }
 
 /// Gathers what was served on, writes the record where one is wanted, and prints the domain. The posts are those of all workers.
-fn finish<R, C, F, S, G>(
-    rt: &R,
+fn finish<'a, R, C, F, S, G>(
+    rt: &'a R,
     plan: &Plan<'_>,
-    shared: Shared<&R, C, F, S, G>,
+    place: SinkPlace<'a>,
+    shared: Shared<&'a R, C, F, S, G>,
     posts: Vec<Post<C, F, S, G>>,
 ) -> Result<(), Fault<'static>>
 where
-    R: Runtime + AllocGlobal + Wait + Files<File = File>,
+    R: Runtime + AllocGlobal + Net + Wait + Files<File = File>,
     C: Ledger,
     F: Ledger,
     S: Ledger,
@@ -261,7 +264,7 @@ where
     requires posts { map (λ p. p.seat.worker) posts.items ≡ map (λ s. s.worker) (new_seats shared.workers) }
     ensures { IfErr result (IsFaultOfServing plan.now) }
 {
-    let recorded = gather_all(rt, plan, &shared, posts);
+    let recorded = gather_all(rt, plan, place, &shared, posts);
     let domain = shared.into_domain();
     let told = tell(rt, plan, &domain, recorded);
     drop(domain);
@@ -284,14 +287,15 @@ fn tell<R: Runtime + AllocGlobal>(
 }
 
 /// Gathers the seats of the posts, and writes the record where one is wanted.
-fn gather_all<R, Q, C, F, S, G>(
-    rt: &R,
+fn gather_all<'a, R, Q, C, F, S, G>(
+    rt: &'a R,
     plan: &Plan<'_>,
+    place: SinkPlace<'a>,
     shared: &Shared<Q, C, F, S, G>,
     posts: Vec<Post<C, F, S, G>>,
 ) -> Result<(), Hindrance>
 where
-    R: AllocGlobal + Files<File = File>,
+    R: AllocGlobal + Net + Files<File = File>,
     Q: Wait,
     C: Ledger,
     F: Ledger,
@@ -299,7 +303,7 @@ where
     G: Ledger,
     requires posts { map (λ p. p.seat.worker) posts.items ≡ map (λ s. s.worker) (new_seats shared.now.workers) }
 {
-    let Some(seats) = seats_of(rt, rt.alloc(), plan.sink, shared, posts) else {
+    let Some(seats) = seats_of(rt, rt.alloc(), place, shared, posts) else {
         return Err(Hindrance::NoMemory);
     };
     let Ok(_totals) = shared.gather(seats) else {
@@ -577,23 +581,26 @@ fn posts_of<C: Ledger, F: Ledger, S: Ledger, G: Ledger>(
     Some(posts)
 }
 
-/// So many sinks, each with this file opened for appending. Refused by `NoMemory` and by `CannotOpenSink`.
-fn open_sinks<R: Files<File = File>>(
-    rt: &R,
+/// So many sinks there. A peer is told by the first one that nothing of the domain is mapped. Refused by `NoMemory` and by
+/// `CannotOpenSink`.
+fn open_sinks<'a, R: Net + Files<File = File>>(
+    rt: &'a R,
     alloc: Global,
-    path: &str,
+    place: SinkPlace<'a>,
+    domain: u64,
     count: usize,
-) -> Result<Vec<RecordSink<FileDevice>>, Hindrance>
+) -> Result<Vec<DaemonSink<'a, R>>, Hindrance>
     ensures { IfOk result (λ v. vec_len v ≡ count) }
 {
     let Ok(mut sinks) = Vec::with_capacity(alloc, count) else {
         return Err(Hindrance::NoMemory);
     };
-    for _ in 0..count {
-        let Ok(device) = FileDevice::open(rt, path) else {
+    for at in 0..count {
+        let reset = if at == 0 { Some(domain) } else { None };
+        let Some(sink) = open_sink(rt, place, reset) else {
             return Err(Hindrance::CannotOpenSink);
         };
-        let Ok(()) = sinks.push(RecordSink::new(device)) else {
+        let Ok(()) = sinks.push(sink) else {
             unreachable!();
         };
     }
@@ -601,15 +608,15 @@ fn open_sinks<R: Files<File = File>>(
 }
 
 /// The posts' seats, in their order, once the clients that still wait were tried again. None for want of memory.
-fn seats_of<R, Q, C, F, S, G>(
-    rt: &R,
+fn seats_of<'a, R, Q, C, F, S, G>(
+    rt: &'a R,
     alloc: Global,
-    path: &str,
+    place: SinkPlace<'a>,
     shared: &Shared<Q, C, F, S, G>,
     posts: Vec<Post<C, F, S, G>>,
 ) -> Option<Vec<Seat<C, F, S, G>>>
 where
-    R: Files<File = File>,
+    R: Net + Files<File = File>,
     Q: Wait,
     C: Ledger,
     F: Ledger,
@@ -621,7 +628,7 @@ where
         return None;
     };
     for post in posts {
-        let Ok(()) = seats.push(seat_of(rt, path, shared, post)) else {
+        let Ok(()) = seats.push(seat_of(rt, place, shared, post)) else {
             unreachable!();
         };
     }
@@ -629,14 +636,14 @@ where
 }
 
 /// The post's seat, once the clients that still wait were tried again.
-fn seat_of<R, C, F, S, G, K>(
-    rt: &R,
-    path: &str,
+fn seat_of<'a, R, C, F, S, G, K>(
+    rt: &'a R,
+    place: SinkPlace<'a>,
     keeper: K,
     post: Post<C, F, S, G>,
 ) -> Seat<C, F, S, G>
 where
-    R: Files<File = File>,
+    R: Net + Files<File = File>,
     C: Ledger,
     F: Ledger,
     S: Ledger,
@@ -647,7 +654,7 @@ where
     let mut keeper = keeper;
     let mut post = post;
     if !post.waiting.is_empty() {
-        retry_at(rt, path, &mut keeper, &mut post);
+        retry_at(rt, place, &mut keeper, &mut post);
     }
     let Post {
         seat,
@@ -657,10 +664,15 @@ where
     seat
 }
 
-/// Tries the clients that wait at this post again, where the file for the records can be opened.
-fn retry_at<R, C, F, S, G, K>(rt: &R, path: &str, keeper: &mut K, post: &mut Post<C, F, S, G>)
+/// Tries the clients that wait at this post again, where a sink can be opened.
+fn retry_at<'a, R, C, F, S, G, K>(
+    rt: &'a R,
+    place: SinkPlace<'a>,
+    keeper: &mut K,
+    post: &mut Post<C, F, S, G>,
+)
 where
-    R: Files<File = File>,
+    R: Net + Files<File = File>,
     C: Ledger,
     F: Ledger,
     S: Ledger,
@@ -668,8 +680,7 @@ where
     K: Keep<C, F, S, G>,
     ensures { post.new.seat.worker ≡ post.old.seat.worker }
 {
-    if let Ok(device) = FileDevice::open(rt, path) {
-        let mut sink = RecordSink::new(device);
+    if let Some(mut sink) = open_sink(rt, place, None) {
         let _left = retry(keeper, post, &mut sink);
     }
 }

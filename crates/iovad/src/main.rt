@@ -7,6 +7,7 @@ mod daemon;
 mod fault;
 mod outcome;
 mod regions;
+mod sinks;
 
 use answer::answer;
 use checking::check_planned;

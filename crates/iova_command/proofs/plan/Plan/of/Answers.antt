@@ -16,4 +16,5 @@ returns c = record {
   record_path = optional_text_read (found_of c.args.found.now) _ c.get_str-3.result c.get_str-3.ensures;
   windows = c.in_ok-windows.ensures;
   regions = optional_text_read (found_of c.args.found.now) _ c.get_str-4.result c.get_str-4.ensures;
+  sink_timeout = c.in_ok-optional-2.ensures.read;
 }
