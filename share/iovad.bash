@@ -11,13 +11,13 @@ _iovad() {
       mapfile -t COMPREPLY < <(compgen -f -- "$word")
       return
       ;;
-    --workers | --domain | --start | --first | --last | --sessions | --depot | --did) return ;;
+    --workers | --domain | --start | --first | --last | --sessions | --depot | --did | --reserve | --sink-timeout) return ;;
   esac
   case $command in
     replay) mapfile -t COMPREPLY < <(compgen -W "--report --help" -- "$word"; compgen -f -- "$word") ;;
     serve)
       mapfile -t COMPREPLY < <(
-        compgen -W "--socket --workers --domain --start --last --sink --sessions --depot --strict --record --help" -- "$word"
+        compgen -W "--socket --workers --domain --start --last --sink --sessions --depot --strict --record --reserve --reserved-regions --sink-timeout --help" -- "$word"
       )
       ;;
     ask) mapfile -t COMPREPLY < <(compgen -W "--help" -- "$word"; compgen -f -- "$word") ;;

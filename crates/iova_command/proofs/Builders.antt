@@ -1,5 +1,5 @@
 -- A command is made by one argument or subcommand after another.
-use Rattle.std.proofs.Common.{ℕ, ◌≡◌, ◌∙◌, ◌<◌, ◌^◌, ◌||◌, false, Result, Ok, Err, IfOk, Some, ap, ap₂, arith, pos, ℤ, w64, subst}
+use Rattle.std.proofs.Common.{ℕ, ◌≡◌, ◌∙◌, ◌<◌, ◌^◌, false, Result, IfOk, Some, ap, ap₂, arith, pos, ℤ, w64, subst}
 use Rattle.std.proofs.lemmas.Int.{ints}
 use Rattle.std.specs.Ordering.{nat_cmp, ord_max, ord_min}
 use Rattle.std.specs.Int.{saturate_unsigned}
@@ -8,7 +8,7 @@ use Rattle.std.specs.Borrow.{Bor}
 use Rattle.clap.specs.Simple.{app_of_fields}
 use Rattle.clap.specs.declared.builder.command.Command.TheOpen.{Command-F}
 use Rattle.clap.specs.declared.builder.command.Command.TheViews.{out-Command}
-use Rattle.clap.specs.Words.{NarrowsTo, AddsArg, AddsSubcommand, App, Rule, Text, app_of, new_app, rule_of, with_rule, with_subcommand}
+use Rattle.clap.specs.Words.{NarrowsTo, App, Rule, Text, app_of, new_app, rule_of, with_rule}
 use Rattle.clap.specs.declared.builder.arg.Arg.{Arg}
 use Rattle.clap.specs.declared.builder.command.Command.{Command}
 use Rattle.clap.specs.declared.builder.value_parser.ValueParser.{ValueParser}

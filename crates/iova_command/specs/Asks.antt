@@ -2,6 +2,7 @@
 use Rattle.std.specs.Prelude.{◌≡◌, ◌≢◌, Bool, true, false, List, Option, Some, None, option_map, codes}
 use Rattle.clap.specs.Words.{Row, Text, first_of, one_of}
 use Rattle.iova_command.specs.Numbers.{HasNumber, HasOptional}
+use Rattle.iova_command.specs.Spans.{HasSpans}
 use Rattle.iova_command.specs.declared.asked.Asked.{Asked}
 use Rattle.iova_command.specs.declared.asked.Asked.TheVariants.{Replay, Serve, Ask, Check}
 use Rattle.iova_command.specs.declared.check_plan.CheckPlan.{CheckPlan}
@@ -23,6 +24,9 @@ pub record Plans (rows : List Row) (plan : Plan) : Type 0 where
   pub depot : HasOptional rows (codes "depot") plan.depot
   pub strict : HasFlag rows (codes "strict") plan.strict
   pub record_path : first_of (codes "record") rows ≡ option_map (λ path. path.now) plan.record
+  pub windows : HasSpans rows (codes "reserve") plan.start plan.last plan.windows
+  pub regions : first_of (codes "reserved-regions") rows ≡ option_map (λ path. path.now) plan.regions
+  pub sink_timeout : HasOptional rows (codes "sink-timeout") plan.sink_timeout
 
 -- each part of a check is the option of its name
 pub record PlansCheck (rows : List Row) (plan : CheckPlan) : Type 0 where

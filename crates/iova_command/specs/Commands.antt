@@ -3,10 +3,10 @@ use Rattle.std.specs.Prelude.{ℕ, ◌≡◌, ◌-◌, true, false, Some, codes}
 use Rattle.clap.specs.Words.{App, app_of, Rule, Text, new_app, new_rule, with_rule, with_subcommand}
 use Rattle.clap.specs.declared.builder.command.Command.{Command}
 use Rattle.clap.specs.declared.builder.command.Command.TheViews.{out-Command}
-use Rattle.clap.specs.declared.builder.action.ArgAction.TheVariants.{Set, SetTrue}
+use Rattle.clap.specs.declared.builder.action.ArgAction.TheVariants.{Append, Set, SetTrue}
 use Rattle.clap.specs.declared.builder.value_parser.ValueParser.TheVariants as parser
 use Rattle.iova_command.specs.declared.check_plan.TheConstants.{LAST_DOMAIN_ID}
-use Rattle.iova_range.specs.declared.limits.TheConstants.{MAX_DEPOT, MAX_WORKERS, MAX_DOMAINS, MAX_SESSIONS, WIDE_TOP}
+use Rattle.iova_range.specs.declared.limits.TheConstants.{MAX_DEPOT, MAX_WORKERS, MAX_DOMAINS, MAX_SESSIONS, MAX_SINK_TIMEOUT, WIDE_TOP}
 
 -- an argument that must be there, named by its place
 abbrev pub place_rule : Text → Rule
@@ -23,6 +23,10 @@ optional_rule id = record (new_rule id) { long = Some id; action = Some Set; val
 abbrev pub option_rule : Text → Rule
 option_rule id = record (optional_rule id) { required = true }
 
+-- an option with a value, any number of times
+abbrev pub repeated_rule : Text → Rule
+repeated_rule id = record (optional_rule id) { action = Some Append }
+
 -- an option with a number from `low` to `high`, and one that must be there
 abbrev pub optional_number_rule : Text → ℕ → ℕ → Rule
 optional_number_rule id low high =
@@ -36,7 +40,7 @@ replay_app = with_rule (with_rule (new_app (codes "replay")) (flag_rule (codes "
 
 abbrev pub serve_app : App
 serve_app =
-    with_rule (with_rule (with_rule (with_rule (with_rule (with_rule (with_rule (with_rule (with_rule (with_rule (new_app (codes "serve"))
+    with_rule (with_rule (with_rule (with_rule (with_rule (with_rule (with_rule (with_rule (with_rule (with_rule (with_rule (with_rule (with_rule (new_app (codes "serve"))
     (option_rule (codes "socket")))
     (number_rule (codes "workers") 1 MAX_WORKERS))
     (number_rule (codes "domain") 0 (MAX_DOMAINS - 1)))
@@ -46,7 +50,10 @@ serve_app =
     (number_rule (codes "sessions") 1 MAX_SESSIONS))
     (optional_number_rule (codes "depot") 0 MAX_DEPOT))
     (flag_rule (codes "strict")))
-    (optional_rule (codes "record"))
+    (optional_rule (codes "record")))
+    (repeated_rule (codes "reserve")))
+    (optional_rule (codes "reserved-regions")))
+    (optional_number_rule (codes "sink-timeout") 1 MAX_SINK_TIMEOUT)
 
 abbrev pub ask_app : App
 ask_app = with_rule (new_app (codes "ask")) (place_rule (codes "path"))

@@ -1,11 +1,13 @@
 //! The command and its help.
 ghost use Rattle.std.specs.Prelude.{◌≡◌, ◌<◌, ◌^◌, IfOk, false};
 ghost use Rattle.clap.specs.Words.{App, rule_of, with_rule, with_subcommand};
-ghost use Rattle.iova_command.specs.Commands.{IsCommand, place_rule, flag_rule, option_rule, optional_rule, number_rule, optional_number_rule, replay_app, serve_app, ask_app, check_app, iovad_app};
+ghost use Rattle.iova_command.specs.Commands.{IsCommand, place_rule, flag_rule, option_rule, optional_rule, repeated_rule, number_rule, optional_number_rule, replay_app, serve_app, ask_app, check_app, iovad_app};
 
 use crate::check_plan::LAST_DOMAIN_ID;
 use clap::{Arg, ArgAction, Command, value_parser};
-use iova_range::limits::{MAX_DEPOT, MAX_DOMAINS, MAX_SESSIONS, MAX_WORKERS, WIDE_TOP};
+use iova_range::limits::{
+    MAX_DEPOT, MAX_DOMAINS, MAX_SESSIONS, MAX_SINK_TIMEOUT, MAX_WORKERS, WIDE_TOP,
+};
 use std::alloc::{AllocError, Global};
 
 /// The program's version, and the kit that it is written for.
@@ -16,7 +18,8 @@ rattle-kit-13f logic dac8208d650f15bf";
 const USAGE: &str = "iovad < FILE
        iovad replay [--report] FILE
        iovad serve --socket PATH --workers N --domain N --start N --last N --sink FILE --sessions K
-                   [--depot N] [--strict] [--record FILE]
+                   [--depot N] [--strict] [--record FILE] [--reserve FIRST-LAST]..
+                   [--reserved-regions FILE] [--sink-timeout SECONDS]
        iovad ask PATH
        iovad check [--quiet] [--first N] [--last N] [--reserved-regions PATH]
                    [--ftrace [--did N]] FILE";
@@ -162,7 +165,7 @@ fn serve_command<'a>(alloc: Global) -> Result<Command<'a>, AllocError>
             alloc,
             "sink",
             "FILE",
-            "The file that the records of flushes are appended to",
+            "The file that the records of flushes are appended to, or the socket of a peer that answers",
         ),
     );
     let command = with_arg(
@@ -189,13 +192,41 @@ fn serve_command<'a>(alloc: Global) -> Result<Command<'a>, AllocError>
         command,
         flag(alloc, "strict", "Flushes each range at once that is freed"),
     );
-    with_arg(
+    let command = with_arg(
         command,
         optional_path(
             alloc,
             "record",
             "FILE",
             "The file that the domain's first 100000 steps are written to, as a trace",
+        ),
+    );
+    let command = with_arg(
+        command,
+        repeated(
+            alloc,
+            "reserve",
+            "FIRST-LAST",
+            "Frames that are given to nobody; it may be there any number of times",
+        ),
+    );
+    let command = with_arg(
+        command,
+        optional_path(
+            alloc,
+            "reserved-regions",
+            "FILE",
+            "A group's reserved_regions, or - for standard input: their frames are given to nobody",
+        ),
+    );
+    with_arg(
+        command,
+        optional_number(
+            alloc,
+            "sink-timeout",
+            1,
+            MAX_SINK_TIMEOUT,
+            "The seconds that a sink which is a socket has to answer, 1 to 3600; without it 10",
         ),
     )
 }
@@ -332,6 +363,16 @@ fn optional_path<'a>(alloc: Global, name: &'a str, value: &'a str, help: &'a str
 {
     flag(alloc, name, help)
         .action(ArgAction::Set)
+        .value_name(value)
+}
+
+/// An option with a value, which may be there any number of times.
+fn repeated<'a>(alloc: Global, name: &'a str, value: &'a str, help: &'a str) -> Arg<'a>
+    ensures rule { rule_of result ≡ repeated_rule name.entry.now }
+    ensures local { result.global ≡ false }
+{
+    flag(alloc, name, help)
+        .action(ArgAction::Append)
         .value_name(value)
 }
 

@@ -1,12 +1,18 @@
 //! What a daemon is to serve.
-ghost use Rattle.std.specs.Prelude.{◌≡◌, ◌<◌, ◌≤◌, IfSome};
+ghost use Rattle.std.specs.Prelude.{◌≡◌, ◌<◌, ◌≤◌, IfSome, map};
 ghost use Rattle.std.specs.Option.{ForSome};
 ghost use Rattle.clap.specs.Words.{rows_of, found_of};
 ghost use Rattle.iova_command.specs.Numbers.{HasNumber, HasOptional};
-ghost use Rattle.iova_range.specs.declared.limits.TheConstants.{MAX_DEPOT, MAX_WORKERS, MAX_DOMAINS, MAX_SESSIONS, WIDE_TOP};
+ghost use Rattle.iova_command.specs.Spans.{HasSpans, InsertsSpan, InsertsSpans};
+ghost use Rattle.iova_range.specs.declared.limits.TheConstants.{MAX_DEPOT, MAX_WORKERS, MAX_DOMAINS, MAX_SESSIONS, MAX_SINK_TIMEOUT, WIDE_TOP};
 
 use clap::ArgMatches;
-use iova_range::limits::{MAX_DEPOT, MAX_DOMAINS, MAX_SESSIONS, MAX_WORKERS, WIDE_TOP};
+use iova_range::limits::{
+    MAX_DEPOT, MAX_DOMAINS, MAX_SESSIONS, MAX_SINK_TIMEOUT, MAX_WORKERS, WIDE_TOP,
+};
+use iova_range::range::Range;
+use iova_regions::span::read_span;
+use iova_regions::windows::Windows;
 
 /// The options of `serve`, each in its range. Own.
 #[derive(Drop)]
@@ -21,7 +27,7 @@ pub struct Plan<'a> {
     pub start: u64,
     /// The last frame that may be given; it may be below the first one.
     pub last: u64,
-    /// The path of the file that the records of flushes are appended to.
+    /// The path of the file that the records of flushes are appended to, or of the socket of a peer that answers.
     pub sink: &'a str,
     /// How many sessions are served.
     pub sessions: u64,
@@ -31,34 +37,92 @@ pub struct Plan<'a> {
     pub strict: bool,
     /// The path of the file that the record of the domain's steps is written to, where one is wanted.
     pub record: Option<&'a str>,
+    /// The windows that are named, as far as they are within the bounds: frames that are given to nobody.
+    pub windows: Windows,
+    /// The path of the file with a group's reserved regions, or `-` for standard input, which are windows too.
+    pub regions: Option<&'a str>,
+    /// How many seconds a sink that answers has for that, where it is said.
+    pub sink_timeout: Option<u64>,
     pub ghost workers_in_range: { (1 ≤ workers) × (workers ≤ MAX_WORKERS) },
     pub ghost domain_in_range: { domain < MAX_DOMAINS },
     pub ghost start_in_range: { (1 ≤ start) × (start ≤ WIDE_TOP) },
     pub ghost last_in_range: { (1 ≤ last) × (last ≤ WIDE_TOP) },
     pub ghost sessions_in_range: { (1 ≤ sessions) × (sessions ≤ MAX_SESSIONS) },
     pub ghost depot_in_range: { ForSome depot (λ n. n ≤ MAX_DEPOT) },
+    pub ghost timeout_in_range: { ForSome sink_timeout (λ n. n ≤ MAX_SINK_TIMEOUT) },
 }
 
 impl<'a> Plan<'a> {
     ghost use Rattle.iova_command.specs.Asks.{Plans};
 
-    /// What the matches of `serve` say. None where an option is missing, or its number is outside its range.
+    /// What the matches of `serve` say. None where an option is missing, or its number is outside its range, or where a window
+    /// is of another form or makes too many.
     pub(crate) fn of(found: &ArgMatches<'a>) -> Option<Plan<'a>>
         ensures { IfSome result (λ p. Plans (rows_of (found_of found.now)) p) }
     {
+        let start = number(found, "start", 1, WIDE_TOP)?;
+        let last = number(found, "last", 1, WIDE_TOP)?;
         Some(Plan {
             socket: found.get_str("socket")?,
             workers: number(found, "workers", 1, MAX_WORKERS)?,
             domain: number(found, "domain", 0, MAX_DOMAINS - 1)?,
-            start: number(found, "start", 1, WIDE_TOP)?,
-            last: number(found, "last", 1, WIDE_TOP)?,
+            start,
+            last,
             sink: found.get_str("sink")?,
             sessions: number(found, "sessions", 1, MAX_SESSIONS)?,
             depot: optional(found, "depot", MAX_DEPOT)?,
             strict: found.get_flag("strict"),
             record: found.get_str("record"),
+            windows: windows(found, "reserve", start, last)?,
+            regions: found.get_str("reserved-regions"),
+            sink_timeout: optional(found, "sink-timeout", MAX_SINK_TIMEOUT)?,
         })
     }
+}
+
+/// The windows of an option that may be there any number of times, each cut at the frames `start` and `last`. None where a
+/// value is none of two frames, or makes too many windows.
+fn windows(found: &ArgMatches<'_>, name: &str, start: u64, last: u64) -> Option<Windows>
+    requires { (1 ≤ start) × (last ≤ WIDE_TOP) }
+    ensures { IfSome result (λ ws. HasSpans (rows_of (found_of found.now)) name.now start last ws) }
+{
+    let mut windows = Windows::new();
+    match found.get_raw(name) {
+        None => Some(windows),
+        Some(spans) => {
+            insert_spans(spans, start, last, &mut windows)?;
+            Some(windows)
+        }
+    }
+}
+
+/// Inserts the windows that these texts name. None where a text is none of two frames, or makes too many windows.
+fn insert_spans(texts: &[&str], start: u64, last: u64, windows: &mut Windows) -> Option<()>
+    requires { (1 ≤ start) × (last ≤ WIDE_TOP) }
+    ensures { IfSome result (λ u. InsertsSpans start last (map (λ t. t.now) texts.now) windows.old windows.new) }
+{
+    let mut rest = texts;
+    while !rest.is_empty() {
+        match insert_span(rest[0], start, last, windows) {
+            Some(()) => rest = &rest[1..],
+            None => return None,
+        }
+    }
+    Some(())
+}
+
+/// Inserts the window that this text names. None where it is none of two frames, or makes too many windows.
+fn insert_span(text: &str, start: u64, last: u64, windows: &mut Windows) -> Option<()>
+    requires { (1 ≤ start) × (last ≤ WIDE_TOP) }
+    ensures { IfSome result (λ u. InsertsSpan start last text.now windows.old windows.new) }
+{
+    let (lo, hi) = read_span(text.as_bytes())?;
+    let lo = lo.max(start);
+    let hi = hi.min(last);
+    if lo > hi {
+        return Some(());
+    }
+    windows.insert(Range::new(lo, hi - lo + 1)).ok()
 }
 
 /// The number of an option, where it is from `low` to `high`.

@@ -36,6 +36,16 @@ impl Ranges {
         }
     }
 
+    /// The same ranges once more.
+    pub(crate) fn copied(&self) -> Ranges
+        ensures { result ≡ self.now }
+    {
+        Ranges {
+            cells: self.cells,
+            len: self.len,
+        }
+    }
+
     /// How many.
     pub(crate) fn len(&self) -> usize
         ensures is { result ≡ length self.now }

@@ -37,6 +37,15 @@ impl Windows {
         }
     }
 
+    /// The same windows once more.
+    pub fn copied(&self) -> Windows
+        ensures { result ≡ self.now }
+    {
+        Windows {
+            ranges: self.ranges.copied(),
+        }
+    }
+
     /// The windows, rising.
     pub fn ranges(&self) -> &[Range]
         ensures is { result.now ≡ self.now }

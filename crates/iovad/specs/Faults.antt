@@ -1,5 +1,6 @@
 -- What a fault of the program says on standard error, and the status that it ends with. Own.
 use Rattle.std.specs.Prelude.{ℕ, ◌≡◌, List, ◌++◌, Option, Some, None, decimal, codes}
+use Rattle.std.specs.Borrow.{Bor}
 use Rattle.iova_command.specs.declared.usage.WordsFault.{WordsFault}
 use Rattle.iova_command.specs.declared.usage.WordsFault.TheVariants as words
 use Rattle.iovad.specs.declared.fault.Fault.{Fault}
@@ -40,6 +41,13 @@ fault_status fault.NoMemory = 5
 abbrev pub IsFaultOfWords : WordsFault → Fault → Type 0
 IsFaultOfWords (words.Usage status) told = told ≡ fault.Words status
 IsFaultOfWords words.NoMemory told = told ≡ fault.NoMemory
+
+-- how reading the reserved regions of this name may end
+abbrev pub IsFaultOfRegions : Bor (List ℕ) → Fault → Type 0
+IsFaultOfRegions name (fault.CannotRead path) = path ≡ name
+IsFaultOfRegions name (fault.RegionsRefused line) = Unit {0}
+IsFaultOfRegions name fault.NoMemory = Unit {0}
+IsFaultOfRegions name other = ⊥
 
 -- it is the fault of a file that can't be read, of such a name
 abbrev pub IfUnread : Fault → (List ℕ → Type 0) → Type 0

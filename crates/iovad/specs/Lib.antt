@@ -2,3 +2,4 @@ pub mod Faults
 pub mod Answers
 pub mod Outcomes
 pub mod Plans
+pub mod Sinks

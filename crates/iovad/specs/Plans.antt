@@ -1,5 +1,10 @@
 -- A daemon's domain. Own.
-use Rattle.std.specs.Prelude.{ℕ, ◌≡◌, ◌<◌, ◌≤◌, Option, Some, None}
+use Rattle.std.specs.Prelude.{ℕ, ◌≡◌, ◌≢◌, ◌<◌, ◌≤◌, ◌+◌, ◌-◌, List, [], ◌∷◌, Option, Some, None}
+use Rattle.iova_range.specs.Frames.{Frames}
+use Rattle.iova_model.specs.State.{State}
+use Rattle.iova_model.specs.declared.step.Step.TheVariants as step
+use Rattle.iova_model.specs.declared.step.Reply.TheVariants as reply
+use Rattle.iova_keep.specs.Steps.{Takes}
 use Rattle.iova_range.specs.Bounds.{Capacities, Extent, first_profile, second_profile}
 use Rattle.iova_range.specs.declared.limits.TheConstants.{RECORDED_STEPS}
 use Rattle.iova_keep.specs.StepLogs.{StepLog, new_log}
@@ -30,7 +35,21 @@ planned_log (Some path) = Some (new_log RECORDED_STEPS)
 abbrev pub planned_book : Plan → Extent → BookState
 planned_book plan bounds = record (new_book plan.domain bounds plan.workers (planned_log plan.record)) { strict = plan.strict }
 
--- how serving what a plan says may end: the two faults of the plan come only where it has them, and else the daemon's own
+-- these windows are reserved in s, one after another, and that leaves t
+abbrev pub ReservesAll : List Frames → State → State → Type 0
+ReservesAll [] s t = t ≡ s
+ReservesAll (w ∷ ws) s t =
+    (mid : State) × (got : Frames) × Takes s (step.Reserve w.lo (w.lo + w.len - 1)) (reply.Reserved got) mid
+    × ReservesAll ws mid t
+
+-- a new book, once these windows are reserved in it
+pub record IsReserved (windows : List Frames) (new book : BookState) : Type 0 where
+  pub domain : ReservesAll windows new.state book.state
+  pub number : book.number ≡ new.number
+  pub strict : book.strict ≡ new.strict
+
+-- how serving what a plan says may end: the faults of the plan and of its regions come only where it has them, and else the
+-- daemon's own
 abbrev pub IsFaultOfServing : Plan → Fault → Type 0
 IsFaultOfServing plan fault.StartAboveLast = plan.last < plan.start
 IsFaultOfServing plan fault.LastAboveProfile = (plan.start ≤ plan.last) × IsAboveProfile plan
@@ -41,6 +60,6 @@ IsFaultOfServing plan fault.CannotWrite = Unit {0}
 IsFaultOfServing plan (fault.Words usage) = ⊥
 IsFaultOfServing plan (fault.TraceRefused line) = ⊥
 IsFaultOfServing plan (fault.LogRefused line) = ⊥
-IsFaultOfServing plan (fault.RegionsRefused line) = ⊥
+IsFaultOfServing plan (fault.RegionsRefused line) = plan.regions ≢ None
 IsFaultOfServing plan fault.Found = ⊥
-IsFaultOfServing plan (fault.CannotRead path) = ⊥
+IsFaultOfServing plan (fault.CannotRead path) = plan.regions ≡ Some path

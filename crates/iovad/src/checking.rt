@@ -1,5 +1,6 @@
 //! A log, or a kernel's trace, checked as the words ask for it.
 use crate::fault::Fault;
+use crate::regions::add_regions;
 use iova_check::allowed::Asked;
 use iova_check::checker::Checker;
 use iova_check::fault::CheckFault;
@@ -9,7 +10,6 @@ use iova_command::words::STANDARD_INPUT;
 use iova_range::bounds::Bounds;
 use iova_range::limits::{MAX_DEPOT, WIDE_TOP};
 use iova_range::profile::Profile;
-use iova_regions::read::read_all_regions;
 use iova_regions::region::Counted;
 use iova_regions::windows::Windows;
 use std::alloc::Global;
@@ -33,34 +33,16 @@ where
     }
 }
 
-/// The windows of the file with a group's reserved regions, where one is named.
+/// The windows of the file with a group's reserved regions, where one is named: a kernel maps its direct ones itself.
 fn windows_of<'a, R>(rt: &R, path: Option<&'a str>) -> Result<Windows, Fault<'a>>
 where
     R: Runtime + AllocGlobal + Files<File = File>,
 {
-    let Some(path) = path else {
-        return Ok(Windows::new());
-    };
-    if path == STANDARD_INPUT {
-        return read_windows(rt.alloc(), &mut rt.reader(), path);
-    }
-    match File::open(rt, path) {
-        Ok(mut file) => read_windows(rt.alloc(), &mut file, path),
-        Err(_) => Err(Fault::CannotRead(path)),
-    }
-}
-
-/// The windows of these regions: a kernel maps its direct ones itself.
-fn read_windows<'a, I: Read>(
-    alloc: Global,
-    reader: &mut I,
-    path: &'a str,
-) -> Result<Windows, Fault<'a>> {
     let mut windows = Windows::new();
-    match read_all_regions(alloc, reader, Counted::NotDirect, widest(), &mut windows) {
-        Ok(()) => Ok(windows),
-        Err(fault) => Err(Fault::of_regions(fault, path)),
+    if let Some(path) = path {
+        add_regions(rt, path, Counted::NotDirect, widest(), &mut windows)?;
     }
+    Ok(windows)
 }
 
 /// All frames that any bounds may have.

@@ -1,12 +1,14 @@
 //! A daemon: the sessions of a plan, served on a socket, and the report of what they leave.
-ghost use Rattle.std.specs.Prelude.{◌≡◌, ◌<◌, ◌≤◌, ◌+◌, ◌*◌, ◌↔◌, Err, IfErr, IfOk, IfSome, map, vec_len};
+ghost use Rattle.std.specs.Prelude.{◌≡◌, ◌<◌, ◌≤◌, ◌+◌, ◌*◌, ◌↔◌, [], ◌∷◌, None, Err, IfErr, IfOk, IfSome, map, vec_len};
 ghost use Rattle.iova_range.specs.declared.limits.TheConstants.{TALLY_PARTS};
 ghost use Rattle.iova_keep.specs.Views.{new_seats};
 ghost use Rattle.iova_command.specs.declared.plan.Plan.{Plan};
-ghost use Rattle.iovad.specs.Plans.{IsAboveProfile, IsBoundsOf, IsFaultOfServing, planned_book};
+ghost use Rattle.iovad.specs.Plans.{IsAboveProfile, IsBoundsOf, IsFaultOfServing, IsReserved, planned_book};
 
 use crate::fault::Fault;
 use crate::outcome::print_domain;
+use crate::regions::add_regions;
+use crate::sinks::{DaemonSink, SinkPlace, open_sink};
 use iova_command::plan::Plan;
 use iova_core::domain::Domain;
 use iova_daemon::pause::Ticks;
@@ -19,12 +21,13 @@ use iova_lock::shared::Shared;
 use iova_range::bounds::Bounds;
 use iova_range::limits::{RECORDED_STEPS, TALLY_PARTS};
 use iova_range::profile::Profile;
+use iova_range::range::Range;
 use iova_range::refusal::Refusal;
+use iova_regions::region::Counted;
+use iova_regions::windows::Windows;
 use iova_session::post::Post;
 use iova_session::retry::retry;
 use iova_session::socket_link::SocketLink;
-use iova_sink::file::FileDevice;
-use iova_sink::record::RecordSink;
 use iova_text::write::write_all;
 use log::Log;
 use std::alloc::Global;
@@ -41,17 +44,18 @@ use std::{fs, io};
 /// with the domain's number and the domain's report. The socket's file is removed once the sessions are over, also where no
 /// thread could be started. Clients that still wait then are tried once more.
 ///
-/// Faults come in this order: `StartAboveLast`; `LastAboveProfile`; `NoMemory` for the domain; `CannotOpenSink`; `SocketFault`
+/// Faults come in this order: `StartAboveLast`; `LastAboveProfile`; `CannotRead`, `RegionsRefused` or `NoMemory` for the
+/// reserved regions; `NoMemory` for the domain; `CannotOpenSink`; `SocketFault`
 /// where the socket can't be bound, as where something stands at its path, or a thread can't be started; `NoMemory` or
 /// `CannotWrite` for the record; `NoMemory` for the report; `CannotWrite`. Own.
-pub fn serve<R, C, F, S, G>(
+pub fn serve<'a, R, C, F, S, G>(
     rt: &R,
-    plan: &Plan<'_>,
+    plan: &Plan<'a>,
     count: Blank,
     frames: Blank,
     sum_lo: Blank,
     good: Blank,
-) -> Result<(), Fault<'static>>
+) -> Result<(), Fault<'a>>
 where
     R: Runtime + AllocGlobal + Net + Threads + Wait + Sync + Files<File = File> + Log,
     C: Ledger + Send + Sync,
@@ -67,7 +71,9 @@ where
     ensures faults { IfErr result (IsFaultOfServing plan.now) }
 {
     let bounds = bounds_of(plan)?;
-    match new_domain::<R, C, F, S, G>(rt, plan, bounds, count, frames, sum_lo, good) {
+    let windows = windows_of(rt, plan, bounds)?;
+    let made = new_domain::<R, C, F, S, G>(rt, plan, bounds, &windows, count, frames, sum_lo, good);
+    match made {
         Some((shared, posts)) => serve_domain(rt, plan, shared, posts),
         None => Err(Fault::NoMemory),
     }
@@ -113,8 +119,9 @@ where
     requires posts { map (λ p. p.seat) posts.items ≡ new_seats plan.now.workers }
     ensures { IfErr result (IsFaultOfServing plan.now) }
 {
-    match serve_links(rt, plan, shared, posts) {
-        Ok(Served { shared, posts }) => finish(rt, plan, shared, posts),
+    let place = SinkPlace::of(rt, plan);
+    match serve_links(rt, plan, place, shared, posts) {
+        Ok(Served { shared, posts }) => finish(rt, plan, place, shared, posts),
         Err(why) => Err(why.fault()),
     }
 }
@@ -123,6 +130,7 @@ where
 fn serve_links<'a, R, C, F, S, G>(
     rt: &'a R,
     plan: &Plan<'_>,
+    place: SinkPlace<'a>,
     shared: Shared<&'a R, C, F, S, G>,
     posts: Vec<Post<C, F, S, G>>,
 ) -> Result<Served<&'a R, C, F, S, G>, Hindrance>
@@ -136,7 +144,7 @@ where
     requires posts { map (λ p. p.seat) posts.items ≡ new_seats plan.now.workers }
     ensures { IfOk result (λ r. map (λ p. p.seat.worker) r.posts.items ≡ map (λ s. s.worker) (new_seats r.shared.workers)) }
 {
-    match open_all(rt, plan, posts.len() + 1) {
+    match open_all(rt, plan, place, posts.len() + 1) {
         Ok((sinks, listener)) => serve_opened(rt, plan, shared, posts, sinks, listener),
         Err(why) => {
             drop(posts);
@@ -152,7 +160,7 @@ fn serve_opened<'a, R, C, F, S, G>(
     plan: &Plan<'_>,
     shared: Shared<&'a R, C, F, S, G>,
     posts: Vec<Post<C, F, S, G>>,
-    sinks: Vec<RecordSink<FileDevice>>,
+    sinks: Vec<DaemonSink<'a, R>>,
     listener: UnixListener,
 ) -> Result<Served<&'a R, C, F, S, G>, Hindrance>
 where
@@ -177,7 +185,7 @@ where
         G,
         SocketLink,
         SocketAccept<'_, R, R>,
-        RecordSink<FileDevice>,
+        DaemonSink<'_, R>,
         Ticks<'_, R>,
     >(
         rt,
@@ -205,14 +213,15 @@ fn remove<R: Files<File = File>>(rt: &R, path: &str) {
 }
 
 /// So many sinks, and the socket. Refused by `NoMemory`, `CannotOpenSink` and `SocketFault`, in this order.
-fn open_all<R: AllocGlobal + Net + Files<File = File>>(
-    rt: &R,
+fn open_all<'a, R: AllocGlobal + Net + Files<File = File>>(
+    rt: &'a R,
     plan: &Plan<'_>,
+    place: SinkPlace<'a>,
     count: usize,
-) -> Result<(Vec<RecordSink<FileDevice>>, UnixListener), Hindrance>
+) -> Result<(Vec<DaemonSink<'a, R>>, UnixListener), Hindrance>
     ensures { IfOk result (λ r. vec_len r.0 ≡ count) }
 {
-    let sinks = open_sinks(rt, rt.alloc(), plan.sink, count)?;
+    let sinks = open_sinks(rt, rt.alloc(), place, plan.domain, count)?;
     match bound(rt, plan.socket) {
         Some(listener) => Ok((sinks, listener)),
         None => {
@@ -222,7 +231,7 @@ fn open_all<R: AllocGlobal + Net + Files<File = File>>(
     }
 }
 
-/// The socket at this path, where it can be bound. It doesn't block.
+/// The socket at this path, where it can be bound. An accept there doesn't block: it has a limit of its own.
 fn bound<R: Net + Files<File = File>>(rt: &R, path: &str) -> Option<UnixListener> {
     // the system would take an empty path for a socket without a name
     if path.is_empty() {
@@ -239,14 +248,15 @@ fn bound<R: Net + Files<File = File>>(rt: &R, path: &str) -> Option<UnixListener
 }
 
 /// Gathers what was served on, writes the record where one is wanted, and prints the domain. The posts are those of all workers.
-fn finish<R, C, F, S, G>(
-    rt: &R,
+fn finish<'a, R, C, F, S, G>(
+    rt: &'a R,
     plan: &Plan<'_>,
-    shared: Shared<&R, C, F, S, G>,
+    place: SinkPlace<'a>,
+    shared: Shared<&'a R, C, F, S, G>,
     posts: Vec<Post<C, F, S, G>>,
 ) -> Result<(), Fault<'static>>
 where
-    R: Runtime + AllocGlobal + Wait + Files<File = File>,
+    R: Runtime + AllocGlobal + Net + Wait + Files<File = File>,
     C: Ledger,
     F: Ledger,
     S: Ledger,
@@ -254,7 +264,7 @@ where
     requires posts { map (λ p. p.seat.worker) posts.items ≡ map (λ s. s.worker) (new_seats shared.workers) }
     ensures { IfErr result (IsFaultOfServing plan.now) }
 {
-    let recorded = gather_all(rt, plan, &shared, posts);
+    let recorded = gather_all(rt, plan, place, &shared, posts);
     let domain = shared.into_domain();
     let told = tell(rt, plan, &domain, recorded);
     drop(domain);
@@ -277,14 +287,15 @@ fn tell<R: Runtime + AllocGlobal>(
 }
 
 /// Gathers the seats of the posts, and writes the record where one is wanted.
-fn gather_all<R, Q, C, F, S, G>(
-    rt: &R,
+fn gather_all<'a, R, Q, C, F, S, G>(
+    rt: &'a R,
     plan: &Plan<'_>,
+    place: SinkPlace<'a>,
     shared: &Shared<Q, C, F, S, G>,
     posts: Vec<Post<C, F, S, G>>,
 ) -> Result<(), Hindrance>
 where
-    R: AllocGlobal + Files<File = File>,
+    R: AllocGlobal + Net + Files<File = File>,
     Q: Wait,
     C: Ledger,
     F: Ledger,
@@ -292,7 +303,7 @@ where
     G: Ledger,
     requires posts { map (λ p. p.seat.worker) posts.items ≡ map (λ s. s.worker) (new_seats shared.now.workers) }
 {
-    let Some(seats) = seats_of(rt, rt.alloc(), plan.sink, shared, posts) else {
+    let Some(seats) = seats_of(rt, rt.alloc(), place, shared, posts) else {
         return Err(Hindrance::NoMemory);
     };
     let Ok(_totals) = shared.gather(seats) else {
@@ -328,11 +339,30 @@ fn bounds_of(plan: &Plan<'_>) -> Result<Bounds, Fault<'static>>
     }
 }
 
+/// The windows of the plan: those that are named, and those of its reserved regions, of whatever kind. Refused as these are.
+#[tactic(auto, using(crate::proofs::Reserving::of_regions))]
+fn windows_of<'a, R>(rt: &R, plan: &Plan<'a>, bounds: Bounds) -> Result<Windows, Fault<'a>>
+where
+    R: Runtime + AllocGlobal + Files<File = File>,
+    ensures named { plan.now.regions ≡ None → IfOk result (λ ws. ws ≡ plan.now.windows) }
+    ensures faults { IfErr result (IsFaultOfServing plan.now) }
+{
+    let mut windows = plan.windows.copied();
+    let Some(path) = plan.regions else {
+        return Ok(windows);
+    };
+    match add_regions(rt, path, Counted::All, bounds, &mut windows) {
+        Ok(()) => Ok(windows),
+        Err(fault) => Err(fault),
+    }
+}
+
 /// The plan's domain under a lock, and a post at each of its seats. None for want of memory.
 fn new_domain<'a, R, C, F, S, G>(
     rt: &'a R,
     plan: &Plan<'_>,
     bounds: Bounds,
+    windows: &Windows,
     count: Blank,
     frames: Blank,
     sum_lo: Blank,
@@ -352,9 +382,85 @@ where
     ensures workers { IfSome result (λ r. r.0.workers ≡ plan.now.workers) }
     ensures seats { IfSome result (λ r. map (λ p. p.seat) r.1.items ≡ new_seats plan.now.workers) }
 {
-    match book_of(rt.alloc(), plan, bounds, count, frames, sum_lo, good) {
+    match reserved_book(
+        rt.alloc(),
+        plan,
+        bounds,
+        windows,
+        count,
+        frames,
+        sum_lo,
+        good,
+    ) {
         Some((book, seats)) => posted(rt.alloc(), Shared::over(rt, book), seats),
         None => None,
+    }
+}
+
+/// The plan's new domain, in which these windows are reserved, and its seats. None for want of memory.
+fn reserved_book<C: Ledger, F: Ledger, S: Ledger, G: Ledger>(
+    alloc: Global,
+    plan: &Plan<'_>,
+    bounds: Bounds,
+    windows: &Windows,
+    count: Blank,
+    frames: Blank,
+    sum_lo: Blank,
+    good: Blank,
+) -> Option<(Book<C, F, S, G>, Vec<Seat<C, F, S, G>>)>
+    requires count { (count.name ≡ C.name) × (count.parts ≡ C.parts) × (count.parts ≡ plan.now.workers) }
+    requires frames { (frames.name ≡ F.name) × (frames.parts ≡ F.parts) × (frames.parts ≡ plan.now.workers) }
+    requires sum_lo { (sum_lo.name ≡ S.name) × (sum_lo.parts ≡ S.parts) × (sum_lo.parts ≡ plan.now.workers) }
+    requires good { (good.name ≡ G.name) × (good.parts ≡ G.parts) × (good.parts ≡ TALLY_PARTS * plan.now.workers) }
+    ensures reserved { IfSome result (λ r. IsReserved windows.now (planned_book plan.now bounds) r.0) }
+    ensures workers { IfSome result (λ r. r.0.state.workers ≡ plan.now.workers) }
+    ensures seats { IfSome result (λ r. r.1.items ≡ new_seats plan.now.workers) }
+{
+    let Some((mut book, seats)) = book_of(alloc, plan, bounds, count, frames, sum_lo, good) else {
+        return None;
+    };
+    match reserve_all(&mut book, windows.ranges()) {
+        Ok(()) => Some((book, seats)),
+        Err(_) => {
+            drop(seats);
+            drop(book);
+            None
+        }
+    }
+}
+
+/// Reserves these windows in the book, in their order, up to the first one that is refused.
+#[tactic(auto, using(crate::proofs::Reserving::reserved_more))]
+fn reserve_all<C: Ledger, F: Ledger, S: Ledger, G: Ledger>(
+    book: &mut Book<C, F, S, G>,
+    windows: &[Range],
+) -> Result<(), Refusal>
+    ensures reserved { IfOk result (λ u. IsReserved windows.now book.old book.new) }
+    ensures workers { book.new.state.workers ≡ book.old.state.workers }
+{
+    let Some((window, more)) = windows.split_first() else {
+        return Ok(());
+    };
+    reserve(book, *window)?;
+    reserve_all(book, more)
+}
+
+/// Reserves this window in the book.
+#[tactic(auto, using(crate::proofs::Reserving::reserved_window))]
+fn reserve<C: Ledger, F: Ledger, S: Ledger, G: Ledger>(
+    book: &mut Book<C, F, S, G>,
+    window: Range,
+) -> Result<(), Refusal>
+    ensures reserved { IfOk result (λ u. IsReserved (window ∷ []) book.old book.new) }
+    ensures workers { book.new.state.workers ≡ book.old.state.workers }
+{
+    // for the proof: a domain keeps its workers
+    book.is_kept();
+    let reserved = Keep::<C, F, S, G>::reserve(book, window.lo(), window.hi());
+    book.is_kept();
+    match reserved {
+        Ok(_window) => Ok(()),
+        Err(refusal) => Err(refusal),
     }
 }
 
@@ -475,23 +581,26 @@ fn posts_of<C: Ledger, F: Ledger, S: Ledger, G: Ledger>(
     Some(posts)
 }
 
-/// So many sinks, each with this file opened for appending. Refused by `NoMemory` and by `CannotOpenSink`.
-fn open_sinks<R: Files<File = File>>(
-    rt: &R,
+/// So many sinks there. A peer is told by the first one that nothing of the domain is mapped. Refused by `NoMemory` and by
+/// `CannotOpenSink`.
+fn open_sinks<'a, R: Net + Files<File = File>>(
+    rt: &'a R,
     alloc: Global,
-    path: &str,
+    place: SinkPlace<'a>,
+    domain: u64,
     count: usize,
-) -> Result<Vec<RecordSink<FileDevice>>, Hindrance>
+) -> Result<Vec<DaemonSink<'a, R>>, Hindrance>
     ensures { IfOk result (λ v. vec_len v ≡ count) }
 {
     let Ok(mut sinks) = Vec::with_capacity(alloc, count) else {
         return Err(Hindrance::NoMemory);
     };
-    for _ in 0..count {
-        let Ok(device) = FileDevice::open(rt, path) else {
+    for at in 0..count {
+        let reset = if at == 0 { Some(domain) } else { None };
+        let Some(sink) = open_sink(rt, place, reset) else {
             return Err(Hindrance::CannotOpenSink);
         };
-        let Ok(()) = sinks.push(RecordSink::new(device)) else {
+        let Ok(()) = sinks.push(sink) else {
             unreachable!();
         };
     }
@@ -499,15 +608,15 @@ fn open_sinks<R: Files<File = File>>(
 }
 
 /// The posts' seats, in their order, once the clients that still wait were tried again. None for want of memory.
-fn seats_of<R, Q, C, F, S, G>(
-    rt: &R,
+fn seats_of<'a, R, Q, C, F, S, G>(
+    rt: &'a R,
     alloc: Global,
-    path: &str,
+    place: SinkPlace<'a>,
     shared: &Shared<Q, C, F, S, G>,
     posts: Vec<Post<C, F, S, G>>,
 ) -> Option<Vec<Seat<C, F, S, G>>>
 where
-    R: Files<File = File>,
+    R: Net + Files<File = File>,
     Q: Wait,
     C: Ledger,
     F: Ledger,
@@ -519,7 +628,7 @@ where
         return None;
     };
     for post in posts {
-        let Ok(()) = seats.push(seat_of(rt, path, shared, post)) else {
+        let Ok(()) = seats.push(seat_of(rt, place, shared, post)) else {
             unreachable!();
         };
     }
@@ -527,14 +636,14 @@ where
 }
 
 /// The post's seat, once the clients that still wait were tried again.
-fn seat_of<R, C, F, S, G, K>(
-    rt: &R,
-    path: &str,
+fn seat_of<'a, R, C, F, S, G, K>(
+    rt: &'a R,
+    place: SinkPlace<'a>,
     keeper: K,
     post: Post<C, F, S, G>,
 ) -> Seat<C, F, S, G>
 where
-    R: Files<File = File>,
+    R: Net + Files<File = File>,
     C: Ledger,
     F: Ledger,
     S: Ledger,
@@ -545,7 +654,7 @@ where
     let mut keeper = keeper;
     let mut post = post;
     if !post.waiting.is_empty() {
-        retry_at(rt, path, &mut keeper, &mut post);
+        retry_at(rt, place, &mut keeper, &mut post);
     }
     let Post {
         seat,
@@ -555,10 +664,15 @@ where
     seat
 }
 
-/// Tries the clients that wait at this post again, where the file for the records can be opened.
-fn retry_at<R, C, F, S, G, K>(rt: &R, path: &str, keeper: &mut K, post: &mut Post<C, F, S, G>)
+/// Tries the clients that wait at this post again, where a sink can be opened.
+fn retry_at<'a, R, C, F, S, G, K>(
+    rt: &'a R,
+    place: SinkPlace<'a>,
+    keeper: &mut K,
+    post: &mut Post<C, F, S, G>,
+)
 where
-    R: Files<File = File>,
+    R: Net + Files<File = File>,
     C: Ledger,
     F: Ledger,
     S: Ledger,
@@ -566,8 +680,7 @@ where
     K: Keep<C, F, S, G>,
     ensures { post.new.seat.worker ≡ post.old.seat.worker }
 {
-    if let Ok(device) = FileDevice::open(rt, path) {
-        let mut sink = RecordSink::new(device);
+    if let Some(mut sink) = open_sink(rt, place, None) {
         let _left = retry(keeper, post, &mut sink);
     }
 }

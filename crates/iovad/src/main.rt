@@ -6,6 +6,8 @@ mod checking;
 mod daemon;
 mod fault;
 mod outcome;
+mod regions;
+mod sinks;
 
 use answer::answer;
 use checking::check_planned;
@@ -82,7 +84,7 @@ fn print<'a, R: Runtime + AllocGlobal, I: Read>(
 }
 
 /// Serves what the plan says. The four ledgers of the domain get their names here.
-fn serve_plan<R>(rt: &R, plan: &Plan<'_>) -> Result<(), Fault<'static>>
+fn serve_plan<'a, R>(rt: &R, plan: &Plan<'a>) -> Result<(), Fault<'a>>
 where
     R: Runtime + AllocGlobal + Net + Threads + Wait + Sync + Files<File = File> + Log,
 {

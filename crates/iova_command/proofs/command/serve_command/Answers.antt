@@ -15,4 +15,7 @@ returns c =
     let sessions = with_one _ _ _ c.with_arg-command-7.result c.number-5.result sink c.number-5.ensures.rule c.number-5.ensures.local c.with_arg-command-7.ensures in
     let depot = with_one _ _ _ c.with_arg-command-8.result c.optional_number.result sessions c.optional_number.ensures.rule c.optional_number.ensures.local c.with_arg-command-8.ensures in
     let strict = with_one _ _ _ c.with_arg-command-9.result c.flag.result depot c.flag.ensures.rule c.flag.ensures.local c.with_arg-command-9.ensures in
-    with_one _ _ _ c.with_arg.result c.optional_path.result strict c.optional_path.ensures.rule c.optional_path.ensures.local c.with_arg.ensures
+    let recorded = with_one _ _ _ c.with_arg-command-10.result c.optional_path.result strict c.optional_path.ensures.rule c.optional_path.ensures.local c.with_arg-command-10.ensures in
+    let reserved = with_one _ _ _ c.with_arg-command-11.result c.repeated.result recorded c.repeated.ensures.rule c.repeated.ensures.local c.with_arg-command-11.ensures in
+    let regions = with_one _ _ _ c.with_arg-command-12.result c.optional_path-2.result reserved c.optional_path-2.ensures.rule c.optional_path-2.ensures.local c.with_arg-command-12.ensures in
+    with_one _ _ _ c.with_arg.result c.optional_number-2.result regions c.optional_number-2.ensures.rule c.optional_number-2.ensures.local c.with_arg.ensures

@@ -7,11 +7,14 @@ returns c = record {
   socket = text_read (found_of c.args.found.now) _ c.get_str.result c.in_ok-get_str.field-0 c.get_str.ensures c.in_ok-get_str.was;
   workers = c.in_ok-number.ensures.read;
   domain = c.in_ok-number-2.ensures.read;
-  start = c.in_ok-number-3.ensures.read;
-  last = c.in_ok-number-4.ensures.read;
+  start = c.in_ok-start.ensures.read;
+  last = c.in_ok-last.ensures.read;
   sink = text_read (found_of c.args.found.now) _ c.get_str-2.result c.in_ok-get_str-2.field-0 c.get_str-2.ensures c.in_ok-get_str-2.was;
-  sessions = c.in_ok-number-5.ensures.read;
+  sessions = c.in_ok-number-3.ensures.read;
   depot = c.in_ok-optional.ensures.read;
   strict = flag_read (found_of c.args.found.now) _ c.get_flag.result c.get_flag.ensures.value c.get_flag.ensures.other;
   record_path = optional_text_read (found_of c.args.found.now) _ c.get_str-3.result c.get_str-3.ensures;
+  windows = c.in_ok-windows.ensures;
+  regions = optional_text_read (found_of c.args.found.now) _ c.get_str-4.result c.get_str-4.ensures;
+  sink_timeout = c.in_ok-optional-2.ensures.read;
 }

@@ -1,0 +1,61 @@
+-- Windows that are reserved one after another, and what reading regions may end in.
+use Rattle.std.proofs.Common.{ℕ, ◌≡◌, ◌∙◌, ◌+◌, ◌-◌, List, [], ◌∷◌, Some, None, arith, refl, sym, ap, subst}
+use Rattle.std.specs.Borrow.{Bor}
+use Rattle.iova_range.specs.Frames.{Frames}
+use Rattle.iova_model.specs.declared.step.Step.TheVariants as step
+use Rattle.iova_model.specs.declared.step.Reply.TheVariants as reply
+use Rattle.iova_model.specs.State.{State}
+use Rattle.iova_keep.specs.Steps.{Takes}
+use Rattle.iova_lock.specs.Books.{BookState}
+use Rattle.iova_regions.specs.declared.fault.RegionsFault.{RegionsFault}
+use Rattle.iova_regions.specs.declared.fault.RegionsFault.TheVariants as regions
+use Rattle.iova_command.specs.declared.plan.Plan.{Plan}
+use Rattle.iovad.specs.declared.fault.Fault.{Fault}
+use Rattle.iovad.specs.declared.fault.Fault.TheVariants as fault
+use Rattle.iovad.specs.Faults.{IsFaultOfRegions}
+use Rattle.iovad.specs.Plans.{IsFaultOfServing, IsReserved, ReservesAll}
+
+-- one window, by its first and its last frame
+reserved_one : (w got : Frames) (hi : ℕ) (s t : State) → hi + 1 ≡ w.lo + w.len → Takes s (step.Reserve w.lo hi) (reply.Reserved got) t
+    → ReservesAll (w ∷ []) s t
+reserved_one w got hi s t is takes =
+    let last : hi ≡ w.lo + w.len - 1 = omega (arith, is) in
+    (t, (got, (subst (λ (n : ℕ). Takes s (step.Reserve w.lo n) (reply.Reserved got) t) last takes, refl)))
+
+pub reserved_window : (w got : Frames) (hi : ℕ) (a b : BookState) → hi + 1 ≡ w.lo + w.len → Takes a.state (step.Reserve w.lo hi) (reply.Reserved got) b.state
+    → b.number ≡ a.number → b.strict ≡ a.strict → IsReserved (w ∷ []) a b
+reserved_window w got hi a b is takes number strict = record {
+  domain = reserved_one w got hi a.state b.state is takes;
+  number = number;
+  strict = strict;
+}
+
+-- and others after it
+pub reserved_more : (w : Frames) (ws : List Frames) (a b c : BookState) → IsReserved (w ∷ []) a b → IsReserved ws b c → IsReserved (w ∷ ws) a c
+reserved_more w ws a b c first more = record {
+  domain = (first.domain.0, (first.domain.1.0, (first.domain.1.1.0, subst (λ (s : State). ReservesAll ws s c.state) first.domain.1.1.1 more.domain)));
+  number = more.number ∙ first.number;
+  strict = more.strict ∙ first.strict;
+}
+
+-- how reading regions ends
+pub of_read : (f : RegionsFault) (name : Bor (List ℕ)) (told : Fault) → ((line : ℕ) → f ≡ regions.Line line → told ≡ fault.RegionsRefused line)
+    → (f ≡ regions.Read → told ≡ fault.CannotRead name) → (f ≡ regions.NoMemory → told ≡ fault.NoMemory) → IsFaultOfRegions name told
+of_read (regions.Line n) name told refused unread memory = rw (refused n refl) tt
+of_read regions.Read name told refused unread memory = rw (unread refl) refl
+of_read regions.NoMemory name told refused unread memory = rw (memory refl) tt
+
+-- it may end serving so
+pub of_regions : (plan : Plan) (name : Bor (List ℕ)) (f : Fault) → plan.regions ≡ Some name → IsFaultOfRegions name f → IsFaultOfServing plan f
+of_regions plan name (fault.CannotRead path) named is = named ∙ ap Some (sym is)
+of_regions plan name (fault.RegionsRefused line) named is = λ none. let bad : Some name ≡ None = sym named ∙ none in absurd cc
+of_regions plan name fault.NoMemory named is = tt
+of_regions plan name (fault.Words usage) named is = absurd is
+of_regions plan name fault.StartAboveLast named is = absurd is
+of_regions plan name fault.LastAboveProfile named is = absurd is
+of_regions plan name (fault.TraceRefused line) named is = absurd is
+of_regions plan name (fault.LogRefused line) named is = absurd is
+of_regions plan name fault.Found named is = absurd is
+of_regions plan name fault.CannotWrite named is = absurd is
+of_regions plan name fault.SocketFault named is = absurd is
+of_regions plan name fault.CannotOpenSink named is = absurd is
