@@ -36,11 +36,11 @@ front_and_rest [] = refl
 front_and_rest (b ∷ bytes) = elim (cases_Bool (b == 32)) [
   | inl so ↦
       sym (ap (λ (x : List ℕ). x ++ from_blank (b ∷ bytes)) (cond-true (b == 32) [] (b ∷ word_at_front bytes) so)
-          ∙ cond-true (b == 32) (b ∷ bytes) (from_blank bytes) so)
+      ∙ cond-true (b == 32) (b ∷ bytes) (from_blank bytes) so)
   | inr other ↦
       ap (λ (x : List ℕ). b ∷ x) (front_and_rest bytes)
       ∙ sym (ap (λ (x : List ℕ). x ++ from_blank (b ∷ bytes)) (cond-false (b == 32) [] (b ∷ word_at_front bytes) other)
-          ∙ ap (λ (x : List ℕ). (b ∷ word_at_front bytes) ++ x) (cond-false (b == 32) (b ∷ bytes) (from_blank bytes) other))
+      ∙ ap (λ (x : List ℕ). (b ∷ word_at_front bytes) ++ x) (cond-false (b == 32) (b ∷ bytes) (from_blank bytes) other))
 ]
 
 -- no byte of them is a blank
