@@ -7,14 +7,14 @@ _iovad() {
     return
   fi
   case $before in
-    --socket | --sink | --record | --reserved-regions)
+    --socket | --sink | --record | --log | --reserved-regions)
       mapfile -t COMPREPLY < <(compgen -f -- "$word")
       return
       ;;
     --workers | --domain | --start | --first | --last | --sessions | --depot | --did | --reserve | --sink-timeout) return ;;
   esac
   case $command in
-    replay) mapfile -t COMPREPLY < <(compgen -W "--report --help" -- "$word"; compgen -f -- "$word") ;;
+    replay) mapfile -t COMPREPLY < <(compgen -W "--report --log --help" -- "$word"; compgen -f -- "$word") ;;
     serve)
       mapfile -t COMPREPLY < <(
         compgen -W "--socket --workers --domain --start --last --sink --sessions --depot --strict --record --reserve --reserved-regions --sink-timeout --help" -- "$word"

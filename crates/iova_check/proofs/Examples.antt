@@ -6,6 +6,8 @@ use Rattle.iova_check.specs.declared.event.Event.{Event}
 use Rattle.iova_check.specs.declared.event.Event.TheVariants.{Map, Unmap, Use, Begin, End, Flush, Other}
 use Rattle.iova_check.specs.declared.stage.Stage.TheVariants.{Free, Mapped, Stale}
 use Rattle.iova_check.specs.History.{stage_of, flight_of}
+use Rattle.iova_check.specs.Trace.{says_lost}
+use Rattle.std.specs.Prelude.{codes}
 
 abbrev at : ℕ → ℕ → Frames
 at lo len = record { lo = lo; len = len }
@@ -82,3 +84,17 @@ flushed_at_once_before_the_unmap = refl
 
 other_lines_change_nothing : stage_of (Other ∷ unmapped) 8 ≡ Stale 3
 other_lines_change_nothing = refl
+
+-- lines of a kernel's trace that say that events were lost, or don't
+
+events_were_lost : says_lost (codes "CPU:3 [LOST 12 EVENTS]") ≡ true
+events_were_lost = refl
+
+no_count_of_them : says_lost (codes "CPU:3 [LOST EVENTS]") ≡ false
+no_count_of_them = refl
+
+no_processor : says_lost (codes "CPU: [LOST 12 EVENTS]") ≡ false
+no_processor = refl
+
+more_behind_it : says_lost (codes "CPU:3 [LOST 12 EVENTS] ") ≡ false
+more_behind_it = refl

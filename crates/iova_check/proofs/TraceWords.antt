@@ -1,12 +1,47 @@
 -- The last words of a line, cut off at its blanks.
 use Rattle.std.proofs.Common.{ℕ, zero, suc, ◌≡◌, ◌∙◌, ◌+◌, ◌-◌, ◌<◌, ◌≤◌, ◌==◌, inl, inr, true, false, List, [], ◌∷◌, ◌++◌, length, take, drop, get_or, refl, sym, ap, arith, append_assoc, length-append, length-drop, length-take, Option}
-use Rattle.std.specs.Prelude.{nat_lt, if◌then◌else◌}
+use Rattle.std.specs.Prelude.{nat_lt, not, Bool, if◌then◌else◌}
+use Rattle.std.specs.List.{list_all}
 use Rattle.std.proofs.Math.Seq.{drop-append_seam}
-use Rattle.std.proofs.lemmas.Bool.{cond-true, cond-false, cases_Bool, eqb-true, false_from_ne_true, ltb-true}
+use Rattle.std.proofs.lemmas.Bool.{and_from, cond-true, cond-false, cases_Bool, eqb-true, false_from_ne_true, ltb-true}
 use Rattle.std.proofs.lemmas.List.{take_more, get_or-drop, get_or-take}
 use Rattle.iova_text.proofs.Cuts.{cut_at}
 use Rattle.iova_check.specs.declared.event.Event.TheVariants as event
-use Rattle.iova_check.specs.Trace.{word_at_front, spaced, last_seven, said_by, event_said}
+use Rattle.iova_text.specs.Reading.{stops, is_not_space}
+use Rattle.iova_check.specs.Trace.{word_at_front, from_blank, spaced, last_seven, said_by, event_said}
+
+-- the word at the front of a line, and what stands from the first blank on
+
+pub front_is_word : (bytes : List ℕ) → list_all is_not_space (word_at_front bytes) ≡ true
+front_is_word [] = refl
+front_is_word (b ∷ bytes) = elim (cases_Bool (b == 32)) [
+  | inl so ↦ ap (list_all is_not_space) (cond-true (b == 32) [] (b ∷ word_at_front bytes) so)
+  | inr other ↦
+      let byte : is_not_space b ≡ true = ap not other in
+      ap (list_all is_not_space) (cond-false (b == 32) [] (b ∷ word_at_front bytes) other)
+      ∙ and_from (is_not_space b) (list_all is_not_space (word_at_front bytes)) byte (front_is_word bytes)
+]
+
+pub front_stops : (bytes : List ℕ) → stops is_not_space (from_blank bytes) ≡ true
+front_stops [] = refl
+front_stops (b ∷ bytes) = elim (cases_Bool (b == 32)) [
+  | inl so ↦
+      let byte : not (is_not_space b) ≡ true = ap (λ (x : Bool). not (not x)) so in
+      ap (stops is_not_space) (cond-true (b == 32) (b ∷ bytes) (from_blank bytes) so) ∙ byte
+  | inr other ↦ ap (stops is_not_space) (cond-false (b == 32) (b ∷ bytes) (from_blank bytes) other) ∙ front_stops bytes
+]
+
+pub front_and_rest : (bytes : List ℕ) → bytes ≡ word_at_front bytes ++ from_blank bytes
+front_and_rest [] = refl
+front_and_rest (b ∷ bytes) = elim (cases_Bool (b == 32)) [
+  | inl so ↦
+      sym (ap (λ (x : List ℕ). x ++ from_blank (b ∷ bytes)) (cond-true (b == 32) [] (b ∷ word_at_front bytes) so)
+      ∙ cond-true (b == 32) (b ∷ bytes) (from_blank bytes) so)
+  | inr other ↦
+      ap (λ (x : List ℕ). b ∷ x) (front_and_rest bytes)
+      ∙ sym (ap (λ (x : List ℕ). x ++ from_blank (b ∷ bytes)) (cond-false (b == 32) [] (b ∷ word_at_front bytes) other)
+      ∙ ap (λ (x : List ℕ). (b ∷ word_at_front bytes) ++ x) (cond-false (b == 32) (b ∷ bytes) (from_blank bytes) other))
+]
 
 -- no byte of them is a blank
 abbrev IsOneWord : List ℕ → Type 0

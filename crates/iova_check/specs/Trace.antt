@@ -14,6 +14,11 @@ abbrev pub word_at_front : List ℕ → List ℕ
 word_at_front [] = []
 word_at_front (b ∷ bytes) = if b == 32 then [] else b ∷ word_at_front bytes
 
+-- the bytes from the first blank on
+abbrev pub from_blank : List ℕ → List ℕ
+from_blank [] = []
+from_blank (b ∷ bytes) = if b == 32 then b ∷ bytes else from_blank bytes
+
 -- the words that have a blank before them
 abbrev pub spaced : List ℕ → List (List ℕ)
 spaced [] = []
@@ -142,3 +147,19 @@ said_by domain words = event.Other
 -- with its LF its last seven words say it
 abbrev pub event_said : Option ℕ → List ℕ → Event
 event_said domain line = if nat_lt (length line) 1024 then said_by domain (last_seven (spaced line)) else event.Other
+
+-- Lost events
+
+-- these bytes are a number and then ` EVENTS]`
+abbrev pub counts_lost : Option (List ℕ) → Bool
+counts_lost None = false
+counts_lost (Some bytes) = are_digits (Some (word_at_front bytes)) && bytes_eq (from_blank bytes) (codes " EVENTS]")
+
+-- these bytes are a number, and then ` [LOST `, a number and ` EVENTS]`
+abbrev pub is_lost_behind : Option (List ℕ) → Bool
+is_lost_behind None = false
+is_lost_behind (Some bytes) = are_digits (Some (word_at_front bytes)) && counts_lost (after (codes " [LOST ") (from_blank bytes))
+
+-- a line, which is without its LF, says that events were lost: CPU:<digits> [LOST <digits> EVENTS]
+abbrev pub says_lost : List ℕ → Bool
+says_lost line = nat_lt (length line) 1024 && is_lost_behind (after (codes "CPU:") line)

@@ -1,7 +1,7 @@
 //! The lines of a kernel's trace, read.
 ghost use Rattle.std.specs.Prelude.{◌≡◌, ℕ, ◌+◌, ◌<◌, ◌≤◌, List, [], ◌∷◌, ◌++◌, Some, None, IfSome, IfNone, IsTrue, length, codes};
 ghost use Rattle.iova_check.specs.History.{IsRange, IsInReach};
-ghost use Rattle.iova_check.specs.Trace.{spaced, hex_digit, hex_from, hex_number, after, hex_after, are_digits, are_digits_after, frames_of, frames_between, mapped_frames, unmapped_frames, paged_frames, is_other_domain, flush_at, flush_said, is_either, said, event_said};
+ghost use Rattle.iova_check.specs.Trace.{word_at_front, from_blank, spaced, hex_digit, hex_from, hex_number, after, hex_after, are_digits, are_digits_after, frames_of, frames_between, mapped_frames, unmapped_frames, paged_frames, is_other_domain, flush_at, flush_said, is_either, said, event_said, counts_lost, is_lost_behind, says_lost};
 
 use crate::event::Event;
 use iova_range::range::Range;
@@ -42,21 +42,51 @@ pub fn read_trace_line(domain: Option<u64>, line: &[u8]) -> Event
 
 /// Whether this line, which is without its LF, says that events were lost.
 pub fn tells_lost(line: &[u8]) -> bool
-    ensures { IsTrue result → length line.now < MAX_TRACE_LINE }
+    ensures lost { result ≡ says_lost line.now }
+    ensures short { IsTrue result → length line.now < MAX_TRACE_LINE }
 {
     line.len() < MAX_TRACE_LINE && is_lost(line)
 }
 
-fn is_lost(line: &[u8]) -> bool {
-    let Some(processor) = after(b"CPU:", line) else {
-        return false;
-    };
-    let (number, rest) = first_word(processor);
-    let Some(lost) = after(b" [LOST ", rest) else {
-        return false;
-    };
-    let (count, end) = first_word(lost);
-    are_digits(number) && are_digits(count) && end == b" EVENTS]".as_slice()
+fn is_lost(line: &[u8]) -> bool
+    ensures { result ≡ is_lost_behind (after (codes "CPU:") line.now) }
+{
+    match after(b"CPU:", line) {
+        Some(bytes) => is_lost_on_one(bytes),
+        None => false,
+    }
+}
+
+/// Whether these bytes are the number of a processor, and how many events it lost.
+fn is_lost_on_one(bytes: &[u8]) -> bool
+    ensures { result ≡ is_lost_behind (Some bytes.now) }
+{
+    let (number, rest) = word_and_rest(bytes);
+    are_digits(number) && counts_lost(rest)
+}
+
+fn counts_lost(rest: &[u8]) -> bool
+    ensures { result ≡ counts_lost (after (codes " [LOST ") rest.now) }
+{
+    match after(b" [LOST ", rest) {
+        Some(bytes) => is_count_of_events(bytes),
+        None => false,
+    }
+}
+
+fn is_count_of_events(bytes: &[u8]) -> bool
+    ensures { result ≡ counts_lost (Some bytes.now) }
+{
+    let (count, end) = word_and_rest(bytes);
+    are_digits(count) && end == b" EVENTS]".as_slice()
+}
+
+/// What stands before the first blank, and from it on.
+fn word_and_rest(bytes: &[u8]) -> (&[u8], &[u8])
+    ensures word { result.0.now ≡ word_at_front bytes.now }
+    ensures rest { result.1.now ≡ from_blank bytes.now }
+{
+    first_word(bytes)
 }
 
 fn event_of(domain: Option<u64>, words: &Seven<'_>) -> Event

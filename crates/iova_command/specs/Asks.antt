@@ -40,14 +40,15 @@ pub record PlansCheck (rows : List Row) (plan : CheckPlan) : Type 0 where
 
 -- a subcommand of this name and what it matched ask for this
 abbrev pub AsksOf : Text → List Row → Asked → Type 0
-AsksOf name rows (Replay path has_report) =
+AsksOf name rows (Replay path has_report log) =
     (name ≢ codes "serve") × (name ≢ codes "ask") × (name ≢ codes "check") × (first_of (codes "file") rows ≡ Some path.now) × HasFlag rows (codes "report") has_report
+    × (first_of (codes "log") rows ≡ option_map (λ log. log.now) log)
 AsksOf name rows (Serve plan) = (name ≡ codes "serve") × Plans rows plan
 AsksOf name rows (Ask path) = (name ≡ codes "ask") × (first_of (codes "path") rows ≡ Some path.now)
 AsksOf name rows (Check plan) = (name ≡ codes "check") × PlansCheck rows plan
 
 -- what matched words ask for; no subcommand asks for a replay of standard input
 abbrev pub AsksFor : Option (Text × List Row) → Asked → Type 0
-AsksFor None (Replay path has_report) = (path.now ≡ codes "-") × (has_report ≡ false)
+AsksFor None (Replay path has_report log) = (path.now ≡ codes "-") × (has_report ≡ false) × (log ≡ None)
 AsksFor None other = ⊥
 AsksFor (Some matched) asked = AsksOf matched.0 matched.1 asked

@@ -36,7 +36,11 @@ abbrev pub number_rule : Text → ℕ → ℕ → Rule
 number_rule id low high = record (optional_number_rule id low high) { required = true }
 
 abbrev pub replay_app : App
-replay_app = with_rule (with_rule (new_app (codes "replay")) (flag_rule (codes "report"))) (place_rule (codes "file"))
+replay_app =
+    with_rule (with_rule (with_rule (new_app (codes "replay"))
+    (flag_rule (codes "report")))
+    (optional_rule (codes "log")))
+    (place_rule (codes "file"))
 
 abbrev pub serve_app : App
 serve_app =

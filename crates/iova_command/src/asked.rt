@@ -11,6 +11,8 @@ pub enum Asked<'a> {
         path: &'a str,
         /// Whether the report follows the replies.
         has_report: bool,
+        /// The file that the log is written to, where one is wanted.
+        log: Option<&'a str>,
     },
     /// A daemon.
     Serve(Plan<'a>),

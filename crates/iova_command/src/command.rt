@@ -16,7 +16,7 @@ rattle-kit-13f logic dac8208d650f15bf";
 
 /// The ways to call the program, which stand in its help and after words that aren't understood.
 const USAGE: &str = "iovad < FILE
-       iovad replay [--report] FILE
+       iovad replay [--report] [--log FILE] FILE
        iovad serve --socket PATH --workers N --domain N --start N --last N --sink FILE --sessions K
                    [--depot N] [--strict] [--record FILE] [--reserve FIRST-LAST]..
                    [--reserved-regions FILE] [--sink-timeout SECONDS]
@@ -95,13 +95,19 @@ fn replay_command<'a>(alloc: Global) -> Result<Command<'a>, AllocError>
         "report",
         "Prints the domain's report after the replies",
     );
+    let log = optional_path(
+        alloc,
+        "log",
+        "FILE",
+        "The file that the log is written to, as iovad check reads it",
+    );
     let file = place(
         alloc,
         "file",
         "FILE",
         "The trace's file, or - for standard input",
     );
-    with_arg(with_arg(Ok(command), report), file)
+    with_arg(with_arg(with_arg(Ok(command), report), log), file)
 }
 
 fn serve_command<'a>(alloc: Global) -> Result<Command<'a>, AllocError>

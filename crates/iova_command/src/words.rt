@@ -69,6 +69,7 @@ fn asked_by<'a>(matches: &ArgMatches<'a>) -> Option<Asked<'a>>
         None => Some(Asked::Replay {
             path: STANDARD_INPUT,
             has_report: false,
+            log: None,
         }),
     }
 }
@@ -86,6 +87,7 @@ fn asked_of_command<'a>(name: &str, found: &ArgMatches<'a>) -> Option<Asked<'a>>
         _ => Some(Asked::Replay {
             path: found.get_str("file")?,
             has_report: found.get_flag("report"),
+            log: found.get_str("log"),
         }),
     }
 }

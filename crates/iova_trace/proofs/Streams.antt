@@ -1,7 +1,7 @@
 -- One piece of a trace after another.
-use Rattle.std.proofs.Common.{ℕ, ◌≡◌, ◌≤◌, inl, inr, List, [], ◌∷◌, ◌++◌, Option, None, Result, Ok, Err, length, take, drop, refl, sym, ap, ◌∙◌, subst, arith, append_assoc, append-nil, take-append-drop, length-append}
+use Rattle.std.proofs.Common.{ℕ, ◌≡◌, ◌≤◌, ◌⊎◌, inl, inr, List, [], ◌∷◌, ◌++◌, Option, Some, None, Result, Ok, Err, length, take, drop, refl, sym, ap, ◌∙◌, subst, arith, append_assoc, append-nil, take-append-drop, length-append}
 use Rattle.std.specs.List.{list_all}
-use Rattle.std.proofs.lemmas.List.{take-append-le, take_at}
+use Rattle.std.proofs.lemmas.List.{take-append-le, take_at, take_all}
 use Rattle.std.proofs.KnownBytes.{Appends-trans, Appends-nil, Consumes-trans, Consumes-nil, Consumes-kept}
 use Rattle.std.specs.Io.KnownBytes.{Appends, Consumes, Keeps, IsAtEnd}
 use Rattle.iova_model.specs.State.{State}
@@ -12,21 +12,27 @@ use Rattle.iova_trace.specs.declared.replay.Progress.{Progress}
 use Rattle.iova_text.specs.Lines.{is_not_lf, whole_line, IsUnended}
 use Rattle.iova_trace.specs.Lines.{BeginsWithLines, IsBad, first_lines_text}
 use Rattle.iova_trace.specs.Replay.{BreaksOff, IsReplayed, StopsInLine, TellsOfReplay, Replays}
-use Rattle.iova_trace.specs.Progress.{Stands, Goes, EndsReplay, Stops, Outcome, TakesBytes, Closes}
+use Rattle.iova_trace.specs.Logged.{IsLogged, LogsAll, LogsFront, TellsOfLog, ReplaysAndLogs}
+use Rattle.iova_trace.specs.Progress.{Stands, Goes, EndsReplay, EndsLog, Stops, Outcome, TakesBytes, Closes}
 
 -- Outcomes
 
-pub Goes-then : (a b c : Progress) (p q v w : List ℕ) → Goes a p v b → Goes b q w c → Goes a (p ++ q) (v ++ w) c
-Goes-then a b c p q v w first second taken written st =
-    let P : List ℕ → Type 0 = λ x. Stands x ((written ++ v) ++ w) c in
-    let Q : List ℕ → Type 0 = λ x. Stands (taken ++ (p ++ q)) x c in
-    subst Q (append_assoc written v w) (subst P (append_assoc taken p q) (second (taken ++ p) (written ++ v) (first taken written st)))
+-- what a fault says of all bytes and of the log
+abbrev Ends : List ℕ → List ℕ → Option (List ℕ) → Option (List ℕ) → ReplayFault → Type 0
+Ends taken written before now e = EndsReplay taken written e × EndsLog taken written before now e
 
-pub Stops-then : (a b : Progress) (p q v w : List ℕ) (e : ReplayFault) → Goes a p v b → Stops b q w e → Stops a (p ++ q) (v ++ w) e
-Stops-then a b p q v w e first second taken written st =
-    let P : List ℕ → Type 0 = λ x. EndsReplay x ((written ++ v) ++ w) e in
-    let Q : List ℕ → Type 0 = λ x. EndsReplay (taken ++ (p ++ q)) x e in
-    subst Q (append_assoc written v w) (subst P (append_assoc taken p q) (second (taken ++ p) (written ++ v) (first taken written st)))
+pub Goes-then : (a b c : Progress) (x y z : Option (List ℕ)) (p q v w : List ℕ) → Goes a x p v b y → Goes b y q w c z → Goes a x (p ++ q) (v ++ w) c z
+Goes-then a b c x y z p q v w first second taken written log st =
+    let P : List ℕ → Type 0 = λ l. Stands l ((written ++ v) ++ w) log z c in
+    let Q : List ℕ → Type 0 = λ l. Stands (taken ++ (p ++ q)) l log z c in
+    subst Q (append_assoc written v w) (subst P (append_assoc taken p q) (second (taken ++ p) (written ++ v) log (first taken written log st)))
+
+pub Stops-then : (a b : Progress) (x y z : Option (List ℕ)) (p q v w : List ℕ) (e : ReplayFault) → Goes a x p v b y → Stops b y q w z e
+    → Stops a x (p ++ q) (v ++ w) z e
+Stops-then a b x y z p q v w e first second taken written log st =
+    let P : List ℕ → Type 0 = λ l. Ends l ((written ++ v) ++ w) log z e in
+    let Q : List ℕ → Type 0 = λ l. Ends (taken ++ (p ++ q)) l log z e in
+    subst Q (append_assoc written v w) (subst P (append_assoc taken p q) (second (taken ++ p) (written ++ v) log (first taken written log st)))
 
 BeginsWithLines-more : (taken more rest : List ℕ) (lines : Option Trace) → BeginsWithLines taken lines rest → BeginsWithLines (taken ++ more) lines (rest ++ more)
 BeginsWithLines-more taken more rest lines b = record {
@@ -83,10 +89,49 @@ EndsReplay-more taken more written fault.WriteFault s = record {
   begun = s.begun;
 }
 
-pub Stops-more : (p : Progress) (bytes more written : List ℕ) (e : ReplayFault) → Stops p bytes written e → Stops p (bytes ++ more) written e
-Stops-more p bytes more written e s taken before st =
-    let P : List ℕ → Type 0 = λ x. EndsReplay x (before ++ written) e in
-    subst P (append_assoc taken bytes more) (EndsReplay-more (taken ++ bytes) more (before ++ written) e (s taken before st))
+LogsAll-more : (taken more written : List ℕ) (x y : Option (List ℕ)) → LogsAll taken written x y → LogsAll (taken ++ more) written x y
+LogsAll-more taken more written x y s = record {
+  lines = s.lines;
+  rest = s.rest ++ more;
+  log = s.log;
+  begins = BeginsWithLines-more taken more s.rest s.lines s.begins;
+  logged = s.logged;
+  grown = s.grown;
+}
+
+LogsFront-more : (taken more written : List ℕ) (x y : Option (List ℕ)) → LogsFront taken written x y → LogsFront (taken ++ more) written x y
+LogsFront-more taken more written x y s = record {
+  lines = s.lines;
+  rest = s.rest ++ more;
+  text = s.text;
+  unwritten = s.unwritten;
+  log = s.log;
+  count = s.count;
+  begins = BeginsWithLines-more taken more s.rest s.lines s.begins;
+  logged = s.logged;
+  begun = s.begun;
+  grown = s.grown;
+}
+
+EndsLog-more : (taken more written : List ℕ) (x y : Option (List ℕ)) (e : ReplayFault) → EndsLog taken written x y e → EndsLog (taken ++ more) written x y e
+EndsLog-more taken more written x y (fault.BadTrace number) s = LogsAll-more taken more written x y s
+EndsLog-more taken more written x y fault.NoMemory s = LogsFront-more taken more written x y s
+EndsLog-more taken more written x y fault.ReadFault s = absurd s
+EndsLog-more taken more written x y fault.WriteFault s = LogsFront-more taken more written x y s
+
+pub Stops-more : (p : Progress) (x y : Option (List ℕ)) (bytes more written : List ℕ) (e : ReplayFault) → Stops p x bytes written y e
+    → Stops p x (bytes ++ more) written y e
+Stops-more p x y bytes more written e s taken before log st =
+    let P : List ℕ → Type 0 = λ l. Ends l (before ++ written) log y e in
+    let ends = s taken before log st in
+    subst P (append_assoc taken bytes more)
+    (EndsReplay-more (taken ++ bytes) more (before ++ written) e ends.0, EndsLog-more (taken ++ bytes) more (before ++ written) log y e ends.1)
+
+-- all of a log is as many bytes of it as it has
+pub Appends-whole : (x y : Option (List ℕ)) (log : List ℕ) → Appends x y log → Appends x y (take (length log) log)
+Appends-whole x y log a =
+    let P : List ℕ → Type 0 = Appends x y in
+    subst P (sym (take_all (length log) log (omega arith))) a
 
 -- a write that breaks off
 broken : (before more : List ℕ) (n : ℕ) (text unwritten : List ℕ) → text ≡ (before ++ more) ++ unwritten
@@ -127,64 +172,115 @@ EndsReplay-broken taken before more n fault.WriteFault s = record {
   begun = broken before more n s.text s.unwritten s.begun;
 }
 
+LogsAll-broken : (taken before more : List ℕ) (n : ℕ) (x y : Option (List ℕ)) → LogsAll taken (before ++ more) x y → LogsFront taken (before ++ take n more) x y
+LogsAll-broken taken before more n x y s = record {
+  lines = s.lines;
+  rest = s.rest;
+  text = before ++ more;
+  unwritten = drop n more ++ [];
+  log = s.log;
+  count = length s.log;
+  begins = s.begins;
+  logged = s.logged;
+  begun = broken before more n (before ++ more) [] (sym (append-nil (before ++ more)));
+  grown = Appends-whole x y s.log s.grown;
+}
+
+LogsFront-broken : (taken before more : List ℕ) (n : ℕ) (x y : Option (List ℕ)) → LogsFront taken (before ++ more) x y → LogsFront taken (before ++ take n more) x y
+LogsFront-broken taken before more n x y s = record {
+  lines = s.lines;
+  rest = s.rest;
+  text = s.text;
+  unwritten = drop n more ++ s.unwritten;
+  log = s.log;
+  count = s.count;
+  begins = s.begins;
+  logged = s.logged;
+  begun = broken before more n s.text s.unwritten s.begun;
+  grown = s.grown;
+}
+
+EndsLog-broken : (taken before more : List ℕ) (n : ℕ) (x y : Option (List ℕ)) (e : ReplayFault) → EndsLog taken (before ++ more) x y e
+    → LogsFront taken (before ++ take n more) x y
+EndsLog-broken taken before more n x y (fault.BadTrace number) s = LogsAll-broken taken before more n x y s
+EndsLog-broken taken before more n x y fault.NoMemory s = LogsFront-broken taken before more n x y s
+EndsLog-broken taken before more n x y fault.ReadFault s = absurd s
+EndsLog-broken taken before more n x y fault.WriteFault s = LogsFront-broken taken before more n x y s
+
 -- the fault is that of the write, where the kept replies are not all written
-pub Stops-broken : (p : Progress) (bytes more : List ℕ) (n : ℕ) (e : ReplayFault) → Stops p bytes more e → Stops p bytes (take n more) fault.WriteFault
-Stops-broken p bytes more n e s taken before st = EndsReplay-broken (taken ++ bytes) before more n e (s taken before st)
+pub Stops-broken : (p : Progress) (x y : Option (List ℕ)) (bytes more : List ℕ) (n : ℕ) (e : ReplayFault) → Stops p x bytes more y e
+    → Stops p x bytes (take n more) y fault.WriteFault
+Stops-broken p x y bytes more n e s taken before log st =
+    let ends = s taken before log st in
+    (EndsReplay-broken (taken ++ bytes) before more n e ends.0, EndsLog-broken (taken ++ bytes) before more n log y e ends.1)
 
 -- after bytes that were taken the kept replies are not all written
-pub Goes-broken : (p q : Progress) (bytes : List ℕ) (n : ℕ) → Goes p bytes [] q → Stops p bytes (take n q.replies.items) fault.WriteFault
-Goes-broken p q bytes n goes taken before st =
-    let at = goes taken before st in
-    record {
-      lines = at.lines;
-      rest = q.line.items;
-      state = q.domain;
-      text = at.text;
-      begins = at.begins;
-      replayed = at.replayed;
-      unwritten = drop n q.replies.items;
-      begun = at.gathered ∙ (ap (λ (x : List ℕ). x ++ q.replies.items) (append-nil before)
-          ∙ (ap (λ (x : List ℕ). before ++ x) (sym (take-append-drop n q.replies.items)) ∙ sym (append_assoc before (take n q.replies.items) (drop n q.replies.items))));
-    }
+pub Goes-broken : (p q : Progress) (x y : Option (List ℕ)) (bytes : List ℕ) (n : ℕ) → Goes p x bytes [] q y
+    → Stops p x bytes (take n q.replies.items) y fault.WriteFault
+Goes-broken p q x y bytes n goes taken before log st =
+    let at = goes taken before log st in
+    let cut = drop n q.replies.items in
+    let begun : at.text ≡ (before ++ take n q.replies.items) ++ cut =
+    at.gathered ∙ (ap (λ (l : List ℕ). l ++ q.replies.items) (append-nil before)
+    ∙ (ap (λ (l : List ℕ). before ++ l) (sym (take-append-drop n q.replies.items)) ∙ sym (append_assoc before (take n q.replies.items) cut))) in (
+      record { lines = at.lines; rest = q.line.items; state = q.domain; text = at.text; begins = at.begins; replayed = at.replayed; unwritten = cut; begun = begun },
+      record {
+        lines = at.lines;
+        rest = q.line.items;
+        text = at.text;
+        unwritten = cut;
+        log = at.log;
+        count = length at.log;
+        begins = at.begins;
+        logged = at.logged;
+        begun = begun;
+        grown = Appends-whole log y at.log at.grown;
+      },
+    )
 
 -- after bytes that were taken the kept replies are written
-pub Goes-written : (p q r : Progress) (bytes : List ℕ) → Goes p bytes [] q → r.line.items ≡ q.line.items → r.domain ≡ q.domain → r.steps ≡ q.steps
-    → r.replies.items ≡ [] → Goes p bytes q.replies.items r
-Goes-written p q r bytes goes line domain steps none taken before st =
-    let at = goes taken before st in
+pub Goes-written : (p q r : Progress) (x y : Option (List ℕ)) (bytes : List ℕ) → Goes p x bytes [] q y → r.line.items ≡ q.line.items → r.domain ≡ q.domain
+    → r.steps ≡ q.steps → r.replies.items ≡ [] → Goes p x bytes q.replies.items r y
+Goes-written p q r x y bytes goes line domain steps none taken before log st =
+    let at = goes taken before log st in
     record {
       lines = at.lines;
       text = at.text;
-      begins = record { good = at.begins.good; whole = at.begins.whole ∙ ap (λ (x : List ℕ). first_lines_text at.lines ++ x) (sym line) };
+      begins = record { good = at.begins.good; whole = at.begins.whole ∙ ap (λ (l : List ℕ). first_lines_text at.lines ++ l) (sym line) };
       replayed = (let P : Option State → Type 0 = λ d. IsReplayed at.lines d at.text in subst P (sym domain) at.replayed);
       steps = steps ∙ at.steps;
-      gathered = at.gathered ∙ (ap (λ (x : List ℕ). x ++ q.replies.items) (append-nil before)
-          ∙ (sym (append-nil (before ++ q.replies.items)) ∙ ap (λ (x : List ℕ). (before ++ q.replies.items) ++ x) (sym none)));
+      gathered = at.gathered ∙ (ap (λ (l : List ℕ). l ++ q.replies.items) (append-nil before)
+          ∙ (sym (append-nil (before ++ q.replies.items)) ∙ ap (λ (l : List ℕ). (before ++ q.replies.items) ++ l) (sym none)));
+      log = at.log;
+      logged = at.logged;
+      grown = at.grown;
     }
 
-pub TakesBytes-broken : (p q : Progress) (bytes : List ℕ) (n : ℕ) (r : Result Unit ReplayFault) → TakesBytes p bytes q r → Stops p bytes (take n q.replies.items) fault.WriteFault
-TakesBytes-broken p q bytes n (Ok u) t = Goes-broken p q bytes n t
-TakesBytes-broken p q bytes n (Err e) t =
-    let P : List ℕ → Type 0 = λ x. Stops p bytes (take n x) fault.WriteFault in
-    subst P (sym t.1) (Stops-broken p bytes p.replies.items n e t.0)
+pub TakesBytes-broken : (p q : Progress) (x y : Option (List ℕ)) (bytes : List ℕ) (n : ℕ) (r : Result Unit ReplayFault) → TakesBytes p x bytes q y r
+    → Stops p x bytes (take n q.replies.items) y fault.WriteFault
+TakesBytes-broken p q x y bytes n (Ok u) t = Goes-broken p q x y bytes n t
+TakesBytes-broken p q x y bytes n (Err e) t =
+    let P : List ℕ → Type 0 = λ l. Stops p x bytes (take n l) y fault.WriteFault in
+    subst P (sym t.1) (Stops-broken p x y bytes p.replies.items n e t.0)
 
-pub TakesBytes-written : (p q r : Progress) (bytes : List ℕ) (result : Result Unit ReplayFault) → TakesBytes p bytes q result
-    → r ≡ record q { replies = r.replies } → r.replies.items ≡ [] → Outcome p bytes q.replies.items r result
-TakesBytes-written p q r bytes (Ok u) t same none =
-    Goes-written p q r bytes t (ap (λ (x : Progress). x.line.items) same) (ap (λ (x : Progress). x.domain) same) (ap (λ (x : Progress). x.steps) same) none
-TakesBytes-written p q r bytes (Err e) t same none =
-    let P : List ℕ → Type 0 = λ x. Stops p bytes x e in
+pub TakesBytes-written : (p q r : Progress) (x y : Option (List ℕ)) (bytes : List ℕ) (result : Result Unit ReplayFault) → TakesBytes p x bytes q y result
+    → r ≡ record q { replies = r.replies } → r.replies.items ≡ [] → Outcome p x bytes q.replies.items r y result
+TakesBytes-written p q r x y bytes (Ok u) t same none =
+    Goes-written p q r x y bytes t (ap (λ (l : Progress). l.line.items) same) (ap (λ (l : Progress). l.domain) same) (ap (λ (l : Progress). l.steps) same) none
+TakesBytes-written p q r x y bytes (Err e) t same none =
+    let P : List ℕ → Type 0 = λ l. Stops p x bytes l y e in
     subst P (sym t.1) t.0
 
-pub Outcome-then : (a b c : Progress) (p q v w : List ℕ) (r : Result Unit ReplayFault) → Goes a p v b → Outcome b q w c r → Outcome a (p ++ q) (v ++ w) c r
-Outcome-then a b c p q v w (Ok u) first second = Goes-then a b c p q v w first second
-Outcome-then a b c p q v w (Err e) first second = Stops-then a b p q v w e first second
+pub Outcome-then : (a b c : Progress) (x y z : Option (List ℕ)) (p q v w : List ℕ) (r : Result Unit ReplayFault) → Goes a x p v b y → Outcome b y q w c z r
+    → Outcome a x (p ++ q) (v ++ w) c z r
+Outcome-then a b c x y z p q v w (Ok u) first second = Goes-then a b c x y z p q v w first second
+Outcome-then a b c x y z p q v w (Err e) first second = Stops-then a b x y z p q v w e first second
 
 -- The line that was kept is whole once its last bytes have come.
 
-fresh_line : (taken written : List ℕ) (q mid : Progress) (st : Stands taken written q) → mid.line.items ≡ [] → mid.domain ≡ q.domain → mid.steps ≡ q.steps
-    → mid.replies.items ≡ q.replies.items → Stands (first_lines_text st.lines) written mid
-fresh_line taken written q mid st empty domain steps replies = record {
+fresh_line : (taken written : List ℕ) (x y : Option (List ℕ)) (q mid : Progress) (st : Stands taken written x y q) → mid.line.items ≡ [] → mid.domain ≡ q.domain → mid.steps ≡ q.steps
+    → mid.replies.items ≡ q.replies.items → Stands (first_lines_text st.lines) written x y mid
+fresh_line taken written x y q mid st empty domain steps replies = record {
   lines = st.lines;
   text = st.text;
   begins = record {
@@ -194,6 +290,9 @@ fresh_line taken written q mid st empty domain steps replies = record {
   replayed = (let P : Option State → Type 0 = λ d. IsReplayed st.lines d st.text in subst P (sym domain) st.replayed);
   steps = steps ∙ st.steps;
   gathered = st.gathered ∙ ap (λ (x : List ℕ). written ++ x) (sym replies);
+  log = st.log;
+  logged = st.logged;
+  grown = st.grown;
 }
 
 -- the lines, and then the kept line with its LF
@@ -206,48 +305,75 @@ ended_text : (taken bytes line kept : List ℕ) (lines : Option Trace) → line 
     → first_lines_text lines ++ whole_line line ≡ taken ++ whole_line bytes
 ended_text taken bytes line kept lines is e = ap (λ (x : List ℕ). first_lines_text lines ++ whole_line x) is ∙ line_whole taken bytes kept lines e
 
-pub TakesBytes-ended : (p q mid new : Progress) (bytes line : List ℕ) (r : Result Unit ReplayFault) → Goes p bytes [] q → q.replies.items ≡ p.replies.items
-    → mid.line.items ≡ [] → mid.domain ≡ q.domain → mid.steps ≡ q.steps → mid.replies.items ≡ q.replies.items
-    → line ≡ q.line.items → TakesBytes mid (whole_line line) new r → TakesBytes p (whole_line bytes) new r
-TakesBytes-ended p q mid new bytes line (Ok u) goes same empty domain steps replies kept t = λ taken written st.
-    let at = goes taken written st in
-    let after = t (first_lines_text at.lines) (written ++ []) (fresh_line (taken ++ bytes) (written ++ []) q mid at empty domain steps replies) in
-    let P : List ℕ → Type 0 = λ x. Stands x ((written ++ []) ++ []) new in
-    let Q : List ℕ → Type 0 = λ x. Stands (taken ++ whole_line bytes) x new in
+pub TakesBytes-ended : (p q mid new : Progress) (x z : Option (List ℕ)) (bytes line : List ℕ) (r : Result Unit ReplayFault) → Goes p x bytes [] q x
+    → q.replies.items ≡ p.replies.items → mid.line.items ≡ [] → mid.domain ≡ q.domain → mid.steps ≡ q.steps → mid.replies.items ≡ q.replies.items
+    → line ≡ q.line.items → TakesBytes mid x (whole_line line) new z r → TakesBytes p x (whole_line bytes) new z r
+TakesBytes-ended p q mid new x z bytes line (Ok u) goes same empty domain steps replies kept t = λ taken written log st.
+    let at = goes taken written log st in
+    let after = t (first_lines_text at.lines) (written ++ []) log (fresh_line (taken ++ bytes) (written ++ []) log x q mid at empty domain steps replies) in
+    let P : List ℕ → Type 0 = λ l. Stands l ((written ++ []) ++ []) log z new in
+    let Q : List ℕ → Type 0 = λ l. Stands (taken ++ whole_line bytes) l log z new in
     subst Q (append-nil (written ++ [])) (subst P (ended_text taken bytes line q.line.items at.lines kept at.begins.whole) after)
-TakesBytes-ended p q mid new bytes line (Err e) goes same empty domain steps replies kept t = (
-  (λ taken written st.
-      let at = goes taken written st in
-      let after = t.0 (first_lines_text at.lines) (written ++ []) (fresh_line (taken ++ bytes) (written ++ []) q mid at empty domain steps replies) in
-      let P : List ℕ → Type 0 = λ x. EndsReplay x ((written ++ []) ++ mid.replies.items) e in
-      let Q : List ℕ → Type 0 = λ x. EndsReplay (taken ++ whole_line bytes) x e in
+TakesBytes-ended p q mid new x z bytes line (Err e) goes same empty domain steps replies kept t = (
+  (λ taken written log st.
+      let at = goes taken written log st in
+      let after = t.0 (first_lines_text at.lines) (written ++ []) log (fresh_line (taken ++ bytes) (written ++ []) log x q mid at empty domain steps replies) in
+      let P : List ℕ → Type 0 = λ l. Ends l ((written ++ []) ++ mid.replies.items) log z e in
+      let Q : List ℕ → Type 0 = λ l. Ends (taken ++ whole_line bytes) l log z e in
       let text : (written ++ []) ++ mid.replies.items ≡ written ++ p.replies.items =
-      ap (λ (x : List ℕ). x ++ mid.replies.items) (append-nil written) ∙ ap (λ (x : List ℕ). written ++ x) (replies ∙ same) in
+      ap (λ (l : List ℕ). l ++ mid.replies.items) (append-nil written) ∙ ap (λ (l : List ℕ). written ++ l) (replies ∙ same) in
       subst Q text (subst P (ended_text taken bytes line q.line.items at.lines kept at.begins.whole) after)),
   t.1 ∙ (replies ∙ same),
 )
 
 -- Whole replays
 
-pub nothing_told : (input output : Option (List ℕ)) → Replays input input output output (Err fault.NoMemory)
-nothing_told input output = record {
-  taken = [];
-  written = [];
-  takes = Consumes-nil input;
-  writes = Appends-nil output;
-  tells = record { lines = None; rest = []; state = None; text = []; begins = record { good = tt; whole = refl }; replayed = refl; unwritten = []; begun = refl };
+pub nothing_told : (input output log : Option (List ℕ)) → ReplaysAndLogs input input output output log log (Err fault.NoMemory)
+nothing_told input output log = record {
+  replays = record {
+    taken = [];
+    written = [];
+    takes = Consumes-nil input;
+    writes = Appends-nil output;
+    tells = record { lines = None; rest = []; state = None; text = []; begins = record { good = tt; whole = refl }; replayed = refl; unwritten = []; begun = refl };
+  };
+  logs = record {
+    lines = None;
+    rest = [];
+    text = [];
+    unwritten = [];
+    log = [];
+    count = 0;
+    begins = record { good = tt; whole = refl };
+    logged = (refl, refl);
+    begun = refl;
+    grown = Appends-nil log;
+  };
 }
 
 -- all replies to what was taken are written
-pub Stands-stops : (taken written : List ℕ) (p : Progress) → Stands taken written p → p.replies.items ≡ [] → IsUnended p.line.items → StopsInLine taken written
-Stands-stops taken written p st none unended = record {
+all_written : (taken written : List ℕ) (x y : Option (List ℕ)) (p : Progress) (st : Stands taken written x y p) → p.replies.items ≡ [] → st.text ≡ written
+all_written taken written x y p st none = st.gathered ∙ (ap (λ (l : List ℕ). written ++ l) none ∙ append-nil written)
+
+pub Stands-stops : (taken written : List ℕ) (x y : Option (List ℕ)) (p : Progress) → Stands taken written x y p → p.replies.items ≡ [] → IsUnended p.line.items
+    → StopsInLine taken written
+Stands-stops taken written x y p st none unended = record {
   lines = st.lines;
   rest = p.line.items;
   state = p.domain;
   begins = st.begins;
-  replayed = (let P : List ℕ → Type 0 = IsReplayed st.lines p.domain in
-      subst P (st.gathered ∙ (ap (λ (x : List ℕ). written ++ x) none ∙ append-nil written)) st.replayed);
+  replayed = (let P : List ℕ → Type 0 = IsReplayed st.lines p.domain in subst P (all_written taken written x y p st none) st.replayed);
   unended = unended;
+}
+
+pub Stands-logs : (taken written : List ℕ) (x y : Option (List ℕ)) (p : Progress) → Stands taken written x y p → p.replies.items ≡ [] → LogsAll taken written x y
+Stands-logs taken written x y p st none = record {
+  lines = st.lines;
+  rest = p.line.items;
+  log = st.log;
+  begins = st.begins;
+  logged = (let P : List ℕ → Type 0 = λ l. IsLogged st.lines l st.log in subst P (all_written taken written x y p st none) st.logged);
+  grown = st.grown;
 }
 
 pub EndsReplay-tells : (taken written : List ℕ) (left : Option (List ℕ)) (e : ReplayFault) → EndsReplay taken written e → TellsOfReplay taken written left (Err e)
@@ -263,61 +389,214 @@ Closes-tells taken written left (Err fault.NoMemory) s end = absurd s
 Closes-tells taken written left (Err fault.ReadFault) s end = absurd s
 Closes-tells taken written left (Err fault.WriteFault) s end = absurd s
 
--- a reader and a writer before and now, between two reads: all replies to what was taken are written
-pub record SoFar (input left output filled : Option (List ℕ)) (p : Progress) : Type 0 where
+EndsLog-tells : (taken written : List ℕ) (x y : Option (List ℕ)) (e : ReplayFault) → EndsLog taken written x y e → TellsOfLog taken written x y (Err e)
+EndsLog-tells taken written x y (fault.BadTrace number) s = s
+EndsLog-tells taken written x y fault.NoMemory s = s
+EndsLog-tells taken written x y fault.ReadFault s = absurd s
+EndsLog-tells taken written x y fault.WriteFault s = s
+
+Closes-logs : (taken written : List ℕ) (x y : Option (List ℕ)) (r : Result (State × ℕ) ReplayFault) → Closes taken written r → LogsAll taken written x y
+    → TellsOfLog taken written x y r
+Closes-logs taken written x y (Ok done) s all = all
+Closes-logs taken written x y (Err (fault.BadTrace number)) s all = all
+Closes-logs taken written x y (Err fault.NoMemory) s all = absurd s
+Closes-logs taken written x y (Err fault.ReadFault) s all = absurd s
+Closes-logs taken written x y (Err fault.WriteFault) s all = absurd s
+
+-- a reader, a writer and a log before and now, between two reads: all replies to what was taken are written
+pub record SoFar (input left output filled before now : Option (List ℕ)) (p : Progress) : Type 0 where
   pub taken : List ℕ
   pub written : List ℕ
   pub takes : Consumes input left taken
   pub writes : Appends output filled written
-  pub stands : Stands taken written p
+  pub stands : Stands taken written before now p
   pub none : p.replies.items ≡ []
 
-pub read_fails : (input mid left output filled : Option (List ℕ)) (p : Progress) → SoFar input mid output filled p → IsUnended p.line.items → Keeps mid left
-    → Replays input left output filled (Err fault.ReadFault)
-read_fails input mid left output filled p s unended keeps = record {
-  taken = s.taken;
-  written = s.written;
-  takes = Consumes-kept input mid left s.taken s.takes keeps;
-  writes = s.writes;
-  tells = Stands-stops s.taken s.written p s.stands s.none unended;
+pub read_fails : (input mid left output filled x y : Option (List ℕ)) (p : Progress) → SoFar input mid output filled x y p → IsUnended p.line.items → Keeps mid left
+    → ReplaysAndLogs input left output filled x y (Err fault.ReadFault)
+read_fails input mid left output filled x y p s unended keeps = record {
+  replays = record {
+    taken = s.taken;
+    written = s.written;
+    takes = Consumes-kept input mid left s.taken s.takes keeps;
+    writes = s.writes;
+    tells = Stands-stops s.taken s.written x y p s.stands s.none unended;
+  };
+  logs = Stands-logs s.taken s.written x y p s.stands s.none;
 }
 
-pub read_ends : (input mid left output filled : Option (List ℕ)) (p : Progress) (n : ℕ) (buffer : List ℕ) (r : Result (State × ℕ) ReplayFault)
-    → SoFar input mid output filled p → Consumes mid left (take n buffer) → n ≡ 0 → IsAtEnd left
-    → ((taken written : List ℕ) → Stands taken written p → Closes taken written r) → Replays input left output filled r
-read_ends input mid left output filled p n buffer r s consumes no_bytes end closes =
+pub read_ends : (input mid left output filled x y : Option (List ℕ)) (p : Progress) (n : ℕ) (buffer : List ℕ) (r : Result (State × ℕ) ReplayFault)
+    → SoFar input mid output filled x y p → Consumes mid left (take n buffer) → n ≡ 0 → IsAtEnd left
+    → ((taken written : List ℕ) (before now : Option (List ℕ)) → Stands taken written before now p → Closes taken written r)
+    → ReplaysAndLogs input left output filled x y r
+read_ends input mid left output filled x y p n buffer r s consumes no_bytes end closes =
     let P : List ℕ → Type 0 = Consumes input left in
     let nothing : s.taken ++ take n buffer ≡ s.taken = ap (λ (k : ℕ). s.taken ++ take k buffer) no_bytes ∙ append-nil s.taken in
+    let close = closes s.taken s.written x y s.stands in
     record {
-      taken = s.taken;
-      written = s.written;
-      takes = subst P nothing (Consumes-trans input mid left s.taken (take n buffer) s.takes consumes);
-      writes = s.writes;
-      tells = Closes-tells s.taken s.written left r (closes s.taken s.written s.stands) end;
+      replays = record {
+        taken = s.taken;
+        written = s.written;
+        takes = subst P nothing (Consumes-trans input mid left s.taken (take n buffer) s.takes consumes);
+        writes = s.writes;
+        tells = Closes-tells s.taken s.written left r close end;
+      };
+      logs = Closes-logs s.taken s.written x y r close (Stands-logs s.taken s.written x y p s.stands s.none);
     }
 
-pub piece_stops : (input mid left output filled full : Option (List ℕ)) (p : Progress) (piece more : List ℕ) (e : ReplayFault)
-    → SoFar input mid output filled p → Consumes mid left piece → Appends filled full more → Stops p piece more e
-    → Replays input left output full (Err e)
-piece_stops input mid left output filled full p piece more e s consumes appends stops = record {
-  taken = s.taken ++ piece;
-  written = s.written ++ more;
-  takes = Consumes-trans input mid left s.taken piece s.takes consumes;
-  writes = Appends-trans output filled full s.written more s.writes appends;
-  tells = EndsReplay-tells (s.taken ++ piece) (s.written ++ more) left e (stops s.taken s.written s.stands);
-}
+pub piece_stops : (input mid left output filled full x y z : Option (List ℕ)) (p : Progress) (piece more : List ℕ) (e : ReplayFault)
+    → SoFar input mid output filled x y p → Consumes mid left piece → Appends filled full more → Stops p y piece more z e
+    → ReplaysAndLogs input left output full x z (Err e)
+piece_stops input mid left output filled full x y z p piece more e s consumes appends stops =
+    let ends = stops s.taken s.written x s.stands in
+    record {
+      replays = record {
+        taken = s.taken ++ piece;
+        written = s.written ++ more;
+        takes = Consumes-trans input mid left s.taken piece s.takes consumes;
+        writes = Appends-trans output filled full s.written more s.writes appends;
+        tells = EndsReplay-tells (s.taken ++ piece) (s.written ++ more) left e ends.0;
+      };
+      logs = EndsLog-tells (s.taken ++ piece) (s.written ++ more) x z e ends.1;
+    }
 
-pub piece_goes : (input mid left output filled full : Option (List ℕ)) (p q : Progress) (piece more : List ℕ)
-    → SoFar input mid output filled p → Consumes mid left piece → Appends filled full more → Goes p piece more q → q.replies.items ≡ []
-    → SoFar input left output full q
-piece_goes input mid left output filled full p q piece more s consumes appends goes none = record {
+pub piece_goes : (input mid left output filled full x y z : Option (List ℕ)) (p q : Progress) (piece more : List ℕ)
+    → SoFar input mid output filled x y p → Consumes mid left piece → Appends filled full more → Goes p y piece more q z → q.replies.items ≡ []
+    → SoFar input left output full x z q
+piece_goes input mid left output filled full x y z p q piece more s consumes appends goes none = record {
   taken = s.taken ++ piece;
   written = s.written ++ more;
   takes = Consumes-trans input mid left s.taken piece s.takes consumes;
   writes = Appends-trans output filled full s.written more s.writes appends;
-  stands = goes s.taken s.written s.stands;
+  stands = goes s.taken s.written x s.stands;
   none = none;
 }
+
+-- A log that can't be handed on
+
+done_breaks : (taken written : List ℕ) (left : Option (List ℕ)) (r : Result (State × ℕ) ReplayFault) → TellsOfReplay taken written left r → BreaksOff taken written
+done_breaks taken written left (Ok done) (s, end) = record {
+  lines = Some s.trace;
+  rest = [];
+  state = Some done.0;
+  text = written;
+  begins = record { good = s.good; whole = s.whole ∙ sym (append-nil _) };
+  replayed = s.replayed;
+  unwritten = [];
+  begun = sym (append-nil written);
+}
+done_breaks taken written left (Err (fault.BadTrace number)) (inl s) = record {
+  lines = s.lines;
+  rest = s.rest;
+  state = s.state;
+  text = written;
+  begins = s.begins;
+  replayed = s.replayed;
+  unwritten = [];
+  begun = sym (append-nil written);
+}
+done_breaks taken written left (Err (fault.BadTrace number)) (inr (s, end)) = record {
+  lines = s.lines;
+  rest = s.rest;
+  state = s.state;
+  text = written;
+  begins = s.begins;
+  replayed = s.replayed;
+  unwritten = [];
+  begun = sym (append-nil written);
+}
+done_breaks taken written left (Err fault.NoMemory) s = s
+done_breaks taken written left (Err fault.ReadFault) s = record {
+  lines = s.lines;
+  rest = s.rest;
+  state = s.state;
+  text = written;
+  begins = s.begins;
+  replayed = s.replayed;
+  unwritten = [];
+  begun = sym (append-nil written);
+}
+done_breaks taken written left (Err fault.WriteFault) s = s
+
+LogsAll-front : (taken written : List ℕ) (x y : Option (List ℕ)) → LogsAll taken written x y → LogsFront taken written x y
+LogsAll-front taken written x y s = record {
+  lines = s.lines;
+  rest = s.rest;
+  text = written;
+  unwritten = [];
+  log = s.log;
+  count = length s.log;
+  begins = s.begins;
+  logged = s.logged;
+  begun = sym (append-nil written);
+  grown = Appends-whole x y s.log s.grown;
+}
+
+log_breaks : (taken written : List ℕ) (x y : Option (List ℕ)) (r : Result (State × ℕ) ReplayFault) → TellsOfLog taken written x y r → LogsFront taken written x y
+log_breaks taken written x y (Ok done) s = LogsAll-front taken written x y s
+log_breaks taken written x y (Err (fault.BadTrace number)) s = LogsAll-front taken written x y s
+log_breaks taken written x y (Err fault.NoMemory) s = s
+log_breaks taken written x y (Err fault.ReadFault) s = LogsAll-front taken written x y s
+log_breaks taken written x y (Err fault.WriteFault) s = s
+
+Appends-kept : (x y z : Option (List ℕ)) (bytes : List ℕ) → Appends x y bytes → Keeps y z → Appends x z bytes
+Appends-kept None y z bytes a k = tt
+Appends-kept (Some a) None z bytes p k = absurd p
+Appends-kept (Some a) (Some b) None bytes p k = absurd k
+Appends-kept (Some a) (Some b) (Some c) bytes p k = k ∙ p
+
+LogsAll-kept : (taken written : List ℕ) (x y z : Option (List ℕ)) → LogsAll taken written x y → Keeps y z → LogsAll taken written x z
+LogsAll-kept taken written x y z s k = record {
+  lines = s.lines;
+  rest = s.rest;
+  log = s.log;
+  begins = s.begins;
+  logged = s.logged;
+  grown = Appends-kept x y z s.log s.grown k;
+}
+
+LogsFront-kept : (taken written : List ℕ) (x y z : Option (List ℕ)) → LogsFront taken written x y → Keeps y z → LogsFront taken written x z
+LogsFront-kept taken written x y z s k = record {
+  lines = s.lines;
+  rest = s.rest;
+  text = s.text;
+  unwritten = s.unwritten;
+  log = s.log;
+  count = s.count;
+  begins = s.begins;
+  logged = s.logged;
+  begun = s.begun;
+  grown = Appends-kept x y z (take s.count s.log) s.grown k;
+}
+
+log_kept : (taken written : List ℕ) (x y z : Option (List ℕ)) (r : Result (State × ℕ) ReplayFault) → TellsOfLog taken written x y r → Keeps y z
+    → TellsOfLog taken written x z r
+log_kept taken written x y z (Ok done) s k = LogsAll-kept taken written x y z s k
+log_kept taken written x y z (Err (fault.BadTrace number)) s k = LogsAll-kept taken written x y z s k
+log_kept taken written x y z (Err fault.NoMemory) s k = LogsFront-kept taken written x y z s k
+log_kept taken written x y z (Err fault.ReadFault) s k = LogsAll-kept taken written x y z s k
+log_kept taken written x y z (Err fault.WriteFault) s k = LogsFront-kept taken written x y z s k
+
+-- the answer of a replay whose log was handed on, or could not be
+pub is_closed : (input left output filled x y z : Option (List ℕ)) (r answer : Result (State × ℕ) ReplayFault) → ReplaysAndLogs input left output filled x y r
+    → Keeps y z → (answer ≡ r) ⊎ (answer ≡ Err fault.WriteFault) → ReplaysAndLogs input left output filled x z answer
+is_closed input left output filled x y z r answer s k (inl same) =
+    let P : Result (State × ℕ) ReplayFault → Type 0 = ReplaysAndLogs input left output filled x z in
+    subst P (sym same) (record { replays = s.replays; logs = log_kept s.replays.taken s.replays.written x y z r s.logs k })
+is_closed input left output filled x y z r answer s k (inr failed) =
+    let P : Result (State × ℕ) ReplayFault → Type 0 = ReplaysAndLogs input left output filled x z in
+    let taken = s.replays.taken in
+    let written = s.replays.written in
+    subst P (sym failed) (record {
+      replays = record {
+        taken = taken;
+        written = written;
+        takes = s.replays.takes;
+        writes = s.replays.writes;
+        tells = done_breaks taken written left r s.replays.tells;
+      };
+      logs = LogsFront-kept taken written x y z (log_breaks taken written x y r s.logs) k;
+    })
 
 -- two faults that are returned alike
 pub err_is : {A : Type 0} (e f : ReplayFault) → ◌≡◌ {A = Result A ReplayFault} (Err e) (Err f) → e ≡ f

@@ -1,6 +1,8 @@
 pub mod Replies
+pub mod Log
 pub mod Lines
 pub mod Whole
 pub mod Replay
+pub mod Logged
 pub mod Progress
 pub mod Recorded

@@ -2,6 +2,7 @@
 #![tactic(auto)]
 
 pub mod fault;
+pub mod log;
 pub mod recorded;
 pub mod replay;
 pub mod reply;

@@ -1,11 +1,13 @@
 //! A trace replayed from a reader to a writer, one line after another.
-ghost use Rattle.std.specs.Prelude.{◌≡◌, ◌≤◌, ◌<◌, ℕ, take, length, IfOk, IfErr, OnOk, OnErr, IsErr};
+ghost use Rattle.std.specs.Prelude.{◌≡◌, ◌≤◌, ◌<◌, ◌⊎◌, ℕ, take, length, IfOk, IfErr, OnOk, OnErr, IsErr};
 ghost use Rattle.std.specs.Io.KnownBytes.{Appends, Consumes, Keeps, IsAtEnd};
 ghost use Rattle.iova_range.specs.declared.limits.TheConstants.{MAX_STEPS};
 ghost use Rattle.iova_text.specs.Lines.{IsUnended};
+ghost use Rattle.iova_trace.specs.Logged.{ReplaysAndLogs};
 ghost use Rattle.iova_trace.specs.Replay.{Replays};
 
 use crate::fault::ReplayFault;
+use crate::log::{Log, NoLog};
 use crate::reply::write_reply;
 use iova_core::domain::Domain;
 use iova_laws::promises::promises_are_kept;
@@ -14,7 +16,7 @@ use iova_line::line::read_header;
 use iova_line::trace::next_step;
 use iova_range::limits::{MAX_LINE, MAX_READS};
 use iova_text::buffer::LineBuffer;
-use iova_text::write::write_all;
+use iova_text::write::{WriteFault, write_all};
 use memchr::memchr;
 use std::alloc::Global;
 use std::io;
@@ -40,12 +42,58 @@ pub fn replay<R: Read, W: Write>(
     ensures { Replays (R.remaining reader.old) (R.remaining reader.new)
         (W.contents writer.old) (W.contents writer.new) result }
 {
+    replay_and_log(alloc, reader, writer, &mut NoLog)
+}
+
+/// Replays a trace as `replay` does, and writes its log: the header, and the line of each step that has one, as it is run.
+/// `WriteFault` also where the log can't be written or handed on. The log has what was said by the lines whose replies are
+/// written; at `WriteFault` and `NoMemory` some first bytes of that. Our own.
+pub fn replay_and_log<R: Read, W: Write, L: Log>(
+    alloc: Global,
+    reader: &mut R,
+    writer: &mut W,
+    log: &mut L,
+) -> Result<(Domain, u64), ReplayFault>
+    ensures { ReplaysAndLogs (R.remaining reader.old) (R.remaining reader.new)
+        (W.contents writer.old) (W.contents writer.new) (L.contents log.old) (L.contents log.new) result }
+{
+    let replayed = replay_lines(alloc, reader, writer, log);
+    let flushed = log.flush();
+    closed(replayed, flushed)
+}
+
+/// What a replay answers once its log was handed on.
+fn closed(
+    replayed: Result<(Domain, u64), ReplayFault>,
+    flushed: Result<(), WriteFault>,
+) -> Result<(Domain, u64), ReplayFault>
+    ensures { (result ≡ replayed) ⊎ (result ≡ Err ReplayFault.WriteFault) }
+{
+    match flushed {
+        Ok(()) => replayed,
+        Err(_) => {
+            drop(replayed);
+            Err(ReplayFault::WriteFault)
+        }
+    }
+}
+
+/// Replays the lines, and leaves what the log keeps back.
+fn replay_lines<R: Read, W: Write, L: Log>(
+    alloc: Global,
+    reader: &mut R,
+    writer: &mut W,
+    log: &mut L,
+) -> Result<(Domain, u64), ReplayFault>
+    ensures { ReplaysAndLogs (R.remaining reader.old) (R.remaining reader.new)
+        (W.contents writer.old) (W.contents writer.new) (L.contents log.old) (L.contents log.new) result }
+{
     let mut input: Vec<u8> = vec![in alloc; 0u8; BUFFER]?;
     let mut progress = Progress::new(alloc)?;
     for _ in 0..MAX_READS {
         match read_some(reader, &mut input)? {
             0 => return progress.finish(),
-            len => progress.replay_piece(&input[..len], writer)?,
+            len => progress.replay_piece(&input[..len], writer, log)?,
         }
     }
     Err(ReplayFault::ReadFault)
@@ -68,12 +116,12 @@ struct Progress {
 }
 
 impl Progress {
-    ghost use Rattle.std.specs.Prelude.{List, []};
+    ghost use Rattle.std.specs.Prelude.{List, Option, []};
     ghost use Rattle.iova_text.specs.Lines.{HasNoLf, whole_line};
     ghost use Rattle.iova_trace.specs.Progress.{Stands, number_at, TakesBytes, Outcome, Closes};
 
     fn new(alloc: Global) -> Result<Self, ReplayFault>
-        ensures ok { IfOk result (λ p. Stands [] [] p) }
+        ensures ok { IfOk result (λ p. (log : Option (List ℕ)) → Stands [] [] log log p) }
         ensures none { IfOk result (λ p. p.replies.items ≡ []) }
         ensures err { OnErr result (result ≡ Err ReplayFault.NoMemory) }
     {
@@ -98,16 +146,21 @@ impl Progress {
     }
 
     /// Takes the next bytes of the trace, and writes the replies to the lines that they end.
-    fn replay_piece<W: Write>(&mut self, piece: &[u8], writer: &mut W) -> Result<(), ReplayFault>
+    fn replay_piece<W: Write, L: Log>(
+        &mut self,
+        piece: &[u8],
+        writer: &mut W,
+        log: &mut L,
+    ) -> Result<(), ReplayFault>
         ensures outcome { (more : List ℕ) × Appends (W.contents writer.old) (W.contents writer.new) more
-            × Outcome self.old piece.now more self.new result }
+            × Outcome self.old (L.contents log.old) piece.now more self.new (L.contents log.new) result }
         ensures written { OnOk result (self.new.replies.items ≡ []) }
     {
         let mut rest = piece;
         while let Some(end) = memchr(b'\n', rest) {
             let line = &rest[..end];
             rest = &rest[end + 1..];
-            self.reply_to_line(line, writer)?;
+            self.reply_to_line(line, writer, log)?;
         }
         let kept = self.keep_part(rest);
         self.write_replies(writer)?;
@@ -116,12 +169,17 @@ impl Progress {
 
     /// Takes the rest of a line, without its LF, and writes the replies where they are many. Where the line is
     /// refused, the replies to those before it are written first.
-    fn reply_to_line<W: Write>(&mut self, end: &[u8], writer: &mut W) -> Result<(), ReplayFault>
+    fn reply_to_line<W: Write, L: Log>(
+        &mut self,
+        end: &[u8],
+        writer: &mut W,
+        log: &mut L,
+    ) -> Result<(), ReplayFault>
         requires { HasNoLf end.now }
         ensures { (more : List ℕ) × Appends (W.contents writer.old) (W.contents writer.new) more
-            × Outcome self.old (whole_line end.now) more self.new result }
+            × Outcome self.old (L.contents log.old) (whole_line end.now) more self.new (L.contents log.new) result }
     {
-        let ended = self.complete_line(end);
+        let ended = self.complete_line(end, log);
         if ended.is_err() || self.replies.len() > BUFFER - MAX_LINE {
             self.write_replies(writer)?;
         }
@@ -129,22 +187,22 @@ impl Progress {
     }
 
     /// Takes the rest of a line, without its LF.
-    fn complete_line(&mut self, end: &[u8]) -> Result<(), ReplayFault>
+    fn complete_line<L: Log>(&mut self, end: &[u8], log: &mut L) -> Result<(), ReplayFault>
         requires { HasNoLf end.now }
-        ensures { TakesBytes self.old (whole_line end.now) self.new result }
+        ensures { TakesBytes self.old (L.contents log.old) (whole_line end.now) self.new (L.contents log.new) result }
     {
         if self.line.is_empty() {
-            return self.run_line(end);
+            return self.run_line(end, log);
         }
         self.keep_part(end)?;
         let line = std::mem::take(&mut self.line);
-        self.run_line(line.as_slice())
+        self.run_line(line.as_slice(), log)
     }
 
     /// Keeps what has come of a line. One of 128 bytes without an LF is refused.
     fn keep_part(&mut self, bytes: &[u8]) -> Result<(), ReplayFault>
         requires { HasNoLf bytes.now }
-        ensures takes { TakesBytes self.old bytes.now self.new result }
+        ensures takes { (log : Option (List ℕ)) → TakesBytes self.old log bytes.now self.new log result }
         ensures replies { self.new.replies.items ≡ self.old.replies.items }
     {
         if self.line.len() + bytes.len() >= MAX_LINE {
@@ -155,34 +213,41 @@ impl Progress {
     }
 
     /// Takes a whole line, the header first.
-    fn run_line(&mut self, line: &[u8]) -> Result<(), ReplayFault>
+    fn run_line<L: Log>(&mut self, line: &[u8], log: &mut L) -> Result<(), ReplayFault>
         requires one { HasNoLf line.now }
         requires fresh { self.old.line.items ≡ [] }
-        ensures { TakesBytes self.old (whole_line line.now) self.new result }
+        ensures { TakesBytes self.old (L.contents log.old) (whole_line line.now) self.new (L.contents log.new) result }
     {
         // for the proof: the steps so far keep the promises
         promises_are_kept();
         new_domains_are_valid();
+        if self.domain.is_none() {
+            return self.run_header(line, log);
+        }
         let number = self.number();
         let Some(domain) = &mut self.domain else {
-            return self.run_header(line);
+            unreachable!();
         };
         let Some(step) = next_step(line, self.steps) else {
             return Err(ReplayFault::BadTrace(number));
         };
         let reply = domain.step(step);
         self.steps += 1;
+        match log.log_step(&step, &reply) {
+            Ok(()) => {}
+            Err(_) => return Err(ReplayFault::WriteFault),
+        }
         match write_reply(&reply, &mut self.replies) {
             Ok(()) => Ok(()),
             Err(_) => Err(ReplayFault::NoMemory),
         }
     }
 
-    fn run_header(&mut self, line: &[u8]) -> Result<(), ReplayFault>
+    fn run_header<L: Log>(&mut self, line: &[u8], log: &mut L) -> Result<(), ReplayFault>
         requires one { HasNoLf line.now }
         requires fresh { self.old.line.items ≡ [] }
         requires first { self.old.domain ≡ None }
-        ensures { TakesBytes self.old (whole_line line.now) self.new result }
+        ensures { TakesBytes self.old (L.contents log.old) (whole_line line.now) self.new (L.contents log.new) result }
     {
         // for the proof: so does a new domain
         promises_are_kept();
@@ -193,7 +258,10 @@ impl Progress {
         match Domain::new(self.alloc, header.bounds, header.workers) {
             Ok(domain) => {
                 self.domain = Some(domain);
-                Ok(())
+                match log.log_bounds(&header.bounds) {
+                    Ok(()) => Ok(()),
+                    Err(_) => Err(ReplayFault::WriteFault),
+                }
             }
             Err(_) => Err(ReplayFault::NoMemory),
         }
@@ -218,7 +286,8 @@ impl Progress {
     /// What the replay comes to where the trace ends here.
     fn finish(self) -> Result<(Domain, u64), ReplayFault>
         requires { self.replies.items ≡ [] }
-        ensures { (taken written : List ℕ) → Stands taken written self → Closes taken written result }
+        ensures { (taken written : List ℕ) (before now : Option (List ℕ)) → Stands taken written before now self
+            → Closes taken written result }
     {
         let number = self.number();
         if !self.line.is_empty() {

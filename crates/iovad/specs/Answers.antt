@@ -5,7 +5,7 @@ use Rattle.iova_model.specs.State.{State}
 use Rattle.iova_report.specs.Report.{report_text}
 use Rattle.iova_trace.specs.declared.fault.ReplayFault.{ReplayFault}
 use Rattle.iova_trace.specs.declared.fault.ReplayFault.TheVariants as fault
-use Rattle.iova_trace.specs.Replay.{Replays}
+use Rattle.iova_trace.specs.Logged.{ReplaysAndLogs}
 
 -- of the text that is to be written, this is; refused memory, nothing, and some first bytes where a write fails
 abbrev pub WritesText : List ℕ → List ℕ → Result ⊤ ReplayFault → Type 0
@@ -25,9 +25,9 @@ Follows true replied filled (Ok done) answer = Reports replied filled done.0 ans
 Follows false replied filled (Ok done) answer = (filled ≡ replied) × (answer ≡ Ok (tt {0}))
 Follows has_report replied filled (Err fault) answer = (filled ≡ replied) × (answer ≡ Err fault)
 
--- A replay, and then, where it succeeds and the report is wanted, the report of the domain that it leaves.
-pub record ReplaysAndReports (has_report : Bool) (input left output filled : Option (List ℕ)) (answer : Result ⊤ ReplayFault) : Type 0 where
+-- A replay with its log, and then, where it succeeds and the report is wanted, the report of the domain that it leaves.
+pub record ReplaysAndReports (has_report : Bool) (input left output filled before now : Option (List ℕ)) (answer : Result ⊤ ReplayFault) : Type 0 where
   pub replied : Option (List ℕ)
   pub replay : Result (State × ℕ) ReplayFault
-  pub replays : Replays input left output replied replay
+  pub replays : ReplaysAndLogs input left output replied before now replay
   pub follows : Follows has_report replied filled replay answer

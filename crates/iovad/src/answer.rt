@@ -1,26 +1,28 @@
-//! A replay, and the report after it.
+//! A replay, its log, and the report after it.
 ghost use Rattle.iovad.specs.Answers.{ReplaysAndReports, Follows, Reports};
 
 use iova_core::domain::Domain;
 use iova_report::report;
 use iova_text::write::write_all;
 use iova_trace::fault::ReplayFault;
-use iova_trace::replay::replay;
+use iova_trace::log::Log;
+use iova_trace::replay::replay_and_log;
 use std::alloc::Global;
 use std::io::{Read, Write};
 
-/// Replays a trace, and writes the report of the domain after the replies where it is wanted. Refused as the replay is;
+/// Replays a trace and logs it, and writes the report of the domain after the replies where it is wanted. Refused as the replay is;
 /// then by `NoMemory`, with no byte of the report written, and by `WriteFault`.
-pub fn answer<R: Read, W: Write>(
+pub fn answer<R: Read, W: Write, L: Log>(
     alloc: Global,
     reader: &mut R,
     writer: &mut W,
+    log: &mut L,
     has_report: bool,
 ) -> Result<(), ReplayFault>
     ensures { ReplaysAndReports has_report (R.remaining reader.old) (R.remaining reader.new)
-        (W.contents writer.old) (W.contents writer.new) result }
+        (W.contents writer.old) (W.contents writer.new) (L.contents log.old) (L.contents log.new) result }
 {
-    let replayed = replay(alloc, reader, writer);
+    let replayed = replay_and_log(alloc, reader, writer, log);
     let told = follow(alloc, &replayed, writer, has_report);
     drop(replayed);
     told

@@ -7,22 +7,22 @@ mod daemon;
 mod fault;
 mod outcome;
 mod regions;
+mod replaying;
 mod sinks;
 
-use answer::answer;
 use checking::check_planned;
 use daemon::serve;
 use fault::Fault;
 use iova_ask::ask_lines;
 use iova_command::asked::Asked;
 use iova_command::plan::Plan;
-use iova_command::words::{STANDARD_INPUT, asked, words};
+use iova_command::words::{asked, words};
 use iova_range::limits::TALLY_PARTS;
 use iova_session::socket_link::SocketLink;
 use log::Log;
+use replaying::replay;
 use std::fs::File;
 use std::io;
-use std::io::Read;
 use std::marker::Brand;
 use std::net::Net;
 use std::os::unix::net::UnixStream;
@@ -49,37 +49,14 @@ where
     R: Runtime + AllocGlobal + Net + Threads + Wait + Sync + Files<File = File> + Log,
 {
     match asked(rt.alloc(), words)? {
-        Asked::Replay { path, has_report } => replay(rt, path, has_report),
+        Asked::Replay {
+            path,
+            has_report,
+            log,
+        } => replay(rt, path, has_report, log),
         Asked::Serve(plan) => serve_plan(rt, &plan),
         Asked::Ask { path } => ask_at(rt, path),
         Asked::Check(plan) => check_planned(rt, &plan),
-    }
-}
-
-/// Replays the trace of this name to standard output.
-fn replay<'a, R>(rt: &R, path: &'a str, has_report: bool) -> Result<(), Fault<'a>>
-where
-    R: Runtime + AllocGlobal + Files<File = File>,
-{
-    if path == STANDARD_INPUT {
-        return print(rt, &mut rt.reader(), path, has_report);
-    }
-    match File::open(rt, path) {
-        Ok(mut file) => print(rt, &mut file, path, has_report),
-        Err(_) => Err(Fault::CannotRead(path)),
-    }
-}
-
-/// Replays the trace from this reader to standard output.
-fn print<'a, R: Runtime + AllocGlobal, I: Read>(
-    rt: &R,
-    reader: &mut I,
-    path: &'a str,
-    has_report: bool,
-) -> Result<(), Fault<'a>> {
-    match answer(rt.alloc(), reader, &mut io::writer(rt), has_report) {
-        Ok(()) => Ok(()),
-        Err(fault) => Err(Fault::of_replay(fault, path)),
     }
 }
 

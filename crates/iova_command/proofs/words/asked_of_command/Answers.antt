@@ -1,6 +1,6 @@
 use Rattle.std.proofs.Common.{rules}
 use Rattle.clap.specs.Words.{found_of}
-use Rattle.iova_command.proofs.Getters.{text_read, flag_read}
+use Rattle.iova_command.proofs.Getters.{text_read, optional_text_read, flag_read}
 use Rattle.iova_command.proofs.words.asked_of_command.Goals as goal
 
 pub returns-in_ok-get_str-in-ask : goal.returns-in_ok-get_str-in-ask
@@ -14,4 +14,5 @@ returns-in_ok-get_str-in_default c = (
   search rules,
   text_read (found_of c.args.found.now) _ c.get_str-in_default.result c.in_ok-get_str-in_default.field-0 c.get_str-in_default.ensures c.in_ok-get_str-in_default.was,
   flag_read (found_of c.args.found.now) _ c.get_flag.result c.get_flag.ensures.value c.get_flag.ensures.other,
+  optional_text_read (found_of c.args.found.now) _ c.get_str-in_default-2.result c.get_str-in_default-2.ensures,
 )

@@ -21,7 +21,7 @@ begun_cut None line some unended = unended
 begun_cut (Some t) line some unended = (unended, some)
 
 pub returns-then-not-is_empty : goal.returns-then-not-is_empty
-returns-then-not-is_empty c taken written st =
+returns-then-not-is_empty c taken written before now st =
     let text : st.text ≡ written = st.gathered ∙ (ap (λ l. written ++ l) c.requires ∙ append-nil written) in
     record {
       lines = st.lines;

@@ -8,7 +8,7 @@ abbrev pub invariant-loop-end : goal.invariant-loop-end
 invariant-loop-end g l = (first : List ℕ) × (more : List ℕ)
     × (l.piece ≡ first ++ l.rest)
     × Appends (g.W.Write.contents l.initial.writer) (g.W.Write.contents l.writer) more
-    × Goes l.initial.self first more l.self
+    × Goes l.initial.self (g.L.Log.contents l.initial.log) first more l.self (g.L.Log.contents l.log)
 
 -- the bytes that are left
 abbrev pub decreases-loop-end : goal.decreases-loop-end
