@@ -162,8 +162,8 @@ def drive(device, path, mappings, seed):
                 if turn == turns and state == end:
                     break
         driver.close() if end == "bye" else driver.stream.close()
-        if end == "given" and dice.random() < 0.5:
-            device.map(driver.number, driver.ranges)  # the last word of a dead driver comes late
+        if end == "given":  # the last word of a dead driver may come late
+            threading.Timer(dice.random() / 100, device.map, (driver.number, driver.ranges)).start()
         with device.lock:
             device.counts["drivers"] += 1
 
