@@ -7,6 +7,7 @@ ghost use Rattle.iova_daemon.specs.Serving.{IsServeRefusal};
 
 pub mod accept;
 mod crossing;
+pub mod dial;
 mod flusher;
 mod noting;
 pub mod pause;

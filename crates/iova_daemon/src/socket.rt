@@ -1,5 +1,6 @@
 //! Links over the connections to a Unix socket.
 use crate::accept::Accept;
+use crate::dial::{Dial, UnixNet};
 use iova_range::limits::ACCEPT_PAUSE;
 use iova_session::link::LinkFault;
 use iova_session::socket_link::SocketLink;
@@ -7,10 +8,9 @@ use log::{Log, warn};
 use mio::unix::SourceFd;
 use mio::{Events, Interest, Poll, Token};
 use std::io::ErrorKind;
-use std::net::Net;
 use std::os::fd::AsRawFd;
 use std::os::unix::net::UnixListener;
-use std::rt::{Clock, Runtime};
+use std::rt::Clock;
 use std::time::Duration;
 use std::{io, thread};
 
@@ -23,7 +23,7 @@ pub struct SocketAccept<'a, R, N> {
     listener: UnixListener,
 }
 
-impl<'a, R: Runtime + AllocGlobal + Net, N: Log> SocketAccept<'a, R, N> {
+impl<'a, R: AllocGlobal + Dial, N: Log> SocketAccept<'a, R, N> {
     /// Accepts what connects to this listener. The caller has made it one that doesn't block; else an accept has no limit.
     pub fn new(rt: &'a R, notices: &'a N, listener: UnixListener) -> SocketAccept<'a, R, N> {
         SocketAccept {
@@ -55,7 +55,7 @@ impl<'a, R: Runtime + AllocGlobal + Net, N: Log> SocketAccept<'a, R, N> {
 
     /// Waits until a connection stands there, no longer than so many milliseconds.
     fn wait(&self, limit: Option<u64>) -> io::Result<()> {
-        let mut poll = Poll::new(self.rt)?;
+        let mut poll = Poll::new(&UnixNet::new(self.rt))?;
         let mut events = Events::with_capacity(self.rt.alloc(), 1)?;
         let descriptor = self.listener.as_raw_fd();
         poll.registry()
@@ -64,8 +64,7 @@ impl<'a, R: Runtime + AllocGlobal + Net, N: Log> SocketAccept<'a, R, N> {
     }
 }
 
-impl<'a, R: Runtime + AllocGlobal + Net + Clock, N: Log> Accept<SocketLink>
-    for SocketAccept<'a, R, N> {
+impl<'a, R: AllocGlobal + Dial + Clock, N: Log> Accept<SocketLink> for SocketAccept<'a, R, N> {
     fn accept(&self, limit: Option<u64>) -> Result<Option<SocketLink>, LinkFault> {
         match self.next(limit) {
             Ok(link) => Ok(link),

@@ -11,6 +11,7 @@ use crate::regions::add_regions;
 use crate::sinks::{DaemonSink, SinkPlace, open_sink};
 use iova_command::plan::Plan;
 use iova_core::domain::Domain;
+use iova_daemon::dial::{Dial, UnixNet};
 use iova_daemon::pause::Ticks;
 use iova_daemon::socket::SocketAccept;
 use iova_daemon::{Served, serve_on};
@@ -57,7 +58,7 @@ pub fn serve<'a, R, C, F, S, G>(
     good: Blank,
 ) -> Result<(), Fault<'a>>
 where
-    R: Runtime + AllocGlobal + Net + Threads + Wait + Sync + Files<File = File> + Log,
+    R: Runtime + AllocGlobal + Net + Dial + Threads + Wait + Sync + Files<File = File> + Log,
     C: Ledger + Send + Sync,
     F: Ledger + Send + Sync,
     S: Ledger + Send + Sync,
@@ -110,7 +111,7 @@ fn serve_domain<R, C, F, S, G>(
     posts: Vec<Post<C, F, S, G>>,
 ) -> Result<(), Fault<'static>>
 where
-    R: Runtime + AllocGlobal + Net + Threads + Wait + Sync + Files<File = File> + Log,
+    R: Runtime + AllocGlobal + Net + Dial + Threads + Wait + Sync + Files<File = File> + Log,
     C: Ledger + Send + Sync,
     F: Ledger + Send + Sync,
     S: Ledger + Send + Sync,
@@ -119,9 +120,11 @@ where
     requires posts { map (λ p. p.seat) posts.items ≡ new_seats plan.now.workers }
     ensures { IfErr result (IsFaultOfServing plan.now) }
 {
+    let net = UnixNet::new(rt);
+    let net = &net;
     let place = SinkPlace::of(rt, plan);
-    match serve_links(rt, plan, place, shared, posts) {
-        Ok(Served { shared, posts }) => finish(rt, plan, place, shared, posts),
+    match serve_links(rt, plan, net, place, shared, posts) {
+        Ok(Served { shared, posts }) => finish(rt, plan, net, place, shared, posts),
         Err(why) => Err(why.fault()),
     }
 }
@@ -130,12 +133,13 @@ where
 fn serve_links<'a, R, C, F, S, G>(
     rt: &'a R,
     plan: &Plan<'_>,
+    net: &'a UnixNet<'a, R>,
     place: SinkPlace<'a>,
     shared: Shared<&'a R, C, F, S, G>,
     posts: Vec<Post<C, F, S, G>>,
 ) -> Result<Served<&'a R, C, F, S, G>, Hindrance>
 where
-    R: Runtime + AllocGlobal + Net + Threads + Wait + Sync + Files<File = File> + Log,
+    R: Runtime + AllocGlobal + Net + Dial + Threads + Wait + Sync + Files<File = File> + Log,
     C: Ledger + Send + Sync,
     F: Ledger + Send + Sync,
     S: Ledger + Send + Sync,
@@ -144,7 +148,7 @@ where
     requires posts { map (λ p. p.seat) posts.items ≡ new_seats plan.now.workers }
     ensures { IfOk result (λ r. map (λ p. p.seat.worker) r.posts.items ≡ map (λ s. s.worker) (new_seats r.shared.workers)) }
 {
-    match open_all(rt, plan, place, posts.len() + 1) {
+    match open_all(rt, plan, net, place, posts.len() + 1) {
         Ok((sinks, listener)) => serve_opened(rt, plan, shared, posts, sinks, listener),
         Err(why) => {
             drop(posts);
@@ -160,11 +164,11 @@ fn serve_opened<'a, R, C, F, S, G>(
     plan: &Plan<'_>,
     shared: Shared<&'a R, C, F, S, G>,
     posts: Vec<Post<C, F, S, G>>,
-    sinks: Vec<DaemonSink<'a, R>>,
+    sinks: Vec<DaemonSink<'a, UnixNet<'a, R>>>,
     listener: UnixListener,
 ) -> Result<Served<&'a R, C, F, S, G>, Hindrance>
 where
-    R: Runtime + AllocGlobal + Net + Threads + Wait + Sync + Files<File = File> + Log,
+    R: Runtime + AllocGlobal + Net + Dial + Threads + Wait + Sync + Files<File = File> + Log,
     C: Ledger + Send + Sync,
     F: Ledger + Send + Sync,
     S: Ledger + Send + Sync,
@@ -185,7 +189,7 @@ where
         G,
         SocketLink,
         SocketAccept<'_, R, R>,
-        DaemonSink<'_, R>,
+        DaemonSink<'_, UnixNet<'_, R>>,
         Ticks<'_, R>,
     >(
         rt,
@@ -213,15 +217,16 @@ fn remove<R: Files<File = File>>(rt: &R, path: &str) {
 }
 
 /// So many sinks, and the socket. Refused by `NoMemory`, `CannotOpenSink` and `SocketFault`, in this order.
-fn open_all<'a, R: AllocGlobal + Net + Files<File = File>>(
+fn open_all<'a, R: AllocGlobal + Net + Dial + Files<File = File>>(
     rt: &'a R,
     plan: &Plan<'_>,
+    net: &'a UnixNet<'a, R>,
     place: SinkPlace<'a>,
     count: usize,
-) -> Result<(Vec<DaemonSink<'a, R>>, UnixListener), Hindrance>
+) -> Result<(Vec<DaemonSink<'a, UnixNet<'a, R>>>, UnixListener), Hindrance>
     ensures { IfOk result (λ r. vec_len r.0 ≡ count) }
 {
-    let sinks = open_sinks(rt, rt.alloc(), place, plan.domain, count)?;
+    let sinks = open_sinks(rt, rt.alloc(), net, place, plan.domain, count)?;
     match bound(rt, plan.socket) {
         Some(listener) => Ok((sinks, listener)),
         None => {
@@ -251,12 +256,13 @@ fn bound<R: Net + Files<File = File>>(rt: &R, path: &str) -> Option<UnixListener
 fn finish<'a, R, C, F, S, G>(
     rt: &'a R,
     plan: &Plan<'_>,
+    net: &'a UnixNet<'a, R>,
     place: SinkPlace<'a>,
     shared: Shared<&'a R, C, F, S, G>,
     posts: Vec<Post<C, F, S, G>>,
 ) -> Result<(), Fault<'static>>
 where
-    R: Runtime + AllocGlobal + Net + Wait + Files<File = File>,
+    R: Runtime + AllocGlobal + Net + Dial + Wait + Files<File = File>,
     C: Ledger,
     F: Ledger,
     S: Ledger,
@@ -264,7 +270,7 @@ where
     requires posts { map (λ p. p.seat.worker) posts.items ≡ map (λ s. s.worker) (new_seats shared.workers) }
     ensures { IfErr result (IsFaultOfServing plan.now) }
 {
-    let recorded = gather_all(rt, plan, place, &shared, posts);
+    let recorded = gather_all(rt, plan, net, place, &shared, posts);
     let domain = shared.into_domain();
     let told = tell(rt, plan, &domain, recorded);
     drop(domain);
@@ -290,12 +296,13 @@ fn tell<R: Runtime + AllocGlobal>(
 fn gather_all<'a, R, Q, C, F, S, G>(
     rt: &'a R,
     plan: &Plan<'_>,
+    net: &'a UnixNet<'a, R>,
     place: SinkPlace<'a>,
     shared: &Shared<Q, C, F, S, G>,
     posts: Vec<Post<C, F, S, G>>,
 ) -> Result<(), Hindrance>
 where
-    R: AllocGlobal + Net + Files<File = File>,
+    R: AllocGlobal + Net + Dial + Files<File = File>,
     Q: Wait,
     C: Ledger,
     F: Ledger,
@@ -303,7 +310,7 @@ where
     G: Ledger,
     requires posts { map (λ p. p.seat.worker) posts.items ≡ map (λ s. s.worker) (new_seats shared.now.workers) }
 {
-    let Some(seats) = seats_of(rt, rt.alloc(), place, shared, posts) else {
+    let Some(seats) = seats_of(rt, rt.alloc(), net, place, shared, posts) else {
         return Err(Hindrance::NoMemory);
     };
     let Ok(_totals) = shared.gather(seats) else {
@@ -583,13 +590,14 @@ fn posts_of<C: Ledger, F: Ledger, S: Ledger, G: Ledger>(
 
 /// So many sinks there. A peer is told by the first one that nothing of the domain is mapped. Refused by `NoMemory` and by
 /// `CannotOpenSink`.
-fn open_sinks<'a, R: Net + Files<File = File>>(
+fn open_sinks<'a, R: Net + Dial + Files<File = File>>(
     rt: &'a R,
     alloc: Global,
+    net: &'a UnixNet<'a, R>,
     place: SinkPlace<'a>,
     domain: u64,
     count: usize,
-) -> Result<Vec<DaemonSink<'a, R>>, Hindrance>
+) -> Result<Vec<DaemonSink<'a, UnixNet<'a, R>>>, Hindrance>
     ensures { IfOk result (λ v. vec_len v ≡ count) }
 {
     let Ok(mut sinks) = Vec::with_capacity(alloc, count) else {
@@ -597,7 +605,7 @@ fn open_sinks<'a, R: Net + Files<File = File>>(
     };
     for at in 0..count {
         let reset = if at == 0 { Some(domain) } else { None };
-        let Some(sink) = open_sink(rt, place, reset) else {
+        let Some(sink) = open_sink(rt, net, place, reset) else {
             return Err(Hindrance::CannotOpenSink);
         };
         let Ok(()) = sinks.push(sink) else {
@@ -611,12 +619,13 @@ fn open_sinks<'a, R: Net + Files<File = File>>(
 fn seats_of<'a, R, Q, C, F, S, G>(
     rt: &'a R,
     alloc: Global,
+    net: &'a UnixNet<'a, R>,
     place: SinkPlace<'a>,
     shared: &Shared<Q, C, F, S, G>,
     posts: Vec<Post<C, F, S, G>>,
 ) -> Option<Vec<Seat<C, F, S, G>>>
 where
-    R: Net + Files<File = File>,
+    R: Net + Dial + Files<File = File>,
     Q: Wait,
     C: Ledger,
     F: Ledger,
@@ -628,7 +637,7 @@ where
         return None;
     };
     for post in posts {
-        let Ok(()) = seats.push(seat_of(rt, place, shared, post)) else {
+        let Ok(()) = seats.push(seat_of(rt, net, place, shared, post)) else {
             unreachable!();
         };
     }
@@ -638,12 +647,13 @@ where
 /// The post's seat, once the clients that still wait were tried again.
 fn seat_of<'a, R, C, F, S, G, K>(
     rt: &'a R,
+    net: &'a UnixNet<'a, R>,
     place: SinkPlace<'a>,
     keeper: K,
     post: Post<C, F, S, G>,
 ) -> Seat<C, F, S, G>
 where
-    R: Net + Files<File = File>,
+    R: Net + Dial + Files<File = File>,
     C: Ledger,
     F: Ledger,
     S: Ledger,
@@ -654,7 +664,7 @@ where
     let mut keeper = keeper;
     let mut post = post;
     if !post.waiting.is_empty() {
-        retry_at(rt, place, &mut keeper, &mut post);
+        retry_at(rt, net, place, &mut keeper, &mut post);
     }
     let Post {
         seat,
@@ -667,12 +677,13 @@ where
 /// Tries the clients that wait at this post again, where a sink can be opened.
 fn retry_at<'a, R, C, F, S, G, K>(
     rt: &'a R,
+    net: &'a UnixNet<'a, R>,
     place: SinkPlace<'a>,
     keeper: &mut K,
     post: &mut Post<C, F, S, G>,
 )
 where
-    R: Net + Files<File = File>,
+    R: Net + Dial + Files<File = File>,
     C: Ledger,
     F: Ledger,
     S: Ledger,
@@ -680,7 +691,7 @@ where
     K: Keep<C, F, S, G>,
     ensures { post.new.seat.worker ≡ post.old.seat.worker }
 {
-    if let Some(mut sink) = open_sink(rt, place, None) {
+    if let Some(mut sink) = open_sink(rt, net, place, None) {
         let _left = retry(keeper, post, &mut sink);
     }
 }

@@ -17,6 +17,7 @@ use iova_ask::ask_lines;
 use iova_command::asked::Asked;
 use iova_command::plan::Plan;
 use iova_command::words::{asked, words};
+use iova_daemon::dial::Dial;
 use iova_range::limits::TALLY_PARTS;
 use iova_session::socket_link::SocketLink;
 use log::Log;
@@ -46,7 +47,7 @@ fn main(rt: HostRuntime) -> ExitCode {
 /// Does what the words ask for.
 fn run<'a, R>(rt: &R, words: &'a [String]) -> Result<(), Fault<'a>>
 where
-    R: Runtime + AllocGlobal + Net + Threads + Wait + Sync + Files<File = File> + Log,
+    R: Runtime + AllocGlobal + Net + Dial + Threads + Wait + Sync + Files<File = File> + Log,
 {
     match asked(rt.alloc(), words)? {
         Asked::Replay {
@@ -63,7 +64,7 @@ where
 /// Serves what the plan says. The four ledgers of the domain get their names here.
 fn serve_plan<'a, R>(rt: &R, plan: &Plan<'a>) -> Result<(), Fault<'a>>
 where
-    R: Runtime + AllocGlobal + Net + Threads + Wait + Sync + Files<File = File> + Log,
+    R: Runtime + AllocGlobal + Net + Dial + Threads + Wait + Sync + Files<File = File> + Log,
 {
     serve::<R, Brand, Brand, Brand, Brand>(
         rt,

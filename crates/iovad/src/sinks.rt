@@ -75,13 +75,14 @@ fn is_socket<R: Files<File = File>>(rt: &R, path: &str) -> bool {
 
 /// A sink there; a peer is told first that nothing is mapped of the domain that is to be reset, where one is. None where the file
 /// can't be opened, nobody listens, or the peer didn't answer that it is done.
-pub fn open_sink<'a, R: Net + Files<File = File>>(
-    rt: &'a R,
+pub fn open_sink<'a, R: Files<File = File>, N: Net>(
+    rt: &R,
+    net: &'a N,
     place: SinkPlace<'a>,
     reset: Option<u64>,
-) -> Option<DaemonSink<'a, R>> {
+) -> Option<DaemonSink<'a, N>> {
     if place.has_peer {
-        return match open_peer(rt, place, reset) {
+        return match open_peer(net, place, reset) {
             Some(sink) => Some(EitherSink::Second(sink)),
             None => None,
         };

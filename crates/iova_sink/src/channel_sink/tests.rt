@@ -182,24 +182,23 @@ fn peers_of_every_kind(rt: HostRuntime) {
 }
 
 #[test]
-fn requests_in_pieces(rt: HostRuntime) {
+fn requests_in_pieces(rt: HostRuntime) -> Result<(), Fail> {
+    let mut ranges = Vec::with_capacity(rt.alloc(), 2)?;
+    ranges.push(Range::new(8, 4))?;
+    ranges.push(Range::new(1_048_576, 1))?;
     let peers = [Peer {
         says: &[b"", b"done reset 7\n", b"done gone 5\n"],
         ends: false,
     }];
     let mut sink = ChannelSink::new(MemoryChannel::new(rt.alloc(), &peers, 3, 0));
     assert_eq!(rt; sink.reset(7), Ok(()));
-    let Ok(mut ranges) = Vec::with_capacity(rt.alloc(), 2) else {
-        unreachable!();
-    };
-    let _first = ranges.push(Range::new(8, 4));
-    let _second = ranges.push(Range::new(1_048_576, 1));
     assert_eq!(rt; sink.gone(7, 5, &ranges), Ok(()));
     assert_eq!(rt;
         sink.channel().sent(),
         b"reset 7\ngone 7 5 2\n8 4\n1048576 1\n".as_slice()
     );
     drop(sink);
+    Ok(())
 }
 
 #[test]
