@@ -20,7 +20,7 @@ reserved_one : (w got : Frames) (hi : ℕ) (s t : State) → hi + 1 ≡ w.lo + w
     → ReservesAll (w ∷ []) s t
 reserved_one w got hi s t is takes =
     let last : hi ≡ w.lo + w.len - 1 = omega (arith, is) in
-    (t, (got, (subst (λ (n : ℕ). Takes s (step.Reserve w.lo n) (reply.Reserved got) t) last takes, refl)))
+    (t, got, subst (λ (n : ℕ). Takes s (step.Reserve w.lo n) (reply.Reserved got) t) last takes, refl)
 
 pub reserved_window : (w got : Frames) (hi : ℕ) (a b : BookState) → hi + 1 ≡ w.lo + w.len → Takes a.state (step.Reserve w.lo hi) (reply.Reserved got) b.state
     → b.number ≡ a.number → b.strict ≡ a.strict → IsReserved (w ∷ []) a b
@@ -33,7 +33,7 @@ reserved_window w got hi a b is takes number strict = record {
 -- and others after it
 pub reserved_more : (w : Frames) (ws : List Frames) (a b c : BookState) → IsReserved (w ∷ []) a b → IsReserved ws b c → IsReserved (w ∷ ws) a c
 reserved_more w ws a b c first more = record {
-  domain = (first.domain.0, (first.domain.1.0, (first.domain.1.1.0, subst (λ (s : State). ReservesAll ws s c.state) first.domain.1.1.1 more.domain)));
+  domain = (first.domain.0, first.domain.1, first.domain.2, subst (λ (s : State). ReservesAll ws s c.state) first.domain.3 more.domain);
   number = more.number ∙ first.number;
   strict = more.strict ∙ first.strict;
 }
