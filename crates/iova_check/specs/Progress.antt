@@ -8,8 +8,7 @@ use Rattle.iova_check.specs.declared.run.Progress.{Progress}
 use Rattle.iova_check.specs.declared.source.Form.{Form}
 use Rattle.iova_check.specs.declared.source.Form.TheVariants as form
 use Rattle.iova_check.specs.declared.source.Source.{Source}
-use Rattle.iova_check.specs.declared.trace.TheConstants.{MAX_TRACE_LINE}
-use Rattle.iova_range.specs.declared.limits.TheConstants.{WIDE_TOP}
+use Rattle.iova_range.specs.declared.limits.TheConstants.{MAX_TRACE_LINE, WIDE_TOP}
 use Rattle.iova_text.specs.Lines.{HasNoLf, IsUnended}
 use Rattle.iova_check.specs.Bounds.{bounds_asked}
 use Rattle.iova_check.specs.Checking.{HasChecked}

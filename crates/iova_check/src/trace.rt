@@ -4,15 +4,10 @@ ghost use Rattle.iova_check.specs.History.{IsRange, IsInReach};
 ghost use Rattle.iova_check.specs.Trace.{word_at_front, from_blank, spaced, hex_digit, hex_from, hex_number, after, hex_after, are_digits, are_digits_after, frames_of, frames_between, mapped_frames, unmapped_frames, paged_frames, is_other_domain, flush_at, flush_said, is_either, said, event_said, counts_lost, is_lost_behind, says_lost};
 
 use crate::event::Event;
+use iova_range::limits::{FRAME_BYTES, MAX_TRACE_LINE};
 use iova_range::range::Range;
 use iova_text::words::first_word;
 use memchr::memrchr;
-
-/// The longest line of a trace of which something is read, with its LF, in bytes. Our own.
-pub const MAX_TRACE_LINE: usize = 1_024;
-
-/// The bytes of a frame.
-const FRAME: u64 = 4_096;
 
 /// The last seven words of a line.
 #[derive(Drop)]
@@ -160,7 +155,7 @@ fn frames_between(start: u64, behind: u64) -> Option<Range>
     ensures reach { IfSome result (λ r. IsRange r) }
 {
     if start < behind {
-        let (lo, hi) = (start / FRAME, (behind - 1) / FRAME);
+        let (lo, hi) = (start / FRAME_BYTES, (behind - 1) / FRAME_BYTES);
         Some(Range::new(lo, hi - lo + 1))
     } else {
         None
@@ -212,7 +207,7 @@ fn paged_frames(q1: u64) -> Range
     ensures reach { IsRange result }
 {
     let len = 1u64 << (q1 % 64);
-    let lo = q1 / FRAME / len * len;
+    let lo = q1 / FRAME_BYTES / len * len;
     Range::new(lo, len)
 }
 

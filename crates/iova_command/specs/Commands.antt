@@ -5,8 +5,8 @@ use Rattle.clap.specs.declared.builder.command.Command.{Command}
 use Rattle.clap.specs.declared.builder.command.Command.TheViews.{out-Command}
 use Rattle.clap.specs.declared.builder.action.ArgAction.TheVariants.{Append, Set, SetTrue}
 use Rattle.clap.specs.declared.builder.value_parser.ValueParser.TheVariants as parser
-use Rattle.iova_command.specs.declared.check_plan.TheConstants.{LAST_DOMAIN_ID}
-use Rattle.iova_range.specs.declared.limits.TheConstants.{MAX_DEPOT, MAX_WORKERS, MAX_DOMAINS, MAX_SESSIONS, MAX_SINK_TIMEOUT, WIDE_TOP}
+
+use Rattle.iova_range.specs.declared.limits.TheConstants.{LAST_DOMAIN_ID, MAX_DEPOT, MAX_WORKERS, MAX_DOMAINS, MAX_SESSIONS, MAX_SINK_TIMEOUT, WIDE_TOP}
 
 -- an argument that must be there, named by its place
 abbrev pub place_rule : Text → Rule

@@ -2,15 +2,11 @@
 ghost use Rattle.std.specs.Prelude.{◌≤◌, IfSome};
 ghost use Rattle.std.specs.Option.{ForSome};
 ghost use Rattle.clap.specs.Words.{rows_of, found_of};
-ghost use Rattle.iova_range.specs.declared.limits.TheConstants.{WIDE_TOP};
-ghost use Rattle.iova_command.specs.declared.check_plan.TheConstants.{LAST_DOMAIN_ID};
+ghost use Rattle.iova_range.specs.declared.limits.TheConstants.{LAST_DOMAIN_ID, WIDE_TOP};
 
 use crate::plan::optional;
 use clap::ArgMatches;
-use iova_range::limits::WIDE_TOP;
-
-/// The last number that an IOMMU's domain may have: 16 bits (VT-d, "Domain-ID").
-pub const LAST_DOMAIN_ID: u64 = 65_535;
+use iova_range::limits::{LAST_DOMAIN_ID, WIDE_TOP};
 
 /// The options of `check`, each in its range. Own.
 #[derive(Drop)]

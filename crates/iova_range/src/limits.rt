@@ -12,6 +12,9 @@ pub const MAX_HOLDINGS: usize = 4096;
 /// The most windows of a domain. Own.
 pub const MAX_WINDOWS: usize = 64;
 
+/// The bytes of a page frame (`PAGE_SIZE` of Linux 5.15 on x86_64).
+pub const FRAME_BYTES: u64 = 4_096;
+
 /// The most frames of one request. Own.
 pub const MAX_FRAMES: u64 = 1_048_576;
 
@@ -53,6 +56,12 @@ pub const SAC_LIMIT: u64 = 1_048_575;
 /// The most bytes of a line of the protocol or of a trace, its LF among them. Own.
 pub const MAX_LINE: usize = 128;
 
+/// The most bytes of a line of a kernel's trace of which something is read, its LF among them. Own.
+pub const MAX_TRACE_LINE: usize = 1_024;
+
+/// The last number that an IOMMU may give a domain, as a kernel's trace tells it: 16 bits (VT-d, "Domain-ID").
+pub const LAST_DOMAIN_ID: u64 = 65_535;
+
 /// The most steps of one trace. Own.
 pub const MAX_STEPS: u64 = 1_000_000;
 
@@ -62,11 +71,17 @@ pub const MAX_READS: u64 = 134_217_728;
 /// The most domain numbers: a daemon's domain is 0 to 7. Own.
 pub const MAX_DOMAINS: u64 = 8;
 
-/// The most requests of one session. Own.
+/// The most requests of one session where nobody says another bound. Own.
 pub const MAX_REQUESTS: u64 = 65_536;
 
-/// The most reads of one session. Own.
+/// The most reads of one session where nobody says another bound. Own.
 pub const MAX_SESSION_READS: u64 = 1_048_576;
+
+/// The greatest bound of requests that a session may be given: 2^63 - 1. Own.
+pub const MAX_SESSION_REQUESTS: u64 = 9_223_372_036_854_775_807;
+
+/// The longest time that a session may be allowed to be idle, in seconds: a day. Own.
+pub const MAX_IDLE: u64 = 86_400;
 
 /// The most ranges that one session is told in answers to `list`. Own.
 pub const MAX_LISTED: u64 = 1_048_576;
@@ -83,17 +98,22 @@ pub const TALLY_PARTS: u64 = 256;
 /// The most steps that a domain may be asked to record. Own.
 pub const MAX_PAIRS: usize = 4_000_000;
 
-/// How many steps a daemon records: the first ones of its domain. Own.
-pub const RECORDED_STEPS: usize = 100_000;
+/// How many steps a daemon records where nobody says another count: the first ones of its domain. Own.
+pub const RECORDED_STEPS: u64 = 100_000;
+
+/// The most steps that a daemon may be told to record. Own.
+pub const MAX_RECORDED_STEPS: u64 = 1_000_000;
 
 /// The time between two rounds of a daemon's flusher, in milliseconds: what is unmapped is free again after about as long, and
 /// 100 rounds a second cost next to nothing where no ring has an entry (`IOVA_FQ_TIMEOUT` of Linux 5.15
 /// `include/linux/iova.h`).
 pub const FLUSH_PAUSE: u64 = 10;
 
-/// The time after an accept that failed, in milliseconds. With no descriptor left an accept fails at once, and each one that
-/// fails uses up a session's number. Own.
-pub const ACCEPT_PAUSE: u64 = 100;
+/// The time after an accept that failed, in milliseconds. It doubles with each failure after another. Own.
+pub const ACCEPT_PAUSE: u64 = 10;
+
+/// The longest time after an accept that failed, in milliseconds. Own.
+pub const MAX_ACCEPT_PAUSE: u64 = 1_000;
 
 /// The greatest time that a daemon's sink may be given to answer, in seconds. Own.
 pub const MAX_SINK_TIMEOUT: u64 = 3_600;

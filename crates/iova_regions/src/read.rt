@@ -13,6 +13,7 @@ use crate::line::read_region;
 use crate::region::{Counted, Region, RegionKind};
 use crate::windows::{Windows, cut};
 use iova_range::bounds::Bounds;
+use iova_range::limits::FRAME_BYTES;
 use iova_range::range::Range;
 use iova_range::refusal::Refusal;
 use iova_text::line::cut_line;
@@ -22,9 +23,6 @@ use std::io::Read;
 
 /// How many bytes are read at a time.
 const BUFFER: usize = 4096;
-
-/// The bytes of a page frame.
-const FRAME: u64 = 4096;
 
 /// Reads the whole text of `reserved_regions`, and inserts the frames of each region that counts, as far as they are within the
 /// bounds, in the order of the lines. A text of no bytes has no region. Refused by `Line`, with the number of the first bad line,
@@ -110,8 +108,8 @@ fn frames(region: Region) -> Range
     requires { IsRegion region }
     ensures { result ≡ frames_of region }
 {
-    let lo = region.first / FRAME;
-    let hi = region.last / FRAME;
+    let lo = region.first / FRAME_BYTES;
+    let hi = region.last / FRAME_BYTES;
     Range::new(lo, hi + 1 - lo)
 }
 
