@@ -1,7 +1,6 @@
 -- Requests and answers, one part after another.
 use Rattle.std.proofs.Common.{◌≡◌, ◌≢◌, ℕ, suc, ◌+◌, ◌-◌, ◌<◌, ◌≤◌, ◌⊎◌, inl, inr, Bool, true, List, [], ◌∷◌, ◌++◌, Option, Some, None, Result, Ok, Err, length, take, drop, get_or, refl, sym, ap, ◌∙◌, subst, arith, append_assoc, append-nil, length-append, take-append-drop}
 use Rattle.std.specs.Io.KnownBytes.{append_known}
-use Rattle.std.proofs.Math.Seq.{drop-cons}
 use Rattle.std.proofs.lemmas.List.{take_all, take_more, get_or_append_left, get_or-append-add}
 use Rattle.std.proofs.lemmas.Bool.{cases_lt}
 use Rattle.iova_sink.specs.declared.channel.ChannelFault.{ChannelFault}
@@ -11,7 +10,7 @@ use Rattle.iova_sink.specs.declared.asking.Heard.{Heard}
 use Rattle.iova_sink.specs.declared.asking.Heard.TheVariants as heard
 use Rattle.iova_range.specs.Frames.{Frames}
 use Rattle.iova_sink.specs.Records.{range_line, ranges_text}
-use Rattle.iova_sink.specs.Channels.{Talk, with_sent, with_received, with_failure, with_stray, opened, closed, Connects, HasFailed, IsFront, IsCutOff, Readies, SendsAll, Requests, EndsAtLf, IsAnswer, IsSaid, Hears, Concludes, Answers}
+use Rattle.iova_sink.specs.Channels.{Talk, with_sent, with_received, with_failure, with_stray, opened, closed, Connects, HasFailed, IsFront, IsCutOff, Readies, SendsAll, IsBegun, Requests, EndsAtLf, IsAnswer, IsSaid, Hears, Concludes, Answers}
 use Rattle.iova_sink.proofs.Records.{take_plus, rest_of}
 
 known_more : (r : Option (List ℕ)) (xs ys : List ℕ) → append_known (append_known r xs) ys ≡ append_known r (xs ++ ys)
@@ -123,28 +122,39 @@ ranges_more ranges i d lt =
     ap ranges_text (take_more ranges i d lt)
     ∙ (ranges_append (take i ranges) (get_or ranges i d ∷ []) ∙ ap (λ (x : List ℕ). ranges_text (take i ranges) ++ x) (append-nil (range_line (get_or ranges i d))))
 
-pub ranges_whole : (ranges : List Frames) (i : ℕ) (d : Frames) → i < length ranges
-    → ranges_text ranges ≡ ranges_text (take i ranges) ++ (range_line (get_or ranges i d) ++ ranges_text (drop (suc i) ranges))
-ranges_whole ranges i d lt =
-    ap ranges_text (sym (take-append-drop i ranges))
-    ∙ (ranges_append (take i ranges) (drop i ranges) ∙ ap (λ (x : List Frames). ranges_text (take i ranges) ++ ranges_text x) (drop-cons ranges i d lt))
+-- the lines of ranges behind a text, one more
+pub ranges_behind : (text : List ℕ) (ranges : List Frames) (i : ℕ) (d : Frames) (line : List ℕ) → i < length ranges → line ≡ range_line (get_or ranges i d)
+    → (text ++ ranges_text (take i ranges)) ++ line ≡ text ++ ranges_text (take (i + 1) ranges)
+ranges_behind text ranges i d line lt is =
+    append_assoc text (ranges_text (take i ranges)) line
+    ∙ (ap (λ (x : List ℕ). text ++ (ranges_text (take i ranges) ++ x)) is ∙ ap (λ (x : List ℕ). text ++ x) (sym (ranges_more ranges i d lt)))
 
--- one line more, or the failure in it
-pub range_sent : (a b c : Talk) (ranges : List Frames) (i : ℕ) (d : Frames) (line : List ℕ) → i < length ranges → b ≡ with_sent a (ranges_text (take i ranges))
-    → line ≡ range_line (get_or ranges i d) → c ≡ with_sent b line → c ≡ with_sent a (ranges_text (take (i + 1) ranges))
-range_sent a b c ranges i d line lt p is q =
-    q ∙ (ap (λ (t : Talk). with_sent t line) p
-    ∙ (sent_more a (ranges_text (take i ranges)) line
-    ∙ (ap (λ (x : List ℕ). with_sent a (ranges_text (take i ranges) ++ x)) is ∙ ap (with_sent a) (sym (ranges_more ranges i d lt)))))
+-- and all of them
+pub ranges_left : (text : List ℕ) (ranges : List Frames) (i : ℕ) → (text ++ ranges_text (take i ranges)) ++ ranges_text (drop i ranges) ≡ text ++ ranges_text ranges
+ranges_left text ranges i =
+    append_assoc text (ranges_text (take i ranges)) (ranges_text (drop i ranges))
+    ∙ ap (λ (x : List ℕ). text ++ x) (sym (ranges_append (take i ranges) (drop i ranges)) ∙ ap ranges_text (take-append-drop i ranges))
 
-pub range_cut : (a b c : Talk) (ranges : List Frames) (i : ℕ) (d : Frames) (line : List ℕ) (f : ChannelFault) → i < length ranges
-    → b ≡ with_sent a (ranges_text (take i ranges)) → line ≡ range_line (get_or ranges i d) → SendsAll b c line (Err f) → SendsAll a c (ranges_text ranges) (Err f)
-range_cut a b c ranges i d line f lt p is q =
-    let rest = ranges_text (drop (suc i) ranges) in
-    let first : SendsAll b c (line ++ rest) (Err f) = sends_first b c line rest f q in
-    let whole : ranges_text ranges ≡ ranges_text (take i ranges) ++ (line ++ rest) =
-    ranges_whole ranges i d lt ∙ ap (λ (x : List ℕ). ranges_text (take i ranges) ++ (x ++ rest)) (sym is) in
-    subst (λ (x : List ℕ). SendsAll a c x (Err f)) (sym whole) (sends_both a b c (ranges_text (take i ranges)) (line ++ rest) (Err f) p first)
+-- A text sent a block at a time
+
+pub begins : (a : Talk) (text : List ℕ) → IsBegun a a text text
+begins a text = ([], sent_nothing a, refl)
+
+pub adds_fitting : (a b : Talk) (block now line : List ℕ) → b ≡ a → now ≡ block ++ line → IsBegun a b now (block ++ line)
+adds_fitting a b block now line same is = ([], same ∙ sent_nothing a, is)
+
+pub adds_behind : (a b : Talk) (block now line : List ℕ) → b ≡ with_sent a block → now ≡ line → IsBegun a b now (block ++ line)
+adds_behind a b block now line e is = (block, e, ap (λ (x : List ℕ). block ++ x) is)
+
+pub begun_more : (a b c : Talk) (block now text line : List ℕ) → IsBegun a b block text → IsBegun b c now (block ++ line) → IsBegun a c now (text ++ line)
+begun_more a b c block now text line p q = (
+  p.0 ++ q.0,
+  q.1 ∙ (ap (λ (t : Talk). with_sent t q.0) p.1 ∙ sent_more a p.0 q.0),
+  append_assoc p.0 q.0 now ∙ (ap (λ (x : List ℕ). p.0 ++ x) q.2 ∙ (sym (append_assoc p.0 block line) ∙ ap (λ (x : List ℕ). x ++ line) p.2)),
+)
+
+pub begun_sent : (a b c : Talk) (block text : List ℕ) (r : Result Unit ChannelFault) → IsBegun a b block text → SendsAll b c block r → SendsAll a c text r
+begun_sent a b c block text r p q = subst (λ (x : List ℕ). SendsAll a c x r) p.2 (sends_both a b c p.0 block r p.1 q)
 
 -- An answer received
 

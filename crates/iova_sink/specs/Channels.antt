@@ -92,6 +92,15 @@ abbrev pub SendsAll : Talk → Talk → List ℕ → Result Unit ChannelFault �
 SendsAll old new bytes (Ok u) = new ≡ with_sent old bytes
 SendsAll old new bytes (Err e) = (front : List ℕ) × IsFront front bytes × (new ≡ with_failure (with_sent old front))
 
+-- some of a text was sent, and the rest of it stands in the block
+abbrev pub IsBegun : Talk → Talk → List ℕ → List ℕ → Type 0
+IsBegun old new block text = (front : List ℕ) × (new ≡ with_sent old front) × (front ++ block ≡ text)
+
+-- a line was appended to what stood in the block, of which some was sent; or what stood there was sent in part, and the call failed
+abbrev pub Adds : Talk → Talk → List ℕ → List ℕ → List ℕ → Result Unit ChannelFault → Type 0
+Adds old new block now line (Ok u) = IsBegun old new now (block ++ line)
+Adds old new block now line (Err e) = SendsAll old new block (Err e)
+
 -- the whole request was sent over a connection in which no byte was seen to stand
 abbrev pub Requests : Talk → Talk → List ℕ → Result Unit ChannelFault → Type 0
 Requests old new request (Ok u) = new ≡ with_sent (opened old) request

@@ -1,7 +1,7 @@
 //! A sink over a channel: a peer invalidates, and answers.
-ghost use Rattle.std.specs.Prelude.{◌≡◌, ◌≤◌, [], is_ok, length, codes};
+ghost use Rattle.std.specs.Prelude.{◌≡◌, ◌≤◌, ◌++◌, [], is_ok, length, codes};
 ghost use Rattle.iova_sink.specs.Calls.{with_call, with_gone};
-ghost use Rattle.iova_sink.specs.Channels.{Answers, Requests, SendsAll};
+ghost use Rattle.iova_sink.specs.Channels.{Adds, Answers, Requests, SendsAll};
 ghost use Rattle.iova_sink.specs.Records.{inval_line, reset_line, gone_line, range_line, ranges_text, gone_text, done_line, fail_line};
 
 use crate::asking::{conclude, ready, send_all, tell};
@@ -12,6 +12,9 @@ use crate::sink::{Sink, SinkFault};
 use arrayvec::ArrayVec;
 use iova_range::range::Range;
 use std::marker::Model;
+
+/// The most bytes that are sent at a time of a request of many lines.
+const BLOCK: usize = 4_096;
 
 /// A sink over a channel. It sends a request for each call, one at a time, and takes the answer: `done` or `fail`, the request's
 /// word and its number, and a line feed. Any other bytes, the end of the stream and a failure of the channel, a time-out too,
@@ -78,7 +81,7 @@ impl<C: Channel> Sink for ChannelSink<C> {
     }
 
     /// Sends the line of the client that is gone, and one for each range. Good exactly where the peer answers
-    /// `done gone <client>`. It takes no memory: the request goes out a line at a time.
+    /// `done gone <client>`. It takes no memory: the request goes out a block of 4 KiB at a time.
     fn gone(&mut self, domain: u64, client: u64, ranges: &Vec<Range>) -> Result<(), SinkFault>
         ensures calls { self.new.calls ≡ with_gone self.old.calls domain client ranges.now.items (is_ok result) }
         ensures answers { Answers (C.talk self.old.channel) (C.talk self.new.channel)
@@ -117,15 +120,15 @@ fn send_gone<C: Channel>(
     ensures { SendsAll (C.talk channel.old) (C.talk channel.new) (gone_text domain client ranges.now) result }
 {
     let line = gone_of(domain, client, ranges.len());
-    match send_all(channel, line.as_slice()) {
-        Ok(()) => send_ranges(channel, ranges),
-        Err(fault) => Err(fault),
-    }
+    let mut block = ArrayVec::new();
+    let _fits = block.try_extend_from_slice(line.as_slice());
+    send_ranges(channel, &mut block, ranges)
 }
 
 /// The line of a client that is gone.
 fn gone_of(domain: u64, client: u64, count: usize) -> ArrayVec<u8, MAX_RECORD>
-    ensures { result.items ≡ gone_line domain client count }
+    ensures items { result.items ≡ gone_line domain client count }
+    ensures bound { length result.items ≤ MAX_RECORD }
 {
     let mut line = ArrayVec::new();
     put(&mut line, b"gone");
@@ -136,23 +139,47 @@ fn gone_of(domain: u64, client: u64, count: usize) -> ArrayVec<u8, MAX_RECORD>
     line
 }
 
-/// Sends a line for each range.
-fn send_ranges<C: Channel>(channel: &mut C, ranges: &[Range]) -> Result<(), ChannelFault>
-    ensures { SendsAll (C.talk channel.old) (C.talk channel.new) (ranges_text ranges.now) result }
+/// Sends the block, and a line for each range behind it.
+fn send_ranges<C: Channel>(
+    channel: &mut C,
+    block: &mut ArrayVec<u8, BLOCK>,
+    ranges: &[Range],
+) -> Result<(), ChannelFault>
+    ensures { SendsAll (C.talk channel.old) (C.talk channel.new) (block.old.items ++ ranges_text ranges.now) result }
 {
     for range in ranges {
         let line = line_of(*range);
-        match send_all(channel, line.as_slice()) {
+        match add(channel, block, line.as_slice()) {
             Ok(()) => {}
             Err(fault) => return Err(fault),
         }
     }
+    send_all(channel, block.as_slice())
+}
+
+/// Appends the line to the block, which is sent first where it has no room for it.
+fn add<C: Channel>(
+    channel: &mut C,
+    block: &mut ArrayVec<u8, BLOCK>,
+    line: &[u8],
+) -> Result<(), ChannelFault>
+    requires { length line.now ≤ MAX_RECORD }
+    ensures { Adds (C.talk channel.old) (C.talk channel.new) block.old.items block.new.items line.now result }
+{
+    if block.remaining_capacity() < line.len() {
+        match send_all(channel, block.as_slice()) {
+            Ok(()) => block.clear(),
+            Err(fault) => return Err(fault),
+        }
+    }
+    let _fits = block.try_extend_from_slice(line);
     Ok(())
 }
 
 /// The line of a range.
 fn line_of(range: Range) -> ArrayVec<u8, MAX_RECORD>
-    ensures { result.items ≡ range_line range }
+    ensures items { result.items ≡ range_line range }
+    ensures bound { length result.items ≤ MAX_RECORD }
 {
     let mut line = ArrayVec::new();
     put_digits(&mut line, range.lo());

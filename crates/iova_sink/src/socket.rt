@@ -12,7 +12,11 @@ use std::net::Net;
 use std::os::unix::net::UnixStream;
 use std::time::Duration;
 
-/// A Unix socket at a path, with one time limit for each read and each write. What goes over it no contract can say; contracts
+/// How many bytes are read ahead at a time: more than an answer has.
+const AHEAD: usize = 64;
+
+/// A Unix socket at a path, with one time limit for each read and each write. An answer is one read: what comes with it is read too,
+/// and is handed on with the next call that receives. What goes over it no contract can say; contracts
 /// see its failures, how many looks found bytes, and whether there is a connection.
 #[derive(Drop)]
 pub struct SocketChannel<'a, N: Net> {
@@ -20,8 +24,60 @@ pub struct SocketChannel<'a, N: Net> {
     path: &'a str,
     limit: Duration,
     stream: Option<UnixStream>,
+    ahead: Ahead,
     failed: Count,
     strays: Count,
+}
+
+/// Bytes that were read from the connection and not handed on yet.
+#[derive(Drop)]
+struct Ahead {
+    bytes: [u8; AHEAD],
+    from: usize,
+    to: usize,
+}
+
+impl Ahead {
+    fn new() -> Ahead {
+        Ahead {
+            bytes: [0; AHEAD],
+            from: 0,
+            to: 0,
+        }
+    }
+
+    fn is_empty(&self) -> bool {
+        self.from >= self.to
+    }
+
+    /// Those that are left are lost.
+    fn clear(&mut self) {
+        self.from = 0;
+        self.to = 0;
+    }
+
+    /// Reads the next bytes, where there are none: none at the end of the stream.
+    fn fill(&mut self, stream: &UnixStream) -> io::Result<()> {
+        if self.is_empty() {
+            let n = read_from(stream, &mut self.bytes)?;
+            self.from = 0;
+            self.to = n;
+        }
+        Ok(())
+    }
+
+    /// Hands the next bytes on into the buffer, and gives how many.
+    fn take(&mut self, buffer: &mut [u8]) -> usize
+        ensures { result ≤ length buffer.new }
+    {
+        let Some(standing) = self.bytes.get(self.from..self.to) else {
+            return 0;
+        };
+        let n = standing.len().min(buffer.len());
+        buffer[..n].copy_from_slice(&standing[..n]);
+        self.from = self.from.saturating_add(n);
+        n
+    }
 }
 
 impl<'a, N: Net> Model for SocketChannel<'a, N> {
@@ -50,6 +106,7 @@ impl<'a, N: Net> SocketChannel<'a, N> {
             path,
             limit: Duration::from_secs(seconds),
             stream: None,
+            ahead: Ahead::new(),
             failed: Count::new(),
             strays: Count::new(),
         }
@@ -86,17 +143,21 @@ impl<'a, N: Net> Channel for SocketChannel<'a, N> {
         let Some(stream) = &self.stream else {
             return Err(self.fault());
         };
-        match read_from(stream, buffer) {
-            Ok(n) => Ok(n),
+        match self.ahead.fill(stream) {
+            Ok(()) => Ok(self.ahead.take(buffer)),
             Err(_) => Err(self.fault()),
         }
     }
 
-    /// Reads a byte without waiting: one that stands there is lost.
+    /// Bytes that were read ahead stand there too. Where there are none, it reads a byte without waiting: one that stands there is lost.
     fn look(&mut self) -> Result<Standing, ChannelFault> {
         let Some(stream) = &self.stream else {
             return Err(self.fault());
         };
+        if !self.ahead.is_empty() {
+            self.strays.up();
+            return Ok(Standing::Bytes);
+        }
         match stands_in(stream) {
             Ok(Standing::Bytes) => {
                 self.strays.up();
@@ -109,6 +170,7 @@ impl<'a, N: Net> Channel for SocketChannel<'a, N> {
 
     fn connect(&mut self) -> Result<(), ChannelFault> {
         self.stream = None;
+        self.ahead.clear();
         match connected(self.net, self.path, self.limit) {
             Ok(stream) => {
                 self.stream = Some(stream);
@@ -120,6 +182,7 @@ impl<'a, N: Net> Channel for SocketChannel<'a, N> {
 
     fn close(&mut self) {
         self.stream = None;
+        self.ahead.clear();
     }
 }
 
