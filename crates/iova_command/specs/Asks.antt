@@ -1,6 +1,7 @@
 -- What matched words ask for. Own.
 use Rattle.std.specs.Prelude.{◌≡◌, ◌≢◌, Bool, true, false, List, Option, Some, None, option_map, codes}
 use Rattle.clap.specs.Words.{Row, Text, first_of, one_of}
+use Rattle.iova_command.specs.Levels.{HasLevel}
 use Rattle.iova_command.specs.Numbers.{HasNumber, HasOptional}
 use Rattle.iova_command.specs.Spans.{HasSpans}
 use Rattle.iova_command.specs.declared.asked.Asked.{Asked}
@@ -20,13 +21,17 @@ pub record Plans (rows : List Row) (plan : Plan) : Type 0 where
   pub start : HasNumber rows (codes "start") plan.start
   pub last : HasNumber rows (codes "last") plan.last
   pub sink : first_of (codes "sink") rows ≡ Some plan.sink.now
-  pub sessions : HasNumber rows (codes "sessions") plan.sessions
+  pub sessions : HasOptional rows (codes "sessions") plan.sessions
+  pub session_requests : HasOptional rows (codes "session-requests") plan.session_requests
+  pub idle : HasOptional rows (codes "idle") plan.idle
   pub depot : HasOptional rows (codes "depot") plan.depot
   pub strict : HasFlag rows (codes "strict") plan.strict
   pub record_path : first_of (codes "record") rows ≡ option_map (λ path. path.now) plan.record
+  pub record_steps : HasOptional rows (codes "record-steps") plan.record_steps
   pub windows : HasSpans rows (codes "reserve") plan.start plan.last plan.windows
   pub regions : first_of (codes "reserved-regions") rows ≡ option_map (λ path. path.now) plan.regions
   pub sink_timeout : HasOptional rows (codes "sink-timeout") plan.sink_timeout
+  pub log_level : HasLevel rows (codes "log-level") plan.log_level
 
 -- each part of a check is the option of its name
 pub record PlansCheck (rows : List Row) (plan : CheckPlan) : Type 0 where

@@ -5,8 +5,7 @@ use Rattle.clap.specs.declared.builder.command.Command.{Command}
 use Rattle.clap.specs.declared.builder.command.Command.TheViews.{out-Command}
 use Rattle.clap.specs.declared.builder.action.ArgAction.TheVariants.{Append, Set, SetTrue}
 use Rattle.clap.specs.declared.builder.value_parser.ValueParser.TheVariants as parser
-
-use Rattle.iova_range.specs.declared.limits.TheConstants.{LAST_DOMAIN_ID, MAX_DEPOT, MAX_WORKERS, MAX_DOMAINS, MAX_SESSIONS, MAX_SINK_TIMEOUT, WIDE_TOP}
+use Rattle.iova_range.specs.declared.limits.TheConstants.{LAST_DOMAIN_ID, MAX_DEPOT, MAX_WORKERS, MAX_DOMAINS, MAX_IDLE, MAX_RECORDED_STEPS, MAX_SESSION_REQUESTS, MAX_SESSIONS, MAX_SINK_TIMEOUT, WIDE_TOP}
 
 -- an argument that must be there, named by its place
 abbrev pub place_rule : Text → Rule
@@ -44,20 +43,24 @@ replay_app =
 
 abbrev pub serve_app : App
 serve_app =
-    with_rule (with_rule (with_rule (with_rule (with_rule (with_rule (with_rule (with_rule (with_rule (with_rule (with_rule (with_rule (with_rule (new_app (codes "serve"))
+    with_rule (with_rule (with_rule (with_rule (with_rule (with_rule (with_rule (with_rule (with_rule (with_rule (with_rule (with_rule (with_rule (with_rule (with_rule (with_rule (with_rule (new_app (codes "serve"))
     (option_rule (codes "socket")))
     (number_rule (codes "workers") 1 MAX_WORKERS))
     (number_rule (codes "domain") 0 (MAX_DOMAINS - 1)))
     (number_rule (codes "start") 1 WIDE_TOP))
     (number_rule (codes "last") 1 WIDE_TOP))
     (option_rule (codes "sink")))
-    (number_rule (codes "sessions") 1 MAX_SESSIONS))
+    (optional_number_rule (codes "sessions") 1 MAX_SESSIONS))
+    (optional_number_rule (codes "session-requests") 1 MAX_SESSION_REQUESTS))
+    (optional_number_rule (codes "idle") 1 MAX_IDLE))
     (optional_number_rule (codes "depot") 0 MAX_DEPOT))
     (flag_rule (codes "strict")))
     (optional_rule (codes "record")))
+    (optional_number_rule (codes "record-steps") 1 MAX_RECORDED_STEPS))
     (repeated_rule (codes "reserve")))
     (optional_rule (codes "reserved-regions")))
-    (optional_number_rule (codes "sink-timeout") 1 MAX_SINK_TIMEOUT)
+    (optional_number_rule (codes "sink-timeout") 1 MAX_SINK_TIMEOUT))
+    (optional_rule (codes "log-level"))
 
 abbrev pub ask_app : App
 ask_app = with_rule (new_app (codes "ask")) (place_rule (codes "path"))

@@ -41,11 +41,11 @@ impl<'a> CheckPlan<'a> {
         let plan = CheckPlan {
             path: found.get_str("file")?,
             quiet: found.get_flag("quiet"),
-            first: optional(found, "first", WIDE_TOP)?,
-            last: optional(found, "last", WIDE_TOP)?,
+            first: optional(found, "first", 0, WIDE_TOP)?,
+            last: optional(found, "last", 0, WIDE_TOP)?,
             regions: found.get_str("reserved-regions"),
             ftrace: found.get_flag("ftrace"),
-            did: optional(found, "did", LAST_DOMAIN_ID)?,
+            did: optional(found, "did", 0, LAST_DOMAIN_ID)?,
         };
         if plan.did.is_some() && !plan.ftrace {
             return None;

@@ -3,10 +3,10 @@ ghost use Rattle.std.specs.Prelude.{◌≡◌, ◌<◌, ◌^◌, IfOk, false};
 ghost use Rattle.clap.specs.Words.{App, rule_of, with_rule, with_subcommand};
 ghost use Rattle.iova_command.specs.Commands.{IsCommand, place_rule, flag_rule, option_rule, optional_rule, repeated_rule, number_rule, optional_number_rule, replay_app, serve_app, ask_app, check_app, iovad_app};
 
-use crate::check_plan::LAST_DOMAIN_ID;
 use clap::{Arg, ArgAction, Command, value_parser};
 use iova_range::limits::{
-    MAX_DEPOT, MAX_DOMAINS, MAX_SESSIONS, MAX_SINK_TIMEOUT, MAX_WORKERS, WIDE_TOP,
+    LAST_DOMAIN_ID, MAX_DEPOT, MAX_DOMAINS, MAX_IDLE, MAX_RECORDED_STEPS, MAX_SESSION_REQUESTS,
+    MAX_SESSIONS, MAX_SINK_TIMEOUT, MAX_WORKERS, WIDE_TOP,
 };
 use std::alloc::{AllocError, Global};
 
@@ -17,9 +17,11 @@ rattle-kit-13f logic dac8208d650f15bf";
 /// The ways to call the program, which stand in its help and after words that aren't understood.
 const USAGE: &str = "iovad < FILE
        iovad replay [--report] [--log FILE] FILE
-       iovad serve --socket PATH --workers N --domain N --start N --last N --sink FILE --sessions K
-                   [--depot N] [--strict] [--record FILE] [--reserve FIRST-LAST]..
+       iovad serve --socket PATH --workers N --domain N --start N --last N --sink PATH
+                   [--sessions N] [--session-requests N] [--idle SECONDS] [--depot N] [--strict]
+                   [--record FILE [--record-steps N]] [--reserve FIRST-LAST]..
                    [--reserved-regions FILE] [--sink-timeout SECONDS]
+                   [--log-level error|warn|info|debug]
        iovad ask PATH
        iovad check [--quiet] [--first N] [--last N] [--reserved-regions PATH]
                    [--ftrace [--did N]] FILE";
@@ -122,7 +124,7 @@ fn serve_command<'a>(alloc: Global) -> Result<Command<'a>, AllocError>
             alloc,
             "socket",
             "PATH",
-            "The socket's path, where nothing stands yet",
+            "The socket's path, where nothing stands or a socket that a daemon left",
         ),
     );
     let command = with_arg(
@@ -170,18 +172,38 @@ fn serve_command<'a>(alloc: Global) -> Result<Command<'a>, AllocError>
         path(
             alloc,
             "sink",
-            "FILE",
+            "PATH",
             "The file that the records of flushes are appended to, or the socket of a peer that answers",
         ),
     );
     let command = with_arg(
         command,
-        number(
+        optional_number(
             alloc,
             "sessions",
             1,
             MAX_SESSIONS,
-            "How many sessions are served, 1 to 65536",
+            "How many sessions are served, 1 to 65536; without it they have no end",
+        ),
+    );
+    let command = with_arg(
+        command,
+        optional_number(
+            alloc,
+            "session-requests",
+            1,
+            MAX_SESSION_REQUESTS,
+            "The most requests of a session, 1 to 9223372036854775807; without it 65536",
+        ),
+    );
+    let command = with_arg(
+        command,
+        optional_number(
+            alloc,
+            "idle",
+            1,
+            MAX_IDLE,
+            "The seconds after which a session ends that sends nothing, 1 to 86400; without it none",
         ),
     );
     let command = with_arg(
@@ -204,7 +226,17 @@ fn serve_command<'a>(alloc: Global) -> Result<Command<'a>, AllocError>
             alloc,
             "record",
             "FILE",
-            "The file that the domain's first 100000 steps are written to, as a trace",
+            "The file that the domain's first steps are written to, as a trace",
+        ),
+    );
+    let command = with_arg(
+        command,
+        optional_number(
+            alloc,
+            "record-steps",
+            1,
+            MAX_RECORDED_STEPS,
+            "With --record: how many steps, 1 to 1000000; without it 100000",
         ),
     );
     let command = with_arg(
@@ -225,7 +257,7 @@ fn serve_command<'a>(alloc: Global) -> Result<Command<'a>, AllocError>
             "A group's reserved_regions, or - for standard input: their frames are given to nobody",
         ),
     );
-    with_arg(
+    let command = with_arg(
         command,
         optional_number(
             alloc,
@@ -233,6 +265,15 @@ fn serve_command<'a>(alloc: Global) -> Result<Command<'a>, AllocError>
             1,
             MAX_SINK_TIMEOUT,
             "The seconds that a sink which is a socket has to answer, 1 to 3600; without it 10",
+        ),
+    );
+    with_arg(
+        command,
+        optional_path(
+            alloc,
+            "log-level",
+            "LEVEL",
+            "Which notices are told on standard error: error, warn, info or debug; without it warn",
         ),
     )
 }

@@ -2,17 +2,20 @@
 ghost use Rattle.std.specs.Prelude.{◌≡◌, ◌<◌, ◌≤◌, IfSome, map};
 ghost use Rattle.std.specs.Option.{ForSome};
 ghost use Rattle.clap.specs.Words.{rows_of, found_of};
+ghost use Rattle.iova_command.specs.Levels.{HasLevel, level_name};
 ghost use Rattle.iova_command.specs.Numbers.{HasNumber, HasOptional};
 ghost use Rattle.iova_command.specs.Spans.{HasSpans, InsertsSpan, InsertsSpans};
-ghost use Rattle.iova_range.specs.declared.limits.TheConstants.{MAX_DEPOT, MAX_WORKERS, MAX_DOMAINS, MAX_SESSIONS, MAX_SINK_TIMEOUT, WIDE_TOP};
+ghost use Rattle.iova_range.specs.declared.limits.TheConstants.{MAX_DEPOT, MAX_WORKERS, MAX_DOMAINS, MAX_IDLE, MAX_RECORDED_STEPS, MAX_SESSION_REQUESTS, MAX_SESSIONS, MAX_SINK_TIMEOUT, WIDE_TOP};
 
 use clap::ArgMatches;
 use iova_range::limits::{
-    MAX_DEPOT, MAX_DOMAINS, MAX_SESSIONS, MAX_SINK_TIMEOUT, MAX_WORKERS, WIDE_TOP,
+    MAX_DEPOT, MAX_DOMAINS, MAX_IDLE, MAX_RECORDED_STEPS, MAX_SESSION_REQUESTS, MAX_SESSIONS,
+    MAX_SINK_TIMEOUT, MAX_WORKERS, WIDE_TOP,
 };
 use iova_range::range::Range;
 use iova_regions::span::read_span;
 use iova_regions::windows::Windows;
+use log::LevelFilter;
 
 /// The options of `serve`, each in its range. Own.
 #[derive(Drop)]
@@ -29,54 +32,96 @@ pub struct Plan<'a> {
     pub last: u64,
     /// The path of the file that the records of flushes are appended to, or of the socket of a peer that answers.
     pub sink: &'a str,
-    /// How many sessions are served.
-    pub sessions: u64,
+    /// How many sessions are served; none: sessions without end.
+    pub sessions: Option<u64>,
+    /// The most requests of a session, where it is said.
+    pub session_requests: Option<u64>,
+    /// How many seconds a session may be idle; none: for as long as it likes.
+    pub idle: Option<u64>,
     /// How many magazines the depot of the second profile takes; none: the domain has the first profile.
     pub depot: Option<u64>,
     /// Whether a range that is freed is flushed at once.
     pub strict: bool,
     /// The path of the file that the record of the domain's steps is written to, where one is wanted.
     pub record: Option<&'a str>,
+    /// How many steps are recorded, where it is said.
+    pub record_steps: Option<u64>,
     /// The windows that are named, as far as they are within the bounds: frames that are given to nobody.
     pub windows: Windows,
     /// The path of the file with a group's reserved regions, or `-` for standard input, which are windows too.
     pub regions: Option<&'a str>,
     /// How many seconds a sink that answers has for that, where it is said.
     pub sink_timeout: Option<u64>,
+    /// Which notices are told: those of this level and of those above it.
+    pub log_level: LevelFilter,
     pub ghost workers_in_range: { (1 ≤ workers) × (workers ≤ MAX_WORKERS) },
     pub ghost domain_in_range: { domain < MAX_DOMAINS },
     pub ghost start_in_range: { (1 ≤ start) × (start ≤ WIDE_TOP) },
     pub ghost last_in_range: { (1 ≤ last) × (last ≤ WIDE_TOP) },
-    pub ghost sessions_in_range: { (1 ≤ sessions) × (sessions ≤ MAX_SESSIONS) },
+    pub ghost sessions_in_range: { ForSome sessions (λ n. (1 ≤ n) × (n ≤ MAX_SESSIONS)) },
+    pub ghost requests_in_range: { ForSome session_requests (λ n. (1 ≤ n) × (n ≤ MAX_SESSION_REQUESTS)) },
+    pub ghost idle_in_range: { ForSome idle (λ n. (1 ≤ n) × (n ≤ MAX_IDLE)) },
     pub ghost depot_in_range: { ForSome depot (λ n. n ≤ MAX_DEPOT) },
+    pub ghost steps_in_range: { ForSome record_steps (λ n. (1 ≤ n) × (n ≤ MAX_RECORDED_STEPS)) },
     pub ghost timeout_in_range: { ForSome sink_timeout (λ n. n ≤ MAX_SINK_TIMEOUT) },
 }
 
 impl<'a> Plan<'a> {
     ghost use Rattle.iova_command.specs.Asks.{Plans};
 
-    /// What the matches of `serve` say. None where an option is missing, or its number is outside its range, or where a window
-    /// is of another form or makes too many.
+    /// What the matches of `serve` say. None where an option is missing, its number is outside its range, a level is none of the
+    /// four, a window is of another form or makes too many, or where a count of steps is said and no record is wanted.
     pub(crate) fn of(found: &ArgMatches<'a>) -> Option<Plan<'a>>
         ensures { IfSome result (λ p. Plans (rows_of (found_of found.now)) p) }
     {
         let start = number(found, "start", 1, WIDE_TOP)?;
         let last = number(found, "last", 1, WIDE_TOP)?;
-        Some(Plan {
+        let plan = Plan {
             socket: found.get_str("socket")?,
             workers: number(found, "workers", 1, MAX_WORKERS)?,
             domain: number(found, "domain", 0, MAX_DOMAINS - 1)?,
             start,
             last,
             sink: found.get_str("sink")?,
-            sessions: number(found, "sessions", 1, MAX_SESSIONS)?,
-            depot: optional(found, "depot", MAX_DEPOT)?,
+            sessions: optional(found, "sessions", 1, MAX_SESSIONS)?,
+            session_requests: optional(found, "session-requests", 1, MAX_SESSION_REQUESTS)?,
+            idle: optional(found, "idle", 1, MAX_IDLE)?,
+            depot: optional(found, "depot", 0, MAX_DEPOT)?,
             strict: found.get_flag("strict"),
             record: found.get_str("record"),
+            record_steps: optional(found, "record-steps", 1, MAX_RECORDED_STEPS)?,
             windows: windows(found, "reserve", start, last)?,
             regions: found.get_str("reserved-regions"),
-            sink_timeout: optional(found, "sink-timeout", MAX_SINK_TIMEOUT)?,
-        })
+            sink_timeout: optional(found, "sink-timeout", 1, MAX_SINK_TIMEOUT)?,
+            log_level: level(found, "log-level")?,
+        };
+        if plan.record_steps.is_some() && plan.record.is_none() {
+            return None;
+        }
+        Some(plan)
+    }
+}
+
+/// The level of an option that may be missing: warnings and errors then. None where it is none of the four.
+fn level(found: &ArgMatches<'_>, name: &str) -> Option<LevelFilter>
+    ensures { IfSome result (λ l. HasLevel (rows_of (found_of found.now)) name.now l) }
+{
+    match found.get_str(name) {
+        None => Some(LevelFilter::Warn),
+        Some(text) => level_of(text),
+    }
+}
+
+/// The level of this name. None where it is none of the four.
+fn level_of(name: &str) -> Option<LevelFilter>
+    ensures { IfSome result (λ l. name.now ≡ level_name l) }
+{
+    match name {
+        "error" => Some(LevelFilter::Error),
+        "warn" => Some(LevelFilter::Warn),
+        "info" => Some(LevelFilter::Info),
+        "debug" => Some(LevelFilter::Debug),
+        _ => None,
     }
 }
 
@@ -137,13 +182,18 @@ fn number(found: &ArgMatches<'_>, name: &str, low: u64, high: u64) -> Option<u64
     Some(n)
 }
 
-/// The number of an option that may be missing, where it is at most `high`.
-pub(crate) fn optional(found: &ArgMatches<'_>, name: &str, high: u64) -> Option<Option<u64>>
-    ensures range { IfSome result (λ o. ForSome o (λ n. n ≤ high)) }
+/// The number of an option that may be missing, where it is from `low` to `high`.
+pub(crate) fn optional(
+    found: &ArgMatches<'_>,
+    name: &str,
+    low: u64,
+    high: u64,
+) -> Option<Option<u64>>
+    ensures range { IfSome result (λ o. ForSome o (λ n. (low ≤ n) × (n ≤ high))) }
     ensures read { IfSome result (λ o. HasOptional (rows_of (found_of found.now)) name.now o) }
 {
     match found.get_one::<u64>(name) {
-        Some(n) if n > high => None,
+        Some(n) if n < low || n > high => None,
         number => Some(number),
     }
 }

@@ -11,7 +11,7 @@ use Rattle.iova_proto.specs.declared.answer.Answer.TheVariants as answer
 use Rattle.iova_proto.specs.declared.request.Request.{Request}
 use Rattle.iova_proto.specs.declared.request.Request.TheVariants as request
 use Rattle.iova_session.specs.declared.end.End.TheVariants as ends
-use Rattle.iova_session.specs.Sessions.{Serves, StopsAtBye}
+use Rattle.iova_session.specs.Sessions.{ServesWithin, StopsAtBye}
 use Rattle.iova_session.specs.Pairs.{Pair, asked, told, requests_text, answers_text}
 use Rattle.iova_session.specs.Desks.{client_after, given_in, taken_in, given_by, taken_by, MovesBy, AreAnswers, IsFirstAnswer, next_client, count_listed}
 use Rattle.iova_session.specs.Posts.{EndsClientOf, EndsClient, EndsFrom}
@@ -91,9 +91,9 @@ none_opened number ps opened old new was e none answers moved =
     subst (λ (o : Option ℕ). EndsClientOf o ps None old new was was) (sym none ∙ e) (refl, same, refl)
 
 -- a session of which nothing was read
-pub nothing_served : (most : ℕ) → Serves most [] [] [] 0 ends.NoMemory
+pub nothing_served : (most bound : ℕ) → ServesWithin most bound [] [] [] 0 ends.NoMemory
 unfolding asked told requests_text answers_text StopsAtBye
-nothing_served most = record { rest = []; requests = record { good = tt; whole = refl; byes = tt; few = omega arith }; few = omega arith; says = (0, refl) }
+nothing_served most bound = record { rest = []; requests = record { good = tt; whole = refl; byes = tt; few = omega arith }; few = omega arith; says = (0, refl) }
 
 pub nothing_answered : (number : ℕ) → AreAnswers number None 0 []
 unfolding AreAnswers

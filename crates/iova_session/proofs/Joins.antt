@@ -6,7 +6,7 @@ use Rattle.iova_range.specs.declared.limits.TheConstants.{MAX_SESSION_READS}
 use Rattle.iova_proto.specs.Requests.{IsRequest}
 use Rattle.iova_proto.specs.declared.request.Request.{Request}
 use Rattle.iova_session.specs.Pairs.{Pair, asked, told, requests_text, answers_text}
-use Rattle.iova_session.specs.Sessions.{bad_line, too_many, HasNoBye, StopsAtBye, EndsInBye, BeginsWith, IsPastLimit, IsLastLine, EndsSo, Serves}
+use Rattle.iova_session.specs.Sessions.{bad_line, too_many, HasNoBye, StopsAtBye, EndsInBye, BeginsWith, IsPastLimit, IsLastLine, EndsSo, Serves, ServesWithin}
 use Rattle.iova_session.specs.Rounds.{AllAnswered}
 use Rattle.iova_session.specs.declared.end.End.{End}
 use Rattle.iova_session.specs.declared.end.End.TheVariants as ends
@@ -81,40 +81,40 @@ AllAnswered-then bytes piece next more w v ps qs a b = record {
   answered = text_both ps qs w v a.answered b.answered;
 }
 
-limit_both : (most here reads : ℕ) (ps qs : List Pair) (rest : List ℕ) → length ps + here ≡ most → IsPastLimit here (asked qs) rest 0
-    → IsPastLimit most (asked (ps ++ qs)) rest reads
-limit_both most here reads ps qs rest l (inl a) =
+limit_both : (most bound here reads : ℕ) (ps qs : List Pair) (rest : List ℕ) → length ps + here ≡ most → IsPastLimit here MAX_SESSION_READS (asked qs) rest 0
+    → IsPastLimit most bound (asked (ps ++ qs)) rest reads
+limit_both most bound here reads ps qs rest l (inl a) =
     inl (omega (arith, length-asked (ps ++ qs), length-asked qs, length-append {A = Pair} ps qs, a.0, l), a.1)
-limit_both most here reads ps qs rest l (inr b) = absurd (omega (arith, b.0))
+limit_both most bound here reads ps qs rest l (inr b) = absurd (omega (arith, b.0))
 
-last_line_both : (most here reads : ℕ) (ps qs : List Pair) (rest line : List ℕ) → length ps + here ≡ most → HasNoBye (asked ps)
-    → IsLastLine here (asked qs) rest 0 line → IsLastLine most (asked (ps ++ qs)) rest reads line
-last_line_both most here reads ps qs rest line l h (inl a) = inl a
-last_line_both most here reads ps qs rest line l h (inr (inl b)) = inr (inl (b.0, no_bye_both ps qs h b.1, b.2))
-last_line_both most here reads ps qs rest line l h (inr (inr d)) =
-    inr (inr (d.0, no_bye_both ps qs h d.1, limit_both most here reads ps qs rest l d.2))
+last_line_both : (most bound here reads : ℕ) (ps qs : List Pair) (rest line : List ℕ) → length ps + here ≡ most → HasNoBye (asked ps)
+    → IsLastLine here MAX_SESSION_READS (asked qs) rest 0 line → IsLastLine most bound (asked (ps ++ qs)) rest reads line
+last_line_both most bound here reads ps qs rest line l h (inl a) = inl a
+last_line_both most bound here reads ps qs rest line l h (inr (inl b)) = inr (inl (b.0, no_bye_both ps qs h b.1, b.2))
+last_line_both most bound here reads ps qs rest line l h (inr (inr d)) =
+    inr (inr (d.0, no_bye_both ps qs h d.1, limit_both most bound here reads ps qs rest l d.2))
 
-says_both : (most here reads : ℕ) (w v rest : List ℕ) (ps qs : List Pair) (end : End) → length ps + here ≡ most
-    → w ≡ answers_text (told ps) → HasNoBye (asked ps) → EndsSo here (asked qs) rest 0 (answers_text (told qs)) v end
-    → EndsSo most (asked (ps ++ qs)) rest reads (answers_text (told (ps ++ qs))) (w ++ v) end
-says_both most here reads w v rest ps qs ends.Bye l e h b = (last_bye_both ps qs h b.0, text_both ps qs w v e b.1)
-says_both most here reads w v rest ps qs ends.Closed l e h b = (no_bye_both ps qs h b.0, b.1, text_both ps qs w v e b.2)
-says_both most here reads w v rest ps qs ends.LinkFault l e h b =
-    (b.0, length w + b.1, last_line_both most here reads ps qs rest b.0 l h b.2, cut_both ps qs w v b.0 b.1 e b.3)
-says_both most here reads w v rest ps qs ends.BadLine l e h b = (no_bye_both ps qs h b.0, b.1, line_both ps qs w v bad_line e b.2)
-says_both most here reads w v rest ps qs ends.TooMany l e h b =
-    (no_bye_both ps qs h b.0, limit_both most here reads ps qs rest l b.1, line_both ps qs w v too_many e b.2)
-says_both most here reads w v rest ps qs ends.NoMemory l e h b = (
+says_both : (most bound here reads : ℕ) (w v rest : List ℕ) (ps qs : List Pair) (end : End) → length ps + here ≡ most
+    → w ≡ answers_text (told ps) → HasNoBye (asked ps) → EndsSo here MAX_SESSION_READS (asked qs) rest 0 (answers_text (told qs)) v end
+    → EndsSo most bound (asked (ps ++ qs)) rest reads (answers_text (told (ps ++ qs))) (w ++ v) end
+says_both most bound here reads w v rest ps qs ends.Bye l e h b = (last_bye_both ps qs h b.0, text_both ps qs w v e b.1)
+says_both most bound here reads w v rest ps qs ends.Closed l e h b = (no_bye_both ps qs h b.0, b.1, text_both ps qs w v e b.2)
+says_both most bound here reads w v rest ps qs ends.LinkFault l e h b =
+    (b.0, length w + b.1, last_line_both most bound here reads ps qs rest b.0 l h b.2, cut_both ps qs w v b.0 b.1 e b.3)
+says_both most bound here reads w v rest ps qs ends.BadLine l e h b = (no_bye_both ps qs h b.0, b.1, line_both ps qs w v bad_line e b.2)
+says_both most bound here reads w v rest ps qs ends.TooMany l e h b =
+    (no_bye_both ps qs h b.0, limit_both most bound here reads ps qs rest l b.1, line_both ps qs w v too_many e b.2)
+says_both most bound here reads w v rest ps qs ends.NoMemory l e h b = (
   length w + b.0,
   ap (λ x. w ++ x) b.1 ∙ sym (take-append-add w (answers_text (told qs)) b.0)
       ∙ ap (take (length w + b.0)) (text_both ps qs w (answers_text (told qs)) e refl),
 )
 
 -- a session goes on, and ends at the next piece
-pub Serves-then : (most here reads : ℕ) (bytes piece next w v : List ℕ) (ps qs : List Pair) (end : End) → length ps + here ≡ most
-    → reads ≤ MAX_SESSION_READS → AllAnswered bytes ps next w → Serves here (next ++ piece) qs v 0 end
-    → Serves most (bytes ++ piece) (ps ++ qs) (w ++ v) reads end
-Serves-then most here reads bytes piece next w v ps qs end l few a b = record {
+pub Serves-then : (most bound here reads : ℕ) (bytes piece next w v : List ℕ) (ps qs : List Pair) (end : End) → length ps + here ≡ most
+    → reads ≤ bound → AllAnswered bytes ps next w → Serves here (next ++ piece) qs v 0 end
+    → ServesWithin most bound (bytes ++ piece) (ps ++ qs) (w ++ v) reads end
+Serves-then most bound here reads bytes piece next w v ps qs end l few a b = record {
   rest = b.rest;
   requests = record {
     good = good_both ps qs a.lines.good b.requests.good;
@@ -123,7 +123,7 @@ Serves-then most here reads bytes piece next w v ps qs end l few a b = record {
     few = omega (arith, length-asked (ps ++ qs), length-asked qs, length-append {A = Pair} ps qs, b.requests.few, l);
   };
   few = few;
-  says = says_both most here reads w v b.rest ps qs end l a.answered a.byes b.says;
+  says = says_both most bound here reads w v b.rest ps qs end l a.answered a.byes b.says;
 }
 
 -- what stands in the bytes where a session goes on

@@ -9,7 +9,7 @@ use Rattle.iova_text.specs.Lines.{IsUnended}
 use Rattle.iova_proto.specs.Requests.{IsRequest}
 use Rattle.iova_proto.specs.declared.request.Request.{Request}
 use Rattle.iova_session.specs.Pairs.{Pair, asked, told, requests_text, answers_text}
-use Rattle.iova_session.specs.Sessions.{bad_line, too_many, HasNoBye, StopsAtBye, EndsInBye, BeginsWith, IsLastLine, EndsSo, Serves, ends_at}
+use Rattle.iova_session.specs.Sessions.{bad_line, too_many, HasNoBye, StopsAtBye, EndsInBye, BeginsWith, IsLastLine, EndsSo, Serves, ServesWithin, ends_at}
 use Rattle.iova_session.specs.Rounds.{IsLines, AllAnswered, Gathers, IsCut, AsksRun}
 use Rattle.iova_session.specs.declared.end.End.{End}
 use Rattle.iova_session.specs.declared.end.End.TheVariants as ends
@@ -99,17 +99,17 @@ Serves-bye here used next piece w rs new qs l h e f = record {
 }
 
 -- a line of its own ends a session, or the link fails in it
-pub Serves-refused : (most reads : ℕ) (bytes rest v line : List ℕ) (qs : List Pair) (a b : Option (List ℕ)) (end result : End) → reads ≤ MAX_SESSION_READS
-    → BeginsWith most bytes (asked qs) rest → v ≡ answers_text (told qs) → IsLastLine most (asked qs) rest reads line
-    → EndsSo most (asked qs) rest reads (answers_text (told qs)) (v ++ line) end
+pub Serves-refused : (most bound reads : ℕ) (bytes rest v line : List ℕ) (qs : List Pair) (a b : Option (List ℕ)) (end result : End) → reads ≤ bound
+    → BeginsWith most bytes (asked qs) rest → v ≡ answers_text (told qs) → IsLastLine most bound (asked qs) rest reads line
+    → EndsSo most bound (asked qs) rest reads (answers_text (told qs)) (v ++ line) end
     → ((result ≡ end) × Appends a b line) ⊎ ((result ≡ ends.LinkFault) × ((n : ℕ) × Appends a b (take n line)))
-    → (w : List ℕ) × Appends a b w × Serves most bytes qs (v ++ w) reads result
-Serves-refused most reads bytes rest v line qs a b end result few start e last says (inl t) =
-    let P : End → Type 0 = λ x. Serves most bytes qs (v ++ line) reads x in
+    → (w : List ℕ) × Appends a b w × ServesWithin most bound bytes qs (v ++ w) reads result
+Serves-refused most bound reads bytes rest v line qs a b end result few start e last says (inl t) =
+    let P : End → Type 0 = λ x. ServesWithin most bound bytes qs (v ++ line) reads x in
     (line, t.1, subst P (sym t.0) (record { rest = rest; requests = start; few = few; says = says }))
-Serves-refused most reads bytes rest v line qs a b end result few start e last says (inr t) =
+Serves-refused most bound reads bytes rest v line qs a b end result few start e last says (inr t) =
     let n = t.1.0 in
-    let P : End → Type 0 = λ x. Serves most bytes qs (v ++ take n line) reads x in (
+    let P : End → Type 0 = λ x. ServesWithin most bound bytes qs (v ++ take n line) reads x in (
       take n line,
       t.1.1,
       subst P (sym t.0) (record {
@@ -126,7 +126,7 @@ pub Serves-bad : (here used : ℕ) (next piece w : List ℕ) (rs : List Request)
     → (v : List ℕ) × Appends a b v × Serves here (next ++ piece) qs (w ++ v) 0 end
 Serves-bad here used next piece w rs new qs a b end l h e f t =
     let none = subst HasNoBye (sym e) h.0 in
-    Serves-refused here 0 (next ++ piece) h.1.0 w bad_line qs a b ends.BadLine end (omega arith)
+    Serves-refused here MAX_SESSION_READS 0 (next ++ piece) h.1.0 w bad_line qs a b ends.BadLine end (omega arith)
     (begins_all here (next ++ piece) h.1.0 rs (asked qs) e l (StopsAtBye-none rs h.0) h.1.1) f
     (inr (inl (refl, none, h.1.2))) (none, h.1.2, ap (λ x. x ++ bad_line) f) t
 
@@ -137,7 +137,7 @@ pub Serves-limit : (here used : ℕ) (next piece w : List ℕ) (rs : List Reques
 Serves-limit here used next piece w rs new qs a b end l h e f t =
     let none = subst HasNoBye (sym e) h.0 in
     let all : length (asked qs) ≡ here = ap length e ∙ h.1 in
-    Serves-refused here 0 (next ++ piece) h.2.0 w too_many qs a b ends.TooMany end (omega arith)
+    Serves-refused here MAX_SESSION_READS 0 (next ++ piece) h.2.0 w too_many qs a b ends.TooMany end (omega arith)
     (begins_all here (next ++ piece) h.2.0 rs (asked qs) e l (StopsAtBye-none rs h.0) h.2.1) f
     (inr (inr (refl, none, inl (all, h.2.2)))) (none, inl (all, h.2.2), ap (λ x. x ++ too_many) f) t
 
@@ -153,7 +153,7 @@ pub Serves-whole : (most here at : ℕ) (kept piece next w v : List ℕ) (ps qs 
 Serves-whole most here at kept piece next w v ps qs end l a b =
     let P : List ℕ → Type 0 = λ x. Serves most x (ps ++ qs) (w ++ v) 0 end in
     subst P (parts kept piece at)
-    (Serves-then most here 0 (kept ++ take at piece) (take (length piece - at) (drop at piece)) next w v ps qs end l (omega arith) a b)
+    (Serves-then most MAX_SESSION_READS here 0 (kept ++ take at piece) (take (length piece - at) (drop at piece)) next w v ps qs end l (omega arith) a b)
 
 pub AllAnswered-whole : (at : ℕ) (kept piece next n w v : List ℕ) (ps qs : List Pair)
     → AllAnswered (kept ++ take at piece) ps next w → AllAnswered (next ++ take (length piece - at) (drop at piece)) qs n v
@@ -181,9 +181,9 @@ ends_at-cut end (inl a) = ap ends_at a
 ends_at-cut end (inr b) = ap ends_at b
 
 -- where a session goes on, it may as well end: as the link fails, as it comes to its end, and at the most reads
-pub Serves-fault : (most here reads : ℕ) (taken next written : List ℕ) (ps : List Pair) → length ps + here ≡ most → reads ≤ MAX_SESSION_READS
-    → AllAnswered taken ps next written → Serves most taken ps written reads ends.LinkFault
-Serves-fault most here reads taken next written ps l few a = record {
+pub Serves-fault : (most bound here reads : ℕ) (taken next written : List ℕ) (ps : List Pair) → length ps + here ≡ most → reads ≤ bound
+    → AllAnswered taken ps next written → ServesWithin most bound taken ps written reads ends.LinkFault
+Serves-fault most bound here reads taken next written ps l few a = record {
   rest = next;
   requests = begins most here taken next written ps l a;
   few = few;
@@ -196,21 +196,21 @@ Serves-fault most here reads taken next written ps l few a = record {
   );
 }
 
-pub Serves-closed : (most here reads : ℕ) (taken next written : List ℕ) (ps : List Pair) → length ps + here ≡ most → reads ≤ MAX_SESSION_READS
-    → IsUnended next → AllAnswered taken ps next written → Serves most taken ps written reads ends.Closed
-Serves-closed most here reads taken next written ps l few u a = record {
+pub Serves-closed : (most bound here reads : ℕ) (taken next written : List ℕ) (ps : List Pair) → length ps + here ≡ most → reads ≤ bound
+    → IsUnended next → AllAnswered taken ps next written → ServesWithin most bound taken ps written reads ends.Closed
+Serves-closed most bound here reads taken next written ps l few u a = record {
   rest = next;
   requests = begins most here taken next written ps l a;
   few = few;
   says = (a.byes, u, a.answered);
 }
 
-pub Serves-worn : (most here reads : ℕ) (taken next written : List ℕ) (ps : List Pair) (a b : Option (List ℕ)) (end : End) → length ps + here ≡ most
-    → reads ≡ MAX_SESSION_READS → IsUnended next → AllAnswered taken ps next written
+pub Serves-worn : (most bound here reads : ℕ) (taken next written : List ℕ) (ps : List Pair) (a b : Option (List ℕ)) (end : End) → length ps + here ≡ most
+    → reads ≡ bound → IsUnended next → AllAnswered taken ps next written
     → ((end ≡ ends.TooMany) × Appends a b too_many) ⊎ ((end ≡ ends.LinkFault) × ((n : ℕ) × Appends a b (take n too_many)))
-    → (v : List ℕ) × Appends a b v × Serves most taken ps (written ++ v) reads end
-Serves-worn most here reads taken next written ps a b end l r u h t =
-    Serves-refused most reads taken next written too_many ps a b ends.TooMany end (omega arith)
+    → (v : List ℕ) × Appends a b v × ServesWithin most bound taken ps (written ++ v) reads end
+Serves-worn most bound here reads taken next written ps a b end l r u h t =
+    Serves-refused most bound reads taken next written too_many ps a b ends.TooMany end (omega arith)
     (begins most here taken next written ps l h) h.answered
     (inr (inr (refl, h.byes, inr (r, u)))) (h.byes, inr (r, u), ap (λ x. x ++ too_many) h.answered) t
 
@@ -218,8 +218,8 @@ pub IsUnended-none : IsUnended []
 IsUnended-none = record { one = refl; short = omega arith }
 
 -- no room at the start
-pub Serves-no_room : (most : ℕ) → Serves most [] [] [] 0 ends.NoMemory
-Serves-no_room most = record {
+pub Serves-no_room : (most bound : ℕ) → ServesWithin most bound [] [] [] 0 ends.NoMemory
+Serves-no_room most bound = record {
   rest = [];
   requests = begins most most [] [] [] [] (omega arith) AllAnswered-none;
   few = omega arith;

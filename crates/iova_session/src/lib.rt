@@ -17,5 +17,6 @@ pub mod retry;
 pub mod run;
 pub mod serve;
 mod session;
+pub mod session_limits;
 pub mod socket_link;
 mod together;

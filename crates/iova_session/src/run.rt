@@ -7,7 +7,7 @@ ghost use Rattle.iova_keep.specs.Views.{WhereKnown};
 ghost use Rattle.iova_session.specs.Domains.{LeavesOthers};
 ghost use Rattle.iova_session.specs.Leading.{EndDoes, LeadsFrom, SessionLeads, standing};
 ghost use Rattle.iova_session.specs.Pairs.{Pair};
-ghost use Rattle.iova_session.specs.Sessions.{Serves, failures_at, ends_at};
+ghost use Rattle.iova_session.specs.Sessions.{Serves, ServesWithin, failures_at, ends_at};
 ghost use Rattle.iova_session.specs.Desks.{AreAnswers, KeepsPlace, MovesBy, given_in, taken_in, client_after};
 ghost use Rattle.iova_session.specs.Posts.{EndsClient, EndsFrom};
 
@@ -16,8 +16,9 @@ use crate::keeper_desk::{KeeperDesk, Lent, Opening};
 use crate::leaving::{Leaving, leave};
 use crate::link::Link;
 use crate::post::{Post, take_room};
-use crate::serve::serve;
+use crate::serve::serve_within;
 use crate::session::Session;
+use crate::session_limits::SessionLimits;
 use iova_keep::ending::Ending;
 use iova_keep::keep::Keep;
 use iova_keep::seat::Seat;
@@ -25,7 +26,6 @@ use iova_laws::replies::others_keep_their_holdings;
 use iova_laws::validity::steps_keep_validity;
 use iova_model::step::ClientId;
 use iova_model::totals::Totals;
-use iova_range::limits::MAX_REQUESTS;
 use iova_range::refusal::Refusal;
 use iova_sink::sink::Sink;
 use std::alloc::Global;
@@ -60,7 +60,12 @@ fn serve_lent<
     D: Sink,
     L: Link,
     O: Opening,
->(alloc: Global, link: &mut L, lent: Lent<'a, C, F, S, G, K, D>) -> Served<'a, C, F, S, G, K, D>
+>(
+    alloc: Global,
+    limits: SessionLimits,
+    link: &mut L,
+    lent: Lent<'a, C, F, S, G, K, D>,
+) -> Served<'a, C, F, S, G, K, D>
     requires names { (lent.keeper.ghost_name ≡ O.keeper_name) × (lent.seat.ghost_name ≡ O.seat_name)
         × (lent.sink.ghost_name ≡ O.sink_name) }
     requires number { K.domain_number lent.keeper.now ≡ O.number }
@@ -77,7 +82,7 @@ fn serve_lent<
         × Consumes (L.left link.old) (L.left link.new) taken
         × Appends (L.sent link.old) (L.sent link.new) written
         × (L.reads link.new ≡ L.reads link.old + reads)
-        × Serves MAX_REQUESTS taken ps written reads result.end
+        × ServesWithin limits.requests limits.reads taken ps written reads result.end
         × AreAnswers (K.domain_number lent.entry.keeper.now) None 0 ps
         × (result.client ≡ client_after None ps)
         × MovesBy (given_in ps) (taken_in ps) lent.entry.seat.now.held result.lent.seat.now.held
@@ -98,7 +103,7 @@ fn serve_lent<
         told: Vec::new(alloc),
         opening: PhantomData,
     };
-    let end = serve(alloc, link, &mut desk);
+    let end = serve_within(alloc, limits, link, &mut desk);
     let client = desk.session.client();
     let KeeperDesk {
         alloc: _,
@@ -114,6 +119,7 @@ fn serve_lent<
 /// Serves a session of the seat's worker, and gives how it ended and the client that it opened.
 fn serve_at<C: Ledger, F: Ledger, S: Ledger, G: Ledger, K: Keep<C, F, S, G>, D: Sink, L: Link>(
     alloc: Global,
+    limits: SessionLimits,
     link: &mut L,
     keeper: &mut K,
     seat: &mut Seat<C, F, S, G>,
@@ -125,7 +131,7 @@ fn serve_at<C: Ledger, F: Ledger, S: Ledger, G: Ledger, K: Keep<C, F, S, G>, D: 
         × Consumes (L.left link.old) (L.left link.new) taken
         × Appends (L.sent link.old) (L.sent link.new) written
         × (L.reads link.new ≡ L.reads link.old + reads)
-        × Serves MAX_REQUESTS taken ps written reads result.0
+        × ServesWithin limits.requests limits.reads taken ps written reads result.0
         × AreAnswers (K.domain_number keeper.old) None 0 ps
         × (result.1 ≡ client_after None ps)
         × MovesBy (given_in ps) (taken_in ps) seat.old.held seat.new.held
@@ -143,7 +149,7 @@ fn serve_at<C: Ledger, F: Ledger, S: Ledger, G: Ledger, K: Keep<C, F, S, G>, D: 
             seat: _,
             sink: _,
         },
-    } = serve_lent::<C, F, S, G, K, D, L, Brand>(alloc, link, Lent { keeper, seat, sink });
+    } = serve_lent::<C, F, S, G, K, D, L, Brand>(alloc, limits, link, Lent { keeper, seat, sink });
     (end, client)
 }
 
@@ -186,6 +192,44 @@ pub fn run_session<
     ensures ends { L.ends link.new ≡ L.ends link.old + ends_at result.end }
     ensures place { KeepsPlace post.old.seat post.new.seat (D.calls sink.old) (D.calls sink.new) }
 {
+    run_session_within(alloc, SessionLimits::usual(), link, keeper, post, sink)
+}
+
+/// The same within these limits. Own.
+pub fn run_session_within<
+    C: Ledger,
+    F: Ledger,
+    S: Ledger,
+    G: Ledger,
+    L: Link,
+    K: Keep<C, F, S, G>,
+    D: Sink,
+>(
+    alloc: Global,
+    limits: SessionLimits,
+    link: &mut L,
+    keeper: &mut K,
+    post: &mut Post<C, F, S, G>,
+    sink: &mut D,
+) -> SessionEnd
+    ensures number { K.domain_number keeper.new ≡ K.domain_number keeper.old }
+    ensures strict { K.strict keeper.new ≡ K.strict keeper.old }
+    ensures session { (taken : List ℕ) × (ps : List Pair) × (written : List ℕ) × (reads : ℕ)
+        × Consumes (L.left link.old) (L.left link.new) taken
+        × Appends (L.sent link.old) (L.sent link.new) written
+        × (L.reads link.new ≡ L.reads link.old + reads)
+        × ServesWithin limits.requests limits.reads taken ps written reads result.end
+        × AreAnswers (K.domain_number keeper.old) None 0 ps
+        × EndsClient ps result.client post.old.seat.held post.new.seat.held post.old.waiting.items
+        post.new.waiting.items
+        × WhereKnown (K.domain keeper.old) (K.domain keeper.new) (LeavesOthers (client_after None ps) result.client)
+        × ∥ WhereKnown (K.domain keeper.old) (K.domain keeper.new) (SessionLeads (K.strict keeper.old)
+        (K.domain_number keeper.old) ps result.client post.old.seat post.new.seat (D.calls sink.old)
+        (D.calls sink.new)) ∥₁ }
+    ensures failures { L.failures link.new ≡ L.failures link.old + failures_at result.end }
+    ensures ends { L.ends link.new ≡ L.ends link.old + ends_at result.end }
+    ensures place { KeepsPlace post.old.seat post.new.seat (D.calls sink.old) (D.calls sink.new) }
+{
     // for the proof: whose holdings a step leaves
     others_keep_their_holdings();
     if !take_room(&mut post.waiting, &mut post.ranges) {
@@ -195,7 +239,7 @@ pub fn run_session<
         };
     }
     let before = shares_of(&post.seat);
-    let (end, opened) = serve_at(alloc, link, keeper, &mut post.seat, sink);
+    let (end, opened) = serve_at(alloc, limits, link, keeper, &mut post.seat, sink);
     let client = match opened {
         None => None,
         Some(id) => end_opened(keeper, post, sink, id, before),

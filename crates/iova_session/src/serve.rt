@@ -1,8 +1,9 @@
 //! A session, from its first byte to its end.
 ghost use Rattle.std.specs.Prelude.{◌≡◌, ℕ, ◌+◌, ◌++◌, List, MatchResult, IfErr, IsSome};
 ghost use Rattle.std.specs.Io.KnownBytes.{Appends, Consumes};
+ghost use Rattle.iova_range.specs.declared.limits.TheConstants.{MAX_REQUESTS};
 ghost use Rattle.iova_session.specs.Pairs.{Pair};
-ghost use Rattle.iova_session.specs.Sessions.{Serves, failures_at, ends_at};
+ghost use Rattle.iova_session.specs.Sessions.{Serves, ServesWithin, failures_at, ends_at};
 ghost use Rattle.iova_session.specs.Rounds.{TakesPiece, CountsFault};
 
 use crate::answering::{ask_all, refuse};
@@ -10,11 +11,12 @@ use crate::desk::Desk;
 use crate::end::End;
 use crate::gathering::{Stop, gather};
 use crate::link::Link;
+use crate::session_limits::SessionLimits;
 use arrayvec::ArrayVec;
 use iova_proto::answer::Answer;
 use iova_proto::lines::Lines;
 use iova_proto::request::Request;
-use iova_range::limits::{MAX_REQUESTS, MAX_RUN, MAX_SESSION_READS};
+use iova_range::limits::MAX_RUN;
 use std::alloc::Global;
 
 /// How many bytes one read asks for at most.
@@ -39,6 +41,26 @@ pub fn serve<L: Link, D: Desk>(alloc: Global, link: &mut L, desk: &mut D) -> End
     ensures failures { L.failures link.new ≡ L.failures link.old + failures_at result }
     ensures ends { L.ends link.new ≡ L.ends link.old + ends_at result }
 {
+    serve_within(alloc, SessionLimits::usual(), link, desk)
+}
+
+/// The same within these limits: the request behind the last one, and the read behind the last one, are answered
+/// `no 21 TooMany`. Own.
+pub fn serve_within<L: Link, D: Desk>(
+    alloc: Global,
+    limits: SessionLimits,
+    link: &mut L,
+    desk: &mut D,
+) -> End
+    ensures session { (taken : List ℕ) × (ps : List Pair) × (written : List ℕ) × (reads : ℕ)
+        × Consumes (L.left link.old) (L.left link.new) taken
+        × (D.pairs desk.new ≡ D.pairs desk.old ++ ps)
+        × Appends (L.sent link.old) (L.sent link.new) written
+        × (L.reads link.new ≡ L.reads link.old + reads)
+        × ServesWithin limits.requests limits.reads taken ps written reads result }
+    ensures failures { L.failures link.new ≡ L.failures link.old + failures_at result }
+    ensures ends { L.ends link.new ≡ L.ends link.old + ends_at result }
+{
     let Ok(mut answers) = Vec::with_capacity(alloc, MAX_RUN) else {
         return End::NoMemory;
     };
@@ -46,9 +68,9 @@ pub fn serve<L: Link, D: Desk>(alloc: Global, link: &mut L, desk: &mut D) -> End
         return End::NoMemory;
     };
     let mut lines = Lines::new();
-    let mut left = MAX_REQUESTS;
+    let mut left = limits.requests;
     let mut buf = [0; PIECE];
-    'reading: for _ in 0..MAX_SESSION_READS {
+    'reading: for _ in 0..limits.reads {
         let Ok(n) = link.read(&mut buf) else {
             return End::LinkFault;
         };

@@ -12,10 +12,14 @@ returns c =
     let start = with_one _ _ _ c.with_arg-command-4.result c.number-3.result domain c.number-3.ensures.rule c.number-3.ensures.local c.with_arg-command-4.ensures in
     let last = with_one _ _ _ c.with_arg-command-5.result c.number-4.result start c.number-4.ensures.rule c.number-4.ensures.local c.with_arg-command-5.ensures in
     let sink = with_one _ _ _ c.with_arg-command-6.result c.path-2.result last c.path-2.ensures.rule c.path-2.ensures.local c.with_arg-command-6.ensures in
-    let sessions = with_one _ _ _ c.with_arg-command-7.result c.number-5.result sink c.number-5.ensures.rule c.number-5.ensures.local c.with_arg-command-7.ensures in
-    let depot = with_one _ _ _ c.with_arg-command-8.result c.optional_number.result sessions c.optional_number.ensures.rule c.optional_number.ensures.local c.with_arg-command-8.ensures in
-    let strict = with_one _ _ _ c.with_arg-command-9.result c.flag.result depot c.flag.ensures.rule c.flag.ensures.local c.with_arg-command-9.ensures in
-    let recorded = with_one _ _ _ c.with_arg-command-10.result c.optional_path.result strict c.optional_path.ensures.rule c.optional_path.ensures.local c.with_arg-command-10.ensures in
-    let reserved = with_one _ _ _ c.with_arg-command-11.result c.repeated.result recorded c.repeated.ensures.rule c.repeated.ensures.local c.with_arg-command-11.ensures in
-    let regions = with_one _ _ _ c.with_arg-command-12.result c.optional_path-2.result reserved c.optional_path-2.ensures.rule c.optional_path-2.ensures.local c.with_arg-command-12.ensures in
-    with_one _ _ _ c.with_arg.result c.optional_number-2.result regions c.optional_number-2.ensures.rule c.optional_number-2.ensures.local c.with_arg.ensures
+    let sessions = with_one _ _ _ c.with_arg-command-7.result c.optional_number.result sink c.optional_number.ensures.rule c.optional_number.ensures.local c.with_arg-command-7.ensures in
+    let requests = with_one _ _ _ c.with_arg-command-8.result c.optional_number-2.result sessions c.optional_number-2.ensures.rule c.optional_number-2.ensures.local c.with_arg-command-8.ensures in
+    let idle = with_one _ _ _ c.with_arg-command-9.result c.optional_number-3.result requests c.optional_number-3.ensures.rule c.optional_number-3.ensures.local c.with_arg-command-9.ensures in
+    let depot = with_one _ _ _ c.with_arg-command-10.result c.optional_number-4.result idle c.optional_number-4.ensures.rule c.optional_number-4.ensures.local c.with_arg-command-10.ensures in
+    let strict = with_one _ _ _ c.with_arg-command-11.result c.flag.result depot c.flag.ensures.rule c.flag.ensures.local c.with_arg-command-11.ensures in
+    let recorded = with_one _ _ _ c.with_arg-command-12.result c.optional_path.result strict c.optional_path.ensures.rule c.optional_path.ensures.local c.with_arg-command-12.ensures in
+    let steps = with_one _ _ _ c.with_arg-command-13.result c.optional_number-5.result recorded c.optional_number-5.ensures.rule c.optional_number-5.ensures.local c.with_arg-command-13.ensures in
+    let reserved = with_one _ _ _ c.with_arg-command-14.result c.repeated.result steps c.repeated.ensures.rule c.repeated.ensures.local c.with_arg-command-14.ensures in
+    let regions = with_one _ _ _ c.with_arg-command-15.result c.optional_path-2.result reserved c.optional_path-2.ensures.rule c.optional_path-2.ensures.local c.with_arg-command-15.ensures in
+    let timeout = with_one _ _ _ c.with_arg-command-16.result c.optional_number-6.result regions c.optional_number-6.ensures.rule c.optional_number-6.ensures.local c.with_arg-command-16.ensures in
+    with_one _ _ _ c.with_arg.result c.optional_path-3.result timeout c.optional_path-3.ensures.rule c.optional_path-3.ensures.local c.with_arg.ensures

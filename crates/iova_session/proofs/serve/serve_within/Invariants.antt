@@ -1,10 +1,9 @@
 use Rattle.std.proofs.Common.{◌≡◌, length, ◌+◌, ◌++◌, List, ℕ, Some}
 use Rattle.std.specs.Io.KnownBytes.{Appends, Consumes}
-use Rattle.iova_range.specs.declared.limits.TheConstants.{MAX_REQUESTS}
 use Rattle.iova_text.specs.Lines.{IsUnended}
 use Rattle.iova_session.specs.Pairs.{Pair}
 use Rattle.iova_session.specs.Rounds.{AllAnswered}
-use Rattle.iova_session.proofs.serve.serve.Given as goal
+use Rattle.iova_session.proofs.serve.serve_within.Given as goal
 
 abbrev pub invariant-reading : goal.invariant-reading
 invariant-reading g l = record {
@@ -18,7 +17,7 @@ invariant-reading g l = record {
   now : l.lines ≡ Some next;
   unended : IsUnended next;
   goes : AllAnswered taken ps next written;
-  count : length ps + l.left ≡ MAX_REQUESTS;
+  count : length ps + l.left ≡ l.limits.requests;
   reads : g.L.Link.reads l.link ≡ g.L.Link.reads l.initial.link + l.counter;
   failures : g.L.Link.failures l.link ≡ g.L.Link.failures l.initial.link;
   ends : g.L.Link.ends l.link ≡ g.L.Link.ends l.initial.link;

@@ -1,0 +1,162 @@
+use Rattle.std.proofs.Common.{Ok, Err, ◌≡◌, ◌∙◌, ◌+◌, ◌++◌, [], ℕ, List, refl, sym, ap, subst, take, arith, append_assoc, append-nil, length-append}
+use Rattle.std.specs.Prelude.{Option}
+use Rattle.std.proofs.KnownBytes.{Appends-trans, Appends-nil, Consumes-trans, Consumes-nil, Consumes-kept}
+use Rattle.std.specs.Io.KnownBytes.{Consumes, Appends}
+use Rattle.iova_session.specs.Rounds.{TakesPiece}
+use Rattle.iova_session.proofs.Joins.{AllAnswered-none, AllAnswered-then, Serves-then}
+use Rattle.iova_session.proofs.Taken.{Serves-no_room, Serves-fault, Serves-closed, Serves-worn, IsUnended-none}
+use Rattle.iova_session.proofs.serve.serve_within.Goals as goal
+
+pub reading-init : goal.reading-init
+reading-init g c = record {
+  taken = [];
+  ps = [];
+  written = [];
+  next = [];
+  consumed = Consumes-nil (g.L.Link.left c.args.link.now);
+  pairs = sym (append-nil (g.D.Desk.pairs c.args.desk.now));
+  sent = Appends-nil (g.L.Link.sent c.args.link.now);
+  now = c.new-lines.ensures;
+  unended = IsUnended-none;
+  goes = AllAnswered-none;
+  count = omega arith;
+  reads = omega arith;
+  failures = refl;
+  ends = refl;
+}
+
+pub returns-in_default-clause-session : goal.returns-in_default-clause-session
+returns-in_default-clause-session g c = (
+  [],
+  [],
+  [],
+  0,
+  Consumes-nil (g.L.Link.left c.args.link.now),
+  sym (append-nil (g.D.Desk.pairs c.args.desk.now)),
+  Appends-nil (g.L.Link.sent c.args.link.now),
+  omega arith,
+  Serves-no_room c.args.limits.requests c.args.limits.reads,
+)
+
+pub returns-in_default-with_capacity-clause-session : goal.returns-in_default-with_capacity-clause-session
+returns-in_default-with_capacity-clause-session g c = (
+  [],
+  [],
+  [],
+  0,
+  Consumes-nil (g.L.Link.left c.args.link.now),
+  sym (append-nil (g.D.Desk.pairs c.args.desk.now)),
+  Appends-nil (g.L.Link.sent c.args.link.now),
+  omega arith,
+  Serves-no_room c.args.limits.requests c.args.limits.reads,
+)
+
+pub returns-in_default-read-clause-session : goal.returns-in_default-read-clause-session
+returns-in_default-read-clause-session g c =
+    let inv = c.reading.invariant in
+    let P : Option (List ℕ) → Type 0 = λ x. Appends (g.L.Link.sent c.args.link.now) x inv.written in (
+      inv.taken,
+      inv.ps,
+      inv.written,
+      c.reading.counter + 1,
+      Consumes-kept (g.L.Link.left c.args.link.now) (g.L.Link.left c.reading.link) (g.L.Link.left c.read.new.self) inv.taken inv.consumed c.in_default-read.ensures.bytes,
+      inv.pairs,
+      subst P (sym c.read.ensures.sent) inv.sent,
+      omega (arith, c.read.ensures.reads, inv.reads),
+      Serves-fault c.args.limits.requests c.args.limits.reads c.reading.left (c.reading.counter + 1) inv.taken inv.next inv.written inv.ps inv.count (omega arith) inv.goes,
+    )
+
+pub returns-then-n-eq0-clause-session : goal.returns-then-n-eq0-clause-session
+returns-then-n-eq0-clause-session g c =
+    let inv = c.reading.invariant in
+    let n = c.in-Ok-read.n in
+    let none : take n c.read.new.buf ≡ [] = ap (λ k. take k c.read.new.buf) c.if-n-eq0.true in
+    let Q : List ℕ → Type 0 = λ x. Consumes (g.L.Link.left c.args.link.now) (g.L.Link.left c.read.new.self) x in
+    let both = Consumes-trans (g.L.Link.left c.args.link.now) (g.L.Link.left c.reading.link) (g.L.Link.left c.read.new.self) inv.taken (take n c.read.new.buf)
+    inv.consumed c.in-Ok-read.ensures.bytes.0 in
+    let P : Option (List ℕ) → Type 0 = λ x. Appends (g.L.Link.sent c.args.link.now) x inv.written in (
+      inv.taken,
+      inv.ps,
+      inv.written,
+      c.reading.counter + 1,
+      subst Q (ap (λ x. inv.taken ++ x) none ∙ append-nil inv.taken) both,
+      inv.pairs,
+      subst P (sym c.read.ensures.sent) inv.sent,
+      omega (arith, c.read.ensures.reads, inv.reads),
+      Serves-closed c.args.limits.requests c.args.limits.reads c.reading.left (c.reading.counter + 1) inv.taken inv.next inv.written inv.ps inv.count (omega arith) inv.unended inv.goes,
+    )
+
+pub returns-in-Err-clause-session : goal.returns-in-Err-clause-session
+returns-in-Err-clause-session g c =
+    let inv = c.reading.invariant in
+    let piece = take c.in-Ok-read.n c.read.new.buf in
+    let got = c.in-Err.ensures.taken in
+    let start : got.0 ≡ inv.next = let e = sym got.3 ∙ inv.now in cc in
+    let P : Option (List ℕ) → Type 0 = λ x. Appends (g.L.Link.sent c.args.link.now) x inv.written in
+    let sent = subst P (sym c.read.ensures.sent) inv.sent in
+    let R : Option (List ℕ) → Type 0 = λ x. Consumes (g.L.Link.left c.args.link.now) x (inv.taken ++ piece) in
+    let consumed = subst R (sym c.take_piece.ensures.left)
+    (Consumes-trans (g.L.Link.left c.args.link.now) (g.L.Link.left c.reading.link) (g.L.Link.left c.read.new.self) inv.taken piece inv.consumed c.in-Ok-read.ensures.bytes.0) in
+    let pairs = got.4 ∙ ap (λ x. x ++ got.1) inv.pairs ∙ append_assoc (g.D.Desk.pairs c.args.desk.now) inv.ps got.1 in
+    let wrote = Appends-trans (g.L.Link.sent c.args.link.now) (g.L.Link.sent c.read.new.self) (g.L.Link.sent c.take_piece.new.link) inv.written got.2 sent got.5 in
+    let T : TakesPiece c.reading.left (inv.next ++ piece) got.1 got.2 c.take_piece.new.left c.take_piece.new.lines (Err c.in-Err.end) = rw start at got.6 in (
+      inv.taken ++ piece,
+      inv.ps ++ got.1,
+      inv.written ++ got.2,
+      c.reading.counter + 1,
+      consumed,
+      pairs,
+      wrote,
+      omega (arith, c.take_piece.ensures.reads, c.read.ensures.reads, inv.reads),
+      Serves-then c.args.limits.requests c.args.limits.reads c.reading.left (c.reading.counter + 1) inv.taken piece inv.next inv.written got.2 inv.ps got.1 c.in-Err.end
+          inv.count (omega arith) inv.goes T,
+    )
+
+pub reading-preserved : goal.reading-preserved
+reading-preserved g c =
+    let inv = c.reading.invariant in
+    let piece = take c.in-Ok-read.n c.read.new.buf in
+    let got = c.in_default-take_piece.ensures.taken in
+    let start : got.0 ≡ inv.next = let e = sym got.3 ∙ inv.now in cc in
+    let P : Option (List ℕ) → Type 0 = λ x. Appends (g.L.Link.sent c.args.link.now) x inv.written in
+    let sent = subst P (sym c.read.ensures.sent) inv.sent in
+    let R : Option (List ℕ) → Type 0 = λ x. Consumes (g.L.Link.left c.args.link.now) x (inv.taken ++ piece) in
+    let consumed = subst R (sym c.take_piece.ensures.left)
+    (Consumes-trans (g.L.Link.left c.args.link.now) (g.L.Link.left c.reading.link) (g.L.Link.left c.read.new.self) inv.taken piece inv.consumed c.in-Ok-read.ensures.bytes.0) in
+    let pairs = got.4 ∙ ap (λ x. x ++ got.1) inv.pairs ∙ append_assoc (g.D.Desk.pairs c.args.desk.now) inv.ps got.1 in
+    let wrote = Appends-trans (g.L.Link.sent c.args.link.now) (g.L.Link.sent c.read.new.self) (g.L.Link.sent c.take_piece.new.link) inv.written got.2 sent got.5 in
+    let T : TakesPiece c.reading.left (inv.next ++ piece) got.1 got.2 c.take_piece.new.left c.take_piece.new.lines (Ok c.in_default-take_piece.field-0) = rw start at got.6 in
+    record {
+      taken = inv.taken ++ piece;
+      ps = inv.ps ++ got.1;
+      written = inv.written ++ got.2;
+      next = T.0;
+      consumed = consumed;
+      pairs = pairs;
+      sent = wrote;
+      now = T.3;
+      unended = T.2;
+      goes = AllAnswered-then inv.taken piece inv.next T.0 inv.written got.2 inv.ps got.1 inv.goes T.1;
+      count = omega (arith, length-append inv.ps got.1, T.4, inv.count);
+      reads = omega (arith, c.take_piece.ensures.reads, c.read.ensures.reads, inv.reads);
+      failures = c.in_default-take_piece.ensures.failures ∙ c.in-Ok-read.ensures.failures ∙ inv.failures;
+      ends = c.take_piece.ensures.ends ∙ c.in-Ok-read.ensures.ends.0 (omega arith) ∙ inv.ends;
+    }
+
+pub returns-clause-session : goal.returns-clause-session
+returns-clause-session g c =
+    let inv = c.reading.invariant in
+    let worn : c.reading.counter ≡ c.args.limits.reads = omega arith in
+    let W = Serves-worn c.args.limits.requests c.args.limits.reads c.reading.left c.reading.counter inv.taken inv.next inv.written inv.ps (g.L.Link.sent c.reading.link) (g.L.Link.sent c.refuse.new.link)
+    c.refuse.result inv.count worn inv.unended inv.goes c.refuse.ensures.told in
+    let R : Option (List ℕ) → Type 0 = λ x. Consumes (g.L.Link.left c.args.link.now) x inv.taken in (
+      inv.taken,
+      inv.ps,
+      inv.written ++ W.0,
+      c.reading.counter,
+      subst R (sym c.refuse.ensures.left) inv.consumed,
+      inv.pairs,
+      Appends-trans (g.L.Link.sent c.args.link.now) (g.L.Link.sent c.reading.link) (g.L.Link.sent c.refuse.new.link) inv.written W.0 inv.sent W.1,
+      c.refuse.ensures.reads ∙ inv.reads,
+      W.2,
+    )
