@@ -3,16 +3,13 @@ ghost use Rattle.std.specs.Prelude.{◌≡◌, ◌<◌, ◌^◌, IfOk, false};
 ghost use Rattle.clap.specs.Words.{App, rule_of, with_rule, with_subcommand};
 ghost use Rattle.iova_command.specs.Commands.{IsCommand, place_rule, flag_rule, option_rule, optional_rule, repeated_rule, number_rule, optional_number_rule, replay_app, serve_app, ask_app, check_app, iovad_app};
 
+use crate::words::VERSION;
 use clap::{Arg, ArgAction, Command, value_parser};
 use iova_range::limits::{
     LAST_DOMAIN_ID, MAX_DEPOT, MAX_DOMAINS, MAX_IDLE, MAX_RECORDED_STEPS, MAX_SESSION_REQUESTS,
     MAX_SESSIONS, MAX_SINK_TIMEOUT, MAX_WORKERS, WIDE_TOP,
 };
 use std::alloc::{AllocError, Global};
-
-/// The program's version, and the kit that it is written for.
-const VERSION: &str = "0.1.0
-rattle-kit-13f logic dac8208d650f15bf";
 
 /// The ways to call the program, which stand in its help and after words that aren't understood.
 const USAGE: &str = "iovad < FILE

@@ -17,6 +17,10 @@ use std::convert::AsStr;
 use std::rt::Env;
 use std::{env, io};
 
+/// The program's version, and the kit that it is written for.
+pub const VERSION: &str = "0.1.0
+rattle-kit-13f logic dac8208d650f15bf";
+
 /// The name that stands for standard input.
 pub const STANDARD_INPUT: &str = "-";
 

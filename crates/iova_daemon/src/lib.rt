@@ -27,6 +27,7 @@ use iova_lock::shared::Shared;
 use iova_range::refusal::Refusal;
 use iova_session::link::Link;
 use iova_session::post::Post;
+use iova_session::session_limits::SessionLimits;
 use iova_sink::sink::Sink;
 use log::Log;
 use std::alloc::Global;
@@ -44,18 +45,16 @@ pub struct Served<R, C: Ledger, F: Ledger, S: Ledger, G: Ledger> {
     pub posts: Vec<Post<C, F, S, G>>,
 }
 
-/// Serves so many sessions on the domain, by a thread for each post, and flushes beside them on the calling thread. Each
-/// thread has a sink of its own, the flusher the last one; the flusher's tally is split from the first post's seat. It
-/// returns once all sessions have ended, and gives the domain back, and the posts in their order.
-///
-/// A worker repeats: it tries its waiting clients again, takes the next session number, where it has none, and, where that is
-/// below `sessions`, accepts a link and serves a session over it; else it stops. While clients wait an accept takes no longer
-/// than a second, and one that had none keeps the number; an accept that fails uses it up. The flusher repeats:
-/// it pauses, and stops where the pause says so or all workers have ended; else it makes a round (`timeout`). A session that
-/// ends by `LinkFault` or `NoMemory`, a sink that fails and a round that is refused are notices, a line each.
-///
-/// Refused by `LinkFault` where a thread can't be started: then no link has been accepted, and those that were started are
-/// joined. Refused by `NoMemory` before the first one is started. Own.
+/// What is served. Own.
+#[derive(Clone, Copy, Debug, PartialEq, Eq)]
+pub struct Serving {
+    /// How many sessions; none: sessions without end.
+    pub sessions: Option<u64>,
+    /// How much each of them may ask for.
+    pub limits: SessionLimits,
+}
+
+/// Serves so many sessions on the domain, each within the usual limits: see `serve_sessions`. Own.
 pub fn serve_on<R, Q, N, C, F, S, G, L, A, D, P>(
     rt: &R,
     alloc: Global,
@@ -86,10 +85,63 @@ where
     ensures shared { IfOk result (λ s. s.shared ≡ shared) }
     ensures refusal { IfErr result IsServeRefusal }
 {
+    let serving = Serving {
+        sessions: Some(sessions),
+        limits: SessionLimits::usual(),
+    };
+    serve_sessions::<R, Q, N, C, F, S, G, L, A, D, P>(
+        rt, alloc, notices, shared, posts, sinks, accept, pause, serving,
+    )
+}
+
+/// Serves sessions on the domain, by a thread for each post, and flushes beside them on the calling thread. Each
+/// thread has a sink of its own, the flusher the last one; the flusher's tally is split from the first post's seat. It
+/// returns once all sessions have ended, and gives the domain back, and the posts in their order.
+///
+/// A worker repeats: it tries its waiting clients again, takes the next session number, where it has none, and, where one is
+/// left, accepts a link and serves a session over it; else it stops. While clients wait an accept takes no longer
+/// than a second, and one that had none keeps the number; an accept that fails uses it up. Once each session had its accept,
+/// no more are accepted (`close`). The flusher repeats:
+/// it pauses, and stops where the pause says so or all workers have ended; else it makes a round (`timeout`). A session that
+/// ends by `LinkFault` or `NoMemory`, a sink that fails, a round that is refused and a thread that can't be started are notices,
+/// a line each; each other end of a session is one of the level `debug`.
+///
+/// Refused by `LinkFault` where a thread can't be started: then no link has been accepted, and those that were started are
+/// joined. Refused by `NoMemory` before the first one is started. Own.
+pub fn serve_sessions<R, Q, N, C, F, S, G, L, A, D, P>(
+    rt: &R,
+    alloc: Global,
+    notices: &N,
+    shared: Shared<Q, C, F, S, G>,
+    posts: Vec<Post<C, F, S, G>>,
+    sinks: Vec<D>,
+    accept: &A,
+    pause: P,
+    serving: Serving,
+) -> Result<Served<Q, C, F, S, G>, Refusal>
+where
+    R: Threads + Wait + Sync,
+    Q: Wait + Sync + Drop,
+    N: Log + Sync,
+    C: Ledger + Send + Sync,
+    F: Ledger + Send + Sync,
+    S: Ledger + Send + Sync,
+    G: Ledger + Send + Sync,
+    L: Link + Send + Drop,
+    A: Accept<L> + Sync,
+    D: Sink + Send + Drop,
+    P: Pause + Drop,
+    requires some { 1 ≤ vec_len posts }
+    requires sinks { vec_len sinks ≡ vec_len posts + 1 }
+    requires parts { ForSome (slice_get posts.items 0) (λ p. 2 ≤ p.seat.tally.parts) }
+    ensures posts { IfOk result (λ s. map (λ p. p.seat.worker) s.posts.items ≡ map (λ p. p.seat.worker) posts.items) }
+    ensures shared { IfOk result (λ s. s.shared ≡ shared) }
+    ensures refusal { IfErr result IsServeRefusal }
+{
     // for the proof: that threads may share the domain
     domains_are_sync::<Q, C, F, S, G>();
     let served = serve_kept::<R, N, C, F, S, G, &Shared<Q, C, F, S, G>, L, A, D, P>(
-        rt, alloc, notices, &shared, posts, sinks, accept, pause, sessions,
+        rt, alloc, notices, &shared, posts, sinks, accept, pause, serving,
     );
     match served {
         Ok(posts) => Ok(Served { shared, posts }),
@@ -110,7 +162,7 @@ fn serve_kept<R, N, C, F, S, G, K, L, A, D, P>(
     sinks: Vec<D>,
     accept: &A,
     pause: P,
-    sessions: u64,
+    serving: Serving,
 ) -> Result<Vec<Post<C, F, S, G>>, Refusal>
 where
     R: Threads + Wait + Sync,
@@ -138,7 +190,7 @@ where
     let Some(sink) = sinks.pop() else {
         unreachable!()
     };
-    let turns = Turns::new(sessions);
+    let turns = Turns::new(serving);
     let mut flusher = Flusher {
         rt,
         notices,

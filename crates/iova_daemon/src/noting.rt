@@ -1,7 +1,8 @@
 //! A sink whose failures are notices.
 use iova_range::range::Range;
+use iova_session::end::End;
 use iova_sink::sink::{Sink, SinkFault};
-use log::{Log, warn};
+use log::{Log, debug, warn};
 
 /// A sink, each of whose failures is a notice.
 #[derive(Drop)]
@@ -40,4 +41,21 @@ impl<'a, D: Sink, N: Log> Sink for NotingSink<'a, D, N> {
 /// A notice of what happened to the flush, the client or the session of this number.
 pub(crate) fn note<N: Log>(notices: &N, what: &str, number: u64, how: &str) {
     warn!(notices; "{what} {number}: {how}");
+}
+
+/// A session's end is a warning where the link failed, or memory was refused.
+pub(crate) fn note_end<N: Log>(notices: &N, session: u64, end: End) {
+    match end {
+        End::LinkFault => note(notices, "session", session, "the link failed"),
+        End::NoMemory => note(notices, "session", session, "no memory"),
+        End::Bye => note_good_end(notices, session, "bye"),
+        End::Closed => note_good_end(notices, session, "closed"),
+        End::BadLine => note_good_end(notices, session, "a bad line"),
+        End::TooMany => note_good_end(notices, session, "too many requests"),
+    }
+}
+
+/// An end of a session that is as it should be, or its client's fault.
+fn note_good_end<N: Log>(notices: &N, session: u64, how: &str) {
+    debug!(notices; "session {session}: {how}");
 }

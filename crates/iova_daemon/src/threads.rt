@@ -6,8 +6,8 @@ use crate::turns::Turns;
 use iova_range::refusal::Refusal;
 use std::alloc::Global;
 use std::sync::Wait;
-use std::thread;
 use std::thread::{Promise, PromisedHandle, Scope, Threads};
+use std::{io, thread};
 
 /// A worker's place.
 pub(crate) trait Place {
@@ -24,6 +24,9 @@ pub(crate) trait Work<P: Place, D, L> {
     /// Works at this place with this sink, and gives the place back.
     fn work(&self, place: P, sink: D) -> P
         ensures { P.worker result ≡ P.worker place };
+
+    /// This worker's thread can't be started.
+    fn cannot_start(&self, worker: u64, error: &io::Error);
 }
 
 /// What is done beside the workers, on the thread that started them.
@@ -148,8 +151,12 @@ where
         let work = move || -> P
             ensures { P.worker result ≡ P.worker place }
         { lent.work(place, sink) };
-        let Ok(handle) = scope.spawn_with(promise, work) else {
-            return false;
+        let handle = match scope.spawn_with(promise, work) {
+            Ok(handle) => handle,
+            Err(error) => {
+                lent.cannot_start(promise.0, &error);
+                return false;
+            }
         };
         let Ok(()) = started.push(handle) else {
             unreachable!()

@@ -1,36 +1,51 @@
 //! What the threads of a daemon share beside its domain.
+use crate::Serving;
+use iova_session::session_limits::SessionLimits;
 use std::sync::Mutex;
 use std::sync::atomic::{AtomicU64, Ordering};
 
-/// The gate that workers wait at until all are started, the next session's number, and how many workers have ended.
+/// The gate that workers wait at until all are started, what is served, the next session's number, how many sessions had their
+/// accept, and how many workers have ended.
 #[derive(Drop)]
 pub(crate) struct Turns {
     /// Held while threads are started; then whether all were, so that none accepts a link where one couldn't be.
     pub gate: Mutex<bool>,
+    serving: Serving,
     next: AtomicU64,
-    sessions: u64,
+    met: AtomicU64,
     ended: AtomicU64,
 }
 
 impl Turns {
-    /// So many sessions, none of which is begun, and a closed gate.
-    pub(crate) fn new(sessions: u64) -> Turns {
+    /// These sessions, none of which is begun, and a closed gate.
+    pub(crate) fn new(serving: Serving) -> Turns {
         Turns {
             gate: Mutex::new(false),
+            serving,
             next: AtomicU64::new(0),
-            sessions,
+            met: AtomicU64::new(0),
             ended: AtomicU64::new(0),
         }
     }
 
-    /// The next session's number, counted from 0; none where all were taken.
+    /// How much a session may ask for.
+    pub(crate) fn limits(&self) -> SessionLimits {
+        self.serving.limits
+    }
+
+    /// The next session's number, counted from 0; none where all were taken. It begins anew behind 2^64 - 1.
     pub(crate) fn next_session(&self) -> Option<u64> {
         let session = self.next.fetch_add(1, Ordering::SeqCst);
-        if session < self.sessions {
-            Some(session)
-        } else {
-            None
+        match self.serving.sessions {
+            Some(sessions) if session >= sessions => None,
+            _ => Some(session),
         }
+    }
+
+    /// A session had its accept. Whether it was the last one.
+    pub(crate) fn meet(&self) -> bool {
+        let before = self.met.fetch_add(1, Ordering::SeqCst);
+        self.serving.sessions == before.checked_add(1)
     }
 
     /// A worker has ended.

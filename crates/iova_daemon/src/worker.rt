@@ -2,19 +2,19 @@
 ghost use Rattle.std.specs.Prelude.{◌≡◌};
 
 use crate::accept::Accept;
-use crate::noting::{NotingSink, note};
+use crate::noting::{NotingSink, note, note_end};
 use crate::threads::{Place, Work};
 use crate::turns::Turns;
 use iova_keep::keep::Keep;
 use iova_range::limits::RETRY_PAUSE;
-use iova_session::end::End;
 use iova_session::link::Link;
 use iova_session::post::Post;
 use iova_session::retry::retry;
-use iova_session::run::run_session;
+use iova_session::run::run_session_within;
 use iova_sink::sink::Sink;
-use log::Log;
+use log::{Log, error};
 use std::alloc::Global;
+use std::io;
 use std::sync::Wait;
 use std::sync::ledger::Ledger;
 
@@ -73,8 +73,10 @@ where
                     Ok(None) => {}
                     Ok(Some(mut link)) => {
                         number = None;
-                        let ended = run_session(
+                        meet::<L, A>(self.turns, self.accept);
+                        let ended = run_session_within(
                             self.alloc,
+                            self.turns.limits(),
                             &mut link,
                             &mut keeper,
                             &mut post,
@@ -83,25 +85,30 @@ where
                         note_end(self.notices, session, ended.end);
                     }
                     // an accept that fails uses up the number
-                    Err(_) => number = None,
+                    Err(_) => {
+                        number = None;
+                        meet::<L, A>(self.turns, self.accept);
+                    }
                 }
             }
         }
         self.turns.end();
         post
     }
+
+    fn cannot_start(&self, worker: u64, error: &io::Error) {
+        error!(self.notices; "thread {worker}: {error}");
+    }
+}
+
+/// A session had its accept: after the last one nobody is accepted any more.
+fn meet<L, A: Accept<L>>(turns: &Turns, accept: &A) {
+    if turns.meet() {
+        accept.close();
+    }
 }
 
 /// How long a link may be waited for, in milliseconds, where so many clients wait: they are tried again then.
 fn limit_of(waiting: u64) -> Option<u64> {
     if waiting > 0 { Some(RETRY_PAUSE) } else { None }
-}
-
-/// A session's end is a notice where the link failed, or memory was refused.
-fn note_end<N: Log>(notices: &N, session: u64, end: End) {
-    match end {
-        End::LinkFault => note(notices, "session", session, "the link failed"),
-        End::NoMemory => note(notices, "session", session, "no memory"),
-        End::Bye | End::Closed | End::BadLine | End::TooMany => {}
-    }
 }

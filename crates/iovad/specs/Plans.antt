@@ -1,5 +1,5 @@
 -- A daemon's domain. Own.
-use Rattle.std.specs.Prelude.{ℕ, ◌≡◌, ◌≢◌, ◌<◌, ◌≤◌, ◌+◌, ◌-◌, List, [], ◌∷◌, Option, Some, None}
+use Rattle.std.specs.Prelude.{ℕ, ◌≡◌, ◌≢◌, ◌<◌, ◌≤◌, ◌+◌, ◌-◌, List, [], ◌∷◌, Option, Some, None, unwrap_or}
 use Rattle.iova_range.specs.Frames.{Frames}
 use Rattle.iova_model.specs.State.{State}
 use Rattle.iova_model.specs.declared.step.Step.TheVariants as step
@@ -26,14 +26,18 @@ IsAboveProfile plan = (profile_of plan.depot).top < plan.last
 abbrev pub IsBoundsOf : Plan → Extent → Type 0
 IsBoundsOf plan bounds = bounds ≡ record { start = plan.start; last = plan.last; profile = profile_of plan.depot }
 
+-- how many steps are recorded, where that is said or not
+abbrev pub steps_of : Option ℕ → ℕ
+steps_of steps = unwrap_or steps RECORDED_STEPS
+
 -- what is recorded of it: nothing, where no record is wanted
-abbrev pub planned_log : {A : Type 0} → Option A → Option StepLog
-planned_log None = None
-planned_log (Some path) = Some (new_log RECORDED_STEPS)
+abbrev pub planned_log : {A : Type 0} → Option A → Option ℕ → Option StepLog
+planned_log None steps = None
+planned_log (Some path) steps = Some (new_log (steps_of steps))
 
 -- the plan's new domain with these bounds
 abbrev pub planned_book : Plan → Extent → BookState
-planned_book plan bounds = record (new_book plan.domain bounds plan.workers (planned_log plan.record)) { strict = plan.strict }
+planned_book plan bounds = record (new_book plan.domain bounds plan.workers (planned_log plan.record plan.record_steps)) { strict = plan.strict }
 
 -- these windows are reserved in s, one after another, and that leaves t
 abbrev pub ReservesAll : List Frames → State → State → Type 0

@@ -3,18 +3,21 @@ ghost use Rattle.std.specs.Prelude.{◌≡◌, ◌<◌, ◌≤◌, ◌+◌, ◌*
 ghost use Rattle.iova_range.specs.declared.limits.TheConstants.{TALLY_PARTS};
 ghost use Rattle.iova_keep.specs.Views.{new_seats};
 ghost use Rattle.iova_command.specs.declared.plan.Plan.{Plan};
-ghost use Rattle.iovad.specs.Plans.{IsAboveProfile, IsBoundsOf, IsFaultOfServing, IsReserved, planned_book};
+ghost use Rattle.iovad.specs.Plans.{IsAboveProfile, IsBoundsOf, IsFaultOfServing, IsReserved, planned_book, steps_of};
 
 use crate::fault::Fault;
+use crate::listening::{listen, remove};
 use crate::outcome::print_domain;
+use crate::record_file::RecordFile;
 use crate::regions::add_regions;
 use crate::sinks::{DaemonSink, SinkPlace, open_sink};
 use iova_command::plan::Plan;
+use iova_command::words::VERSION;
 use iova_core::domain::Domain;
 use iova_daemon::dial::{Dial, UnixNet};
 use iova_daemon::pause::Ticks;
 use iova_daemon::socket::SocketAccept;
-use iova_daemon::{Served, serve_on};
+use iova_daemon::{Served, Serving, serve_sessions};
 use iova_keep::keep::Keep;
 use iova_keep::seat::Seat;
 use iova_lock::book::Book;
@@ -28,27 +31,41 @@ use iova_regions::region::Counted;
 use iova_regions::windows::Windows;
 use iova_session::post::Post;
 use iova_session::retry::retry;
+use iova_session::session_limits::SessionLimits;
 use iova_session::socket_link::SocketLink;
-use iova_text::write::write_all;
-use log::Log;
+use log::sink::Console;
+use log::{Log, Logged, info};
 use std::alloc::Global;
 use std::fs::File;
+use std::io;
 use std::net::Net;
 use std::os::unix::net::UnixListener;
 use std::rt::{Files, Runtime};
 use std::sync::Wait;
 use std::sync::ledger::{Blank, Ledger};
 use std::thread::Threads;
-use std::{fs, io};
+use std::time::Duration;
+
+/// What takes a daemon's notices: standard error, those of the plan's level and above it.
+type Notices<'a, R> = Logged<&'a R, Console<&'a R>>;
+
+/// What each part of a daemon's run uses.
+struct Running<'a, R> {
+    rt: &'a R,
+    notices: &'a Notices<'a, R>,
+    net: &'a UnixNet<'a, R>,
+    place: SinkPlace<'a>,
+}
 
 /// Serves the plan's sessions on its socket, writes the record of the domain's steps where one is wanted, and then prints a line
 /// with the domain's number and the domain's report. The socket's file is removed once the sessions are over, also where no
-/// thread could be started. Clients that still wait then are tried once more.
+/// thread could be started. Clients that still wait then are tried once more. A record is opened, emptied and begun before the
+/// socket is bound. What lies behind `CannotOpenSink`, `SocketFault` and `CannotWrite` is told on the line before.
 ///
 /// Faults come in this order: `StartAboveLast`; `LastAboveProfile`; `CannotRead`, `RegionsRefused` or `NoMemory` for the
-/// reserved regions; `NoMemory` for the domain; `CannotOpenSink`; `SocketFault`
-/// where the socket can't be bound, as where something stands at its path, or a thread can't be started; `NoMemory` or
-/// `CannotWrite` for the record; `NoMemory` for the report; `CannotWrite`. Own.
+/// reserved regions; `NoMemory` for the domain; `CannotOpenSink`; `CannotWrite` or `NoMemory` for the record, which may not be the
+/// sink's file; `SocketFault` where the socket can't be bound, as where anything but a socket that was left stands at its path, or
+/// a thread can't be started; `NoMemory` or `CannotWrite` for the record at its end; `NoMemory` for the report; `CannotWrite`. Own.
 pub fn serve<'a, R, C, F, S, G>(
     rt: &R,
     plan: &Plan<'a>,
@@ -73,11 +90,29 @@ where
 {
     let bounds = bounds_of(plan)?;
     let windows = windows_of(rt, plan, bounds)?;
+    let notices = Logged::new(rt, plan.log_level, Console(rt));
+    tell_start(&notices, plan, &windows);
     let made = new_domain::<R, C, F, S, G>(rt, plan, bounds, &windows, count, frames, sum_lo, good);
     match made {
-        Some((shared, posts)) => serve_domain(rt, plan, shared, posts),
+        Some((shared, posts)) => serve_domain(rt, plan, &notices, shared, posts),
         None => Err(Fault::NoMemory),
     }
+}
+
+/// Tells what is served.
+fn tell_start<R: Eprint>(notices: &Notices<'_, R>, plan: &Plan<'_>, windows: &Windows) {
+    let version = VERSION.lines().next().unwrap_or(VERSION);
+    info!(
+        notices;
+        "iovad {version} starts: socket {}, domain {}, frames {} to {}, {} windows, {} workers, sink {}",
+        plan.socket,
+        plan.domain,
+        plan.start,
+        plan.last,
+        windows.ranges().len(),
+        plan.workers,
+        plan.sink
+    );
 }
 
 /// What keeps a daemon from its end once it has a domain: a plain value, which no function has to drop.
@@ -107,11 +142,12 @@ impl Hindrance {
 fn serve_domain<R, C, F, S, G>(
     rt: &R,
     plan: &Plan<'_>,
+    notices: &Notices<'_, R>,
     shared: Shared<&R, C, F, S, G>,
     posts: Vec<Post<C, F, S, G>>,
 ) -> Result<(), Fault<'static>>
 where
-    R: Runtime + AllocGlobal + Net + Dial + Threads + Wait + Sync + Files<File = File> + Log,
+    R: Runtime + AllocGlobal + Net + Dial + Threads + Wait + Sync + Files<File = File>,
     C: Ledger + Send + Sync,
     F: Ledger + Send + Sync,
     S: Ledger + Send + Sync,
@@ -121,35 +157,41 @@ where
     ensures { IfErr result (IsFaultOfServing plan.now) }
 {
     let net = UnixNet::new(rt);
-    let net = &net;
-    let place = SinkPlace::of(rt, plan);
-    match serve_links(rt, plan, net, place, shared, posts) {
-        Ok(Served { shared, posts }) => finish(rt, plan, net, place, shared, posts),
+    let run = Running {
+        rt,
+        notices,
+        net: &net,
+        place: SinkPlace::of(rt, plan),
+    };
+    match serve_links(&run, plan, shared, posts) {
+        Ok((Served { shared, posts }, record)) => {
+            info!(notices; "all sessions have ended");
+            finish(&run, plan, shared, posts, record)
+        }
         Err(why) => Err(why.fault()),
     }
 }
 
 /// Opens what the plan names, and serves its sessions. The posts that come back are those of all workers.
-fn serve_links<'a, R, C, F, S, G>(
-    rt: &'a R,
-    plan: &Plan<'_>,
-    net: &'a UnixNet<'a, R>,
-    place: SinkPlace<'a>,
+fn serve_links<'a, 'p, R, C, F, S, G>(
+    run: &Running<'a, R>,
+    plan: &Plan<'p>,
     shared: Shared<&'a R, C, F, S, G>,
     posts: Vec<Post<C, F, S, G>>,
-) -> Result<Served<&'a R, C, F, S, G>, Hindrance>
+) -> Result<(Served<&'a R, C, F, S, G>, Option<RecordFile<'p>>), Hindrance>
 where
-    R: Runtime + AllocGlobal + Net + Dial + Threads + Wait + Sync + Files<File = File> + Log,
+    R: Runtime + AllocGlobal + Net + Dial + Threads + Wait + Sync + Files<File = File>,
     C: Ledger + Send + Sync,
     F: Ledger + Send + Sync,
     S: Ledger + Send + Sync,
     G: Ledger + Send + Sync,
     requires workers { shared.workers ≡ plan.now.workers }
     requires posts { map (λ p. p.seat) posts.items ≡ new_seats plan.now.workers }
-    ensures { IfOk result (λ r. map (λ p. p.seat.worker) r.posts.items ≡ map (λ s. s.worker) (new_seats r.shared.workers)) }
+    ensures { IfOk result (λ r. map (λ p. p.seat.worker) r.0.posts.items
+        ≡ map (λ s. s.worker) (new_seats r.0.shared.workers)) }
 {
-    match open_all(rt, plan, net, place, posts.len() + 1) {
-        Ok((sinks, listener)) => serve_opened(rt, plan, shared, posts, sinks, listener),
+    match open_all(run, plan, posts.len() + 1) {
+        Ok((sinks, record)) => serve_recorded(run, plan, shared, posts, sinks, record),
         Err(why) => {
             drop(posts);
             drop(shared);
@@ -158,9 +200,67 @@ where
     }
 }
 
-/// The same, with a sink for each post and one more, and the socket. Its file is removed at the end.
+/// The same, with a sink for each post and one more, and the record's file.
+fn serve_recorded<'a, 'p, R, C, F, S, G>(
+    run: &Running<'a, R>,
+    plan: &Plan<'p>,
+    shared: Shared<&'a R, C, F, S, G>,
+    posts: Vec<Post<C, F, S, G>>,
+    sinks: Vec<DaemonSink<'a, UnixNet<'a, R>>>,
+    record: Option<RecordFile<'p>>,
+) -> Result<(Served<&'a R, C, F, S, G>, Option<RecordFile<'p>>), Hindrance>
+where
+    R: Runtime + AllocGlobal + Net + Dial + Threads + Wait + Sync + Files<File = File>,
+    C: Ledger + Send + Sync,
+    F: Ledger + Send + Sync,
+    S: Ledger + Send + Sync,
+    G: Ledger + Send + Sync,
+    requires workers { shared.workers ≡ plan.now.workers }
+    requires posts { map (λ p. p.seat) posts.items ≡ new_seats plan.now.workers }
+    requires sinks { vec_len sinks ≡ vec_len posts + 1 }
+    ensures { IfOk result (λ r. map (λ p. p.seat.worker) r.0.posts.items
+        ≡ map (λ s. s.worker) (new_seats r.0.shared.workers)) }
+{
+    let mut record = record;
+    match begin(run, plan, &shared, &mut record) {
+        Ok(listener) => match serve_opened(run, plan, shared, posts, sinks, listener) {
+            Ok(served) => Ok((served, record)),
+            Err(why) => Err(why),
+        },
+        Err(why) => {
+            drop(sinks);
+            drop(posts);
+            drop(shared);
+            Err(why)
+        }
+    }
+}
+
+/// Begins the record, and listens on the socket. Refused by `CannotWrite` and `NoMemory`, and by `SocketFault`.
+fn begin<'a, Q, R, C, F, S, G>(
+    run: &Running<'a, R>,
+    plan: &Plan<'_>,
+    shared: &Shared<Q, C, F, S, G>,
+    record: &mut Option<RecordFile<'_>>,
+) -> Result<UnixListener, Hindrance>
+where
+    R: AllocGlobal + Eprint + Net + Files<File = File>,
+    Q: Wait,
+    C: Ledger,
+    F: Ledger,
+    S: Ledger,
+    G: Ledger,
+{
+    write_record(run, shared, record)?;
+    match listen(run.rt, run.notices, plan.socket) {
+        Some(listener) => Ok(listener),
+        None => Err(Hindrance::SocketFault),
+    }
+}
+
+/// Serves the plan's sessions on this socket. Its file is removed at the end.
 fn serve_opened<'a, R, C, F, S, G>(
-    rt: &'a R,
+    run: &Running<'a, R>,
     plan: &Plan<'_>,
     shared: Shared<&'a R, C, F, S, G>,
     posts: Vec<Post<C, F, S, G>>,
@@ -168,7 +268,7 @@ fn serve_opened<'a, R, C, F, S, G>(
     listener: UnixListener,
 ) -> Result<Served<&'a R, C, F, S, G>, Hindrance>
 where
-    R: Runtime + AllocGlobal + Net + Dial + Threads + Wait + Sync + Files<File = File> + Log,
+    R: Runtime + AllocGlobal + Net + Dial + Threads + Wait + Sync + Files<File = File>,
     C: Ledger + Send + Sync,
     F: Ledger + Send + Sync,
     S: Ledger + Send + Sync,
@@ -178,29 +278,31 @@ where
     requires sinks { vec_len sinks ≡ vec_len posts + 1 }
     ensures { IfOk result (λ r. map (λ p. p.seat.worker) r.posts.items ≡ map (λ s. s.worker) (new_seats r.shared.workers)) }
 {
-    let accept = SocketAccept::new(rt, rt, listener);
-    let served = serve_on::<
+    let rt = run.rt;
+    let idle = plan.idle.map(Duration::from_secs);
+    let accept = SocketAccept::new(rt, run.notices, listener, idle);
+    let served = serve_sessions::<
         R,
         &R,
-        R,
+        Notices<'_, R>,
         C,
         F,
         S,
         G,
         SocketLink,
-        SocketAccept<'_, R, R>,
+        SocketAccept<'_, R, Notices<'_, R>>,
         DaemonSink<'_, UnixNet<'_, R>>,
         Ticks<'_, R>,
     >(
         rt,
         rt.alloc(),
-        rt,
+        run.notices,
         shared,
         posts,
         sinks,
         &accept,
         Ticks::new(rt),
-        plan.sessions,
+        serving_of(plan),
     );
     drop(accept);
     remove(rt, plan.socket);
@@ -211,55 +313,58 @@ where
     }
 }
 
-/// Removes the file at this path. Where it can't be removed, what is left of it keeps nobody from the report.
-fn remove<R: Files<File = File>>(rt: &R, path: &str) {
-    let _ = fs::remove_file(rt, path);
+/// The plan's sessions, and how much each may ask for.
+fn serving_of(plan: &Plan<'_>) -> Serving {
+    let limits = match plan.session_requests {
+        Some(requests) => SessionLimits::of_requests(requests),
+        None => SessionLimits::usual(),
+    };
+    Serving {
+        sessions: plan.sessions,
+        limits,
+    }
 }
 
-/// So many sinks, and the socket. Refused by `NoMemory`, `CannotOpenSink` and `SocketFault`, in this order.
-fn open_all<'a, R: AllocGlobal + Net + Dial + Files<File = File>>(
-    rt: &'a R,
-    plan: &Plan<'_>,
-    net: &'a UnixNet<'a, R>,
-    place: SinkPlace<'a>,
+/// So many sinks, and the record's file where one is wanted. Refused by `NoMemory`, `CannotOpenSink` and `CannotWrite`, in this
+/// order.
+fn open_all<'a, 'p, R: AllocGlobal + Eprint + Net + Dial + Files<File = File>>(
+    run: &Running<'a, R>,
+    plan: &Plan<'p>,
     count: usize,
-) -> Result<(Vec<DaemonSink<'a, UnixNet<'a, R>>>, UnixListener), Hindrance>
+) -> Result<(Vec<DaemonSink<'a, UnixNet<'a, R>>>, Option<RecordFile<'p>>), Hindrance>
     ensures { IfOk result (λ r. vec_len r.0 ≡ count) }
 {
-    let sinks = open_sinks(rt, rt.alloc(), net, place, plan.domain, count)?;
-    match bound(rt, plan.socket) {
-        Some(listener) => Ok((sinks, listener)),
-        None => {
+    let sinks = open_sinks(run, plan.domain, count)?;
+    match open_record(run, plan) {
+        Ok(record) => Ok((sinks, record)),
+        Err(why) => {
             drop(sinks);
-            Err(Hindrance::SocketFault)
+            Err(why)
         }
     }
 }
 
-/// The socket at this path, where it can be bound. An accept there doesn't block: it has a limit of its own.
-fn bound<R: Net + Files<File = File>>(rt: &R, path: &str) -> Option<UnixListener> {
-    // the system would take an empty path for a socket without a name
-    if path.is_empty() {
-        return None;
-    }
-    let listener = UnixListener::bind(rt, path).ok()?;
-    match listener.set_nonblocking(true) {
-        Ok(()) => Some(listener),
-        Err(_) => {
-            remove(rt, path);
-            None
-        }
+/// The record's file, where one is wanted. Refused by `CannotWrite`.
+fn open_record<'a, 'p, R: Eprint + Files<File = File>>(
+    run: &Running<'a, R>,
+    plan: &Plan<'p>,
+) -> Result<Option<RecordFile<'p>>, Hindrance> {
+    let Some(path) = plan.record else {
+        return Ok(None);
+    };
+    match RecordFile::open(run.rt, run.notices, path, plan.sink) {
+        Some(file) => Ok(Some(file)),
+        None => Err(Hindrance::CannotWrite),
     }
 }
 
 /// Gathers what was served on, writes the record where one is wanted, and prints the domain. The posts are those of all workers.
 fn finish<'a, R, C, F, S, G>(
-    rt: &'a R,
+    run: &Running<'a, R>,
     plan: &Plan<'_>,
-    net: &'a UnixNet<'a, R>,
-    place: SinkPlace<'a>,
     shared: Shared<&'a R, C, F, S, G>,
     posts: Vec<Post<C, F, S, G>>,
+    record: Option<RecordFile<'_>>,
 ) -> Result<(), Fault<'static>>
 where
     R: Runtime + AllocGlobal + Net + Dial + Wait + Files<File = File>,
@@ -270,9 +375,9 @@ where
     requires posts { map (λ p. p.seat.worker) posts.items ≡ map (λ s. s.worker) (new_seats shared.workers) }
     ensures { IfErr result (IsFaultOfServing plan.now) }
 {
-    let recorded = gather_all(rt, plan, net, place, &shared, posts);
+    let recorded = gather_all(run, &shared, posts, record);
     let domain = shared.into_domain();
-    let told = tell(rt, plan, &domain, recorded);
+    let told = tell(run.rt, plan, &domain, recorded);
     drop(domain);
     told
 }
@@ -294,15 +399,13 @@ fn tell<R: Runtime + AllocGlobal>(
 
 /// Gathers the seats of the posts, and writes the record where one is wanted.
 fn gather_all<'a, R, Q, C, F, S, G>(
-    rt: &'a R,
-    plan: &Plan<'_>,
-    net: &'a UnixNet<'a, R>,
-    place: SinkPlace<'a>,
+    run: &Running<'a, R>,
     shared: &Shared<Q, C, F, S, G>,
     posts: Vec<Post<C, F, S, G>>,
+    record: Option<RecordFile<'_>>,
 ) -> Result<(), Hindrance>
 where
-    R: AllocGlobal + Net + Dial + Files<File = File>,
+    R: AllocGlobal + Eprint + Net + Dial + Files<File = File>,
     Q: Wait,
     C: Ledger,
     F: Ledger,
@@ -310,16 +413,14 @@ where
     G: Ledger,
     requires posts { map (λ p. p.seat.worker) posts.items ≡ map (λ s. s.worker) (new_seats shared.now.workers) }
 {
-    let Some(seats) = seats_of(rt, rt.alloc(), net, place, shared, posts) else {
+    let mut record = record;
+    let Some(seats) = seats_of(run, shared, posts) else {
         return Err(Hindrance::NoMemory);
     };
     let Ok(_totals) = shared.gather(seats) else {
         unreachable!();
     };
-    match plan.record {
-        Some(path) => write_record(rt, path, shared),
-        None => Ok(()),
-    }
+    write_record(run, shared, &mut record)
 }
 
 /// The bounds of the plan's domain: in the second profile where the plan has a depot, else in the first. Refused by
@@ -493,7 +594,7 @@ fn book_of<C: Ledger, F: Ledger, S: Ledger, G: Ledger>(
             plan.domain,
             bounds,
             plan.workers,
-            RECORDED_STEPS,
+            most_steps(plan),
             count,
             frames,
             sum_lo,
@@ -521,6 +622,13 @@ fn book_of<C: Ledger, F: Ledger, S: Ledger, G: Ledger>(
     }
 }
 
+/// How many steps are recorded, where a record is wanted.
+fn most_steps(plan: &Plan<'_>) -> usize
+    ensures { result ≡ steps_of plan.now.record_steps }
+{
+    plan.record_steps.unwrap_or(RECORDED_STEPS) as usize
+}
+
 /// The domain, and a post at each seat. None for want of memory.
 fn posted<Q: Drop, C: Ledger, F: Ledger, S: Ledger, G: Ledger>(
     alloc: Global,
@@ -538,35 +646,29 @@ fn posted<Q: Drop, C: Ledger, F: Ledger, S: Ledger, G: Ledger>(
     }
 }
 
-/// Writes what was recorded to the file at this path, in place of what is there. Refused by `NoMemory` and by `CannotWrite`.
-fn write_record<R, Q, C, F, S, G>(
-    rt: &R,
-    path: &str,
+/// Writes what was recorded to its file, where there is one, in place of what stands there. Refused by `NoMemory` and by
+/// `CannotWrite`.
+fn write_record<'a, R, Q, C, F, S, G>(
+    run: &Running<'a, R>,
     shared: &Shared<Q, C, F, S, G>,
+    record: &mut Option<RecordFile<'_>>,
 ) -> Result<(), Hindrance>
 where
-    R: AllocGlobal + Files<File = File>,
+    R: AllocGlobal + Eprint,
     Q: Wait,
     C: Ledger,
     F: Ledger,
     S: Ledger,
     G: Ledger,
 {
-    let mut text = Vec::new(rt.alloc());
-    match shared.transcript(&mut text) {
-        Ok(_steps) => write_file(rt, path, &text),
-        Err(_) => Err(Hindrance::NoMemory),
-    }
-}
-
-/// Writes these bytes to the file at this path, in place of what is there. Refused by `CannotWrite`.
-fn write_file<R: Files<File = File>>(rt: &R, path: &str, text: &[u8]) -> Result<(), Hindrance> {
-    let Ok(mut file) = File::create(rt, path) else {
-        return Err(Hindrance::CannotWrite);
+    let Some(file) = record else {
+        return Ok(());
     };
-    match write_all(&mut file, text) {
-        Ok(()) => Ok(()),
-        Err(_) => Err(Hindrance::CannotWrite),
+    let mut text = Vec::new(run.rt.alloc());
+    match shared.transcript(&mut text) {
+        Ok(_steps) if file.write(run.notices, &text) => Ok(()),
+        Ok(_steps) => Err(Hindrance::CannotWrite),
+        Err(_) => Err(Hindrance::NoMemory),
     }
 }
 
@@ -590,22 +692,19 @@ fn posts_of<C: Ledger, F: Ledger, S: Ledger, G: Ledger>(
 
 /// So many sinks there. A peer is told by the first one that nothing of the domain is mapped. Refused by `NoMemory` and by
 /// `CannotOpenSink`.
-fn open_sinks<'a, R: Net + Dial + Files<File = File>>(
-    rt: &'a R,
-    alloc: Global,
-    net: &'a UnixNet<'a, R>,
-    place: SinkPlace<'a>,
+fn open_sinks<'a, R: AllocGlobal + Eprint + Net + Dial + Files<File = File>>(
+    run: &Running<'a, R>,
     domain: u64,
     count: usize,
 ) -> Result<Vec<DaemonSink<'a, UnixNet<'a, R>>>, Hindrance>
     ensures { IfOk result (λ v. vec_len v ≡ count) }
 {
-    let Ok(mut sinks) = Vec::with_capacity(alloc, count) else {
+    let Ok(mut sinks) = Vec::with_capacity(run.rt.alloc(), count) else {
         return Err(Hindrance::NoMemory);
     };
     for at in 0..count {
         let reset = if at == 0 { Some(domain) } else { None };
-        let Some(sink) = open_sink(rt, net, place, reset) else {
+        let Some(sink) = open_sink(run.rt, run.notices, run.net, run.place, reset) else {
             return Err(Hindrance::CannotOpenSink);
         };
         let Ok(()) = sinks.push(sink) else {
@@ -617,15 +716,12 @@ fn open_sinks<'a, R: Net + Dial + Files<File = File>>(
 
 /// The posts' seats, in their order, once the clients that still wait were tried again. None for want of memory.
 fn seats_of<'a, R, Q, C, F, S, G>(
-    rt: &'a R,
-    alloc: Global,
-    net: &'a UnixNet<'a, R>,
-    place: SinkPlace<'a>,
+    run: &Running<'a, R>,
     shared: &Shared<Q, C, F, S, G>,
     posts: Vec<Post<C, F, S, G>>,
 ) -> Option<Vec<Seat<C, F, S, G>>>
 where
-    R: Net + Dial + Files<File = File>,
+    R: AllocGlobal + Eprint + Net + Dial + Files<File = File>,
     Q: Wait,
     C: Ledger,
     F: Ledger,
@@ -633,11 +729,11 @@ where
     G: Ledger,
     ensures { IfSome result (λ v. map (λ s. s.worker) v.items ≡ map (λ p. p.seat.worker) posts.items) }
 {
-    let Ok(mut seats) = Vec::with_capacity(alloc, posts.len()) else {
+    let Ok(mut seats) = Vec::with_capacity(run.rt.alloc(), posts.len()) else {
         return None;
     };
     for post in posts {
-        let Ok(()) = seats.push(seat_of(rt, net, place, shared, post)) else {
+        let Ok(()) = seats.push(seat_of(run, shared, post)) else {
             unreachable!();
         };
     }
@@ -646,14 +742,12 @@ where
 
 /// The post's seat, once the clients that still wait were tried again.
 fn seat_of<'a, R, C, F, S, G, K>(
-    rt: &'a R,
-    net: &'a UnixNet<'a, R>,
-    place: SinkPlace<'a>,
+    run: &Running<'a, R>,
     keeper: K,
     post: Post<C, F, S, G>,
 ) -> Seat<C, F, S, G>
 where
-    R: Net + Dial + Files<File = File>,
+    R: Eprint + Net + Dial + Files<File = File>,
     C: Ledger,
     F: Ledger,
     S: Ledger,
@@ -664,7 +758,7 @@ where
     let mut keeper = keeper;
     let mut post = post;
     if !post.waiting.is_empty() {
-        retry_at(rt, net, place, &mut keeper, &mut post);
+        retry_at(run, &mut keeper, &mut post);
     }
     let Post {
         seat,
@@ -675,15 +769,9 @@ where
 }
 
 /// Tries the clients that wait at this post again, where a sink can be opened.
-fn retry_at<'a, R, C, F, S, G, K>(
-    rt: &'a R,
-    net: &'a UnixNet<'a, R>,
-    place: SinkPlace<'a>,
-    keeper: &mut K,
-    post: &mut Post<C, F, S, G>,
-)
+fn retry_at<'a, R, C, F, S, G, K>(run: &Running<'a, R>, keeper: &mut K, post: &mut Post<C, F, S, G>)
 where
-    R: Net + Dial + Files<File = File>,
+    R: Eprint + Net + Dial + Files<File = File>,
     C: Ledger,
     F: Ledger,
     S: Ledger,
@@ -691,7 +779,7 @@ where
     K: Keep<C, F, S, G>,
     ensures { post.new.seat.worker ≡ post.old.seat.worker }
 {
-    if let Some(mut sink) = open_sink(rt, net, place, None) {
+    if let Some(mut sink) = open_sink(run.rt, run.notices, run.net, run.place, None) {
         let _left = retry(keeper, post, &mut sink);
     }
 }

@@ -2,14 +2,18 @@
 #![tactic(auto)]
 
 mod answer;
+mod cause;
 mod checking;
 mod daemon;
 mod fault;
+mod listening;
 mod outcome;
+mod record_file;
 mod regions;
 mod replaying;
 mod sinks;
 
+use cause::tell_cause;
 use checking::check_planned;
 use daemon::serve;
 use fault::Fault;
@@ -79,11 +83,14 @@ where
 /// Asks the lines of standard input of the socket at this path, and prints the answers.
 fn ask_at<R>(rt: &R, path: &str) -> Result<(), Fault<'static>>
 where
-    R: Runtime + AllocGlobal + Net,
+    R: Runtime + AllocGlobal + Net + Log,
 {
     match UnixStream::connect(rt, path) {
         Ok(stream) => ask_over(rt, SocketLink::new(stream)),
-        Err(_) => Err(Fault::SocketFault),
+        Err(error) => {
+            tell_cause(rt, "connect", path, &error);
+            Err(Fault::SocketFault)
+        }
     }
 }
 

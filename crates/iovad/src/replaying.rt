@@ -1,5 +1,6 @@
 //! A trace replayed as the words ask for it.
 use crate::answer::answer;
+use crate::cause::tell_cause;
 use crate::fault::Fault;
 use iova_command::words::STANDARD_INPUT;
 use iova_trace::log::{Log, LogWriter, NoLog};
@@ -20,14 +21,17 @@ pub fn replay<'a, R>(
     log: Option<&'a str>,
 ) -> Result<(), Fault<'a>>
 where
-    R: Runtime + AllocGlobal + Files<File = File>,
+    R: Runtime + AllocGlobal + Files<File = File> + log::Log,
 {
     let Some(name) = log else {
         return replay_trace(rt, path, has_report, &mut NoLog);
     };
     match File::create(rt, name) {
         Ok(file) => replay_to(rt, path, has_report, file),
-        Err(_) => Err(Fault::CannotWrite),
+        Err(error) => {
+            tell_cause(rt, "open", name, &error);
+            Err(Fault::CannotWrite)
+        }
     }
 }
 

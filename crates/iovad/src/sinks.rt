@@ -1,4 +1,5 @@
 //! The sinks of a daemon: files that take records, or connections to a peer that answers.
+use crate::cause::tell_cause;
 use iova_command::plan::Plan;
 use iova_range::limits::SINK_TIMEOUT;
 use iova_range::range::Range;
@@ -8,6 +9,7 @@ use iova_sink::file::FileDevice;
 use iova_sink::record::RecordSink;
 use iova_sink::sink::{Sink, SinkFault};
 use iova_sink::socket::SocketChannel;
+use log::{Log, error};
 use std::fs;
 use std::fs::File;
 use std::net::Net;
@@ -74,38 +76,47 @@ fn is_socket<R: Files<File = File>>(rt: &R, path: &str) -> bool {
 }
 
 /// A sink there; a peer is told first that nothing is mapped of the domain that is to be reset, where one is. None where the file
-/// can't be opened, nobody listens, or the peer didn't answer that it is done.
-pub fn open_sink<'a, R: Files<File = File>, N: Net>(
+/// can't be opened, nobody listens, or the peer didn't answer that it is done; which is told.
+pub fn open_sink<'a, R: Files<File = File>, W: Log, N: Net>(
     rt: &R,
+    notices: &W,
     net: &'a N,
     place: SinkPlace<'a>,
     reset: Option<u64>,
 ) -> Option<DaemonSink<'a, N>> {
     if place.has_peer {
-        return match open_peer(net, place, reset) {
+        return match open_peer(notices, net, place, reset) {
             Some(sink) => Some(EitherSink::Second(sink)),
             None => None,
         };
     }
     match FileDevice::open(rt, place.path) {
         Ok(device) => Some(EitherSink::First(RecordSink::new(device))),
-        Err(_) => None,
+        Err(error) => {
+            tell_cause(notices, "open", place.path, &error);
+            None
+        }
     }
 }
 
 /// A sink over a connection to the peer.
-fn open_peer<'a, N: Net>(
+fn open_peer<'a, W: Log, N: Net>(
+    notices: &W,
     net: &'a N,
     place: SinkPlace<'a>,
     reset: Option<u64>,
 ) -> Option<ChannelSink<SocketChannel<'a, N>>> {
     let mut channel = SocketChannel::new(net, place.path, place.seconds);
     if channel.connect().is_err() {
+        error!(notices; "connect {}: nobody answers", place.path);
         return None;
     }
     let mut sink = ChannelSink::new(channel);
     match reset {
-        Some(domain) if sink.reset(domain).is_err() => None,
+        Some(domain) if sink.reset(domain).is_err() => {
+            error!(notices; "reset {}: not answered as done", place.path);
+            None
+        }
         _ => Some(sink),
     }
 }
