@@ -17,7 +17,7 @@ invariant-reading g l = record {
   now : l.lines ≡ Some next;
   unended : IsUnended next;
   goes : AllAnswered taken ps next written;
-  count : length ps + l.left ≡ l.limits.requests;
+  count : length ps + l.left ≡ l.fn.limits.requests;
   reads : g.L.Link.reads l.link ≡ g.L.Link.reads l.initial.link + l.counter;
   failures : g.L.Link.failures l.link ≡ g.L.Link.failures l.initial.link;
   ends : g.L.Link.ends l.link ≡ g.L.Link.ends l.initial.link;
