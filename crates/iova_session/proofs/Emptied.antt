@@ -1,10 +1,9 @@
 -- A round of tries where nobody else holds a range and no call of the sink fails: each client that waits ends, and nobody holds anything.
-use Rattle.std.proofs.Common.{ℕ, zero, suc, ◌≡◌, ◌≢◌, ◌+◌, ◌<◌, ◌≤◌, ◌⊎◌, inl, inr, Bool, true, false, List, [], ◌∷◌, ◌++◌, Option, Some, None, refl, sym, ap, ◌∙◌, subst, arith, length}
+use Rattle.std.proofs.Common.{ℕ, zero, suc, ◌≡◌, ◌≢◌, ◌<◌, ◌≤◌, ◌⊎◌, inl, inr, Bool, true, false, List, [], ◌∷◌, ◌++◌, Option, Some, None, refl, sym, ap, ◌∙◌, subst, arith, length}
 use Rattle.std.specs.Prelude.{Contains, IfSome, slice_index_or, option_and_then}
 use Rattle.std.specs.List.{AllByRecursion}
 use Rattle.std.proofs.lemmas.Bool.{cases_eq}
 use Rattle.std.proofs.lemmas.Bool.Decides.{nat_tests}
-use Rattle.iova_range.specs.declared.limits.TheConstants.{MAX_HOLDINGS}
 use Rattle.iova_range.specs.Frames.{Frames}
 use Rattle.iova_model.specs.Clients.{Client, client_with, client_of, has_id, if_owned, forgotten, all_holdings}
 use Rattle.iova_model.specs.State.{State}
@@ -14,11 +13,11 @@ use Rattle.iova_sink.specs.Calls.{Call, Gone, failed_calls}
 use Rattle.iova_keep.specs.Views.{SeatState, WhereKnown, IsKept}
 use Rattle.iova_session.specs.declared.leaving.Leaving.{Leaving}
 use Rattle.iova_session.specs.declared.leaving.Attempt.{Attempt}
-use Rattle.iova_session.specs.Leaving.{holdings_in, IsTold, EndsAfter, Departs, Attempts}
+use Rattle.iova_session.specs.Leaving.{holdings_in, IsTold, EndsAfter, Attempts}
 use Rattle.iova_session.specs.Posts.{Retries, RetriesAll, kept_if}
 use Rattle.iova_session.specs.Gone.{IsOneOf, EndsAll, EndsWhereGood}
 use Rattle.iova_session.proofs.Gone.{forgotten_is_gone}
-use Rattle.iova_session.proofs.LoneEnds.{Calm, LoneEnd, lone_end, end_rises, failed_append}
+use Rattle.iova_session.proofs.LoneEnds.{Calm, lone_end, end_rises, failed_append}
 
 -- Who holds a range.
 

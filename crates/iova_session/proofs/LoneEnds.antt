@@ -1,8 +1,7 @@
 -- The end of a client where nobody else holds a range and the sink answers well: it is told as `Ended`, or there is no such client.
 use Rattle.std.proofs.Common.{ℕ, ◌≡◌, ◌+◌, ◌<◌, ◌≤◌, ◌⊎◌, inl, inr, Bool, true, false, List, [], ◌∷◌, ◌++◌, Option, Some, None, refl, sym, ap, ◌∙◌, subst, arith, length-append}
-use Rattle.std.specs.Prelude.{Result, Ok, Err, length, nat_le, option_and_then, sum_by}
+use Rattle.std.specs.Prelude.{Result, length, sum_by}
 use Rattle.std.specs.List.{AllByRecursion}
-use Rattle.std.proofs.lemmas.Bool.{cases_Bool}
 use Rattle.std.proofs.lemmas.Bool.Decides.{nat_tests}
 use Rattle.std.proofs.lemmas.List.Sums.{sum_by-append}
 use Rattle.iova_range.specs.declared.limits.TheConstants.{MAX_SERIAL}
@@ -13,15 +12,14 @@ use Rattle.iova_model.specs.declared.step.Step.TheVariants as step
 use Rattle.iova_model.specs.declared.step.Reply.{Reply}
 use Rattle.iova_model.specs.declared.step.Reply.TheVariants as reply
 use Rattle.iova_model.specs.declared.totals.Totals.{Totals}
-use Rattle.iova_model.specs.Clients.{Client, client_with, client_of, has_id, forgotten, totals_of, totals, all_holdings}
+use Rattle.iova_model.specs.Clients.{Client, client_with, client_of, has_id, forgotten, totals, all_holdings}
 use Rattle.iova_model.specs.State.{State}
 use Rattle.iova_model.specs.Valid.{IsValid, IsClient}
 use Rattle.iova_model.specs.Next
-use Rattle.iova_model.specs.Laws.{StepsKeepValidity, add_totals, to_queue}
+use Rattle.iova_model.specs.Laws.{StepsKeepValidity, to_queue}
 use Rattle.iova_laws.proofs.Finds.{owned}
-use Rattle.iova_sink.specs.Calls.{Call, Invalidation, failed_in, failed_calls}
+use Rattle.iova_sink.specs.Calls.{Call, Invalidation, failed_calls}
 use Rattle.iova_keep.specs.declared.ending.Ending.{Ending}
-use Rattle.iova_keep.specs.declared.ending.Ending.TheVariants as ending
 use Rattle.iova_keep.specs.Steps.{Takes}
 use Rattle.iova_keep.specs.Views.{IsUnknown, SeatState}
 use Rattle.iova_keep.specs.Answers.{DoesEndClient}
@@ -29,7 +27,7 @@ use Rattle.iova_keep.specs.Events.{Event, Ran, NotRun, Invalidated, Leads, IsSho
 use Rattle.iova_session.specs.Gone.{HasAtLeast}
 use Rattle.iova_session.specs.Leaving.{still_waits}
 use Rattle.iova_session.proofs.Gone.{takes_valid, leads_split}
-use Rattle.iova_session.proofs.LoneSteps.{Lone, Full, Left, Says, Flying, Fresh, takes_lone, never_short, begin_lone, end_lone}
+use Rattle.iova_session.proofs.LoneSteps.{Lone, Full, Left, Flying, Fresh, takes_lone, never_short, begin_lone, end_lone}
 
 -- The calls of the sink.
 

@@ -1,5 +1,5 @@
 -- A client that is closed where no flush is in flight but its own: the states between the steps of its end.
-use Rattle.std.proofs.Common.{inl, inr, ℕ, zero, suc, ◌≡◌, ◌+◌, ◌<◌, ◌≤◌, ◌==◌, Bool, true, false, List, [], ◌∷◌, ◌++◌, Option, Some, None, refl, sym, ap, ◌∙◌, subst, arith}
+use Rattle.std.proofs.Common.{inl, inr, ℕ, zero, suc, ◌≡◌, ◌+◌, ◌<◌, ◌≤◌, ◌==◌, true, false, List, [], ◌∷◌, Some, refl, sym, ap, ◌∙◌, subst, arith}
 use Rattle.std.specs.Prelude.{length, not, slice_get, option_and_then, nat_le, slice_index_or, slice_set, sum_by}
 use Rattle.std.specs.List.{AllByRecursion}
 use Rattle.std.proofs.lemmas.Bool.{cond_both, lt-leb}
@@ -21,7 +21,7 @@ use Rattle.iova_model.specs.Valid.{IsValid, IsRing}
 use Rattle.iova_model.specs.Next
 use Rattle.iova_model.specs.Laws.{add_totals, to_queue}
 use Rattle.iova_model.proofs.Unless.{unless_taken}
-use Rattle.iova_laws.proofs.Finds.{owned, changed_found}
+use Rattle.iova_laws.proofs.Finds.{changed_found}
 use Rattle.iova_keep.specs.Steps.{Takes}
 use Rattle.iova_keep.specs.Views.{Lacks}
 use Rattle.iova_keep.specs.Events.{IsShort}

@@ -31,7 +31,7 @@ pub record HasNumbers (space : ℕ) (s : State) : Type 0 where
   pub room : MAX_HOLDINGS ≤ space
   pub flushes : s.flushes.start + length (all_holdings s.clients) ≤ MAX_SERIAL
 
--- no call of the sink failed in between
+-- No call of the sink failed in between: calls are only appended, and so each of those that were went well.
 abbrev pub NoneFailed : List Call → List Call → Type 0
 NoneFailed before now = failed_calls now ≡ failed_calls before
 
