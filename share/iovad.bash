@@ -11,13 +11,17 @@ _iovad() {
       mapfile -t COMPREPLY < <(compgen -f -- "$word")
       return
       ;;
-    --workers | --domain | --start | --first | --last | --sessions | --depot | --did | --reserve | --sink-timeout) return ;;
+    --workers | --domain | --start | --first | --last | --sessions | --session-requests | --idle | --record-steps | --depot | --did | --reserve | --sink-timeout) return ;;
   esac
+  if [ "$before" = --log-level ]; then
+    mapfile -t COMPREPLY < <(compgen -W "error warn info debug" -- "$word")
+    return
+  fi
   case $command in
     replay) mapfile -t COMPREPLY < <(compgen -W "--report --log --help" -- "$word"; compgen -f -- "$word") ;;
     serve)
       mapfile -t COMPREPLY < <(
-        compgen -W "--socket --workers --domain --start --last --sink --sessions --depot --strict --record --reserve --reserved-regions --sink-timeout --help" -- "$word"
+        compgen -W "--socket --workers --domain --start --last --sink --sessions --session-requests --idle --depot --strict --record --record-steps --reserve --reserved-regions --sink-timeout --log-level --help" -- "$word"
       )
       ;;
     ask) mapfile -t COMPREPLY < <(compgen -W "--help" -- "$word"; compgen -f -- "$word") ;;

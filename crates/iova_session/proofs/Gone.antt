@@ -31,7 +31,7 @@ none_below id low [] top rise le = refl
 none_below id low (x ∷ cs) top rise le = grind (arith, nat_tests, none_below id x.id cs top rise.1)
 
 -- a client that is forgotten is gone
-forgotten_is_gone : (id low : ℕ) (clients : List Client) (top : ℕ) → SerialsRise low clients top → client_with id (forgotten id clients) ≡ None
+pub forgotten_is_gone : (id low : ℕ) (clients : List Client) (top : ℕ) → SerialsRise low clients top → client_with id (forgotten id clients) ≡ None
 forgotten_is_gone id low [] top rise = refl
 forgotten_is_gone id low (x ∷ cs) top rise = grind (arith, nat_tests, forgotten_is_gone id x.id cs top rise.1, none_below id x.id cs top rise.1)
 
@@ -118,7 +118,7 @@ module _ (s : State) (w id : ℕ) (rise : SerialsRise 0 s.clients s.serial) wher
 
 -- Steps in a valid domain.
 
-takes_valid : StepsKeepValidity → (s : State) (st : Step) (r : Reply) (t : State) → IsValid s → Takes s st r t → IsValid t
+pub takes_valid : StepsKeepValidity → (s : State) (st : Step) (r : Reply) (t : State) → IsValid s → Takes s st r t → IsValid t
 unfolding Takes
 takes_valid law s st r t valid h = subst IsValid (sym h.2) (law s st h.0 valid)
 
@@ -138,7 +138,7 @@ end_there s w id n ok r t h there =
 
 -- Holds.
 
-leads_split : (es fs : List Event) (s t : State) → Leads s (es ++ fs) t → (mid : State) × Leads s es mid × Leads mid fs t
+pub leads_split : (es fs : List Event) (s t : State) → Leads s (es ++ fs) t → (mid : State) × Leads s es mid × Leads mid fs t
 leads_split [] fs s t l = (s, refl, l)
 leads_split (Ran st r ∷ es) fs s t l = let h = leads_split es fs l.0 t l.2 in (h.0, (l.0, l.1, h.1), h.2)
 leads_split (NotRun st held ∷ es) fs s t l = let h = leads_split es fs s t l.1 in (h.0, (l.0, h.1), h.2)

@@ -8,11 +8,15 @@ mod InTurn
 mod ToldPairs
 mod EndedClients
 mod Gone
+mod LoneSteps
+mod LoneEnds
 mod Departures
 mod Retrying
+mod Emptied
 mod Others
 mod Alone
 mod Leads
 mod Kept
 mod Each
 mod Histories
+mod ExamplesGone
