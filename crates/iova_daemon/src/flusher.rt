@@ -54,6 +54,6 @@ where
 /// A round that is refused is a notice.
 fn note_round<N: Log>(notices: &N, round: Result<u64, Refusal>) {
     if let Err(refusal) = round {
-        warn!(notices; "the flusher is refused: {refusal}");
+        warn!(notices; target: "", "the flusher is refused: {refusal}");
     }
 }

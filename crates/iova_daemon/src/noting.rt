@@ -40,7 +40,7 @@ impl<'a, D: Sink, N: Log> Sink for NotingSink<'a, D, N> {
 
 /// A notice of what happened to the flush, the client or the session of this number.
 pub(crate) fn note<N: Log>(notices: &N, what: &str, number: u64, how: &str) {
-    warn!(notices; "{what} {number}: {how}");
+    warn!(notices; target: "", "{what} {number}: {how}");
 }
 
 /// A session's end is a warning where the link failed, or memory was refused.
@@ -57,5 +57,5 @@ pub(crate) fn note_end<N: Log>(notices: &N, session: u64, end: End) {
 
 /// An end of a session that is as it should be, or its client's fault.
 fn note_good_end<N: Log>(notices: &N, session: u64, how: &str) {
-    debug!(notices; "session {session}: {how}");
+    debug!(notices; target: "", "session {session}: {how}");
 }

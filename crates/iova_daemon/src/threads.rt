@@ -154,7 +154,7 @@ where
         let handle = match scope.spawn_with(promise, work) {
             Ok(handle) => handle,
             Err(error) => {
-                lent.cannot_start(promise.0, &error);
+                lent.cannot_start(promise.0, &io::Error::from(error));
                 return false;
             }
         };

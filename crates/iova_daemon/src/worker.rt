@@ -97,7 +97,7 @@ where
     }
 
     fn cannot_start(&self, worker: u64, error: &io::Error) {
-        error!(self.notices; "thread {worker}: {error}");
+        error!(self.notices; target: "", "thread {worker}: {error}");
     }
 }
 

@@ -50,6 +50,7 @@ use std::time::Duration;
 type Notices<'a, R> = Logged<&'a R, Console<&'a R>>;
 
 /// What each part of a daemon's run uses.
+#[derive(Drop)]
 struct Running<'a, R> {
     rt: &'a R,
     notices: &'a Notices<'a, R>,
@@ -102,9 +103,7 @@ where
 /// Tells what is served.
 fn tell_start<R: Eprint>(notices: &Notices<'_, R>, plan: &Plan<'_>, windows: &Windows) {
     let version = VERSION.lines().next().unwrap_or(VERSION);
-    info!(
-        notices;
-        "iovad {version} starts: socket {}, domain {}, frames {} to {}, {} windows, {} workers, sink {}",
+    info!(notices; target: "", "iovad {version} starts: socket {}, domain {}, frames {} to {}, {} windows, {} workers, sink {}",
         plan.socket,
         plan.domain,
         plan.start,
@@ -165,7 +164,7 @@ where
     };
     match serve_links(&run, plan, shared, posts) {
         Ok((Served { shared, posts }, record)) => {
-            info!(notices; "all sessions have ended");
+            info!(notices; target: "", "all sessions have ended");
             finish(&run, plan, shared, posts, record)
         }
         Err(why) => Err(why.fault()),

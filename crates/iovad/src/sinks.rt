@@ -108,13 +108,13 @@ fn open_peer<'a, W: Log, N: Net>(
 ) -> Option<ChannelSink<SocketChannel<'a, N>>> {
     let mut channel = SocketChannel::new(net, place.path, place.seconds);
     if channel.connect().is_err() {
-        error!(notices; "connect {}: nobody answers", place.path);
+        error!(notices; target: "", "connect {}: nobody answers", place.path);
         return None;
     }
     let mut sink = ChannelSink::new(channel);
     match reset {
         Some(domain) if sink.reset(domain).is_err() => {
-            error!(notices; "reset {}: not answered as done", place.path);
+            error!(notices; target: "", "reset {}: not answered as done", place.path);
             None
         }
         _ => Some(sink),
