@@ -1,6 +1,7 @@
 //! The value under the lock.
 ghost use Rattle.iova_record.specs.Records.{WritesLog};
-ghost use Rattle.std.specs.Prelude.{OnErr, ◌≡◌, ◌≢◌, ◌+◌, ◌<◌, ◌≤◌, ◌*◌, ◌⊎◌, ◌↔◌, Err, IsErr, option_copied, option_map, true, false, if◌then◌else◌, Some, None, [], ◌∷◌, IfOk, IfSome, MatchResult, MatchOption, List, length};
+ghost use Rattle.iova_report.specs.Report.{report_text};
+ghost use Rattle.std.specs.Prelude.{OnErr, OnOk, ◌++◌, ◌≡◌, ◌≢◌, ◌+◌, ◌<◌, ◌≤◌, ◌*◌, ◌⊎◌, ◌↔◌, Err, IsErr, option_copied, option_map, true, false, if◌then◌else◌, Some, None, [], ◌∷◌, IfOk, IfSome, MatchResult, MatchOption, List, length};
 ghost use Rattle.iova_range.specs.declared.limits.TheConstants.{MAX_HOLDINGS};
 ghost use Rattle.iova_range.specs.Frames.{Frames};
 ghost use Rattle.iova_model.specs.Clients.{totals, client_of};
@@ -24,6 +25,7 @@ use iova_range::range::Range;
 use iova_range::refusal::Refusal;
 use iova_range::stat::Stat;
 use iova_record::machine::{Machine, Stored};
+use iova_report::report;
 use std::alloc::Global;
 use std::marker::Model;
 use std::sync::ledger::{Blank, Ledger, Share};
@@ -207,6 +209,14 @@ impl<C: Ledger, F: Ledger, S: Ledger, G: Ledger> Book<C, F, S, G> {
         ensures err { OnErr result ((result ≡ Err Refusal.NoMemory) × (out.new.items ≡ out.old.items)) }
     {
         self.machine.transcript(out)
+    }
+
+    /// Appends the domain's report. Refused by `NoMemory`, which appends nothing.
+    pub fn report(&self, out: &mut Vec<u8>) -> Result<(), Refusal>
+        ensures ok { OnOk result (out.new.items ≡ out.old.items ++ report_text self.now.state) }
+        ensures err { OnErr result ((result ≡ Err Refusal.NoMemory) × (out.new.items ≡ out.old.items)) }
+    {
+        report(self.machine.domain(), out)
     }
 
     pub(crate) fn number_of(&self) -> u64

@@ -165,6 +165,13 @@ impl Machine {
         answer.0
     }
 
+    /// The domain, to be read.
+    pub fn domain(&self) -> &Domain
+        ensures { result.now ≡ self.now.state }
+    {
+        &self.domain
+    }
+
     /// The totals over all holdings of all clients.
     pub fn totals(&self) -> Totals
         ensures { result ≡ totals self.now.state.clients }
