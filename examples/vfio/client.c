@@ -30,9 +30,16 @@ struct driver {
     int broker, log;
     uint32_t dice;
     struct buffer buffers[DEPTH];
-    int count;
+    int refused; /* whether somebody said no, which no driver that plays by the rules is told here */
     uint64_t turns, mapped, copies, lost, wrong;
 };
+
+/* Why there is no answer, or that it was a refusal. */
+static int fails_by(struct driver *driver, const char *what, uint64_t error) {
+    fprintf(stderr, "client: %s: %s\n", what, iovad_error_name(error));
+    driver->refused |= error < IOVAD_BAD_PATH;
+    return 1;
+}
 
 static int fails(const char *what, const char *why) {
     fprintf(stderr, "client: %s: %s\n", what, why);
@@ -63,7 +70,10 @@ static int hear(struct driver *driver, const char *text) {
     char said[64];
     ssize_t count = recv(driver->broker, said, sizeof said - 1, 0);
     said[count < 0 ? 0 : count] = 0;
-    return strcmp(said, text) == 0 ? 0 : fails(text, count > 0 ? said : "the broker has left");
+    if (strcmp(said, text) == 0)
+        return 0;
+    driver->refused |= count > 0;
+    return fails(text, count > 0 ? said : "the broker has left");
 }
 
 /* Addresses from the daemon: 16 requests in flight. */
@@ -78,7 +88,7 @@ static int ask(struct driver *driver) {
         driver->buffers[at].first = range.lo;
         error = range.error;
     }
-    return error ? fails("alloc", iovad_error_name(error)) : 0;
+    return error ? fails_by(driver, "alloc", error) : 0;
 }
 
 /* Memory that the broker can have too: each page is marked as this driver's. */
@@ -170,7 +180,7 @@ static int free_all(struct driver *driver) {
         }
         count = again;
     }
-    return error ? fails("free", iovad_error_name(error)) : 0;
+    return error ? fails_by(driver, "free", error) : 0;
 }
 
 static void drop_memory(struct driver *driver) {
@@ -227,7 +237,7 @@ int main(int argc, char **words) {
     drop_memory(&driver);
     if (argc > 4 && (driver.log = open(words[4], O_WRONLY | O_APPEND | O_CLOEXEC)) < 0)
         return fails(words[4], strerror(errno));
-    while (driver.turns < turns && tries < 500) {
+    while (driver.turns < turns && tries < 500 && !driver.refused) {
         failed = open_both(&driver, words[1], words[2]);
         driver.dice = (uint32_t)driver.client;
         while (!failed && driver.turns < turns && !(failed = turn(&driver)))
