@@ -5,13 +5,15 @@
  * IOVAD is the socket of `iovad serve`, BROKER that of the broker's drivers. In each turn it asks for the addresses of 16
  * buffers of 1 to 8 pages, has them mapped, and in each fourth turn, from the first on, copied from one to another by the
  * device; it compares the bytes, has them unmapped, and frees the addresses. What the device was seen to reach is
- * appended to LOG. Where the daemon or the broker goes away it begins anew with the next one, up to so many turns.
+ * appended to LOG. Where the daemon or the broker goes away it begins anew with the next one, up to so many turns. At a
+ * SIGTERM it ends its turn, and is over.
  */
 #define _GNU_SOURCE
 #include "iova_client.h"
 
 #include <inttypes.h>
 #include <fcntl.h>
+#include <signal.h>
 #include <stdio.h>
 #include <stdlib.h>
 #include <sys/mman.h>
@@ -33,6 +35,13 @@ struct driver {
     int refused; /* whether somebody said no, which no driver that plays by the rules is told here */
     uint64_t turns, mapped, copies, lost, wrong;
 };
+
+static volatile sig_atomic_t ending;
+
+static void end(int number) {
+    (void)number;
+    ending = 1;
+}
 
 /* Why there is no answer, or that it was a refusal. */
 static int fails_by(struct driver *driver, const char *what, uint64_t error) {
@@ -234,13 +243,14 @@ int main(int argc, char **words) {
     }
     uint64_t turns = strtoull(words[3], NULL, 10);
     int failed = 0, tries = 0;
+    signal(SIGTERM, end); /* calls that wait go on */
     drop_memory(&driver);
     if (argc > 4 && (driver.log = open(words[4], O_WRONLY | O_APPEND | O_CLOEXEC)) < 0)
         return fails(words[4], strerror(errno));
-    while (driver.turns < turns && tries < 500 && !driver.refused) {
+    while (driver.turns < turns && !ending && tries < 500 && !driver.refused) {
         failed = open_both(&driver, words[1], words[2]);
         driver.dice = (uint32_t)driver.client;
-        while (!failed && driver.turns < turns && !(failed = turn(&driver)))
+        while (!failed && driver.turns < turns && !ending && !(failed = turn(&driver)))
             tries = 0;
         if (!failed)
             failed = iovad_bye(&driver.session) != 0;
