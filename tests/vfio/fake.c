@@ -9,6 +9,7 @@
 #include "device.h"
 
 #include <pthread.h>
+#include <signal.h>
 #include <stdarg.h>
 #include <stdatomic.h>
 #include <stdlib.h>
@@ -67,7 +68,14 @@ static int open_device(void) {
     if (ftruncate(fake.fd, BAR + FRAME))
         return -1;
     fake.registers = mmap(NULL, BAR, PROT_READ | PROT_WRITE, MAP_SHARED, fake.fd, 0);
-    return fake.registers == MAP_FAILED || pthread_create(&fake.thread, NULL, work, NULL) ? -1 : fake.fd;
+    if (fake.registers == MAP_FAILED)
+        return -1;
+    sigset_t all, before; /* signals are for the program's own thread */
+    sigfillset(&all);
+    pthread_sigmask(SIG_SETMASK, &all, &before);
+    int failed = pthread_create(&fake.thread, NULL, work, NULL);
+    pthread_sigmask(SIG_SETMASK, &before, NULL);
+    return failed ? -1 : fake.fd;
 }
 
 int __wrap_open(const char *path, int flags, ...) {
