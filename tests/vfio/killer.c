@@ -37,7 +37,7 @@ int main(int argc, char **words) {
         while (!started && fgets(line, sizeof line, said))
             started = strcmp(line, "started\n") == 0;
         if (started) {
-            usleep((useconds_t)(killed * 37 % 190) * 1000);
+            usleep((useconds_t)(killed * 37 % 150) * 1000);
             killed += kill(child, SIGKILL) == 0;
         } else {
             ended++;
