@@ -113,11 +113,11 @@ static int is_used(struct broker *broker, const struct mapping *mapping) {
     return broker->stage != IDLE && has(mapping, address, broker->job.bytes) && edu_is_busy(&broker->device);
 }
 
-/* Unmaps, under the device's hands where it is at work there: that ends in a fault. */
-static void unmap(struct broker *broker, struct mapping *mapping) {
+/* Unmaps, under the device's hands where it is at work there: that ends in a fault. 0 where it went well. */
+static int unmap(struct broker *broker, struct mapping *mapping) {
     int used = is_used(broker, mapping);
     if (device_unmap(&broker->device, mapping->first * FRAME, mapping->frames * FRAME))
-        device_fails("unmap");
+        return device_fails("unmap");
     if (used && edu_is_busy(&broker->device))
         broker->provoked++;
     else if (used)
@@ -126,15 +126,25 @@ static void unmap(struct broker *broker, struct mapping *mapping) {
     munmap(mapping->memory, mapping->frames * FRAME);
     *mapping = broker->mappings[--broker->count];
     broker->unmapped++;
+    return 0;
 }
 
 /* What this client mapped in these frames, and no more: another's mapping may be there by now. */
-static void unmap_of(struct broker *broker, uint64_t client, uint64_t first, uint64_t frames) {
+static int unmap_of(struct broker *broker, uint64_t client, uint64_t first, uint64_t frames) {
+    int failed = 0;
     for (size_t at = broker->count; at-- > 0;) {
         struct mapping *mapping = &broker->mappings[at];
         if (mapping->client == client && mapping->first >= first && mapping->first - first < frames)
-            unmap(broker, mapping);
+            failed |= unmap(broker, mapping);
     }
+    return failed;
+}
+
+static int unmap_all(struct broker *broker) {
+    int failed = 0;
+    for (size_t at = broker->count; at-- > 0;)
+        failed |= unmap(broker, &broker->mappings[at]);
+    return failed;
 }
 
 static struct mapping *find(struct broker *broker, uint64_t client, uint64_t address, uint64_t bytes) {
@@ -178,25 +188,27 @@ static size_t whole(const char *text) {
     return at ? (size_t)(at - text) + 1 : 0;
 }
 
-static void remove_client(struct broker *broker, uint64_t client, const char *lines) {
+static int remove_client(struct broker *broker, uint64_t client, const char *lines) {
     uint64_t first, frames;
+    int failed = 0;
     broker->gones++;
     if (client < CLIENTS)
         broker->gone[client] = 1;
     while ((lines = strchr(lines, '\n')) && sscanf(++lines, "%" SCNu64 " %" SCNu64, &first, &frames) == 2)
-        unmap_of(broker, client, first, frames);
+        failed |= unmap_of(broker, client, first, frames);
+    return failed;
 }
 
 /* A new daemon, which counts its clients from 1: nothing is left of the earlier one, and its drivers are let go. */
-static void reset(struct broker *broker) {
+static int reset(struct broker *broker) {
+    int failed = unmap_all(broker);
     broker->resets++;
-    while (broker->count > 0)
-        unmap(broker, &broker->mappings[broker->count - 1]);
     for (int at = 0; at < CONNECTIONS; at++)
         if (broker->connections[at].who == DRIVER)
             leave(broker, &broker->connections[at]);
     memset(broker->gone, 0, sizeof broker->gone);
     note_flush(broker, 0);
+    return failed;
 }
 
 /* Carries a request out, and answers: of `gone` and `reset` once the device has ended what it does for such a client.
@@ -204,21 +216,21 @@ static void reset(struct broker *broker) {
 static void carry_out(struct broker *broker, struct connection *connection) {
     uint64_t domain, number = 0;
     char word[8] = "", text[48];
-    int words = sscanf(connection->text, "%7s %" SCNu64 " %" SCNu64, word, &domain, &number), waits = 0;
-    snprintf(text, sizeof text, "done %s %" PRIu64 "\n", word, words == 3 ? number : domain);
+    int words = sscanf(connection->text, "%7s %" SCNu64 " %" SCNu64, word, &domain, &number), waits = 0, failed = 0;
     if (words == 3 && strcmp(word, "inval") == 0) {
         note_flush(broker, number);
         broker->invals++;
     } else if (words == 3 && strcmp(word, "gone") == 0) {
-        remove_client(broker, number, connection->text);
+        failed = remove_client(broker, number, connection->text);
         waits = broker->stage != IDLE && broker->job.client == number;
     } else if (words == 2 && strcmp(word, "reset") == 0) {
-        reset(broker);
+        failed = reset(broker);
         waits = broker->stage != IDLE;
     } else {
         leave(broker, connection);
         return;
     }
+    snprintf(text, sizeof text, "%s %s %" PRIu64 "\n", failed ? "fail" : "done", word, words == 3 ? number : domain);
     if (waits)
         memcpy(connection->owed, text, sizeof text);
     else
@@ -257,8 +269,7 @@ static const char *meet_driver(struct broker *broker, struct connection *connect
         mapping = find(broker, new.client, new.first * FRAME, FRAME);
         if (!mapping || mapping->first != new.first || is_wanted(broker, mapping))
             return mapping ? "no, it is used" : "no mapping";
-        unmap(broker, mapping);
-        return "unmapped";
+        return unmap(broker, mapping) ? "no unmap" : "unmapped";
     }
     if (sscanf(text, "copy %" SCNu64 " %" SCNu64 " %" SCNu64 " %" SCNu64, &job.client, &job.from, &job.to, &job.bytes) == 4) {
         if (connection->job.bytes > 0 || broker->asker == connection || job.bytes == 0 || job.bytes > PIECE)
@@ -420,8 +431,7 @@ int main(int argc, char **words) {
     while (edu_is_busy(&broker.device))
         usleep(1000);
     broker.stage = IDLE;
-    while (broker.count > 0)
-        unmap(&broker, &broker.mappings[broker.count - 1]);
+    unmap_all(&broker);
     for (int at = 0; at < CONNECTIONS; at++)
         if (broker.connections[at].who != NOBODY)
             leave(&broker, &broker.connections[at]);
