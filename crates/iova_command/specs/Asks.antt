@@ -1,11 +1,12 @@
 -- What matched words ask for. Own.
 use Rattle.std.specs.Prelude.{◌≡◌, ◌≢◌, Bool, true, false, List, Option, Some, None, option_map, codes}
 use Rattle.clap.specs.Words.{Row, Text, first_of, one_of}
+use Rattle.iova_command.specs.Controls.{HasControl}
 use Rattle.iova_command.specs.Levels.{HasLevel}
 use Rattle.iova_command.specs.Numbers.{HasNumber, HasOptional}
 use Rattle.iova_command.specs.Spans.{HasSpans}
 use Rattle.iova_command.specs.declared.asked.Asked.{Asked}
-use Rattle.iova_command.specs.declared.asked.Asked.TheVariants.{Replay, Serve, Ask, Check}
+use Rattle.iova_command.specs.declared.asked.Asked.TheVariants.{Replay, Serve, Ask, Check, Control}
 use Rattle.iova_command.specs.declared.check_plan.CheckPlan.{CheckPlan}
 use Rattle.iova_command.specs.declared.plan.Plan.{Plan}
 
@@ -32,6 +33,7 @@ pub record Plans (rows : List Row) (plan : Plan) : Type 0 where
   pub regions : first_of (codes "reserved-regions") rows ≡ option_map (λ path. path.now) plan.regions
   pub sink_timeout : HasOptional rows (codes "sink-timeout") plan.sink_timeout
   pub log_level : HasLevel rows (codes "log-level") plan.log_level
+  pub control : first_of (codes "control") rows ≡ option_map (λ path. path.now) plan.control
 
 -- each part of a check is the option of its name
 pub record PlansCheck (rows : List Row) (plan : CheckPlan) : Type 0 where
@@ -46,11 +48,13 @@ pub record PlansCheck (rows : List Row) (plan : CheckPlan) : Type 0 where
 -- a subcommand of this name and what it matched ask for this
 abbrev pub AsksOf : Text → List Row → Asked → Type 0
 AsksOf name rows (Replay path has_report log) =
-    (name ≢ codes "serve") × (name ≢ codes "ask") × (name ≢ codes "check") × (first_of (codes "file") rows ≡ Some path.now) × HasFlag rows (codes "report") has_report
+    (name ≢ codes "serve") × (name ≢ codes "ask") × (name ≢ codes "check") × (name ≢ codes "control") × (first_of (codes "file") rows ≡ Some path.now) × HasFlag rows (codes "report") has_report
     × (first_of (codes "log") rows ≡ option_map (λ log. log.now) log)
 AsksOf name rows (Serve plan) = (name ≡ codes "serve") × Plans rows plan
 AsksOf name rows (Ask path) = (name ≡ codes "ask") × (first_of (codes "path") rows ≡ Some path.now)
 AsksOf name rows (Check plan) = (name ≡ codes "check") × PlansCheck rows plan
+AsksOf name rows (Control path word) =
+    (name ≡ codes "control") × (first_of (codes "path") rows ≡ Some path.now) × HasControl rows (codes "word") word
 
 -- what matched words ask for; no subcommand asks for a replay of standard input
 abbrev pub AsksFor : Option (Text × List Row) → Asked → Type 0

@@ -43,7 +43,7 @@ replay_app =
 
 abbrev pub serve_app : App
 serve_app =
-    with_rule (with_rule (with_rule (with_rule (with_rule (with_rule (with_rule (with_rule (with_rule (with_rule (with_rule (with_rule (with_rule (with_rule (with_rule (with_rule (with_rule (new_app (codes "serve"))
+    with_rule (with_rule (with_rule (with_rule (with_rule (with_rule (with_rule (with_rule (with_rule (with_rule (with_rule (with_rule (with_rule (with_rule (with_rule (with_rule (with_rule (with_rule (new_app (codes "serve"))
     (option_rule (codes "socket")))
     (number_rule (codes "workers") 1 MAX_WORKERS))
     (number_rule (codes "domain") 0 (MAX_DOMAINS - 1)))
@@ -60,10 +60,14 @@ serve_app =
     (repeated_rule (codes "reserve")))
     (optional_rule (codes "reserved-regions")))
     (optional_number_rule (codes "sink-timeout") 1 MAX_SINK_TIMEOUT))
-    (optional_rule (codes "log-level"))
+    (optional_rule (codes "log-level")))
+    (optional_rule (codes "control"))
 
 abbrev pub ask_app : App
 ask_app = with_rule (new_app (codes "ask")) (place_rule (codes "path"))
+
+abbrev pub control_app : App
+control_app = with_rule (with_rule (new_app (codes "control")) (place_rule (codes "path"))) (place_rule (codes "word"))
 
 abbrev pub check_app : App
 check_app =
@@ -83,7 +87,7 @@ versioned app = record app { top = record app.top { has_version = true } }
 -- the program
 abbrev pub iovad_app : App
 iovad_app =
-    with_subcommand (with_subcommand (with_subcommand (with_subcommand (versioned (new_app (codes "iovad"))) replay_app.top) serve_app.top) ask_app.top) check_app.top
+    with_subcommand (with_subcommand (with_subcommand (with_subcommand (with_subcommand (versioned (new_app (codes "iovad"))) replay_app.top) serve_app.top) ask_app.top) check_app.top) control_app.top
 
 -- a command that is read so, with no option for all of its subcommands
 pub record IsCommand (read : App) (c : Command) : Type 0 where

@@ -1,5 +1,6 @@
 pub mod Asks
 pub mod Commands
+pub mod Controls
 pub mod Levels
 pub mod Numbers
 pub mod Refuses

@@ -1,5 +1,6 @@
 //! What the words of the command line ask for.
 use crate::check_plan::CheckPlan;
+use crate::control_word::ControlWord;
 use crate::plan::Plan;
 
 /// What the words ask for. Own.
@@ -22,5 +23,12 @@ pub enum Asked<'a> {
     Ask {
         /// The path of the daemon's socket.
         path: &'a str,
+    },
+    /// A word for a daemon's control socket.
+    Control {
+        /// The path of that socket.
+        path: &'a str,
+        /// What is asked for.
+        word: ControlWord,
     },
 }

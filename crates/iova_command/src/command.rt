@@ -1,7 +1,7 @@
 //! The command and its help.
 ghost use Rattle.std.specs.Prelude.{◌≡◌, ◌<◌, ◌^◌, IfOk, false};
 ghost use Rattle.clap.specs.Words.{App, rule_of, with_rule, with_subcommand};
-ghost use Rattle.iova_command.specs.Commands.{IsCommand, place_rule, flag_rule, option_rule, optional_rule, repeated_rule, number_rule, optional_number_rule, replay_app, serve_app, ask_app, check_app, iovad_app};
+ghost use Rattle.iova_command.specs.Commands.{IsCommand, place_rule, flag_rule, option_rule, optional_rule, repeated_rule, number_rule, optional_number_rule, replay_app, serve_app, ask_app, check_app, control_app, iovad_app};
 
 use crate::words::VERSION;
 use clap::{Arg, ArgAction, Command, value_parser};
@@ -18,7 +18,8 @@ const USAGE: &str = "iovad < FILE
                    [--sessions N] [--session-requests N] [--idle SECONDS] [--depot N] [--strict]
                    [--record FILE [--record-steps N]] [--reserve FIRST-LAST]..
                    [--reserved-regions FILE] [--sink-timeout SECONDS]
-                   [--log-level error|warn|info|debug]
+                   [--log-level error|warn|info|debug] [--control PATH]
+       iovad control PATH report|metrics|stop
        iovad ask PATH
        iovad check [--quiet] [--first N] [--last N] [--reserved-regions PATH]
                    [--ftrace [--did N]] FILE";
@@ -55,6 +56,13 @@ const REQUESTS: &str = "Requests, a line each, and their answers:
   bye                         bye
 A request that is refused is answered no NUMBER NAME.";
 
+const CONTROL_WORDS: &str = "Words:
+  report   the domain's report
+  metrics  what is counted, in the text form that Prometheus reads
+  stop     the daemon's end: each session answers what it has read, clients
+           that wait are tried once more, the rings are flushed, the report
+           is printed, and the record is written";
+
 const LINES_OF_A_LOG: &str = "Lines of a log, the first one of this form:
   iovalog 1 FIRST LAST
 and then what was done, in frames:
@@ -80,7 +88,8 @@ pub fn iovad_command<'a>(alloc: Global) -> Result<Command<'a>, AllocError>
     let command = with_subcommand(Ok(command), replay_command(alloc));
     let command = with_subcommand(command, serve_command(alloc));
     let command = with_subcommand(command, ask_command(alloc));
-    with_subcommand(command, check_command(alloc))
+    let command = with_subcommand(command, check_command(alloc));
+    with_subcommand(command, control_command(alloc))
 }
 
 fn replay_command<'a>(alloc: Global) -> Result<Command<'a>, AllocError>
@@ -264,13 +273,22 @@ fn serve_command<'a>(alloc: Global) -> Result<Command<'a>, AllocError>
             "The seconds that a sink which is a socket has to answer, 1 to 3600; without it 10",
         ),
     );
-    with_arg(
+    let command = with_arg(
         command,
         optional_path(
             alloc,
             "log-level",
             "LEVEL",
             "Which notices are told on standard error: error, warn, info or debug; without it warn",
+        ),
+    );
+    with_arg(
+        command,
+        optional_path(
+            alloc,
+            "control",
+            "PATH",
+            "The path of a socket for iovad control: the daemon's report, its figures and its stop",
         ),
     )
 }
@@ -282,6 +300,17 @@ fn ask_command<'a>(alloc: Global) -> Result<Command<'a>, AllocError>
         .about("Sends lines from standard input to a socket and prints the answers")
         .after_help(REQUESTS)
         .arg(place(alloc, "path", "PATH", "The socket's path"))
+}
+
+fn control_command<'a>(alloc: Global) -> Result<Command<'a>, AllocError>
+    ensures { IfOk result (IsCommand control_app) }
+{
+    let command = Command::new(alloc, "control")
+        .about("Asks a daemon for its report or its figures, or has it stop")
+        .after_help(CONTROL_WORDS);
+    let path = place(alloc, "path", "PATH", "The path of its control socket");
+    let word = place(alloc, "word", "WORD", "What is asked for");
+    with_arg(with_arg(Ok(command), path), word)
 }
 
 fn check_command<'a>(alloc: Global) -> Result<Command<'a>, AllocError>

@@ -4,6 +4,7 @@
 pub mod asked;
 pub mod check_plan;
 mod command;
+pub mod control_word;
 pub mod plan;
 pub mod usage;
 pub mod words;

@@ -54,6 +54,8 @@ pub struct Plan<'a> {
     pub sink_timeout: Option<u64>,
     /// Which notices are told: those of this level and of those above it.
     pub log_level: LevelFilter,
+    /// The path of the control socket, where one is wanted.
+    pub control: Option<&'a str>,
     pub ghost workers_in_range: { (1 ≤ workers) × (workers ≤ MAX_WORKERS) },
     pub ghost domain_in_range: { domain < MAX_DOMAINS },
     pub ghost start_in_range: { (1 ≤ start) × (start ≤ WIDE_TOP) },
@@ -94,6 +96,7 @@ impl<'a> Plan<'a> {
             regions: found.get_str("reserved-regions"),
             sink_timeout: optional(found, "sink-timeout", 1, MAX_SINK_TIMEOUT)?,
             log_level: level(found, "log-level")?,
+            control: found.get_str("control"),
         };
         if plan.record_steps.is_some() && plan.record.is_none() {
             return None;

@@ -3,11 +3,13 @@ ghost use Rattle.std.specs.Prelude.{◌≡◌, IfErr, IfOk, IfSome, map, true};
 ghost use Rattle.clap.specs.Words.{app_of, fault_of, found_of, is_simple, is_simple_and_free, rows_of, subcommand_of, subcommand_rows_of};
 ghost use Rattle.iova_command.specs.Asks.{AsksFor, AsksOf};
 ghost use Rattle.iova_command.specs.Commands.{iovad_app};
+ghost use Rattle.iova_command.specs.Controls.{HasControl};
 ghost use Rattle.iova_command.specs.Refuses.{IsNotUnderstood, RefusesBy};
 
 use crate::asked::Asked;
 use crate::check_plan::CheckPlan;
 use crate::command::iovad_command;
+use crate::control_word::ControlWord;
 use crate::plan::Plan;
 use crate::usage::WordsFault;
 use clap::error::ErrorKind;
@@ -88,12 +90,23 @@ fn asked_of_command<'a>(name: &str, found: &ArgMatches<'a>) -> Option<Asked<'a>>
             path: found.get_str("path")?,
         }),
         "check" => Some(Asked::Check(CheckPlan::of(found)?)),
+        "control" => Some(Asked::Control {
+            path: found.get_str("path")?,
+            word: control_word(found, "word")?,
+        }),
         _ => Some(Asked::Replay {
             path: found.get_str("file")?,
             has_report: found.get_flag("report"),
             log: found.get_str("log"),
         }),
     }
+}
+
+/// The word of this name for a control socket. None where it is none.
+fn control_word(found: &ArgMatches<'_>, name: &str) -> Option<ControlWord>
+    ensures { IfSome result (λ w. HasControl (rows_of (found_of found.now)) name.now w) }
+{
+    ControlWord::of(found.get_str(name)?)
 }
 
 /// Words that are not understood, for this reason.

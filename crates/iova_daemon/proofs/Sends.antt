@@ -5,5 +5,5 @@ use Rattle.std.proofs.Crossing.{crosses}
 use Rattle.iova_daemon.specs.contracts.worker.Lent as lents
 
 -- it may be shared where all that it has may
-pub Lent-sync : (R N K A T : RattleType) → IsSync R → IsSync N → IsSync K → IsSync A → IsSync T → IsSync (lents.the_row R N K A T)
-Lent-sync R N K A T r n k a t = search (crosses, sendable) depth 20
+pub Lent-sync : (R N K A T X : RattleType) → IsSync R → IsSync N → IsSync K → IsSync A → IsSync T → IsSync X → IsSync (lents.the_row R N K A T X)
+Lent-sync R N K A T X r n k a t x = search (crosses, sendable) depth 20

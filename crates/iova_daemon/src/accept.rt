@@ -9,4 +9,9 @@ pub trait Accept<L> {
 
     /// No session is to come: whoever connects from now on is refused, where that can be done.
     fn close(&self) {}
+
+    /// Whether no link is to come any more, whatever number of sessions is left.
+    fn has_ended(&self) -> bool {
+        false
+    }
 }

@@ -6,17 +6,21 @@ ghost use Rattle.std.specs.Option.{ForSome};
 ghost use Rattle.iova_daemon.specs.Serving.{IsServeRefusal};
 
 pub mod accept;
+pub mod aside;
 mod crossing;
 pub mod dial;
 mod flusher;
 mod noting;
 pub mod pause;
+pub mod served_link;
+pub mod signals;
 pub mod socket;
 mod threads;
 mod turns;
 mod worker;
 
 use crate::accept::Accept;
+use crate::aside::{Aside, Look, NothingAside};
 use crate::crossing::{domains_are_sync, posts_are_send, turns_are_sync};
 use crate::pause::Pause;
 use crate::turns::Turns;
@@ -89,8 +93,17 @@ where
         sessions: Some(sessions),
         limits: SessionLimits::usual(),
     };
-    serve_sessions::<R, Q, N, C, F, S, G, L, A, D, P>(
-        rt, alloc, notices, shared, posts, sinks, accept, pause, serving,
+    serve_sessions::<R, Q, N, C, F, S, G, L, A, D, P, NothingAside>(
+        rt,
+        alloc,
+        notices,
+        shared,
+        posts,
+        sinks,
+        accept,
+        pause,
+        serving,
+        &NothingAside,
     )
 }
 
@@ -101,14 +114,15 @@ where
 /// A worker repeats: it tries its waiting clients again, takes the next session number, where it has none, and, where one is
 /// left, accepts a link and serves a session over it; else it stops. While clients wait an accept takes no longer
 /// than a second, and one that had none keeps the number; an accept that fails uses it up. Once each session had its accept,
-/// no more are accepted (`close`). The flusher repeats:
+/// no more are accepted (`close`). Once no link is to come any more (`has_ended`), a worker tries its waiting clients a last time and
+/// stops, and once all have, the flusher makes a last round. What is to be done `aside` has a thread of its own. The flusher repeats:
 /// it pauses, and stops where the pause says so or all workers have ended; else it makes a round (`timeout`). A session that
 /// ends by `LinkFault` or `NoMemory`, a sink that fails, a round that is refused and a thread that can't be started are notices,
 /// a line each; each other end of a session is one of the level `debug`.
 ///
 /// Refused by `LinkFault` where a thread can't be started: then no link has been accepted, and those that were started are
 /// joined. Refused by `NoMemory` before the first one is started. Own.
-pub fn serve_sessions<R, Q, N, C, F, S, G, L, A, D, P>(
+pub fn serve_sessions<R, Q, N, C, F, S, G, L, A, D, P, X>(
     rt: &R,
     alloc: Global,
     notices: &N,
@@ -118,6 +132,7 @@ pub fn serve_sessions<R, Q, N, C, F, S, G, L, A, D, P>(
     accept: &A,
     pause: P,
     serving: Serving,
+    aside: &X,
 ) -> Result<Served<Q, C, F, S, G>, Refusal>
 where
     R: Threads + Wait + Sync,
@@ -131,6 +146,7 @@ where
     A: Accept<L> + Sync,
     D: Sink + Send + Drop,
     P: Pause + Drop,
+    X: Aside + Sync,
     requires some { 1 ≤ vec_len posts }
     requires sinks { vec_len sinks ≡ vec_len posts + 1 }
     requires parts { ForSome (slice_get posts.items 0) (λ p. 2 ≤ p.seat.tally.parts) }
@@ -140,8 +156,8 @@ where
 {
     // for the proof: that threads may share the domain
     domains_are_sync::<Q, C, F, S, G>();
-    let served = serve_kept::<R, N, C, F, S, G, &Shared<Q, C, F, S, G>, L, A, D, P>(
-        rt, alloc, notices, &shared, posts, sinks, accept, pause, serving,
+    let served = serve_kept::<R, N, C, F, S, G, &Shared<Q, C, F, S, G>, L, A, D, P, X>(
+        rt, alloc, notices, &shared, posts, sinks, accept, pause, serving, aside,
     );
     match served {
         Ok(posts) => Ok(Served { shared, posts }),
@@ -153,7 +169,7 @@ where
 }
 
 /// The same on a domain that is kept elsewhere: gives the posts back.
-fn serve_kept<R, N, C, F, S, G, K, L, A, D, P>(
+fn serve_kept<R, N, C, F, S, G, K, L, A, D, P, X>(
     rt: &R,
     alloc: Global,
     notices: &N,
@@ -163,6 +179,7 @@ fn serve_kept<R, N, C, F, S, G, K, L, A, D, P>(
     accept: &A,
     pause: P,
     serving: Serving,
+    aside: &X,
 ) -> Result<Vec<Post<C, F, S, G>>, Refusal>
 where
     R: Threads + Wait + Sync,
@@ -171,11 +188,12 @@ where
     F: Ledger + Send + Sync,
     S: Ledger + Send + Sync,
     G: Ledger + Send + Sync,
-    K: Keep<C, F, S, G> + Copy + Sync + Drop,
+    K: Keep<C, F, S, G> + Look + Copy + Sync + Drop,
     L: Link + Send + Drop,
     A: Accept<L> + Sync,
     D: Sink + Send + Drop,
     P: Pause + Drop,
+    X: Aside + Sync,
     requires some { 1 ≤ vec_len posts }
     requires sinks { vec_len sinks ≡ vec_len posts + 1 }
     requires parts { ForSome (slice_get posts.items 0) (λ p. 2 ≤ p.seat.tally.parts) }
@@ -190,7 +208,7 @@ where
     let Some(sink) = sinks.pop() else {
         unreachable!()
     };
-    let turns = Turns::new(serving);
+    let turns = Turns::new(serving, posts.len() as u64);
     let mut flusher = Flusher {
         rt,
         notices,
@@ -207,10 +225,11 @@ where
         keeper,
         accept,
         turns: &turns,
+        aside,
     };
     run_all::<
         R,
-        Lent<&R, &N, K, &A, &Turns>,
+        Lent<&R, &N, K, &A, &Turns, &X>,
         Post<C, F, S, G>,
         D,
         L,

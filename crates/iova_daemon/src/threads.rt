@@ -27,12 +27,21 @@ pub(crate) trait Work<P: Place, D, L> {
 
     /// This worker's thread can't be started.
     fn cannot_start(&self, worker: u64, error: &io::Error);
+
+    /// Whether there is anything to do aside.
+    fn is_wanted_aside(&self) -> bool;
+
+    /// Does what there is to do aside, until all workers have ended.
+    fn go_aside(&self);
+
+    /// The thread for what is done aside can't be started.
+    fn cannot_go_aside(&self, error: &io::Error);
 }
 
 /// What is done beside the workers, on the thread that started them.
 pub(crate) trait Beside<P> {
-    /// Does it until so many workers have ended, or before.
-    fn go_on(&mut self, workers: u64);
+    /// Does it until all workers have ended, or before.
+    fn go_on(&mut self);
 }
 
 /// The promise of a thread that the place which it gives back is this worker's.
@@ -41,6 +50,16 @@ pub(crate) struct WorkerIs(u64);
 
 impl<P: Place> Promise<P> for WorkerIs {
     ghost kept_by = { λ p r. P.worker r ≡ p.0 };
+}
+
+/// The promise of a thread that gives nothing back.
+#[derive(Clone, Copy)]
+pub(crate) struct Nothing;
+
+impl Promise<()> for Nothing {
+    ghost use Rattle.std.specs.Prelude.{Unit};
+
+    ghost kept_by = { λ p r. Unit {0} };
 }
 
 /// Starts a worker at each place, goes on beside them, and joins them. It gives the places back in their order. Refused by
@@ -109,16 +128,49 @@ where
     // started workers wait for the gate until all are started
     let mut gate = turns.gate.lock(rt);
     let all = start_all::<E, W, P, D, L>(scope, lent, places, sinks, &mut started);
+    let aside = if all {
+        start_aside::<E, W, P, D, L>(scope, lent)
+    } else {
+        None
+    };
+    let all = aside.is_some();
     *gate = all;
     drop(gate);
     if all {
-        beside.go_on(workers as u64);
+        beside.go_on();
     }
     join_all(rt, started, &mut back);
+    if let Some(Some(aside)) = aside {
+        aside.join(rt);
+    }
     if all {
         Ok(back)
     } else {
         Err(Refusal::LinkFault)
+    }
+}
+
+/// Starts what is done aside, where there is anything to do. None where it can't be started.
+fn start_aside<'s, E, W, P, D, L>(
+    scope: &Scope<'s, E>,
+    lent: &'s W,
+) -> Option<Option<PromisedHandle<(), Nothing>>>
+where
+    E: 's,
+    W: Work<P, D, L> + Sync + 's,
+    P: Place + Send + Drop + 's,
+    D: Send + Drop + 's,
+    L: 's,
+{
+    if !lent.is_wanted_aside() {
+        return Some(None);
+    }
+    match scope.spawn_with(Nothing, move || lent.go_aside()) {
+        Ok(handle) => Some(Some(handle)),
+        Err(error) => {
+            lent.cannot_go_aside(&io::Error::from(error));
+            None
+        }
     }
 }
 

@@ -1,8 +1,9 @@
 //! What the threads of a daemon share beside its domain.
 use crate::Serving;
+use crate::aside::Figures;
 use iova_session::session_limits::SessionLimits;
 use std::sync::Mutex;
-use std::sync::atomic::{AtomicU64, Ordering};
+use std::sync::atomic::{AtomicBool, AtomicU64, Ordering};
 
 /// The gate that workers wait at until all are started, what is served, the next session's number, how many sessions had their
 /// accept, and how many workers have ended.
@@ -13,17 +14,25 @@ pub(crate) struct Turns {
     serving: Serving,
     next: AtomicU64,
     met: AtomicU64,
+    served: AtomicU64,
+    waiting: AtomicU64,
+    stopped: AtomicBool,
+    workers: u64,
     ended: AtomicU64,
 }
 
 impl Turns {
-    /// These sessions, none of which is begun, and a closed gate.
-    pub(crate) fn new(serving: Serving) -> Turns {
+    /// These sessions, none of which is begun, for so many workers, and a closed gate.
+    pub(crate) fn new(serving: Serving, workers: u64) -> Turns {
         Turns {
             gate: Mutex::new(false),
             serving,
             next: AtomicU64::new(0),
             met: AtomicU64::new(0),
+            served: AtomicU64::new(0),
+            waiting: AtomicU64::new(0),
+            stopped: AtomicBool::new(false),
+            workers,
             ended: AtomicU64::new(0),
         }
     }
@@ -48,13 +57,48 @@ impl Turns {
         self.serving.sessions == before.checked_add(1)
     }
 
+    /// A session begins.
+    pub(crate) fn begin_session(&self) {
+        self.served.fetch_add(1, Ordering::SeqCst);
+    }
+
+    /// A session has ended.
+    pub(crate) fn end_session(&self) {
+        self.served.fetch_sub(1, Ordering::SeqCst);
+    }
+
+    /// So many clients of a worker wait now, and not as many as before.
+    pub(crate) fn wait_for(&self, before: u64, now: u64) {
+        self.waiting.fetch_add(now, Ordering::SeqCst);
+        self.waiting.fetch_sub(before, Ordering::SeqCst);
+    }
+
+    /// No session is to come, since a stop was asked for.
+    pub(crate) fn stop(&self) {
+        self.stopped.store(true, Ordering::SeqCst);
+    }
+
+    /// Whether a stop was asked for.
+    pub(crate) fn is_stopped(&self) -> bool {
+        self.stopped.load(Ordering::SeqCst)
+    }
+
+    /// How the sessions stand.
+    pub(crate) fn figures(&self) -> Figures {
+        Figures {
+            served: self.served.load(Ordering::SeqCst),
+            accepted: self.met.load(Ordering::SeqCst),
+            waiting: self.waiting.load(Ordering::SeqCst),
+        }
+    }
+
     /// A worker has ended.
     pub(crate) fn end(&self) {
         self.ended.fetch_add(1, Ordering::SeqCst);
     }
 
-    /// Whether so many workers have ended.
-    pub(crate) fn have_ended(&self, workers: u64) -> bool {
-        self.ended.load(Ordering::SeqCst) >= workers
+    /// Whether all workers have ended.
+    pub(crate) fn have_ended(&self) -> bool {
+        self.ended.load(Ordering::SeqCst) >= self.workers
     }
 }

@@ -2,6 +2,7 @@
 ghost use Rattle.std.specs.Prelude.{◌≡◌};
 
 use crate::accept::Accept;
+use crate::aside::{Aside, Look};
 use crate::noting::{NotingSink, note, note_end};
 use crate::threads::{Place, Work};
 use crate::turns::Turns;
@@ -29,17 +30,18 @@ impl<C: Ledger, F: Ledger, S: Ledger, G: Ledger> Place for Post<C, F, S, G> {
 /// What every worker is lent: references, and a keeper of the domain. Each is a parameter, so that one short law says that
 /// threads may share it where they may share each of them.
 #[derive(Drop)]
-pub(crate) struct Lent<R, N, K, A, T> {
+pub(crate) struct Lent<R, N, K, A, T, X> {
     pub rt: R,
     pub alloc: Global,
     pub notices: N,
     pub keeper: K,
     pub accept: A,
     pub turns: T,
+    pub aside: X,
 }
 
-impl<'e, R, N, C, F, S, G, K, L, A, D> Work<Post<C, F, S, G>, D, L>
-    for Lent<&'e R, &'e N, K, &'e A, &'e Turns>
+impl<'e, R, N, C, F, S, G, K, L, A, D, X> Work<Post<C, F, S, G>, D, L>
+    for Lent<&'e R, &'e N, K, &'e A, &'e Turns, &'e X>
 where
     R: Wait,
     N: Log,
@@ -47,10 +49,11 @@ where
     F: Ledger,
     S: Ledger,
     G: Ledger,
-    K: Keep<C, F, S, G> + Copy,
+    K: Keep<C, F, S, G> + Look + Copy,
     L: Link + Drop,
     A: Accept<L>,
     D: Sink + Drop,
+    X: Aside,
 {
     /// Waits at the gate, and then serves sessions at the post until no number is left. Its waiting clients are tried again
     /// before each accept, and no later than a second after the last try while it waits for a link.
@@ -61,8 +64,16 @@ where
         if *self.turns.gate.lock(self.rt) {
             // the number of the session that is waited for
             let mut number = None;
+            let mut waiting = 0;
             'sessions: for _ in self.rt.forever() {
                 let left = retry(&mut keeper, &mut post, &mut sink);
+                self.turns.wait_for(waiting, left);
+                waiting = left;
+                if self.accept.has_ended() {
+                    self.accept.close();
+                    self.turns.stop();
+                    break 'sessions;
+                }
                 if number.is_none() {
                     number = self.turns.next_session();
                 }
@@ -74,6 +85,7 @@ where
                     Ok(Some(mut link)) => {
                         number = None;
                         meet::<L, A>(self.turns, self.accept);
+                        self.turns.begin_session();
                         let ended = run_session_within(
                             self.alloc,
                             self.turns.limits(),
@@ -82,6 +94,7 @@ where
                             &mut post,
                             &mut sink,
                         );
+                        self.turns.end_session();
                         note_end(self.notices, session, ended.end);
                     }
                     // an accept that fails uses up the number
@@ -98,6 +111,24 @@ where
 
     fn cannot_start(&self, worker: u64, error: &io::Error) {
         error!(self.notices; target: "", "thread {worker}: {error}");
+    }
+
+    fn is_wanted_aside(&self) -> bool {
+        self.aside.is_wanted()
+    }
+
+    fn go_aside(&self) {
+        for _ in self.rt.forever() {
+            if self.turns.have_ended() {
+                return;
+            }
+            self.aside.turn(&self.keeper, self.turns.figures());
+        }
+        unreachable!()
+    }
+
+    fn cannot_go_aside(&self, error: &io::Error) {
+        error!(self.notices; target: "", "thread aside: {error}");
     }
 }
 

@@ -1,5 +1,5 @@
 -- What contracts see of a book and of a lock round it.
-use Rattle.std.specs.Prelude.{ℕ, zero, suc, ◌≡◌, ◌==◌, ◌&&◌, sum_by, Bool, true, false, List, length, Option}
+use Rattle.std.specs.Prelude.{ℕ, zero, suc, ◌≡◌, ◌==◌, ◌&&◌, sum_by, Bool, true, false, List, length, Option, Some, None}
 use Rattle.std.specs.List.{list_any}
 use Rattle.iova_range.specs.Bounds.{Extent}
 use Rattle.iova_model.specs.declared.step.Step.{Step}
@@ -24,6 +24,11 @@ pub record BookState : Type 0 where
 pub record SharedState : Type 0 where
   pub number : ℕ
   pub workers : ℕ
+
+-- how many steps are recorded
+abbrev pub steps_in : Option StepLog → ℕ
+steps_in None = 0
+steps_in (Some log) = length log.pairs
 
 -- a new domain's book
 abbrev pub new_book : ℕ → Extent → ℕ → Option StepLog → BookState

@@ -11,7 +11,7 @@ ghost use Rattle.iova_model.specs.Laws.{MovesTotals, IsReplyTo, ended_well, to_q
 ghost use Rattle.iova_keep.specs.Steps.{Takes, IsGivenWithin, IsDrainReply};
 ghost use Rattle.iova_keep.specs.StepLogs.{StepLog, IsRecorded, is_recording, new_log};
 ghost use Rattle.iova_keep.specs.Events.{Does, Unmapping, IsShort, Closing, Draining, rings_from};
-ghost use Rattle.iova_lock.specs.Books.{BookState, IsSame, by_seat, by_tally, new_book, IsBook};
+ghost use Rattle.iova_lock.specs.Books.{BookState, IsSame, by_seat, by_tally, new_book, steps_in, IsBook};
 ghost use Rattle.iova_keep.specs.Views.{TallyState, SeatState, Covers, new_seats, left_of, stat_of, nothing, IsLowered, IsCloseHeard, IsKept};
 
 use iova_core::domain::Domain;
@@ -209,6 +209,16 @@ impl<C: Ledger, F: Ledger, S: Ledger, G: Ledger> Book<C, F, S, G> {
         ensures err { OnErr result ((result ≡ Err Refusal.NoMemory) × (out.new.items ≡ out.old.items)) }
     {
         self.machine.transcript(out)
+    }
+
+    /// How many steps are recorded.
+    pub fn steps(&self) -> u64
+        ensures { result ≡ steps_in self.now.log }
+    {
+        match self.machine.pairs() {
+            Some(pairs) => pairs.len() as u64,
+            None => 0,
+        }
     }
 
     /// Appends the domain's report. Refused by `NoMemory`, which appends nothing.

@@ -5,8 +5,11 @@ ghost use Rattle.iova_keep.specs.Views.{new_seats};
 ghost use Rattle.iova_command.specs.declared.plan.Plan.{Plan};
 ghost use Rattle.iovad.specs.Plans.{IsAboveProfile, IsBoundsOf, IsFaultOfServing, IsReserved, planned_book, steps_of};
 
+use crate::control::Control;
 use crate::fault::Fault;
-use crate::listening::{listen, remove};
+use crate::listening::{listen, make_private, remove};
+use log::{Log, Logged, info};
+use crate::notices::{CountedConsole, Notices};
 use crate::outcome::print_domain;
 use crate::record_file::RecordFile;
 use crate::regions::add_regions;
@@ -16,6 +19,8 @@ use iova_command::words::VERSION;
 use iova_core::domain::Domain;
 use iova_daemon::dial::{Dial, UnixNet};
 use iova_daemon::pause::Ticks;
+use iova_daemon::served_link::{Patience, ServedLink};
+use iova_daemon::signals::{STOP_PAUSE, Signals};
 use iova_daemon::socket::SocketAccept;
 use iova_daemon::{Served, Serving, serve_sessions};
 use iova_keep::keep::Keep;
@@ -32,9 +37,6 @@ use iova_regions::windows::Windows;
 use iova_session::post::Post;
 use iova_session::retry::retry;
 use iova_session::session_limits::SessionLimits;
-use iova_session::socket_link::SocketLink;
-use log::sink::Console;
-use log::{Log, Logged, info};
 use std::alloc::Global;
 use std::fs::File;
 use std::io;
@@ -46,14 +48,12 @@ use std::sync::ledger::{Blank, Ledger};
 use std::thread::Threads;
 use std::time::Duration;
 
-/// What takes a daemon's notices: standard error, those of the plan's level and above it.
-type Notices<'a, R> = Logged<&'a R, Console<&'a R>>;
-
 /// What each part of a daemon's run uses.
 #[derive(Drop)]
 struct Running<'a, R> {
     rt: &'a R,
     notices: &'a Notices<'a, R>,
+    signals: &'a Signals,
     net: &'a UnixNet<'a, R>,
     place: SinkPlace<'a>,
 }
@@ -91,11 +91,12 @@ where
 {
     let bounds = bounds_of(plan)?;
     let windows = windows_of(rt, plan, bounds)?;
-    let notices = Logged::new(rt, plan.log_level, Console(rt));
+    let signals = Signals::new();
+    let notices = Logged::new(rt, plan.log_level, CountedConsole::new(rt, &signals));
     tell_start(&notices, plan, &windows);
     let made = new_domain::<R, C, F, S, G>(rt, plan, bounds, &windows, count, frames, sum_lo, good);
     match made {
-        Some((shared, posts)) => serve_domain(rt, plan, &notices, shared, posts),
+        Some((shared, posts)) => serve_domain(rt, plan, &notices, &signals, shared, posts),
         None => Err(Fault::NoMemory),
     }
 }
@@ -142,6 +143,7 @@ fn serve_domain<R, C, F, S, G>(
     rt: &R,
     plan: &Plan<'_>,
     notices: &Notices<'_, R>,
+    signals: &Signals,
     shared: Shared<&R, C, F, S, G>,
     posts: Vec<Post<C, F, S, G>>,
 ) -> Result<(), Fault<'static>>
@@ -159,6 +161,7 @@ where
     let run = Running {
         rt,
         notices,
+        signals,
         net: &net,
         place: SinkPlace::of(rt, plan),
     };
@@ -222,7 +225,7 @@ where
 {
     let mut record = record;
     match begin(run, plan, &shared, &mut record) {
-        Ok(listener) => match serve_opened(run, plan, shared, posts, sinks, listener) {
+        Ok(listeners) => match serve_opened(run, plan, shared, posts, sinks, listeners) {
             Ok(served) => Ok((served, record)),
             Err(why) => Err(why),
         },
@@ -235,13 +238,20 @@ where
     }
 }
 
-/// Begins the record, and listens on the socket. Refused by `CannotWrite` and `NoMemory`, and by `SocketFault`.
+/// The sockets of a daemon.
+#[derive(Drop)]
+struct Listeners {
+    service: UnixListener,
+    control: Option<UnixListener>,
+}
+
+/// Begins the record, and listens on the sockets. Refused by `CannotWrite` and `NoMemory`, and by `SocketFault`.
 fn begin<'a, Q, R, C, F, S, G>(
     run: &Running<'a, R>,
     plan: &Plan<'_>,
     shared: &Shared<Q, C, F, S, G>,
     record: &mut Option<RecordFile<'_>>,
-) -> Result<UnixListener, Hindrance>
+) -> Result<Listeners, Hindrance>
 where
     R: AllocGlobal + Eprint + Net + Files<File = File>,
     Q: Wait,
@@ -251,9 +261,34 @@ where
     G: Ledger,
 {
     write_record(run, shared, record)?;
+    let control = listen_for_control(run, plan)?;
     match listen(run.rt, run.notices, plan.socket) {
-        Some(listener) => Ok(listener),
-        None => Err(Hindrance::SocketFault),
+        Some(service) => Ok(Listeners { service, control }),
+        None => {
+            remove_control(run.rt, plan);
+            Err(Hindrance::SocketFault)
+        }
+    }
+}
+
+/// Listens on the control socket, where one is wanted, which only the same user may connect to. Refused by `SocketFault`.
+fn listen_for_control<'a, R: Eprint + Net + Files<File = File>>(
+    run: &Running<'a, R>,
+    plan: &Plan<'_>,
+) -> Result<Option<UnixListener>, Hindrance> {
+    let Some(path) = plan.control else {
+        return Ok(None);
+    };
+    match listen(run.rt, run.notices, path) {
+        Some(listener) if make_private(run.rt, run.notices, path) => Ok(Some(listener)),
+        _ => Err(Hindrance::SocketFault),
+    }
+}
+
+/// Removes the control socket's file, where there is one.
+fn remove_control<R: Files<File = File>>(rt: &R, plan: &Plan<'_>) {
+    if let Some(path) = plan.control {
+        remove(rt, path);
     }
 }
 
@@ -264,7 +299,7 @@ fn serve_opened<'a, R, C, F, S, G>(
     shared: Shared<&'a R, C, F, S, G>,
     posts: Vec<Post<C, F, S, G>>,
     sinks: Vec<DaemonSink<'a, UnixNet<'a, R>>>,
-    listener: UnixListener,
+    listeners: Listeners,
 ) -> Result<Served<&'a R, C, F, S, G>, Hindrance>
 where
     R: Runtime + AllocGlobal + Net + Dial + Threads + Wait + Sync + Files<File = File>,
@@ -278,8 +313,17 @@ where
     ensures { IfOk result (λ r. map (λ p. p.seat.worker) r.posts.items ≡ map (λ s. s.worker) (new_seats r.shared.workers)) }
 {
     let rt = run.rt;
-    let idle = plan.idle.map(Duration::from_secs);
-    let accept = SocketAccept::new(rt, run.notices, listener, idle);
+    let Listeners { service, control } = listeners;
+    let accept = SocketAccept::new(rt, run.notices, service, run.signals, patience_of(plan));
+    let aside = Control::new(
+        rt.alloc(),
+        rt,
+        run.notices,
+        run.signals,
+        plan.workers,
+        plan.record.is_some(),
+        control,
+    );
     let served = serve_sessions::<
         R,
         &R,
@@ -288,10 +332,11 @@ where
         F,
         S,
         G,
-        SocketLink,
+        ServedLink<'_, R>,
         SocketAccept<'_, R, Notices<'_, R>>,
         DaemonSink<'_, UnixNet<'_, R>>,
         Ticks<'_, R>,
+        Control<'_, R, Notices<'_, R>>,
     >(
         rt,
         rt.alloc(),
@@ -302,13 +347,33 @@ where
         &accept,
         Ticks::new(rt),
         serving_of(plan),
+        &aside,
     );
     drop(accept);
+    drop(aside);
     remove(rt, plan.socket);
+    remove_control(rt, plan);
     match served {
         Ok(served) => Ok(served),
         Err(Refusal::NoMemory) => Err(Hindrance::NoMemory),
         Err(_) => Err(Hindrance::SocketFault),
+    }
+}
+
+/// How long a session's peer is waited for: in turns that are short where the daemon may be asked to stop.
+fn patience_of(plan: &Plan<'_>) -> Patience {
+    match (plan.control, plan.idle) {
+        (Some(_), idle) => Patience {
+            turn: Some(Duration::from_millis(STOP_PAUSE)),
+            turns: match idle {
+                Some(seconds) => seconds.saturating_mul(1000 / STOP_PAUSE),
+                None => u64::MAX,
+            },
+        },
+        (None, idle) => Patience {
+            turn: idle.map(Duration::from_secs),
+            turns: 1,
+        },
     }
 }
 

@@ -1,10 +1,10 @@
 //! The socket that a daemon listens on.
 use crate::cause::tell_cause;
 use log::Log;
-use std::fs::File;
+use std::fs::{File, Permissions};
 use std::io::ErrorKind;
 use std::net::Net;
-use std::os::unix::fs::FileTypeExt;
+use std::os::unix::fs::{FileTypeExt, PermissionsExt};
 use std::os::unix::net::{UnixListener, UnixStream};
 use std::rt::Files;
 use std::{fs, io};
@@ -86,6 +86,18 @@ fn is_refused(connected: &io::Result<UnixStream>) -> bool {
 /// Removes the file at this path. Where it can't be removed, what is left of it keeps nobody from the report.
 pub fn remove<R: Files<File = File>>(rt: &R, path: &str) {
     let _ = fs::remove_file(rt, path);
+}
+
+/// Lets only the user itself connect. Whether that could be done: else the file is removed, which is told.
+pub fn make_private<R: Files<File = File>, N: Log>(rt: &R, notices: &N, path: &str) -> bool {
+    match fs::set_permissions(rt, path, Permissions::from_mode(0o600)) {
+        Ok(()) => true,
+        Err(error) => {
+            tell_cause(notices, "chmod", path, &error);
+            remove(rt, path);
+            false
+        }
+    }
 }
 
 /// The folder of the file at this path.

@@ -4,9 +4,13 @@
 mod answer;
 mod cause;
 mod checking;
+mod control;
+mod controlling;
 mod daemon;
 mod fault;
 mod listening;
+mod metrics;
+mod notices;
 mod outcome;
 mod record_file;
 mod regions;
@@ -15,6 +19,7 @@ mod sinks;
 
 use cause::tell_cause;
 use checking::check_planned;
+use controlling::control;
 use daemon::serve;
 use fault::Fault;
 use iova_ask::ask_lines;
@@ -62,6 +67,7 @@ where
         Asked::Serve(plan) => serve_plan(rt, &plan),
         Asked::Ask { path } => ask_at(rt, path),
         Asked::Check(plan) => check_planned(rt, &plan),
+        Asked::Control { path, word } => control(rt, path, word),
     }
 }
 

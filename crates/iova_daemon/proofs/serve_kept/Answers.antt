@@ -10,4 +10,5 @@ run_all-requires-sync-W g c κs within =
     let runtime = c.type_bounds.sync-R in
     let notices = c.type_bounds.sync-N in
     let accept = c.type_bounds.sync-A in
+    let aside = c.type_bounds.sync-X in
     search (Lent-sync, shr_sync, sendable) depth 20

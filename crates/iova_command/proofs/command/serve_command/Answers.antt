@@ -22,4 +22,5 @@ returns c =
     let reserved = with_one _ _ _ c.with_arg-command-14.result c.repeated.result steps c.repeated.ensures.rule c.repeated.ensures.local c.with_arg-command-14.ensures in
     let regions = with_one _ _ _ c.with_arg-command-15.result c.optional_path-2.result reserved c.optional_path-2.ensures.rule c.optional_path-2.ensures.local c.with_arg-command-15.ensures in
     let timeout = with_one _ _ _ c.with_arg-command-16.result c.optional_number-6.result regions c.optional_number-6.ensures.rule c.optional_number-6.ensures.local c.with_arg-command-16.ensures in
-    with_one _ _ _ c.with_arg.result c.optional_path-3.result timeout c.optional_path-3.ensures.rule c.optional_path-3.ensures.local c.with_arg.ensures
+    let level = with_one _ _ _ c.with_arg-command-17.result c.optional_path-3.result timeout c.optional_path-3.ensures.rule c.optional_path-3.ensures.local c.with_arg-command-17.ensures in
+    with_one _ _ _ c.with_arg.result c.optional_path-4.result level c.optional_path-4.ensures.rule c.optional_path-4.ensures.local c.with_arg.ensures

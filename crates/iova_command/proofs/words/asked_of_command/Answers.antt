@@ -12,6 +12,7 @@ returns-in_ok-get_str-in_default c = (
   search rules,
   search rules,
   search rules,
+  search rules,
   text_read (found_of c.args.found.now) _ c.get_str-in_default.result c.in_ok-get_str-in_default.field-0 c.get_str-in_default.ensures c.in_ok-get_str-in_default.was,
   flag_read (found_of c.args.found.now) _ c.get_flag.result c.get_flag.ensures.value c.get_flag.ensures.other,
   optional_text_read (found_of c.args.found.now) _ c.get_str-in_default-2.result c.get_str-in_default-2.ensures,

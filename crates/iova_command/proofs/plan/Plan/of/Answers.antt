@@ -21,4 +21,5 @@ returns c = record {
   regions = optional_text_read (found_of c.args.found.now) _ c.get_str-4.result c.get_str-4.ensures;
   sink_timeout = c.in_ok-optional-6.ensures.read;
   log_level = c.in_ok-level.ensures;
+  control = optional_text_read (found_of c.args.found.now) _ c.get_str-5.result c.get_str-5.ensures;
 }

@@ -1,0 +1,15 @@
+-- The words of a control socket. Own.
+use Rattle.std.specs.Prelude.{◌≡◌, List, Some, codes}
+use Rattle.clap.specs.Words.{Row, Text, first_of}
+use Rattle.iova_command.specs.declared.control_word.ControlWord.{ControlWord}
+use Rattle.iova_command.specs.declared.control_word.ControlWord.TheVariants.{Report, Metrics, Stop}
+
+-- the text of a word
+abbrev pub control_name : ControlWord → Text
+control_name Report = codes "report"
+control_name Metrics = codes "metrics"
+control_name Stop = codes "stop"
+
+-- the argument has the text of this word
+abbrev pub HasControl : List Row → Text → ControlWord → Type 0
+HasControl rows id word = first_of id rows ≡ Some (control_name word)

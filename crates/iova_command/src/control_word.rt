@@ -1,0 +1,39 @@
+//! What a daemon is asked for over its control socket.
+ghost use Rattle.std.specs.Prelude.{◌≡◌, IfSome, codes};
+ghost use Rattle.iova_command.specs.Controls.{control_name};
+
+/// A word of a control socket. Own.
+#[derive(Clone, Copy, Debug, PartialEq, Eq)]
+pub enum ControlWord {
+    /// The domain's report.
+    Report,
+    /// What is counted, in the text form that Prometheus reads.
+    Metrics,
+    /// The daemon's orderly end.
+    Stop,
+}
+
+impl ControlWord {
+    /// The word's own text.
+    pub fn name(self) -> &'static str
+        ensures { result.now ≡ control_name self }
+    {
+        match self {
+            ControlWord::Report => "report",
+            ControlWord::Metrics => "metrics",
+            ControlWord::Stop => "stop",
+        }
+    }
+
+    /// The word of this text. None where there is none.
+    pub(crate) fn of(text: &str) -> Option<ControlWord>
+        ensures { IfSome result (λ w. text.now ≡ control_name w) }
+    {
+        match text {
+            "report" => Some(ControlWord::Report),
+            "metrics" => Some(ControlWord::Metrics),
+            "stop" => Some(ControlWord::Stop),
+            _ => None,
+        }
+    }
+}

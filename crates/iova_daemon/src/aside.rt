@@ -1,0 +1,63 @@
+//! What is done beside the sessions of a daemon and its flusher.
+use iova_lock::shared::Shared;
+use iova_range::refusal::Refusal;
+use std::sync::Wait;
+use std::sync::ledger::Ledger;
+
+/// How a daemon stands, but for its domain. Own.
+#[derive(Clone, Copy, Debug, PartialEq, Eq)]
+pub struct Figures {
+    /// How many sessions are served now.
+    pub served: u64,
+    /// How many had their accept, these among them.
+    pub accepted: u64,
+    /// How many clients wait for their end.
+    pub waiting: u64,
+}
+
+/// A domain that is looked at beside its sessions. Own.
+pub trait Look {
+    /// Appends the domain's report, as it is in one hold of the lock. Refused by `NoMemory`.
+    fn look(&self, out: &mut Vec<u8>) -> Result<(), Refusal>;
+
+    /// Whether steps are still recorded.
+    fn is_recording(&self) -> bool;
+
+    /// How many steps are recorded.
+    fn steps(&self) -> u64;
+}
+
+impl<Q: Wait, C: Ledger, F: Ledger, S: Ledger, G: Ledger> Look for &Shared<Q, C, F, S, G> {
+    fn look(&self, out: &mut Vec<u8>) -> Result<(), Refusal> {
+        self.report(out)
+    }
+
+    fn is_recording(&self) -> bool {
+        self.recording()
+    }
+
+    fn steps(&self) -> u64 {
+        Shared::steps(self)
+    }
+}
+
+/// What is done on a thread of its own, from the start of the first session to the end of the last one. Own.
+pub trait Aside {
+    /// Whether there is anything to do: else no thread is started.
+    fn is_wanted(&self) -> bool;
+
+    /// Does what there is to do, and waits for it no longer than a part of a second.
+    fn turn<K: Look>(&self, domain: &K, figures: Figures);
+}
+
+/// Nothing. Own.
+#[derive(Clone, Copy, Debug)]
+pub struct NothingAside;
+
+impl Aside for NothingAside {
+    fn is_wanted(&self) -> bool {
+        false
+    }
+
+    fn turn<K: Look>(&self, _domain: &K, _figures: Figures) {}
+}

@@ -1,0 +1,173 @@
+//! A link over a socket, which a daemon's stop ends.
+ghost use Rattle.std.specs.Prelude.{◌≡◌, ◌≤◌, ◌<◌, IfOk, length};
+
+use crate::signals::Signals;
+use iova_session::link::{Link, LinkFault};
+use iova_sink::count::Count;
+use iova_sink::device::bytes_taken;
+use memchr::memchr_iter;
+use std::io;
+use std::io::{ErrorKind, Read, Write};
+use std::marker::Model;
+use std::os::unix::net::UnixStream;
+use std::sync::Wait;
+use std::time::Duration;
+
+/// How long a session's peer is waited for, in turns after each of which it is seen whether the daemon stops. Own.
+#[derive(Clone, Copy, Debug)]
+pub struct Patience {
+    /// The time of a turn; none: one turn without an end.
+    pub turn: Option<Duration>,
+    /// How many turns a read or a write may take.
+    pub turns: u64,
+}
+
+/// A connected Unix socket that a daemon serves. A read that finds no byte, and a write that finds no room, are made again turn after
+/// turn, until there were as many as its patience has. A read of a daemon that stops finds the end. Contracts see the numbers of its
+/// reads, its failures and the reads that found the end; what bytes come and go, no contract can say. Own.
+#[derive(Drop)]
+pub struct ServedLink<'a, R> {
+    rt: &'a R,
+    signals: &'a Signals,
+    patience: Patience,
+    stream: UnixStream,
+    reads: Count,
+    failed: Count,
+    ended: Count,
+}
+
+impl<'a, R> Model for ServedLink<'a, R> {
+    ghost use Rattle.iova_session.specs.Links.{Counted};
+
+    ghost Value = { Counted };
+
+    ghost view = { λ l. record { reads = l.reads; failures = l.failed; ends = l.ended } };
+}
+
+impl<'a, R> ServedLink<'a, R> {
+    /// A link over this socket, of which no call was made. The socket's own time limits are set to those of a turn.
+    pub fn new(
+        rt: &'a R,
+        signals: &'a Signals,
+        patience: Patience,
+        stream: UnixStream,
+    ) -> io::Result<ServedLink<'a, R>>
+        ensures { IfOk result (λ l. l ≡ record { reads = 0; failures = 0; ends = 0 }) }
+    {
+        if patience.turn.is_some() {
+            stream.set_read_timeout(patience.turn)?;
+            stream.set_write_timeout(patience.turn)?;
+        }
+        Ok(ServedLink {
+            rt,
+            signals,
+            patience,
+            stream,
+            reads: Count::new(),
+            failed: Count::new(),
+            ended: Count::new(),
+        })
+    }
+}
+
+impl<'a, R: Wait> Link for ServedLink<'a, R> {
+    ghost use Rattle.std.specs.Prelude.{None};
+
+    ghost left = { λ l. None };
+
+    ghost sent = { λ l. None };
+
+    ghost reads = { λ l. l.reads };
+
+    ghost failures = { λ l. l.failures };
+
+    ghost ends = { λ l. l.ends };
+
+    fn read(&mut self, buf: &mut [u8]) -> Result<usize, LinkFault> {
+        self.reads.up();
+        let read = received(self.rt, self.signals, self.patience, &self.stream, buf);
+        let Ok(n) = read else {
+            self.failed.up();
+            return Err(LinkFault);
+        };
+        if n == 0 && !buf.is_empty() {
+            self.ended.up();
+        }
+        Ok(n)
+    }
+
+    fn write(&mut self, bytes: &[u8]) -> Result<usize, LinkFault> {
+        let written = sent(self.rt, self.signals, self.patience, &self.stream, bytes);
+        match bytes_taken(written, bytes.len()) {
+            Some(n) => Ok(n),
+            None => {
+                self.failed.up();
+                Err(LinkFault)
+            }
+        }
+    }
+}
+
+/// Reads what comes within the patience: nothing once the daemon stops.
+fn received<R: Wait>(
+    rt: &R,
+    signals: &Signals,
+    patience: Patience,
+    mut stream: &UnixStream,
+    buf: &mut [u8],
+) -> io::Result<usize>
+    ensures { IfOk result (λ n. n ≤ length buf.old) }
+{
+    let mut left = patience.turns;
+    for _ in rt.forever() {
+        if signals.is_stopping() {
+            return Ok(0);
+        }
+        let read = stream.read(buf);
+        if !is_to_be_tried_again(&read, &mut left) {
+            count_lines(signals, &read, buf);
+            return read;
+        }
+    }
+    unreachable!()
+}
+
+/// Writes what finds room within the patience, and nothing more once the daemon stops and there is none.
+fn sent<R: Wait>(
+    rt: &R,
+    signals: &Signals,
+    patience: Patience,
+    mut stream: &UnixStream,
+    bytes: &[u8],
+) -> io::Result<usize>
+    ensures { IfOk result (λ n. n ≤ length bytes.now) }
+{
+    let mut left = patience.turns;
+    for _ in rt.forever() {
+        let written = stream.write(bytes);
+        if signals.is_stopping() || !is_to_be_tried_again(&written, &mut left) {
+            return written;
+        }
+    }
+    unreachable!()
+}
+
+/// Whether a call found nothing in its turn, and another turn is left.
+fn is_to_be_tried_again(called: &io::Result<usize>, left: &mut u64) -> bool {
+    match called {
+        Err(error) if error.kind() == ErrorKind::WouldBlock => {
+            *left = left.saturating_sub(1);
+            *left > 0
+        }
+        _ => false,
+    }
+}
+
+/// Counts the lines that came.
+fn count_lines(signals: &Signals, read: &io::Result<usize>, buf: &[u8]) {
+    if let Ok(n) = read {
+        if let Some(piece) = buf.get(..*n) {
+            signals.count_requests(memchr_iter(b'\n', piece).count() as u64);
+        }
+    }
+}

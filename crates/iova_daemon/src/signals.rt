@@ -1,0 +1,55 @@
+//! What the threads of a daemon tell one another beside their turns.
+use std::sync::atomic::{AtomicBool, AtomicU64, Ordering};
+
+/// The longest time until a daemon sees that it is asked to stop, in milliseconds: what waits for a peer waits no longer at a time.
+/// Own.
+pub const STOP_PAUSE: u64 = 250;
+
+/// Whether the daemon is asked to stop, and what was counted so far. Threads share it. A count begins anew behind 2^64 - 1. Own.
+#[derive(Drop)]
+pub struct Signals {
+    stop: AtomicBool,
+    requests: AtomicU64,
+    notices: AtomicU64,
+}
+
+impl Signals {
+    /// Nobody has asked for a stop, and nothing is counted.
+    pub fn new() -> Signals {
+        Signals {
+            stop: AtomicBool::new(false),
+            requests: AtomicU64::new(0),
+            notices: AtomicU64::new(0),
+        }
+    }
+
+    /// Asks for the stop.
+    pub fn ask_to_stop(&self) {
+        self.stop.store(true, Ordering::SeqCst);
+    }
+
+    /// Whether the stop was asked for.
+    pub fn is_stopping(&self) -> bool {
+        self.stop.load(Ordering::SeqCst)
+    }
+
+    /// So many requests came.
+    pub fn count_requests(&self, requests: u64) {
+        self.requests.fetch_add(requests, Ordering::Relaxed);
+    }
+
+    /// How many requests came.
+    pub fn requests(&self) -> u64 {
+        self.requests.load(Ordering::Relaxed)
+    }
+
+    /// One notice more.
+    pub fn count_notice(&self) {
+        self.notices.fetch_add(1, Ordering::Relaxed);
+    }
+
+    /// How many notices there were.
+    pub fn notices(&self) -> u64 {
+        self.notices.load(Ordering::Relaxed)
+    }
+}
