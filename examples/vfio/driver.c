@@ -113,7 +113,7 @@ static int post(struct driver *driver, struct buffer *buffer, uint64_t number, u
 }
 
 /* The device reads a piece of one page, and writes it into another one, or the same. */
-static int use(struct driver *driver, struct buffer *buffer) {
+static void use(struct driver *driver, struct buffer *buffer) {
     uint64_t pages = buffer->bytes / FRAME, from = buffer->number / USED % pages, to = pages - 1 - from;
     uint8_t *source = buffer->memory + from * FRAME, *target = buffer->memory + to * FRAME + HALF;
     for (int at = 0; at < PIECE; at++)
@@ -124,7 +124,6 @@ static int use(struct driver *driver, struct buffer *buffer) {
     driver->transfers += 2;
     driver->wrong += memcmp(source, target, PIECE) != 0;
     mark_all(buffer);
-    return 0;
 }
 
 static int unmap_all(struct driver *driver, struct buffer *batch) {
@@ -191,8 +190,8 @@ static int run(struct driver *driver, uint64_t buffers) {
             dice = dice * 1664525 + 1013904223;
             if (post(driver, batch + at, number + at, (dice >> 16) % PAGES + 1))
                 return 1;
-            if ((number + at) % USED == 0 && use(driver, batch + at))
-                return 1;
+            if ((number + at) % USED == 0)
+                use(driver, batch + at);
         }
     }
     return 0;
