@@ -5,6 +5,7 @@ use iova_daemon::aside::{Aside, Figures, Look};
 use iova_daemon::dial::{Dial, UnixNet};
 use iova_daemon::signals::{STOP_PAUSE, Signals};
 use iova_range::limits::MAX_LINE;
+use iova_text::buffer::{LineBuffer, put, put_number};
 use log::{Log, warn};
 use memchr::memchr_iter;
 use mio::unix::SourceFd;
@@ -153,11 +154,12 @@ impl<'a, R: AllocGlobal, N> Control<'a, R, N> {
 
     /// Answers the line. Whether the connection stays.
     fn answers<K: Look>(&self, connection: &mut Connection, domain: &K, figures: Figures) -> bool {
+        let alloc = self.rt.alloc();
         let stream = &mut connection.stream;
         match connection.line.as_slice() {
             b"report" => {
-                let mut text = Vec::new(self.rt.alloc());
-                domain.look(&mut text).is_ok() && send(stream, "report", &text)
+                let mut text = Vec::new(alloc);
+                domain.look(&mut text).is_ok() && send(alloc, stream, b"report", &text)
             }
             b"metrics" => match metrics(
                 self.rt.alloc(),
@@ -166,7 +168,7 @@ impl<'a, R: AllocGlobal, N> Control<'a, R, N> {
                 figures,
                 domain,
             ) {
-                Ok(text) => send(stream, "metrics", text.as_bytes()),
+                Ok(text) => send(alloc, stream, b"metrics", text.as_bytes()),
                 Err(_) => false,
             },
             b"stop" => {
@@ -181,10 +183,17 @@ impl<'a, R: AllocGlobal, N> Control<'a, R, N> {
     }
 }
 
-/// Sends the word with the number of the text's lines, and the text.
-fn send(stream: &mut UnixStream, word: &str, text: &[u8]) -> bool {
-    let lines = memchr_iter(b'\n', text).count();
-    writeln!(stream, "{word} {lines}").is_ok() && stream.write_all(text).is_ok()
+/// Sends the word with the number of the text's lines, and the text. Whether all of it was taken.
+fn send(alloc: Global, stream: &mut UnixStream, word: &[u8], text: &[u8]) -> bool {
+    let mut line = LineBuffer::new();
+    put(&mut line, word);
+    put(&mut line, b" ");
+    put_number(&mut line, memchr_iter(b'\n', text).count() as u64);
+    put(&mut line, b"\n");
+    let mut answer = Vec::new(alloc);
+    answer.extend_from_slice(line.as_slice()).is_ok()
+        && answer.extend_from_slice(text).is_ok()
+        && stream.write_all(&answer).is_ok()
 }
 
 /// Waits until somebody connects or sends, no longer than a pause.

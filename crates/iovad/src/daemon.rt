@@ -8,7 +8,6 @@ ghost use Rattle.iovad.specs.Plans.{IsAboveProfile, IsBoundsOf, IsFaultOfServing
 use crate::control::Control;
 use crate::fault::Fault;
 use crate::listening::{listen, make_private, remove};
-use log::{Log, Logged, info};
 use crate::notices::{CountedConsole, Notices};
 use crate::outcome::print_domain;
 use crate::record_file::RecordFile;
@@ -37,6 +36,7 @@ use iova_regions::windows::Windows;
 use iova_session::post::Post;
 use iova_session::retry::retry;
 use iova_session::session_limits::SessionLimits;
+use log::{Log, Logged, info};
 use std::alloc::Global;
 use std::fs::File;
 use std::io;

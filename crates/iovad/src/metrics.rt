@@ -130,7 +130,13 @@ fn put_daemon(
 }
 
 /// A figure of one number.
-fn put(text: &mut String, name: &str, kind: &str, help: &str, number: u64) -> Result<(), AllocError> {
+fn put(
+    text: &mut String,
+    name: &str,
+    kind: &str,
+    help: &str,
+    number: u64,
+) -> Result<(), AllocError> {
     put_kind(text, name, kind, help)?;
     writeln!(text, "{name} {number}")
 }
