@@ -1,4 +1,6 @@
 //! A daemon's control socket: what the daemon does now, asked in lines, and its stop.
+ghost use Rattle.std.specs.Prelude.{◌≤◌, length};
+
 use crate::metrics::metrics;
 use arrayvec::ArrayVec;
 use iova_daemon::aside::{Aside, Figures, Look};
@@ -184,7 +186,9 @@ impl<'a, R: AllocGlobal, N> Control<'a, R, N> {
 }
 
 /// Sends the word with the number of the text's lines, and the text. Whether all of it was taken.
-fn send(alloc: Global, stream: &mut UnixStream, word: &[u8], text: &[u8]) -> bool {
+fn send(alloc: Global, stream: &mut UnixStream, word: &[u8], text: &[u8]) -> bool
+    requires { length word.now ≤ 32 }
+{
     let mut line = LineBuffer::new();
     put(&mut line, word);
     put(&mut line, b" ");
