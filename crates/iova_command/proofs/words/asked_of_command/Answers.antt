@@ -7,6 +7,13 @@ pub returns-in_ok-get_str-in-ask : goal.returns-in_ok-get_str-in-ask
 returns-in_ok-get_str-in-ask c =
     (search rules, text_read (found_of c.args.found.now) _ c.get_str.result c.in_ok-get_str-in-ask.field-0 c.get_str.ensures c.in_ok-get_str-in-ask.was)
 
+pub returns-in_ok-control_word-in-control : goal.returns-in_ok-control_word-in-control
+returns-in_ok-control_word-in-control c = (
+  search rules,
+  text_read (found_of c.args.found.now) _ c.get_str-in-control.result c.in_ok-get_str-in-control.field-0 c.get_str-in-control.ensures c.in_ok-get_str-in-control.was,
+  c.in_ok-control_word-in-control.ensures,
+)
+
 pub returns-in_ok-get_str-in_default : goal.returns-in_ok-get_str-in_default
 returns-in_ok-get_str-in_default c = (
   search rules,
