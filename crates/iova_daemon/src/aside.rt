@@ -15,6 +15,12 @@ pub struct Figures {
     pub waiting: u64,
 }
 
+/// What tells how a daemon stands. Own.
+pub trait Standing {
+    /// How it stands now.
+    fn figures(&self) -> Figures;
+}
+
 /// A domain that is looked at beside its sessions. Own.
 pub trait Look {
     /// Appends the domain's report, as it is in one hold of the lock. Refused by `NoMemory`.
@@ -47,7 +53,7 @@ pub trait Aside {
     fn is_wanted(&self) -> bool;
 
     /// Does what there is to do, and waits for it no longer than a part of a second.
-    fn turn<K: Look>(&self, domain: &K, figures: Figures);
+    fn turn<K: Look, T: Standing>(&self, domain: &K, standing: &T);
 }
 
 /// Nothing. Own.
@@ -59,5 +65,5 @@ impl Aside for NothingAside {
         false
     }
 
-    fn turn<K: Look>(&self, _domain: &K, _figures: Figures) {}
+    fn turn<K: Look, T: Standing>(&self, _domain: &K, _standing: &T) {}
 }

@@ -1,18 +1,26 @@
 //! Connections to Unix sockets, from any thread.
-use std::io;
 use std::io::ErrorKind;
 use std::net::{Net, SocketAddr, TcpListener, TcpStream};
 use std::os::unix::net as unix;
 use std::os::unix::net::UnixStream;
+use std::rt::Files;
+use std::{fs, io};
 
-/// What a thread needs of `Net`. A bound by `Net` is assumed of one thread alone, so what goes to others has this one: a
-/// program has it of its runtime. Own.
+/// What a thread needs of `Net` and of `Files`. A bound by `Net` is assumed of one thread alone, so what goes to others has this one:
+/// a program has it of its runtime. Own.
 pub trait Dial {
     /// Connects to the Unix socket at this address.
     fn dial(&self, address: &unix::SocketAddr) -> io::Result<UnixStream>;
+
+    /// Removes the file at this path, where that can be done.
+    fn unlink(&self, path: &str);
 }
 
-impl<R: Net> Dial for R {
+impl<R: Net + Files> Dial for R {
+    fn unlink(&self, path: &str) {
+        let _ = fs::remove_file(self, path);
+    }
+
     fn dial(&self, address: &unix::SocketAddr) -> io::Result<UnixStream> {
         UnixStream::connect_addr(self, address)
     }

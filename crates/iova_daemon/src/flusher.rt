@@ -36,24 +36,16 @@ where
     D: Sink,
     P: Pause,
 {
-    /// Makes a round after each pause, until a pause says stop or all workers have ended; after a stop that was asked for, one more
-    /// then. A round that is refused is a notice.
+    /// Makes a round after each pause, until a pause says stop or all workers have ended. A round that is refused is a notice.
     fn go_on(&mut self) {
         for _ in self.rt.forever() {
-            if !self.pause.pause() {
-                return;
-            }
-            let is_last = self.turns.have_ended();
-            if is_last && !self.turns.is_stopped() {
+            if !self.pause.pause() || self.turns.have_ended() {
                 return;
             }
             note_round(
                 self.notices,
                 timeout(&mut self.keeper, &mut self.tally, &mut self.sink),
             );
-            if is_last {
-                return;
-            }
         }
         unreachable!()
     }

@@ -115,7 +115,7 @@ where
 /// left, accepts a link and serves a session over it; else it stops. While clients wait an accept takes no longer
 /// than a second, and one that had none keeps the number; an accept that fails uses it up. Once each session had its accept,
 /// no more are accepted (`close`). Once no link is to come any more (`has_ended`), a worker tries its waiting clients a last time and
-/// stops, and once all have, the flusher makes a last round. What is to be done `aside` has a thread of its own. The flusher repeats:
+/// stops. What is to be done `aside` has a thread of its own. The flusher repeats:
 /// it pauses, and stops where the pause says so or all workers have ended; else it makes a round (`timeout`). A session that
 /// ends by `LinkFault` or `NoMemory`, a sink that fails, a round that is refused and a thread that can't be started are notices,
 /// a line each; each other end of a session is one of the level `debug`.

@@ -152,14 +152,16 @@ fn sent<R: Wait>(
     unreachable!()
 }
 
-/// Whether a call found nothing in its turn, and another turn is left.
+/// Whether a call found nothing in its turn, and another turn is left, or was interrupted.
 fn is_to_be_tried_again(called: &io::Result<usize>, left: &mut u64) -> bool {
     match called {
         Err(error) if error.kind() == ErrorKind::WouldBlock => {
             *left = left.saturating_sub(1);
             *left > 0
         }
-        _ => false,
+        // as where the process was held up, and goes on
+        Err(error) => error.kind() == ErrorKind::Interrupted,
+        Ok(_) => false,
     }
 }
 

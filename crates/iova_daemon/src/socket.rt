@@ -8,7 +8,7 @@ use iova_session::link::LinkFault;
 use log::{Log, warn};
 use mio::unix::SourceFd;
 use mio::{Events, Interest, Poll, Token};
-use std::io::ErrorKind;
+use std::io::{ErrorKind, Read};
 use std::os::fd::{AsRawFd, RawFd};
 use std::os::unix::net::{UnixListener, UnixStream};
 use std::rt::Clock;
@@ -17,6 +17,9 @@ use std::sync::{Mutex, Wait};
 use std::time::Duration;
 use std::{io, thread};
 
+/// The most connections that are hung up on when a listener is closed: as many as the system lets wait there.
+const MAX_WAITING: u64 = 4_096;
+
 /// Accepts the connections of a listener, each one a link, until it is closed or the daemon is asked to stop. An accept that fails is a
 /// notice, and a pause follows, which doubles with each failure after another; none was had then, and the next call tries again. While
 /// it waits it has one descriptor of its own. Own.
@@ -24,6 +27,7 @@ use std::{io, thread};
 pub struct SocketAccept<'a, R, N> {
     rt: &'a R,
     notices: &'a N,
+    path: &'a str,
     listener: Mutex<Option<UnixListener>>,
     signals: &'a Signals,
     patience: Patience,
@@ -31,11 +35,12 @@ pub struct SocketAccept<'a, R, N> {
 }
 
 impl<'a, R: AllocGlobal + Dial + Wait, N: Log> SocketAccept<'a, R, N> {
-    /// Accepts what connects to this listener. The caller has made it one that doesn't block; else an accept has no limit. An accept
-    /// waits no longer than a turn of the links' patience.
+    /// Accepts what connects to this listener, which is that of the file at this path. The caller has made it one that doesn't block;
+    /// else an accept has no limit.
     pub fn new(
         rt: &'a R,
         notices: &'a N,
+        path: &'a str,
         listener: UnixListener,
         signals: &'a Signals,
         patience: Patience,
@@ -43,6 +48,7 @@ impl<'a, R: AllocGlobal + Dial + Wait, N: Log> SocketAccept<'a, R, N> {
         SocketAccept {
             rt,
             notices,
+            path,
             listener: Mutex::new(Some(listener)),
             signals,
             patience,
@@ -52,13 +58,26 @@ impl<'a, R: AllocGlobal + Dial + Wait, N: Log> SocketAccept<'a, R, N> {
 
     /// The next connection; where none stands there, it is waited for. None where none came, or another thread had it.
     fn next(&self, limit: Option<u64>) -> io::Result<Option<ServedLink<'a, R>>> {
-        match self.standing()? {
-            Some(link) => Ok(Some(link)),
-            None => {
-                self.wait(shorter(limit.map(Duration::from_millis), self.patience.turn))?;
-                self.standing()
+        if let Some(link) = self.standing()? {
+            return Ok(Some(link));
+        }
+        let Some(turn) = self.patience.turn else {
+            self.wait(limit.map(Duration::from_millis))?;
+            return self.standing();
+        };
+        // in turns: a stop ends the wait
+        let mut left = limit.map(Duration::from_millis);
+        for _ in self.rt.forever() {
+            self.wait(Some(shorter(left, turn)))?;
+            if let Some(link) = self.standing()? {
+                return Ok(Some(link));
+            }
+            left = left.map(|time| time.saturating_sub(turn));
+            if self.signals.is_stopping() || left == Some(Duration::ZERO) {
+                return Ok(None);
             }
         }
+        unreachable!()
     }
 
     /// The connection that stands there, if one does.
@@ -127,9 +146,14 @@ impl<'a, R: AllocGlobal + Dial + Clock + Wait, N: Log> Accept<ServedLink<'a, R>>
         }
     }
 
-    /// Closes the listener: whoever connects, or waits there, is refused.
+    /// Removes the listener's file, has whoever waits there hung up on, and closes it: whoever connects is refused. The file goes first,
+    /// while somebody still listens there, so that no other daemon has put one of its own in its place.
     fn close(&self) {
-        *self.listener.lock(self.rt) = None;
+        let mut held = self.listener.lock(self.rt);
+        if let Some(listener) = held.take() {
+            self.rt.unlink(self.path);
+            hang_up(&listener);
+        }
     }
 
     /// Once the daemon is asked to stop.
@@ -138,11 +162,24 @@ impl<'a, R: AllocGlobal + Dial + Clock + Wait, N: Log> Accept<ServedLink<'a, R>>
     }
 }
 
+/// Accepts whoever waits at the listener, and closes the connection. What came on it is read first: else the peer would be told of a
+/// reset.
+fn hang_up(listener: &UnixListener) {
+    for _ in 0..MAX_WAITING {
+        let Ok((mut stream, _peer)) = listener.accept() else {
+            return;
+        };
+        let mut lost = [0u8; 4096];
+        if stream.set_nonblocking(true).is_ok() {
+            let _ = stream.read(&mut lost);
+        }
+    }
+}
+
 /// The shorter of two times; none is without an end.
-fn shorter(a: Option<Duration>, b: Option<Duration>) -> Option<Duration> {
-    match (a, b) {
-        (Some(a), Some(b)) => Some(a.min(b)),
-        (Some(a), None) => Some(a),
-        (None, b) => b,
+fn shorter(limit: Option<Duration>, turn: Duration) -> Duration {
+    match limit {
+        Some(limit) => limit.min(turn),
+        None => turn,
     }
 }

@@ -1,9 +1,9 @@
 //! What the threads of a daemon share beside its domain.
 use crate::Serving;
-use crate::aside::Figures;
+use crate::aside::{Figures, Standing};
 use iova_session::session_limits::SessionLimits;
 use std::sync::Mutex;
-use std::sync::atomic::{AtomicBool, AtomicU64, Ordering};
+use std::sync::atomic::{AtomicU64, Ordering};
 
 /// The gate that workers wait at until all are started, what is served, the next session's number, how many sessions had their
 /// accept, and how many workers have ended.
@@ -16,7 +16,6 @@ pub(crate) struct Turns {
     met: AtomicU64,
     served: AtomicU64,
     waiting: AtomicU64,
-    stopped: AtomicBool,
     workers: u64,
     ended: AtomicU64,
 }
@@ -31,7 +30,6 @@ impl Turns {
             met: AtomicU64::new(0),
             served: AtomicU64::new(0),
             waiting: AtomicU64::new(0),
-            stopped: AtomicBool::new(false),
             workers,
             ended: AtomicU64::new(0),
         }
@@ -54,7 +52,10 @@ impl Turns {
     /// A session had its accept. Whether it was the last one.
     pub(crate) fn meet(&self) -> bool {
         let before = self.met.fetch_add(1, Ordering::SeqCst);
-        self.serving.sessions == before.checked_add(1)
+        match self.serving.sessions {
+            Some(sessions) => before.checked_add(1) == Some(sessions),
+            None => false,
+        }
     }
 
     /// A session begins.
@@ -73,25 +74,6 @@ impl Turns {
         self.waiting.fetch_sub(before, Ordering::SeqCst);
     }
 
-    /// No session is to come, since a stop was asked for.
-    pub(crate) fn stop(&self) {
-        self.stopped.store(true, Ordering::SeqCst);
-    }
-
-    /// Whether a stop was asked for.
-    pub(crate) fn is_stopped(&self) -> bool {
-        self.stopped.load(Ordering::SeqCst)
-    }
-
-    /// How the sessions stand.
-    pub(crate) fn figures(&self) -> Figures {
-        Figures {
-            served: self.served.load(Ordering::SeqCst),
-            accepted: self.met.load(Ordering::SeqCst),
-            waiting: self.waiting.load(Ordering::SeqCst),
-        }
-    }
-
     /// A worker has ended.
     pub(crate) fn end(&self) {
         self.ended.fetch_add(1, Ordering::SeqCst);
@@ -100,5 +82,15 @@ impl Turns {
     /// Whether all workers have ended.
     pub(crate) fn have_ended(&self) -> bool {
         self.ended.load(Ordering::SeqCst) >= self.workers
+    }
+}
+
+impl Standing for Turns {
+    fn figures(&self) -> Figures {
+        Figures {
+            served: self.served.load(Ordering::SeqCst),
+            accepted: self.met.load(Ordering::SeqCst),
+            waiting: self.waiting.load(Ordering::SeqCst),
+        }
     }
 }

@@ -71,7 +71,6 @@ where
                 waiting = left;
                 if self.accept.has_ended() {
                     self.accept.close();
-                    self.turns.stop();
                     break 'sessions;
                 }
                 if number.is_none() {
@@ -122,7 +121,7 @@ where
             if self.turns.have_ended() {
                 return;
             }
-            self.aside.turn(&self.keeper, self.turns.figures());
+            self.aside.turn(&self.keeper, self.turns);
         }
         unreachable!()
     }

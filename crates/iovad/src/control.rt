@@ -3,30 +3,32 @@ ghost use Rattle.std.specs.Prelude.{◌≤◌, length};
 
 use crate::metrics::metrics;
 use arrayvec::ArrayVec;
-use iova_daemon::aside::{Aside, Figures, Look};
-use iova_daemon::dial::{Dial, UnixNet};
-use iova_daemon::signals::{STOP_PAUSE, Signals};
+use iova_daemon::aside::{Aside, Look, Standing};
+use iova_daemon::signals::Signals;
 use iova_range::limits::MAX_LINE;
 use iova_text::buffer::{LineBuffer, put, put_number};
 use log::{Log, warn};
 use memchr::memchr_iter;
-use mio::unix::SourceFd;
-use mio::{Events, Interest, Poll, Token};
 use std::alloc::Global;
 use std::io::{ErrorKind, Read, Write};
-use std::os::fd::{AsRawFd, RawFd};
 use std::os::unix::net::{UnixListener, UnixStream};
 use std::rt::Clock;
 use std::sync::atomic::{AtomicBool, Ordering};
 use std::sync::{Mutex, Wait};
+use std::thread;
 use std::time::Duration;
-use std::{io, thread};
 
 /// The most connections that are served at a time; another one waits.
 const MAX_CONTROLS: usize = 8;
 
-/// The answer to a line that is none of the words.
-const BAD_LINE: &[u8] = b"no 20 BadLine\n";
+/// The time between two looks at the connections, in milliseconds. Nothing else is done then, so there is no descriptor to run out of.
+const TURN: u64 = 20;
+
+/// How many turns a connection may be silent where another one waits: 2 seconds.
+const MAX_SILENT: u64 = 100;
+
+/// How often a connection is read in a turn.
+const READS: u64 = 16;
 
 /// What is done beside the sessions of a daemon: its control socket, where it has one, and that a full record is told. Own.
 #[derive(Drop)]
@@ -47,32 +49,27 @@ struct Desk {
     connections: Vec<Connection>,
 }
 
-/// A connection, and the front of a line that has no LF yet.
+/// A connection: the front of a line that has no LF yet, what is owed of answers, and how long nothing came.
 #[derive(Drop)]
 struct Connection {
     stream: UnixStream,
     line: ArrayVec<u8, MAX_LINE>,
+    owed: Vec<u8>,
+    silent: u64,
+    /// Whether no more is read of it: it has ended, or has said `stop`, and then it is kept until the daemon's end.
+    is_read: bool,
+    is_kept: bool,
 }
 
-impl<'a, R, N> Control<'a, R, N> {
-    /// What is done beside so many workers, which are recorded or not, with a control socket where there is a listener. The caller has
-    /// made it one that doesn't block.
+impl<'a, R: Wait, N> Control<'a, R, N> {
+    /// What is done beside so many workers, which are recorded or not, without a control socket yet.
     pub fn new(
-        alloc: Global,
         rt: &'a R,
         notices: &'a N,
         signals: &'a Signals,
         workers: u64,
         is_recorded: bool,
-        listener: Option<UnixListener>,
     ) -> Control<'a, R, N> {
-        let desk = match listener {
-            Some(listener) => Some(Desk {
-                listener,
-                connections: Vec::new(alloc),
-            }),
-            None => None,
-        };
         Control {
             rt,
             notices,
@@ -80,113 +77,156 @@ impl<'a, R, N> Control<'a, R, N> {
             workers,
             is_recorded,
             was_told: AtomicBool::new(false),
-            desk: Mutex::new(desk),
+            desk: Mutex::new(None),
+        }
+    }
+
+    /// Serves whoever connects to this listener. The caller has made it one that doesn't block.
+    pub fn listen(&self, alloc: Global, listener: UnixListener) {
+        *self.desk.lock(self.rt) = Some(Desk {
+            listener,
+            connections: Vec::new(alloc),
+        });
+    }
+}
+
+impl<'a, R, N: Log> Control<'a, R, N> {
+    /// Tells once that the record is full, where steps are recorded no more.
+    pub fn look_at_record(&self, is_recording: bool) {
+        if self.is_recorded && !is_recording && !self.was_told.swap(true, Ordering::SeqCst) {
+            warn!(self.notices; target: "", "the record is full");
         }
     }
 }
 
-impl<'a, R: AllocGlobal + Dial + Clock + Wait, N: Log> Aside for Control<'a, R, N> {
+impl<'a, R: AllocGlobal + Clock + Wait, N: Log> Aside for Control<'a, R, N> {
     fn is_wanted(&self) -> bool {
         self.is_recorded || self.desk.lock(self.rt).is_some()
     }
 
-    fn turn<K: Look>(&self, domain: &K, figures: Figures) {
-        if self.is_recorded
-            && !domain.is_recording()
-            && !self.was_told.swap(true, Ordering::SeqCst)
-        {
-            warn!(self.notices; target: "", "the record is full");
+    fn turn<K: Look, T: Standing>(&self, domain: &K, standing: &T) {
+        self.look_at_record(domain.is_recording());
+        if let Some(desk) = &mut *self.desk.lock(self.rt) {
+            accept(self.rt.alloc(), desk);
+            desk.connections
+                .retain_mut(|connection| self.serves(connection, domain, standing));
         }
-        let mut held = self.desk.lock(self.rt);
-        let waited = match &mut *held {
-            Some(desk) => wait(self.rt, desk),
-            None => Err(io::Error::from(ErrorKind::NotConnected)),
-        };
-        match (waited, &mut *held) {
-            (Ok(()), Some(desk)) => {
-                accept(desk);
-                desk.connections
-                    .retain_mut(|connection| self.is_served(connection, domain, figures));
-            }
-            _ => thread::sleep(self.rt, Duration::from_millis(STOP_PAUSE)),
-        }
+        thread::sleep(self.rt, Duration::from_millis(TURN));
     }
 }
 
 impl<'a, R: AllocGlobal, N> Control<'a, R, N> {
-    /// Answers the lines that came. Whether the connection stays.
-    fn is_served<K: Look>(
+    /// Takes what came over the connection, and sends what is owed. Whether it stays.
+    fn serves<K: Look, T: Standing>(
         &self,
         connection: &mut Connection,
         domain: &K,
-        figures: Figures,
+        standing: &T,
     ) -> bool {
+        connection.silent = connection.silent.saturating_add(1);
+        for _ in 0..READS {
+            if !connection.is_read || !connection.owed.is_empty() {
+                break;
+            }
+            self.reads(connection, domain, standing);
+            if !is_pushed_out(connection) {
+                return false;
+            }
+            if connection.silent > 0 {
+                break;
+            }
+        }
+        is_pushed_out(connection)
+            && (connection.is_read || connection.is_kept || !connection.owed.is_empty())
+    }
+
+    /// Reads once, and answers the lines that end in what came.
+    fn reads<K: Look, T: Standing>(&self, connection: &mut Connection, domain: &K, standing: &T) {
         let mut piece = [0u8; MAX_LINE];
         match connection.stream.read(&mut piece) {
-            Ok(0) => false,
-            Ok(n) => match piece.get(..n) {
-                Some(bytes) => self.takes(connection, bytes, domain, figures),
-                None => false,
-            },
-            Err(error) => error.kind() == ErrorKind::WouldBlock,
+            Ok(0) => connection.is_read = false,
+            Ok(n) => {
+                connection.silent = 0;
+                if let Some(bytes) = piece.get(..n) {
+                    self.takes(connection, bytes, domain, standing);
+                }
+            }
+            Err(error) if error.kind() == ErrorKind::WouldBlock => {
+                connection.silent = connection.silent.max(1);
+            }
+            Err(_) => connection.is_read = false,
         }
     }
 
-    /// Takes these bytes, and answers the lines that end in them. Whether the connection stays.
-    fn takes<K: Look>(
+    /// Takes these bytes, and answers the lines that end in them.
+    fn takes<K: Look, T: Standing>(
         &self,
         connection: &mut Connection,
         bytes: &[u8],
         domain: &K,
-        figures: Figures,
-    ) -> bool {
+        standing: &T,
+    ) {
         for byte in bytes {
+            if !connection.is_read {
+                return;
+            }
             if *byte == b'\n' {
-                if !self.answers(connection, domain, figures) {
-                    return false;
-                }
+                self.answers(connection, domain, standing);
                 connection.line.clear();
-            } else if connection.line.try_push(*byte).is_err() {
-                let _ = connection.stream.write_all(BAD_LINE);
-                return false;
+            } else if connection.line.len() + 1 >= MAX_LINE {
+                refuse(connection);
+            } else {
+                connection.line.push(*byte);
             }
         }
-        true
     }
 
-    /// Answers the line. Whether the connection stays.
-    fn answers<K: Look>(&self, connection: &mut Connection, domain: &K, figures: Figures) -> bool {
+    /// Answers the line.
+    fn answers<K: Look, T: Standing>(&self, connection: &mut Connection, domain: &K, standing: &T) {
         let alloc = self.rt.alloc();
-        let stream = &mut connection.stream;
-        match connection.line.as_slice() {
+        let is_answered = match connection.line.as_slice() {
             b"report" => {
                 let mut text = Vec::new(alloc);
-                domain.look(&mut text).is_ok() && send(alloc, stream, b"report", &text)
+                domain.look(&mut text).is_ok() && is_owed(&mut connection.owed, b"report", &text)
             }
-            b"metrics" => match metrics(
-                self.rt.alloc(),
-                self.workers,
-                self.signals,
-                figures,
-                domain,
-            ) {
-                Ok(text) => send(alloc, stream, b"metrics", text.as_bytes()),
-                Err(_) => false,
-            },
+            b"metrics" => {
+                match metrics(
+                    alloc,
+                    self.workers,
+                    self.signals,
+                    standing.figures(),
+                    domain,
+                ) {
+                    Ok(text) => is_owed(&mut connection.owed, b"metrics", text.as_bytes()),
+                    Err(_) => false,
+                }
+            }
             b"stop" => {
                 self.signals.ask_to_stop();
-                stream.write_all(b"stopping\n").is_ok()
+                connection.is_kept = true;
+                connection.is_read = false;
+                connection.owed.extend_from_slice(b"stopping\n").is_ok()
             }
             _ => {
-                let _ = stream.write_all(BAD_LINE);
-                false
+                refuse(connection);
+                true
             }
+        };
+        // for want of memory
+        if !is_answered {
+            connection.is_read = false;
         }
     }
 }
 
-/// Sends the word with the number of the text's lines, and the text. Whether all of it was taken.
-fn send(alloc: Global, stream: &mut UnixStream, word: &[u8], text: &[u8]) -> bool
+/// A line that is none of the words ends the connection.
+fn refuse(connection: &mut Connection) {
+    let _ = connection.owed.extend_from_slice(b"no 20 BadLine\n");
+    connection.is_read = false;
+}
+
+/// Appends the word with the number of the text's lines, and the text. Whether there was memory for it.
+fn is_owed(owed: &mut Vec<u8>, word: &[u8], text: &[u8]) -> bool
     requires { length word.now ≤ 32 }
 {
     let mut line = LineBuffer::new();
@@ -194,44 +234,56 @@ fn send(alloc: Global, stream: &mut UnixStream, word: &[u8], text: &[u8]) -> boo
     put(&mut line, b" ");
     put_number(&mut line, memchr_iter(b'\n', text).count() as u64);
     put(&mut line, b"\n");
-    let mut answer = Vec::new(alloc);
-    answer.extend_from_slice(line.as_slice()).is_ok()
-        && answer.extend_from_slice(text).is_ok()
-        && stream.write_all(&answer).is_ok()
+    owed.extend_from_slice(line.as_slice()).is_ok() && owed.extend_from_slice(text).is_ok()
 }
 
-/// Waits until somebody connects or sends, no longer than a pause.
-fn wait<R: AllocGlobal + Dial>(rt: &R, desk: &Desk) -> io::Result<()> {
-    let mut poll = Poll::new(&UnixNet::new(rt))?;
-    let mut events = Events::with_capacity(rt.alloc(), 1)?;
-    if desk.connections.len() < MAX_CONTROLS {
-        watch(&poll, desk.listener.as_raw_fd())?;
+/// Sends what is owed, as far as it is taken. Whether the connection is whole.
+fn is_pushed_out(connection: &mut Connection) -> bool {
+    if connection.owed.is_empty() {
+        return true;
     }
-    for connection in &desk.connections {
-        watch(&poll, connection.stream.as_raw_fd())?;
+    match connection.stream.write(&connection.owed) {
+        Ok(n) => {
+            connection.silent = 0;
+            connection.owed.drain(..n.min(connection.owed.len()));
+            true
+        }
+        Err(error) => error.kind() == ErrorKind::WouldBlock,
     }
-    poll.poll(&mut events, Some(Duration::from_millis(STOP_PAUSE)))
 }
 
-/// The poll ends once there is something to read here.
-fn watch(poll: &Poll, descriptor: RawFd) -> io::Result<()> {
-    poll.registry()
-        .register(&mut SourceFd(&descriptor), Token(0), Interest::READABLE)
-}
-
-/// Accepts whoever waits, where there is room.
-fn accept(desk: &mut Desk) {
+/// Accepts whoever waits, where there is room, or somebody has long been silent.
+fn accept(alloc: Global, desk: &mut Desk) {
     if desk.connections.len() >= MAX_CONTROLS {
+        let silent = desk
+            .connections
+            .iter()
+            .position(|c| c.silent > MAX_SILENT && !c.is_kept);
+        let Some(at) = silent else {
+            return;
+        };
+        let Ok((stream, _peer)) = desk.listener.accept() else {
+            return;
+        };
+        desk.connections.swap_remove(at);
+        admit(alloc, desk, stream);
         return;
     }
-    let Ok((stream, _peer)) = desk.listener.accept() else {
-        return;
-    };
+    if let Ok((stream, _peer)) = desk.listener.accept() {
+        admit(alloc, desk, stream);
+    }
+}
+
+/// Serves this connection too. Where memory is refused for it, it is closed.
+fn admit(alloc: Global, desk: &mut Desk, stream: UnixStream) {
     if stream.set_nonblocking(true).is_ok() {
-        // where memory is refused for it, the connection is closed
         let _ = desk.connections.push(Connection {
             stream,
             line: ArrayVec::new(),
+            owed: Vec::new(alloc),
+            silent: 0,
+            is_read: true,
+            is_kept: false,
         });
     }
 }

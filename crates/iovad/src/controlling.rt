@@ -2,39 +2,50 @@
 use crate::cause::tell_cause;
 use crate::fault::Fault;
 use iova_command::control_word::ControlWord;
-use log::Log;
-use std::io;
+use log::{Log, error};
+use memchr::{memchr, memchr_iter};
 use std::io::{Read, Write};
 use std::net::{Net, Shutdown};
 use std::os::unix::net::UnixStream;
 use std::rt::Runtime;
+use std::time::Duration;
+use std::{io, str};
+
+/// How long an answer is waited for, in seconds. The end of a daemon that is told to stop is waited for as long as it takes.
+const PATIENCE: u64 = 30;
 
 /// Asks the daemon at this path for what the word names, and prints what it answers, without the line that tells how many lines
-/// follow. Refused by `SocketFault` where nobody answers, or not as asked, by `NoMemory`, and by `CannotWrite`.
+/// follow. After `stop` it waits for the daemon's end. Refused by `SocketFault` where nobody answers, or not as asked, and by
+/// `CannotWrite`.
 pub fn control<R>(rt: &R, path: &str, word: ControlWord) -> Result<(), Fault<'static>>
 where
     R: Runtime + AllocGlobal + Net + Log,
 {
     let mut answer = Vec::new(rt.alloc());
-    match asked(rt, path, word, &mut answer) {
-        Ok(()) => {}
-        Err(error) => {
-            tell_cause(rt, "connect", path, &error);
-            return Err(Fault::SocketFault);
-        }
+    if let Err(error) = asked(rt, path, word, &mut answer) {
+        tell_cause(rt, "connect", path, &error);
+        return Err(Fault::SocketFault);
     }
     match told(&answer, word) {
         Some(text) => match io::writer(rt).write_all(text) {
             Ok(()) => Ok(()),
             Err(_) => Err(Fault::CannotWrite),
         },
-        None => Err(Fault::SocketFault),
+        None => {
+            let line = first_line(&answer);
+            error!(rt; target: "", "{path} answered: {line}");
+            Err(Fault::SocketFault)
+        }
     }
 }
 
 /// Sends the word, and takes all that comes.
 fn asked<R: Net>(rt: &R, path: &str, word: ControlWord, answer: &mut Vec<u8>) -> io::Result<()> {
     let mut stream = UnixStream::connect(rt, path)?;
+    if word != ControlWord::Stop {
+        stream.set_read_timeout(Some(Duration::from_secs(PATIENCE)))?;
+    }
+    stream.set_write_timeout(Some(Duration::from_secs(PATIENCE)))?;
     stream.write_all(word.name().as_bytes())?;
     stream.write_all(b"\n")?;
     stream.shutdown(Shutdown::Write)?;
@@ -42,7 +53,8 @@ fn asked<R: Net>(rt: &R, path: &str, word: ControlWord, answer: &mut Vec<u8>) ->
     Ok(())
 }
 
-/// What is to be printed of the answer: all behind its first line, which names the word, or `stopping`. None where it is none.
+/// What is to be printed of the answer: all behind its first line, which has the word and how many lines follow, or `stopping`. None
+/// where it is neither, or isn't whole.
 fn told(answer: &[u8], word: ControlWord) -> Option<&[u8]> {
     if word == ControlWord::Stop {
         return if answer == b"stopping\n".as_slice() {
@@ -51,10 +63,24 @@ fn told(answer: &[u8], word: ControlWord) -> Option<&[u8]> {
             None
         };
     }
-    if !answer.starts_with(word.name().as_bytes()) {
-        return None;
+    let end = memchr(b'\n', answer)?;
+    let text = answer.get(end + 1..)?;
+    let mut words = str::from_utf8(answer.get(..end)?).ok()?.split(' ');
+    let is_named = words.next() == Some(word.name());
+    let count = words.next()?.parse::<usize>().ok()?;
+    let is_whole = memchr_iter(b'\n', text).count() == count && text.ends_with(b"\n");
+    if is_named && is_whole && words.next().is_none() {
+        Some(text)
+    } else {
+        None
     }
-    let mut parts = answer.splitn(2, |byte| *byte == b'\n');
-    let _count = parts.next();
-    parts.next()
+}
+
+/// The answer's first line, to be told.
+fn first_line(answer: &[u8]) -> &str {
+    let end = memchr(b'\n', answer).unwrap_or(answer.len());
+    match answer.get(..end) {
+        Some(line) => str::from_utf8(line).unwrap_or("?"),
+        None => "?",
+    }
 }

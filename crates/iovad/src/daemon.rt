@@ -7,7 +7,7 @@ ghost use Rattle.iovad.specs.Plans.{IsAboveProfile, IsBoundsOf, IsFaultOfServing
 
 use crate::control::Control;
 use crate::fault::Fault;
-use crate::listening::{listen, make_private, remove};
+use crate::listening::{is_free, listen, make_private, remove};
 use crate::notices::{CountedConsole, Notices};
 use crate::outcome::print_domain;
 use crate::record_file::RecordFile;
@@ -16,12 +16,14 @@ use crate::sinks::{DaemonSink, SinkPlace, open_sink};
 use iova_command::plan::Plan;
 use iova_command::words::VERSION;
 use iova_core::domain::Domain;
+use iova_daemon::accept::Accept;
 use iova_daemon::dial::{Dial, UnixNet};
 use iova_daemon::pause::Ticks;
 use iova_daemon::served_link::{Patience, ServedLink};
 use iova_daemon::signals::{STOP_PAUSE, Signals};
 use iova_daemon::socket::SocketAccept;
 use iova_daemon::{Served, Serving, serve_sessions};
+use iova_keep::calls::timeout;
 use iova_keep::keep::Keep;
 use iova_keep::seat::Seat;
 use iova_lock::book::Book;
@@ -42,7 +44,7 @@ use std::fs::File;
 use std::io;
 use std::net::Net;
 use std::os::unix::net::UnixListener;
-use std::rt::{Files, Runtime};
+use std::rt::{Clock, Files, Runtime};
 use std::sync::Wait;
 use std::sync::ledger::{Blank, Ledger};
 use std::thread::Threads;
@@ -54,6 +56,7 @@ struct Running<'a, R> {
     rt: &'a R,
     notices: &'a Notices<'a, R>,
     signals: &'a Signals,
+    control: &'a Control<'a, R, Notices<'a, R>>,
     net: &'a UnixNet<'a, R>,
     place: SinkPlace<'a>,
 }
@@ -158,10 +161,13 @@ where
     ensures { IfErr result (IsFaultOfServing plan.now) }
 {
     let net = UnixNet::new(rt);
+    // its connections last until all is done: so whoever asked for a stop learns of the end
+    let control = Control::new(rt, notices, signals, plan.workers, plan.record.is_some());
     let run = Running {
         rt,
         notices,
         signals,
+        control: &control,
         net: &net,
         place: SinkPlace::of(rt, plan),
     };
@@ -225,7 +231,7 @@ where
 {
     let mut record = record;
     match begin(run, plan, &shared, &mut record) {
-        Ok(listeners) => match serve_opened(run, plan, shared, posts, sinks, listeners) {
+        Ok(listener) => match serve_opened(run, plan, shared, posts, sinks, listener) {
             Ok(served) => Ok((served, record)),
             Err(why) => Err(why),
         },
@@ -238,22 +244,15 @@ where
     }
 }
 
-/// The sockets of a daemon.
-#[derive(Drop)]
-struct Listeners {
-    service: UnixListener,
-    control: Option<UnixListener>,
-}
-
 /// Begins the record, and listens on the sockets. Refused by `CannotWrite` and `NoMemory`, and by `SocketFault`.
 fn begin<'a, Q, R, C, F, S, G>(
     run: &Running<'a, R>,
     plan: &Plan<'_>,
     shared: &Shared<Q, C, F, S, G>,
     record: &mut Option<RecordFile<'_>>,
-) -> Result<Listeners, Hindrance>
+) -> Result<UnixListener, Hindrance>
 where
-    R: AllocGlobal + Eprint + Net + Files<File = File>,
+    R: AllocGlobal + Clock + Eprint + Wait + Net + Files<File = File>,
     Q: Wait,
     C: Ledger,
     F: Ledger,
@@ -261,9 +260,9 @@ where
     G: Ledger,
 {
     write_record(run, shared, record)?;
-    let control = listen_for_control(run, plan)?;
+    listen_for_control(run, plan)?;
     match listen(run.rt, run.notices, plan.socket) {
-        Some(service) => Ok(Listeners { service, control }),
+        Some(listener) => Ok(listener),
         None => {
             remove_control(run.rt, plan);
             Err(Hindrance::SocketFault)
@@ -272,15 +271,18 @@ where
 }
 
 /// Listens on the control socket, where one is wanted, which only the same user may connect to. Refused by `SocketFault`.
-fn listen_for_control<'a, R: Eprint + Net + Files<File = File>>(
+fn listen_for_control<'a, R: AllocGlobal + Clock + Eprint + Wait + Net + Files<File = File>>(
     run: &Running<'a, R>,
     plan: &Plan<'_>,
-) -> Result<Option<UnixListener>, Hindrance> {
+) -> Result<(), Hindrance> {
     let Some(path) = plan.control else {
-        return Ok(None);
+        return Ok(());
     };
     match listen(run.rt, run.notices, path) {
-        Some(listener) if make_private(run.rt, run.notices, path) => Ok(Some(listener)),
+        Some(listener) if make_private(run.rt, run.notices, path) => {
+            run.control.listen(run.rt.alloc(), listener);
+            Ok(())
+        }
         _ => Err(Hindrance::SocketFault),
     }
 }
@@ -299,7 +301,7 @@ fn serve_opened<'a, R, C, F, S, G>(
     shared: Shared<&'a R, C, F, S, G>,
     posts: Vec<Post<C, F, S, G>>,
     sinks: Vec<DaemonSink<'a, UnixNet<'a, R>>>,
-    listeners: Listeners,
+    listener: UnixListener,
 ) -> Result<Served<&'a R, C, F, S, G>, Hindrance>
 where
     R: Runtime + AllocGlobal + Net + Dial + Threads + Wait + Sync + Files<File = File>,
@@ -313,16 +315,13 @@ where
     ensures { IfOk result (λ r. map (λ p. p.seat.worker) r.posts.items ≡ map (λ s. s.worker) (new_seats r.shared.workers)) }
 {
     let rt = run.rt;
-    let Listeners { service, control } = listeners;
-    let accept = SocketAccept::new(rt, run.notices, service, run.signals, patience_of(plan));
-    let aside = Control::new(
-        rt.alloc(),
+    let accept = SocketAccept::new(
         rt,
         run.notices,
+        plan.socket,
+        listener,
         run.signals,
-        plan.workers,
-        plan.record.is_some(),
-        control,
+        patience_of(plan),
     );
     let served = serve_sessions::<
         R,
@@ -347,11 +346,11 @@ where
         &accept,
         Ticks::new(rt),
         serving_of(plan),
-        &aside,
+        run.control,
     );
+    // removes the socket's file, where the last session's accept has not
+    accept.close();
     drop(accept);
-    drop(aside);
-    remove(rt, plan.socket);
     remove_control(rt, plan);
     match served {
         Ok(served) => Ok(served),
@@ -360,21 +359,19 @@ where
     }
 }
 
-/// How long a session's peer is waited for: in turns that are short where the daemon may be asked to stop.
+/// How long a session's peer is waited for: in short turns, where the daemon may be asked to stop or a session may be idle for so long
+/// only.
 fn patience_of(plan: &Plan<'_>) -> Patience {
-    match (plan.control, plan.idle) {
-        (Some(_), idle) => Patience {
-            turn: Some(Duration::from_millis(STOP_PAUSE)),
-            turns: match idle {
-                Some(seconds) => seconds.saturating_mul(1000 / STOP_PAUSE),
-                None => u64::MAX,
-            },
-        },
-        (None, idle) => Patience {
-            turn: idle.map(Duration::from_secs),
-            turns: 1,
-        },
-    }
+    let turns = match plan.idle {
+        Some(seconds) => seconds.saturating_mul(1000 / STOP_PAUSE),
+        None => u64::MAX,
+    };
+    let turn = if plan.control.is_some() || plan.idle.is_some() {
+        Some(Duration::from_millis(STOP_PAUSE))
+    } else {
+        None
+    };
+    Patience { turn, turns }
 }
 
 /// The plan's sessions, and how much each may ask for.
@@ -389,8 +386,8 @@ fn serving_of(plan: &Plan<'_>) -> Serving {
     }
 }
 
-/// So many sinks, and the record's file where one is wanted. Refused by `NoMemory`, `CannotOpenSink` and `CannotWrite`, in this
-/// order.
+/// So many sinks, and the record's file where one is wanted, unless the socket's place is taken: so a daemon that serves there is not
+/// disturbed. Refused by `SocketFault`, `NoMemory`, `CannotOpenSink` and `CannotWrite`, in this order.
 fn open_all<'a, 'p, R: AllocGlobal + Eprint + Net + Dial + Files<File = File>>(
     run: &Running<'a, R>,
     plan: &Plan<'p>,
@@ -398,6 +395,9 @@ fn open_all<'a, 'p, R: AllocGlobal + Eprint + Net + Dial + Files<File = File>>(
 ) -> Result<(Vec<DaemonSink<'a, UnixNet<'a, R>>>, Option<RecordFile<'p>>), Hindrance>
     ensures { IfOk result (λ r. vec_len r.0 ≡ count) }
 {
+    if !is_free(run.rt, run.notices, plan.socket) {
+        return Err(Hindrance::SocketFault);
+    }
     let sinks = open_sinks(run, plan.domain, count)?;
     match open_record(run, plan) {
         Ok(record) => Ok((sinks, record)),
@@ -484,6 +484,7 @@ where
     let Ok(_totals) = shared.gather(seats) else {
         unreachable!();
     };
+    run.control.look_at_record(shared.recording());
     write_record(run, shared, &mut record)
 }
 
@@ -804,7 +805,7 @@ where
     Some(seats)
 }
 
-/// The post's seat, once the clients that still wait were tried again.
+/// The post's seat, once the clients that still wait were tried again, and, at a stop, what is in a ring was flushed.
 fn seat_of<'a, R, C, F, S, G, K>(
     run: &Running<'a, R>,
     keeper: K,
@@ -821,8 +822,8 @@ where
 {
     let mut keeper = keeper;
     let mut post = post;
-    if !post.waiting.is_empty() {
-        retry_at(run, &mut keeper, &mut post);
+    if !post.waiting.is_empty() || run.signals.is_stopping() {
+        end_at(run, &mut keeper, &mut post);
     }
     let Post {
         seat,
@@ -832,8 +833,8 @@ where
     seat
 }
 
-/// Tries the clients that wait at this post again, where a sink can be opened.
-fn retry_at<'a, R, C, F, S, G, K>(run: &Running<'a, R>, keeper: &mut K, post: &mut Post<C, F, S, G>)
+/// Tries the clients that wait at this post again, and at a stop flushes what is in a ring, where a sink can be opened.
+fn end_at<'a, R, C, F, S, G, K>(run: &Running<'a, R>, keeper: &mut K, post: &mut Post<C, F, S, G>)
 where
     R: Eprint + Net + Dial + Files<File = File>,
     C: Ledger,
@@ -845,5 +846,8 @@ where
 {
     if let Some(mut sink) = open_sink(run.rt, run.notices, run.net, run.place, None) {
         let _left = retry(keeper, post, &mut sink);
+        if run.signals.is_stopping() {
+            let _round = timeout(keeper, post.seat.tally(), &mut sink);
+        }
     }
 }

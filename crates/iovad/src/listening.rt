@@ -1,13 +1,23 @@
 //! The socket that a daemon listens on.
 use crate::cause::tell_cause;
 use log::Log;
+use mio::net::UnixStream;
 use std::fs::{File, Permissions};
 use std::io::ErrorKind;
 use std::net::Net;
 use std::os::unix::fs::{FileTypeExt, PermissionsExt};
-use std::os::unix::net::{UnixListener, UnixStream};
-use std::rt::Files;
-use std::{fs, io};
+use std::os::unix::net::UnixListener;
+use std::rt::{Clock, Files};
+use std::time::Duration;
+use std::{fs, io, thread};
+
+/// How often a folder's lock is tried, and the pause after each time in milliseconds: a second in all.
+const LOOKS: u64 = 100;
+
+const LOOK_PAUSE: u64 = 10;
+
+/// The system's number of the error of an address that is in use (`EADDRINUSE` of Linux).
+const ADDRESS_IN_USE: i32 = 98;
 
 /// Listens on a socket at this path, in place of one that nobody listens on any more. Anything else that stands there is left as
 /// it is. An accept there doesn't block. None where it can't be had, which is told.
@@ -17,7 +27,7 @@ use std::{fs, io};
 /// there.
 pub fn listen<R, N>(rt: &R, notices: &N, path: &str) -> Option<UnixListener>
 where
-    R: Net + Files<File = File>,
+    R: Clock + Net + Files<File = File>,
     N: Log,
 {
     match bound(rt, path) {
@@ -30,22 +40,55 @@ where
 }
 
 /// The same, with the system's words where it can't be had.
-fn bound<R: Net + Files<File = File>>(rt: &R, path: &str) -> io::Result<UnixListener> {
+fn bound<R: Clock + Net + Files<File = File>>(rt: &R, path: &str) -> io::Result<UnixListener> {
     // the system would take an empty path for a socket without a name
     if path.is_empty() {
         return Err(io::Error::from(ErrorKind::NotFound));
     }
     match File::open(rt, folder_of(path)) {
         Ok(folder) => {
-            folder.lock()?;
-            remove_left(rt, path);
             // closing the folder gives up its lock
-            let bound = bind(rt, path);
+            let bound = bound_in(rt, &folder, path);
             drop(folder);
             bound
         }
         Err(_) => bind(rt, path),
     }
+}
+
+/// The same in this folder, which is locked. A lock that somebody else has for longer than a second isn't waited for, and nothing is
+/// replaced then.
+fn bound_in<R: Clock + Net + Files<File = File>>(
+    rt: &R,
+    folder: &File,
+    path: &str,
+) -> io::Result<UnixListener> {
+    for _ in 0..LOOKS {
+        if folder.try_lock().is_ok() {
+            remove_left(rt, path);
+            return bind(rt, path);
+        }
+        thread::sleep(rt, Duration::from_millis(LOOK_PAUSE));
+    }
+    bind(rt, path)
+}
+
+/// Whether a daemon may listen at this path: nothing stands there, or a socket that nobody listens on. Else it is told.
+pub fn is_free<R, N>(rt: &R, notices: &N, path: &str) -> bool
+where
+    R: Net + Files<File = File>,
+    N: Log,
+{
+    if fs::symlink_metadata(rt, path).is_err() || is_left(rt, path) {
+        return true;
+    }
+    tell_cause(
+        notices,
+        "bind",
+        path,
+        &io::Error::from_raw_os_error(ADDRESS_IN_USE),
+    );
+    false
 }
 
 /// Binds a socket there, where nothing stands.
@@ -62,9 +105,14 @@ fn bind<R: Net + Files<File = File>>(rt: &R, path: &str) -> io::Result<UnixListe
 
 /// Removes a socket that nobody listens on.
 fn remove_left<R: Net + Files<File = File>>(rt: &R, path: &str) {
-    if is_socket(rt, path) && is_refused(&UnixStream::connect(rt, path)) {
+    if is_left(rt, path) {
         remove(rt, path);
     }
+}
+
+/// Whether a socket stands there that nobody listens on. Nobody is waited for, as where a listener's queue is full.
+fn is_left<R: Net + Files<File = File>>(rt: &R, path: &str) -> bool {
+    is_socket(rt, path) && is_refused(&UnixStream::connect(rt, path))
 }
 
 /// Whether a socket stands there, and not a link to one.
