@@ -1,37 +1,23 @@
-# Completion of iovad's words for bash.
+# Completion of iovad's words for bash; bin/completion makes it.
 _iovad() {
-  local word=${COMP_WORDS[COMP_CWORD]} before=${COMP_WORDS[COMP_CWORD-1]} command=${COMP_WORDS[1]}
+  local word=${COMP_WORDS[COMP_CWORD]} before=${COMP_WORDS[COMP_CWORD - 1]} words='' files=''
   COMPREPLY=()
-  if [ "$COMP_CWORD" = 1 ]; then
-    mapfile -t COMPREPLY < <(compgen -W "replay serve ask check help --help --version" -- "$word")
-    return
-  fi
-  case $before in
-    --socket | --sink | --record | --log | --reserved-regions)
-      mapfile -t COMPREPLY < <(compgen -f -- "$word")
-      return
-      ;;
-    --workers | --domain | --start | --first | --last | --sessions | --session-requests | --idle | --record-steps | --depot | --did | --reserve | --sink-timeout) return ;;
+  case $COMP_CWORD:${COMP_WORDS[1]}:$before in
+    1:*) words='replay serve control ask check help --help --version' ;;
+    *:replay:--log | *:serve:--socket | *:serve:--sink | *:serve:--record | *:serve:--reserved-regions | *:serve:--control | *:check:--reserved-regions) files=yes ;;
+    *:serve:--workers | *:serve:--domain | *:serve:--start | *:serve:--last | *:serve:--sessions | *:serve:--session-requests | *:serve:--idle | *:serve:--depot | *:serve:--record-steps | *:serve:--reserve | *:serve:--sink-timeout | *:check:--first | *:check:--last | *:check:--did) return ;;
+    *:serve:--log-level) words='error warn info debug' ;;
+    *:replay:*) words='--report --log --help' files=yes ;;
+    *:serve:*) words='--socket --workers --domain --start --last --sink --sessions --session-requests --idle --depot --strict --record --record-steps --reserve --reserved-regions --sink-timeout --log-level --control --help' ;;
+    2:control:*) words='--help' files=yes ;;
+    3:control:*) words='report metrics stop' ;;
+    *:ask:*) words='--help' files=yes ;;
+    *:check:*) words='--quiet --first --last --reserved-regions --ftrace --did --help' files=yes ;;
+    *:help:*) words='replay serve control ask check' ;;
   esac
-  if [ "$before" = --log-level ]; then
-    mapfile -t COMPREPLY < <(compgen -W "error warn info debug" -- "$word")
-    return
-  fi
-  case $command in
-    replay) mapfile -t COMPREPLY < <(compgen -W "--report --log --help" -- "$word"; compgen -f -- "$word") ;;
-    serve)
-      mapfile -t COMPREPLY < <(
-        compgen -W "--socket --workers --domain --start --last --sink --sessions --session-requests --idle --depot --strict --record --record-steps --reserve --reserved-regions --sink-timeout --log-level --help" -- "$word"
-      )
-      ;;
-    ask) mapfile -t COMPREPLY < <(compgen -W "--help" -- "$word"; compgen -f -- "$word") ;;
-    check)
-      mapfile -t COMPREPLY < <(
-        compgen -W "--quiet --first --last --reserved-regions --ftrace --did --help" -- "$word"
-        compgen -f -- "$word"
-      )
-      ;;
-    help) mapfile -t COMPREPLY < <(compgen -W "replay serve ask check" -- "$word") ;;
-  esac
+  mapfile -t COMPREPLY < <(
+    [ -z "$words" ] || compgen -W "$words" -- "$word"
+    [ -z "$files" ] || compgen -f -- "$word"
+  )
 }
 complete -o filenames -F _iovad iovad
