@@ -57,8 +57,6 @@ impl<P: Place> Promise<P> for WorkerIs {
 pub(crate) struct Nothing;
 
 impl Promise<()> for Nothing {
-    ghost use Rattle.std.specs.Prelude.{Unit};
-
     ghost kept_by = { λ p r. Unit {0} };
 }
 
