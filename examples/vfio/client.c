@@ -1,0 +1,267 @@
+/* A driver behind the broker: iovad gives it addresses, and the broker maps them and has the device copy.
+ *
+ *     client IOVAD BROKER TURNS [LOG]
+ *
+ * IOVAD is the socket of `iovad serve`, BROKER that of the broker's drivers. In each turn it asks for the addresses of 16
+ * buffers of 1 to 8 pages, has them mapped, and in each fourth turn, from the first on, copied from one to another by the
+ * device; it compares the bytes, has them unmapped, and frees the addresses. What the device was seen to reach is
+ * appended to LOG. Where the daemon or the broker goes away it begins anew with the next one, up to so many turns. At a
+ * SIGTERM it ends its turn, and is over.
+ */
+#define _GNU_SOURCE
+#include "iova_client.h"
+
+#include <inttypes.h>
+#include <fcntl.h>
+#include <signal.h>
+#include <stdio.h>
+#include <stdlib.h>
+#include <sys/mman.h>
+
+enum { DEPTH = IOVAD_IN_FLIGHT, FRAME = 4096, PAGES = 8, COPIED = 4, PIECE = 4095, RING_FULL = 7 };
+
+struct buffer {
+    uint64_t first, frames, mark;
+    uint8_t *memory;
+    int fd;
+};
+
+struct driver {
+    iovad_session session;
+    uint64_t client;
+    int broker, log;
+    uint32_t dice;
+    struct buffer buffers[DEPTH];
+    int refused; /* whether somebody said no, which no driver that plays by the rules is told here */
+    uint64_t turns, mapped, copies, lost, wrong;
+};
+
+static volatile sig_atomic_t ending;
+
+static void end(int number) {
+    (void)number;
+    ending = 1;
+}
+
+/* Why there is no answer, or that it was a refusal. */
+static int fails_by(struct driver *driver, const char *what, uint64_t error) {
+    fprintf(stderr, "client: %s: %s\n", what, iovad_error_name(error));
+    driver->refused |= error < IOVAD_BAD_PATH;
+    return 1;
+}
+
+static int fails(const char *what, const char *why) {
+    fprintf(stderr, "client: %s: %s\n", what, why);
+    return 1;
+}
+
+static uint32_t roll(struct driver *driver) { return (driver->dice = driver->dice * 1664525 + 1013904223) >> 16; }
+
+/* One message to the broker, with a file descriptor where it isn't -1. */
+static int tell(struct driver *driver, const char *text, int fd) {
+    char room[CMSG_SPACE(sizeof fd)] = {0};
+    struct iovec part = {(void *)(uintptr_t)text, strlen(text)};
+    struct msghdr message = {.msg_iov = &part, .msg_iovlen = 1};
+    if (fd >= 0) {
+        message.msg_control = room;
+        message.msg_controllen = sizeof room;
+        struct cmsghdr *more = CMSG_FIRSTHDR(&message);
+        more->cmsg_level = SOL_SOCKET;
+        more->cmsg_type = SCM_RIGHTS;
+        more->cmsg_len = CMSG_LEN(sizeof fd);
+        memcpy(CMSG_DATA(more), &fd, sizeof fd);
+    }
+    return sendmsg(driver->broker, &message, MSG_NOSIGNAL) < 0 ? fails("the broker", strerror(errno)) : 0;
+}
+
+/* Whether the broker's next answer is this one. */
+static int hear(struct driver *driver, const char *text) {
+    char said[64];
+    ssize_t count = recv(driver->broker, said, sizeof said - 1, 0);
+    said[count < 0 ? 0 : count] = 0;
+    if (strcmp(said, text) == 0)
+        return 0;
+    driver->refused |= count > 0;
+    return fails(text, count > 0 ? said : "the broker has left");
+}
+
+/* Addresses from the daemon: 16 requests in flight. */
+static int ask(struct driver *driver) {
+    uint64_t error = 0;
+    for (int at = 0; at < DEPTH && !error; at++) {
+        driver->buffers[at].frames = roll(driver) % PAGES + 1;
+        error = iovad_ask_alloc(&driver->session, driver->buffers[at].frames, UINT64_MAX);
+    }
+    for (int at = 0; at < DEPTH && !error; at++) {
+        iovad_range range = iovad_take_alloc(&driver->session);
+        driver->buffers[at].first = range.lo;
+        error = range.error;
+    }
+    return error ? fails_by(driver, "alloc", error) : 0;
+}
+
+/* Memory that the broker can have too: each page is marked as this driver's. */
+static int make(struct driver *driver, struct buffer *buffer) {
+    size_t bytes = buffer->frames * FRAME;
+    buffer->mark = driver->client << 40 | driver->turns << 20 | buffer->first;
+    buffer->fd = memfd_create("buffer", MFD_CLOEXEC);
+    if (buffer->fd < 0 || ftruncate(buffer->fd, (off_t)bytes))
+        return fails("memory", strerror(errno));
+    void *memory = mmap(NULL, bytes, PROT_READ | PROT_WRITE, MAP_SHARED, buffer->fd, 0);
+    if (memory == MAP_FAILED)
+        return fails("memory", strerror(errno));
+    buffer->memory = memory;
+    for (size_t at = 0; at < bytes; at += FRAME)
+        memcpy(buffer->memory + at, &buffer->mark, sizeof buffer->mark);
+    return 0;
+}
+
+static int map(struct driver *driver, struct buffer *buffer) {
+    char text[96];
+    snprintf(text, sizeof text, "map %" PRIu64 " %" PRIu64 " %" PRIu64, driver->client, buffer->first, buffer->frames);
+    driver->mapped++;
+    return make(driver, buffer) || tell(driver, text, buffer->fd) || hear(driver, "mapped");
+}
+
+static void note_use(struct driver *driver, const struct buffer *buffer) {
+    if (driver->log >= 0)
+        dprintf(driver->log, "use %" PRIu64 " 1\n", buffer->first);
+}
+
+/* The device copies the first page of one buffer to that of another. */
+static int copy(struct driver *driver) {
+    char text[128];
+    uint32_t first = roll(driver) % DEPTH, second = (first + 1 + roll(driver) % (DEPTH - 1)) % DEPTH;
+    struct buffer *from = &driver->buffers[first], *to = &driver->buffers[second];
+    for (int at = 0; at < PIECE; at++)
+        from->memory[at] = (uint8_t)(driver->client + driver->turns + (uint64_t)at * 7);
+    snprintf(text, sizeof text, "copy %" PRIu64 " %" PRIu64 " %" PRIu64 " %d", driver->client, from->first * FRAME,
+             to->first * FRAME, PIECE);
+    if (tell(driver, text, -1) || hear(driver, "started"))
+        return 1;
+    printf("started\n");
+    fflush(stdout);
+    if (hear(driver, "done"))
+        return 1;
+    driver->wrong += memcmp(from->memory, to->memory, PIECE) != 0;
+    driver->copies++;
+    memcpy(from->memory, &from->mark, sizeof from->mark);
+    memcpy(to->memory, &to->mark, sizeof to->mark);
+    note_use(driver, from);
+    note_use(driver, to);
+    return 0;
+}
+
+/* Nobody else wrote into a buffer while it was this driver's. */
+static int unmap(struct driver *driver, struct buffer *buffer) {
+    char text[96];
+    snprintf(text, sizeof text, "unmap %" PRIu64 " %" PRIu64, driver->client, buffer->first);
+    if (tell(driver, text, -1) || hear(driver, "unmapped"))
+        return 1;
+    for (size_t at = 0; at < buffer->frames * FRAME; at += FRAME)
+        driver->wrong += memcmp(buffer->memory + at, &buffer->mark, sizeof buffer->mark) != 0;
+    return 0;
+}
+
+static int unmap_all(struct driver *driver) {
+    int failed = 0;
+    for (int at = 0; at < DEPTH && !failed; at++)
+        failed = unmap(driver, &driver->buffers[at]);
+    return failed;
+}
+
+/* Gives the addresses up. Where a ring was full, since a flush was under way, it says so once more. */
+static int free_all(struct driver *driver) {
+    uint64_t error = 0, left[DEPTH];
+    int count = DEPTH;
+    for (int at = 0; at < DEPTH; at++)
+        left[at] = driver->buffers[at].first;
+    while (count > 0 && !error) {
+        int asked = count, again = 0;
+        for (int at = 0; at < asked && !error; at++)
+            error = iovad_ask_free(&driver->session, left[at]);
+        for (int at = 0; at < asked && !error; at++) {
+            iovad_range range = iovad_take_free(&driver->session);
+            if (range.error == RING_FULL)
+                left[again++] = left[at];
+            else
+                error = range.error;
+        }
+        count = again;
+    }
+    return error ? fails_by(driver, "free", error) : 0;
+}
+
+static void drop_memory(struct driver *driver) {
+    for (int at = 0; at < DEPTH; at++) {
+        struct buffer *buffer = &driver->buffers[at];
+        if (buffer->memory)
+            munmap(buffer->memory, buffer->frames * FRAME);
+        if (buffer->fd >= 0)
+            close(buffer->fd);
+        *buffer = (struct buffer){.fd = -1};
+    }
+}
+
+/* A driver's life: ask, map, use, unmap, free. */
+static int turn(struct driver *driver) {
+    int failed = ask(driver);
+    for (int at = 0; at < DEPTH && !failed; at++)
+        failed = map(driver, &driver->buffers[at]);
+    if (!failed && driver->turns % COPIED == 0)
+        failed = copy(driver);
+    failed = failed || unmap_all(driver) || free_all(driver);
+    drop_memory(driver);
+    driver->turns++;
+    return failed;
+}
+
+/* The daemon first: once it answers, the broker has forgotten an earlier daemon's clients. */
+static int open_both(struct driver *driver, const char *daemon, const char *broker) {
+    struct sockaddr_un to = {.sun_family = AF_UNIX};
+    iovad_opened opened = iovad_open(&driver->session, daemon, 0, 0);
+    if (opened.error)
+        return 1;
+    driver->client = opened.number;
+    snprintf(to.sun_path, sizeof to.sun_path, "%s", broker);
+    driver->broker = socket(AF_UNIX, SOCK_SEQPACKET | SOCK_CLOEXEC, 0);
+    return driver->broker < 0 || connect(driver->broker, (struct sockaddr *)(void *)&to, sizeof to);
+}
+
+static void close_both(struct driver *driver) {
+    iovad_close(&driver->session);
+    if (driver->broker >= 0)
+        close(driver->broker);
+    driver->broker = -1;
+}
+
+int main(int argc, char **words) {
+    struct driver driver = {.broker = -1, .log = -1, .session = {.fd = -1}};
+    if (argc < 4 || argc > 5) {
+        fprintf(stderr, "usage: client IOVAD BROKER TURNS [LOG]\n");
+        return 2;
+    }
+    uint64_t turns = strtoull(words[3], NULL, 10);
+    int failed = 0, tries = 0;
+    signal(SIGTERM, end); /* calls that wait go on */
+    drop_memory(&driver);
+    if (argc > 4 && (driver.log = open(words[4], O_WRONLY | O_APPEND | O_CLOEXEC)) < 0)
+        return fails(words[4], strerror(errno));
+    while (driver.turns < turns && !ending && tries < 500 && !driver.refused) {
+        failed = open_both(&driver, words[1], words[2]);
+        driver.dice = (uint32_t)driver.client;
+        while (!failed && driver.turns < turns && !ending && !(failed = turn(&driver)))
+            tries = 0;
+        if (!failed)
+            failed = iovad_bye(&driver.session) != 0;
+        driver.lost += (uint64_t)(failed && tries++ == 0);
+        close_both(&driver);
+        if (failed)
+            usleep(20000);
+    }
+    if (driver.log >= 0)
+        close(driver.log);
+    printf("turns %" PRIu64 " mapped %" PRIu64 " copies %" PRIu64 " lost %" PRIu64 " wrong %" PRIu64 "\n", driver.turns,
+           driver.mapped, driver.copies, driver.lost, driver.wrong);
+    return failed || driver.wrong;
+}
