@@ -1,4 +1,4 @@
 use Rattle.iovad.proofs.daemon.serve_domain.Goals as goal
 
-pub returns-in-Err : goal.returns-in-Err
-returns-in-Err g c = c.fault.ensures c.args.plan.now
+pub returns : goal.returns
+returns g c = c.fault.ensures c.args.plan.now
