@@ -12,7 +12,7 @@ use iova_sink::memory::MemorySink;
 use iova_sink::sink::{Sink, SinkFault};
 use log::kv::Source;
 use log::span::Spans;
-use log::{Log, Metadata, Record};
+use log::{Level, Log, Metadata, Record};
 use std::alloc::Global;
 use std::fmt::Display;
 use std::sync::atomic::{AtomicU64, Ordering};
@@ -150,7 +150,7 @@ impl<'a> Sink for GatedSink<'a> {
     }
 }
 
-/// Counts notices, and prints none.
+/// Counts warnings and errors, and prints none.
 #[derive(Drop)]
 pub struct Counted {
     pub records: AtomicU64,
@@ -161,8 +161,10 @@ impl Log for Counted {
         true
     }
 
-    fn log<D: Display, K: Source, S: Spans>(&self, _record: &Record<'_, D, K, S>) {
-        self.records.fetch_add(1, Ordering::SeqCst);
+    fn log<D: Display, K: Source, S: Spans>(&self, record: &Record<'_, D, K, S>) {
+        if matches!(record.level(), Level::Error | Level::Warn) {
+            self.records.fetch_add(1, Ordering::SeqCst);
+        }
     }
 
     fn flush(&self) {}
