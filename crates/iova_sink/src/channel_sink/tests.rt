@@ -217,6 +217,9 @@ fn a_peer_at_a_socket(rt: HostRuntime) -> Result<(), Fail> {
     let mut byte = [0u8];
     assert_eq!(rt; channel.receive(&mut byte), Ok(1));
     assert_eq!(rt; channel.look(), Ok(Standing::Bytes));
+    // it was read ahead, and nothing comes behind it
+    assert_eq!(rt; channel.receive(&mut byte), Ok(1));
+    assert_eq!(rt; byte, *b"b");
     assert_eq!(rt; channel.receive(&mut byte), Err(ChannelFault));
     drop(peer);
     assert_eq!(rt; channel.look(), Ok(Standing::End));
