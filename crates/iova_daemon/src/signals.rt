@@ -1,10 +1,6 @@
 //! What the threads of a daemon tell one another beside their turns.
 use std::sync::atomic::{AtomicBool, AtomicU64, Ordering};
 
-/// The longest time until a daemon sees that it is asked to stop, in milliseconds: what waits for a peer waits no longer at a time.
-/// Own.
-pub const STOP_PAUSE: u64 = 250;
-
 /// Whether the daemon is asked to stop, and what was counted so far. Threads share it. A count begins anew behind 2^64 - 1. Own.
 #[derive(Drop)]
 pub struct Signals {

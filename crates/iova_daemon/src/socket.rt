@@ -3,7 +3,7 @@ use crate::accept::Accept;
 use crate::dial::{Dial, UnixNet};
 use crate::served_link::{Patience, ServedLink};
 use crate::signals::Signals;
-use iova_range::limits::{ACCEPT_PAUSE, MAX_ACCEPT_PAUSE};
+use iova_range::limits::{ACCEPT_PAUSE, MAX_ACCEPT_PAUSE, MAX_WAITING};
 use iova_session::link::LinkFault;
 use log::{Log, warn};
 use mio::unix::SourceFd;
@@ -16,9 +16,6 @@ use std::sync::atomic::{AtomicU64, Ordering};
 use std::sync::{Mutex, Wait};
 use std::time::Duration;
 use std::{io, thread};
-
-/// The most connections that are hung up on when a listener is closed: as many as the system lets wait there.
-const MAX_WAITING: u64 = 4_096;
 
 /// Accepts the connections of a listener, each one a link, until it is closed or the daemon is asked to stop. An accept that fails is a
 /// notice, and a pause follows, which doubles with each failure after another; none was had then, and the next call tries again. While

@@ -124,3 +124,32 @@ pub const SINK_TIMEOUT: u64 = 10;
 /// The time between two rounds in which a daemon's clients that wait are tried again, in milliseconds: a worker that waits for a
 /// session looks about it so often. Own.
 pub const RETRY_PAUSE: u64 = 1_000;
+
+/// The longest time until a daemon sees that it is asked to stop, in milliseconds: what waits for a peer waits no longer at a time.
+/// Own.
+pub const STOP_PAUSE: u64 = 250;
+
+/// The most connections that are hung up on when a listener is closed: as many as the system lets wait there
+/// (`net.core.somaxconn` of Linux 5.15).
+pub const MAX_WAITING: u64 = 4_096;
+
+/// The most connections that a control socket serves at a time; another one waits. Own.
+pub const MAX_CONTROLS: usize = 8;
+
+/// The time between two looks at a control socket's connections, in milliseconds. Own.
+pub const CONTROL_PAUSE: u64 = 20;
+
+/// How many looks a control socket's connection may be silent where another one waits: 2 seconds. Own.
+pub const MAX_CONTROL_SILENCE: u64 = 100;
+
+/// How often a control socket's connection is read at one look. Own.
+pub const CONTROL_READS: u64 = 16;
+
+/// The time that a daemon's control socket is given to answer, in seconds. Own.
+pub const CONTROL_TIMEOUT: u64 = 30;
+
+/// How often a folder's lock is tried, with a pause after each time: a second in all. Own.
+pub const FOLDER_LOOKS: u64 = 100;
+
+/// The pause after a folder's lock was tried, in milliseconds. Own.
+pub const FOLDER_PAUSE: u64 = 10;

@@ -5,7 +5,7 @@ use crate::metrics::metrics;
 use arrayvec::ArrayVec;
 use iova_daemon::aside::{Aside, Look, Standing};
 use iova_daemon::signals::Signals;
-use iova_range::limits::MAX_LINE;
+use iova_range::limits::{CONTROL_PAUSE, CONTROL_READS, MAX_CONTROLS, MAX_CONTROL_SILENCE, MAX_LINE};
 use iova_text::buffer::{LineBuffer, put, put_number};
 use log::{Log, warn};
 use memchr::memchr_iter;
@@ -17,18 +17,6 @@ use std::sync::atomic::{AtomicBool, Ordering};
 use std::sync::{Mutex, Wait};
 use std::thread;
 use std::time::Duration;
-
-/// The most connections that are served at a time; another one waits.
-const MAX_CONTROLS: usize = 8;
-
-/// The time between two looks at the connections, in milliseconds. Nothing else is done then, so there is no descriptor to run out of.
-const TURN: u64 = 20;
-
-/// How many turns a connection may be silent where another one waits: 2 seconds.
-const MAX_SILENT: u64 = 100;
-
-/// How often a connection is read in a turn.
-const READS: u64 = 16;
 
 /// What is done beside the sessions of a daemon: its control socket, where it has one, and that a full record is told. Own.
 #[derive(Drop)]
@@ -111,7 +99,8 @@ impl<'a, R: AllocGlobal + Clock + Wait, N: Log> Aside for Control<'a, R, N> {
             desk.connections
                 .retain_mut(|connection| self.serves(connection, domain, standing));
         }
-        thread::sleep(self.rt, Duration::from_millis(TURN));
+        // no wait for a descriptor, so there is none to run out of
+        thread::sleep(self.rt, Duration::from_millis(CONTROL_PAUSE));
     }
 }
 
@@ -124,7 +113,7 @@ impl<'a, R: AllocGlobal, N> Control<'a, R, N> {
         standing: &T,
     ) -> bool {
         connection.silent = connection.silent.saturating_add(1);
-        for _ in 0..READS {
+        for _ in 0..CONTROL_READS {
             if !connection.is_read || !connection.owed.is_empty() {
                 break;
             }
@@ -258,7 +247,7 @@ fn accept(alloc: Global, desk: &mut Desk) {
         let silent = desk
             .connections
             .iter()
-            .position(|c| c.silent > MAX_SILENT && !c.is_kept);
+            .position(|c| c.silent > MAX_CONTROL_SILENCE && !c.is_kept);
         let Some(at) = silent else {
             return;
         };

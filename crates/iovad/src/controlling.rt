@@ -2,6 +2,7 @@
 use crate::cause::tell_cause;
 use crate::fault::Fault;
 use iova_command::control_word::ControlWord;
+use iova_range::limits::CONTROL_TIMEOUT;
 use log::{Log, error};
 use memchr::{memchr, memchr_iter};
 use std::io::{Read, Write};
@@ -10,9 +11,6 @@ use std::os::unix::net::UnixStream;
 use std::rt::Runtime;
 use std::time::Duration;
 use std::{io, str};
-
-/// How long an answer is waited for, in seconds. The end of a daemon that is told to stop is waited for as long as it takes.
-const PATIENCE: u64 = 30;
 
 /// Asks the daemon at this path for what the word names, and prints what it answers, without the line that tells how many lines
 /// follow. After `stop` it waits for the daemon's end. Refused by `SocketFault` where nobody answers, or not as asked, and by
@@ -39,13 +37,13 @@ where
     }
 }
 
-/// Sends the word, and takes all that comes.
+/// Sends the word, and takes all that comes. The end of a daemon that is told to stop is waited for as long as it takes.
 fn asked<R: Net>(rt: &R, path: &str, word: ControlWord, answer: &mut Vec<u8>) -> io::Result<()> {
     let mut stream = UnixStream::connect(rt, path)?;
     if word != ControlWord::Stop {
-        stream.set_read_timeout(Some(Duration::from_secs(PATIENCE)))?;
+        stream.set_read_timeout(Some(Duration::from_secs(CONTROL_TIMEOUT)))?;
     }
-    stream.set_write_timeout(Some(Duration::from_secs(PATIENCE)))?;
+    stream.set_write_timeout(Some(Duration::from_secs(CONTROL_TIMEOUT)))?;
     stream.write_all(word.name().as_bytes())?;
     stream.write_all(b"\n")?;
     stream.shutdown(Shutdown::Write)?;

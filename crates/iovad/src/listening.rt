@@ -1,5 +1,6 @@
 //! The socket that a daemon listens on.
 use crate::cause::tell_cause;
+use iova_range::limits::{FOLDER_LOOKS, FOLDER_PAUSE};
 use log::Log;
 use mio::net::UnixStream;
 use std::fs::{File, Permissions};
@@ -10,11 +11,6 @@ use std::os::unix::net::UnixListener;
 use std::rt::{Clock, Files};
 use std::time::Duration;
 use std::{fs, io, thread};
-
-/// How often a folder's lock is tried, and the pause after each time in milliseconds: a second in all.
-const LOOKS: u64 = 100;
-
-const LOOK_PAUSE: u64 = 10;
 
 /// The system's number of the error of an address that is in use (`EADDRINUSE` of Linux).
 const ADDRESS_IN_USE: i32 = 98;
@@ -63,12 +59,12 @@ fn bound_in<R: Clock + Net + Files<File = File>>(
     folder: &File,
     path: &str,
 ) -> io::Result<UnixListener> {
-    for _ in 0..LOOKS {
+    for _ in 0..FOLDER_LOOKS {
         if folder.try_lock().is_ok() {
             remove_left(rt, path);
             return bind(rt, path);
         }
-        thread::sleep(rt, Duration::from_millis(LOOK_PAUSE));
+        thread::sleep(rt, Duration::from_millis(FOLDER_PAUSE));
     }
     bind(rt, path)
 }
