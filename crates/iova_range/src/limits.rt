@@ -153,3 +153,16 @@ pub const FOLDER_LOOKS: u64 = 100;
 
 /// The pause after a folder's lock was tried, in milliseconds. Own.
 pub const FOLDER_PAUSE: u64 = 10;
+
+/// The workers of a daemon where nobody says how many. Own.
+pub const DEFAULT_WORKERS: u64 = 4;
+
+/// The number of a daemon's domain where nobody says another. Own.
+pub const DEFAULT_DOMAIN: u64 = 0;
+
+/// The first frame of a daemon's domain where nobody says another: frame 0 is never handed out. Own.
+pub const DEFAULT_START: u64 = 1;
+
+/// The last frame of a daemon's domain where nobody says another: the last one below the interrupt window of x86, which begins at
+/// the byte 0xfee0_0000 (Intel's and AMD's manuals).
+pub const DEFAULT_LAST: u64 = 1_043_967;
