@@ -43,7 +43,7 @@ impl Checker {
     pub fn check(&mut self, event: Event, out: &mut Vec<u8>) -> Result<(), Refusal>
         requires { IsInReach event }
         ensures ok { OnOk result (ChecksNext self.old event out.old.items self.new out.new.items) }
-        ensures err { OnErr result (out.new.items ≡ out.old.items) }
+        ensures err { OnErr result ((result ≡ Err Refusal.NoMemory) × (out.new.items ≡ out.old.items)) }
     {
         if self.tracker.line == u64::MAX {
             return Err(Refusal::NoMemory);

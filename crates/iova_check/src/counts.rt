@@ -1,5 +1,5 @@
 //! What is counted of a log.
-ghost use Rattle.std.specs.Prelude.{◌≡◌, ◌+◌, IfOk};
+ghost use Rattle.std.specs.Prelude.{◌≡◌, ◌+◌, IfOk, OnErr};
 ghost use Rattle.iova_check.specs.Counting.{IsCounted, counts_after};
 
 use crate::event::Event;
@@ -41,7 +41,8 @@ impl Counts {
 
     /// With a line more, of which so many findings are told. Refused by `NoMemory` where a count has no number.
     pub fn with_line(self, event: &Event, findings: u64) -> Result<Counts, Refusal>
-        ensures { IfOk result (λ counts. counts ≡ counts_after self event.now findings) }
+        ensures counted { IfOk result (λ counts. counts ≡ counts_after self event.now findings) }
+        ensures refused { OnErr result (result ≡ Err Refusal.NoMemory) }
     {
         let mut counts = self;
         counts.findings = sum(counts.findings, findings)?;
@@ -60,7 +61,8 @@ impl Counts {
 }
 
 fn sum(a: u64, b: u64) -> Result<u64, Refusal>
-    ensures { IfOk result (λ n. n ≡ a + b) }
+    ensures sum { IfOk result (λ n. n ≡ a + b) }
+    ensures refused { OnErr result (result ≡ Err Refusal.NoMemory) }
 {
     match a.checked_add(b) {
         Some(n) => Ok(n),

@@ -17,7 +17,7 @@ pub fn write_findings(
     out: &mut Vec<u8>,
 ) -> Result<(), Refusal>
     ensures ok { OnOk result (out.new.items ≡ out.old.items ++ findings_text line findings.now) }
-    ensures err { OnErr result (out.new.items ≡ out.old.items) }
+    ensures err { OnErr result ((result ≡ Err Refusal.NoMemory) × (out.new.items ≡ out.old.items)) }
 {
     let mut text: ArrayVec<u8, ROOM> = ArrayVec::new();
     for finding in findings {

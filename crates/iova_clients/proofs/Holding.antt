@@ -1,12 +1,12 @@
--- The client that has a frame.
+-- The client that has a frame, and the one that a worker opened behind another.
 use Rattle.std.proofs.Common.{◌≡◌, ℕ, Bool, true, false, cond, List, [], ◌∷◌, Option, None, Some, option_map, find, IfSome, IfNone, All, refl, sym, ap, ◌∙◌}
 use Rattle.std.specs.List.{position_or_len}
 use Rattle.std.proofs.lemmas.List.Folds.{find_at}
 use Rattle.std.proofs.lemmas.List.Elements.{All-nil, All-cons}
 use Rattle.iova_model.specs.Fit.{is_covered}
-use Rattle.iova_model.specs.Clients.{Client}
+use Rattle.iova_model.specs.Clients.{Client, is_newer, newer_client}
 use Rattle.iova_clients.specs.Registry.{IsHolder}
-use Rattle.iova_clients.specs.Accounts.{Account, client_at, clients_at}
+use Rattle.iova_clients.specs.Accounts.{Account, client_at, clients_at, is_newer_entry}
 
 abbrev pub has_frame : ℕ → Client → Bool
 has_frame frame c = is_covered frame c.holdings
@@ -59,3 +59,17 @@ holder_none frame cs = step (find (has_frame frame) cs) refl
     step : (o : Option Client) → find (has_frame frame) cs ≡ o → IfNone (option_map (λ (c : Client). c.id) o) (All (λ (c : Client). has_frame frame c ≡ false) cs)
     step None is = find_none frame cs is
     step (Some c) is = tt
+
+-- The client of a worker with a serial above this one.
+pub newer-at : (worker than : ℕ) (es : List (ℕ × Account))
+    → option_map (λ (e : ℕ × Account). e.0) (find (λ (e : ℕ × Account). is_newer_entry worker than e) es)
+    ≡ option_map (λ (c : Client). c.id) (newer_client worker than (clients_at es))
+newer-at worker than [] = refl
+newer-at worker than (e ∷ es) = step (is_newer worker than (client_at e)) (newer-at worker than es)
+  where
+    step : (b : Bool) → option_map (λ (e : ℕ × Account). e.0) (find (λ (e : ℕ × Account). is_newer_entry worker than e) es)
+        ≡ option_map (λ (c : Client). c.id) (newer_client worker than (clients_at es))
+        → option_map (λ (e : ℕ × Account). e.0) (cond b (Some e) (find (λ (e : ℕ × Account). is_newer_entry worker than e) es))
+        ≡ option_map (λ (c : Client). c.id) (cond b (Some (client_at e)) (newer_client worker than (clients_at es)))
+    step true ih = refl
+    step false ih = ih

@@ -2,7 +2,7 @@
 use Rattle.std.specs.Prelude.{◌≡◌, ◌≢◌, ◌+◌, ◌-◌, ℕ, Bool, List, [], ◌∷◌, ◌++◌, map, Option, None, Some, IsSome}
 use Rattle.std.specs.Map.{lookup}
 use Rattle.iova_range.specs.Frames.{Frames}
-use Rattle.iova_model.specs.Clients.{Client, insert_rising, remove_at}
+use Rattle.iova_model.specs.Clients.{Client, insert_rising, is_newer, remove_at}
 use Rattle.iova_clients.specs.Registry.{is_serial}
 
 -- What `Holdings` are seen as: ranges in a row, and how many more fit without memory
@@ -60,6 +60,10 @@ client_at e = record { id = e.0; worker = e.1.worker; sac = e.1.sac; closing = e
 
 abbrev pub clients_at : List (ℕ × Account) → List Client
 clients_at es = map client_at es
+
+-- the client of this serial and account is the worker's, and its serial is above this one
+abbrev pub is_newer_entry : ℕ → ℕ → ℕ × Account → Bool
+is_newer_entry worker than e = is_newer worker than (client_at e)
 
 -- by its serial, how many more holdings each can be given without memory
 abbrev pub spares_at : List (ℕ × Account) → List (ℕ × ℕ)

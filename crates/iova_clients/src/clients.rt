@@ -1,7 +1,7 @@
 //! The clients of a domain.
 ghost use Rattle.std.specs.Prelude.{◌≡◌, ◌≢◌, ◌+◌, ◌-◌, ◌^◌, ◌<◌, ◌≤◌, ℕ, [], ◌∷◌, ◌++◌, find, length, option_map, option_copied, option_and_then, IfOk, OnOk, OnErr, Ok, Err, IsOkUnless, IfSome, IfNone, IsSomeAnd, All, IsTrue, ◌↔◌, false};
 ghost use Rattle.iova_model.specs.Fit.{is_covered};
-ghost use Rattle.iova_model.specs.Clients.{new_client, client_with, client_of, begins_at, changed, forgotten, with_holding, without_holding, marked, totals, share_of};
+ghost use Rattle.iova_model.specs.Clients.{new_client, client_with, client_of, begins_at, changed, forgotten, with_holding, without_holding, marked, newer_client, totals, share_of};
 ghost use Rattle.iova_clients.specs.Registry.{empty_registry, spare_of, IsRegistry, open_refusal, room_refusal, CanBeGiven, held_at, lowest, count_held, marks_of, CanBeForgotten, IsHolder};
 
 use crate::ledger::Ledger;
@@ -179,6 +179,13 @@ impl Clients {
         ensures none { IfNone result (All (λ c. is_covered frame c.holdings ≡ false) self.now.clients) }
     {
         self.ledgers.holder(frame)
+    }
+
+    /// The first client, by serial, that this worker opened and whose serial is above this one. This looks through all clients.
+    pub fn newer(&self, worker: u64, than: ClientId) -> Option<ClientId>
+        ensures { result ≡ option_map (λ c. c.id) (newer_client worker than self.now.clients) }
+    {
+        self.ledgers.newer(worker, than)
     }
 
     /// Makes room for one holding more of the client, so that the next `add` needs no memory.

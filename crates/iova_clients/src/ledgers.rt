@@ -6,7 +6,7 @@ ghost use Rattle.std.specs.List.{AllByRecursion};
 ghost use Rattle.std.specs.Map.{lookup, remove_entry};
 ghost use Rattle.iova_model.specs.Fit.{is_covered};
 ghost use Rattle.iova_clients.specs.Registry.{is_serial};
-ghost use Rattle.iova_clients.specs.Accounts.{IsRemembered};
+ghost use Rattle.iova_clients.specs.Accounts.{IsRemembered, is_newer_entry};
 
 use crate::ledger::Ledger;
 use iova_range::refusal::Refusal;
@@ -125,6 +125,21 @@ impl Ledgers {
         for (id, key) in self.keys.iter() {
             if let Some(ledger) = self.slab.get(*key)
                 && ledger.covers(frame)
+            {
+                return Some(*id);
+            }
+        }
+        None
+    }
+
+    /// The first serial above this one with a ledger of the worker.
+    pub(crate) fn newer(&self, worker: u64, than: u64) -> Option<u64>
+        ensures { result ≡ option_map (λ e. e.0) (find (λ e. is_newer_entry worker than e) self.now) }
+    {
+        for (id, key) in self.keys.iter() {
+            if let Some(ledger) = self.slab.get(*key)
+                && ledger.worker() == worker
+                && *id > than
             {
                 return Some(*id);
             }

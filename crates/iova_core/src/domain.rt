@@ -1,7 +1,7 @@
 //! A domain: its steps, one at a time and in runs, and its readers.
 ghost use Rattle.std.specs.Prelude.{◌≡◌, ◌≢◌, ◌≤◌, ◌<◌, ◌⊎◌, ◌^◌, ℕ, [], take, replicate, sum_by, find, length, Some, IfOk, OnOk, OnErr, IsErr, ◌↔◌, Err, option_map, option_copied};
 ghost use Rattle.iova_model.specs.Fit.{is_covered};
-ghost use Rattle.iova_model.specs.Clients.{Client, client_with, begins_at, share_of, totals};
+ghost use Rattle.iova_model.specs.Clients.{Client, client_with, begins_at, newer_client, share_of, totals};
 ghost use Rattle.iova_range.specs.Frames.{covers};
 ghost use Rattle.iova_model.specs.State.{new_domain, counts, ring_holders, place_in};
 ghost use Rattle.iova_model.specs.Valid.{IsValid};
@@ -503,6 +503,13 @@ impl Domain {
         ensures { result ≡ option_map (λ c. c.worker) (client_with client self.now.clients) }
     {
         self.clients.owner(client)
+    }
+
+    /// The first client, by serial, that this worker opened and whose serial is above this one. This looks through all clients.
+    pub fn newer(&self, worker: u64, than: ClientId) -> Option<ClientId>
+        ensures { result ≡ option_map (λ c. c.id) (newer_client worker than self.now.clients) }
+    {
+        self.clients.newer(worker, than)
     }
 
     /// Whether the client is closing.

@@ -11,11 +11,11 @@ ghost use Rattle.iova_model.specs.Laws.{MovesTotals, IsReplyTo, ended_well, to_q
 ghost use Rattle.iova_keep.specs.Steps.{Takes, IsGivenWithin, IsDrainReply};
 ghost use Rattle.iova_keep.specs.StepLogs.{StepLog, IsRecorded, is_recording, new_log};
 ghost use Rattle.iova_keep.specs.Events.{Does, Unmapping, IsShort, Closing, Draining, rings_from};
-ghost use Rattle.iova_lock.specs.Books.{BookState, IsSame, by_seat, by_tally, new_book, steps_in, IsBook};
+ghost use Rattle.iova_lock.specs.Books.{BookState, IsSame, ReadsNewer, by_seat, by_tally, new_book, steps_in, IsBook};
 ghost use Rattle.iova_keep.specs.Views.{TallyState, SeatState, Covers, new_seats, left_of, stat_of, nothing, IsLowered, IsCloseHeard, IsKept};
 
 use iova_core::domain::Domain;
-use iova_core::{Reply, Step};
+use iova_core::{ClientId, Reply, Step};
 use iova_keep::ledgers::Ledgers;
 use iova_keep::seat::{Seat, Tally};
 use iova_model::totals::Totals;
@@ -227,6 +227,30 @@ impl<C: Ledger, F: Ledger, S: Ledger, G: Ledger> Book<C, F, S, G> {
         ensures err { OnErr result ((result ≡ Err Refusal.NoMemory) × (out.new.items ≡ out.old.items)) }
     {
         report(self.machine.domain(), out)
+    }
+
+    /// The first client that the worker opened behind this serial, and its ranges, at most 4,096, appended rising by first frame.
+    /// Refused by `NoMemory`, which appends nothing.
+    pub fn newer(
+        &self,
+        worker: u64,
+        than: ClientId,
+        ranges: &mut Vec<Range>,
+    ) -> Result<Option<ClientId>, Refusal>
+        ensures ok { IfOk result (ReadsNewer worker than self.now.state ranges.old.items ranges.new.items) }
+        ensures err { OnErr result ((result ≡ Err Refusal.NoMemory) × (ranges.new.items ≡ ranges.old.items)) }
+    {
+        let domain = self.machine.domain();
+        let Some(id) = domain.newer(worker, than) else {
+            return Ok(None);
+        };
+        let Some(held) = domain.holdings_of(id) else {
+            return Ok(Some(id));
+        };
+        match ranges.extend_from_slice(held) {
+            Ok(()) => Ok(Some(id)),
+            Err(_) => Err(Refusal::NoMemory),
+        }
     }
 
     pub(crate) fn number_of(&self) -> u64

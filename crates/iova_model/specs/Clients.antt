@@ -28,6 +28,14 @@ if_owned worker c = if c.worker == worker then Some c else None
 abbrev pub client_of : ℕ → ℕ → List Client → Option Client
 client_of worker id clients = option_and_then (if_owned worker) (client_with id clients)
 
+-- a client of the worker, with a serial above this one
+abbrev pub is_newer : ℕ → ℕ → Client → Bool
+is_newer worker than c = if c.worker == worker then nat_lt than c.id else false
+
+-- the first such client
+abbrev pub newer_client : ℕ → ℕ → List Client → Option Client
+newer_client worker than clients = find (is_newer worker than) clients
+
 -- the clients with a change to that one
 abbrev pub changed : ℕ → (Client → Client) → List Client → List Client
 changed id change [] = []
