@@ -10,6 +10,7 @@ pub mod count;
 pub mod device;
 pub mod file;
 pub mod gate;
+pub mod hurry;
 pub mod memory;
 pub mod memory_channel;
 pub mod memory_device;

@@ -5,6 +5,7 @@ ghost use Rattle.iova_sink.specs.Channels.{with_failure};
 use crate::channel::{Channel, ChannelFault, Standing};
 use crate::count::Count;
 use crate::device::bytes_taken;
+use crate::hurry::Hurry;
 use std::io;
 use std::io::{ErrorKind, Read, Write};
 use std::marker::Model;
@@ -23,6 +24,7 @@ pub struct SocketChannel<'a, N: Net> {
     net: &'a N,
     path: &'a str,
     limit: Duration,
+    hurry: Option<&'a Hurry>,
     stream: Option<UnixStream>,
     ahead: Ahead,
     failed: Count,
@@ -105,11 +107,39 @@ impl<'a, N: Net> SocketChannel<'a, N> {
             net,
             path,
             limit: Duration::from_secs(seconds),
+            hurry: None,
             stream: None,
             ahead: Ahead::new(),
             failed: Count::new(),
             strays: Count::new(),
         }
+    }
+
+    /// From now on its end is hurried there.
+    pub fn hurry_by(&mut self, hurry: &'a Hurry)
+        ensures { self.new ≡ self.old }
+    {
+        self.hurry = Some(hurry);
+    }
+
+    /// Whether no call is made any more.
+    fn is_given_up(&self) -> bool {
+        match self.hurry {
+            Some(hurry) => hurry.is_over(),
+            None => false,
+        }
+    }
+
+    /// A call failed so.
+    fn fault_of(&mut self, error: &io::Error) -> ChannelFault
+        ensures { self.new ≡ with_failure self.old }
+    {
+        if let Some(hurry) = self.hurry
+            && is_late(error)
+        {
+            hurry.note_silence();
+        }
+        self.fault()
     }
 
     /// One failure more.
@@ -129,10 +159,16 @@ impl<'a, N: Net> Channel for SocketChannel<'a, N> {
     }
 
     fn send(&mut self, bytes: &[u8]) -> Result<usize, ChannelFault> {
+        if self.is_given_up() {
+            return Err(self.fault());
+        }
         let Some(stream) = &self.stream else {
             return Err(self.fault());
         };
         let written = write_to(stream, bytes);
+        if let Err(error) = &written {
+            return Err(self.fault_of(error));
+        }
         match bytes_taken(written, bytes.len()) {
             Some(n) => Ok(n),
             None => Err(self.fault()),
@@ -140,12 +176,15 @@ impl<'a, N: Net> Channel for SocketChannel<'a, N> {
     }
 
     fn receive(&mut self, buffer: &mut [u8]) -> Result<usize, ChannelFault> {
+        if self.is_given_up() {
+            return Err(self.fault());
+        }
         let Some(stream) = &self.stream else {
             return Err(self.fault());
         };
         match self.ahead.fill(stream) {
             Ok(()) => Ok(self.ahead.take(buffer)),
-            Err(_) => Err(self.fault()),
+            Err(error) => Err(self.fault_of(&error)),
         }
     }
 
@@ -171,12 +210,15 @@ impl<'a, N: Net> Channel for SocketChannel<'a, N> {
     fn connect(&mut self) -> Result<(), ChannelFault> {
         self.stream = None;
         self.ahead.clear();
+        if self.is_given_up() {
+            return Err(self.fault());
+        }
         match connected(self.net, self.path, self.limit) {
             Ok(stream) => {
                 self.stream = Some(stream);
                 Ok(())
             }
-            Err(_) => Err(self.fault()),
+            Err(error) => Err(self.fault_of(&error)),
         }
     }
 
@@ -184,6 +226,11 @@ impl<'a, N: Net> Channel for SocketChannel<'a, N> {
         self.stream = None;
         self.ahead.clear();
     }
+}
+
+/// Whether a call had no answer in time.
+fn is_late(error: &io::Error) -> bool {
+    error.kind() == ErrorKind::WouldBlock || error.kind() == ErrorKind::TimedOut
 }
 
 fn write_to(mut stream: &UnixStream, bytes: &[u8]) -> io::Result<usize>

@@ -11,4 +11,4 @@ returns-in-Ok-clause-takes g c = λ source whole is one front.
     c.requires c.in-Some.is c.in-Ok.ensures.ok refl refl
 
 pub returns-in-Err-clause-takes : goal.returns-in-Err-clause-takes
-returns-in-Err-clause-takes g c = λ source whole is one front. (no_memory source c.args.self.now (whole_line whole), c.in-Err.ensures.err)
+returns-in-Err-clause-takes g c = λ source whole is one front. (no_memory source c.args.self.now (whole_line whole), c.in-Err.ensures.err.1)
