@@ -10,7 +10,7 @@ _iovad() {
     *:replay:*) words='--report --log --help' files=yes ;;
     *:serve:*) words='--socket --workers --domain --start --last --sink --sessions --session-requests --idle --depot --strict --record --record-steps --reserve --reserved-regions --sink-timeout --log-level --control --help' ;;
     2:control:*) words='--help' files=yes ;;
-    3:control:*) words='report metrics stop' ;;
+    3:control:*) words='report sessions metrics stop' ;;
     *:ask:*) words='--help' files=yes ;;
     *:check:*) words='--quiet --first --last --reserved-regions --ftrace --did --help' files=yes ;;
     *:help:*) words='replay serve control ask check' ;;

@@ -35,7 +35,7 @@ complete -c iovad -n '__iovad_is serve' -l sink-timeout -x -d 'the seconds that 
 complete -c iovad -n '__iovad_is serve' -l log-level -x -a 'error warn info debug' -d 'which notices are told'
 complete -c iovad -n '__iovad_is serve' -l control -r -F -d 'the path of the control socket'
 complete -c iovad -n '__iovad_is control 2' -F
-complete -c iovad -n '__iovad_is control 3' -a 'report metrics stop'
+complete -c iovad -n '__iovad_is control 3' -a 'report sessions metrics stop'
 complete -c iovad -n '__iovad_is ask' -F
 complete -c iovad -n '__iovad_is check' -l quiet -d 'prints the counts alone'
 complete -c iovad -n '__iovad_is check' -l first -x -d 'the first frame that may be mapped'

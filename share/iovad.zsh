@@ -47,7 +47,7 @@ _iovad() {
         control)
           _arguments '(- *)'{-h,--help}'[prints help]' \
             '1:word:_files' \
-            '2:word:(report metrics stop)'
+            '2:word:(report sessions metrics stop)'
           ;;
         ask)
           _arguments '(- *)'{-h,--help}'[prints help]' \

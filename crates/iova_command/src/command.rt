@@ -19,7 +19,7 @@ const USAGE: &str = "iovad < FILE
                    [--record FILE [--record-steps N]] [--reserve FIRST-LAST]..
                    [--reserved-regions FILE] [--sink-timeout SECONDS]
                    [--log-level error|warn|info|debug] [--control PATH]
-       iovad control PATH report|metrics|stop
+       iovad control PATH report|sessions|metrics|stop
        iovad ask PATH
        iovad check [--quiet] [--first N] [--last N] [--reserved-regions PATH]
                    [--ftrace [--did N]] FILE";
@@ -58,6 +58,7 @@ A request that is refused is answered no NUMBER NAME.";
 
 const CONTROL_WORDS: &str = "Words:
   report   the domain's report
+  sessions the sessions that are served
   metrics  what is counted, in the text form that Prometheus reads
   stop     the daemon's end: each session answers what it has read, clients
            that wait are tried once more, the rings are flushed, the report

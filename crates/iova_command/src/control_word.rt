@@ -7,6 +7,8 @@ ghost use Rattle.iova_command.specs.Controls.{control_name};
 pub enum ControlWord {
     /// The domain's report.
     Report,
+    /// The sessions that are served.
+    Sessions,
     /// What is counted, in the text form that Prometheus reads.
     Metrics,
     /// The daemon's orderly end.
@@ -20,6 +22,7 @@ impl ControlWord {
     {
         match self {
             ControlWord::Report => "report",
+            ControlWord::Sessions => "sessions",
             ControlWord::Metrics => "metrics",
             ControlWord::Stop => "stop",
         }
@@ -31,6 +34,7 @@ impl ControlWord {
     {
         match text {
             "report" => Some(ControlWord::Report),
+            "sessions" => Some(ControlWord::Sessions),
             "metrics" => Some(ControlWord::Metrics),
             "stop" => Some(ControlWord::Stop),
             _ => None,

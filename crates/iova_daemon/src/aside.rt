@@ -1,5 +1,7 @@
 //! What is done beside the sessions of a daemon and its flusher.
 use iova_lock::shared::Shared;
+use iova_model::step::ClientId;
+use iova_range::range::Range;
 use iova_range::refusal::Refusal;
 use std::sync::Wait;
 use std::sync::ledger::Ledger;
@@ -19,12 +21,19 @@ pub struct Figures {
 pub trait Standing {
     /// How it stands now.
     fn figures(&self) -> Figures;
+
+    /// The session that this worker serves now, if it serves one: the serial behind which its client is, where it has opened one.
+    fn session(&self, worker: u64) -> Option<ClientId>;
 }
 
 /// A domain that is looked at beside its sessions. Own.
 pub trait Look {
     /// Appends the domain's report, as it is in one hold of the lock. Refused by `NoMemory`.
     fn look(&self, out: &mut Vec<u8>) -> Result<(), Refusal>;
+
+    /// The first client that the worker opened behind this serial, with its ranges appended, in one hold of the lock. Refused by
+    /// `NoMemory`.
+    fn client(&self, worker: u64, behind: ClientId, ranges: &mut Vec<Range>) -> Result<Option<ClientId>, Refusal>;
 
     /// Whether steps are still recorded.
     fn is_recording(&self) -> bool;
@@ -36,6 +45,10 @@ pub trait Look {
 impl<Q: Wait, C: Ledger, F: Ledger, S: Ledger, G: Ledger> Look for &Shared<Q, C, F, S, G> {
     fn look(&self, out: &mut Vec<u8>) -> Result<(), Refusal> {
         self.report(out)
+    }
+
+    fn client(&self, worker: u64, behind: ClientId, ranges: &mut Vec<Range>) -> Result<Option<ClientId>, Refusal> {
+        self.newer(worker, behind, ranges)
     }
 
     fn is_recording(&self) -> bool {

@@ -1,10 +1,11 @@
 //! What the threads of a daemon tell one another beside their turns.
-use std::sync::atomic::{AtomicBool, AtomicU64, Ordering};
+use iova_sink::hurry::Hurry;
+use std::sync::atomic::{AtomicU64, Ordering};
 
 /// Whether the daemon is asked to stop, and what was counted so far. Threads share it. A count begins anew behind 2^64 - 1. Own.
 #[derive(Drop)]
 pub struct Signals {
-    stop: AtomicBool,
+    hurry: Hurry,
     requests: AtomicU64,
     notices: AtomicU64,
 }
@@ -13,7 +14,7 @@ impl Signals {
     /// Nobody has asked for a stop, and nothing is counted.
     pub fn new() -> Signals {
         Signals {
-            stop: AtomicBool::new(false),
+            hurry: Hurry::new(),
             requests: AtomicU64::new(0),
             notices: AtomicU64::new(0),
         }
@@ -21,12 +22,17 @@ impl Signals {
 
     /// Asks for the stop.
     pub fn ask_to_stop(&self) {
-        self.stop.store(true, Ordering::SeqCst);
+        self.hurry.begin_end();
     }
 
     /// Whether the stop was asked for.
     pub fn is_stopping(&self) -> bool {
-        self.stop.load(Ordering::SeqCst)
+        self.hurry.is_ending()
+    }
+
+    /// What the stop hurries.
+    pub fn hurry(&self) -> &Hurry {
+        &self.hurry
     }
 
     /// So many requests came.

@@ -132,7 +132,7 @@ impl<'a, R: AllocGlobal + Dial + Clock + Wait, N: Log> Accept<ServedLink<'a, R>>
             }
             Err(error) => {
                 let pause = self.pause.load(Ordering::SeqCst);
-                warn!(self.notices; target: "", "accept: {error}");
+                warn!(self.notices; target: "accept", "accept: {error}");
                 thread::sleep(self.rt, Duration::from_millis(pause));
                 self.pause.store(
                     pause.saturating_mul(2).min(MAX_ACCEPT_PAUSE),

@@ -1,7 +1,10 @@
 //! What the threads of a daemon share beside its domain.
 use crate::Serving;
 use crate::aside::{Figures, Standing};
+use iova_model::step::ClientId;
+use iova_range::limits::MAX_WORKERS;
 use iova_session::session_limits::SessionLimits;
+use std::array;
 use std::sync::Mutex;
 use std::sync::atomic::{AtomicU64, Ordering};
 
@@ -15,6 +18,8 @@ pub(crate) struct Turns {
     next: AtomicU64,
     met: AtomicU64,
     served: AtomicU64,
+    /// By worker: 0 where it serves no session, else one more than the serial of its newest client that waits.
+    sessions: [AtomicU64; MAX_WORKERS as usize],
     waiting: AtomicU64,
     workers: u64,
     ended: AtomicU64,
@@ -29,6 +34,7 @@ impl Turns {
             next: AtomicU64::new(0),
             met: AtomicU64::new(0),
             served: AtomicU64::new(0),
+            sessions: array::from_fn(|_worker| AtomicU64::new(0)),
             waiting: AtomicU64::new(0),
             workers,
             ended: AtomicU64::new(0),
@@ -58,14 +64,22 @@ impl Turns {
         }
     }
 
-    /// A session begins.
-    pub(crate) fn begin_session(&self) {
+    /// This worker begins a session. Its clients that wait have serials up to this one, so that of the session has one above it.
+    pub(crate) fn begin_session(&self, worker: u64, newest: ClientId) {
+        self.mark(worker, newest.saturating_add(1));
         self.served.fetch_add(1, Ordering::SeqCst);
     }
 
-    /// A session has ended.
-    pub(crate) fn end_session(&self) {
+    /// This worker's session has ended.
+    pub(crate) fn end_session(&self, worker: u64) {
+        self.mark(worker, 0);
         self.served.fetch_sub(1, Ordering::SeqCst);
+    }
+
+    fn mark(&self, worker: u64, mark: u64) {
+        if let Some(session) = self.sessions.get(worker as usize) {
+            session.store(mark, Ordering::SeqCst);
+        }
     }
 
     /// So many clients of a worker wait now, and not as many as before.
@@ -92,5 +106,12 @@ impl Standing for Turns {
             accepted: self.met.load(Ordering::SeqCst),
             waiting: self.waiting.load(Ordering::SeqCst),
         }
+    }
+
+    fn session(&self, worker: u64) -> Option<ClientId> {
+        self.sessions
+            .get(worker as usize)?
+            .load(Ordering::SeqCst)
+            .checked_sub(1)
     }
 }

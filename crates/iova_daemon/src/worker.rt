@@ -7,6 +7,7 @@ use crate::noting::{NotingSink, note, note_end};
 use crate::threads::{Place, Work};
 use crate::turns::Turns;
 use iova_keep::keep::Keep;
+use iova_model::step::ClientId;
 use iova_range::limits::RETRY_PAUSE;
 use iova_session::link::Link;
 use iova_session::post::Post;
@@ -84,7 +85,8 @@ where
                     Ok(Some(mut link)) => {
                         number = None;
                         meet::<L, A>(self.turns, self.accept);
-                        self.turns.begin_session();
+                        self.turns
+                            .begin_session(post.seat.worker(), newest(&post.waiting));
                         let ended = run_session_within(
                             self.alloc,
                             self.turns.limits(),
@@ -93,7 +95,7 @@ where
                             &mut post,
                             &mut sink,
                         );
-                        self.turns.end_session();
+                        self.turns.end_session(post.seat.worker());
                         note_end(self.notices, session, ended.end);
                     }
                     // an accept that fails uses up the number
@@ -129,6 +131,11 @@ where
     fn cannot_go_aside(&self, error: &io::Error) {
         error!(self.notices; target: "", "thread aside: {error}");
     }
+}
+
+/// The serial of the newest client that waits; 0 where none does. They wait in the order in which they were opened.
+fn newest(waiting: &[ClientId]) -> ClientId {
+    waiting.last().copied().unwrap_or(0)
 }
 
 /// A session had its accept: after the last one nobody is accepted any more.

@@ -166,3 +166,6 @@ pub const DEFAULT_START: u64 = 1;
 /// The last frame of a daemon's domain where nobody says another: the last one below the interrupt window of x86, which begins at
 /// the byte 0xfee0_0000 (Intel's and AMD's manuals).
 pub const DEFAULT_LAST: u64 = 1_043_967;
+
+/// The least time between two notices of one kind, in milliseconds. Own.
+pub const NOTICE_PAUSE: u64 = 1_000;

@@ -2,6 +2,7 @@
 ghost use Rattle.std.specs.Prelude.{◌≤◌, length};
 
 use crate::metrics::metrics;
+use crate::sessions::sessions;
 use arrayvec::ArrayVec;
 use iova_daemon::aside::{Aside, Look, Standing};
 use iova_daemon::signals::Signals;
@@ -178,6 +179,10 @@ impl<'a, R: AllocGlobal, N> Control<'a, R, N> {
                 let mut text = Vec::new(alloc);
                 domain.look(&mut text).is_ok() && is_owed(&mut connection.owed, b"report", &text)
             }
+            b"sessions" => match sessions(alloc, self.workers, standing, domain) {
+                Ok(text) => is_owed(&mut connection.owed, b"sessions", text.as_bytes()),
+                Err(_) => false,
+            },
             b"metrics" => {
                 match metrics(
                     alloc,

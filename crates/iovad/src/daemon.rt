@@ -105,7 +105,7 @@ where
 }
 
 /// Tells what is served.
-fn tell_start<R: Eprint>(notices: &Notices<'_, R>, plan: &Plan<'_>, windows: &Windows) {
+fn tell_start<R: Clock + Eprint>(notices: &Notices<'_, R>, plan: &Plan<'_>, windows: &Windows) {
     let version = VERSION.lines().next().unwrap_or(VERSION);
     info!(notices; target: "", "iovad {version} starts: socket {}, domain {}, frames {} to {}, {} windows, {} workers, sink {}",
         plan.socket,
@@ -388,7 +388,7 @@ fn serving_of(plan: &Plan<'_>) -> Serving {
 
 /// So many sinks, and the record's file where one is wanted, unless the socket's place is taken: so a daemon that serves there is not
 /// disturbed. Refused by `SocketFault`, `NoMemory`, `CannotOpenSink` and `CannotWrite`, in this order.
-fn open_all<'a, 'p, R: AllocGlobal + Eprint + Net + Dial + Files<File = File>>(
+fn open_all<'a, 'p, R: AllocGlobal + Clock + Eprint + Net + Dial + Files<File = File>>(
     run: &Running<'a, R>,
     plan: &Plan<'p>,
     count: usize,
@@ -409,7 +409,7 @@ fn open_all<'a, 'p, R: AllocGlobal + Eprint + Net + Dial + Files<File = File>>(
 }
 
 /// The record's file, where one is wanted. Refused by `CannotWrite`.
-fn open_record<'a, 'p, R: Eprint + Files<File = File>>(
+fn open_record<'a, 'p, R: Clock + Eprint + Files<File = File>>(
     run: &Running<'a, R>,
     plan: &Plan<'p>,
 ) -> Result<Option<RecordFile<'p>>, Hindrance> {
@@ -469,7 +469,7 @@ fn gather_all<'a, R, Q, C, F, S, G>(
     record: Option<RecordFile<'_>>,
 ) -> Result<(), Hindrance>
 where
-    R: AllocGlobal + Eprint + Net + Dial + Files<File = File>,
+    R: AllocGlobal + Clock + Eprint + Net + Dial + Files<File = File>,
     Q: Wait,
     C: Ledger,
     F: Ledger,
@@ -719,7 +719,7 @@ fn write_record<'a, R, Q, C, F, S, G>(
     record: &mut Option<RecordFile<'_>>,
 ) -> Result<(), Hindrance>
 where
-    R: AllocGlobal + Eprint,
+    R: AllocGlobal + Clock + Eprint,
     Q: Wait,
     C: Ledger,
     F: Ledger,
@@ -757,7 +757,7 @@ fn posts_of<C: Ledger, F: Ledger, S: Ledger, G: Ledger>(
 
 /// So many sinks there. A peer is told by the first one that nothing of the domain is mapped. Refused by `NoMemory` and by
 /// `CannotOpenSink`.
-fn open_sinks<'a, R: AllocGlobal + Eprint + Net + Dial + Files<File = File>>(
+fn open_sinks<'a, R: AllocGlobal + Clock + Eprint + Net + Dial + Files<File = File>>(
     run: &Running<'a, R>,
     domain: u64,
     count: usize,
@@ -769,7 +769,7 @@ fn open_sinks<'a, R: AllocGlobal + Eprint + Net + Dial + Files<File = File>>(
     };
     for at in 0..count {
         let reset = if at == 0 { Some(domain) } else { None };
-        let Some(sink) = open_sink(run.rt, run.notices, run.net, run.place, reset) else {
+        let Some(sink) = open_sink(run.rt, run.notices, run.net, run.signals.hurry(), run.place, reset) else {
             return Err(Hindrance::CannotOpenSink);
         };
         let Ok(()) = sinks.push(sink) else {
@@ -786,7 +786,7 @@ fn seats_of<'a, R, Q, C, F, S, G>(
     posts: Vec<Post<C, F, S, G>>,
 ) -> Option<Vec<Seat<C, F, S, G>>>
 where
-    R: AllocGlobal + Eprint + Net + Dial + Files<File = File>,
+    R: AllocGlobal + Clock + Eprint + Net + Dial + Files<File = File>,
     Q: Wait,
     C: Ledger,
     F: Ledger,
@@ -812,7 +812,7 @@ fn seat_of<'a, R, C, F, S, G, K>(
     post: Post<C, F, S, G>,
 ) -> Seat<C, F, S, G>
 where
-    R: Eprint + Net + Dial + Files<File = File>,
+    R: Clock + Eprint + Net + Dial + Files<File = File>,
     C: Ledger,
     F: Ledger,
     S: Ledger,
@@ -836,7 +836,7 @@ where
 /// Tries the clients that wait at this post again, and at a stop flushes what is in a ring, where a sink can be opened.
 fn end_at<'a, R, C, F, S, G, K>(run: &Running<'a, R>, keeper: &mut K, post: &mut Post<C, F, S, G>)
 where
-    R: Eprint + Net + Dial + Files<File = File>,
+    R: Clock + Eprint + Net + Dial + Files<File = File>,
     C: Ledger,
     F: Ledger,
     S: Ledger,
@@ -844,7 +844,7 @@ where
     K: Keep<C, F, S, G>,
     ensures { post.new.seat.worker ≡ post.old.seat.worker }
 {
-    if let Some(mut sink) = open_sink(run.rt, run.notices, run.net, run.place, None) {
+    if let Some(mut sink) = open_sink(run.rt, run.notices, run.net, run.signals.hurry(), run.place, None) {
         let _left = retry(keeper, post, &mut sink);
         if run.signals.is_stopping() {
             let _round = timeout(keeper, post.seat.tally(), &mut sink);

@@ -15,6 +15,7 @@ mod outcome;
 mod record_file;
 mod regions;
 mod replaying;
+mod sessions;
 mod sinks;
 
 use cause::tell_cause;

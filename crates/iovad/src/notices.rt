@@ -1,41 +1,122 @@
 //! Where a daemon's notices go.
-ghost use Rattle.std.specs.Prelude.{◌≡◌};
-
 use iova_daemon::signals::Signals;
+use iova_range::limits::NOTICE_PAUSE;
 use log::kv::Source;
 use log::sink::Console;
 use log::span::Spans;
-use log::{Log, Logged, Metadata, Record};
+use log::{Log, Logged, Metadata, Record, warn};
+use std::array;
 use std::fmt::Display;
+use std::rt::Clock;
+use std::sync::atomic::{AtomicU64, Ordering};
 
 /// What takes a daemon's notices: standard error, those of the plan's level and above it.
 pub type Notices<'a, R> = Logged<&'a R, CountedConsole<'a, R>>;
 
-/// Standard error, and a count of the lines.
+/// The kinds of notices that may come in any number: the targets of their records.
+const KINDS: [&str; 4] = ["accept", "client", "flush", "session"];
+
+/// Standard error, and a count of the lines. Of a kind one line a second is told at most; the next one says how many were not.
 #[derive(Drop)]
 pub struct CountedConsole<'a, R> {
+    rt: &'a R,
     console: Console<&'a R>,
     signals: &'a Signals,
+    rates: [Rate; 4],
+}
+
+/// How often a kind is told.
+#[derive(Drop)]
+struct Rate {
+    /// When the next line may be told, in milliseconds.
+    due: AtomicU64,
+    /// How many lines were not told since the last one.
+    left: AtomicU64,
+}
+
+impl Rate {
+    fn new() -> Rate {
+        Rate {
+            due: AtomicU64::new(0),
+            left: AtomicU64::new(0),
+        }
+    }
+
+    /// Whether a line is told now, and how many before it were not. Of two threads one tells its line.
+    fn take(&self, now: u64) -> Option<u64> {
+        let due = self.due.load(Ordering::SeqCst);
+        let next = now.saturating_add(NOTICE_PAUSE);
+        if now < due
+            || self
+                .due
+                .compare_exchange(due, next, Ordering::SeqCst, Ordering::SeqCst)
+                .is_err()
+        {
+            self.left.fetch_add(1, Ordering::SeqCst);
+            return None;
+        }
+        Some(self.left.swap(0, Ordering::SeqCst))
+    }
 }
 
 impl<'a, R> CountedConsole<'a, R> {
     /// This standard error, with lines counted there.
     pub fn new(rt: &'a R, signals: &'a Signals) -> CountedConsole<'a, R> {
         CountedConsole {
+            rt,
             console: Console(rt),
             signals,
+            rates: array::from_fn(|_kind| Rate::new()),
         }
     }
 }
 
-impl<'a, R: Eprint> Log for CountedConsole<'a, R> {
+impl<'a, R: Clock> CountedConsole<'a, R> {
+    /// The time since some start, in milliseconds.
+    fn now(&self) -> u64 {
+        match self.rt.monotonic() {
+            Ok(time) => time.as_millis() as u64,
+            Err(_) => u64::MAX,
+        }
+    }
+}
+
+impl<'a, R: Clock + Eprint> CountedConsole<'a, R> {
+    /// Tells how many lines of each kind were not told yet.
+    pub fn tell_left(&self) {
+        for at in 0..KINDS.len() {
+            if let Some(kind) = KINDS.get(at)
+                && let Some(rate) = self.rates.get(at)
+            {
+                let left = rate.left.swap(0, Ordering::SeqCst);
+                if left > 0 {
+                    warn!(self.console; target: "", "{kind}: .. and {left} more");
+                }
+            }
+        }
+    }
+}
+
+impl<'a, R: Clock + Eprint> Log for CountedConsole<'a, R> {
     fn enabled(&self, _metadata: &Metadata<'_>) -> bool {
         true
     }
 
     fn log<D: Display, K: Source, S: Spans>(&self, record: &Record<'_, D, K, S>) {
         self.signals.count_notice();
-        self.console.log(record);
+        let Some(at) = KINDS.iter().position(|kind| *kind == record.target()) else {
+            self.console.log(record);
+            return;
+        };
+        let Some(rate) = self.rates.get(at) else {
+            return;
+        };
+        let args = record.args();
+        match rate.take(self.now()) {
+            Some(0) => warn!(self.console; target: "", "{args}"),
+            Some(left) => warn!(self.console; target: "", "{args} .. and {left} more"),
+            None => {}
+        }
     }
 
     fn flush(&self) {}

@@ -6,6 +6,7 @@ use iova_range::range::Range;
 use iova_sink::channel::Channel;
 use iova_sink::channel_sink::ChannelSink;
 use iova_sink::file::FileDevice;
+use iova_sink::hurry::Hurry;
 use iova_sink::record::RecordSink;
 use iova_sink::sink::{Sink, SinkFault};
 use iova_sink::socket::SocketChannel;
@@ -76,16 +77,17 @@ fn is_socket<R: Files<File = File>>(rt: &R, path: &str) -> bool {
 }
 
 /// A sink there; a peer is told first that nothing is mapped of the domain that is to be reset, where one is. None where the file
-/// can't be opened, nobody listens, or the peer didn't answer that it is done; which is told.
+/// can't be opened, nobody listens, or the peer didn't answer that it is done; which is told. The end of a connection is hurried there.
 pub fn open_sink<'a, R: Files<File = File>, W: Log, N: Net>(
     rt: &R,
     notices: &W,
     net: &'a N,
+    hurry: &'a Hurry,
     place: SinkPlace<'a>,
     reset: Option<u64>,
 ) -> Option<DaemonSink<'a, N>> {
     if place.has_peer {
-        return match open_peer(notices, net, place, reset) {
+        return match open_peer(notices, net, hurry, place, reset) {
             Some(sink) => Some(EitherSink::Second(sink)),
             None => None,
         };
@@ -103,10 +105,12 @@ pub fn open_sink<'a, R: Files<File = File>, W: Log, N: Net>(
 fn open_peer<'a, W: Log, N: Net>(
     notices: &W,
     net: &'a N,
+    hurry: &'a Hurry,
     place: SinkPlace<'a>,
     reset: Option<u64>,
 ) -> Option<ChannelSink<SocketChannel<'a, N>>> {
     let mut channel = SocketChannel::new(net, place.path, place.seconds);
+    channel.hurry_by(hurry);
     if channel.connect().is_err() {
         error!(notices; target: "", "connect {}: nobody answers", place.path);
         return None;
