@@ -440,6 +440,7 @@ where
     ensures { IfErr result (IsFaultOfServing plan.now) }
 {
     let recorded = gather_all(run, &shared, posts, record);
+    run.notices.flush();
     let domain = shared.into_domain();
     let told = tell(run.rt, plan, &domain, recorded);
     drop(domain);

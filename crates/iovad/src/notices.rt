@@ -81,22 +81,6 @@ impl<'a, R: Clock> CountedConsole<'a, R> {
     }
 }
 
-impl<'a, R: Clock + Eprint> CountedConsole<'a, R> {
-    /// Tells how many lines of each kind were not told yet.
-    pub fn tell_left(&self) {
-        for at in 0..KINDS.len() {
-            if let Some(kind) = KINDS.get(at)
-                && let Some(rate) = self.rates.get(at)
-            {
-                let left = rate.left.swap(0, Ordering::SeqCst);
-                if left > 0 {
-                    warn!(self.console; target: "", "{kind}: .. and {left} more");
-                }
-            }
-        }
-    }
-}
-
 impl<'a, R: Clock + Eprint> Log for CountedConsole<'a, R> {
     fn enabled(&self, _metadata: &Metadata<'_>) -> bool {
         true
@@ -119,7 +103,19 @@ impl<'a, R: Clock + Eprint> Log for CountedConsole<'a, R> {
         }
     }
 
-    fn flush(&self) {}
+    /// Tells how many lines of each kind were not told yet.
+    fn flush(&self) {
+        for at in 0..KINDS.len() {
+            if let Some(kind) = KINDS.get(at)
+                && let Some(rate) = self.rates.get(at)
+            {
+                let left = rate.left.swap(0, Ordering::SeqCst);
+                if left > 0 {
+                    warn!(self.console; target: "", "{kind}: .. and {left} more");
+                }
+            }
+        }
+    }
 
     fn target(&self) -> &str {
         ""
