@@ -1,8 +1,8 @@
 //! A daemon's control socket: what the daemon does now, asked in lines, and its stop.
 ghost use Rattle.std.specs.Prelude.{◌≤◌, length};
 
-use crate::metrics::metrics;
-use crate::sessions::sessions;
+use crate::metrics::put_metrics;
+use crate::sessions::put_sessions;
 use arrayvec::ArrayVec;
 use iova_daemon::aside::{Aside, Look, Standing};
 use iova_daemon::signals::Signals;
@@ -31,11 +31,19 @@ pub struct Control<'a, R, N> {
     desk: Mutex<Option<Desk>>,
 }
 
-/// The listener, and who is connected.
+/// The listener, who is connected, and room to write answers in.
 #[derive(Drop)]
 struct Desk {
     listener: UnixListener,
     connections: Vec<Connection>,
+    pad: Pad,
+}
+
+/// Room for an answer's lines: the report's bytes, and text that is put together.
+#[derive(Drop)]
+pub struct Pad {
+    pub report: Vec<u8>,
+    pub text: String,
 }
 
 /// A connection: the front of a line that has no LF yet, what is owed of answers, and how long nothing came.
@@ -75,6 +83,10 @@ impl<'a, R: Wait, N> Control<'a, R, N> {
         *self.desk.lock(self.rt) = Some(Desk {
             listener,
             connections: Vec::new(alloc),
+            pad: Pad {
+                report: Vec::new(alloc),
+                text: String::new(alloc),
+            },
         });
     }
 }
@@ -97,8 +109,12 @@ impl<'a, R: AllocGlobal + Clock + Wait, N: Log> Aside for Control<'a, R, N> {
         self.look_at_record(domain.is_recording());
         if let Some(desk) = &mut *self.desk.lock(self.rt) {
             accept(self.rt.alloc(), desk);
-            desk.connections
-                .retain_mut(|connection| self.serves(connection, domain, standing));
+            let Desk {
+                listener: _,
+                connections,
+                pad,
+            } = desk;
+            connections.retain_mut(|connection| self.serves(connection, domain, standing, pad));
         }
         // no wait for a descriptor, so there is none to run out of
         thread::sleep(self.rt, Duration::from_millis(CONTROL_PAUSE));
@@ -112,13 +128,14 @@ impl<'a, R: AllocGlobal, N> Control<'a, R, N> {
         connection: &mut Connection,
         domain: &K,
         standing: &T,
+        pad: &mut Pad,
     ) -> bool {
         connection.silent = connection.silent.saturating_add(1);
         for _ in 0..CONTROL_READS {
             if !connection.is_read || !connection.owed.is_empty() {
                 break;
             }
-            self.reads(connection, domain, standing);
+            self.reads(connection, domain, standing, pad);
             if !is_pushed_out(connection) {
                 return false;
             }
@@ -131,14 +148,20 @@ impl<'a, R: AllocGlobal, N> Control<'a, R, N> {
     }
 
     /// Reads once, and answers the lines that end in what came.
-    fn reads<K: Look, T: Standing>(&self, connection: &mut Connection, domain: &K, standing: &T) {
+    fn reads<K: Look, T: Standing>(
+        &self,
+        connection: &mut Connection,
+        domain: &K,
+        standing: &T,
+        pad: &mut Pad,
+    ) {
         let mut piece = [0u8; MAX_LINE];
         match connection.stream.read(&mut piece) {
             Ok(0) => connection.is_read = false,
             Ok(n) => {
                 connection.silent = 0;
                 if let Some(bytes) = piece.get(..n) {
-                    self.takes(connection, bytes, domain, standing);
+                    self.takes(connection, bytes, domain, standing, pad);
                 }
             }
             Err(error) if error.kind() == ErrorKind::WouldBlock => {
@@ -155,13 +178,14 @@ impl<'a, R: AllocGlobal, N> Control<'a, R, N> {
         bytes: &[u8],
         domain: &K,
         standing: &T,
+        pad: &mut Pad,
     ) {
         for byte in bytes {
             if !connection.is_read {
                 return;
             }
             if *byte == b'\n' {
-                self.answers(connection, domain, standing);
+                self.answers(connection, domain, standing, pad);
                 connection.line.clear();
             } else if connection.line.len() + 1 >= MAX_LINE {
                 refuse(connection);
@@ -172,28 +196,27 @@ impl<'a, R: AllocGlobal, N> Control<'a, R, N> {
     }
 
     /// Answers the line.
-    fn answers<K: Look, T: Standing>(&self, connection: &mut Connection, domain: &K, standing: &T) {
-        let alloc = self.rt.alloc();
+    fn answers<K: Look, T: Standing>(
+        &self,
+        connection: &mut Connection,
+        domain: &K,
+        standing: &T,
+        pad: &mut Pad,
+    ) {
+        pad.report.clear();
+        pad.text.clear();
         let is_answered = match connection.line.as_slice() {
             b"report" => {
-                let mut text = Vec::new(alloc);
-                domain.look(&mut text).is_ok() && is_owed(&mut connection.owed, b"report", &text)
+                domain.look(&mut pad.report).is_ok()
+                    && is_owed(&mut connection.owed, b"report", &pad.report)
             }
-            b"sessions" => match sessions(alloc, self.workers, standing, domain) {
-                Ok(text) => is_owed(&mut connection.owed, b"sessions", text.as_bytes()),
-                Err(_) => false,
-            },
+            b"sessions" => {
+                put_sessions(self.rt.alloc(), self.workers, standing, domain, &mut pad.text).is_ok()
+                    && is_owed(&mut connection.owed, b"sessions", pad.text.as_bytes())
+            }
             b"metrics" => {
-                match metrics(
-                    alloc,
-                    self.workers,
-                    self.signals,
-                    standing.figures(),
-                    domain,
-                ) {
-                    Ok(text) => is_owed(&mut connection.owed, b"metrics", text.as_bytes()),
-                    Err(_) => false,
-                }
+                put_metrics(self.workers, self.signals, standing.figures(), domain, pad).is_ok()
+                    && is_owed(&mut connection.owed, b"metrics", pad.text.as_bytes())
             }
             b"stop" => {
                 self.signals.ask_to_stop();

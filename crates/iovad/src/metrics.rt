@@ -1,31 +1,29 @@
 //! What is counted of a daemon, in the text form that Prometheus reads.
+use crate::control::Pad;
 use iova_daemon::aside::{Figures, Look};
 use iova_daemon::signals::Signals;
-use std::alloc::{AllocError, Global};
+use std::alloc::AllocError;
 use std::str;
 
 /// The places of frames, by their names in the report.
 const PLACES: [&str; 6] = ["free", "reserved", "client", "magazine", "depot", "ring"];
 
-/// All figures, each with what it is. Refused for want of memory.
-pub fn metrics<K: Look>(
-    alloc: Global,
+/// Puts all figures into the text, each with what it is. Refused for want of memory.
+pub fn put_metrics<K: Look>(
     workers: u64,
     signals: &Signals,
     figures: Figures,
     domain: &K,
-) -> Result<String, AllocError> {
-    let mut bytes = Vec::new(alloc);
-    let Ok(()) = domain.look(&mut bytes) else {
+    pad: &mut Pad,
+) -> Result<(), AllocError> {
+    let Ok(()) = domain.look(&mut pad.report) else {
         return Err(AllocError);
     };
-    let Ok(report) = str::from_utf8(&bytes) else {
+    let Ok(report) = str::from_utf8(&pad.report) else {
         return Err(AllocError);
     };
-    let mut text = String::new(alloc);
-    put_domain(&mut text, report)?;
-    put_daemon(&mut text, workers, signals, figures, domain.steps())?;
-    Ok(text)
+    put_domain(&mut pad.text, report)?;
+    put_daemon(&mut pad.text, workers, signals, figures, domain.steps())
 }
 
 /// What the report tells of the domain.

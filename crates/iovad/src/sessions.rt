@@ -3,15 +3,15 @@ use iova_daemon::aside::{Look, Standing};
 use iova_range::range::Range;
 use std::alloc::{AllocError, Global};
 
-/// For each session that is served now its worker, its client, and how many ranges and frames that holds; client 0 before it has
-/// opened one. Refused for want of memory.
-pub fn sessions<K: Look, T: Standing>(
+/// Puts into the text for each session that is served now its worker, its client, and how many ranges and frames that holds; client
+/// 0 before it has opened one. Refused for want of memory.
+pub fn put_sessions<K: Look, T: Standing>(
     alloc: Global,
     workers: u64,
     standing: &T,
     domain: &K,
-) -> Result<String, AllocError> {
-    let mut text = String::new(alloc);
+    text: &mut String,
+) -> Result<(), AllocError> {
     let mut ranges = Vec::new(alloc);
     for worker in 0..workers {
         if let Some(behind) = standing.session(worker) {
@@ -25,7 +25,7 @@ pub fn sessions<K: Look, T: Standing>(
             writeln!(text, "{worker} {client} {count} {frames}")?;
         }
     }
-    Ok(text)
+    Ok(())
 }
 
 /// How many frames these ranges have.
