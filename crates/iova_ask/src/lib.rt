@@ -11,6 +11,8 @@ mod answers;
 mod buffer;
 pub mod fault;
 mod gather;
+mod meaning;
+pub mod terminal;
 
 use crate::answers::copy_answers;
 use crate::buffer::{Buffer, PIECE};

@@ -34,6 +34,14 @@ told_more app old versioned_one used new version usage help is first second thir
       ∙ ap (λ (f : Command-F Command). f.has_globals) first ∙ is.local;
 }
 
+-- another usage
+pub used : (app : App) (old new : Command) (usage : Bor Text) → IsCommand app old → out-Command new ≡ record (out-Command old) { usage_str = Some usage }
+    → IsCommand app new
+used app old new usage is fields = record {
+  app = ap app_of_fields fields ∙ is.app;
+  local = ap (λ (f : Command-F Command). f.has_globals) fields ∙ is.local;
+}
+
 -- a text after its help
 pub helped : (app : App) (old new : Command) (help : Bor Text) → IsCommand app old → out-Command new ≡ record (out-Command old) { after_help = Some help }
     → IsCommand app new

@@ -8,7 +8,7 @@ use Rattle.clap.specs.Words.{ReadsOne, Text, one_text, first_value, rows_of, fir
 use Rattle.clap.specs.declared.parser.matches.Found.{Found}
 use Rattle.clap.proofs.WalkLemmas.{first_value-rows, one_text-rows}
 use Rattle.iova_command.specs.Asks.{HasFlag}
-use Rattle.iova_command.specs.Numbers.{HasNumber, HasOptional}
+use Rattle.iova_command.specs.Numbers.{HasNumber, HasNumberOr, HasOptional}
 
 -- what `parse` gives for a number of 64 bits
 abbrev pub Parses : List ℕ → Result ℕ ParseIntError → Type 0
@@ -39,6 +39,12 @@ text_read f id r s reads is =
 pub optional_text_read : (f : Found) (id : Text) (r : Option (Bor Text)) → option_map (λ b. b.now) r ≡ first_value f id
     → first_of id (rows_of f) ≡ option_map (λ b. b.now) r
 optional_text_read f id r reads = sym (first_value-rows f id) ∙ sym reads
+
+pub left_out : (f : Found) (id : Text) (default : ℕ) (r : Option (Bor Text)) → option_map (λ b. b.now) r ≡ first_value f id → r ≡ None
+    → HasNumberOr (rows_of f) id default default
+left_out f id default r reads is =
+    let none : first_of id (rows_of f) ≡ None = optional_text_read f id r reads ∙ ap (option_map (λ b. b.now)) is in
+    (λ e. refl, λ some. absurd (some none))
 
 pub flag_read : (f : Found) (id : Text) (flag : Bool) → (one_text f id ≡ Some (codes "true") → flag ≡ true) → (one_text f id ≡ Some (codes "false") → flag ≡ false)
     → HasFlag (rows_of f) id flag

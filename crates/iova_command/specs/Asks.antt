@@ -1,9 +1,10 @@
 -- What matched words ask for. Own.
 use Rattle.std.specs.Prelude.{◌≡◌, ◌≢◌, Bool, true, false, List, Option, Some, None, option_map, codes}
 use Rattle.clap.specs.Words.{Row, Text, first_of, one_of}
+use Rattle.iova_range.specs.declared.limits.TheConstants.{DEFAULT_DOMAIN, DEFAULT_LAST, DEFAULT_START, DEFAULT_WORKERS}
 use Rattle.iova_command.specs.Controls.{HasControl}
 use Rattle.iova_command.specs.Levels.{HasLevel}
-use Rattle.iova_command.specs.Numbers.{HasNumber, HasOptional}
+use Rattle.iova_command.specs.Numbers.{HasNumberOr, HasOptional}
 use Rattle.iova_command.specs.Spans.{HasSpans}
 use Rattle.iova_command.specs.declared.asked.Asked.{Asked}
 use Rattle.iova_command.specs.declared.asked.Asked.TheVariants.{Replay, Serve, Ask, Check, Control}
@@ -14,13 +15,13 @@ use Rattle.iova_command.specs.declared.plan.Plan.{Plan}
 abbrev pub HasFlag : List Row → Text → Bool → Type 0
 HasFlag rows id flag = (one_of id rows ≡ Some (codes "true") → flag ≡ true) × (one_of id rows ≡ Some (codes "false") → flag ≡ false)
 
--- each part of the plan is the option of its name
+-- each part of the plan is the option of its name; workers, domain and bounds that are left out are those of the limits
 pub record Plans (rows : List Row) (plan : Plan) : Type 0 where
   pub socket : first_of (codes "socket") rows ≡ Some plan.socket.now
-  pub workers : HasNumber rows (codes "workers") plan.workers
-  pub domain : HasNumber rows (codes "domain") plan.domain
-  pub start : HasNumber rows (codes "start") plan.start
-  pub last : HasNumber rows (codes "last") plan.last
+  pub workers : HasNumberOr rows (codes "workers") DEFAULT_WORKERS plan.workers
+  pub domain : HasNumberOr rows (codes "domain") DEFAULT_DOMAIN plan.domain
+  pub start : HasNumberOr rows (codes "start") DEFAULT_START plan.start
+  pub last : HasNumberOr rows (codes "last") DEFAULT_LAST plan.last
   pub sink : first_of (codes "sink") rows ≡ Some plan.sink.now
   pub sessions : HasOptional rows (codes "sessions") plan.sessions
   pub session_requests : HasOptional rows (codes "session-requests") plan.session_requests

@@ -26,13 +26,10 @@ option_rule id = record (optional_rule id) { required = true }
 abbrev pub repeated_rule : Text → Rule
 repeated_rule id = record (optional_rule id) { action = Some Append }
 
--- an option with a number from `low` to `high`, and one that must be there
+-- an option with a number from `low` to `high`
 abbrev pub optional_number_rule : Text → ℕ → ℕ → Rule
 optional_number_rule id low high =
     record (optional_rule id) { parser = Some (parser.Unsigned low high) }
-
-abbrev pub number_rule : Text → ℕ → ℕ → Rule
-number_rule id low high = record (optional_number_rule id low high) { required = true }
 
 abbrev pub replay_app : App
 replay_app =
@@ -45,10 +42,10 @@ abbrev pub serve_app : App
 serve_app =
     with_rule (with_rule (with_rule (with_rule (with_rule (with_rule (with_rule (with_rule (with_rule (with_rule (with_rule (with_rule (with_rule (with_rule (with_rule (with_rule (with_rule (with_rule (new_app (codes "serve"))
     (option_rule (codes "socket")))
-    (number_rule (codes "workers") 1 MAX_WORKERS))
-    (number_rule (codes "domain") 0 (MAX_DOMAINS - 1)))
-    (number_rule (codes "start") 1 WIDE_TOP))
-    (number_rule (codes "last") 1 WIDE_TOP))
+    (optional_number_rule (codes "workers") 1 MAX_WORKERS))
+    (optional_number_rule (codes "domain") 0 (MAX_DOMAINS - 1)))
+    (optional_number_rule (codes "start") 1 WIDE_TOP))
+    (optional_number_rule (codes "last") 1 WIDE_TOP))
     (option_rule (codes "sink")))
     (optional_number_rule (codes "sessions") 1 MAX_SESSIONS))
     (optional_number_rule (codes "session-requests") 1 MAX_SESSION_REQUESTS))

@@ -1,7 +1,7 @@
 //! The command and its help.
 ghost use Rattle.std.specs.Prelude.{◌≡◌, ◌<◌, ◌^◌, IfOk, false};
 ghost use Rattle.clap.specs.Words.{App, rule_of, with_rule, with_subcommand};
-ghost use Rattle.iova_command.specs.Commands.{IsCommand, place_rule, flag_rule, option_rule, optional_rule, repeated_rule, number_rule, optional_number_rule, replay_app, serve_app, ask_app, check_app, control_app, iovad_app};
+ghost use Rattle.iova_command.specs.Commands.{IsCommand, place_rule, flag_rule, option_rule, optional_rule, repeated_rule, optional_number_rule, replay_app, serve_app, ask_app, check_app, control_app, iovad_app};
 
 use crate::words::VERSION;
 use clap::{Arg, ArgAction, Command, value_parser};
@@ -14,7 +14,7 @@ use std::alloc::{AllocError, Global};
 /// The ways to call the program, which stand in its help and after words that aren't understood.
 const USAGE: &str = "iovad < FILE
        iovad replay [--report] [--log FILE] FILE
-       iovad serve --socket PATH --workers N --domain N --start N --last N --sink PATH
+       iovad serve --socket PATH --sink PATH [--workers N] [--domain N] [--start N] [--last N]
                    [--sessions N] [--session-requests N] [--idle SECONDS] [--depot N] [--strict]
                    [--record FILE [--record-steps N]] [--reserve FIRST-LAST]..
                    [--reserved-regions FILE] [--sink-timeout SECONDS]
@@ -23,6 +23,10 @@ const USAGE: &str = "iovad < FILE
        iovad ask PATH
        iovad check [--quiet] [--first N] [--last N] [--reserved-regions PATH]
                    [--ftrace [--did N]] FILE";
+
+/// How `serve` is called, which stands in its help and after words of its own that aren't understood.
+const SERVE_USAGE: &str = "iovad serve --socket PATH --sink PATH [OPTIONS]
+Example: iovad serve --socket /tmp/iovad.socket --sink /tmp/flushes";
 
 const STATUSES: &str = "Statuses:
   0  done
@@ -99,16 +103,12 @@ fn replay_command<'a>(alloc: Global) -> Result<Command<'a>, AllocError>
     let command = Command::new(alloc, "replay")
         .about("Replays a trace and prints the reply to each of its steps")
         .after_help(LINES_OF_A_TRACE);
-    let report = flag(
-        alloc,
-        "report",
-        "Prints the domain's report after the replies",
-    );
+    let report = flag(alloc, "report", "The domain's report follows the replies");
     let log = optional_path(
         alloc,
         "log",
         "FILE",
-        "The file that the log is written to, as iovad check reads it",
+        "The file that a log for iovad check is written to",
     );
     let file = place(
         alloc,
@@ -122,56 +122,60 @@ fn replay_command<'a>(alloc: Global) -> Result<Command<'a>, AllocError>
 fn serve_command<'a>(alloc: Global) -> Result<Command<'a>, AllocError>
     ensures { IfOk result (IsCommand serve_app) }
 {
-    let command = Command::new(alloc, "serve").about(
-        "Serves sessions on a socket, then prints the domain's report",
-    );
+    let command = Command::new(alloc, "serve")
+        .about("Serves sessions on a socket, then prints the domain's report")
+        .override_usage(SERVE_USAGE);
     let command = with_arg(
         Ok(command),
         path(
             alloc,
             "socket",
             "PATH",
-            "The socket's path, where nothing stands or a socket that a daemon left",
+            "The socket's path, where nothing stands or a socket that a daemon left, at most 107 bytes",
         ),
     );
     let command = with_arg(
         command,
-        number(
+        optional_number(
             alloc,
             "workers",
+            "N",
             1,
             MAX_WORKERS,
-            "How many sessions are served at a time, 1 to 16",
+            "How many sessions are served at a time, 1 to 16; without it 4",
         ),
     );
     let command = with_arg(
         command,
-        number(
+        optional_number(
             alloc,
             "domain",
+            "N",
             0,
             MAX_DOMAINS - 1,
-            "The number of the domain, 0 to 7",
+            "The number that clients name the domain by, 0 to 7; without it 0",
         ),
     );
     let command = with_arg(
         command,
-        number(
+        optional_number(
             alloc,
             "start",
+            "N",
             1,
             WIDE_TOP,
-            "The first frame that may be given, 1 or more; a frame is 4096 bytes",
+            "The first frame that may be given, 1 to 68719476735, with --depot to 1099511627775; without it 1",
         ),
     );
     let command = with_arg(
         command,
-        number(
+        optional_number(
             alloc,
             "last",
+            "N",
             1,
             WIDE_TOP,
-            "The last frame that may be given, to 68719476735, with --depot to 1099511627775",
+            "The last frame that may be given, 1 to 68719476735, with --depot to 1099511627775; without it 1043967",
         ),
     );
     let command = with_arg(
@@ -180,7 +184,7 @@ fn serve_command<'a>(alloc: Global) -> Result<Command<'a>, AllocError>
             alloc,
             "sink",
             "PATH",
-            "The file that the records of flushes are appended to, or the socket of a peer that answers",
+            "The socket of a peer that invalidates and answers, or the file that records are appended to",
         ),
     );
     let command = with_arg(
@@ -188,9 +192,10 @@ fn serve_command<'a>(alloc: Global) -> Result<Command<'a>, AllocError>
         optional_number(
             alloc,
             "sessions",
+            "N",
             1,
             MAX_SESSIONS,
-            "How many sessions are served, 1 to 65536; without it they have no end",
+            "How many sessions are served before the daemon ends, 1 to 65536; without it they have no end",
         ),
     );
     let command = with_arg(
@@ -198,6 +203,7 @@ fn serve_command<'a>(alloc: Global) -> Result<Command<'a>, AllocError>
         optional_number(
             alloc,
             "session-requests",
+            "N",
             1,
             MAX_SESSION_REQUESTS,
             "The most requests of a session, 1 to 9223372036854775807; without it 65536",
@@ -208,9 +214,10 @@ fn serve_command<'a>(alloc: Global) -> Result<Command<'a>, AllocError>
         optional_number(
             alloc,
             "idle",
+            "SECONDS",
             1,
             MAX_IDLE,
-            "The seconds after which a session ends that sends nothing, 1 to 86400; without it none",
+            "After how long a session ends that sends nothing or takes nothing, 1 to 86400; without it none does",
         ),
     );
     let command = with_arg(
@@ -218,14 +225,19 @@ fn serve_command<'a>(alloc: Global) -> Result<Command<'a>, AllocError>
         optional_number(
             alloc,
             "depot",
+            "N",
             0,
             MAX_DEPOT,
-            "Caches of the second profile, with so many magazines in the depot, 0 to 32",
+            "The second profile, with at most N magazines of each size in the depot, 0 to 32; without it the first",
         ),
     );
     let command = with_arg(
         command,
-        flag(alloc, "strict", "Flushes each range at once that is freed"),
+        flag(
+            alloc,
+            "strict",
+            "A range that is freed is flushed at once, before its answer",
+        ),
     );
     let command = with_arg(
         command,
@@ -233,7 +245,7 @@ fn serve_command<'a>(alloc: Global) -> Result<Command<'a>, AllocError>
             alloc,
             "record",
             "FILE",
-            "The file that the domain's first steps are written to, as a trace",
+            "The file that the domain's first steps are written to at the end, as a trace",
         ),
     );
     let command = with_arg(
@@ -241,9 +253,10 @@ fn serve_command<'a>(alloc: Global) -> Result<Command<'a>, AllocError>
         optional_number(
             alloc,
             "record-steps",
+            "N",
             1,
             MAX_RECORDED_STEPS,
-            "With --record: how many steps, 1 to 1000000; without it 100000",
+            "How many steps --record keeps, 1 to 1000000; without it 100000",
         ),
     );
     let command = with_arg(
@@ -269,9 +282,10 @@ fn serve_command<'a>(alloc: Global) -> Result<Command<'a>, AllocError>
         optional_number(
             alloc,
             "sink-timeout",
+            "SECONDS",
             1,
             MAX_SINK_TIMEOUT,
-            "The seconds that a sink which is a socket has to answer, 1 to 3600; without it 10",
+            "How long a peer that answers has for each read and each write, 1 to 3600; without it 10",
         ),
     );
     let command = with_arg(
@@ -280,7 +294,7 @@ fn serve_command<'a>(alloc: Global) -> Result<Command<'a>, AllocError>
             alloc,
             "log-level",
             "LEVEL",
-            "Which notices are told on standard error: error, warn, info or debug; without it warn",
+            "The least grave notices that are told, error, warn, info or debug; without it warn",
         ),
     );
     with_arg(
@@ -289,7 +303,7 @@ fn serve_command<'a>(alloc: Global) -> Result<Command<'a>, AllocError>
             alloc,
             "control",
             "PATH",
-            "The path of a socket for iovad control: the daemon's report, its figures and its stop",
+            "The path of a socket for iovad control, at most 107 bytes; without it there is none",
         ),
     )
 }
@@ -320,15 +334,19 @@ fn check_command<'a>(alloc: Global) -> Result<Command<'a>, AllocError>
     let command = Command::new(alloc, "check")
         .about("Checks a log of what was mapped, unmapped and flushed, by whomever")
         .after_help(LINES_OF_A_LOG);
-    let command = with_arg(Ok(command), flag(alloc, "quiet", "Prints the counts alone"));
+    let command = with_arg(
+        Ok(command),
+        flag(alloc, "quiet", "The counts alone are printed"),
+    );
     let command = with_arg(
         command,
         optional_number(
             alloc,
             "first",
+            "N",
             0,
             WIDE_TOP,
-            "The first frame that may be mapped, in place of the log's",
+            "The first frame that may be mapped, 0 to 1099511627775; without it the log's",
         ),
     );
     let command = with_arg(
@@ -336,9 +354,10 @@ fn check_command<'a>(alloc: Global) -> Result<Command<'a>, AllocError>
         optional_number(
             alloc,
             "last",
+            "N",
             0,
             WIDE_TOP,
-            "The last frame that may be mapped, in place of the log's",
+            "The last frame that may be mapped, 0 to 1099511627775; without it the log's",
         ),
     );
     let command = with_arg(
@@ -355,7 +374,7 @@ fn check_command<'a>(alloc: Global) -> Result<Command<'a>, AllocError>
         flag(
             alloc,
             "ftrace",
-            "Reads what tracefs or perf script print of iommu:map, iommu:unmap and intel_iommu:qi_submit",
+            "FILE is a kernel's trace, as tracefs or perf script print it",
         ),
     );
     let command = with_arg(
@@ -363,9 +382,10 @@ fn check_command<'a>(alloc: Global) -> Result<Command<'a>, AllocError>
         optional_number(
             alloc,
             "did",
+            "N",
             0,
             LAST_DOMAIN_ID,
-            "With --ftrace: counts the flushes of this domain of the IOMMU and those of all, 0 to 65535",
+            "With --ftrace: the IOMMU's domain whose flushes count beside those of all, 0 to 65535; without it all do",
         ),
     );
     let file = place(
@@ -450,18 +470,15 @@ fn repeated<'a>(alloc: Global, name: &'a str, value: &'a str, help: &'a str) -> 
         .value_name(value)
 }
 
-/// A required option with a number from `low` to `high`.
-fn number<'a>(alloc: Global, name: &'a str, low: u64, high: u64, help: &'a str) -> Arg<'a>
-    requires low { low < 2 ^ 63 }
-    requires high { high < 2 ^ 63 }
-    ensures rule { rule_of result ≡ number_rule name.entry.now low high }
-    ensures local { result.global ≡ false }
-{
-    optional_number(alloc, name, low, high, help).required(true)
-}
-
 /// An option with a number from `low` to `high`.
-fn optional_number<'a>(alloc: Global, name: &'a str, low: u64, high: u64, help: &'a str) -> Arg<'a>
+fn optional_number<'a>(
+    alloc: Global,
+    name: &'a str,
+    value: &'a str,
+    low: u64,
+    high: u64,
+    help: &'a str,
+) -> Arg<'a>
     requires low { low < 2 ^ 63 }
     requires high { high < 2 ^ 63 }
     ensures rule { rule_of result ≡ optional_number_rule name.entry.now low high }
@@ -469,7 +486,7 @@ fn optional_number<'a>(alloc: Global, name: &'a str, low: u64, high: u64, help: 
 {
     Arg::new(alloc, name)
         .long(name)
-        .value_name("N")
+        .value_name(value)
         .action(ArgAction::Set)
         .value_parser(value_parser!(u64).range(low as i64..=high as i64))
         .help(help)

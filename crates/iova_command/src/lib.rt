@@ -6,5 +6,6 @@ pub mod check_plan;
 mod command;
 pub mod control_word;
 pub mod plan;
+pub mod plan_words;
 pub mod usage;
 pub mod words;

@@ -3,14 +3,15 @@ ghost use Rattle.std.specs.Prelude.{◌≡◌, ◌<◌, ◌≤◌, IfSome, map};
 ghost use Rattle.std.specs.Option.{ForSome};
 ghost use Rattle.clap.specs.Words.{rows_of, found_of};
 ghost use Rattle.iova_command.specs.Levels.{HasLevel, level_name};
-ghost use Rattle.iova_command.specs.Numbers.{HasNumber, HasOptional};
+ghost use Rattle.iova_command.specs.Numbers.{HasNumber, HasNumberOr, HasOptional};
 ghost use Rattle.iova_command.specs.Spans.{HasSpans, InsertsSpan, InsertsSpans};
-ghost use Rattle.iova_range.specs.declared.limits.TheConstants.{MAX_DEPOT, MAX_WORKERS, MAX_DOMAINS, MAX_IDLE, MAX_RECORDED_STEPS, MAX_SESSION_REQUESTS, MAX_SESSIONS, MAX_SINK_TIMEOUT, WIDE_TOP};
+ghost use Rattle.iova_range.specs.declared.limits.TheConstants.{DEFAULT_DOMAIN, DEFAULT_LAST, DEFAULT_START, DEFAULT_WORKERS, MAX_DEPOT, MAX_WORKERS, MAX_DOMAINS, MAX_IDLE, MAX_RECORDED_STEPS, MAX_SESSION_REQUESTS, MAX_SESSIONS, MAX_SINK_TIMEOUT, WIDE_TOP};
 
 use clap::ArgMatches;
 use iova_range::limits::{
-    MAX_DEPOT, MAX_DOMAINS, MAX_IDLE, MAX_RECORDED_STEPS, MAX_SESSION_REQUESTS, MAX_SESSIONS,
-    MAX_SINK_TIMEOUT, MAX_WORKERS, WIDE_TOP,
+    DEFAULT_DOMAIN, DEFAULT_LAST, DEFAULT_START, DEFAULT_WORKERS, MAX_DEPOT, MAX_DOMAINS, MAX_IDLE,
+    MAX_RECORDED_STEPS, MAX_SESSION_REQUESTS, MAX_SESSIONS, MAX_SINK_TIMEOUT, MAX_WORKERS,
+    WIDE_TOP,
 };
 use iova_range::range::Range;
 use iova_regions::span::read_span;
@@ -71,17 +72,18 @@ pub struct Plan<'a> {
 impl<'a> Plan<'a> {
     ghost use Rattle.iova_command.specs.Asks.{Plans};
 
-    /// What the matches of `serve` say. None where an option is missing, its number is outside its range, a level is none of the
-    /// four, a window is of another form or makes too many, or where a count of steps is said and no record is wanted.
+    /// What the matches of `serve` say; workers, domain and bounds that are left out are those of the limits. None where
+    /// the socket or the sink is missing, a number is outside its range, a level is none of the four, a window is of
+    /// another form or makes too many, or where a count of steps is said and no record is wanted.
     pub(crate) fn of(found: &ArgMatches<'a>) -> Option<Plan<'a>>
         ensures { IfSome result (λ p. Plans (rows_of (found_of found.now)) p) }
     {
-        let start = number(found, "start", 1, WIDE_TOP)?;
-        let last = number(found, "last", 1, WIDE_TOP)?;
+        let start = number_or(found, "start", DEFAULT_START, 1, WIDE_TOP)?;
+        let last = number_or(found, "last", DEFAULT_LAST, 1, WIDE_TOP)?;
         let plan = Plan {
             socket: found.get_str("socket")?,
-            workers: number(found, "workers", 1, MAX_WORKERS)?,
-            domain: number(found, "domain", 0, MAX_DOMAINS - 1)?,
+            workers: number_or(found, "workers", DEFAULT_WORKERS, 1, MAX_WORKERS)?,
+            domain: number_or(found, "domain", DEFAULT_DOMAIN, 0, MAX_DOMAINS - 1)?,
             start,
             last,
             sink: found.get_str("sink")?,
@@ -183,6 +185,18 @@ fn number(found: &ArgMatches<'_>, name: &str, low: u64, high: u64) -> Option<u64
         return None;
     }
     Some(n)
+}
+
+/// The number of an option that may be left out, which is `default` then, where it is from `low` to `high`.
+fn number_or(found: &ArgMatches<'_>, name: &str, default: u64, low: u64, high: u64) -> Option<u64>
+    requires { (low ≤ default) × (default ≤ high) }
+    ensures range { IfSome result (λ n. (low ≤ n) × (n ≤ high)) }
+    ensures read { IfSome result (λ n. HasNumberOr (rows_of (found_of found.now)) name.now default n) }
+{
+    match found.get_str(name) {
+        None => Some(default),
+        Some(_) => number(found, name, low, high),
+    }
 }
 
 /// The number of an option that may be missing, where it is from `low` to `high`.

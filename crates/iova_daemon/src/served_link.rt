@@ -22,9 +22,10 @@ pub struct Patience {
     pub turns: u64,
 }
 
-/// A connected Unix socket that a daemon serves. A read that finds no byte, and a write that finds no room, are made again turn after
-/// turn, until there were as many as its patience has. A read of a daemon that stops finds the end. Contracts see the numbers of its
-/// reads, its failures and the reads that found the end; what bytes come and go, no contract can say. Own.
+/// A connected Unix socket that a daemon serves. A read that finds no byte, and a write that finds no room, are made again
+/// turn after turn, until there were as many as its patience has. One that is interrupted is made again too, and takes no
+/// turn: an interruption is no failure of this link. A read of a daemon that stops finds the end. Contracts see the
+/// numbers of its reads, its failures and the reads that found the end; what bytes come and go, no contract can say. Own.
 #[derive(Drop)]
 pub struct ServedLink<'a, R> {
     rt: &'a R,

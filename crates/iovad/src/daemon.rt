@@ -14,6 +14,7 @@ use crate::record_file::RecordFile;
 use crate::regions::add_regions;
 use crate::sinks::{DaemonSink, SinkPlace, open_sink};
 use iova_command::plan::Plan;
+use iova_command::plan_words::PlanWords;
 use iova_command::words::VERSION;
 use iova_core::domain::Domain;
 use iova_daemon::accept::Accept;
@@ -67,9 +68,11 @@ struct Running<'a, R> {
 /// socket is bound. What lies behind `CannotOpenSink`, `SocketFault` and `CannotWrite` is told on the line before.
 ///
 /// Faults come in this order: `StartAboveLast`; `LastAboveProfile`; `CannotRead`, `RegionsRefused` or `NoMemory` for the
-/// reserved regions; `NoMemory` for the domain; `CannotOpenSink`; `CannotWrite` or `NoMemory` for the record, which may not be the
-/// sink's file; `SocketFault` where the socket can't be bound, as where anything but a socket that was left stands at its path, or
-/// a thread can't be started; `NoMemory` or `CannotWrite` for the record at its end; `NoMemory` for the report; `CannotWrite`. Own.
+/// reserved regions; `NoMemory` for the domain; `SocketFault` where anything but a socket that was left stands at the
+/// socket's path, which is looked at before the sink; `NoMemory` or `CannotOpenSink` for the sinks; `CannotWrite` or
+/// `NoMemory` for the record, which may not be the sink's file; `SocketFault` where the control socket, and then the
+/// socket, can't be bound, or a thread can't be started; `NoMemory` or `CannotWrite` for the record at its end;
+/// `NoMemory` for the report; `CannotWrite`. Own.
 pub fn serve<'a, R, C, F, S, G>(
     rt: &R,
     plan: &Plan<'a>,
@@ -104,18 +107,11 @@ where
     }
 }
 
-/// Tells what is served.
+/// Tells what is served, in the words of the command line.
 fn tell_start<R: Clock + Eprint>(notices: &Notices<'_, R>, plan: &Plan<'_>, windows: &Windows) {
     let version = VERSION.lines().next().unwrap_or(VERSION);
-    info!(notices; target: "", "iovad {version} starts: socket {}, domain {}, frames {} to {}, {} windows, {} workers, sink {}",
-        plan.socket,
-        plan.domain,
-        plan.start,
-        plan.last,
-        windows.ranges().len(),
-        plan.workers,
-        plan.sink
-    );
+    let words = PlanWords::new(plan, windows);
+    info!(notices; target: "", "iovad {version} starts: {words}");
 }
 
 /// What keeps a daemon from its end once it has a domain: a plain value, which no function has to drop.

@@ -24,6 +24,7 @@ use controlling::control;
 use daemon::serve;
 use fault::Fault;
 use iova_ask::ask_lines;
+use iova_ask::terminal::ask_by_hand;
 use iova_command::asked::Asked;
 use iova_command::plan::Plan;
 use iova_command::words::{asked, words};
@@ -34,6 +35,7 @@ use log::Log;
 use replaying::replay;
 use std::fs::File;
 use std::io;
+use std::io::IsTerminal;
 use std::marker::Brand;
 use std::net::Net;
 use std::os::unix::net::UnixStream;
@@ -48,14 +50,19 @@ fn main(rt: HostRuntime) -> ExitCode {
         Ok(words) => words,
         Err(fault) => return Fault::from(fault).tell(&rt),
     };
-    match run(&rt, &words) {
+    match run(&rt, &words, is_at_terminal(&rt)) {
         Ok(()) => ExitCode::SUCCESS,
         Err(fault) => fault.tell(&rt),
     }
 }
 
+/// Whether lines are typed, and answers are read, at a terminal.
+fn is_at_terminal(rt: &HostRuntime) -> bool {
+    rt.stdin().is_terminal() && rt.stdout().is_terminal()
+}
+
 /// Does what the words ask for.
-fn run<'a, R>(rt: &R, words: &'a [String]) -> Result<(), Fault<'a>>
+fn run<'a, R>(rt: &R, words: &'a [String], is_by_hand: bool) -> Result<(), Fault<'a>>
 where
     R: Runtime + AllocGlobal + Net + Dial + Threads + Wait + Sync + Files<File = File> + Log,
 {
@@ -66,7 +73,7 @@ where
             log,
         } => replay(rt, path, has_report, log),
         Asked::Serve(plan) => serve_plan(rt, &plan),
-        Asked::Ask { path } => ask_at(rt, path),
+        Asked::Ask { path } => ask_at(rt, path, is_by_hand),
         Asked::Check(plan) => check_planned(rt, &plan),
         Asked::Control { path, word } => control(rt, path, word),
     }
@@ -87,13 +94,14 @@ where
     )
 }
 
-/// Asks the lines of standard input of the socket at this path, and prints the answers.
-fn ask_at<R>(rt: &R, path: &str) -> Result<(), Fault<'static>>
+/// Asks the lines of standard input of the socket at this path, and prints the answers: by hand with prompts, and with
+/// what refusals mean.
+fn ask_at<R>(rt: &R, path: &str, is_by_hand: bool) -> Result<(), Fault<'static>>
 where
     R: Runtime + AllocGlobal + Net + Log,
 {
     match UnixStream::connect(rt, path) {
-        Ok(stream) => ask_over(rt, SocketLink::new(stream)),
+        Ok(stream) => ask_over(rt, SocketLink::new(stream), is_by_hand),
         Err(error) => {
             tell_cause(rt, "connect", path, &error);
             Err(Fault::SocketFault)
@@ -102,9 +110,17 @@ where
 }
 
 /// The same over this link.
-fn ask_over<R: Runtime + AllocGlobal>(rt: &R, link: SocketLink) -> Result<(), Fault<'static>> {
+fn ask_over<R: Runtime + AllocGlobal>(
+    rt: &R,
+    link: SocketLink,
+    is_by_hand: bool,
+) -> Result<(), Fault<'static>> {
     let mut link = link;
-    let asked = ask_lines(rt.alloc(), &mut rt.reader(), &mut io::writer(rt), &mut link);
+    let asked = if is_by_hand {
+        ask_by_hand(rt, &mut link)
+    } else {
+        ask_lines(rt.alloc(), &mut rt.reader(), &mut io::writer(rt), &mut link)
+    };
     match asked {
         Ok(_sent) => Ok(()),
         Err(fault) => Err(Fault::of_ask(fault)),

@@ -1,26 +1,27 @@
 use Rattle.std.proofs.Common.{codes, Ok}
 use Rattle.clap.specs.Words.{new_app}
-use Rattle.iova_command.proofs.Builders.{new_command, with_one}
+use Rattle.iova_command.proofs.Builders.{new_command, used, with_one}
 use Rattle.iova_command.proofs.command.serve_command.Goals as goal
 
 pub returns : goal.returns
 returns c =
-    let new_is = new_command (codes "serve") c.new.result c.about-command.result _ c.new.ensures.app c.new.ensures.local c.about-command.ensures in
-    let socket = with_one (new_app (codes "serve")) _ (Ok c.about-command.result) c.with_arg-command.result c.path.result new_is c.path.ensures.rule c.path.ensures.local c.with_arg-command.ensures in
-    let workers = with_one _ _ _ c.with_arg-command-2.result c.number.result socket c.number.ensures.rule c.number.ensures.local c.with_arg-command-2.ensures in
-    let domain = with_one _ _ _ c.with_arg-command-3.result c.number-2.result workers c.number-2.ensures.rule c.number-2.ensures.local c.with_arg-command-3.ensures in
-    let start = with_one _ _ _ c.with_arg-command-4.result c.number-3.result domain c.number-3.ensures.rule c.number-3.ensures.local c.with_arg-command-4.ensures in
-    let last = with_one _ _ _ c.with_arg-command-5.result c.number-4.result start c.number-4.ensures.rule c.number-4.ensures.local c.with_arg-command-5.ensures in
+    let new_is = new_command (codes "serve") c.new.result c.about.result _ c.new.ensures.app c.new.ensures.local c.about.ensures in
+    let used_is = used _ c.about.result c.override_usage-command.result _ new_is c.override_usage-command.ensures in
+    let socket = with_one (new_app (codes "serve")) _ (Ok c.override_usage-command.result) c.with_arg-command.result c.path.result used_is c.path.ensures.rule c.path.ensures.local c.with_arg-command.ensures in
+    let workers = with_one _ _ _ c.with_arg-command-2.result c.optional_number.result socket c.optional_number.ensures.rule c.optional_number.ensures.local c.with_arg-command-2.ensures in
+    let domain = with_one _ _ _ c.with_arg-command-3.result c.optional_number-2.result workers c.optional_number-2.ensures.rule c.optional_number-2.ensures.local c.with_arg-command-3.ensures in
+    let start = with_one _ _ _ c.with_arg-command-4.result c.optional_number-3.result domain c.optional_number-3.ensures.rule c.optional_number-3.ensures.local c.with_arg-command-4.ensures in
+    let last = with_one _ _ _ c.with_arg-command-5.result c.optional_number-4.result start c.optional_number-4.ensures.rule c.optional_number-4.ensures.local c.with_arg-command-5.ensures in
     let sink = with_one _ _ _ c.with_arg-command-6.result c.path-2.result last c.path-2.ensures.rule c.path-2.ensures.local c.with_arg-command-6.ensures in
-    let sessions = with_one _ _ _ c.with_arg-command-7.result c.optional_number.result sink c.optional_number.ensures.rule c.optional_number.ensures.local c.with_arg-command-7.ensures in
-    let requests = with_one _ _ _ c.with_arg-command-8.result c.optional_number-2.result sessions c.optional_number-2.ensures.rule c.optional_number-2.ensures.local c.with_arg-command-8.ensures in
-    let idle = with_one _ _ _ c.with_arg-command-9.result c.optional_number-3.result requests c.optional_number-3.ensures.rule c.optional_number-3.ensures.local c.with_arg-command-9.ensures in
-    let depot = with_one _ _ _ c.with_arg-command-10.result c.optional_number-4.result idle c.optional_number-4.ensures.rule c.optional_number-4.ensures.local c.with_arg-command-10.ensures in
+    let sessions = with_one _ _ _ c.with_arg-command-7.result c.optional_number-5.result sink c.optional_number-5.ensures.rule c.optional_number-5.ensures.local c.with_arg-command-7.ensures in
+    let requests = with_one _ _ _ c.with_arg-command-8.result c.optional_number-6.result sessions c.optional_number-6.ensures.rule c.optional_number-6.ensures.local c.with_arg-command-8.ensures in
+    let idle = with_one _ _ _ c.with_arg-command-9.result c.optional_number-7.result requests c.optional_number-7.ensures.rule c.optional_number-7.ensures.local c.with_arg-command-9.ensures in
+    let depot = with_one _ _ _ c.with_arg-command-10.result c.optional_number-8.result idle c.optional_number-8.ensures.rule c.optional_number-8.ensures.local c.with_arg-command-10.ensures in
     let strict = with_one _ _ _ c.with_arg-command-11.result c.flag.result depot c.flag.ensures.rule c.flag.ensures.local c.with_arg-command-11.ensures in
     let recorded = with_one _ _ _ c.with_arg-command-12.result c.optional_path.result strict c.optional_path.ensures.rule c.optional_path.ensures.local c.with_arg-command-12.ensures in
-    let steps = with_one _ _ _ c.with_arg-command-13.result c.optional_number-5.result recorded c.optional_number-5.ensures.rule c.optional_number-5.ensures.local c.with_arg-command-13.ensures in
+    let steps = with_one _ _ _ c.with_arg-command-13.result c.optional_number-9.result recorded c.optional_number-9.ensures.rule c.optional_number-9.ensures.local c.with_arg-command-13.ensures in
     let reserved = with_one _ _ _ c.with_arg-command-14.result c.repeated.result steps c.repeated.ensures.rule c.repeated.ensures.local c.with_arg-command-14.ensures in
     let regions = with_one _ _ _ c.with_arg-command-15.result c.optional_path-2.result reserved c.optional_path-2.ensures.rule c.optional_path-2.ensures.local c.with_arg-command-15.ensures in
-    let timeout = with_one _ _ _ c.with_arg-command-16.result c.optional_number-6.result regions c.optional_number-6.ensures.rule c.optional_number-6.ensures.local c.with_arg-command-16.ensures in
+    let timeout = with_one _ _ _ c.with_arg-command-16.result c.optional_number-10.result regions c.optional_number-10.ensures.rule c.optional_number-10.ensures.local c.with_arg-command-16.ensures in
     let level = with_one _ _ _ c.with_arg-command-17.result c.optional_path-3.result timeout c.optional_path-3.ensures.rule c.optional_path-3.ensures.local c.with_arg-command-17.ensures in
     with_one _ _ _ c.with_arg.result c.optional_path-4.result level c.optional_path-4.ensures.rule c.optional_path-4.ensures.local c.with_arg.ensures

@@ -1,7 +1,6 @@
-use Rattle.std.proofs.Common.{◌≡◌, ◌∙◌, Option, Some, None, ap}
+use Rattle.std.proofs.Common.{◌∙◌, Option, Some, None, ap}
 use Rattle.std.specs.Prelude.{IfSome}
 use Rattle.clap.specs.Words.{found_of}
-use Rattle.iova_command.specs.Controls.{HasControl, control_name}
 use Rattle.iova_command.proofs.Getters.{text_read}
 use Rattle.iova_command.proofs.words.control_word.Goals as goal
 

@@ -5,8 +5,8 @@ use Rattle.iova_command.proofs.plan.Plan.of.Goals as goal
 pub returns : goal.returns
 returns c = record {
   socket = text_read (found_of c.args.found.now) _ c.get_str.result c.in_ok-get_str.field-0 c.get_str.ensures c.in_ok-get_str.was;
-  workers = c.in_ok-number.ensures.read;
-  domain = c.in_ok-number-2.ensures.read;
+  workers = c.in_ok-number_or.ensures.read;
+  domain = c.in_ok-number_or-2.ensures.read;
   start = c.in_ok-start.ensures.read;
   last = c.in_ok-last.ensures.read;
   sink = text_read (found_of c.args.found.now) _ c.get_str-2.result c.in_ok-get_str-2.field-0 c.get_str-2.ensures c.in_ok-get_str-2.was;
