@@ -1,7 +1,7 @@
 -- What a piece gives is one thing.
-use Rattle.std.proofs.Common.{ℕ, ◌≡◌, ◌+◌, ◌-◌, ◌<◌, ◌≤◌, inl, inr, List, [], ◌++◌, Option, length, length-append, length-take, take, drop, refl, sym, ap, ◌∙◌, arith, append_assoc, take-append-drop}
+use Rattle.std.proofs.Common.{ℕ, ◌≡◌, ◌+◌, ◌-◌, ◌<◌, ◌≤◌, inl, inr, List, [], ◌∷◌, ◌++◌, Option, Some, length, length-append, length-take, take, drop, refl, sym, ap, ◌∙◌, arith, append_assoc, take-append-drop}
 use Rattle.std.specs.List.{list_all}
-use Rattle.std.proofs.Math.Seq.{take-append-add}
+use Rattle.std.proofs.Math.Seq.{take-append-add, take-append_seam}
 use Rattle.iova_range.specs.declared.limits.TheConstants.{MAX_LINE}
 use Rattle.iova_text.specs.Lines.{is_not_lf, HasNoLf, whole_line, IsUnended, IsOverlong}
 use Rattle.iova_text.proofs.Cuts.{list_all-append}
@@ -71,6 +71,22 @@ Feeds-once kept piece fed.Bad (fed.Request r n) a b x y =
     absurd (bad_no_request (kept ++ piece) r (drop n piece) x.0 y.spells.good (rest_behind kept piece (request_text r) n y.spells.text))
 Feeds-once kept piece fed.Bad fed.More a b x y = absurd (bad_not_unended (kept ++ piece) x.0 y.0)
 Feeds-once kept piece fed.Bad fed.Bad a b x y = (refl, x.1 ∙ sym y.1)
+
+-- a piece that begins with a request's line gives that request, where nothing is kept
+pub front_feeds : (piece : List ℕ) (r : Request) (behind : List ℕ) → IsRequest r → piece ≡ request_text r ++ behind
+    → Feeds [] piece (fed.Request r (length piece - length behind)) (Some [])
+front_feeds piece r behind good e =
+    let used : length piece - length behind ≡ length (request_text r) = omega (arith, ap length e, length-append (request_text r) behind) in
+    let some : 1 ≤ length (request_text r) = omega (arith, length-append (request_line r) (10 ∷ [])) in
+    record {
+      some = omega (arith, used, some);
+      within = omega arith;
+      spells = record {
+        good = good;
+        text = ap (λ (n : ℕ). take n piece) used ∙ (ap (take (length (request_text r))) e ∙ take-append_seam (request_text r) behind);
+      };
+      next_is = refl;
+    }
 
 -- as many bytes as the longest line has, without LF
 pub overlong : (kept piece : List ℕ) → HasNoLf kept → length kept < MAX_LINE → HasNoLf (take (MAX_LINE - length kept) piece)

@@ -2,10 +2,12 @@
 ghost use Rattle.std.specs.Prelude.{◌≡◌, ℕ, Bool, [], ◌++◌, Some, Ok, IfSome, IfOk, OnErr, codes};
 ghost use Rattle.iova_text.specs.Words.{spaced_words};
 ghost use Rattle.iova_proto.specs.declared.request.Request.{Request as R};
-ghost use Rattle.iova_proto.specs.Requests.{request_verb, request_arguments, request_line, IsRequest, IsSpelledBy, Spells};
+ghost use Rattle.iova_proto.specs.Requests.{request_verb, request_arguments, request_line, request_text, IsRequest, IsSpelledBy, Spells};
 
 use crate::request::Request;
-use iova_text::words::{first_word, kind_of, next_number, next_word, one_number, two_numbers};
+use iova_text::words::{
+    first_word, kind_of, next_number, next_short, next_word, one_number, two_numbers,
+};
 use thiserror::Error;
 
 /// The line is no request's. Own.
@@ -48,6 +50,60 @@ pub(crate) fn request_of(line: &[u8]) -> Option<Request>
         word_alone(word)
     } else {
         None
+    }
+}
+
+/// `free` as a number whose lowest byte is its first letter.
+const FREE: u32 = 0x6565_7266;
+
+/// The same of the first four letters of `alloc`.
+const ALLO: u32 = 0x6f6c_6c61;
+
+/// No line of these two words has fewer bytes: `free 1` and its LF.
+const SHORTEST: usize = 7;
+
+/// The request of the line at the front of the text, and what is behind that line, read in one pass. It knows the two
+/// requests of which there are many, `alloc` and `free`, with numbers of 1 to 18 digits that do not begin with `0`. None
+/// where no such line is at the front.
+#[inline(always)]
+pub(crate) fn request_at(text: &[u8]) -> Option<(Request, &[u8])>
+    ensures { IfSome result (λ p. IsRequest p.0 × (text.now ≡ request_text p.0 ++ p.1.now)) }
+{
+    if text.len() < SHORTEST {
+        return None;
+    }
+    let word = u32::from_le_bytes([text[0], text[1], text[2], text[3]]);
+    if word == FREE {
+        free_at(&text[4..])
+    } else if word == ALLO && text[4] == b'c' {
+        alloc_at(&text[5..])
+    } else {
+        None
+    }
+}
+
+/// ` <frames> <limit>` and an LF.
+#[inline(always)]
+fn alloc_at(text: &[u8]) -> Option<(Request, &[u8])>
+    ensures { IfSome result (λ p. IsRequest p.0 × (codes "alloc" ++ text.now ≡ request_text p.0 ++ p.1.now)) }
+{
+    let (frames, more) = next_short(text)?;
+    let (limit, end) = next_short(more)?;
+    match end {
+        [b'\n', behind @ ..] => Some((Request::Alloc { frames, limit }, behind)),
+        _ => None,
+    }
+}
+
+/// ` <lo>` and an LF.
+#[inline(always)]
+fn free_at(text: &[u8]) -> Option<(Request, &[u8])>
+    ensures { IfSome result (λ p. IsRequest p.0 × (codes "free" ++ text.now ≡ request_text p.0 ++ p.1.now)) }
+{
+    let (lo, end) = next_short(text)?;
+    match end {
+        [b'\n', behind @ ..] => Some((Request::Free { lo }, behind)),
+        _ => None,
     }
 }
 

@@ -7,7 +7,7 @@ use crate::answer::Answer;
 use arrayvec::ArrayVec;
 use iova_range::range::Range;
 use iova_range::refusal::Refusal;
-use iova_text::buffer::{LineBuffer, append, put, put_number, put_numbers};
+use iova_text::buffer::{LineBuffer, append, put, put_number, put_numbers, put_two_numbers};
 
 /// The most bytes of an answer's first line, with its LF: `stat` and eight numbers.
 pub const MAX_FIRST_LINE: usize = 173;
@@ -41,11 +41,11 @@ pub fn put_first_line<const CAP: usize>(answer: &Answer, out: &mut ArrayVec<u8, 
 {
     match answer {
         Answer::Opened(serial) => put_numbers(out, b"opened", &[*serial]),
-        Answer::Given(range) => put_numbers(out, b"given", &[range.lo(), range.len()]),
-        Answer::Queued(range) => put_numbers(out, b"queued", &[range.lo(), range.len()]),
-        Answer::Freed(range) => put_numbers(out, b"freed", &[range.lo(), range.len()]),
+        Answer::Given(range) => put_two_numbers(out, b"given", range.lo(), range.len()),
+        Answer::Queued(range) => put_two_numbers(out, b"queued", range.lo(), range.len()),
+        Answer::Freed(range) => put_two_numbers(out, b"freed", range.lo(), range.len()),
         Answer::Held(ranges) => put_numbers(out, b"held", &[ranges.as_slice().len() as u64]),
-        Answer::Flushed { no, freed } => put_numbers(out, b"flushed", &[*no, *freed]),
+        Answer::Flushed { no, freed } => put_two_numbers(out, b"flushed", *no, *freed),
         Answer::Stat(stat) => put_numbers(
             out,
             b"stat",
@@ -63,7 +63,7 @@ pub fn put_first_line<const CAP: usize>(answer: &Answer, out: &mut ArrayVec<u8, 
         Answer::Bye => put(out, b"bye"),
         Answer::Refused(refusal) => put_refusal(*refusal, out),
     }
-    put(out, b"\n");
+    out.push(b'\n');
 }
 
 fn put_refusal<const CAP: usize>(refusal: Refusal, out: &mut ArrayVec<u8, CAP>)
@@ -77,6 +77,7 @@ fn put_refusal<const CAP: usize>(refusal: Refusal, out: &mut ArrayVec<u8, CAP>)
 }
 
 /// Appends a line for each range. Where memory is refused, those before it are appended.
+#[inline(never)]
 fn append_ranges(ranges: &[Range], out: &mut Vec<u8>) -> Result<(), Refusal>
     ensures ok { OnOk result (out.new.items ≡ out.old.items ++ flat_map range_line ranges.now) }
     ensures err { OnErr result ((result ≡ Err Refusal.NoMemory)

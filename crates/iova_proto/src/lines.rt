@@ -5,7 +5,7 @@ ghost use Rattle.iova_proto.specs.declared.request.Request.{Request as R};
 ghost use Rattle.iova_proto.specs.Requests.{IsRequest, request_line};
 ghost use Rattle.iova_proto.specs.Feeds.{Feeds, is_bad, state_behind};
 
-use crate::decode::request_of;
+use crate::decode::{request_at, request_of};
 use crate::fed::Fed;
 use crate::request::Request;
 use iova_range::limits::MAX_LINE;
@@ -50,11 +50,28 @@ impl Lines {
     /// Takes the piece up to the end of its first line. That line, with what was kept before the piece, is a request's, or it
     /// is bad. Where it has not ended, the piece is kept; 128 bytes without LF are bad. After a bad line each piece is bad.
     /// Looks at 128 bytes of the piece at most, copies none where a line lies whole in it, and takes no memory. Own.
+    #[inline(always)]
     pub fn feed(&mut self, piece: &[u8]) -> Fed
         ensures fed { IfSome self.old (λ kept. Feeds kept piece.now result self.new) }
         ensures bad { self.old ≡ None → (result ≡ Fed.Bad) × (self.new ≡ None) }
 
         // No other answer is right.
+        ensures only { (kept : List ℕ) (other : F) (next : Option (List ℕ)) → self.old ≡ Some kept
+            → Feeds kept piece.now other next → (other ≡ result) × (next ≡ self.new) }
+    {
+        if !self.is_bad && self.kept.is_empty() {
+            if let Some((request, behind)) = request_at(piece) {
+                return Fed::Request(request, piece.len() - behind.len());
+            }
+        }
+        self.feed_any(piece)
+    }
+
+    /// The same of any line, in two passes: it is cut off, and then read.
+    #[inline(never)]
+    fn feed_any(&mut self, piece: &[u8]) -> Fed
+        ensures fed { IfSome self.old (λ kept. Feeds kept piece.now result self.new) }
+        ensures bad { self.old ≡ None → (result ≡ Fed.Bad) × (self.new ≡ None) }
         ensures only { (kept : List ℕ) (other : F) (next : Option (List ℕ)) → self.old ≡ Some kept
             → Feeds kept piece.now other next → (other ≡ result) × (next ≡ self.new) }
     {

@@ -1,10 +1,12 @@
 -- Digits at the front of a text, and the number that they spell.
-use Rattle.std.proofs.Common.{◌≡◌, ℕ, ◌+◌, ◌-◌, ◌*◌, ◌^◌, ◌<◌, ◌≤◌, ◌⊎◌, inl, inr, true, List, [], ◌∷◌, ◌++◌, length, take, drop, get_or, decimal, refl, sym, ap, ◌∙◌, arith, rules, ◌≢◌}
+use Rattle.std.proofs.Common.{◌≡◌, ℕ, ◌+◌, ◌-◌, ◌*◌, ◌/◌, ◌%◌, ◌^◌, ◌<◌, ◌≤◌, ◌⊎◌, inl, inr, true, List, [], ◌∷◌, ◌++◌, length, take, drop, get_or, decimal, refl, sym, ap, ◌∙◌, arith, rules, ◌≢◌}
 use Rattle.std.specs.Char.{is_ascii_digit}
 use Rattle.std.specs.List.{list_all}
 use Rattle.std.proofs.lemmas.Bool.{cases_eq}
 use Rattle.std.proofs.lemmas.List.{take_more, take-append-drop, length-take, get_or-take}
-use Rattle.std.proofs.lemmas.Fmt.{digits_decimal, digits_value-decimal, decimal_digit, first_decimal, decimal-digits_value}
+use Rattle.std.proofs.Math.Nat.{pow-le-pow_right}
+use Rattle.std.proofs.lemmas.Grind.{pow_more}
+use Rattle.std.proofs.lemmas.Fmt.{digits_decimal, digits_value-decimal, decimal_digit, decimal_step, first_decimal, decimal-digits_value}
 use Rattle.std.proofs.lemmas.Str.Parse.{IsNumeralModel, numerals_by_fold}
 use Rattle.iova_text.specs.Reading.{stops}
 use Rattle.iova_text.proofs.Cuts.{list_all-more, run_front, run_once}
@@ -52,6 +54,21 @@ pub next_fits : (text rest : List ℕ) (n len : ℕ) → n < 2 ^ 64 → stops is
 next_fits text rest n len fits stop e lt digits pass =
     let le = front-le (take (len + 1) text) (drop (len + 1) text) rest n fits (list_all-more is_ascii_digit text len lt digits pass) stop (take-append-drop (len + 1) text ∙ e) in
     omega (arith, read_on-more text len lt, le)
+
+-- so few digits spell a number of 64 bits, whichever they are
+pub digit_fits : (n digit len : ℕ) → n < 10 ^ len → digit < 10 → len < 19 → (n * 10 + digit < 10 ^ (len + 1)) × (n * 10 + digit < 2 ^ 64)
+digit_fits n digit len fits few sure =
+    let more : n * 10 + digit < 10 ^ (len + 1) = rw (pow_more 10 len) (omega (arith, fits, few)) in
+    let most : 10 ^ (len + 1) ≤ 10 ^ 19 = pow-le-pow_right {n = 10} (omega arith) {i = len + 1} {j = 19} (omega (arith, sure)) in
+    (more, omega (arith, more, most))
+
+-- one digit more behind a number that is not 0
+pub decimal_more : (n digit : ℕ) → 0 < n → digit < 10 → n * 10 + digit < 2 ^ 64 → decimal n ++ (48 + digit) ∷ [] ≡ decimal (n * 10 + digit)
+decimal_more n digit some few fits =
+    let front : (n * 10 + digit) / 10 ≡ n = omega (arith, few) in
+    let last : (n * 10 + digit) % 10 ≡ digit = omega (arith, few) in
+    let step = decimal_step (n * 10 + digit) (omega (arith, some)) fits in
+    sym (step ∙ ap (λ (x : ℕ). decimal x ++ (48 + (n * 10 + digit) % 10) ∷ []) front ∙ ap (λ (x : ℕ). decimal n ++ (48 + x) ∷ []) last)
 
 -- all digits at the front are the number's text
 pub front_is : (xs ys rest : List ℕ) (n : ℕ) → n < 2 ^ 64 → list_all is_ascii_digit xs ≡ true → stops is_ascii_digit ys ≡ true

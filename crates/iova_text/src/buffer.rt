@@ -1,11 +1,16 @@
 //! Lines put together in buffers of fixed room, and their way into a vector.
-ghost use Rattle.std.specs.Prelude.{◌≡◌, ◌+◌, ◌*◌, ◌<◌, ◌≤◌, ◌++◌, OnOk, OnErr, decimal, length, vec_len, vec_capacity};
-ghost use Rattle.iova_text.specs.Words.{numbers_line};
+ghost use Rattle.std.specs.Prelude.{◌≡◌, ◌+◌, ◌*◌, ◌/◌, ◌%◌, ◌<◌, ◌≤◌, [], ◌∷◌, ◌++◌, OnOk, OnErr, decimal, length, vec_len, vec_capacity};
+ghost use Rattle.iova_text.specs.Words.{numbers_line, spaced_words};
 
 use arrayvec::ArrayVec;
 use iova_range::limits::MAX_LINE;
 use iova_range::refusal::Refusal;
 use itoa::Buffer;
+
+/// The two digits of each number below 100.
+static PAIRS: [u8; 200] = *b"\
+    0001020304050607080910111213141516171819202122232425262728293031323334353637383940414243444546474849\
+    5051525354555657585960616263646566676869707172737475767778798081828384858687888990919293949596979899";
 
 /// The bytes of a line, with its LF at most 128 of them.
 pub type LineBuffer = ArrayVec<u8, MAX_LINE>;
@@ -20,13 +25,99 @@ pub fn put<const CAP: usize>(out: &mut ArrayVec<u8, CAP>, bytes: &[u8])
 }
 
 /// Appends the number's text, at most 20 bytes, for which there is room. Own.
-#[inline]
+#[inline(always)]
 pub fn put_number<const CAP: usize>(out: &mut ArrayVec<u8, CAP>, n: u64)
     requires { length out.old.items + 20 ≤ CAP }
     ensures items { out.new.items ≡ out.old.items ++ decimal n }
     ensures longer { length out.new.items ≤ length out.old.items + 20 }
 {
+    if n < 10_000 {
+        put_short(out, n);
+    } else if n < 100_000_000 {
+        let low = n % 10_000;
+        put_short(out, n / 10_000);
+        put_pair(out, low / 100);
+        put_pair(out, low % 100);
+    } else {
+        put_long(out, n);
+    }
+}
+
+/// The same for a number of any length.
+#[inline(never)]
+fn put_long<const CAP: usize>(out: &mut ArrayVec<u8, CAP>, n: u64)
+    requires { length out.old.items + 20 ≤ CAP }
+    ensures items { out.new.items ≡ out.old.items ++ decimal n }
+    ensures longer { length out.new.items ≤ length out.old.items + 20 }
+{
     put(out, Buffer::new().format(n).as_bytes());
+}
+
+/// Appends the text of a number of at most four digits.
+#[inline(always)]
+fn put_short<const CAP: usize>(out: &mut ArrayVec<u8, CAP>, n: u64)
+    requires short { n < 10000 }
+    requires room { length out.old.items + 4 ≤ CAP }
+    ensures items { out.new.items ≡ out.old.items ++ decimal n }
+    ensures longer { length out.new.items ≤ length out.old.items + 4 }
+{
+    if n < 100 {
+        put_shorter(out, n);
+    } else {
+        put_shorter(out, n / 100);
+        put_pair(out, n % 100);
+    }
+}
+
+/// Appends the text of a number of one or two digits.
+#[inline(always)]
+fn put_shorter<const CAP: usize>(out: &mut ArrayVec<u8, CAP>, n: u64)
+    requires short { n < 100 }
+    requires room { length out.old.items + 2 ≤ CAP }
+    ensures items { out.new.items ≡ out.old.items ++ decimal n }
+    ensures longer { length out.new.items ≤ length out.old.items + 2 }
+{
+    if n < 10 {
+        out.push(b'0' + n as u8);
+    } else {
+        put_pair(out, n);
+    }
+}
+
+/// Appends two digits, of which the first one may be a `0`.
+#[inline(always)]
+fn put_pair<const CAP: usize>(out: &mut ArrayVec<u8, CAP>, n: u64)
+    requires short { n < 100 }
+    requires room { length out.old.items + 2 ≤ CAP }
+    ensures { out.new.items ≡ out.old.items ++ (48 + n / 10) ∷ (48 + n % 10) ∷ [] }
+{
+    let at = n as usize * 2;
+    out.push(PAIRS[at]);
+    out.push(PAIRS[at + 1]);
+}
+
+/// Appends the word, and two numbers with a space before each, for which there is room. Own.
+#[inline(always)]
+pub fn put_two_numbers<const CAP: usize>(out: &mut ArrayVec<u8, CAP>, word: &[u8], a: u64, b: u64)
+    requires { length out.old.items + length word.now + 42 ≤ CAP }
+    ensures items { out.new.items ≡ out.old.items ++ numbers_line word.now (a ∷ b ∷ []) }
+    ensures longer { length out.new.items ≤ length out.old.items + length word.now + 42 }
+{
+    put(out, word);
+    put_spaced(out, a, b);
+}
+
+/// Appends the two numbers, with a space before each.
+#[inline(never)]
+fn put_spaced<const CAP: usize>(out: &mut ArrayVec<u8, CAP>, a: u64, b: u64)
+    requires { length out.old.items + 42 ≤ CAP }
+    ensures items { out.new.items ≡ out.old.items ++ spaced_words (decimal a ∷ decimal b ∷ []) }
+    ensures longer { length out.new.items ≤ length out.old.items + 42 }
+{
+    out.push(b' ');
+    put_number(out, a);
+    out.push(b' ');
+    put_number(out, b);
 }
 
 /// Appends the word, and each number with a space before it, for which there is room. Own.

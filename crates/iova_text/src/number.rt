@@ -1,5 +1,5 @@
 //! Numbers of 64 bits, which have one spelling each.
-ghost use Rattle.std.specs.Prelude.{◌≡◌, ◌≢◌, ℕ, ◌^◌, ◌<◌, List, ◌++◌, Some, IfSome, IsNone, IsSomeAnd, IsTrue, decimal, slice_index};
+ghost use Rattle.std.specs.Prelude.{◌≡◌, ◌≢◌, ℕ, ◌^◌, ◌<◌, List, ◌++◌, Some, IfSome, IsNone, IsSomeAnd, IsTrue, decimal, slice_index, length, take, drop, ◌≤◌};
 ghost use Rattle.std.specs.Char.{is_ascii_digit};
 ghost use Rattle.iova_text.specs.Reading.{stops};
 
@@ -16,7 +16,84 @@ pub fn number(text: &[u8]) -> Option<u64>
 
 /// The number that the digits at the front spell, and the text after them; after a `0` no further digit is looked at. None
 /// where no digit is at the front, or where the digits spell no number below 2^64. Own.
+#[inline]
 pub fn leading_number(text: &[u8]) -> Option<(u64, &[u8])>
+    ensures spelled { IfSome result (λ p. text.now ≡ decimal p.0 ++ p.1.now) }
+    ensures read { (n : ℕ) (rest : List ℕ) → n < 2 ^ 64 → IsTrue (stops is_ascii_digit rest)
+        → text.now ≡ decimal n ++ rest → IsSomeAnd result (λ p. (p.0 ≡ n) × (p.1.now ≡ rest)) }
+{
+    match short_number(text) {
+        Some((n, rest)) => Some((n, rest)),
+        None => any_number(text),
+    }
+}
+
+/// Whichever digits they are, so many spell a number of 64 bits.
+const SURE_DIGITS: usize = 19;
+
+/// So many digits are read without a test for the end of the text at each of them, where the text is as long.
+const FIRST_DIGITS: usize = 8;
+
+/// The number of 1 to 18 digits at the front, of which the first is not `0`, and the text after it. None where no such
+/// number is there, and where more digits are.
+#[inline(always)]
+pub fn short_number(text: &[u8]) -> Option<(u64, &[u8])>
+    ensures spelled { IfSome result (λ p. text.now ≡ decimal p.0 ++ p.1.now) }
+    ensures all { IfSome result (λ p. IsTrue (stops is_ascii_digit p.1.now)) }
+    ensures fits { IfSome result (λ p. p.0 < 2 ^ 64) }
+{
+    if text.is_empty() {
+        return None;
+    }
+    if text[0] < b'1' || text[0] > b'9' {
+        return None;
+    }
+    let first = u64::from(text[0]) - 48;
+    let (front, start) = if text.len() < FIRST_DIGITS {
+        digits(text, first, 1, text.len())
+    } else {
+        digits(text, first, 1, FIRST_DIGITS)
+    };
+    if start < FIRST_DIGITS {
+        return Some((front, &text[start..]));
+    }
+    let (n, len) = digits(text, front, start, text.len().min(SURE_DIGITS));
+    if len < SURE_DIGITS {
+        Some((n, &text[len..]))
+    } else {
+        None
+    }
+}
+
+/// The number `front`, whose text ends at `start`, with the digits after it, up to `end` at most; and where these end.
+#[inline(always)]
+fn digits(text: &[u8], front: u64, start: usize, end: usize) -> (u64, usize)
+    requires some { 0 < front }
+    requires fits { front < 10 ^ start }
+    requires front { take start text.now ≡ decimal front }
+    requires within { (start ≤ end) × (end ≤ length text.now) × (end ≤ SURE_DIGITS) }
+    ensures some { 0 < result.0 }
+    ensures fits { result.0 < 10 ^ result.1 }
+    ensures spelled { take result.1 text.now ≡ decimal result.0 }
+    ensures within { (start ≤ result.1) × (result.1 ≤ end) }
+    ensures all { result.1 < end → IsTrue (stops is_ascii_digit (drop result.1 text.now)) }
+{
+    let mut n = front;
+    let mut len = start;
+    while len < end {
+        // It is below 10 for a digit, and for no other byte.
+        let digit = u64::from(text[len]).wrapping_sub(48);
+        if digit > 9 {
+            break;
+        }
+        n = n * 10 + digit;
+        len += 1;
+    }
+    (n, len)
+}
+
+/// The same as `leading_number`, for what `short_number` leaves.
+fn any_number(text: &[u8]) -> Option<(u64, &[u8])>
     ensures spelled { IfSome result (λ p. text.now ≡ decimal p.0 ++ p.1.now) }
     ensures read { (n : ℕ) (rest : List ℕ) → n < 2 ^ 64 → IsTrue (stops is_ascii_digit rest)
         → text.now ≡ decimal n ++ rest → IsSomeAnd result (λ p. (p.0 ≡ n) × (p.1.now ≡ rest)) }
@@ -27,11 +104,11 @@ pub fn leading_number(text: &[u8]) -> Option<(u64, &[u8])>
     if text[0] == b'0' {
         return Some((0, &text[1..]));
     }
-    leading_positive(text)
+    any_positive(text)
 }
 
-/// The same where the text does not begin with a `0`.
-fn leading_positive(text: &[u8]) -> Option<(u64, &[u8])>
+/// The same where the text does not begin with a `0`: each digit is added with a check that the number has 64 bits.
+fn any_positive(text: &[u8]) -> Option<(u64, &[u8])>
     requires { slice_index text.now 0 ≢ 48 }
     ensures spelled { IfSome result (λ p. text.now ≡ decimal p.0 ++ p.1.now) }
     ensures read { (n : ℕ) (rest : List ℕ) → n < 2 ^ 64 → IsTrue (stops is_ascii_digit rest)

@@ -5,7 +5,7 @@ ghost use Rattle.std.specs.List.{list_all};
 ghost use Rattle.iova_text.specs.Reading.{stops, is_not_space};
 ghost use Rattle.iova_text.specs.Words.{spaced_words, kind_text};
 
-use crate::number::leading_number;
+use crate::number::{leading_number, short_number};
 
 /// The bytes before the first space, all where there is none, and the rest from that space on.
 pub fn first_word(line: &[u8]) -> (&[u8], &[u8])
@@ -36,6 +36,7 @@ pub fn next_word(text: &[u8]) -> Option<(&[u8], &[u8])>
 }
 
 /// A space and a number, and the text after them.
+#[inline]
 pub fn next_number(text: &[u8]) -> Option<(u64, &[u8])>
     ensures spelled { IfSome result (λ p. text.now ≡ 32 ∷ (decimal p.0 ++ p.1.now)) }
     ensures read { (n : ℕ) (rest : List ℕ) → n < 2 ^ 64 → IsTrue (stops is_ascii_digit rest)
@@ -49,7 +50,19 @@ pub fn next_number(text: &[u8]) -> Option<(u64, &[u8])>
     }
 }
 
+/// A space and a number of 1 to 18 digits that does not begin with `0`, and the text after them.
+#[inline(always)]
+pub fn next_short(text: &[u8]) -> Option<(u64, &[u8])>
+    ensures { IfSome result (λ p. text.now ≡ 32 ∷ (decimal p.0 ++ p.1.now)) }
+{
+    match text {
+        [b' ', digits @ ..] => short_number(digits),
+        _ => None,
+    }
+}
+
 /// A space and a number, and nothing after them.
+#[inline]
 pub fn one_number(text: &[u8]) -> Option<u64>
     ensures spelled { IfSome result (λ a. text.now ≡ spaced_words (decimal a ∷ [])) }
     ensures read { (a : ℕ) → a < 2 ^ 64 → text.now ≡ spaced_words (decimal a ∷ []) → result ≡ Some a }
@@ -59,6 +72,7 @@ pub fn one_number(text: &[u8]) -> Option<u64>
 }
 
 /// Two numbers, each with a space before it, and nothing after them.
+#[inline]
 pub fn two_numbers(text: &[u8]) -> Option<(u64, u64)>
     ensures spelled { IfSome result (λ p. text.now ≡ spaced_words (decimal p.0 ∷ decimal p.1 ∷ [])) }
     ensures read { (a b : ℕ) → a < 2 ^ 64 → b < 2 ^ 64 → text.now ≡ spaced_words (decimal a ∷ decimal b ∷ [])

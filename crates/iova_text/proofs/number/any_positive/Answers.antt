@@ -5,8 +5,8 @@ use Rattle.std.proofs.lemmas.List.{take-append-drop, length-take}
 use Rattle.iova_text.specs.Reading.{stops}
 use Rattle.iova_text.proofs.Cuts.{list_all-more, cut_at, rest_from, stops-at, stops-at_end}
 use Rattle.iova_text.proofs.Digits.{read_on, read_on-more, next_fits, read_on-decimal, front_is, decimal-read_on}
-use Rattle.iova_text.proofs.number.leading_positive.Goals as goal
-use Rattle.iova_text.proofs.number.leading_positive.Goals.{then-loop-len-test+else-is_ascii_digit, else-loop-len-test}
+use Rattle.iova_text.proofs.number.any_positive.Goals as goal
+use Rattle.iova_text.proofs.number.any_positive.Goals.{then-loop-len-test+else-is_ascii_digit, else-loop-len-test}
 
 pub loop-len-preserved : goal.loop-len-preserved
 loop-len-preserved c =
