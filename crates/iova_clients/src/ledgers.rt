@@ -49,6 +49,23 @@ fn key_of(keys: &BTreeMap<u64, usize>, last: Option<(u64, usize)>, id: u64) -> O
     }
 }
 
+/// The same, and it is remembered. Nothing is written where it was looked up last.
+#[inline]
+fn remember(keys: &BTreeMap<u64, usize>, last: &mut Option<(u64, usize)>, id: u64) -> Option<usize>
+    requires { IsRemembered last.old keys.now.entries }
+    ensures value { result ≡ lookup (is_serial id) keys.now.entries }
+    ensures remembered { IsRemembered last.new keys.now.entries }
+{
+    match *last {
+        Some((serial, key)) if serial == id => Some(key),
+        _ => {
+            let key = keys.get(&id).copied()?;
+            *last = Some((id, key));
+            Some(key)
+        }
+    }
+}
+
 impl Ledgers {
     ghost use Rattle.iova_clients.specs.AccountsLends.{LendsLedger};
 
@@ -82,8 +99,7 @@ impl Ledgers {
         ensures* writes_back { sem 𝓛 (LendsLedger self.entry id result) }
         ensures value { option_copied_mut result ≡ lookup (is_serial id) self.old }
     {
-        let key = key_of(&self.keys, self.last, id)?;
-        self.last = Some((id, key));
+        let key = remember(&self.keys, &mut self.last, id)?;
         Some(&mut self.slab[key])
     }
 

@@ -100,6 +100,7 @@ fn try_once(
 
 /// The walk of a request: for a client that is `sac`, one try below 4 GiB that empties nothing, where the limit is above
 /// that; then one with the limit that was asked for.
+#[inline(always)]
 pub fn walk(
     tree: &mut Tree,
     caches: &mut Caches,

@@ -9,31 +9,31 @@ use Rattle.iova_clients.proofs.ledgers.Ledgers.get_mut.Goals as goal
 pub returns-in_err-key : goal.returns-in_err-key
 returns-in_err-key c =
     let i = c.self.inside in
-    let none = get_listed (at_key i.slab) c.args.id i.keys.entries None c.self.invariant.keyed (lookup_at c.args.id i.keys.entries ∙ (sym c.key_of.ensures ∙ c.in_err-key.was)) in
+    let none = get_listed (at_key i.slab) c.args.id i.keys.entries None c.self.invariant.keyed (lookup_at c.args.id i.keys.entries ∙ (sym c.remember.ensures.value ∙ c.in_err-key.was)) in
     rw (c.from_residual.ensures, ← c.self.view_is) (refl, record { writes_back = tt; value = sym none })
 
 pub index_mut-requires : goal.index_mut-requires
 index_mut-requires c =
     let i = c.self.inside in
-    found_some (at_key i.slab) (is_serial c.args.id) c.in_ok-key.key i.keys.entries c.self.invariant.keyed (sym c.key_of.ensures ∙ c.in_ok-key.was)
+    found_some (at_key i.slab) (is_serial c.args.id) c.in_ok-key.key i.keys.entries c.self.invariant.keyed (sym c.remember.ensures.value ∙ c.in_ok-key.was)
 
 pub invariant_of-self-lent : goal.invariant_of-self-lent
 invariant_of-self-lent c =
     λ w. let i = c.self.inside in
     let key = c.in_ok-key.key in
-    let here = sym c.key_of.ensures ∙ c.in_ok-key.was in
+    let here = sym c.remember.ensures.value ∙ c.in_ok-key.was in
     let there = found_some (at_key i.slab) (is_serial c.args.id) key i.keys.entries c.self.invariant.keyed here in
     let updates = Updates-with_value i.slab key w there in
     record {
       keyed = keyed_set (at_key i.slab) (at_key (with_value i.slab key w)) key w i.keys.entries c.self.invariant.keyed updates.changed updates.others;
-      remembered = here;
+      remembered = c.remember.ensures.remembered;
     }
 
 pub returns : goal.returns
 returns c =
     let i = c.self.inside in
     let key = c.in_ok-key.key in
-    let here = sym c.key_of.ensures ∙ c.in_ok-key.was in
+    let here = sym c.remember.ensures.value ∙ c.in_ok-key.was in
     let there = found_some (at_key i.slab) (is_serial c.args.id) key i.keys.entries c.self.invariant.keyed here in
     let written = λ (w : Account).
     let updates = Updates-with_value i.slab key w there in
