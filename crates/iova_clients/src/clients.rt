@@ -112,7 +112,7 @@ impl Clients {
 
     /// The marks of the client, where it is one of this worker. Its ledger is found by what follows with no other
     /// look-up, until another client is looked up or one comes or goes.
-    #[inline]
+    #[inline(always)]
     pub fn look_up(&mut self, worker: u64, id: ClientId) -> Option<Marks>
         ensures is { result ≡ option_map marks_of (client_of worker id self.old.clients) }
         ensures unchanged { self.new ≡ self.old }

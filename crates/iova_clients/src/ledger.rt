@@ -135,7 +135,7 @@ impl Ledger {
     }
 
     /// How many holdings begin there or below. The last is looked at before they are searched.
-    #[inline]
+    #[inline(always)]
     fn reach(&self, lo: u64) -> usize
         requires { Rises 0 self.now.holdings }
         ensures within { result ≤ length self.now.holdings }
@@ -162,7 +162,7 @@ impl Ledger {
 
     /// Where the holding stands that begins there. The first is looked at before they are searched: a client that closes
     /// gives up its first holding each time.
-    #[inline]
+    #[inline(always)]
     fn position_of(&self, lo: u64) -> Option<usize>
         requires { Rises 0 self.now.holdings }
         ensures held { IfSome result (IsPlaceOf lo self.now.holdings) }

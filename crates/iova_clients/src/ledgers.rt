@@ -50,7 +50,7 @@ fn key_of(keys: &BTreeMap<u64, usize>, last: Option<(u64, usize)>, id: u64) -> O
 }
 
 /// The same, and it is remembered. Nothing is written where it was looked up last.
-#[inline]
+#[inline(always)]
 fn remember(keys: &BTreeMap<u64, usize>, last: &mut Option<(u64, usize)>, id: u64) -> Option<usize>
     requires { IsRemembered last.old keys.now.entries }
     ensures value { result ≡ lookup (is_serial id) keys.now.entries }
@@ -58,12 +58,20 @@ fn remember(keys: &BTreeMap<u64, usize>, last: &mut Option<(u64, usize)>, id: u6
 {
     match *last {
         Some((serial, key)) if serial == id => Some(key),
-        _ => {
-            let key = keys.get(&id).copied()?;
-            *last = Some((id, key));
-            Some(key)
-        }
+        _ => look_up(keys, last, id),
     }
+}
+
+/// The key of this serial, whichever was looked up last. It is remembered.
+#[inline(never)]
+fn look_up(keys: &BTreeMap<u64, usize>, last: &mut Option<(u64, usize)>, id: u64) -> Option<usize>
+    requires { IsRemembered last.old keys.now.entries }
+    ensures value { result ≡ lookup (is_serial id) keys.now.entries }
+    ensures remembered { IsRemembered last.new keys.now.entries }
+{
+    let key = keys.get(&id).copied()?;
+    *last = Some((id, key));
+    Some(key)
 }
 
 impl Ledgers {
@@ -95,6 +103,7 @@ impl Ledgers {
     }
 
     /// The same, to change it.
+    #[inline(always)]
     pub(crate) fn get_mut(&mut self, id: u64) -> Option<&mut Ledger>
         ensures* writes_back { sem 𝓛 (LendsLedger self.entry id result) }
         ensures value { option_copied_mut result ≡ lookup (is_serial id) self.old }

@@ -63,7 +63,7 @@ pub(crate) fn insert_low(cells: &mut [Range], place: usize, range: Range)
 }
 
 /// The last range comes first, and the others move up by one cell. Where there is one range nothing is called.
-#[inline]
+#[inline(always)]
 fn turn_up(cells: &mut [Range])
     requires { 1 ≤ length cells.old }
     ensures { cells.new ≡ drop (length cells.old - 1) cells.old ++ take (length cells.old - 1) cells.old }
