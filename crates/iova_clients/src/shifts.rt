@@ -74,7 +74,7 @@ fn turn_up(cells: &mut [Range])
 }
 
 /// The range comes in at this place. Those from there on move up by one cell, over the last.
-#[inline]
+#[inline(always)]
 pub(crate) fn insert_high(cells: &mut [Range], place: usize, range: Range)
     requires { place < length cells.old }
     ensures { cells.new ≡ insert (take (length cells.old - 1) cells.old) place range }
@@ -93,11 +93,22 @@ pub(crate) fn remove_low(cells: &mut [Range], place: usize)
     cells[..place + 1].rotate_right(1);
 }
 
+/// The first range comes last, and the others move down by one cell. Where there is one range nothing is called.
+#[inline(always)]
+fn turn_down(cells: &mut [Range])
+    requires { 1 ≤ length cells.old }
+    ensures { cells.new ≡ drop 1 cells.old ++ take 1 cells.old }
+{
+    if cells.len() > 1 {
+        cells.rotate_left(1);
+    }
+}
+
 /// The range at this place goes. Those after it move down by one cell, and the last cell is left over.
-#[inline]
+#[inline(always)]
 pub(crate) fn remove_high(cells: &mut [Range], place: usize)
     requires { place < length cells.old }
     ensures { take (length cells.old - 1) cells.new ≡ remove cells.old place }
 {
-    cells[place..].rotate_left(1);
+    turn_down(&mut cells[place..]);
 }

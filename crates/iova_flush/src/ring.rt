@@ -62,7 +62,7 @@ impl Ring {
         if self.is_full() {
             return Err(entry);
         }
-        self.entries.push_back(entry);
+        let _ = self.entries.try_push_back(entry);
         self.frames += entry.len;
         Ok(())
     }
