@@ -28,6 +28,7 @@ pub fn empty() -> Slot
 }
 
 /// The slot's domain takes the step. `NoDomain` where it has none.
+#[inline(always)]
 pub fn step(slot: &mut Slot, step: Step) -> Reply
     ensures { HasStepped slot.old.domain step result slot.new.domain }
 {

@@ -8,7 +8,7 @@ use Rattle.std.specs.Cmp.{nat_cmp_is}
 use Rattle.std.specs.declared.cmp.Ordering.TheVariants.{Greater}
 use Rattle.std.proofs.lemmas.Bool.Decides.{nat_tests}
 use Rattle.iova_clients.specs.Registry.{is_serial}
-use Rattle.iova_clients.specs.Accounts.{Account, entry_of, listed_accounts, IsApart, AreKeyed}
+use Rattle.iova_clients.specs.Accounts.{Account, entry_of, listed_accounts, IsApart, AreKeyed, IsRemembered}
 
 -- The map's test of a key is the serial's.
 
@@ -259,3 +259,9 @@ find_passed at p e es a some fails = rw (some, fails) refl
 pub find_here : (at : ℕ → Option Account) (p : ℕ × Account → Bool) (e : ℕ × ℕ) (es : List (ℕ × ℕ)) (a : Account) → at e.1 ≡ Some a → p (e.0, a) ≡ true
     → find p (listed_accounts at (e ∷ es)) ≡ Some (e.0, a)
 find_here at p e es a some holds = rw (some, holds) refl
+
+-- what was looked up last is at its key
+pub remembered_at : (serial key id : ℕ) (es : List (ℕ × ℕ)) (last : Option (ℕ × ℕ)) → IsRemembered last es → last ≡ Some (serial, key) → serial ≡ id → lookup (is_serial id) es ≡ Some key
+remembered_at serial key id es last h is same =
+    let known : IsRemembered (Some (serial, key)) es = rw is at h in
+    rw same at known

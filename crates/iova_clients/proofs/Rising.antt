@@ -107,6 +107,22 @@ reach_is lo n p rs within far le point = record {
         grind (arith, nat_tests)
     near k d ge lt false is = far k d (grind (arith, nat_tests)) lt
 
+-- all begin there or below, where there is none, and where the last does
+pub reach_none : (lo : ℕ) (rs : List Frames) → length rs ≡ 0 → IsReach lo rs (length rs)
+reach_none lo rs none = record {
+  before = λ k d lt. absurd (omega arith);
+  behind = λ k d ge lt. absurd (omega arith);
+}
+
+pub reach_all : (lo last : ℕ) (rs : List Frames) (x : Frames) → Rises 0 rs → length rs ≡ last + 1 → (get_or rs last x).lo ≤ lo → IsReach lo rs (length rs)
+reach_all lo last rs x rises long le = record {
+  before = λ k d lt.
+      let same : get_or rs last x ≡ get_or rs last d = get_or_default rs last x d (omega arith) in
+      let here : (get_or rs last d).lo ≤ lo = rw same at le in
+      let up : (get_or rs k d).lo ≤ (get_or rs last d).lo = Rises-non_decreasing 0 rs rises k last d (omega arith) (omega arith) in omega arith;
+  behind = λ k d ge lt. absurd (omega arith);
+}
+
 pub insert_at_reach : (r : Frames) (rs : List Frames) (i : ℕ) → i ≤ length rs → IsReach r.lo rs i → insert rs i r ≡ insert_rising r rs
 insert_at_reach r rs i le h = insert_at_point r rs i le (
   (λ k d low high. let e : (get_or rs k d).lo ≤ r.lo = h.before k d high in grind (arith, nat_tests)),

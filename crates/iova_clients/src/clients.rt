@@ -112,7 +112,7 @@ impl Clients {
 
     /// The marks of the client, where it is one of this worker. Its ledger is found by what follows with no other
     /// look-up, until another client is looked up or one comes or goes.
-    #[inline]
+    #[inline(always)]
     pub fn look_up(&mut self, worker: u64, id: ClientId) -> Option<Marks>
         ensures is { result ≡ option_map marks_of (client_of worker id self.old.clients) }
         ensures unchanged { self.new ≡ self.old }
@@ -192,6 +192,7 @@ impl Clients {
     ///
     /// Refused by `NoClient` where there is no such client, else by `Closing` where it is closing, else by
     /// `HoldingsFull` where it has 4,096 holdings, else by `NoMemory` where it has no spare and memory is refused.
+    #[inline(always)]
     pub fn room(&mut self, id: ClientId) -> Result<(), Refusal>
         ensures refused { IfSome (room_refusal (client_with id self.old.clients))
             (λ refusal. result ≡ Err refusal) }
@@ -212,6 +213,7 @@ impl Clients {
     }
 
     /// Gives the client a holding, of 1 to 1,048,576 frames below 2^40. It takes no memory: `room` makes the room.
+    #[inline(always)]
     pub fn add(&mut self, id: ClientId, range: Range)
         requires client { IsSomeAnd (client_with id self.old.clients) (CanBeGiven range) }
         requires spare { 1 ≤ spare_of id self.old }
@@ -231,6 +233,7 @@ impl Clients {
     /// The client gives up its holding that begins at `lo`.
     ///
     /// Refused by `NoClient` where there is no such client, else by `NotHeld` where it has no such holding.
+    #[inline(always)]
     pub fn take(&mut self, id: ClientId, lo: u64) -> Result<Range, Refusal>
         ensures value { result ≡ held_at lo (client_with id self.old.clients) }
         ensures clients { OnOk result (self.new.clients ≡ changed id (without_holding lo) self.old.clients) }

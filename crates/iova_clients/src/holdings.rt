@@ -62,6 +62,7 @@ impl Holdings {
 
     /// Makes room for one range more. Where at most a quarter as many cells as ranges are spare the block grows; where memory
     /// is refused, the spare cells that there are do.
+    #[inline(always)]
     pub(crate) fn reserve(&mut self) -> Result<(), AllocError>
         requires { length self.old.ranges < MAX_HOLDINGS }
         ensures spare { OnOk result (1 ≤ self.new.spare) }
@@ -83,6 +84,7 @@ impl Holdings {
     }
 
     /// The range comes in at this place, for which there is room.
+    #[inline(always)]
     pub(crate) fn insert(&mut self, place: usize, range: Range)
         requires place { place ≤ length self.old.ranges }
         requires spare { 1 ≤ self.old.spare }
@@ -103,6 +105,7 @@ impl Holdings {
     }
 
     /// The range at this place goes.
+    #[inline(always)]
     pub(crate) fn remove(&mut self, place: usize) -> Range
         requires { place < length self.old.ranges }
         ensures value { result ≡ slice_index_or self.old.ranges place result }

@@ -101,6 +101,7 @@ impl Ledger {
     }
 
     /// Makes room for one holding more.
+    #[inline(always)]
     pub(crate) fn room(&mut self) -> Result<(), Refusal>
         ensures refused { IfSome (room_refusal (Some (client_at (0, self.old)))) (λ refusal. result ≡ Err refusal) }
         ensures accepted { IfNone (room_refusal (Some (client_at (0, self.old)))) (IsOkUnless result Refusal.NoMemory) }
@@ -122,8 +123,9 @@ impl Ledger {
         }
     }
 
-    /// How many holdings begin there or below.
-    fn reach(&self, lo: u64) -> usize
+    /// How many holdings begin there or below, by a search.
+    #[inline(never)]
+    fn search(&self, lo: u64) -> usize
         requires { Rises 0 self.now.holdings }
         ensures within { result ≤ length self.now.holdings }
         ensures reached { IsReach lo self.now.holdings result }
@@ -132,7 +134,23 @@ impl Ledger {
         holdings[..reach_at_most(holdings, lo)].partition_point(|held| held.lo() <= lo)
     }
 
+    /// How many holdings begin there or below. The last is looked at before they are searched.
+    #[inline(always)]
+    fn reach(&self, lo: u64) -> usize
+        requires { Rises 0 self.now.holdings }
+        ensures within { result ≤ length self.now.holdings }
+        ensures reached { IsReach lo self.now.holdings result }
+    {
+        let holdings = self.holdings();
+        let count = holdings.len();
+        if count == 0 || holdings[count - 1].lo() <= lo {
+            return count;
+        }
+        self.search(lo)
+    }
+
     /// Takes the range in at its place.
+    #[inline(always)]
     pub(crate) fn add(&mut self, range: Range)
         requires spare { 1 ≤ self.old.spare }
         requires rises { Rises 0 self.old.holdings }
@@ -144,6 +162,7 @@ impl Ledger {
 
     /// Where the holding stands that begins there. The first is looked at before they are searched: a client that closes
     /// gives up its first holding each time.
+    #[inline(always)]
     fn position_of(&self, lo: u64) -> Option<usize>
         requires { Rises 0 self.now.holdings }
         ensures held { IfSome result (IsPlaceOf lo self.now.holdings) }
@@ -173,6 +192,7 @@ impl Ledger {
     }
 
     /// Gives up the holding that begins there.
+    #[inline(always)]
     pub(crate) fn take(&mut self, lo: u64) -> Option<Range>
         requires { Rises 0 self.old.holdings }
         ensures value { result ≡ find (begins_at lo) self.old.holdings }

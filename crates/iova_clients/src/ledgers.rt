@@ -49,6 +49,18 @@ fn key_of(keys: &BTreeMap<u64, usize>, last: Option<(u64, usize)>, id: u64) -> O
     }
 }
 
+/// The key of this serial, whichever was looked up last. It is remembered.
+#[inline(never)]
+fn look_up(keys: &BTreeMap<u64, usize>, last: &mut Option<(u64, usize)>, id: u64) -> Option<usize>
+    requires { IsRemembered last.old keys.now.entries }
+    ensures value { result ≡ lookup (is_serial id) keys.now.entries }
+    ensures remembered { IsRemembered last.new keys.now.entries }
+{
+    let key = keys.get(&id).copied()?;
+    *last = Some((id, key));
+    Some(key)
+}
+
 impl Ledgers {
     ghost use Rattle.iova_clients.specs.AccountsLends.{LendsLedger};
 
@@ -77,13 +89,18 @@ impl Ledgers {
         self.slab.get(key)
     }
 
-    /// The same, to change it.
+    /// The same, to change it. Nothing is written where it was looked up last.
+    #[inline(always)]
     pub(crate) fn get_mut(&mut self, id: u64) -> Option<&mut Ledger>
         ensures* writes_back { sem 𝓛 (LendsLedger self.entry id result) }
         ensures value { option_copied_mut result ≡ lookup (is_serial id) self.old }
     {
-        let key = key_of(&self.keys, self.last, id)?;
-        self.last = Some((id, key));
+        if let Some((serial, key)) = self.last
+            && serial == id
+        {
+            return Some(&mut self.slab[key]);
+        }
+        let key = look_up(&self.keys, &mut self.last, id)?;
         Some(&mut self.slab[key])
     }
 

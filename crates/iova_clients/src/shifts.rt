@@ -1,6 +1,6 @@
 //! Ranges in a block of cells, and how they move there, each time in one block: by one cell, to let a range in or to close
 //! the gap that one leaves, or to the middle of the cells, to have room at an end.
-ghost use Rattle.std.specs.Prelude.{◌≡◌, ◌<◌, ◌≤◌, ◌+◌, ◌-◌, length, take, drop, vec_len, OnOk, OnErr};
+ghost use Rattle.std.specs.Prelude.{◌≡◌, ◌<◌, ◌≤◌, ◌+◌, ◌-◌, ◌++◌, length, take, drop, vec_len, OnOk, OnErr};
 ghost use Rattle.std.specs.List.{insert, remove};
 
 use iova_range::range::Range;
@@ -62,14 +62,25 @@ pub(crate) fn insert_low(cells: &mut [Range], place: usize, range: Range)
     moved[place] = range;
 }
 
+/// The last range comes first, and the others move up by one cell. Where there is one range nothing is called.
+#[inline(always)]
+fn turn_up(cells: &mut [Range])
+    requires { 1 ≤ length cells.old }
+    ensures { cells.new ≡ drop (length cells.old - 1) cells.old ++ take (length cells.old - 1) cells.old }
+{
+    if cells.len() > 1 {
+        cells.rotate_right(1);
+    }
+}
+
 /// The range comes in at this place. Those from there on move up by one cell, over the last.
-#[inline]
+#[inline(always)]
 pub(crate) fn insert_high(cells: &mut [Range], place: usize, range: Range)
     requires { place < length cells.old }
     ensures { cells.new ≡ insert (take (length cells.old - 1) cells.old) place range }
 {
     let moved = &mut cells[place..];
-    moved.rotate_right(1);
+    turn_up(moved);
     moved[0] = range;
 }
 
@@ -82,11 +93,22 @@ pub(crate) fn remove_low(cells: &mut [Range], place: usize)
     cells[..place + 1].rotate_right(1);
 }
 
+/// The first range comes last, and the others move down by one cell. Where there is one range nothing is called.
+#[inline(always)]
+fn turn_down(cells: &mut [Range])
+    requires { 1 ≤ length cells.old }
+    ensures { cells.new ≡ drop 1 cells.old ++ take 1 cells.old }
+{
+    if cells.len() > 1 {
+        cells.rotate_left(1);
+    }
+}
+
 /// The range at this place goes. Those after it move down by one cell, and the last cell is left over.
-#[inline]
+#[inline(always)]
 pub(crate) fn remove_high(cells: &mut [Range], place: usize)
     requires { place < length cells.old }
     ensures { take (length cells.old - 1) cells.new ≡ remove cells.old place }
 {
-    cells[place..].rotate_left(1);
+    turn_down(&mut cells[place..]);
 }

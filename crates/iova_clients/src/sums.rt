@@ -19,6 +19,7 @@ pub(crate) struct Sums {
     pub(crate) shares: [Totals; MAX_WORKERS as usize],
 }
 
+#[inline]
 fn with_one(range: Range, totals: Totals) -> Totals
     requires room { HaveRoom totals }
     requires low { range.lo + range.len ≤ 2 ^ 40 }
@@ -31,6 +32,7 @@ fn with_one(range: Range, totals: Totals) -> Totals
     }
 }
 
+#[inline]
 fn without_one(range: Range, totals: Totals) -> Totals
     requires { Include range totals }
     ensures { result ≡ without_one range totals }
@@ -64,6 +66,7 @@ impl Sums {
     }
 
     /// A client of this worker is given a holding.
+    #[inline(always)]
     pub(crate) fn add(&mut self, worker: u64, range: Range)
         requires worker { worker < MAX_WORKERS }
         requires low { range.lo + range.len ≤ 2 ^ 40 }
@@ -78,6 +81,7 @@ impl Sums {
     }
 
     /// A client of this worker gives a holding up.
+    #[inline(always)]
     pub(crate) fn remove(&mut self, worker: u64, range: Range)
         requires worker { worker < MAX_WORKERS }
         requires in_all { Include range self.old.all }

@@ -119,6 +119,7 @@ impl Domain {
     }
 
     /// Runs one step, and answers its reply and the growth in it that was refused memory, or `Never`.
+    #[inline(always)]
     pub fn step_at(&mut self, step: Step) -> (Reply, Point)
         ensures reply { result.0 ≡ (next self.old step result.1).reply }
         ensures state { self.new ≡ (next self.old step result.1).state }
@@ -146,6 +147,7 @@ impl Domain {
     }
 
     /// Runs one step, and answers its reply.
+    #[inline(always)]
     pub fn step(&mut self, step: Step) -> Reply
         ensures { IsStepOf self.old step result self.new }
     {
@@ -189,6 +191,7 @@ impl Domain {
 
     /// A new holding of the client, of `need(frames)` frames, none above `limit`. `NoWorker`, `Zero`, `TooBig`,
     /// `NoClient`, `Closing`, `HoldingsFull`, `NoMemory` in the ledger; then `NoMemory` in the tree, or `NoSpace`.
+    #[inline(always)]
     fn alloc(&mut self, worker: u64, client: ClientId, frames: u64, limit: u64) -> (Reply, Point)
         ensures reply { result.0 ≡ (alloc self.old worker client frames limit result.1).reply }
         ensures state { self.new ≡ (alloc self.old worker client frames limit result.1).state }
@@ -231,6 +234,7 @@ impl Domain {
 
     /// The client's holding that begins at `lo` goes into the worker's ring. `NoWorker`, `NoClient`, `Closing`,
     /// `NotHeld`, `RingFull`.
+    #[inline(always)]
     fn unmap(&mut self, worker: u64, client: ClientId, lo: u64) -> (Reply, Point)
         ensures reply { result.0 ≡ (unmap self.old worker client lo).reply }
         ensures state { self.new ≡ (unmap self.old worker client lo).state }

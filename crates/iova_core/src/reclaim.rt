@@ -82,8 +82,26 @@ fn put_full(tree: &mut Tree, caches: &mut Caches, w: usize, order: u8, range: Ra
 
 /// Takes the entries out of a ring whose counts are below `finish`, oldest first and up to the first that is not, and puts
 /// them into the magazines of worker `w`. It answers how many there were
-/// (Linux 5.15 `drivers/iommu/iova.c`: `fq_ring_free`).
+/// (Linux 5.15 `drivers/iommu/iova.c`: `fq_ring_free`). Mostly there is none, and nothing is called.
+#[inline(always)]
 pub fn drain(tree: &mut Tree, caches: &mut Caches, ring: &mut Ring, w: usize, finish: u64) -> u64
+    requires worker { w < caches.old.workers }
+    requires room { length ring.old ≤ MAX_ENTRIES }
+    requires backed { IsBacked tree.old caches.old (map entry_range ring.old) }
+    ensures count { result ≡ length (flushed finish ring.old) }
+    ensures ring { ring.new ≡ unflushed finish ring.old }
+    ensures caches { caches.new ≡ with_ranges caches.old w (map entry_range (flushed finish ring.old)) }
+    ensures backed { Exchanges tree.old tree.new caches.old caches.new [] (map entry_range (flushed finish ring.old)) }
+{
+    if ring.waits(finish) {
+        return 0;
+    }
+    drain_flushed(tree, caches, ring, w, finish)
+}
+
+/// The same, where there is such an entry.
+#[inline(never)]
+fn drain_flushed(tree: &mut Tree, caches: &mut Caches, ring: &mut Ring, w: usize, finish: u64) -> u64
     requires worker { w < caches.old.workers }
     requires room { length ring.old ≤ MAX_ENTRIES }
     requires backed { IsBacked tree.old caches.old (map entry_range ring.old) }

@@ -31,7 +31,7 @@ pub enum Walked {
 }
 
 /// Asks the caches of worker `w`.
-#[inline]
+#[inline(always)]
 fn from_caches(caches: &mut Caches, w: usize, size: u64, limit: u64) -> Option<u64>
     requires worker { w < caches.old.workers }
     requires some { 1 ≤ size }
@@ -45,6 +45,7 @@ fn from_caches(caches: &mut Caches, w: usize, size: u64, limit: u64) -> Option<u
 }
 
 /// Takes the highest place for `size` frames in the tree, none above `limit`, by a growth that is the point `here`.
+#[inline(never)]
 fn from_tree(tree: &mut Tree, size: u64, limit: u64, here: Point) -> Walked
     requires some { 1 ≤ size }
     requires bounded { size ≤ MAX_FRAMES }
@@ -100,6 +101,7 @@ fn try_once(
 
 /// The walk of a request: for a client that is `sac`, one try below 4 GiB that empties nothing, where the limit is above
 /// that; then one with the limit that was asked for.
+#[inline(always)]
 pub fn walk(
     tree: &mut Tree,
     caches: &mut Caches,

@@ -106,7 +106,7 @@ impl Caches {
     /// Where the worker's loaded magazine is empty and previous isn't, they change places; where both are empty, the
     /// depot's last magazine becomes loaded. None where no entry of loaded fits then; the moves stand
     /// (Linux 5.15 `drivers/iommu/iova.c`: `__iova_rcache_get`).
-    #[inline]
+    #[inline(always)]
     pub fn get(&mut self, w: usize, order: u8, limit: u64) -> Option<u64>
         requires worker { w < self.old.workers }
         requires order { order < ORDERS }
@@ -214,7 +214,7 @@ impl Caches {
     }
 
     /// What worker `w`'s own magazines give.
-    #[inline]
+    #[inline(always)]
     fn try_get(&mut self, w: usize, order: u8, limit: u64) -> Got
         requires worker { w < self.old.workers }
         requires order { order < ORDERS }

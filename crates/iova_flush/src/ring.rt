@@ -49,6 +49,7 @@ impl Ring {
     /// Puts the entry last; its length is 1 to 1,048,576 frames. Exactly where there are 255 entries, the ring stays as
     /// it is and the entry comes back (Linux 5.15 `drivers/iommu/iova.c`: `queue_iova`, which flushes and drains a full
     /// ring itself; that the entry comes back is our own).
+    #[inline(always)]
     pub fn add(&mut self, entry: Entry) -> Result<(), Entry>
         requires some { 1 ≤ entry.len }
         requires bounded { entry.len ≤ MAX_FRAMES }
@@ -61,7 +62,7 @@ impl Ring {
         if self.is_full() {
             return Err(entry);
         }
-        self.entries.push_back(entry);
+        let _ = self.entries.try_push_back(entry);
         self.frames += entry.len;
         Ok(())
     }
@@ -69,6 +70,7 @@ impl Ring {
     /// Takes the oldest entry, exactly where its count is below `finish`, the finish count of the flushes; else the ring
     /// stays as it is. A caller drains a ring by calling this until it answers `None`
     /// (Linux 5.15 `drivers/iommu/iova.c`: `fq_ring_free`).
+    #[inline]
     pub fn take_flushed(&mut self, finish: u64) -> Option<Entry>
         ensures oldest { IfSome result (λ entry. self.old ≡ entry ∷ self.new) }
         ensures below { IfSome result (λ entry. entry.count < finish) }
@@ -88,6 +90,20 @@ impl Ring {
                 self.entries.pop_front()
             }
             _ => None,
+        }
+    }
+
+    /// Whether the oldest entry waits, or there is none: then `take_flushed` takes nothing.
+    #[inline]
+    pub fn waits(&self, finish: u64) -> bool
+        ensures is { IsTrue result ↔ OldestWaits finish self.now }
+        ensures none { IsTrue result → flushed finish self.now ≡ [] }
+        ensures all { IsTrue result → unflushed finish self.now ≡ self.now }
+    {
+        let oldest = self.entries.front();
+        match oldest {
+            Some(entry) => entry.count >= finish,
+            None => true,
         }
     }
 

@@ -107,7 +107,7 @@ impl Magazine {
     /// Gives the newest entry whose range of `size` frames, 1 to 1,048,576, has no frame above `limit`. The newest
     /// entry of all is put in its place. None where no entry fits, and nothing changes
     /// (Linux 5.15 `drivers/iommu/iova.c`: `iova_magazine_pop`).
-    #[inline]
+    #[inline(always)]
     pub fn pop(&mut self, limit: u64, size: u64) -> Option<u64>
         requires some { 1 ≤ size }
         requires bounded { size ≤ MAX_FRAMES }
@@ -139,7 +139,7 @@ impl Magazine {
 }
 
 /// The place of the last entry whose range of `size` frames has none above the limit.
-#[inline]
+#[inline(always)]
 fn fitting_place(entries: &[u64], limit: u64, size: u64) -> Option<usize>
     requires small { All (λ lo. lo < 2 ^ 40) entries.now }
     requires some { 1 ≤ size }

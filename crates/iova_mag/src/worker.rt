@@ -63,7 +63,7 @@ impl Pair {
         Ok(Pair { loaded, previous })
     }
 
-    #[inline]
+    #[inline(always)]
     fn try_get(&mut self, order: u8, limit: u64) -> Got
         requires { order < ORDERS }
         ensures value { result ≡ got self.old.cache limit (2 ^ order) }
@@ -200,7 +200,7 @@ impl WorkerCache {
     /// isn't, they change places; then the last entry of loaded that fits is `Hit`. `Miss` where none fits, and a change
     /// of places stands. `Empty` exactly where both are empty
     /// (Linux 5.15 `drivers/iommu/iova.c`: `__iova_rcache_get`).
-    #[inline]
+    #[inline(always)]
     pub fn try_get(&mut self, order: u8, limit: u64) -> Got
         requires { order < ORDERS }
         ensures value { result ≡ got (cache_of self.old order) limit (2 ^ order) }

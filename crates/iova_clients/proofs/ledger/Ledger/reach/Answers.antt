@@ -1,20 +1,16 @@
-use Rattle.std.proofs.Common.{rules, of_calls, ◌≡◌, ◌≤◌, take, arith}
-use Rattle.std.specs.Prelude.{nat_le}
-use Rattle.std.proofs.lemmas.List.Sorted.{IsPartitionPoint-from_clause, IsPartitionedBy-leb}
-use Rattle.std.proofs.lemmas.List.{length-take-le}
-use Rattle.iova_range.specs.Frames.{Frames}
-use Rattle.iova_model.specs.Valid.{Rises}
-use Rattle.iova_clients.proofs.Rising.{Rises-non_decreasing, Rises-take, reach_is}
+use Rattle.std.proofs.Common.{◌≡◌, ◌≤◌, ◌-◌, ◌+◌, length, get_or, arith}
+use Rattle.iova_clients.proofs.Rising.{reach_none, reach_all}
 use Rattle.iova_clients.proofs.ledger.Ledger.reach.Goals as goal
+use Rattle.iova_clients.proofs.ledger.Ledger.reach.Goals.{then-count-eq0-via-then-count-eq0, then-count-eq0-via-else-count-eq0+then-lo}
 
-pub returns-clause-reached : goal.returns-clause-reached
-returns-clause-reached c =
-    let rs = c.as_slice-holdings.result.now in
-    let n = c.reach_at_most.result in
-    let same : rs ≡ c.self.inside.holdings.ranges = c.as_slice-holdings.ensures in
-    let started : Rises 0 c.self.inside.holdings.ranges = rw (← c.self.view_is) at c.requires in
-    let rises : Rises 0 (take n rs) = Rises-take 0 n rs (rw same started) in
-    let parted = IsPartitionedBy-leb (λ (x : Frames). x.lo) (take n rs) c.args.lo (Rises-non_decreasing 0 (take n rs) rises) in
-    let point = IsPartitionPoint-from_clause (λ (x : Frames). nat_le x.lo c.args.lo) _ _ c.partition_point.ensures.partitioned parted (λ a r q k. search (rules, of_calls)) in
-    let few : c.partition_point.result ≤ n = omega (arith, c.partition_point.ensures.bound, length-take-le n rs c.reach_at_most.ensures.within) in
-    rw (← c.self.view_is, ← same) (reach_is c.args.lo n c.partition_point.result rs c.reach_at_most.ensures.within c.reach_at_most.ensures.behind few point)
+pub returns-then-count-eq0-clause-reached : goal.returns-then-count-eq0-clause-reached
+returns-then-count-eq0-clause-reached c =
+    let rs = c.holdings-holdings.result.now in
+    rw (← c.holdings-holdings.ensures)
+    (elim c.then-count-eq0.branch [
+      | then-count-eq0-via-then-count-eq0 w ↦ reach_none c.args.lo rs w.if-count-eq0.true
+      | then-count-eq0-via-else-count-eq0+then-lo w ↦
+          (let x = w.index-holdings-count.result in
+          let last : (get_or rs (length rs - 1) x).lo ≤ c.args.lo = (let e = w.index-holdings-count.is in let f = w.if-lo.true in rw (← e) (omega (arith, w.lo.ensures, f))) in
+          reach_all c.args.lo (length rs - 1) rs x (rw c.holdings-holdings.ensures c.requires) (omega (arith, w.if-count-eq0.false)) last)
+    ])

@@ -1,6 +1,6 @@
 use Rattle.std.proofs.Common.{length}
 use Rattle.iova_core.proofs.Drains.{IsDrained}
-use Rattle.iova_core.proofs.reclaim.drain.Given as goal
+use Rattle.iova_core.proofs.reclaim.drain_flushed.Given as goal
 
 -- so many entries have left the ring
 abbrev pub invariant-loop-entry : goal.invariant-loop-entry
