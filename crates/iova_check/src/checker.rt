@@ -10,7 +10,6 @@ use iova_range::refusal::Refusal;
 use std::alloc::Global;
 
 /// What is known of a log after its lines so far, and the frames that may be mapped.
-#[derive(Drop)]
 pub struct Checker {
     /// The frames that may be mapped.
     pub allowed: Allowed,
@@ -18,6 +17,17 @@ pub struct Checker {
     pub tracker: Tracker,
     /// What was counted.
     pub counts: Counts,
+}
+
+/// What it has is let go, which is proved here once for every crate above.
+impl Drop for Checker {
+    fn drop(self) {
+        let Checker {
+            allowed: _,
+            tracker: _,
+            counts: _,
+        } = self;
+    }
 }
 
 impl Checker {

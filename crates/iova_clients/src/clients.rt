@@ -20,12 +20,23 @@ use std::marker::Model;
 ///
 /// Contracts see a `Registry`: the clients by rising serial, the last serial given, and how many more holdings each
 /// client can be given without memory (its spare). Holdings are ranges of page frames.
-#[derive(Drop)]
 pub struct Clients {
     ledgers: Ledgers,
     serial: u64,
     sums: Sums,
     alloc: Global,
+}
+
+/// What it has is let go, which is proved here once for every crate above.
+impl Drop for Clients {
+    fn drop(self) {
+        let Clients {
+            ledgers: _,
+            serial: _,
+            sums: _,
+            alloc: _,
+        } = self;
+    }
 }
 
 impl Model for Clients {

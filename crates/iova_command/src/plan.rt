@@ -19,7 +19,6 @@ use iova_regions::windows::Windows;
 use log::LevelFilter;
 
 /// The options of `serve`, each in its range. Own.
-#[derive(Drop)]
 pub struct Plan<'a> {
     /// The path of the socket.
     pub socket: &'a str,
@@ -67,6 +66,32 @@ pub struct Plan<'a> {
     pub ghost depot_in_range: { ForSome depot (λ n. n ≤ MAX_DEPOT) },
     pub ghost steps_in_range: { ForSome record_steps (λ n. (1 ≤ n) × (n ≤ MAX_RECORDED_STEPS)) },
     pub ghost timeout_in_range: { ForSome sink_timeout (λ n. n ≤ MAX_SINK_TIMEOUT) },
+}
+
+/// What it has is let go, which is proved here once for every crate above.
+impl<'a> Drop for Plan<'a> {
+    fn drop(self) {
+        let Plan {
+            socket: _,
+            workers: _,
+            domain: _,
+            start: _,
+            last: _,
+            sink: _,
+            sessions: _,
+            session_requests: _,
+            idle: _,
+            depot: _,
+            strict: _,
+            record: _,
+            record_steps: _,
+            windows: _,
+            regions: _,
+            sink_timeout: _,
+            log_level: _,
+            control: _,
+        } = self;
+    }
 }
 
 impl<'a> Plan<'a> {

@@ -38,7 +38,6 @@ use std::marker::Model;
 ///
 /// Contracts see it as a `State`, which is always valid: each frame of the bounds is in exactly one place, and no list is
 /// longer than its limit.
-#[derive(Drop)]
 pub struct Domain {
     tree: Tree,
     clients: Clients,
@@ -47,6 +46,20 @@ pub struct Domain {
     flights: Flights,
     /// The frames of all windows.
     reserved: u64,
+}
+
+/// What it has is let go, which is proved here once for every crate above.
+impl Drop for Domain {
+    fn drop(self) {
+        let Domain {
+            tree: _,
+            clients: _,
+            caches: _,
+            rings: _,
+            flights: _,
+            reserved: _,
+        } = self;
+    }
 }
 
 impl Model for Domain {

@@ -26,7 +26,6 @@ pub struct Patience {
 /// turn after turn, until there were as many as its patience has. One that is interrupted is made again too, and takes no
 /// turn: an interruption is no failure of this link. A read of a daemon that stops finds the end. Contracts see the
 /// numbers of its reads, its failures and the reads that found the end; what bytes come and go, no contract can say. Own.
-#[derive(Drop)]
 pub struct ServedLink<'a, R> {
     rt: &'a R,
     signals: &'a Signals,
@@ -35,6 +34,21 @@ pub struct ServedLink<'a, R> {
     reads: Count,
     failed: Count,
     ended: Count,
+}
+
+/// What it has is let go, which is proved here once for every crate above.
+impl<'a, R> Drop for ServedLink<'a, R> {
+    fn drop(self) {
+        let ServedLink {
+            rt: _,
+            signals: _,
+            patience: _,
+            stream: _,
+            reads: _,
+            failed: _,
+            ended: _,
+        } = self;
+    }
 }
 
 impl<'a, R> Model for ServedLink<'a, R> {

@@ -3,11 +3,21 @@ use iova_sink::hurry::Hurry;
 use std::sync::atomic::{AtomicU64, Ordering};
 
 /// Whether the daemon is asked to stop, and what was counted so far. Threads share it. A count begins anew behind 2^64 - 1. Own.
-#[derive(Drop)]
 pub struct Signals {
     hurry: Hurry,
     requests: AtomicU64,
     notices: AtomicU64,
+}
+
+/// What it has is let go, which is proved here once for every crate above.
+impl Drop for Signals {
+    fn drop(self) {
+        let Signals {
+            hurry: _,
+            requests: _,
+            notices: _,
+        } = self;
+    }
 }
 
 impl Signals {

@@ -20,7 +20,6 @@ use std::{io, thread};
 /// Accepts the connections of a listener, each one a link, until it is closed or the daemon is asked to stop. An accept that fails is a
 /// notice, and a pause follows, which doubles with each failure after another; none was had then, and the next call tries again. While
 /// it waits it has one descriptor of its own. Own.
-#[derive(Drop)]
 pub struct SocketAccept<'a, R, N> {
     rt: &'a R,
     notices: &'a N,
@@ -29,6 +28,21 @@ pub struct SocketAccept<'a, R, N> {
     signals: &'a Signals,
     patience: Patience,
     pause: AtomicU64,
+}
+
+/// What it has is let go, which is proved here once for every crate above.
+impl<'a, R, N> Drop for SocketAccept<'a, R, N> {
+    fn drop(self) {
+        let SocketAccept {
+            rt: _,
+            notices: _,
+            path: _,
+            listener: _,
+            signals: _,
+            patience: _,
+            pause: _,
+        } = self;
+    }
 }
 
 impl<'a, R: AllocGlobal + Dial + Wait, N: Log> SocketAccept<'a, R, N> {

@@ -22,7 +22,6 @@ use std::marker::Model;
 /// The cached ranges of a domain, by their first frames: each worker's two magazines of each of the six orders, and for
 /// each order a depot of full magazines that all workers share. All memory is taken by `new`
 /// (Linux 5.15 `drivers/iommu/iova.c`: `init_iova_rcaches`).
-#[derive(Drop)]
 pub struct Caches {
     profile: Profile,
     workers: Vec<WorkerCache>,
@@ -30,6 +29,20 @@ pub struct Caches {
     in_magazines: u64,
     in_depot: u64,
     first_filled: usize,
+}
+
+/// What it has is let go, which is proved here once for every crate above.
+impl Drop for Caches {
+    fn drop(self) {
+        let Caches {
+            profile: _,
+            workers: _,
+            depots: _,
+            in_magazines: _,
+            in_depot: _,
+            first_filled: _,
+        } = self;
+    }
 }
 
 impl Model for Caches {

@@ -19,7 +19,6 @@ use std::marker::Model;
 ///
 /// Contracts see it as `Flushes`, for which `AreSound` always holds: the start count is the sum of the finish count, the
 /// credits in flight and what is owed.
-#[derive(Drop)]
 pub struct Flights {
     start: u64,
     finish: u64,
@@ -27,6 +26,20 @@ pub struct Flights {
     newest: u64,
     good: u64,
     in_flight: ArrayVec<Flight, MAX_FLIGHTS>,
+}
+
+/// What it has is let go, which is proved here once for every crate above.
+impl Drop for Flights {
+    fn drop(self) {
+        let Flights {
+            start: _,
+            finish: _,
+            owed: _,
+            newest: _,
+            good: _,
+            in_flight: _,
+        } = self;
+    }
 }
 
 impl Model for Flights {

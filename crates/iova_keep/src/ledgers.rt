@@ -17,12 +17,23 @@ use std::sync::ledger::{Blank, Ledger, Share};
 
 /// The totals over all holdings of a domain, and how many of its flushes ended well. It takes no memory: only proofs see it.
 /// Whoever keeps a domain has its ledgers beside it, and moves a seat's shares with them. Own.
-#[derive(Drop)]
 pub struct Ledgers<C: Ledger, F: Ledger, S: Ledger, G: Ledger> {
     count: ledger::Book<C>,
     frames: ledger::Book<F>,
     sum_lo: ledger::Book<S>,
     good: ledger::Book<G>,
+}
+
+/// What it has is let go, which is proved here once for every crate above.
+impl<C: Ledger, F: Ledger, S: Ledger, G: Ledger> Drop for Ledgers<C, F, S, G> {
+    fn drop(self) {
+        let Ledgers {
+            count: _,
+            frames: _,
+            sum_lo: _,
+            good: _,
+        } = self;
+    }
 }
 
 impl<C: Ledger, F: Ledger, S: Ledger, G: Ledger> Model for Ledgers<C, F, S, G> {

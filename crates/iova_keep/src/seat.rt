@@ -9,11 +9,21 @@ use std::sync::ledger::{Ledger, Share};
 
 /// How many flushes its holder ended well, a share of all that ended well in the domain. Its parts can be split off, so that
 /// several threads of one worker end flushes. Own.
-#[derive(Drop)]
 pub struct Tally<G: Ledger> {
     pub(crate) good: u64,
     pub(crate) parts: u64,
     pub(crate) share: Share<G>,
+}
+
+/// What it has is let go, which is proved here once for every crate above.
+impl<G: Ledger> Drop for Tally<G> {
+    fn drop(self) {
+        let Tally {
+            good: _,
+            parts: _,
+            share: _,
+        } = self;
+    }
 }
 
 impl<G: Ledger> Model for Tally<G> {
@@ -73,7 +83,6 @@ impl<G: Ledger> Tally<G> {
 /// A worker's place at the domain: its shares of the count, the frames and the sum of first frames of all holdings, which
 /// each call moves by what it answers, and its tally. A seat of another domain has another type, and its worker is one of the
 /// domain's. Own.
-#[derive(Drop)]
 pub struct Seat<C: Ledger, F: Ledger, S: Ledger, G: Ledger> {
     pub(crate) worker: u64,
     pub(crate) held: Totals,
@@ -81,6 +90,20 @@ pub struct Seat<C: Ledger, F: Ledger, S: Ledger, G: Ledger> {
     pub(crate) framed: Share<F>,
     pub(crate) summed: Share<S>,
     pub(crate) tally: Tally<G>,
+}
+
+/// What it has is let go, which is proved here once for every crate above.
+impl<C: Ledger, F: Ledger, S: Ledger, G: Ledger> Drop for Seat<C, F, S, G> {
+    fn drop(self) {
+        let Seat {
+            worker: _,
+            held: _,
+            counted: _,
+            framed: _,
+            summed: _,
+            tally: _,
+        } = self;
+    }
 }
 
 impl<C: Ledger, F: Ledger, S: Ledger, G: Ledger> Model for Seat<C, F, S, G> {

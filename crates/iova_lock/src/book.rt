@@ -31,12 +31,23 @@ use std::marker::Model;
 use std::sync::ledger::{Blank, Ledger, Share};
 
 /// A domain, with the ledgers of its totals and of its flushes that ended well.
-#[derive(Drop)]
 pub struct Book<C: Ledger, F: Ledger, S: Ledger, G: Ledger> {
     number: u64,
     strict: bool,
     machine: Machine,
     ledgers: Ledgers<C, F, S, G>,
+}
+
+/// What it has is let go, which is proved here once for every crate above.
+impl<C: Ledger, F: Ledger, S: Ledger, G: Ledger> Drop for Book<C, F, S, G> {
+    fn drop(self) {
+        let Book {
+            number: _,
+            strict: _,
+            machine: _,
+            ledgers: _,
+        } = self;
+    }
 }
 
 impl<C: Ledger, F: Ledger, S: Ledger, G: Ledger> Model for Book<C, F, S, G> {

@@ -146,10 +146,19 @@ impl Pair {
 
 /// One worker's magazines of the six orders, two of each: gets and puts go to loaded, and previous stands after it.
 /// All memory is taken by `new` (Linux 5.15 `drivers/iommu/iova.c`: `struct iova_cpu_rcache`).
-#[derive(Drop)]
 pub struct WorkerCache {
     profile: Profile,
     pairs: Vec<Pair>,
+}
+
+/// What it has is let go, which is proved here once for every crate above.
+impl Drop for WorkerCache {
+    fn drop(self) {
+        let WorkerCache {
+            profile: _,
+            pairs: _,
+        } = self;
+    }
 }
 
 impl Model for WorkerCache {

@@ -48,10 +48,19 @@ impl Model for Stored {
 }
 
 /// What is recorded. All its room is taken when it is made.
-#[derive(Drop)]
 pub struct Log {
     recording: bool,
     pairs: Vec<Stored>,
+}
+
+/// What it has is let go, which is proved here once for every crate above.
+impl Drop for Log {
+    fn drop(self) {
+        let Log {
+            recording: _,
+            pairs: _,
+        } = self;
+    }
 }
 
 impl Model for Log {
@@ -80,10 +89,19 @@ impl Log {
 }
 
 /// A domain, and where it is recorded the steps that it ran.
-#[derive(Drop)]
 pub struct Machine {
     domain: Domain,
     log: Option<Log>,
+}
+
+/// What it has is let go, which is proved here once for every crate above.
+impl Drop for Machine {
+    fn drop(self) {
+        let Machine {
+            domain: _,
+            log: _,
+        } = self;
+    }
 }
 
 impl Model for Machine {

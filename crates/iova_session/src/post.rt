@@ -10,7 +10,6 @@ use std::alloc::Global;
 use std::sync::ledger::Ledger;
 
 /// Where a worker serves sessions. Own.
-#[derive(Drop)]
 pub struct Post<C: Ledger, F: Ledger, S: Ledger, G: Ledger> {
     /// The worker's seat.
     pub seat: Seat<C, F, S, G>,
@@ -19,6 +18,17 @@ pub struct Post<C: Ledger, F: Ledger, S: Ledger, G: Ledger> {
     /// Room for the ranges of a client that leaves: what is in it is what the sink was told last. The first session at the
     /// post takes it.
     pub ranges: Vec<Range>,
+}
+
+/// What it has is let go, which is proved here once for every crate above.
+impl<C: Ledger, F: Ledger, S: Ledger, G: Ledger> Drop for Post<C, F, S, G> {
+    fn drop(self) {
+        let Post {
+            seat: _,
+            waiting: _,
+            ranges: _,
+        } = self;
+    }
 }
 
 impl<C: Ledger, F: Ledger, S: Ledger, G: Ledger> Post<C, F, S, G> {
@@ -32,6 +42,18 @@ impl<C: Ledger, F: Ledger, S: Ledger, G: Ledger> Post<C, F, S, G> {
             waiting: Vec::new(alloc),
             ranges: Vec::new(alloc),
         }
+    }
+
+    /// Its seat. The list of clients that wait is let go.
+    pub fn into_seat(self) -> Seat<C, F, S, G>
+        ensures { result ≡ self.seat }
+    {
+        let Post {
+            seat,
+            waiting: _,
+            ranges: _,
+        } = self;
+        seat
     }
 }
 

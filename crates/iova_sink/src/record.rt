@@ -18,11 +18,21 @@ pub(crate) const MAX_RECORD: usize = 72;
 
 /// Writes `inval <domain> <number>` and a line feed for each invalidation. The first record after one that failed begins
 /// with a line feed of its own, so that what was written of the failed one stays a line by itself. Own.
-#[derive(Drop)]
 pub struct RecordSink<D: Device> {
     device: D,
     calls: Calls,
     broken: bool,
+}
+
+/// What it has is let go, which is proved here once for every crate above.
+impl<D: Device + Drop> Drop for RecordSink<D> {
+    fn drop(self) {
+        let RecordSink {
+            device: _,
+            calls: _,
+            broken: _,
+        } = self;
+    }
 }
 
 impl<D: Device> Model for RecordSink<D> {

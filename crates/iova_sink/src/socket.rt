@@ -19,7 +19,6 @@ const AHEAD: usize = 64;
 /// A Unix socket at a path, with one time limit for each read and each write. An answer is one read: what comes with it is read too,
 /// and is handed on with the next call that receives. What goes over it no contract can say; contracts
 /// see its failures, how many looks found bytes, and whether there is a connection.
-#[derive(Drop)]
 pub struct SocketChannel<'a, N: Net> {
     net: &'a N,
     path: &'a str,
@@ -29,6 +28,22 @@ pub struct SocketChannel<'a, N: Net> {
     ahead: Ahead,
     failed: Count,
     strays: Count,
+}
+
+/// What it has is let go, which is proved here once for every crate above.
+impl<'a, N: Net> Drop for SocketChannel<'a, N> {
+    fn drop(self) {
+        let SocketChannel {
+            net: _,
+            path: _,
+            limit: _,
+            hurry: _,
+            stream: _,
+            ahead: _,
+            failed: _,
+            strays: _,
+        } = self;
+    }
 }
 
 /// Bytes that were read from the connection and not handed on yet.

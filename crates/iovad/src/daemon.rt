@@ -822,12 +822,7 @@ where
     if !post.waiting.is_empty() || run.signals.is_stopping() {
         end_at(run, &mut keeper, &mut post);
     }
-    let Post {
-        seat,
-        waiting: _,
-        ranges: _,
-    } = post;
-    seat
+    post.into_seat()
 }
 
 /// Tries the clients that wait at this post again, and at a stop flushes what is in a ring, where a sink can be opened.
