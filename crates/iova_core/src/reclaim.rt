@@ -101,7 +101,13 @@ pub fn drain(tree: &mut Tree, caches: &mut Caches, ring: &mut Ring, w: usize, fi
 
 /// The same, where there is such an entry.
 #[inline(never)]
-fn drain_flushed(tree: &mut Tree, caches: &mut Caches, ring: &mut Ring, w: usize, finish: u64) -> u64
+fn drain_flushed(
+    tree: &mut Tree,
+    caches: &mut Caches,
+    ring: &mut Ring,
+    w: usize,
+    finish: u64,
+) -> u64
     requires worker { w < caches.old.workers }
     requires room { length ring.old ≤ MAX_ENTRIES }
     requires backed { IsBacked tree.old caches.old (map entry_range ring.old) }

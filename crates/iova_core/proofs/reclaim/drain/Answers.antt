@@ -1,5 +1,5 @@
-use Rattle.std.proofs.Common.{◌≡◌, [], map, length, ap, sym}
-use Rattle.iova_model.specs.Flushes.{entry_range, flushed}
+use Rattle.std.proofs.Common.{◌≡◌, [], sym}
+use Rattle.iova_model.specs.Flushes.{flushed}
 use Rattle.iova_core.proofs.Drains.{exchanges_none}
 use Rattle.iova_core.proofs.reclaim.drain.Goals as goal
 

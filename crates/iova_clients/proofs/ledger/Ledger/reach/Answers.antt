@@ -1,4 +1,4 @@
-use Rattle.std.proofs.Common.{◌≡◌, ◌≤◌, ◌-◌, ◌+◌, length, get_or, arith}
+use Rattle.std.proofs.Common.{◌≤◌, ◌-◌, length, get_or, arith}
 use Rattle.iova_clients.proofs.Rising.{reach_none, reach_all}
 use Rattle.iova_clients.proofs.ledger.Ledger.reach.Goals as goal
 use Rattle.iova_clients.proofs.ledger.Ledger.reach.Goals.{then-count-eq0-via-then-count-eq0, then-count-eq0-via-else-count-eq0+then-lo}

@@ -1,5 +1,4 @@
 use Rattle.std.proofs.Common.{rules}
-use Rattle.iova_flush.specs.Rings.{OldestWaits}
 use Rattle.iova_flush.proofs.RingSteps.{flushed-waits, unflushed-waits}
 use Rattle.iova_flush.proofs.ring.Ring.waits.Goals as goal
 
