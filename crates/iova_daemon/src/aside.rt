@@ -33,7 +33,12 @@ pub trait Look {
 
     /// The first client that the worker opened behind this serial, with its ranges appended, in one hold of the lock. Refused by
     /// `NoMemory`.
-    fn client(&self, worker: u64, behind: ClientId, ranges: &mut Vec<Range>) -> Result<Option<ClientId>, Refusal>;
+    fn client(
+        &self,
+        worker: u64,
+        behind: ClientId,
+        ranges: &mut Vec<Range>,
+    ) -> Result<Option<ClientId>, Refusal>;
 
     /// Whether steps are still recorded.
     fn is_recording(&self) -> bool;
@@ -47,7 +52,12 @@ impl<Q: Wait, C: Ledger, F: Ledger, S: Ledger, G: Ledger> Look for &Shared<Q, C,
         self.report(out)
     }
 
-    fn client(&self, worker: u64, behind: ClientId, ranges: &mut Vec<Range>) -> Result<Option<ClientId>, Refusal> {
+    fn client(
+        &self,
+        worker: u64,
+        behind: ClientId,
+        ranges: &mut Vec<Range>,
+    ) -> Result<Option<ClientId>, Refusal> {
         self.newer(worker, behind, ranges)
     }
 

@@ -97,10 +97,7 @@ pub struct Machine {
 /// What it has is let go, which is proved here once for every crate above.
 impl Drop for Machine {
     fn drop(self) {
-        let Machine {
-            domain: _,
-            log: _,
-        } = self;
+        let Machine { domain: _, log: _ } = self;
     }
 }
 

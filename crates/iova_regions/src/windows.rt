@@ -17,9 +17,7 @@ pub struct Windows {
 /// What it has is let go, which is proved here once for every crate above.
 impl Drop for Windows {
     fn drop(self) {
-        let Windows {
-            ranges: _,
-        } = self;
+        let Windows { ranges: _ } = self;
     }
 }
 

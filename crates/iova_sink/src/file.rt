@@ -19,10 +19,7 @@ pub struct FileDevice {
 /// What it has is let go, which is proved here once for every crate above.
 impl Drop for FileDevice {
     fn drop(self) {
-        let FileDevice {
-            file: _,
-            failed: _,
-        } = self;
+        let FileDevice { file: _, failed: _ } = self;
     }
 }
 

@@ -64,9 +64,7 @@ pub struct LogWriter<W: Write> {
 /// What it has is let go, which is proved here once for every crate above.
 impl<W: Write + Drop> Drop for LogWriter<W> {
     fn drop(self) {
-        let LogWriter {
-            writer: _,
-        } = self;
+        let LogWriter { writer: _ } = self;
     }
 }
 

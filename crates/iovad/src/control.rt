@@ -6,7 +6,9 @@ use crate::sessions::put_sessions;
 use arrayvec::ArrayVec;
 use iova_daemon::aside::{Aside, Look, Standing};
 use iova_daemon::signals::Signals;
-use iova_range::limits::{CONTROL_PAUSE, CONTROL_READS, MAX_CONTROLS, MAX_CONTROL_SILENCE, MAX_LINE};
+use iova_range::limits::{
+    CONTROL_PAUSE, CONTROL_READS, MAX_CONTROL_SILENCE, MAX_CONTROLS, MAX_LINE,
+};
 use iova_text::buffer::{LineBuffer, put, put_number};
 use log::{Log, warn};
 use memchr::memchr_iter;
@@ -211,7 +213,14 @@ impl<'a, R: AllocGlobal, N> Control<'a, R, N> {
                     && is_owed(&mut connection.owed, b"report", &pad.report)
             }
             b"sessions" => {
-                put_sessions(self.rt.alloc(), self.workers, standing, domain, &mut pad.text).is_ok()
+                put_sessions(
+                    self.rt.alloc(),
+                    self.workers,
+                    standing,
+                    domain,
+                    &mut pad.text,
+                )
+                .is_ok()
                     && is_owed(&mut connection.owed, b"sessions", pad.text.as_bytes())
             }
             b"metrics" => {

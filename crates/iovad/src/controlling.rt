@@ -66,8 +66,8 @@ fn told(answer: &[u8], word: ControlWord) -> Option<&[u8]> {
     let mut words = str::from_utf8(answer.get(..end)?).ok()?.split(' ');
     let is_named = words.next() == Some(word.name());
     let count = words.next()?.parse::<usize>().ok()?;
-    let is_whole =
-        memchr_iter(b'\n', text).count() == count && (text.is_empty() || text.ends_with(b"\n"));
+    let is_whole = memchr_iter(b'\n', text).count() == count
+        && (text.is_empty() || text.ends_with(b"\n"));
     if is_named && is_whole && words.next().is_none() {
         Some(text)
     } else {

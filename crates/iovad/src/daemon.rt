@@ -766,7 +766,14 @@ fn open_sinks<'a, R: AllocGlobal + Clock + Eprint + Net + Dial + Files<File = Fi
     };
     for at in 0..count {
         let reset = if at == 0 { Some(domain) } else { None };
-        let Some(sink) = open_sink(run.rt, run.notices, run.net, run.signals.hurry(), run.place, reset) else {
+        let Some(sink) = open_sink(
+            run.rt,
+            run.notices,
+            run.net,
+            run.signals.hurry(),
+            run.place,
+            reset,
+        ) else {
             return Err(Hindrance::CannotOpenSink);
         };
         let Ok(()) = sinks.push(sink) else {
@@ -836,7 +843,14 @@ where
     K: Keep<C, F, S, G>,
     ensures { post.new.seat.worker ≡ post.old.seat.worker }
 {
-    if let Some(mut sink) = open_sink(run.rt, run.notices, run.net, run.signals.hurry(), run.place, None) {
+    if let Some(mut sink) = open_sink(
+        run.rt,
+        run.notices,
+        run.net,
+        run.signals.hurry(),
+        run.place,
+        None,
+    ) {
         let _left = retry(keeper, post, &mut sink);
         if run.signals.is_stopping() {
             let _round = timeout(keeper, post.seat.tally(), &mut sink);
