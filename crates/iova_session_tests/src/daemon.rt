@@ -547,12 +547,7 @@ fn gathered<Q: Wait, C: Ledger, F: Ledger, S: Ledger, G: Ledger>(
     let mut seats = Vec::new(alloc);
     for post in posts {
         in_order = in_order && post.seat.worker() == seats.len() as u64;
-        let Post {
-            seat,
-            waiting: _,
-            ranges: _,
-        } = post;
-        let Ok(()) = seats.push(seat) else {
+        let Ok(()) = seats.push(post.into_seat()) else {
             return None;
         };
     }

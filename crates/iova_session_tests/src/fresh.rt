@@ -279,12 +279,7 @@ fn session_at<
     };
     let mut post = Post::new(alloc, seat);
     let seen = one_session(alloc, &mut keeper, &mut post, seats, in_flight, link, sink);
-    let Post {
-        seat,
-        waiting: _,
-        ranges: _,
-    } = post;
-    seats.push(seat).or(Err(Refusal::NoMemory))?;
+    seats.push(post.into_seat()).or(Err(Refusal::NoMemory))?;
     Ok(seen)
 }
 
