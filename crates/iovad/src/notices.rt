@@ -75,7 +75,7 @@ impl<'a, R: Clock> CountedConsole<'a, R> {
     /// The time since some start, in milliseconds.
     fn now(&self) -> u64 {
         match self.rt.monotonic() {
-            Ok(time) => time.as_millis() as u64,
+            Ok(time) => u64::try_from(time.as_millis()).unwrap_or(u64::MAX),
             Err(_) => u64::MAX,
         }
     }
