@@ -12,6 +12,7 @@ mod LoneSteps
 mod LoneEnds
 mod Departures
 mod Retrying
+mod EndedPosts
 mod Emptied
 mod Others
 mod Alone

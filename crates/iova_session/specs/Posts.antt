@@ -1,9 +1,11 @@
 -- How a session ends at a post. Own.
-use Rattle.std.specs.Prelude.{ℕ, ◌≡◌, ◌+◌, ◌<◌, ◌⊎◌, List, [], ◌∷◌, ◌++◌, length, Option, Some, None, Bool, true, false}
+use Rattle.std.specs.Prelude.{ℕ, Result, ◌≡◌, ◌+◌, ◌<◌, ◌⊎◌, List, [], ◌∷◌, ◌++◌, length, Option, Some, None, Bool, true, false}
 use Rattle.iova_model.specs.declared.totals.Totals.{Totals}
+use Rattle.iova_range.specs.declared.refusal.Refusal.{Refusal}
 use Rattle.iova_model.specs.State.{State}
 use Rattle.iova_sink.specs.Calls.{Call}
 use Rattle.iova_keep.specs.Views.{SeatState}
+use Rattle.iova_keep.specs.Answers.{DoesTimeout}
 use Rattle.iova_keep.specs.declared.ending.Ending.{Ending}
 use Rattle.iova_keep.specs.declared.ending.Ending.TheVariants as ending
 use Rattle.iova_range.specs.declared.limits.TheConstants.{MAX_HOLDINGS}
@@ -56,3 +58,16 @@ Retries over number (id ∷ ids) kept seat left before now s t =
 abbrev pub RetriesAll : ℕ → ℕ → List ℕ → List ℕ → SeatState → SeatState → List Call → List Call → State → State → Type 0
 RetriesAll room number ids kept seat left before now s t =
     (over : Bool) × (over ≡ true → room < MAX_HOLDINGS) × Retries over number ids kept seat left before now s t
+
+-- a flusher's round, where one is wanted
+abbrev pub MakesRound : Bool → ℕ → List Call → List Call → State → State → Type 0
+MakesRound false number before now s t = (now ≡ before) × (t ≡ s)
+MakesRound true number before now s t = (round : Result ℕ Refusal) × DoesTimeout round number before now s t
+
+-- The end of a post's service, in a domain of this number, from s to t: each client that waits is tried once more, and then,
+-- where a flush is wanted, what is in a ring is flushed and drained. `held` are the seat's shares then.
+abbrev pub EndsPost : Bool → ℕ → ℕ → List ℕ → List ℕ → SeatState → Totals → List Call → List Call → State → State → Type 0
+EndsPost flushes room number ids kept seat held before now s t =
+    (left : SeatState) × (calls : List Call) × (here : State)
+    × RetriesAll room number ids kept seat left before calls s here
+    × (held ≡ left.held) × MakesRound flushes number calls now here t

@@ -5,6 +5,7 @@ mod answering;
 mod asking;
 pub mod desk;
 pub mod end;
+pub mod end_post;
 mod gathering;
 mod keeper_desk;
 pub mod leaving;

@@ -1,5 +1,5 @@
 //! A worker's post: its seat, and the clients whose end waits.
-ghost use Rattle.std.specs.Prelude.{◌≡◌, ◌≤◌, ◌+◌, true, [], vec_len, vec_capacity};
+ghost use Rattle.std.specs.Prelude.{◌≡◌, ◌≤◌, ◌+◌, true, [], map, vec_len, vec_capacity, IfSome};
 ghost use Rattle.iova_range.specs.declared.limits.TheConstants.{MAX_HOLDINGS};
 
 use iova_keep::seat::Seat;
@@ -55,6 +55,42 @@ impl<C: Ledger, F: Ledger, S: Ledger, G: Ledger> Post<C, F, S, G> {
         } = self;
         seat
     }
+}
+
+/// A post at each seat, in their order. None for want of memory.
+pub fn posts_at<C: Ledger, F: Ledger, S: Ledger, G: Ledger>(
+    alloc: Global,
+    seats: Vec<Seat<C, F, S, G>>,
+) -> Option<Vec<Post<C, F, S, G>>>
+    ensures { IfSome result (λ v. map (λ p. p.seat) v.items ≡ seats.items) }
+{
+    let Ok(mut posts) = Vec::with_capacity(alloc, seats.len()) else {
+        return None;
+    };
+    for seat in seats {
+        let Ok(()) = posts.push(Post::new(alloc, seat)) else {
+            unreachable!();
+        };
+    }
+    Some(posts)
+}
+
+/// The posts' seats, in their order. None for want of memory.
+pub fn seats_of<C: Ledger, F: Ledger, S: Ledger, G: Ledger>(
+    alloc: Global,
+    posts: Vec<Post<C, F, S, G>>,
+) -> Option<Vec<Seat<C, F, S, G>>>
+    ensures { IfSome result (λ v. v.items ≡ map (λ p. p.seat) posts.items) }
+{
+    let Ok(mut seats) = Vec::with_capacity(alloc, posts.len()) else {
+        return None;
+    };
+    for post in posts {
+        let Ok(()) = seats.push(post.into_seat()) else {
+            unreachable!();
+        };
+    }
+    Some(seats)
 }
 
 /// Takes room for one client more that waits, and for the ranges of one that leaves. Whether it was had.
