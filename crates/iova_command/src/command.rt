@@ -346,7 +346,7 @@ fn check_command<'a>(alloc: Global) -> Result<Command<'a>, AllocError>
             "N",
             0,
             WIDE_TOP,
-            "The first frame that may be mapped, 0 to 1099511627775; without it the log's",
+            "The first frame that may be mapped, 0 to 1099511627775; without it the log's, with --ftrace 0",
         ),
     );
     let command = with_arg(
@@ -357,7 +357,7 @@ fn check_command<'a>(alloc: Global) -> Result<Command<'a>, AllocError>
             "N",
             0,
             WIDE_TOP,
-            "The last frame that may be mapped, 0 to 1099511627775; without it the log's",
+            "The last frame that may be mapped, 0 to 1099511627775; without it the log's, with --ftrace 1099511627775",
         ),
     );
     let command = with_arg(

@@ -20,7 +20,7 @@ use iova_range::limits::MAX_WORKERS;
 use iova_range::refusal::Refusal;
 use iova_range::stat::Stat;
 use iova_session::link::Link;
-use iova_session::post::Post;
+use iova_session::post::{Post, posts_at};
 use iova_sink::calls::Calls;
 use iova_sink::gate::{Flag, GateSink};
 use iova_sink::memory::MemorySink;
@@ -492,27 +492,13 @@ where
     ) else {
         return None;
     };
-    match posts_of(alloc, seats) {
+    match posts_at(alloc, seats) {
         Some(posts) => Some((shared, posts)),
         None => {
             drop(shared);
             None
         }
     }
-}
-
-/// A post at each seat. None for want of memory.
-fn posts_of<C: Ledger, F: Ledger, S: Ledger, G: Ledger>(
-    alloc: Global,
-    seats: Vec<Seat<C, F, S, G>>,
-) -> Option<Vec<Post<C, F, S, G>>> {
-    let mut posts = Vec::new(alloc);
-    for seat in seats {
-        let Ok(()) = posts.push(Post::new(alloc, seat)) else {
-            return None;
-        };
-    }
-    Some(posts)
 }
 
 /// What serving left.

@@ -7,7 +7,7 @@ ghost use Rattle.iovad.specs.Plans.{IsAboveProfile, IsBoundsOf, IsFaultOfServing
 
 use crate::control::Control;
 use crate::fault::Fault;
-use crate::listening::{is_free, listen, make_private, remove};
+use crate::listening::{Access, is_free, listen, remove};
 use crate::notices::{CountedConsole, Notices};
 use crate::outcome::print_domain;
 use crate::record_file::RecordFile;
@@ -24,7 +24,6 @@ use iova_daemon::served_link::{Patience, ServedLink};
 use iova_daemon::signals::Signals;
 use iova_daemon::socket::SocketAccept;
 use iova_daemon::{Served, Serving, serve_sessions};
-use iova_keep::calls::timeout;
 use iova_keep::keep::Keep;
 use iova_keep::seat::Seat;
 use iova_lock::book::Book;
@@ -36,8 +35,8 @@ use iova_range::range::Range;
 use iova_range::refusal::Refusal;
 use iova_regions::region::Counted;
 use iova_regions::windows::Windows;
-use iova_session::post::Post;
-use iova_session::retry::retry;
+use iova_session::end_post::end_post;
+use iova_session::post::{Post, posts_at, seats_of};
 use iova_session::session_limits::SessionLimits;
 use log::{Log, Logged, info};
 use std::alloc::Global;
@@ -257,7 +256,7 @@ where
 {
     write_record(run, shared, record)?;
     listen_for_control(run, plan)?;
-    match listen(run.rt, run.notices, plan.socket) {
+    match listen(run.rt, run.notices, plan.socket, Access::Umask) {
         Some(listener) => Ok(listener),
         None => {
             remove_control(run.rt, plan);
@@ -274,12 +273,12 @@ fn listen_for_control<'a, R: AllocGlobal + Clock + Eprint + Wait + Net + Files<F
     let Some(path) = plan.control else {
         return Ok(());
     };
-    match listen(run.rt, run.notices, path) {
-        Some(listener) if make_private(run.rt, run.notices, path) => {
+    match listen(run.rt, run.notices, path, Access::Private) {
+        Some(listener) => {
             run.control.listen(run.rt.alloc(), listener);
             Ok(())
         }
-        _ => Err(Hindrance::SocketFault),
+        None => Err(Hindrance::SocketFault),
     }
 }
 
@@ -475,7 +474,10 @@ where
     requires posts { map (λ p. p.seat.worker) posts.items ≡ map (λ s. s.worker) (new_seats shared.now.workers) }
 {
     let mut record = record;
-    let Some(seats) = seats_of(run, shared, posts) else {
+    let mut posts = posts;
+    let mut keeper = shared;
+    end_posts(run, &mut keeper, &mut posts);
+    let Some(seats) = seats_of(run.rt.alloc(), posts) else {
         return Err(Hindrance::NoMemory);
     };
     let Ok(_totals) = shared.gather(seats) else {
@@ -699,7 +701,7 @@ fn posted<Q: Drop, C: Ledger, F: Ledger, S: Ledger, G: Ledger>(
 ) -> Option<(Shared<Q, C, F, S, G>, Vec<Post<C, F, S, G>>)>
     ensures { IfSome result (λ r. (r.0 ≡ shared) × (map (λ p. p.seat) r.1.items ≡ seats.items)) }
 {
-    match posts_of(alloc, seats) {
+    match posts_at(alloc, seats) {
         Some(posts) => Some((shared, posts)),
         None => {
             drop(shared);
@@ -734,24 +736,6 @@ where
     }
 }
 
-/// A post at each seat, in their order. None for want of memory.
-fn posts_of<C: Ledger, F: Ledger, S: Ledger, G: Ledger>(
-    alloc: Global,
-    seats: Vec<Seat<C, F, S, G>>,
-) -> Option<Vec<Post<C, F, S, G>>>
-    ensures { IfSome result (λ v. map (λ p. p.seat) v.items ≡ seats.items) }
-{
-    let Ok(mut posts) = Vec::with_capacity(alloc, seats.len()) else {
-        return None;
-    };
-    for seat in seats {
-        let Ok(()) = posts.push(Post::new(alloc, seat)) else {
-            unreachable!();
-        };
-    }
-    Some(posts)
-}
-
 /// So many sinks there. A peer is told by the first one that nothing of the domain is mapped. Refused by `NoMemory` and by
 /// `CannotOpenSink`.
 fn open_sinks<'a, R: AllocGlobal + Clock + Eprint + Net + Dial + Files<File = File>>(
@@ -783,56 +767,25 @@ fn open_sinks<'a, R: AllocGlobal + Clock + Eprint + Net + Dial + Files<File = Fi
     Ok(sinks)
 }
 
-/// The posts' seats, in their order, once the clients that still wait were tried again. None for want of memory.
-fn seats_of<'a, R, Q, C, F, S, G>(
-    run: &Running<'a, R>,
-    shared: &Shared<Q, C, F, S, G>,
-    posts: Vec<Post<C, F, S, G>>,
-) -> Option<Vec<Seat<C, F, S, G>>>
-where
-    R: AllocGlobal + Clock + Eprint + Net + Dial + Files<File = File>,
-    Q: Wait,
-    C: Ledger,
-    F: Ledger,
-    S: Ledger,
-    G: Ledger,
-    ensures { IfSome result (λ v. map (λ s. s.worker) v.items ≡ map (λ p. p.seat.worker) posts.items) }
-{
-    let Ok(mut seats) = Vec::with_capacity(run.rt.alloc(), posts.len()) else {
-        return None;
-    };
-    for post in posts {
-        let Ok(()) = seats.push(seat_of(run, shared, post)) else {
-            unreachable!();
-        };
-    }
-    Some(seats)
-}
-
-/// The post's seat, once the clients that still wait were tried again, and, at a stop, what is in a ring was flushed.
-fn seat_of<'a, R, C, F, S, G, K>(
-    run: &Running<'a, R>,
-    keeper: K,
-    post: Post<C, F, S, G>,
-) -> Seat<C, F, S, G>
+/// Ends the service of each of the posts.
+fn end_posts<'a, R, C, F, S, G, K>(run: &Running<'a, R>, keeper: &mut K, posts: &mut [Post<C, F, S, G>])
 where
     R: Clock + Eprint + Net + Dial + Files<File = File>,
     C: Ledger,
     F: Ledger,
     S: Ledger,
     G: Ledger,
-    K: Keep<C, F, S, G> + Drop,
-    ensures { result.worker ≡ post.seat.worker }
+    K: Keep<C, F, S, G>,
+    ensures { map (λ p. p.seat.worker) posts.new ≡ map (λ p. p.seat.worker) posts.old }
 {
-    let mut keeper = keeper;
-    let mut post = post;
-    if !post.waiting.is_empty() || run.signals.is_stopping() {
-        end_at(run, &mut keeper, &mut post);
-    }
-    post.into_seat()
+    let Some((post, more)) = posts.split_first_mut() else {
+        return;
+    };
+    end_at(run, keeper, post);
+    end_posts(run, keeper, more);
 }
 
-/// Tries the clients that wait at this post again, and at a stop flushes what is in a ring, where a sink can be opened.
+/// Tries the clients that wait at this post once more, and at a stop flushes what is in a ring, where a sink can be opened.
 fn end_at<'a, R, C, F, S, G, K>(run: &Running<'a, R>, keeper: &mut K, post: &mut Post<C, F, S, G>)
 where
     R: Clock + Eprint + Net + Dial + Files<File = File>,
@@ -843,6 +796,10 @@ where
     K: Keep<C, F, S, G>,
     ensures { post.new.seat.worker ≡ post.old.seat.worker }
 {
+    let stops = run.signals.is_stopping();
+    if post.waiting.is_empty() && !stops {
+        return;
+    }
     if let Some(mut sink) = open_sink(
         run.rt,
         run.notices,
@@ -851,9 +808,6 @@ where
         run.place,
         None,
     ) {
-        let _left = retry(keeper, post, &mut sink);
-        if run.signals.is_stopping() {
-            let _round = timeout(keeper, post.seat.tally(), &mut sink);
-        }
+        let _left = end_post(keeper, post, &mut sink, stops);
     }
 }

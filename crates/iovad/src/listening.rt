@@ -1,12 +1,13 @@
-//! The socket that a daemon listens on.
+//! The sockets that a daemon listens on.
 use crate::cause::tell_cause;
+use arrayvec::ArrayString;
 use iova_range::limits::{FOLDER_LOOKS, FOLDER_PAUSE};
 use log::Log;
 use mio::net::UnixStream;
-use std::fs::{File, Permissions};
+use std::fs::{DirBuilder, File, Permissions};
 use std::io::ErrorKind;
 use std::net::Net;
-use std::os::unix::fs::{FileTypeExt, PermissionsExt};
+use std::os::unix::fs::{DirBuilderExt, FileTypeExt, PermissionsExt};
 use std::os::unix::net::UnixListener;
 use std::rt::{Clock, Files};
 use std::time::Duration;
@@ -15,18 +16,30 @@ use std::{fs, io, thread};
 /// The system's number of the error of an address that is in use (`EADDRINUSE` of Linux).
 const ADDRESS_IN_USE: i32 = 98;
 
+/// The longest path of a socket, in bytes (`sun_path` of Linux, without its NUL).
+const MAX_SOCKET_PATH: usize = 107;
+
+/// Who may connect to a socket.
+#[derive(Clone, Copy)]
+pub enum Access {
+    /// Whom the umask leaves the right to write.
+    Umask,
+    /// The same user alone: mode 0600.
+    Private,
+}
+
 /// Listens on a socket at this path, in place of one that nobody listens on any more. Anything else that stands there is left as
 /// it is. An accept there doesn't block. None where it can't be had, which is told.
 ///
 /// The folder is locked (`flock`) from the look to the socket, so that of several daemons that start at once one listens: none takes
 /// a socket that another one has just made for one that was left. A folder that can't be opened isn't locked, and nothing is replaced
 /// there.
-pub fn listen<R, N>(rt: &R, notices: &N, path: &str) -> Option<UnixListener>
+pub fn listen<R, N>(rt: &R, notices: &N, path: &str, access: Access) -> Option<UnixListener>
 where
     R: Clock + Net + Files<File = File>,
     N: Log,
 {
-    match bound(rt, path) {
+    match bound(rt, path, access) {
         Ok(listener) => Some(listener),
         Err(error) => {
             tell_cause(notices, "bind", path, &error);
@@ -36,7 +49,11 @@ where
 }
 
 /// The same, with the system's words where it can't be had.
-fn bound<R: Clock + Net + Files<File = File>>(rt: &R, path: &str) -> io::Result<UnixListener> {
+fn bound<R: Clock + Net + Files<File = File>>(
+    rt: &R,
+    path: &str,
+    access: Access,
+) -> io::Result<UnixListener> {
     // the system would take an empty path for a socket without a name
     if path.is_empty() {
         return Err(io::Error::from(ErrorKind::NotFound));
@@ -44,11 +61,11 @@ fn bound<R: Clock + Net + Files<File = File>>(rt: &R, path: &str) -> io::Result<
     match File::open(rt, folder_of(path)) {
         Ok(folder) => {
             // closing the folder gives up its lock
-            let bound = bound_in(rt, &folder, path);
+            let bound = bound_in(rt, &folder, path, access);
             drop(folder);
             bound
         }
-        Err(_) => bind(rt, path),
+        Err(_) => bind(rt, path, access),
     }
 }
 
@@ -58,15 +75,16 @@ fn bound_in<R: Clock + Net + Files<File = File>>(
     rt: &R,
     folder: &File,
     path: &str,
+    access: Access,
 ) -> io::Result<UnixListener> {
     for _ in 0..FOLDER_LOOKS {
         if folder.try_lock().is_ok() {
             remove_left(rt, path);
-            return bind(rt, path);
+            return bind(rt, path, access);
         }
         thread::sleep(rt, Duration::from_millis(FOLDER_PAUSE));
     }
-    bind(rt, path)
+    bind(rt, path, access)
 }
 
 /// Whether a daemon may listen at this path: nothing stands there, or a socket that nobody listens on. Else it is told.
@@ -88,14 +106,49 @@ where
 }
 
 /// Binds a socket there, where nothing stands.
-fn bind<R: Net + Files<File = File>>(rt: &R, path: &str) -> io::Result<UnixListener> {
-    let listener = UnixListener::bind(rt, path)?;
+fn bind<R: Net + Files<File = File>>(rt: &R, path: &str, access: Access) -> io::Result<UnixListener> {
+    let listener = match access {
+        Access::Umask => UnixListener::bind(rt, path)?,
+        Access::Private => bind_private(rt, path)?,
+    };
     match listener.set_nonblocking(true) {
         Ok(()) => Ok(listener),
         Err(error) => {
             remove(rt, path);
             Err(error)
         }
+    }
+}
+
+/// Binds a socket to which only the same user may connect: it is made in a folder beside its place that only the same user may
+/// enter, and is put at its place once it has its mode. So whatever the umask is, nobody else can connect to it at any time.
+fn bind_private<R: Net + Files<File = File>>(rt: &R, path: &str) -> io::Result<UnixListener> {
+    let folder = beside(path, ".n")?;
+    let made = beside(path, ".n/s")?;
+    // what a daemon left there that was killed here
+    remove_left(rt, made.as_str());
+    let _ = fs::remove_dir(rt, folder.as_str());
+    DirBuilder::new().mode(0o700).create(rt, folder.as_str())?;
+    let bound = bind_at(rt, made.as_str(), path);
+    remove(rt, made.as_str());
+    let _ = fs::remove_dir(rt, folder.as_str());
+    bound
+}
+
+/// Binds a socket of mode 0600 at the first path, and gives it the second one too.
+fn bind_at<R: Net + Files<File = File>>(rt: &R, made: &str, path: &str) -> io::Result<UnixListener> {
+    let listener = UnixListener::bind(rt, made)?;
+    fs::set_permissions(rt, made, Permissions::from_mode(0o600))?;
+    fs::hard_link(rt, made, path)?;
+    Ok(listener)
+}
+
+/// This path with an end. Refused where it would be too long for a socket's.
+fn beside(path: &str, end: &str) -> io::Result<ArrayString<MAX_SOCKET_PATH>> {
+    let mut joined = ArrayString::new();
+    match (joined.try_push_str(path), joined.try_push_str(end)) {
+        (Ok(()), Ok(())) => Ok(joined),
+        _ => Err(io::Error::from(ErrorKind::InvalidInput)),
     }
 }
 
@@ -130,18 +183,6 @@ fn is_refused(connected: &io::Result<UnixStream>) -> bool {
 /// Removes the file at this path. Where it can't be removed, what is left of it keeps nobody from the report.
 pub fn remove<R: Files<File = File>>(rt: &R, path: &str) {
     let _ = fs::remove_file(rt, path);
-}
-
-/// Lets only the user itself connect. Whether that could be done: else the file is removed, which is told.
-pub fn make_private<R: Files<File = File>, N: Log>(rt: &R, notices: &N, path: &str) -> bool {
-    match fs::set_permissions(rt, path, Permissions::from_mode(0o600)) {
-        Ok(()) => true,
-        Err(error) => {
-            tell_cause(notices, "chmod", path, &error);
-            remove(rt, path);
-            false
-        }
-    }
 }
 
 /// The folder of the file at this path.

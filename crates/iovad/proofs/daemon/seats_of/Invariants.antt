@@ -1,9 +1,0 @@
-use Rattle.std.proofs.Common.{◌≡◌, ◌+◌, ◌≤◌, map, vec_len, vec_capacity}
-use Rattle.std.specs.Vec.Iter.{into_iter_len}
-use Rattle.iovad.proofs.daemon.seats_of.Given as goal
-
-abbrev pub invariant-loop-post : goal.invariant-loop-post
-invariant-loop-post g l =
-    (map (λ s. s.worker) l.seats.items ≡ map (λ p. p.seat.worker) l.yielded)
-    × (vec_len l.seats + into_iter_len l.post-iterator ≡ vec_len l.fn.posts)
-    × (vec_len l.fn.posts ≤ vec_capacity l.seats)
