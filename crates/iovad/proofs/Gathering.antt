@@ -1,7 +1,8 @@
 -- Seats that were served on are gathered: they are those of all workers.
 use Rattle.std.proofs.Common.{ℕ, zero, suc, ◌≡◌, ◌∙◌, ◌+◌, ◌<◌, ◌≤◌, ◌==◌, ◌&&◌, ◌||◌, true, false, List, [], ◌∷◌, ◌++◌, map, length, Some, arith, refl, sym, ap, ap₂, subst}
 use Rattle.std.proofs.Common.{Result, Ok, Err, inl}
-use Rattle.std.specs.Prelude.{unwrap_or, ◌⊎◌, ◌↔◌}
+use Rattle.std.specs.Prelude.{unwrap_or, take, ◌⊎◌, ◌↔◌}
+use Rattle.std.proofs.Math.Seq.{take-append_seam}
 use Rattle.std.specs.List.{AllByRecursion, list_any, slice_get}
 use Rattle.iova_range.specs.declared.limits.TheConstants.{MAX_WORKERS, TALLY_PARTS}
 use Rattle.iova_range.specs.declared.refusal.Refusal.{Refusal}
@@ -54,6 +55,13 @@ all_there n seats same =
 pub workers_at : {P : Type 0} (seat : P → SeatState) (posts : List P) → map (λ p. (seat p).worker) posts ≡ workers_of (map seat posts)
 workers_at seat [] = refl
 workers_at seat (p ∷ posts) = ap (λ ws. (seat p).worker ∷ ws) (workers_at seat posts)
+
+-- posts that were lent as a slice come back as it was left
+pub given_back : {P : Type 0} (f : P → ℕ) (n : ℕ) (new old rest : List P) → length old ≡ n → map f new ≡ map f old
+    → take n (new ++ rest) ≡ new
+given_back f n new old rest long same =
+    let len : n ≡ length new = sym long ∙ sym (length-map old f) ∙ ap length (sym same) ∙ length-map new f in
+    ap (λ k. take k (new ++ rest)) len ∙ take-append_seam new rest
 
 -- posts at new seats: there is one at least, and it has all of its parts
 pub some_posts : {P : Type 0} (seat : P → SeatState) (n : ℕ) (posts : List P) → 1 ≤ n → map seat posts ≡ new_seats n → 1 ≤ length posts

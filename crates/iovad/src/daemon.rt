@@ -768,7 +768,11 @@ fn open_sinks<'a, R: AllocGlobal + Clock + Eprint + Net + Dial + Files<File = Fi
 }
 
 /// Ends the service of each of the posts.
-fn end_posts<'a, R, C, F, S, G, K>(run: &Running<'a, R>, keeper: &mut K, posts: &mut [Post<C, F, S, G>])
+fn end_posts<'a, R, C, F, S, G, K>(
+    run: &Running<'a, R>,
+    keeper: &mut K,
+    posts: &mut [Post<C, F, S, G>],
+)
 where
     R: Clock + Eprint + Net + Dial + Files<File = File>,
     C: Ledger,

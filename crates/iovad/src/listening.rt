@@ -106,7 +106,11 @@ where
 }
 
 /// Binds a socket there, where nothing stands.
-fn bind<R: Net + Files<File = File>>(rt: &R, path: &str, access: Access) -> io::Result<UnixListener> {
+fn bind<R: Net + Files<File = File>>(
+    rt: &R,
+    path: &str,
+    access: Access,
+) -> io::Result<UnixListener> {
     let listener = match access {
         Access::Umask => UnixListener::bind(rt, path)?,
         Access::Private => bind_private(rt, path)?,
@@ -136,7 +140,11 @@ fn bind_private<R: Net + Files<File = File>>(rt: &R, path: &str) -> io::Result<U
 }
 
 /// Binds a socket of mode 0600 at the first path, and gives it the second one too.
-fn bind_at<R: Net + Files<File = File>>(rt: &R, made: &str, path: &str) -> io::Result<UnixListener> {
+fn bind_at<R: Net + Files<File = File>>(
+    rt: &R,
+    made: &str,
+    path: &str,
+) -> io::Result<UnixListener> {
     let listener = UnixListener::bind(rt, made)?;
     fs::set_permissions(rt, made, Permissions::from_mode(0o600))?;
     fs::hard_link(rt, made, path)?;
