@@ -1,5 +1,5 @@
 -- The level of an option. Own.
-use Rattle.std.specs.Prelude.{◌≡◌, List, Option, Some, None, codes}
+use Rattle.std.specs.Prelude.{◌≡◌, ◌≢◌, Bool, true, false, List, Option, Some, None, codes}
 use Rattle.clap.specs.Words.{Row, Text, first_of}
 use Rattle.log.specs.declared.level.LevelFilter.{LevelFilter}
 use Rattle.log.specs.declared.level.LevelFilter.TheVariants.{Off, Error, Warn, Info, Debug, Trace}
@@ -13,10 +13,24 @@ level_name Info = codes "info"
 level_name Debug = codes "debug"
 level_name Trace = codes "trace"
 
+-- the four that an option may name
+abbrev pub is_choice : LevelFilter → Bool
+is_choice Off = false
+is_choice Error = true
+is_choice Warn = true
+is_choice Info = true
+is_choice Debug = true
+is_choice Trace = false
+
+-- the level of a text, which is none where none of the four has that name
+abbrev pub IsChoiceOf : Text → Option LevelFilter → Type 0
+IsChoiceOf text None = (level : LevelFilter) → is_choice level ≡ true → text ≢ level_name level
+IsChoiceOf text (Some level) = (is_choice level ≡ true) × (text ≡ level_name level)
+
 -- warnings where none is named
 abbrev pub IsLevelOf : Option Text → LevelFilter → Type 0
 IsLevelOf None level = level ≡ Warn
-IsLevelOf (Some text) level = text ≡ level_name level
+IsLevelOf (Some text) level = IsChoiceOf text (Some level)
 
 -- the level that the option names
 abbrev pub HasLevel : List Row → Text → LevelFilter → Type 0

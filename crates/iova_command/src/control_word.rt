@@ -1,6 +1,6 @@
 //! What a daemon is asked for over its control socket.
-ghost use Rattle.std.specs.Prelude.{◌≡◌, IfSome, codes};
-ghost use Rattle.iova_command.specs.Controls.{control_name};
+ghost use Rattle.std.specs.Prelude.{◌≡◌, codes};
+ghost use Rattle.iova_command.specs.Controls.{IsControlOf, control_name};
 
 /// A word of a control socket. Own.
 #[derive(Clone, Copy, Debug, PartialEq, Eq)]
@@ -28,9 +28,9 @@ impl ControlWord {
         }
     }
 
-    /// The word of this text. None where there is none.
+    /// The word of this text. None exactly where no word has it.
     pub(crate) fn of(text: &str) -> Option<ControlWord>
-        ensures { IfSome result (λ w. text.now ≡ control_name w) }
+        ensures { IsControlOf text.now result }
     {
         match text {
             "report" => Some(ControlWord::Report),

@@ -2,7 +2,7 @@
 ghost use Rattle.std.specs.Prelude.{◌≡◌, ◌<◌, ◌≤◌, IfSome, map};
 ghost use Rattle.std.specs.Option.{ForSome};
 ghost use Rattle.clap.specs.Words.{rows_of, found_of};
-ghost use Rattle.iova_command.specs.Levels.{HasLevel, level_name};
+ghost use Rattle.iova_command.specs.Levels.{HasLevel, IsChoiceOf};
 ghost use Rattle.iova_command.specs.Numbers.{HasNumber, HasNumberOr, HasOptional};
 ghost use Rattle.iova_command.specs.Spans.{HasSpans, InsertsSpan, InsertsSpans};
 ghost use Rattle.iova_range.specs.declared.limits.TheConstants.{DEFAULT_DOMAIN, DEFAULT_LAST, DEFAULT_START, DEFAULT_WORKERS, MAX_DEPOT, MAX_WORKERS, MAX_DOMAINS, MAX_IDLE, MAX_RECORDED_STEPS, MAX_SESSION_REQUESTS, MAX_SESSIONS, MAX_SINK_TIMEOUT, WIDE_TOP};
@@ -142,9 +142,9 @@ fn level(found: &ArgMatches<'_>, name: &str) -> Option<LevelFilter>
     }
 }
 
-/// The level of this name. None where it is none of the four.
+/// The level of this name. None exactly where it is none of the four.
 fn level_of(name: &str) -> Option<LevelFilter>
-    ensures { IfSome result (λ l. name.now ≡ level_name l) }
+    ensures { IsChoiceOf name.now result }
 {
     match name {
         "error" => Some(LevelFilter::Error),

@@ -1,6 +1,6 @@
 -- A round of tries where nobody else holds a range and no call of the sink fails: each client that waits ends, and nobody holds anything.
 use Rattle.std.proofs.Common.{ℕ, zero, suc, ◌≡◌, ◌≢◌, ◌<◌, ◌≤◌, ◌⊎◌, inl, inr, Bool, true, false, List, [], ◌∷◌, ◌++◌, Option, Some, None, refl, sym, ap, ◌∙◌, subst, arith, length}
-use Rattle.std.specs.Prelude.{Contains, IfSome, slice_index_or, option_and_then}
+use Rattle.std.specs.Prelude.{Result, Ok, Err, Contains, IfSome, slice_index_or, option_and_then}
 use Rattle.std.specs.List.{AllByRecursion}
 use Rattle.std.proofs.lemmas.Bool.{cases_eq}
 use Rattle.std.proofs.lemmas.Bool.Decides.{nat_tests}
@@ -9,6 +9,7 @@ use Rattle.iova_model.specs.Clients.{Client, client_with, client_of, has_id, if_
 use Rattle.iova_model.specs.State.{State}
 use Rattle.iova_model.specs.Valid.{SerialsRise}
 use Rattle.iova_model.specs.Laws.{StepsKeepValidity}
+use Rattle.iova_sink.specs.declared.sink.SinkFault.{SinkFault}
 use Rattle.iova_sink.specs.Calls.{Call, Gone, failed_calls}
 use Rattle.iova_keep.specs.Views.{SeatState, WhereKnown, IsKept}
 use Rattle.iova_session.specs.declared.leaving.Leaving.{Leaving}
@@ -120,30 +121,30 @@ after_end w id ids s t rise each (inr h) =
 
 -- The calls of the sink.
 
-told_rises : (number id : ℕ) (held : List Frames) (well : Bool) (before now : List Call) → IsTold number id held well before now → failed_calls before ≤ failed_calls now
-told_rises number id [] well before now h = let e = ap failed_calls h.1 in omega (arith, e)
-told_rises number id (r ∷ rs) well before now h =
-    let e = ap failed_calls h ∙ failed_append before (Gone number id (r ∷ rs) well ∷ []) in
+told_rises : (number id : ℕ) (held : List Frames) (answer : Result Unit SinkFault) (before now : List Call) → IsTold number id held answer before now → failed_calls before ≤ failed_calls now
+told_rises number id [] answer before now h = let e = ap failed_calls h.1 in omega (arith, e)
+told_rises number id (r ∷ rs) answer before now h =
+    let e = ap failed_calls h ∙ failed_append before (Gone number id (r ∷ rs) answer ∷ []) in
     omega (arith, e)
 
-told_well : (number id : ℕ) (held : List Frames) (well : Bool) (before now : List Call) → IsTold number id held well before now → failed_calls now ≡ failed_calls before → well ≡ true
-told_well number id [] well before now h good = h.0
-told_well number id (r ∷ rs) true before now h good = refl
-told_well number id (r ∷ rs) false before now h good =
-    absurd (let e = ap failed_calls h ∙ failed_append before (Gone number id (r ∷ rs) false ∷ []) in omega (arith, e, good))
+told_well : (number id : ℕ) (held : List Frames) (answer : Result Unit SinkFault) (before now : List Call) → IsTold number id held answer before now → failed_calls now ≡ failed_calls before → answer ≡ Ok tt
+told_well number id [] answer before now h good = h.0
+told_well number id (r ∷ rs) (Ok u) before now h good = refl
+told_well number id (r ∷ rs) (Err f) before now h good =
+    absurd (let e = ap failed_calls h ∙ failed_append before (Gone number id (r ∷ rs) (Err f) ∷ []) in omega (arith, e, good))
 
 module _ (law : StepsKeepValidity) (number : ℕ) where
-  after_rises : (well : Bool) (seat : SeatState) (left : _) (id : ℕ) (held : List Frames) (l : Leaving) (before now : List Call) (s t : State) → EndsAfter well seat left id held l number before now s t
+  after_rises : (answer : Result Unit SinkFault) (seat : SeatState) (left : _) (id : ℕ) (held : List Frames) (l : Leaving) (before now : List Call) (s t : State) → EndsAfter answer seat left id held l number before now s t
       → failed_calls before ≤ failed_calls now
-  after_rises true seat left id held l before now s t h = end_rises law seat left id number l.ended before now s t h.1
-  after_rises false seat left id held l before now s t h = let e = ap failed_calls h.2 in omega (arith, e)
+  after_rises (Ok u) seat left id held l before now s t h = end_rises law seat left id number l.ended before now s t h.1
+  after_rises (Err f) seat left id held l before now s t h = let e = ap failed_calls h.3 in omega (arith, e)
 
   attempt_rises : (over : Bool) (seat left : SeatState) (id : ℕ) (a : Attempt) (before now : List Call) (s t : State) → Attempts over seat left id a number before now s t → failed_calls before ≤ failed_calls now
   attempt_rises true seat left id a before now s t h = let e = ap failed_calls h.3 in omega (arith, e)
   attempt_rises false seat left id a before now s t h =
       let d = h.1 in
-      let told = told_rises number id (holdings_in (client_of seat.worker id s.clients)) d.well before d.calls d.told in
-      let ended = after_rises d.well seat left.held id (holdings_in (client_of seat.worker id s.clients)) h.0 d.calls now s t d.ended in
+      let told = told_rises number id (holdings_in (client_of seat.worker id s.clients)) d.answer before d.calls d.told in
+      let ended = after_rises d.answer seat left.held id (holdings_in (client_of seat.worker id s.clients)) h.0 d.calls now s t d.ended in
       omega (arith, told, ended)
 
   round_rises : (over : Bool) (ids kept : List ℕ) (seat left : SeatState) (before now : List Call) (s t : State) → Retries over number ids kept seat left before now s t → failed_calls before ≤ failed_calls now
@@ -164,11 +165,11 @@ module _ (law : StepsKeepValidity) (number : ℕ) where
       → Tried seat left id a s t
   attempt_ends seat left id a before now s t calm good (l, d, kept, over) =
       let held = holdings_in (client_of seat.worker id s.clients) in
-      let told = told_rises number id held d.well before d.calls d.told in
-      let ended = after_rises d.well seat left.held id held l d.calls now s t d.ended in
+      let told = told_rises number id held d.answer before d.calls d.told in
+      let ended = after_rises d.answer seat left.held id held l d.calls now s t d.ended in
       let still : failed_calls d.calls ≡ failed_calls before = omega (arith, told, ended, good) in
-      let well = told_well number id held d.well before d.calls d.told still in
-      let h : EndsAfter true seat left.held id held l number d.calls now s t = subst (λ (b : Bool). EndsAfter b seat left.held id held l number d.calls now s t) well d.ended in
+      let well = told_well number id held d.answer before d.calls d.told still in
+      let h : EndsAfter (Ok tt) seat left.held id held l number d.calls now s t = subst (λ (r : Result Unit SinkFault). EndsAfter r seat left.held id held l number d.calls now s t) well d.ended in
       let e = lone_end law seat left.held id number l.ended d.calls now s t calm (good ∙ sym still) h.1 in
       record { kept = kept ∙ e.over; over = over ∙ h.0; calm = e.calm; clients = e.clients }
 

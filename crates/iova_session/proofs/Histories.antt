@@ -1,7 +1,7 @@
 -- What sessions do to a domain is a transcript of steps.
 use Rattle.std.proofs.Common.{ℕ, ◌≡◌, ◌+◌, inl, inr, List, [], ◌∷◌, ◌++◌, Option, Some, None, refl, sym, ap, ◌∙◌, subst}
 use Rattle.std.proofs.Math.Logic.{∥∥₁_elim, ∥∥₁_map, ∥∥₁_prop}
-use Rattle.std.specs.Prelude.{Result, Ok, Err, Bool, true, false}
+use Rattle.std.specs.Prelude.{Result, Ok, Err, Bool}
 use Rattle.iova_model.specs.declared.step.Step.{Step}
 use Rattle.iova_model.specs.declared.step.Reply.{Reply}
 use Rattle.iova_model.specs.State.{State}
@@ -10,11 +10,12 @@ use Rattle.iova_model.specs.Valid.{IsValid}
 use Rattle.iova_model.specs.Transcript as transcript
 use Rattle.iova_model.specs.Transcript.{IsTranscript, after}
 use Rattle.iova_model.specs.Promises.{PromisesAreKept}
+use Rattle.iova_sink.specs.declared.sink.SinkFault.{SinkFault}
 use Rattle.iova_sink.specs.Calls.{Call}
 use Rattle.iova_keep.specs.declared.ending.Ending.{Ending}
 use Rattle.iova_keep.specs.Steps.{Takes}
 use Rattle.iova_keep.specs.Events.{Event, Ran, NotRun, Invalidated, Leads}
-use Rattle.iova_keep.specs.Views.{WhereKnown, SeatState, IsKept}
+use Rattle.iova_keep.specs.Views.{WhereKnown, SeatState}
 use Rattle.iova_proto.specs.declared.answer.Answer.{Answer}
 use Rattle.iova_proto.specs.declared.answer.Answer.TheVariants as answer
 use Rattle.iova_proto.specs.declared.request.Request.{Request}
@@ -105,14 +106,14 @@ pairs_reach strict number (Some id) listed (p ∷ ps) a b k =
     reaches_then a.domain k.0.domain b.domain (client_reaches strict number a.seat id listed p.request p.answer a.calls k.0.calls a.domain k.0.domain k.1)
     (pairs_reach strict number (next_client (Some id) p.answer) (listed + count_listed p.answer) ps k.0 b k.3)
 
-departs_reach : (well : Bool) (seat : SeatState) (left : Totals) (id : ℕ) (held : List Frames) (l : Leaving) (number : ℕ) (before now : List Call) (s t : State)
-    → EndsAfter well seat left id held l number before now s t → Reaches s t
-departs_reach true seat left id held l number before now s t h = reaches_all h.1.events s t h.1.leads
-departs_reach false seat left id held l number before now s t h = reaches_same s t h.3
+departs_reach : (answer : Result Unit SinkFault) (seat : SeatState) (left : Totals) (id : ℕ) (held : List Frames) (l : Leaving) (number : ℕ) (before now : List Call) (s t : State)
+    → EndsAfter answer seat left id held l number before now s t → Reaches s t
+departs_reach (Ok u) seat left id held l number before now s t h = reaches_all h.1.events s t h.1.leads
+departs_reach (Err e) seat left id held l number before now s t h = reaches_same s t h.4
 
 end_reaches : (number : ℕ) (client : Option ℕ) (told : Option Ending) (a b : Standing) → EndDoes number client told a b → Reaches a.domain b.domain
 end_reaches number None told a b h = reaches_same a.domain b.domain (ap (λ (x : Standing). x.domain) h.1)
-end_reaches number (Some id) told a b h = departs_reach h.2.well a.seat b.seat.held id _ h.0 number h.2.calls b.calls a.domain b.domain h.2.ended
+end_reaches number (Some id) told a b h = departs_reach h.2.answer a.seat b.seat.held id _ h.0 number h.2.calls b.calls a.domain b.domain h.2.ended
 
 session_reaches : (strict : Bool) (number : ℕ) (ps : List Pair) (told : Option Ending) (old new : SeatState) (before now : List Call) (s t : State)
     → SessionLeads strict number ps told old new before now s t → Reaches s t

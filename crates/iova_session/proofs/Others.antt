@@ -11,6 +11,7 @@ use Rattle.std.specs.Prelude.{length}
 use Rattle.iova_model.specs.Clients.{client_of}
 use Rattle.iova_model.specs.State.{State}
 use Rattle.iova_model.specs.Laws.{held_by, client_named, OthersKeepTheirHoldings, StepsKeepValidity}
+use Rattle.iova_sink.specs.declared.sink.SinkFault.{SinkFault}
 use Rattle.iova_sink.specs.Calls.{Call}
 use Rattle.iova_keep.specs.declared.ending.Ending.{Ending}
 use Rattle.iova_keep.specs.declared.ending.Ending.TheVariants as ending
@@ -197,28 +198,28 @@ known_first None b Q P R q p f = tt
 known_first (Some s) None Q P R q p f = absurd p
 known_first (Some s) (Some t) Q P R q p f = f s t q p
 
-departed : OthersKeepTheirHoldings → StepsKeepValidity → (seat : SeatState) (left : Totals) (id : ℕ) (told : Option Ending) (l : Leaving) (number : ℕ) (well : Bool) (before calls now : List Call) (s t : State)
-    → IsKept s → TellsAtMost told l.ended → IsTold number id (holdings_in (client_of seat.worker id s.clients)) well before calls
-    → EndsAfter well seat left id (holdings_in (client_of seat.worker id s.clients)) l number calls now s t → LeavesOthers (Some id) told s t
-departed law valid seat left id told l number true before calls now s t k m is x =
+departed : OthersKeepTheirHoldings → StepsKeepValidity → (seat : SeatState) (left : Totals) (id : ℕ) (told : Option Ending) (l : Leaving) (number : ℕ) (answer : Result Unit SinkFault) (before calls now : List Call) (s t : State)
+    → IsKept s → TellsAtMost told l.ended → IsTold number id (holdings_in (client_of seat.worker id s.clients)) answer before calls
+    → EndsAfter answer seat left id (holdings_in (client_of seat.worker id s.clients)) l number calls now s t → LeavesOthers (Some id) told s t
+departed law valid seat left id told l number (Ok u) before calls now s t k m is x =
     let d = x.1 in (leads_keep law id d.events s t (end_client_names id (λ other e. some_same e) d.allowed.0) d.leads, left_told valid id seat left told l.ended number calls now s t k m d)
-departed law valid seat left id told l number false before calls now s t k m is x =
-    let same : t ≡ s = x.3 in (
+departed law valid seat left id told l number (Err e) before calls now s t k m is x =
+    let same : t ≡ s = x.4 in (
       λ other ne. ap (λ (u : State). held_by other u.clients) same,
       waits_on told m,
     )
   where
     waits_on : (o : Option Ending) → TellsAtMost o l.ended → IsLeft (Some id) o t
     waits_on None m = tt
-    waits_on (Some (ending.Ended queued)) m = absurd (let no = sym m ∙ x.0 in cc)
+    waits_on (Some (ending.Ended queued)) m = absurd (let no = sym m ∙ x.1 in cc)
     waits_on (Some (ending.Waiting n why)) m =
-        (let e = sym m ∙ x.0 in let same : n ≡ length (holdings_in (client_of seat.worker id s.clients)) = cc in same) ∙ left_ill seat.worker id number s before calls is ∙ ap (λ (u : State). left_of id u) (sym x.3)
+        (let told = sym m ∙ x.1 in let same : n ≡ length (holdings_in (client_of seat.worker id s.clients)) = cc in same) ∙ left_ill seat.worker id number s e before calls is ∙ ap (λ (u : State). left_of id u) (sym x.4)
 
 pub end_keeps : OthersKeepTheirHoldings → StepsKeepValidity → (seat : SeatState) (left : Totals) (id : ℕ) (told : Option Ending) (l : Leaving) (number : ℕ) (before now : List Call) (a b : Option State)
     → IfSome a IsKept → TellsAtMost told l.ended → WhereKnown a b (Departs seat left id l number before now) → WhereKnown a b (LeavesOthers (Some id) told)
 end_keeps law valid seat left id told l number before now a b kept m h =
     known_first a b IsKept (Departs seat left id l number before now) (LeavesOthers (Some id) told) kept h
-    (λ s t k d. departed law valid seat left id told l number d.well before d.calls now s t k m d.told d.ended)
+    (λ s t k d. departed law valid seat left id told l number d.answer before d.calls now s t k m d.told d.ended)
 
 -- an answer to a session with a client opens none
 pub client_stays : (listed id : ℕ) (r : Request) (a : Answer) → IsClientAnswer listed r a → next_client (Some id) a ≡ Some id

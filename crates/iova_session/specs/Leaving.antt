@@ -5,6 +5,8 @@ use Rattle.iova_range.specs.Frames.{Frames}
 use Rattle.iova_model.specs.declared.totals.Totals.{Totals}
 use Rattle.iova_model.specs.Clients.{Client, client_of}
 use Rattle.iova_model.specs.State.{State}
+use Rattle.iova_sink.specs.declared.sink.SinkFault.{SinkFault}
+use Rattle.iova_sink.specs.declared.sink.SinkFault.TheVariants as fault
 use Rattle.iova_sink.specs.Calls.{Call, with_gone}
 use Rattle.iova_keep.specs.Answers.{DoesEndClient}
 use Rattle.iova_keep.specs.Views.{SeatState}
@@ -19,25 +21,30 @@ abbrev pub holdings_in : Option Client → List Frames
 holdings_in None = []
 holdings_in (Some c) = c.holdings
 
--- What a sink is told before a client's end: nothing where it holds nothing; else that it is gone, which has these ranges. Whether
--- that went well, between these calls of the sink.
-abbrev pub IsTold : ℕ → ℕ → List Frames → Bool → List Call → List Call → Type 0
-IsTold number id [] well before now = (well ≡ true) × (now ≡ before)
-IsTold number id (r ∷ rs) well before now = now ≡ with_gone before number id (r ∷ rs) well
+-- What a sink is told before a client's end: nothing where it holds nothing; else that it is gone, which has these ranges. What was
+-- answered, between these calls of the sink.
+abbrev pub IsTold : ℕ → ℕ → List Frames → Result Unit SinkFault → List Call → List Call → Type 0
+IsTold number id [] answer before now = (answer ≡ Ok tt) × (now ≡ before)
+IsTold number id (r ∷ rs) answer before now = now ≡ with_gone before number id (r ∷ rs) answer
+
+-- whether a sink that failed gave no answer
+abbrev pub is_silence : SinkFault → Bool
+is_silence fault.Refused = false
+is_silence fault.Broken = true
 
 -- Then its end follows; or, where that failed, nothing is done, and it waits with all that it holds.
-abbrev pub EndsAfter : Bool → SeatState → Totals → ℕ → List Frames → Leaving → ℕ → List Call → List Call → State → State → Type 0
-EndsAfter true seat left id held l number before now s t = (l.silent ≡ false) × DoesEndClient seat left id l.ended number before now s t
-EndsAfter false seat left id held l number before now s t =
-    (l.ended ≡ Ok (ending.Waiting (length held) why.SinkFailed)) × (left ≡ seat.held) × (now ≡ before) × (t ≡ s)
+abbrev pub EndsAfter : Result Unit SinkFault → SeatState → Totals → ℕ → List Frames → Leaving → ℕ → List Call → List Call → State → State → Type 0
+EndsAfter (Ok u) seat left id held l number before now s t = (l.silent ≡ false) × DoesEndClient seat left id l.ended number before now s t
+EndsAfter (Err e) seat left id held l number before now s t =
+    (l.silent ≡ is_silence e) × (l.ended ≡ Ok (ending.Waiting (length held) why.SinkFailed)) × (left ≡ seat.held) × (now ≡ before) × (t ≡ s)
 
 -- A client leaves, from s to t: before any range of it is queued, the sink has answered well that it is gone, which has all the
 -- ranges that it holds.
 pub record Departs (seat : SeatState) (left : Totals) (id : ℕ) (l : Leaving) (number : ℕ) (before now : List Call) (s t : State) : Type 0 where
-  pub well : Bool
+  pub answer : Result Unit SinkFault
   pub calls : List Call
-  pub told : IsTold number id (holdings_in (client_of seat.worker id s.clients)) well before calls
-  pub ended : EndsAfter well seat left id (holdings_in (client_of seat.worker id s.clients)) l number calls now s t
+  pub told : IsTold number id (holdings_in (client_of seat.worker id s.clients)) answer before calls
+  pub ended : EndsAfter answer seat left id (holdings_in (client_of seat.worker id s.clients)) l number calls now s t
 
 -- a client is left after its end was tried
 abbrev pub still_waits : Result Ending Refusal → Bool

@@ -1,5 +1,5 @@
 //! The end of a client whose session is over: its sink is told of its ranges first.
-ghost use Rattle.std.specs.Prelude.{◌≡◌, ◌≢◌, ◌≤◌, [], true, is_ok, vec_capacity, IfSome};
+ghost use Rattle.std.specs.Prelude.{◌≡◌, ◌≢◌, ◌≤◌, [], true, vec_capacity, IfSome};
 ghost use Rattle.iova_range.specs.declared.limits.TheConstants.{MAX_HOLDINGS};
 ghost use Rattle.iova_keep.specs.Views.{WhereKnown, LowersTold};
 ghost use Rattle.iova_session.specs.Desks.{KeepsPlace};
@@ -75,7 +75,7 @@ fn tell<C: Ledger, F: Ledger, S: Ledger, G: Ledger, K: Keep<C, F, S, G>, D: Sink
 ) -> Result<(), SinkFault>
     requires empty { ranges.old.items ≡ [] }
     requires room { MAX_HOLDINGS ≤ vec_capacity ranges.old }
-    ensures told { IsTold (K.domain_number keeper.now) id ranges.new.items (is_ok result) (D.calls sink.old)
+    ensures told { IsTold (K.domain_number keeper.now) id ranges.new.items result (D.calls sink.old)
         (D.calls sink.new) }
     ensures held { IfSome (K.domain keeper.now)
         (λ s. ranges.new.items ≡ holdings_in (client_of seat.now.worker id s.clients)) }

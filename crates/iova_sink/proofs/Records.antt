@@ -1,11 +1,12 @@
 -- Puts one after another, and the last call of a list.
-use Rattle.std.proofs.Common.{ℕ, ◌≡◌, ◌+◌, ◌-◌, List, [], ◌∷◌, ◌++◌, Bool, true, false, Option, length, take, drop, refl, sym, ap, ◌∙◌, subst, arith, take-append-drop, length-drop}
+use Rattle.std.proofs.Common.{ℕ, ◌≡◌, ◌+◌, ◌-◌, List, [], ◌∷◌, ◌++◌, Bool, true, false, Option, Result, length, take, drop, refl, sym, ap, ◌∙◌, subst, arith, take-append-drop, length-drop}
 use Rattle.std.proofs.lemmas.List.{take-take, drop-take, take_all}
 use Rattle.std.proofs.KnownBytes.{Appends-trans}
 use Rattle.std.specs.Io.KnownBytes.{Appends}
 use mathlib.Core.Bool.{not}
 use Rattle.std.specs.Prelude.{if◌then◌else◌}
 use Rattle.iova_range.specs.Frames.{Frames}
+use Rattle.iova_sink.specs.declared.sink.SinkFault.{SinkFault}
 use Rattle.iova_sink.specs.Calls.{Call, Invalidation, Gone, last_failed_or, is_last_failed}
 
 pub take_plus : (bs : List ℕ) (i n : ℕ) → take (i + n) bs ≡ take i bs ++ take n (drop i bs)
@@ -37,11 +38,11 @@ pub last-added : (cs : List Call) (domain number : ℕ) (ok : Bool) → is_last_
 last-added cs domain number ok = last_of false cs domain number ok
 
 -- and a client that is gone changes nothing
-still_of : (before : Bool) (cs : List Call) (domain client : ℕ) (ranges : List Frames) (ok : Bool)
-    → last_failed_or before (cs ++ Gone domain client ranges ok ∷ []) ≡ last_failed_or before cs
-still_of before [] domain client ranges ok = refl
-still_of before (Invalidation d n o ∷ cs) domain client ranges ok = still_of (if o then false else true) cs domain client ranges ok
-still_of before (Gone d c rs o ∷ cs) domain client ranges ok = still_of before cs domain client ranges ok
+still_of : (before : Bool) (cs : List Call) (domain client : ℕ) (ranges : List Frames) (answer : Result Unit SinkFault)
+    → last_failed_or before (cs ++ Gone domain client ranges answer ∷ []) ≡ last_failed_or before cs
+still_of before [] domain client ranges answer = refl
+still_of before (Invalidation d n o ∷ cs) domain client ranges answer = still_of (if o then false else true) cs domain client ranges answer
+still_of before (Gone d c rs a ∷ cs) domain client ranges answer = still_of before cs domain client ranges answer
 
-pub still-failed : (cs : List Call) (domain client : ℕ) (ranges : List Frames) (ok : Bool) → is_last_failed (cs ++ Gone domain client ranges ok ∷ []) ≡ is_last_failed cs
-still-failed cs domain client ranges ok = still_of false cs domain client ranges ok
+pub still-failed : (cs : List Call) (domain client : ℕ) (ranges : List Frames) (answer : Result Unit SinkFault) → is_last_failed (cs ++ Gone domain client ranges answer ∷ []) ≡ is_last_failed cs
+still-failed cs domain client ranges answer = still_of false cs domain client ranges answer

@@ -2,6 +2,7 @@
 ghost use Rattle.std.specs.Prelude.{◌≡◌, []};
 ghost use Rattle.iova_sink.specs.Calls.{with_call, with_gone};
 
+use crate::sink::SinkFault;
 use iova_range::range::Range;
 use std::marker::Model;
 use std::snapshot::Snapshot;
@@ -15,7 +16,10 @@ pub struct Calls {
     number: u64,
     /// The ranges that the last call told of, where it was of a client that is gone.
     ranges: Option<Snapshot<Vec<Range>>>,
+    /// Whether the last call was good, where it was a flush.
     ok: bool,
+    /// What the last call was answered, where it was of a client that is gone.
+    answer: Result<(), SinkFault>,
 }
 
 impl Model for Calls {
@@ -25,7 +29,7 @@ impl Model for Calls {
     ghost Value = { List Call };
 
     ghost view = { λ c. calls_after c.before
-        (last_call (option_map (λ s. s.value.items) c.ranges) c.domain c.number c.ok) };
+        (last_call (option_map (λ s. s.value.items) c.ranges) c.domain c.number c.ok c.answer) };
 
     ghost size = { λ cs. length cs };
 
@@ -45,6 +49,7 @@ impl Calls {
             number: 0,
             ranges: None,
             ok: false,
+            answer: Ok(()),
         }
     }
 
@@ -60,15 +65,21 @@ impl Calls {
         self.ok = ok;
     }
 
-    /// One call more, that this client of the domain is gone, which had these ranges: it was good or failed.
-    pub fn add_gone(&mut self, domain: u64, client: u64, ranges: &Vec<Range>, ok: bool)
-        ensures { self.new ≡ with_gone self.old domain client ranges.now.items ok }
+    /// One call more, that this client of the domain is gone, which had these ranges, with what was answered.
+    pub fn add_gone(
+        &mut self,
+        domain: u64,
+        client: u64,
+        ranges: &Vec<Range>,
+        answer: Result<(), SinkFault>,
+    )
+        ensures { self.new ≡ with_gone self.old domain client ranges.now.items answer }
     {
         let before = Snapshot::of(self);
         self.before = Some(before);
         self.domain = domain;
         self.number = client;
         self.ranges = Some(Snapshot::of(ranges));
-        self.ok = ok;
+        self.answer = answer;
     }
 }

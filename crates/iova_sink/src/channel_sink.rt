@@ -92,14 +92,14 @@ impl<C: Channel> Sink for ChannelSink<C> {
     /// Sends the line of the client that is gone, and one for each range. Good exactly where the peer answers
     /// `done gone <client>`. It takes no memory: the request goes out a block of 4 KiB at a time.
     fn gone(&mut self, domain: u64, client: u64, ranges: &Vec<Range>) -> Result<(), SinkFault>
-        ensures calls { self.new.calls ≡ with_gone self.old.calls domain client ranges.now.items (is_ok result) }
+        ensures calls { self.new.calls ≡ with_gone self.old.calls domain client ranges.now.items result }
         ensures answers { Answers (C.talk self.old.channel) (C.talk self.new.channel)
             (gone_text domain client ranges.now.items) (done_line (codes "gone") client) (fail_line (codes "gone") client)
             result }
     {
         let sent = begin_gone(&mut self.channel, domain, client, ranges.as_slice());
         let told = conclude(&mut self.channel, sent, b"gone", client);
-        self.calls.add_gone(domain, client, ranges, told.is_ok());
+        self.calls.add_gone(domain, client, ranges, told);
         told
     }
 }

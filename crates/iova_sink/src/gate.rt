@@ -88,7 +88,7 @@ impl<'a> Sink for GateSink<'a> {
 
     /// Is good at once.
     fn gone(&mut self, domain: u64, client: u64, ranges: &Vec<Range>) -> Result<(), SinkFault> {
-        self.calls.add_gone(domain, client, ranges, true);
+        self.calls.add_gone(domain, client, ranges, Ok(()));
         Ok(())
     }
 }

@@ -55,13 +55,17 @@ impl Sink for MemorySink {
     }
 
     fn gone(&mut self, domain: u64, client: u64, ranges: &Vec<Range>) -> Result<(), SinkFault>
-        ensures calls { self.new.calls ≡ with_gone self.old.calls domain client ranges.now.items (is_ok result) }
+        ensures calls { self.new.calls ≡ with_gone self.old.calls domain client ranges.now.items result }
         ensures fails { IsErr result ↔ (length self.old.calls + 1 ≡ self.old.fail_at) }
         ensures same { self.new.fail_at ≡ self.old.fail_at }
     {
-        let ok = self.ahead != 1;
+        let answer = if self.ahead == 1 {
+            Err(SinkFault::Refused)
+        } else {
+            Ok(())
+        };
         self.ahead = self.ahead.saturating_sub(1);
-        self.calls.add_gone(domain, client, ranges, ok);
-        if ok { Ok(()) } else { Err(SinkFault::Refused) }
+        self.calls.add_gone(domain, client, ranges, answer);
+        answer
     }
 }

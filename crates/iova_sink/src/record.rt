@@ -89,11 +89,11 @@ impl<D: Device> Sink for RecordSink<D> {
 
     /// Does nothing, and is good: a device doesn't answer.
     fn gone(&mut self, domain: u64, client: u64, ranges: &Vec<Range>) -> Result<(), SinkFault>
-        ensures calls { self.new.calls ≡ with_gone self.old.calls domain client ranges.now.items (is_ok result) }
+        ensures calls { self.new.calls ≡ with_gone self.old.calls domain client ranges.now.items result }
         ensures good { IsOk result }
         ensures same { self.new.device ≡ self.old.device }
     {
-        self.calls.add_gone(domain, client, ranges, true);
+        self.calls.add_gone(domain, client, ranges, Ok(()));
         Ok(())
     }
 }

@@ -29,5 +29,5 @@ pub trait Sink {
     /// this has ended well. A sink without an answer has nothing to do. The ranges come in a `Vec`, of which proofs keep
     /// what it was.
     fn gone(&mut self, domain: u64, client: u64, ranges: &Vec<Range>) -> Result<(), SinkFault>
-        ensures { calls self.new ≡ with_gone (calls self.old) domain client ranges.now.items (is_ok result) };
+        ensures { calls self.new ≡ with_gone (calls self.old) domain client ranges.now.items result };
 }

@@ -145,7 +145,7 @@ impl<'a> Sink for GatedSink<'a> {
 
     /// Is good at once.
     fn gone(&mut self, domain: u64, client: u64, ranges: &Vec<Range>) -> Result<(), SinkFault> {
-        self.calls.add_gone(domain, client, ranges, true);
+        self.calls.add_gone(domain, client, ranges, Ok(()));
         Ok(())
     }
 }

@@ -1,5 +1,5 @@
 use Rattle.std.proofs.Common.{refl, arith}
-use Rattle.iova_session.proofs.Departures.{told_good, departs_well, departs_ill}
+use Rattle.iova_session.proofs.Departures.{told_good}
 use Rattle.iova_session.proofs.leaving.leave.Goals as goal
 
 pub returns-in-Ok-clause-place : goal.returns-in-Ok-clause-place

@@ -1,4 +1,4 @@
-use Rattle.std.proofs.Common.{◌≡◌, ◌≤◌, ◌<◌, refl, sym, ◌∙◌, arith, take, get_or, append-nil}
+use Rattle.std.proofs.Common.{◌≡◌, ◌≤◌, ◌<◌, refl, ◌∙◌, arith, take, get_or, append-nil}
 use Rattle.std.specs.Prelude.{[], ◌∷◌, length}
 use Rattle.std.proofs.lemmas.Grind.{common_steps}
 use Rattle.iova_session.proofs.Retrying.{one_kept, one_gone, kept_there, kept_more, tried_first, tried_all}

@@ -1,4 +1,4 @@
-use Rattle.std.proofs.Common.{◌∙◌, ◌≡◌, ◌≤◌, ◌++◌, List, ℕ, length, take, drop, ap, subst, arith, Err}
+use Rattle.std.proofs.Common.{◌∙◌, ◌≤◌, ◌++◌, List, ℕ, length, take, drop, ap, subst, arith, Err}
 use Rattle.std.proofs.lemmas.List.{take_all}
 use Rattle.iova_sink.specs.Records.{range_line, ranges_text}
 use Rattle.iova_sink.specs.Channels.{IsBegun, SendsAll}
