@@ -29,7 +29,7 @@ use iova_range::bounds::Bounds;
 use iova_range::limits::{MAX_FRAMES, MAX_WORKERS};
 use iova_range::range::Range;
 use iova_range::refusal::Refusal;
-use iova_range::sizes::need;
+use iova_range::sizes::{need, order_of};
 use iova_tree::tree::Tree;
 use std::alloc::Global;
 use std::marker::Model;
@@ -210,6 +210,52 @@ impl Domain {
         ensures state { self.new ≡ (alloc self.old worker client frames limit result.1).state }
         ensures point { result.1 ≢ Point.Never → result.0 ≡ Reply.Refused Refusal.NoMemory }
     {
+        if self.gives_at_once(worker, client, frames, limit) {
+            self.alloc_here(worker, client, frames, limit)
+        } else {
+            self.alloc_elsewhere(worker, client, frames, limit)
+        }
+    }
+
+    /// Whether the client is that of the step before, and a range of a magazine fits. The compiler then leaves out of
+    /// `alloc_here` all that is called otherwise. Nothing is promised: either way the step is the same.
+    #[inline(always)]
+    fn gives_at_once(&self, worker: u64, client: ClientId, frames: u64, limit: u64) -> bool {
+        if worker >= self.workers()
+            || frames == 0
+            || frames > MAX_FRAMES
+            || !self.clients.has_room(worker, client)
+        {
+            return false;
+        }
+        match order_of(need(frames)) {
+            Some(order) => self.caches.gives_newest(worker as usize, order, limit),
+            None => false,
+        }
+    }
+
+    /// Out of line, so that the caller has nothing to keep meanwhile.
+    #[inline(never)]
+    fn alloc_elsewhere(
+        &mut self,
+        worker: u64,
+        client: ClientId,
+        frames: u64,
+        limit: u64,
+    ) -> (Reply, Point)
+        ensures reply { result.0 ≡ (alloc self.old worker client frames limit result.1).reply }
+        ensures state { self.new ≡ (alloc self.old worker client frames limit result.1).state }
+        ensures point { result.1 ≢ Point.Never → result.0 ≡ Reply.Refused Refusal.NoMemory }
+    {
+        self.alloc_here(worker, client, frames, limit)
+    }
+
+    #[inline(always)]
+    fn alloc_here(&mut self, worker: u64, client: ClientId, frames: u64, limit: u64) -> (Reply, Point)
+        ensures reply { result.0 ≡ (alloc self.old worker client frames limit result.1).reply }
+        ensures state { self.new ≡ (alloc self.old worker client frames limit result.1).state }
+        ensures point { result.1 ≢ Point.Never → result.0 ≡ Reply.Refused Refusal.NoMemory }
+    {
         if worker >= self.workers() {
             return refused(Refusal::NoWorker);
         }
@@ -236,10 +282,7 @@ impl Domain {
             need(frames),
             limit,
         ) {
-            Walked::Placed(range) => {
-                self.clients.add(client, range);
-                (Reply::Given(range), Point::Never)
-            }
+            Walked::Placed(range) => (Reply::Given(self.clients.add(client, range)), Point::Never),
             Walked::Nowhere => refused(Refusal::NoSpace),
             Walked::OutOfMemory(point) => (Reply::Refused(Refusal::NoMemory), point),
         }

@@ -134,6 +134,15 @@ impl Caches {
         }
     }
 
+    /// Whether `get` gives the newest entry of worker `w`'s loaded magazine of this order, 0 to 5.
+    #[inline(always)]
+    pub fn gives_newest(&self, w: usize, order: u8, limit: u64) -> bool
+        requires worker { w < self.now.workers }
+        requires order { order < ORDERS }
+    {
+        self.workers[w].gives_newest(order, limit)
+    }
+
     /// Puts the first frame of a range of this order, 0 to 5, into worker `w`'s loaded magazine; it is below 2^40. Where
     /// loaded is full and previous isn't, they change places first; where both are full, loaded goes last into the depot
     /// and an empty one stands in its place. Where the depot has as many as it takes, that magazine is given to the

@@ -116,7 +116,21 @@ impl Magazine {
         ensures sound { IsMagazine self.new }
     {
         let place = fitting_place(self.entries.as_slice(), limit, size)?;
-        Some(self.entries.swap_remove(place))
+        let entries = self.entries.as_mut_slice();
+        let lo = entries[place];
+        // nothing is called, as `swap_remove` would be
+        entries[place] = entries[entries.len() - 1];
+        let _ = self.entries.pop();
+        Some(lo)
+    }
+
+    /// Whether `pop` gives the newest entry of all.
+    #[inline(always)]
+    pub fn gives_newest(&self, limit: u64, size: u64) -> bool
+        requires some { 1 ≤ size }
+        requires bounded { size ≤ MAX_FRAMES }
+    {
+        newest_fits(self.entries.as_slice(), limit, size)
     }
 
     /// Gives the newest entry, whatever its place. None where the magazine is empty. Our own.
@@ -153,6 +167,17 @@ fn fitting_place(entries: &[u64], limit: u64, size: u64) -> Option<usize>
         }
     }
     None
+}
+
+/// Whether there is a last entry, whose range of `size` frames has none above the limit.
+#[inline(always)]
+fn newest_fits(entries: &[u64], limit: u64, size: u64) -> bool
+    requires small { All (λ lo. lo < 2 ^ 40) entries.now }
+    requires some { 1 ≤ size }
+    requires bounded { size ≤ MAX_FRAMES }
+{
+    let count = entries.len();
+    count > 0 && entries[count - 1] + (size - 1) <= limit
 }
 
 /// Whether one of the ranges of `size` frames that the entries begin has the frame.

@@ -83,6 +83,13 @@ impl Pair {
         }
     }
 
+    #[inline(always)]
+    fn gives_newest(&self, order: u8, limit: u64) -> bool
+        requires { order < ORDERS }
+    {
+        self.loaded.gives_newest(limit, 1 << order)
+    }
+
     fn load(&mut self, magazine: Magazine)
         requires empty { AreEmpty self.old.cache }
         requires profile { magazine.profile ≡ self.old.profile }
@@ -220,6 +227,14 @@ impl WorkerCache {
     {
         let pair = &mut self.pairs[order as usize];
         pair.try_get(order, limit)
+    }
+
+    /// Whether `try_get` gives the newest entry of loaded, order 0 to 5.
+    #[inline(always)]
+    pub fn gives_newest(&self, order: u8, limit: u64) -> bool
+        requires { order < ORDERS }
+    {
+        self.pairs[order as usize].gives_newest(order, limit)
     }
 
     /// Makes a magazine of the same profile loaded, where both of this order, 0 to 5, are empty
