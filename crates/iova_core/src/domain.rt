@@ -10,7 +10,7 @@ ghost use Rattle.iova_model.specs.Laws.{to_queue};
 ghost use Rattle.iova_model.specs.Next.{next, reserve, open_client, alloc, unmap, unmap_held, begin, end, drain, close, close_one};
 ghost use Rattle.iova_core.specs.Domain.{IsStepOf, place_inside, frames_in_rings};
 
-use crate::reclaim::drain;
+use crate::reclaim::{drain, drain_unless};
 use crate::walk::{Walked, walk};
 use iova_clients::{ClientId, Clients};
 use iova_depot::caches::Caches;
@@ -296,6 +296,38 @@ impl Domain {
         ensures state { self.new ≡ (unmap self.old worker client lo).state }
         ensures point { result.1 ≡ Point.Never }
     {
+        if self.queues_at_once(worker, client, lo) {
+            self.unmap_here(worker, client, lo)
+        } else {
+            self.unmap_elsewhere(worker, client, lo)
+        }
+    }
+
+    /// Whether the client is that of the step before, its first holding begins there, and nothing leaves the worker's
+    /// ring. As for `alloc`, nothing is promised.
+    #[inline(always)]
+    fn queues_at_once(&self, worker: u64, client: ClientId, lo: u64) -> bool {
+        worker < self.workers()
+            && self.clients.holds_first(worker, client, lo)
+            && self.rings[worker as usize].waits(self.flights.finish())
+    }
+
+    /// Out of line, so that the caller has nothing to keep meanwhile.
+    #[inline(never)]
+    fn unmap_elsewhere(&mut self, worker: u64, client: ClientId, lo: u64) -> (Reply, Point)
+        ensures reply { result.0 ≡ (unmap self.old worker client lo).reply }
+        ensures state { self.new ≡ (unmap self.old worker client lo).state }
+        ensures point { result.1 ≡ Point.Never }
+    {
+        self.unmap_here(worker, client, lo)
+    }
+
+    #[inline(always)]
+    fn unmap_here(&mut self, worker: u64, client: ClientId, lo: u64) -> (Reply, Point)
+        ensures reply { result.0 ≡ (unmap self.old worker client lo).reply }
+        ensures state { self.new ≡ (unmap self.old worker client lo).state }
+        ensures point { result.1 ≡ Point.Never }
+    {
         if worker >= self.workers() {
             return refused(Refusal::NoWorker);
         }
@@ -319,12 +351,14 @@ impl Domain {
             → self.new ≡ (unmap_held (find (begins_at lo) c.holdings) self.old worker client).state }
         ensures point { result.1 ≡ Point.Never }
     {
+        let finish = self.flights.finish();
+        let waits = self.rings[worker as usize].waits(finish);
         let Ok(range) = self.clients.take(client, lo) else {
             return refused(Refusal::NotHeld);
         };
-        let finish = self.flights.finish();
         let ring = &mut self.rings[worker as usize];
-        drain(
+        drain_unless(
+            waits,
             &mut self.tree,
             &mut self.caches,
             ring,
