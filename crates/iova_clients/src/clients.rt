@@ -199,12 +199,15 @@ impl Clients {
         self.ledgers.newer(worker, than)
     }
 
-    /// Whether the client was looked up last, is one of this worker, and has room for one holding more.
+    /// Whether the client is first sought a place below 4 GiB, where it was looked up last, is one of this worker, and has
+    /// room for one holding more.
     #[inline(always)]
-    pub fn has_room(&self, worker: u64, id: ClientId) -> bool {
-        match self.ledgers.last(id) {
-            Some(ledger) => ledger.worker() == worker && ledger.has_room(),
-            None => false,
+    pub fn sac_with_room(&self, worker: u64, id: ClientId) -> Option<bool> {
+        let ledger = self.ledgers.last(id)?;
+        if ledger.worker() == worker && ledger.has_room() {
+            Some(ledger.is_sac())
+        } else {
+            None
         }
     }
 

@@ -92,10 +92,12 @@ impl Ledgers {
     /// The ledger of this serial, where it is the one that was looked up last.
     #[inline(always)]
     pub(crate) fn last(&self, id: u64) -> Option<&Ledger> {
-        match self.last {
-            Some((serial, key)) if serial == id => self.slab.get(key),
-            _ => None,
+        if let Some((serial, key)) = self.last
+            && serial == id
+        {
+            return Some(&self.slab[key]);
         }
+        None
     }
 
     /// The same, to change it. Nothing is written where it was looked up last.

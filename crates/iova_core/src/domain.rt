@@ -3,6 +3,7 @@ ghost use Rattle.std.specs.Prelude.{◌≡◌, ◌≢◌, ◌≤◌, ◌<◌, �
 ghost use Rattle.iova_model.specs.Fit.{is_covered};
 ghost use Rattle.iova_model.specs.Clients.{Client, client_with, begins_at, newer_client, share_of, totals};
 ghost use Rattle.iova_range.specs.Frames.{covers};
+ghost use Rattle.iova_range.specs.Sizes.{need};
 ghost use Rattle.iova_model.specs.State.{new_domain, counts, ring_holders, place_in};
 ghost use Rattle.iova_model.specs.Valid.{IsValid};
 ghost use Rattle.iova_model.specs.Promises.{Runs};
@@ -11,7 +12,7 @@ ghost use Rattle.iova_model.specs.Next.{next, reserve, open_client, alloc, unmap
 ghost use Rattle.iova_core.specs.Domain.{IsStepOf, place_inside, frames_in_rings};
 
 use crate::reclaim::{drain, drain_unless};
-use crate::walk::{Walked, walk};
+use crate::walk::{Walked, is_at_hand, walk};
 use iova_clients::{ClientId, Clients};
 use iova_depot::caches::Caches;
 use iova_depot::spot::Spot;
@@ -29,7 +30,7 @@ use iova_range::bounds::Bounds;
 use iova_range::limits::{MAX_FRAMES, MAX_WORKERS};
 use iova_range::range::Range;
 use iova_range::refusal::Refusal;
-use iova_range::sizes::{need, order_of};
+use iova_range::sizes::need;
 use iova_tree::tree::Tree;
 use std::alloc::Global;
 use std::marker::Model;
@@ -210,26 +211,33 @@ impl Domain {
         ensures state { self.new ≡ (alloc self.old worker client frames limit result.1).state }
         ensures point { result.1 ≢ Point.Never → result.0 ≡ Reply.Refused Refusal.NoMemory }
     {
-        if self.gives_at_once(worker, client, frames, limit) {
-            self.alloc_here(worker, client, frames, limit)
+        if worker >= self.workers() {
+            return refused(Refusal::NoWorker);
+        }
+        if frames == 0 {
+            return refused(Refusal::Zero);
+        }
+        if frames > MAX_FRAMES {
+            return refused(Refusal::TooBig);
+        }
+        let size = need(frames);
+        if self.gives_at_once(worker, client, size, limit) {
+            self.alloc_here(worker, client, frames, size, limit)
         } else {
-            self.alloc_elsewhere(worker, client, frames, limit)
+            self.alloc_elsewhere(worker, client, frames, size, limit)
         }
     }
 
-    /// Whether the client is that of the step before, and a range of a magazine fits. The compiler then leaves out of
+    /// Whether the client is that of the step before, and a magazine gives a range at once. The compiler then leaves out of
     /// `alloc_here` all that is called otherwise. Nothing is promised: either way the step is the same.
     #[inline(always)]
-    fn gives_at_once(&self, worker: u64, client: ClientId, frames: u64, limit: u64) -> bool {
-        if worker >= self.workers()
-            || frames == 0
-            || frames > MAX_FRAMES
-            || !self.clients.has_room(worker, client)
-        {
-            return false;
-        }
-        match order_of(need(frames)) {
-            Some(order) => self.caches.gives_newest(worker as usize, order, limit),
+    fn gives_at_once(&self, worker: u64, client: ClientId, size: u64, limit: u64) -> bool
+        requires worker { worker < self.now.workers }
+        requires some { 1 ≤ size }
+        requires bounded { size ≤ MAX_FRAMES }
+    {
+        match self.clients.sac_with_room(worker, client) {
+            Some(sac) => is_at_hand(&self.caches, worker as usize, sac, size, limit),
             None => false,
         }
     }
@@ -241,30 +249,42 @@ impl Domain {
         worker: u64,
         client: ClientId,
         frames: u64,
+        size: u64,
         limit: u64,
     ) -> (Reply, Point)
+        requires worker { worker < self.old.workers }
+        requires some { 1 ≤ frames }
+        requires bounded { frames ≤ MAX_FRAMES }
+        requires size { size ≡ need frames }
+        requires sized { 1 ≤ size }
+        requires fits { size ≤ MAX_FRAMES }
         ensures reply { result.0 ≡ (alloc self.old worker client frames limit result.1).reply }
         ensures state { self.new ≡ (alloc self.old worker client frames limit result.1).state }
         ensures point { result.1 ≢ Point.Never → result.0 ≡ Reply.Refused Refusal.NoMemory }
     {
-        self.alloc_here(worker, client, frames, limit)
+        self.alloc_here(worker, client, frames, size, limit)
     }
 
+    /// The step for `size` frames, for which the client asks by a number.
     #[inline(always)]
-    fn alloc_here(&mut self, worker: u64, client: ClientId, frames: u64, limit: u64) -> (Reply, Point)
+    fn alloc_here(
+        &mut self,
+        worker: u64,
+        client: ClientId,
+        frames: u64,
+        size: u64,
+        limit: u64,
+    ) -> (Reply, Point)
+        requires worker { worker < self.old.workers }
+        requires some { 1 ≤ frames }
+        requires bounded { frames ≤ MAX_FRAMES }
+        requires size { size ≡ need frames }
+        requires sized { 1 ≤ size }
+        requires fits { size ≤ MAX_FRAMES }
         ensures reply { result.0 ≡ (alloc self.old worker client frames limit result.1).reply }
         ensures state { self.new ≡ (alloc self.old worker client frames limit result.1).state }
         ensures point { result.1 ≢ Point.Never → result.0 ≡ Reply.Refused Refusal.NoMemory }
     {
-        if worker >= self.workers() {
-            return refused(Refusal::NoWorker);
-        }
-        if frames == 0 {
-            return refused(Refusal::Zero);
-        }
-        if frames > MAX_FRAMES {
-            return refused(Refusal::TooBig);
-        }
         let Some(marks) = self.clients.look_up(worker, client) else {
             return refused(Refusal::NoClient);
         };
@@ -279,7 +299,7 @@ impl Domain {
             &mut self.caches,
             worker as usize,
             marks.sac,
-            need(frames),
+            size,
             limit,
         ) {
             Walked::Placed(range) => (Reply::Given(self.clients.add(client, range)), Point::Never),
@@ -308,8 +328,8 @@ impl Domain {
     #[inline(always)]
     fn queues_at_once(&self, worker: u64, client: ClientId, lo: u64) -> bool {
         worker < self.workers()
-            && self.clients.holds_first(worker, client, lo)
             && self.rings[worker as usize].waits(self.flights.finish())
+            && self.clients.holds_first(worker, client, lo)
     }
 
     /// Out of line, so that the caller has nothing to keep meanwhile.

@@ -7,7 +7,7 @@ ghost use Rattle.iova_range.specs.Frames.{covers};
 ghost use Rattle.iova_model.specs.State.{cache_holders};
 ghost use Rattle.iova_model.specs.Valid.{IsCache};
 ghost use Rattle.iova_mag.specs.Magazines.{magazine_of};
-ghost use Rattle.iova_mag.specs.Workers.{IsWorkerCache, new_pair, new_worker, cache_of, with_cache, cache_after_get, cache_after_put, renewed_cache, has_frame, AreEmpty, AreFull, HasRoom, got, newest, without_newest};
+ghost use Rattle.iova_mag.specs.Workers.{IsWorkerCache, new_pair, new_worker, cache_of, with_cache, cache_after_get, cache_after_put, renewed_cache, has_frame, AreEmpty, AreFull, HasRoom, GivesNewest, got, newest, without_newest};
 
 use crate::magazine::Magazine;
 use iova_range::limits::ORDERS;
@@ -86,6 +86,7 @@ impl Pair {
     #[inline(always)]
     fn gives_newest(&self, order: u8, limit: u64) -> bool
         requires { order < ORDERS }
+        ensures { IsTrue result → GivesNewest self.now.cache limit (2 ^ order) }
     {
         self.loaded.gives_newest(limit, 1 << order)
     }
@@ -229,10 +230,12 @@ impl WorkerCache {
         pair.try_get(order, limit)
     }
 
-    /// Whether `try_get` gives the newest entry of loaded, order 0 to 5.
+    /// Whether loaded of this order, 0 to 5, has a newest entry, whose range has no frame above `limit`: `try_get` then
+    /// gives it. Our own.
     #[inline(always)]
     pub fn gives_newest(&self, order: u8, limit: u64) -> bool
         requires { order < ORDERS }
+        ensures { IsTrue result → GivesNewest (cache_of self.now order) limit (2 ^ order) }
     {
         self.pairs[order as usize].gives_newest(order, limit)
     }
