@@ -160,6 +160,19 @@ impl Domain {
         }
     }
 
+    /// Runs one step as `step` does. `Unmap` is out of line, for who asks `queues_at_once` before.
+    #[inline(always)]
+    pub fn step_elsewhere(&mut self, step: Step) -> Reply
+        ensures { IsStepOf self.old step result self.new }
+    {
+        // for the proof: a step is refused by `NoMemory` only where a growth was refused
+        no_memory_is_refused();
+        match step {
+            Step::Unmap { worker, client, lo } => self.unmap_elsewhere(worker, client, lo).0,
+            _ => self.step(step),
+        }
+    }
+
     /// Runs one step, and answers its reply.
     #[inline(always)]
     pub fn step(&mut self, step: Step) -> Reply
@@ -326,10 +339,10 @@ impl Domain {
     /// Whether the client is that of the step before, its first holding begins there, and nothing leaves the worker's
     /// ring. As for `alloc`, nothing is promised.
     #[inline(always)]
-    fn queues_at_once(&self, worker: u64, client: ClientId, lo: u64) -> bool {
+    pub fn queues_at_once(&self, worker: u64, client: ClientId, lo: u64) -> bool {
         worker < self.workers()
-            && self.rings[worker as usize].waits(self.flights.finish())
             && self.clients.holds_first(worker, client, lo)
+            && self.rings[worker as usize].waits(self.flights.finish())
     }
 
     /// Out of line, so that the caller has nothing to keep meanwhile.

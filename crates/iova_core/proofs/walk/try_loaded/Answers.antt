@@ -1,4 +1,4 @@
-use Rattle.std.proofs.Common.{[], Some, refl, ap, sym, ◌∙◌, arith}
+use Rattle.std.proofs.Common.{Some, ap, sym, ◌∙◌, arith}
 use Rattle.iova_range.specs.Frames.{Frames}
 use Rattle.iova_model.specs.Caches.{Caches}
 use Rattle.iova_depot.specs.Cached.{Cached}

@@ -1,4 +1,4 @@
-use Rattle.std.proofs.Common.{◌≡◌, ◌<◌, refl, sym, ap, ◌∙◌, arith}
+use Rattle.std.proofs.Common.{◌≡◌, ◌<◌, refl, sym, ap, ◌∙◌}
 use Rattle.iova_model.specs.Next.{Next}
 use Rattle.iova_core.specs.Domain.{Parts, state_of}
 use Rattle.iova_core.specs.declared.walk.Walked.TheVariants as found
