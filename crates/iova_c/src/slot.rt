@@ -38,6 +38,26 @@ pub fn step(slot: &mut Slot, step: Step) -> Reply
     }
 }
 
+/// The same. `Unmap` is out of line.
+#[inline(always)]
+pub fn step_elsewhere(slot: &mut Slot, step: Step) -> Reply
+    ensures { HasStepped slot.old.domain step result slot.new.domain }
+{
+    let Some(domain) = &mut slot.domain else {
+        return Reply::Refused(Refusal::NoDomain);
+    };
+    domain.step_elsewhere(step)
+}
+
+/// Whether the slot has a domain in which this `Unmap` calls nothing. Nothing is promised.
+#[inline(always)]
+pub fn queues_at_once(slot: &Slot, worker: u64, client: u64, lo: u64) -> bool {
+    match &slot.domain {
+        Some(domain) => domain.queues_at_once(worker, client, lo),
+        None => false,
+    }
+}
+
 /// A new domain of the first profile for the slot, in place of the one that it has. Answers 0, or the number of the
 /// refusal, by which nothing has changed: `BadWindow`, `NoWorker`, `NoMemory`.
 pub fn make(alloc: Global, slot: &mut Slot, start: u64, last: u64, workers: u64) -> u64

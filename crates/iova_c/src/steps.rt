@@ -3,7 +3,7 @@ ghost use Rattle.std.specs.Prelude.{◌≡◌, ◌≢◌};
 ghost use Rattle.iova_c.specs.Slots.{is_set, RangeStep, NumberStep, WordStep};
 
 use crate::answer::{NumberAnswer, RangeAnswer, of_number, of_range, of_word};
-use crate::slot::{Slot, step};
+use crate::slot::{Slot, queues_at_once, step, step_elsewhere};
 use iova_core::Step;
 
 pub fn reserve(slot: &mut Slot, lo: u64, hi: u64) -> RangeAnswer
@@ -36,7 +36,19 @@ pub fn alloc(slot: &mut Slot, worker: u64, client: u64, frames: u64, limit: u64)
 pub fn unmap(slot: &mut Slot, worker: u64, client: u64, lo: u64) -> RangeAnswer
     ensures { RangeStep slot.old.domain (Step.Unmap worker client lo) result slot.new.domain }
 {
-    of_range(step(slot, Step::Unmap { worker, client, lo }))
+    if queues_at_once(slot, worker, client, lo) {
+        of_range(step(slot, Step::Unmap { worker, client, lo }))
+    } else {
+        unmap_elsewhere(slot, worker, client, lo)
+    }
+}
+
+/// Out of line, so that the caller has no room for a reply, and nothing to keep.
+#[inline(never)]
+fn unmap_elsewhere(slot: &mut Slot, worker: u64, client: u64, lo: u64) -> RangeAnswer
+    ensures { RangeStep slot.old.domain (Step.Unmap worker client lo) result slot.new.domain }
+{
+    of_range(step_elsewhere(slot, Step::Unmap { worker, client, lo }))
 }
 
 pub fn begin(slot: &mut Slot) -> NumberAnswer

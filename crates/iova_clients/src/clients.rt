@@ -199,6 +199,36 @@ impl Clients {
         self.ledgers.newer(worker, than)
     }
 
+    /// Whether the client is first sought a place below 4 GiB, where it was looked up last, is one of this worker, and has
+    /// room for one holding more.
+    #[inline(always)]
+    pub fn sac_with_room(&self, worker: u64, id: ClientId) -> Option<bool> {
+        let ledger = self.ledgers.last(id)?;
+        if ledger.worker() == worker && ledger.has_room() {
+            Some(ledger.is_sac())
+        } else {
+            None
+        }
+    }
+
+    /// Whether the client was looked up last, is one of this worker, isn't closing, and its first holding begins there.
+    #[inline(always)]
+    pub fn holds_first(&self, worker: u64, id: ClientId, lo: u64) -> bool {
+        match self.ledgers.last(id) {
+            Some(ledger) => ledger.worker() == worker && !ledger.is_closing() && ledger.begins(lo),
+            None => false,
+        }
+    }
+
+    /// Whether the client was looked up last, and a holding that begins there comes behind all its others.
+    #[inline(always)]
+    fn adds_last(&self, id: ClientId, lo: u64) -> bool {
+        match self.ledgers.last(id) {
+            Some(ledger) => ledger.adds_last(lo),
+            None => false,
+        }
+    }
+
     /// Makes room for one holding more of the client, so that the next `add` needs no memory.
     ///
     /// Refused by `NoClient` where there is no such client, else by `Closing` where it is closing, else by
@@ -223,9 +253,46 @@ impl Clients {
         ledger.room()
     }
 
-    /// Gives the client a holding, of 1 to 1,048,576 frames below 2^40. It takes no memory: `room` makes the room.
+    /// Gives the client a holding, of 1 to 1,048,576 frames below 2^40, and says it again. It takes no memory: `room` makes
+    /// the room.
     #[inline(always)]
-    pub fn add(&mut self, id: ClientId, range: Range)
+    pub fn add(&mut self, id: ClientId, range: Range) -> Range
+        requires client { IsSomeAnd (client_with id self.old.clients) (CanBeGiven range) }
+        requires spare { 1 ≤ spare_of id self.old }
+        requires sized { range.len ≤ MAX_FRAMES }
+        requires low { range.lo + range.len ≤ 2 ^ 40 }
+        ensures range { result ≡ range }
+        ensures clients { self.new.clients ≡ changed id (with_holding range) self.old.clients }
+        ensures serial { self.new.serial ≡ self.old.serial }
+        ensures spare { spare_of id self.new + 1 ≡ spare_of id self.old }
+        ensures others { (other : ℕ) → other ≢ id → spare_of other self.new ≡ spare_of other self.old }
+    {
+        if self.adds_last(id, range.lo()) {
+            self.add_here(id, range);
+            return range;
+        }
+        self.add_elsewhere(id, range)
+    }
+
+    /// Out of line, so that the caller has nothing to keep meanwhile.
+    #[inline(never)]
+    fn add_elsewhere(&mut self, id: ClientId, range: Range) -> Range
+        requires client { IsSomeAnd (client_with id self.old.clients) (CanBeGiven range) }
+        requires spare { 1 ≤ spare_of id self.old }
+        requires sized { range.len ≤ MAX_FRAMES }
+        requires low { range.lo + range.len ≤ 2 ^ 40 }
+        ensures range { result ≡ range }
+        ensures clients { self.new.clients ≡ changed id (with_holding range) self.old.clients }
+        ensures serial { self.new.serial ≡ self.old.serial }
+        ensures spare { spare_of id self.new + 1 ≡ spare_of id self.old }
+        ensures others { (other : ℕ) → other ≢ id → spare_of other self.new ≡ spare_of other self.old }
+    {
+        self.add_here(id, range);
+        range
+    }
+
+    #[inline(always)]
+    fn add_here(&mut self, id: ClientId, range: Range)
         requires client { IsSomeAnd (client_with id self.old.clients) (CanBeGiven range) }
         requires spare { 1 ≤ spare_of id self.old }
         requires sized { range.len ≤ MAX_FRAMES }

@@ -1,5 +1,5 @@
 //! The holdings of one client, in a block of cells with room at both ends.
-ghost use Rattle.std.specs.Prelude.{◌≡◌, ◌<◌, ◌≤◌, ◌+◌, ◌-◌, [], length, take, drop, slice_index_or, OnOk, OnErr, vec_len};
+ghost use Rattle.std.specs.Prelude.{◌≡◌, ◌<◌, ◌≤◌, ◌+◌, ◌-◌, [], length, take, drop, slice_index_or, OnOk, OnErr, vec_len, IsTrue};
 ghost use Rattle.std.specs.List.{insert, remove};
 
 use crate::shifts::{
@@ -60,6 +60,20 @@ impl Holdings {
         &self.cells.as_slice()[self.first..self.first + self.count]
     }
 
+    /// Whether `reserve` leaves the block as it is.
+    #[inline(always)]
+    pub(crate) fn has_room(&self) -> bool
+        ensures { IsTrue result → 1 ≤ self.now.spare }
+    {
+        self.count / 4 < self.cells.len() - self.count
+    }
+
+    /// Whether a range that comes in last moves no other one.
+    #[inline(always)]
+    pub(crate) fn has_room_above(&self) -> bool {
+        self.first + self.count < self.cells.len()
+    }
+
     /// Makes room for one range more. Where at most a quarter as many cells as ranges are spare the block grows; where memory
     /// is refused, the spare cells that there are do.
     #[inline(always)]
@@ -72,10 +86,10 @@ impl Holdings {
         ensures starved { OnErr result (self.old.spare ≡ 0) }
         ensures unchanged { OnErr result (self.new ≡ self.old) }
     {
-        let cells = self.cells.len();
-        if self.count / 4 < cells - self.count {
+        if self.has_room() {
             return Ok(());
         }
+        let cells = self.cells.len();
         let more = (2 * cells).max(SOME_CELLS).min(MAX_CELLS);
         match grow(&mut self.cells, more) {
             Err(refused) if self.count == cells => Err(refused),

@@ -100,6 +100,29 @@ impl Ledger {
         self.holdings().iter().any(|range| range.covers(frame))
     }
 
+    /// Whether `room` finds room at once.
+    #[inline(always)]
+    pub(crate) fn has_room(&self) -> bool {
+        !self.closing && self.holdings().len() < MAX_HOLDINGS && self.holdings.has_room()
+    }
+
+    /// Whether `add` puts a range that begins there behind all others, and moves none.
+    #[inline(always)]
+    pub(crate) fn adds_last(&self, lo: u64) -> bool {
+        let holdings = self.holdings();
+        let count = holdings.len();
+        (count == 0 || holdings[count - 1].lo() <= lo) && self.holdings.has_room_above()
+    }
+
+    /// Whether the first holding begins there.
+    #[inline(always)]
+    pub(crate) fn begins(&self, lo: u64) -> bool {
+        match self.holdings().first() {
+            Some(first) => first.lo() == lo,
+            None => false,
+        }
+    }
+
     /// Makes room for one holding more.
     #[inline(always)]
     pub(crate) fn room(&mut self) -> Result<(), Refusal>

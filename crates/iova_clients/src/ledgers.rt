@@ -89,6 +89,17 @@ impl Ledgers {
         self.slab.get(key)
     }
 
+    /// The ledger of this serial, where it is the one that was looked up last.
+    #[inline(always)]
+    pub(crate) fn last(&self, id: u64) -> Option<&Ledger> {
+        if let Some((serial, key)) = self.last
+            && serial == id
+        {
+            return Some(&self.slab[key]);
+        }
+        None
+    }
+
     /// The same, to change it. Nothing is written where it was looked up last.
     #[inline(always)]
     pub(crate) fn get_mut(&mut self, id: u64) -> Option<&mut Ledger>

@@ -85,12 +85,12 @@ pub(crate) fn insert_high(cells: &mut [Range], place: usize, range: Range)
 }
 
 /// The range at this place goes. Those before it move up by one cell, and the first cell is left over.
-#[inline]
+#[inline(always)]
 pub(crate) fn remove_low(cells: &mut [Range], place: usize)
     requires { place < length cells.old }
     ensures { drop 1 cells.new ≡ remove cells.old place }
 {
-    cells[..place + 1].rotate_right(1);
+    turn_up(&mut cells[..place + 1]);
 }
 
 /// The first range comes last, and the others move down by one cell. Where there is one range nothing is called.

@@ -3,6 +3,7 @@ ghost use Rattle.std.specs.Prelude.{◌≡◌, ◌≢◌, ◌≤◌, ◌<◌, �
 ghost use Rattle.iova_model.specs.Fit.{is_covered};
 ghost use Rattle.iova_model.specs.Clients.{Client, client_with, begins_at, newer_client, share_of, totals};
 ghost use Rattle.iova_range.specs.Frames.{covers};
+ghost use Rattle.iova_range.specs.Sizes.{need};
 ghost use Rattle.iova_model.specs.State.{new_domain, counts, ring_holders, place_in};
 ghost use Rattle.iova_model.specs.Valid.{IsValid};
 ghost use Rattle.iova_model.specs.Promises.{Runs};
@@ -10,8 +11,8 @@ ghost use Rattle.iova_model.specs.Laws.{to_queue};
 ghost use Rattle.iova_model.specs.Next.{next, reserve, open_client, alloc, unmap, unmap_held, begin, end, drain, close, close_one};
 ghost use Rattle.iova_core.specs.Domain.{IsStepOf, place_inside, frames_in_rings};
 
-use crate::reclaim::drain;
-use crate::walk::{Walked, walk};
+use crate::reclaim::{drain, drain_unless};
+use crate::walk::{Walked, is_at_hand, walk};
 use iova_clients::{ClientId, Clients};
 use iova_depot::caches::Caches;
 use iova_depot::spot::Spot;
@@ -159,6 +160,19 @@ impl Domain {
         }
     }
 
+    /// Runs one step as `step` does. `Unmap` is out of line, for who asks `queues_at_once` before.
+    #[inline(always)]
+    pub fn step_elsewhere(&mut self, step: Step) -> Reply
+        ensures { IsStepOf self.old step result self.new }
+    {
+        // for the proof: a step is refused by `NoMemory` only where a growth was refused
+        no_memory_is_refused();
+        match step {
+            Step::Unmap { worker, client, lo } => self.unmap_elsewhere(worker, client, lo).0,
+            _ => self.step(step),
+        }
+    }
+
     /// Runs one step, and answers its reply.
     #[inline(always)]
     pub fn step(&mut self, step: Step) -> Reply
@@ -219,6 +233,71 @@ impl Domain {
         if frames > MAX_FRAMES {
             return refused(Refusal::TooBig);
         }
+        let size = need(frames);
+        if self.gives_at_once(worker, client, size, limit) {
+            self.alloc_here(worker, client, frames, size, limit)
+        } else {
+            self.alloc_elsewhere(worker, client, frames, size, limit)
+        }
+    }
+
+    /// Whether the client is that of the step before, and a magazine gives a range at once. The compiler then leaves out of
+    /// `alloc_here` all that is called otherwise. Nothing is promised: either way the step is the same.
+    #[inline(always)]
+    fn gives_at_once(&self, worker: u64, client: ClientId, size: u64, limit: u64) -> bool
+        requires worker { worker < self.now.workers }
+        requires some { 1 ≤ size }
+        requires bounded { size ≤ MAX_FRAMES }
+    {
+        match self.clients.sac_with_room(worker, client) {
+            Some(sac) => is_at_hand(&self.caches, worker as usize, sac, size, limit),
+            None => false,
+        }
+    }
+
+    /// Out of line, so that the caller has nothing to keep meanwhile.
+    #[inline(never)]
+    fn alloc_elsewhere(
+        &mut self,
+        worker: u64,
+        client: ClientId,
+        frames: u64,
+        size: u64,
+        limit: u64,
+    ) -> (Reply, Point)
+        requires worker { worker < self.old.workers }
+        requires some { 1 ≤ frames }
+        requires bounded { frames ≤ MAX_FRAMES }
+        requires size { size ≡ need frames }
+        requires sized { 1 ≤ size }
+        requires fits { size ≤ MAX_FRAMES }
+        ensures reply { result.0 ≡ (alloc self.old worker client frames limit result.1).reply }
+        ensures state { self.new ≡ (alloc self.old worker client frames limit result.1).state }
+        ensures point { result.1 ≢ Point.Never → result.0 ≡ Reply.Refused Refusal.NoMemory }
+    {
+        self.alloc_here(worker, client, frames, size, limit)
+    }
+
+    /// The step for `size` frames, for which the client asks by a number.
+    #[inline(always)]
+    fn alloc_here(
+        &mut self,
+        worker: u64,
+        client: ClientId,
+        frames: u64,
+        size: u64,
+        limit: u64,
+    ) -> (Reply, Point)
+        requires worker { worker < self.old.workers }
+        requires some { 1 ≤ frames }
+        requires bounded { frames ≤ MAX_FRAMES }
+        requires size { size ≡ need frames }
+        requires sized { 1 ≤ size }
+        requires fits { size ≤ MAX_FRAMES }
+        ensures reply { result.0 ≡ (alloc self.old worker client frames limit result.1).reply }
+        ensures state { self.new ≡ (alloc self.old worker client frames limit result.1).state }
+        ensures point { result.1 ≢ Point.Never → result.0 ≡ Reply.Refused Refusal.NoMemory }
+    {
         let Some(marks) = self.clients.look_up(worker, client) else {
             return refused(Refusal::NoClient);
         };
@@ -233,13 +312,10 @@ impl Domain {
             &mut self.caches,
             worker as usize,
             marks.sac,
-            need(frames),
+            size,
             limit,
         ) {
-            Walked::Placed(range) => {
-                self.clients.add(client, range);
-                (Reply::Given(range), Point::Never)
-            }
+            Walked::Placed(range) => (Reply::Given(self.clients.add(client, range)), Point::Never),
             Walked::Nowhere => refused(Refusal::NoSpace),
             Walked::OutOfMemory(point) => (Reply::Refused(Refusal::NoMemory), point),
         }
@@ -249,6 +325,38 @@ impl Domain {
     /// `NotHeld`, `RingFull`.
     #[inline(always)]
     fn unmap(&mut self, worker: u64, client: ClientId, lo: u64) -> (Reply, Point)
+        ensures reply { result.0 ≡ (unmap self.old worker client lo).reply }
+        ensures state { self.new ≡ (unmap self.old worker client lo).state }
+        ensures point { result.1 ≡ Point.Never }
+    {
+        if self.queues_at_once(worker, client, lo) {
+            self.unmap_here(worker, client, lo)
+        } else {
+            self.unmap_elsewhere(worker, client, lo)
+        }
+    }
+
+    /// Whether the client is that of the step before, its first holding begins there, and nothing leaves the worker's
+    /// ring. As for `alloc`, nothing is promised.
+    #[inline(always)]
+    pub fn queues_at_once(&self, worker: u64, client: ClientId, lo: u64) -> bool {
+        worker < self.workers()
+            && self.clients.holds_first(worker, client, lo)
+            && self.rings[worker as usize].waits(self.flights.finish())
+    }
+
+    /// Out of line, so that the caller has nothing to keep meanwhile.
+    #[inline(never)]
+    fn unmap_elsewhere(&mut self, worker: u64, client: ClientId, lo: u64) -> (Reply, Point)
+        ensures reply { result.0 ≡ (unmap self.old worker client lo).reply }
+        ensures state { self.new ≡ (unmap self.old worker client lo).state }
+        ensures point { result.1 ≡ Point.Never }
+    {
+        self.unmap_here(worker, client, lo)
+    }
+
+    #[inline(always)]
+    fn unmap_here(&mut self, worker: u64, client: ClientId, lo: u64) -> (Reply, Point)
         ensures reply { result.0 ≡ (unmap self.old worker client lo).reply }
         ensures state { self.new ≡ (unmap self.old worker client lo).state }
         ensures point { result.1 ≡ Point.Never }
@@ -276,12 +384,14 @@ impl Domain {
             → self.new ≡ (unmap_held (find (begins_at lo) c.holdings) self.old worker client).state }
         ensures point { result.1 ≡ Point.Never }
     {
+        let finish = self.flights.finish();
+        let waits = self.rings[worker as usize].waits(finish);
         let Ok(range) = self.clients.take(client, lo) else {
             return refused(Refusal::NotHeld);
         };
-        let finish = self.flights.finish();
         let ring = &mut self.rings[worker as usize];
-        drain(
+        drain_unless(
+            waits,
             &mut self.tree,
             &mut self.caches,
             ring,

@@ -1,7 +1,7 @@
 //! What goes back to a domain's tree and caches. The tree has all that is cached: a range that goes to a magazine stays in
 //! it, and is removed where it becomes free.
 
-ghost use Rattle.std.specs.Prelude.{◌≡◌, ◌≤◌, ◌<◌, ◌^◌, [], ◌∷◌, length, map, Some};
+ghost use Rattle.std.specs.Prelude.{◌≡◌, ◌≤◌, ◌<◌, ◌^◌, [], ◌∷◌, length, map, Some, IsTrue};
 ghost use Rattle.iova_range.specs.Sizes.{order_of};
 ghost use Rattle.iova_model.specs.Caches.{of_order, emptied};
 ghost use Rattle.iova_model.specs.Flushes.{entry_range, flushed, unflushed};
@@ -93,7 +93,31 @@ pub fn drain(tree: &mut Tree, caches: &mut Caches, ring: &mut Ring, w: usize, fi
     ensures caches { caches.new ≡ with_ranges caches.old w (map entry_range (flushed finish ring.old)) }
     ensures backed { Exchanges tree.old tree.new caches.old caches.new [] (map entry_range (flushed finish ring.old)) }
 {
-    if ring.waits(finish) {
+    let waits = ring.waits(finish);
+    drain_unless(waits, tree, caches, ring, w, finish)
+}
+
+/// The same, where it is known whether there is none.
+#[inline(always)]
+pub fn drain_unless(
+    waits: bool,
+    tree: &mut Tree,
+    caches: &mut Caches,
+    ring: &mut Ring,
+    w: usize,
+    finish: u64,
+) -> u64
+    requires none { IsTrue waits → flushed finish ring.old ≡ [] }
+    requires all { IsTrue waits → unflushed finish ring.old ≡ ring.old }
+    requires worker { w < caches.old.workers }
+    requires room { length ring.old ≤ MAX_ENTRIES }
+    requires backed { IsBacked tree.old caches.old (map entry_range ring.old) }
+    ensures count { result ≡ length (flushed finish ring.old) }
+    ensures ring { ring.new ≡ unflushed finish ring.old }
+    ensures caches { caches.new ≡ with_ranges caches.old w (map entry_range (flushed finish ring.old)) }
+    ensures backed { Exchanges tree.old tree.new caches.old caches.new [] (map entry_range (flushed finish ring.old)) }
+{
+    if waits {
         return 0;
     }
     drain_flushed(tree, caches, ring, w, finish)

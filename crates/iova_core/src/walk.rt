@@ -1,6 +1,6 @@
 //! The walk of a request: the caches, the tree, and the tree again once the caches are emptied.
 
-ghost use Rattle.std.specs.Prelude.{◌≡◌, ◌≢◌, ◌≤◌, ◌<◌, []};
+ghost use Rattle.std.specs.Prelude.{◌≡◌, ◌≢◌, ◌≤◌, ◌<◌, [], Bool, Some, IsTrue, IsFalse, IfSome, IfNone, OnSome};
 ghost use Rattle.iova_model.specs.Fit.{best};
 ghost use Rattle.iova_model.specs.State.{State};
 ghost use Rattle.iova_model.specs.Next as next;
@@ -42,6 +42,68 @@ fn from_caches(caches: &mut Caches, w: usize, size: u64, limit: u64) -> Option<u
 {
     let order = order_of(size)?;
     caches.get(w, order, limit)
+}
+
+/// The limit of the first try.
+#[inline(always)]
+fn first_limit(sac: bool, limit: u64) -> u64
+    ensures low { IsTrue sac → SAC_LIMIT < limit → result ≡ SAC_LIMIT }
+    ensures high { IsTrue sac → limit ≤ SAC_LIMIT → result ≡ limit }
+    ensures plain { IsFalse sac → result ≡ limit }
+{
+    if sac && SAC_LIMIT < limit {
+        SAC_LIMIT
+    } else {
+        limit
+    }
+}
+
+/// Whether the walk takes the newest entry of worker `w`'s loaded magazine, and comes to nothing else.
+#[inline(always)]
+pub fn is_at_hand(caches: &Caches, w: usize, sac: bool, size: u64, limit: u64) -> bool
+    requires worker { w < caches.now.workers }
+    requires some { 1 ≤ size }
+    requires bounded { size ≤ MAX_FRAMES }
+{
+    match order_of(size) {
+        Some(order) => caches.gives_newest(w, order, first_limit(sac, limit)),
+        None => false,
+    }
+}
+
+/// Asks the caches of worker `w`, where the newest entry of its loaded magazine is given. Else None, and nothing changes.
+#[inline(always)]
+fn from_loaded(caches: &mut Caches, w: usize, size: u64, limit: u64) -> Option<u64>
+    requires worker { w < caches.old.workers }
+    requires some { 1 ≤ size }
+    requires bounded { size ≤ MAX_FRAMES }
+    ensures value { IfSome result (λ lo. (get_cached caches.old.caches w size limit (order_of size)).0 ≡ Some lo) }
+    ensures left { OnSome result
+        (caches.new ≡ with_contents caches.old (get_cached caches.old.caches w size limit (order_of size)).1) }
+    ensures none { IfNone result (caches.new ≡ caches.old) }
+    ensures cached { IsCached caches.old → IsCached caches.new }
+{
+    let order = order_of(size)?;
+    caches.get_newest(w, order, limit)
+}
+
+/// One try as `try_once`, where the newest entry of worker `w`'s loaded magazine is given. Else None, and nothing changes.
+#[inline(always)]
+fn try_loaded(tree: &Tree, caches: &mut Caches, w: usize, size: u64, limit: u64) -> Option<Range>
+    requires worker { w < caches.old.workers }
+    requires some { 1 ≤ size }
+    requires bounded { size ≤ MAX_FRAMES }
+    requires backed { IsBacked tree.now caches.old [] }
+    ensures comes { IfSome result (λ r. (s : State) (emptying : Bool) (here : Point) → ArePartsOf tree.now caches.old.caches s
+        → Comes (next.try s w size limit emptying here Point.Never) (Walked.Placed r) caches.new.caches) }
+    ensures size { IfSome result (λ r. IsPlacedOf size (Walked.Placed r)) }
+    ensures backed { IfSome result (λ r. Exchanges tree.now tree.now caches.old caches.new (placed (Walked.Placed r)) []) }
+    ensures none { IfNone result (caches.new ≡ caches.old) }
+{
+    match from_loaded(caches, w, size, limit) {
+        Some(lo) => Some(Range::new(lo, size)),
+        None => None,
+    }
 }
 
 /// Takes the highest place for `size` frames in the tree, none above `limit`, by a growth that is the point `here`.
@@ -100,9 +162,36 @@ fn try_once(
 }
 
 /// The walk of a request: for a client that is `sac`, one try below 4 GiB that empties nothing, where the limit is above
-/// that; then one with the limit that was asked for.
+/// that; then one with the limit that was asked for. What a loaded magazine gives first is taken here, and all else is
+/// out of line.
 #[inline(always)]
 pub fn walk(
+    tree: &mut Tree,
+    caches: &mut Caches,
+    w: usize,
+    sac: bool,
+    size: u64,
+    limit: u64,
+) -> Walked
+    requires worker { w < caches.old.workers }
+    requires some { 1 ≤ size }
+    requires bounded { size ≤ MAX_FRAMES }
+    requires backed { IsBacked tree.old caches.old [] }
+    ensures comes { (s : State) → ArePartsOf tree.old caches.old.caches s
+        → Comes (next.walk s w sac size limit (point_of result)) result caches.new.caches }
+    ensures size { IsPlacedOf size result }
+    ensures point { point_of result ≢ Point.Ledger }
+    ensures backed { Exchanges tree.old tree.new caches.old caches.new (placed result) [] }
+{
+    match try_loaded(tree, caches, w, size, first_limit(sac, limit)) {
+        Some(range) => Walked::Placed(range),
+        None => walk_on(tree, caches, w, sac, size, limit),
+    }
+}
+
+/// The walk, whatever gives the range.
+#[inline(never)]
+fn walk_on(
     tree: &mut Tree,
     caches: &mut Caches,
     w: usize,

@@ -1,12 +1,12 @@
 //! All that is cached in a domain.
-ghost use Rattle.std.specs.Prelude.{◌≡◌, ◌≢◌, ◌+◌, ◌*◌, ◌%◌, ◌-◌, ◌≤◌, ◌<◌, ◌^◌, ◌↔◌, ℕ, [], length, replicate, Some, find, option_map, IsTrue, IfOk, IsErr, IfNone, IfSome};
+ghost use Rattle.std.specs.Prelude.{◌≡◌, ◌≢◌, ◌+◌, ◌*◌, ◌%◌, ◌-◌, ◌≤◌, ◌<◌, ◌^◌, ◌↔◌, ℕ, [], length, replicate, Some, find, option_map, IsTrue, IfOk, IsErr, IfNone, IfSome, OnSome};
 ghost use Rattle.std.specs.Bool.{OnTrue, OnFalse};
 ghost use Rattle.iova_range.specs.Bounds.{first_profile};
 ghost use Rattle.iova_model.specs.Caches.{TakesAny, TakesEntry, emptied, cache_at, shelf_at, get, put};
 ghost use Rattle.iova_model.specs.State.{magazine_holders, depot_holders};
 ghost use Rattle.iova_model.specs.Laws.{frames_of};
 ghost use Rattle.iova_mag.specs.Magazines.{magazine_of};
-ghost use Rattle.iova_mag.specs.Workers.{AreEmpty, HasRoom, got, new_worker};
+ghost use Rattle.iova_mag.specs.Workers.{AreEmpty, HasRoom, GivesNewest, got, new_worker};
 ghost use Rattle.iova_depot.specs.Cached.{Cached, IsCached, IsDepotFull, AreFullAt, LosesOnly, new_cached, place_at, cached_place, cached_frames, depot_at, range_of_entry, after_get, after_put, sent_by_put, after_own_get, after_own_put, after_reload, after_renewal, after_store};
 
 use crate::depot::Depot;
@@ -132,6 +132,33 @@ impl Caches {
             Got::Miss => None,
             Got::Empty => self.reload_and_get(w, order, limit),
         }
+    }
+
+    /// Whether worker `w`'s loaded magazine of this order, 0 to 5, has a newest entry, whose range has no frame above
+    /// `limit`: `get` then gives it. Our own.
+    #[inline(always)]
+    pub fn gives_newest(&self, w: usize, order: u8, limit: u64) -> bool
+        requires worker { w < self.now.workers }
+        requires order { order < ORDERS }
+        ensures { IsTrue result → GivesNewest (cache_at self.now.caches w order) limit (2 ^ order) }
+    {
+        self.workers[w].gives_newest(order, limit)
+    }
+
+    /// Gets as `get` does, where loaded's newest entry is given. Else None, and nothing changes. Our own.
+    #[inline(always)]
+    pub fn get_newest(&mut self, w: usize, order: u8, limit: u64) -> Option<u64>
+        requires worker { w < self.old.workers }
+        requires order { order < ORDERS }
+        ensures value { IfSome result (λ lo. (get (shelf_at self.old.caches w order) limit (2 ^ order)).0 ≡ Some lo) }
+        ensures left { OnSome result (self.new ≡ after_get self.old w order limit) }
+        ensures none { IfNone result (self.new ≡ self.old) }
+        ensures sound { IsCached self.old → IsCached self.new }
+    {
+        if !self.gives_newest(w, order, limit) {
+            return None;
+        }
+        self.get(w, order, limit)
     }
 
     /// Puts the first frame of a range of this order, 0 to 5, into worker `w`'s loaded magazine; it is below 2^40. Where

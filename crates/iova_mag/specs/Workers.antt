@@ -1,9 +1,9 @@
 -- One worker's magazines.
-use Rattle.std.specs.Prelude.{ℕ, ◌≡◌, ◌-◌, ◌<◌, ◌&&◌, ◌||◌, Bool, List, [], length, replicate, Option, Some, None, if◌then◌else◌, slice_get, slice_index_or, slice_set, ◌⊎◌}
+use Rattle.std.specs.Prelude.{ℕ, ◌≡◌, ◌-◌, ◌<◌, ◌≤◌, ◌&&◌, ◌||◌, Bool, List, [], length, replicate, Option, Some, None, if◌then◌else◌, slice_get, slice_index_or, slice_set, ◌⊎◌}
 use Rattle.std.specs.List.{list_any}
 use Rattle.iova_range.specs.Frames.{covers}
 use Rattle.iova_range.specs.Bounds.{Capacities, IsProfile}
-use Rattle.iova_model.specs.Caches.{Cache, Shelf, no_magazines, is_empty, front, get, put, of_order}
+use Rattle.iova_model.specs.Caches.{Cache, Shelf, no_magazines, is_empty, front, fitting, get, put, of_order}
 use Rattle.iova_model.specs.Valid.{AreWorkerCaches}
 use Rattle.iova_mag.specs.declared.worker.Got.{Got}
 use Rattle.iova_mag.specs.declared.worker.Got.TheVariants.{Hit, Miss, Empty}
@@ -75,6 +75,11 @@ found (Some lo) = Hit lo
 
 abbrev pub got : Cache → ℕ → ℕ → Got
 got c limit size = if is_empty c.loaded && is_empty c.previous then Empty else found (get (shelf_of c) limit size).0
+
+-- loaded has an entry, and the newest one fits
+pub record GivesNewest (c : Cache) (limit size : ℕ) : Type 0 where
+  pub some : 1 ≤ length c.loaded
+  pub fits : fitting c.loaded limit size ≡ Some (length c.loaded - 1)
 
 -- the newest entry of loaded, or of previous where loaded is empty
 abbrev pub newest : Cache → Option ℕ

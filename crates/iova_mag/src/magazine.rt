@@ -1,5 +1,5 @@
 //! One magazine.
-ghost use Rattle.std.specs.Prelude.{◌≡◌, ◌+◌, ◌-◌, ◌≤◌, ◌<◌, ◌^◌, ◌↔◌, [], ◌∷◌, ◌++◌, length, slice_get, IsTrue, All, IfSome, ◌&&◌, nat_le, nat_lt};
+ghost use Rattle.std.specs.Prelude.{◌≡◌, ◌+◌, ◌-◌, ◌≤◌, ◌<◌, ◌^◌, ◌↔◌, [], ◌∷◌, ◌++◌, length, slice_get, IsTrue, All, IfSome, Some, ◌&&◌, nat_le, nat_lt};
 ghost use Rattle.std.specs.List.{list_any};
 ghost use Rattle.iova_range.specs.Bounds.{first_profile};
 ghost use Rattle.iova_range.specs.Frames.{covers};
@@ -115,8 +115,28 @@ impl Magazine {
         ensures left { self.new ≡ record self.old { entries = (pop self.old.entries limit size).1.loaded } }
         ensures sound { IsMagazine self.new }
     {
+        if newest_fits(self.entries.as_slice(), limit, size) {
+            return self.entries.pop();
+        }
         let place = fitting_place(self.entries.as_slice(), limit, size)?;
-        Some(self.entries.swap_remove(place))
+        let entries = self.entries.as_mut_slice();
+        let lo = entries[place];
+        // nothing is called, as `swap_remove` would be
+        entries[place] = entries[entries.len() - 1];
+        let _ = self.entries.pop();
+        Some(lo)
+    }
+
+    /// Whether there is a newest entry, and its range of `size` frames, 1 to 1,048,576, has none above `limit`: `pop` then
+    /// gives it. Our own.
+    #[inline(always)]
+    pub fn gives_newest(&self, limit: u64, size: u64) -> bool
+        requires some { 1 ≤ size }
+        requires bounded { size ≤ MAX_FRAMES }
+        ensures some { IsTrue result → 1 ≤ length self.now.entries }
+        ensures is { IsTrue result → fitting self.now.entries limit size ≡ Some (length self.now.entries - 1) }
+    {
+        newest_fits(self.entries.as_slice(), limit, size)
     }
 
     /// Gives the newest entry, whatever its place. None where the magazine is empty. Our own.
@@ -153,6 +173,19 @@ fn fitting_place(entries: &[u64], limit: u64, size: u64) -> Option<usize>
         }
     }
     None
+}
+
+/// Whether there is a last entry, whose range of `size` frames has none above the limit.
+#[inline(always)]
+fn newest_fits(entries: &[u64], limit: u64, size: u64) -> bool
+    requires small { All (λ lo. lo < 2 ^ 40) entries.now }
+    requires some { 1 ≤ size }
+    requires bounded { size ≤ MAX_FRAMES }
+    ensures some { IsTrue result → 1 ≤ length entries.now }
+    ensures is { IsTrue result → fitting entries.now limit size ≡ Some (length entries.now - 1) }
+{
+    let count = entries.len();
+    count > 0 && entries[count - 1] + (size - 1) <= limit
 }
 
 /// Whether one of the ranges of `size` frames that the entries begin has the frame.

@@ -7,7 +7,7 @@ ghost use Rattle.iova_range.specs.Frames.{covers};
 ghost use Rattle.iova_model.specs.State.{cache_holders};
 ghost use Rattle.iova_model.specs.Valid.{IsCache};
 ghost use Rattle.iova_mag.specs.Magazines.{magazine_of};
-ghost use Rattle.iova_mag.specs.Workers.{IsWorkerCache, new_pair, new_worker, cache_of, with_cache, cache_after_get, cache_after_put, renewed_cache, has_frame, AreEmpty, AreFull, HasRoom, got, newest, without_newest};
+ghost use Rattle.iova_mag.specs.Workers.{IsWorkerCache, new_pair, new_worker, cache_of, with_cache, cache_after_get, cache_after_put, renewed_cache, has_frame, AreEmpty, AreFull, HasRoom, GivesNewest, got, newest, without_newest};
 
 use crate::magazine::Magazine;
 use iova_range::limits::ORDERS;
@@ -81,6 +81,14 @@ impl Pair {
             Some(lo) => Got::Hit(lo),
             None => Got::Miss,
         }
+    }
+
+    #[inline(always)]
+    fn gives_newest(&self, order: u8, limit: u64) -> bool
+        requires { order < ORDERS }
+        ensures { IsTrue result → GivesNewest self.now.cache limit (2 ^ order) }
+    {
+        self.loaded.gives_newest(limit, 1 << order)
     }
 
     fn load(&mut self, magazine: Magazine)
@@ -220,6 +228,16 @@ impl WorkerCache {
     {
         let pair = &mut self.pairs[order as usize];
         pair.try_get(order, limit)
+    }
+
+    /// Whether loaded of this order, 0 to 5, has a newest entry, whose range has no frame above `limit`: `try_get` then
+    /// gives it. Our own.
+    #[inline(always)]
+    pub fn gives_newest(&self, order: u8, limit: u64) -> bool
+        requires { order < ORDERS }
+        ensures { IsTrue result → GivesNewest (cache_of self.now order) limit (2 ^ order) }
+    {
+        self.pairs[order as usize].gives_newest(order, limit)
     }
 
     /// Makes a magazine of the same profile loaded, where both of this order, 0 to 5, are empty

@@ -4,8 +4,8 @@ use Rattle.std.specs.Prelude.{nat_lt}
 use Rattle.std.proofs.lemmas.Bool.Decides.{nat_tests}
 use Rattle.iova_model.specs.Next.{with_caches}
 use Rattle.iova_core.proofs.Walks.{comes_plain, comes_second, stands_exchanged}
-use Rattle.iova_core.proofs.walk.walk.Goals as goal
-use Rattle.iova_core.proofs.walk.walk.Goals.{then-sac+then-limit-gt-SAC_LIMIT+in-Nowhere, else-sac, else-sac-via-then-sac+else-limit-gt-SAC_LIMIT, else-sac-via-else-sac}
+use Rattle.iova_core.proofs.walk.walk_on.Goals as goal
+use Rattle.iova_core.proofs.walk.walk_on.Goals.{then-sac+then-limit-gt-SAC_LIMIT+in-Nowhere, else-sac, else-sac-via-then-sac+else-limit-gt-SAC_LIMIT, else-sac-via-else-sac}
 
 pub returns-clause-comes : goal.returns-clause-comes
 returns-clause-comes c s stands = elim c.if-sac.branch [

@@ -7,7 +7,7 @@ use Rattle.iova_clients.specs.Sums.{with_share, with_one}
 use Rattle.iova_clients.proofs.Changed.{client_some, changed-at, spare_at, spare_same, lookup-set_here, lookup-set_other, found_mut, client_known, mut_there}
 use Rattle.iova_clients.proofs.Kept.{client_is, client_is_low, IsRegistry-changed, IsClient-given, all_inserted}
 use Rattle.iova_clients.proofs.BooksLemmas.{sums_given, all_have_room, share_has_room}
-use Rattle.iova_clients.proofs.clients.Clients.add.Goals as goal
+use Rattle.iova_clients.proofs.clients.Clients.add_here.Goals as goal
 
 pub unwrap-ledger-requires : goal.unwrap-ledger-requires
 unwrap-ledger-requires c =
