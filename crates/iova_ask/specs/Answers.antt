@@ -4,9 +4,12 @@ use Rattle.std.specs.List.{AllByRecursion}
 use Rattle.iova_ask.specs.Asking.{AreLines, lines_text}
 use Rattle.iova_ask.specs.declared.answers.Owed.{Owed}
 
--- How many lines go on an answer that begins with this line: n after `held n`, and none after any other.
+-- How many lines go on an answer that begins with this line: n after `held n`, and none after any
+-- other.
 abbrev pub HasLinesAfter : List ℕ → ℕ → Type 0
-HasLinesAfter line n = (line ≡ codes "held " ++ decimal n) ⊎ ((n ≡ 0) × ((k : ℕ) → k < 2 ^ 64 → line ≢ codes "held " ++ decimal k))
+HasLinesAfter line n =
+    (line ≡ codes "held " ++ decimal n)
+    ⊎ ((n ≡ 0) × ((k : ℕ) → k < 2 ^ 64 → line ≢ codes "held " ++ decimal k))
 
 -- the lines of one answer: the first, and as many as go on it
 pub record IsWholeAnswer (ls : List (List ℕ)) : Type 0 where

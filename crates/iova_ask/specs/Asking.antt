@@ -43,31 +43,43 @@ pub record AreLinesAnd (bytes rest : List ℕ) (ls : List (List ℕ)) : Type 0 w
   pub good : AreOpen ls
   pub whole : bytes ≡ lines_text ls ++ rest
 
--- The input, of which this is left, was taken as far as its first bye, or it ended: after its lines, or inside one, which got
--- an LF.
+-- The input, of which this is left, was taken as far as its first bye, or it ended: after its
+-- lines, or inside one, which got an LF.
 abbrev pub IsWhole : List ℕ → Option (List ℕ) → List (List ℕ) → Type 0
-IsWhole taken left ls = (EndByBye ls × BeginWith taken ls) ⊎ (IsAtEnd left × (AreLinesAnd taken [] ls
-    ⊎ ((rest : List ℕ) × (others : List (List ℕ)) × AreLinesAnd taken rest others × IsLine rest × (ls ≡ others ++ rest ∷ []))))
+IsWhole taken left ls =
+    (EndByBye ls × BeginWith taken ls) ⊎ (IsAtEnd left × (AreLinesAnd taken [] ls
+    ⊎ ((rest : List ℕ) × (others : List (List ℕ)) × AreLinesAnd taken rest others × IsLine rest
+    × (ls ≡ others ++ rest ∷ []))))
 
--- some lines at the front of what was taken, the last with an LF of its own where the input ends without one
+-- some lines at the front of what was taken, the last with an LF of its own where the input ends
+-- without one
 abbrev pub AreInFront : List ℕ → List (List ℕ) → Type 0
 AreInFront taken ls = BeginWith taken ls ⊎ BeginWith (taken ++ 10 ∷ []) ls
 
 -- what was sent of an input, of which this was taken and this is left, and the answer
-abbrev pub Sends : List ℕ → Option (List ℕ) → Option (List ℕ) → Option (List ℕ) → Result ℕ AskFault → Type 0
-Sends taken left sent filled (Ok n) = (ls : List (List ℕ)) × IsWhole taken left ls × Appends sent filled (lines_text ls) × (n ≡ length ls)
+abbrev pub Sends : List ℕ → Option (List ℕ) → Option (List ℕ) → Option (List ℕ) → Result ℕ AskFault
+    → Type 0
+Sends taken left sent filled (Ok n) =
+    (ls : List (List ℕ)) × IsWhole taken left ls × Appends sent filled (lines_text ls)
+    × (n ≡ length ls)
 Sends taken left sent filled (Err fault.Read) =
-    (ls : List (List ℕ)) × (rest : List ℕ) × AreLinesAnd taken rest ls × (IsUnended rest ⊎ IsOverlong rest) × Appends sent filled (lines_text ls)
+    (ls : List (List ℕ)) × (rest : List ℕ) × AreLinesAnd taken rest ls
+    × (IsUnended rest ⊎ IsOverlong rest) × Appends sent filled (lines_text ls)
 Sends taken left sent filled (Err other) =
-    (ls : List (List ℕ)) × AreLines ls × AreInFront taken ls × ((n : ℕ) × Appends sent filled (take n (lines_text ls)))
+    (ls : List (List ℕ)) × AreLines ls × AreInFront taken ls
+    × ((n : ℕ) × Appends sent filled (take n (lines_text ls)))
 
--- Some bytes were read from a link, and these written. What was kept and then read is what was written and what is kept now.
-pub record Passes (left after out filled : Option (List ℕ)) (kept now_kept written : List ℕ) : Type 0 where
+-- Some bytes were read from a link, and these written. What was kept and then read is what was
+-- written and what is kept now.
+pub record Passes (left after out filled : Option (List ℕ))
+    (kept now_kept written : List ℕ) : Type 0 where
   pub got : List ℕ
   pub reads : Consumes left after got
   pub writes : Appends out filled written
   pub whole : kept ++ got ≡ written ++ now_kept
 
 -- the same where it ends early
-abbrev pub Breaks : Option (List ℕ) → Option (List ℕ) → Option (List ℕ) → Option (List ℕ) → List ℕ → Type 0
-Breaks left after out filled kept = (rest : List ℕ) × (written : List ℕ) × Passes left after out filled kept rest written
+abbrev pub Breaks : Option (List ℕ) → Option (List ℕ) → Option (List ℕ) → Option (List ℕ) → List ℕ
+    → Type 0
+Breaks left after out filled kept =
+    (rest : List ℕ) × (written : List ℕ) × Passes left after out filled kept rest written

@@ -25,29 +25,39 @@ pub record IsRunOfLines (bytes : List ℕ) (run : Run) : Type 0 where
   pub stuck : run.lines ≡ 0 → IsStuck rest
 
 -- What was sent of the bytes at hand, where `sent` lines had been sent, and the answer.
-abbrev pub SendsRun : List ℕ → List ℕ → ℕ → ℕ → Option (List ℕ) → Option (List ℕ) → Result Bool AskFault → Type 0
+abbrev pub SendsRun : List ℕ → List ℕ → ℕ → ℕ → Option (List ℕ) → Option (List ℕ)
+    → Result Bool AskFault → Type 0
 SendsRun old new before now sent filled (Ok true) =
-    (ls : List (List ℕ)) × EndByBye ls × BeginWith old ls × Appends sent filled (lines_text ls) × (now ≡ before + length ls)
+    (ls : List (List ℕ)) × EndByBye ls × BeginWith old ls × Appends sent filled (lines_text ls)
+    × (now ≡ before + length ls)
 SendsRun old new before now sent filled (Ok false) =
-    (ls : List (List ℕ)) × AreLinesAnd old new ls × IsUnended new × Appends sent filled (lines_text ls) × (now ≡ before + length ls)
+    (ls : List (List ℕ)) × AreLinesAnd old new ls × IsUnended new
+    × Appends sent filled (lines_text ls) × (now ≡ before + length ls)
 SendsRun old new before now sent filled (Err fault.Read) =
-    (ls : List (List ℕ)) × (rest : List ℕ) × AreLinesAnd old rest ls × IsOverlong rest × Appends sent filled (lines_text ls)
+    (ls : List (List ℕ)) × (rest : List ℕ) × AreLinesAnd old rest ls × IsOverlong rest
+    × Appends sent filled (lines_text ls)
 SendsRun old new before now sent filled (Err other) =
-    (ls : List (List ℕ)) × AreLines ls × BeginWith old ls × ((n : ℕ) × Appends sent filled (take n (lines_text ls)))
+    (ls : List (List ℕ)) × AreLines ls × BeginWith old ls
+    × ((n : ℕ) × Appends sent filled (take n (lines_text ls)))
 
--- What was sent of the rest of an input without an LF, where `before` lines had been sent, and the answer.
+-- What was sent of the rest of an input without an LF, where `before` lines had been sent, and the
+-- answer.
 abbrev pub Rests : List ℕ → ℕ → Option (List ℕ) → Option (List ℕ) → Result ℕ AskFault → Type 0
 Rests rest before sent filled (Ok n) = ((rest ≡ []) × (n ≡ before) × Appends sent filled [])
     ⊎ (IsLine rest × (n ≡ before + 1) × Appends sent filled (whole_line rest))
 Rests rest before sent filled (Err fault.Read) = ⊥
-Rests rest before sent filled (Err other) = IsLine rest × ((n : ℕ) × Appends sent filled (take n (whole_line rest)))
+Rests rest before sent filled (Err other) =
+    IsLine rest × ((n : ℕ) × Appends sent filled (take n (whole_line rest)))
 
 -- So many answers were copied, line by line as they came.
-pub record Copies (n : ℕ) (left after out filled : Option (List ℕ)) (kept now_kept : List ℕ) : Type 0 where
+pub record Copies (n : ℕ) (left after out filled : Option (List ℕ))
+    (kept now_kept : List ℕ) : Type 0 where
   pub ls : List (List ℕ)
   pub answers : AreWholeAnswers n ls
   pub passes : Passes left after out filled kept now_kept (lines_text ls)
 
 -- as many as the count of lines that were sent has grown by
-abbrev pub CopiesMore : ℕ → ℕ → Option (List ℕ) → Option (List ℕ) → Option (List ℕ) → Option (List ℕ) → List ℕ → List ℕ → Type 0
-CopiesMore before now left after out filled kept now_kept = (n : ℕ) × (now ≡ before + n) × Copies n left after out filled kept now_kept
+abbrev pub CopiesMore : ℕ → ℕ → Option (List ℕ) → Option (List ℕ) → Option (List ℕ)
+    → Option (List ℕ) → List ℕ → List ℕ → Type 0
+CopiesMore before now left after out filled kept now_kept =
+    (n : ℕ) × (now ≡ before + n) × Copies n left after out filled kept now_kept

@@ -33,7 +33,8 @@ pub(crate) fn copy_answers<W: Write, L: Link>(
     ensures copied { MatchResult result
         (λ _. Copies answers (L.left link.old) (L.left link.new)
         (W.contents writer.old) (W.contents writer.new) held.old held.new)
-        (λ _. Breaks (L.left link.old) (L.left link.new) (W.contents writer.old) (W.contents writer.new) held.old) }
+        (λ _. Breaks (L.left link.old) (L.left link.new) (W.contents writer.old)
+        (W.contents writer.new) held.old) }
     ensures sent { L.sent link.new ≡ L.sent link.old }
     ensures fault { IfErr result (λ e. e ≢ AskFault.Read) }
 {
@@ -67,10 +68,12 @@ pub(crate) fn copy_answers<W: Write, L: Link>(
 /// Writes the first `len` bytes that are held, and uses them up.
 fn write_held<W: Write>(writer: &mut W, held: &mut Buffer, len: usize) -> Result<(), AskFault>
     requires { len ≤ length held.old }
-    ensures ok { OnOk result (Appends (W.contents writer.old) (W.contents writer.new) (take len held.old)) }
+    ensures ok { OnOk result (Appends (W.contents writer.old) (W.contents writer.new)
+        (take len held.old)) }
     ensures held { OnOk result (held.new ≡ drop len held.old) }
     ensures err { OnErr result
-        ((n : ℕ) × Appends (W.contents writer.old) (W.contents writer.new) (take n (take len held.old))) }
+        ((n : ℕ) × Appends (W.contents writer.old) (W.contents writer.new)
+        (take n (take len held.old))) }
     ensures fault { IfErr result (λ e. e ≢ AskFault.Read) }
 {
     if len == 0 {
@@ -87,7 +90,8 @@ fn write_held<W: Write>(writer: &mut W, held: &mut Buffer, len: usize) -> Result
 
 /// Reads once, and gives how many bytes came, at least one. The end is a fault.
 fn read_link<L: Link>(link: &mut L, piece: &mut [u8]) -> Result<usize, AskFault>
-    ensures ok { IfOk result (λ len. Consumes (L.left link.old) (L.left link.new) (take len piece.new)) }
+    ensures ok { IfOk result (λ len. Consumes (L.left link.old) (L.left link.new)
+        (take len piece.new)) }
     ensures bound { IfOk result (λ len. len ≤ length piece.new) }
     ensures err { IfErr result (λ e. (e ≡ AskFault.Link)
         × ((got : List ℕ) × Consumes (L.left link.old) (L.left link.new) got)) }
@@ -103,8 +107,8 @@ fn read_link<L: Link>(link: &mut L, piece: &mut [u8]) -> Result<usize, AskFault>
     }
 }
 
-/// How many of the bytes are whole lines of what is owed, and what is owed after them. A line of more than 128 bytes ends the
-/// count.
+/// How many of the bytes are whole lines of what is owed, and what is owed after them. A line of
+/// more than 128 bytes ends the count.
 fn answered(bytes: &[u8], owed: Owed) -> (usize, Owed)
     ensures { IsAnswered bytes.now owed result.0 result.1 }
 {
@@ -144,7 +148,8 @@ fn after_line(owed: Owed, line: &[u8]) -> Owed
     }
 }
 
-/// How many lines go on an answer that begins with this line: `n` after `held n`, and none after any other.
+/// How many lines go on an answer that begins with this line: `n` after `held n`, and none after
+/// any other.
 fn ranges_of(line: &[u8]) -> u64
     ensures { HasLinesAfter line.now result }
 {

@@ -15,7 +15,8 @@ pub(crate) struct Run {
     pub is_last: bool,
 }
 
-/// The whole lines at the front of the bytes, at most 16, up to the first `bye`, and before a line of more than 128 bytes.
+/// The whole lines at the front of the bytes, at most 16, up to the first `bye`, and before a line
+/// of more than 128 bytes.
 pub(crate) fn gather(bytes: &[u8]) -> Run
     ensures { IsRunOfLines bytes.now result }
 {

@@ -24,25 +24,29 @@ use std::alloc::Global;
 use std::io;
 use std::io::{Read, Write};
 
-/// Sends each line of the input over the link, up to the first `bye`, writes the answers as they come, and gives the number of
-/// lines sent; a last line without an LF gets one. Up to 16 whole lines that are at hand go in one write, and no more are
-/// under way; each answer is out before the next read of the input.
+/// Sends each line of the input over the link, up to the first `bye`, writes the answers as they
+/// come, and gives the number of lines sent; a last line without an LF gets one. Up to 16 whole
+/// lines that are at hand go in one write, and no more are under way; each answer is out before the
+/// next read of the input.
 ///
-/// Refused by `Read` where a read of the input fails, an interruption too, after 134,217,728 reads, and for a line of more
-/// than 128 bytes with its LF, which isn't sent; by `Write` where a write or a flush of the answers fails; by `Link` where the
-/// link fails, has a line of an answer of more than 128 bytes, or ends before an answer is whole; by `NoMemory`. Own.
+/// Refused by `Read` where a read of the input fails, an interruption too, after 134,217,728 reads,
+/// and for a line of more than 128 bytes with its LF, which isn't sent; by `Write` where a write or
+/// a flush of the answers fails; by `Link` where the link fails, has a line of an answer of more
+/// than 128 bytes, or ends before an answer is whole; by `NoMemory`. Own.
 pub fn ask_lines<R: Read, W: Write, L: Link>(
     alloc: Global,
     reader: &mut R,
     writer: &mut W,
     link: &mut L,
 ) -> Result<u64, AskFault>
-    ensures sent { (taken : List ℕ) × Consumes (R.remaining reader.old) (R.remaining reader.new) taken
+    ensures sent { (taken : List ℕ) × Consumes (R.remaining reader.old) (R.remaining reader.new)
+        taken
         × Sends taken (R.remaining reader.new) (L.sent link.old) (L.sent link.new) result }
     ensures copied { MatchResult result
         (λ n. (rest : List ℕ) × Copies n (L.left link.old) (L.left link.new)
         (W.contents writer.old) (W.contents writer.new) [] rest)
-        (λ _. Breaks (L.left link.old) (L.left link.new) (W.contents writer.old) (W.contents writer.new) []) }
+        (λ _. Breaks (L.left link.old) (L.left link.new) (W.contents writer.old)
+        (W.contents writer.new) []) }
 {
     let (Ok(mut input), Ok(mut answers)) = (Buffer::new(alloc), Buffer::new(alloc)) else {
         return Err(AskFault::NoMemory);
@@ -73,7 +77,8 @@ pub fn ask_lines<R: Read, W: Write, L: Link>(
     Err(AskFault::Read)
 }
 
-/// Sends the whole lines at hand, up to 16 at a time, and copies their answers. Whether the last one was `bye`.
+/// Sends the whole lines at hand, up to 16 at a time, and copies their answers. Whether the last
+/// one was `bye`.
 fn ask_whole<W: Write, L: Link>(
     input: &mut Buffer,
     writer: &mut W,
@@ -82,11 +87,13 @@ fn ask_whole<W: Write, L: Link>(
     sent: &mut u64,
 ) -> Result<bool, AskFault>
     requires { sent.old + length input.old < 2 ^ 63 }
-    ensures asked { SendsRun input.old input.new sent.old sent.new (L.sent link.old) (L.sent link.new) result }
+    ensures asked { SendsRun input.old input.new sent.old sent.new (L.sent link.old)
+        (L.sent link.new) result }
     ensures copied { MatchResult result
         (λ _. CopiesMore sent.old sent.new (L.left link.old) (L.left link.new)
         (W.contents writer.old) (W.contents writer.new) answers.old answers.new)
-        (λ _. Breaks (L.left link.old) (L.left link.new) (W.contents writer.old) (W.contents writer.new) answers.old) }
+        (λ _. Breaks (L.left link.old) (L.left link.new) (W.contents writer.old)
+        (W.contents writer.new) answers.old) }
     ensures bound { sent.new + length input.new ≤ sent.old + length input.old }
 {
     'asking: loop {
@@ -129,7 +136,8 @@ fn ask_some<W: Write, L: Link>(
     ensures copied { MatchResult result
         (λ _. Copies lines (L.left link.old) (L.left link.new)
         (W.contents writer.old) (W.contents writer.new) answers.old answers.new)
-        (λ _. Breaks (L.left link.old) (L.left link.new) (W.contents writer.old) (W.contents writer.new) answers.old) }
+        (λ _. Breaks (L.left link.old) (L.left link.new) (W.contents writer.old)
+        (W.contents writer.new) answers.old) }
 {
     match put_all(link, bytes) {
         Ok(()) => copy_answers(writer, link, answers, lines),
@@ -151,7 +159,8 @@ fn ask_rest<W: Write, L: Link>(
     ensures copied { MatchResult result
         (λ n. CopiesMore sent n (L.left link.old) (L.left link.new)
         (W.contents writer.old) (W.contents writer.new) answers.old answers.new)
-        (λ _. Breaks (L.left link.old) (L.left link.new) (W.contents writer.old) (W.contents writer.new) answers.old) }
+        (λ _. Breaks (L.left link.old) (L.left link.new) (W.contents writer.old)
+        (W.contents writer.new) answers.old) }
 {
     if input.as_slice().is_empty() {
         return Ok(sent);
@@ -166,10 +175,12 @@ fn ask_rest<W: Write, L: Link>(
     }
 }
 
-/// Reads once, and gives how many bytes came, none only at the end. Any error is a fault, an interruption too.
+/// Reads once, and gives how many bytes came, none only at the end. Any error is a fault, an
+/// interruption too.
 fn read_some<R: Read>(reader: &mut R, piece: &mut [u8]) -> Result<usize, AskFault>
     requires { 0 < length piece.old }
-    ensures ok { IfOk result (λ len. Consumes (R.remaining reader.old) (R.remaining reader.new) (take len piece.new)) }
+    ensures ok { IfOk result (λ len. Consumes (R.remaining reader.old) (R.remaining reader.new)
+        (take len piece.new)) }
     ensures bound { IfOk result (λ len. len ≤ length piece.new) }
     ensures end { IfOk result (λ len. len ≡ 0 → IsAtEnd (R.remaining reader.new)) }
     ensures err { OnErr result

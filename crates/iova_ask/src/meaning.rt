@@ -1,7 +1,7 @@
 //! What each refusal means.
 
-/// What this answer means, where it is a refusal that a session is given: words that stand in the manual's table of
-/// refusals. None of any other text.
+/// What this answer means, where it is a refusal that a session is given: words that stand in the
+/// manual's table of refusals. None of any other text.
 pub(crate) fn meaning_of(answer: &str) -> Option<&'static str> {
     match answer {
         "no 1 Zero" => Some("0 frames are asked for"),

@@ -1,4 +1,5 @@
-//! Requests asked by hand, at a terminal: a prompt before each line, and beside a refusal what it means.
+//! Requests asked by hand, at a terminal: a prompt before each line, and beside a refusal what it
+//! means.
 ghost use Rattle.std.specs.Prelude.{List, Option, ℕ};
 ghost use Rattle.iova_ask.specs.Asking.{Sends};
 
@@ -15,18 +16,21 @@ use std::str::from_utf8;
 /// What stands before a line that is typed.
 const PROMPT: &[u8] = b"> ";
 
-/// Asks the lines that are typed on standard input over the link, and shows their answers, as `ask_lines` does; with a
-/// prompt before each line, and behind a refusal what it means. Gives the number of lines sent. Refused as `ask_lines`
-/// is; a prompt that can't be written counts as a read that fails. Own.
+/// Asks the lines that are typed on standard input over the link, and shows their answers, as
+/// `ask_lines` does; with a prompt before each line, and behind a refusal what it means. Gives the
+/// number of lines sent. Refused as `ask_lines` is; a prompt that can't be written counts as a read
+/// that fails. Own.
 pub fn ask_by_hand<R: Runtime + AllocGlobal, L: Link>(rt: &R, link: &mut L) -> Result<u64, AskFault>
-    ensures { (typed : List ℕ) × (left : Option (List ℕ)) × Sends typed left (L.sent link.old) (L.sent link.new) result }
+    ensures { (typed : List ℕ) × (left : Option (List ℕ))
+        × Sends typed left (L.sent link.old) (L.sent link.new) result }
 {
     let mut lines = Prompted::new(rt.reader(), io::writer(rt));
     let mut shown = Explained::new(io::writer(rt));
     ask_lines(rt.alloc(), &mut lines, &mut shown, link)
 }
 
-/// A reader of lines that are typed, with a prompt on the writer before each of them. A contract sees nothing of it.
+/// A reader of lines that are typed, with a prompt on the writer before each of them. A contract
+/// sees nothing of it.
 #[derive(Drop)]
 struct Prompted<R, W> {
     reader: R,
@@ -62,8 +66,8 @@ impl<R: Read, W: Write> Read for Prompted<R, W> {
     }
 }
 
-/// A writer of answers that tells what a refusal means. Lines are given to it whole, one or several at a time. A
-/// contract sees nothing of it.
+/// A writer of answers that tells what a refusal means. Lines are given to it whole, one or several
+/// at a time. A contract sees nothing of it.
 #[derive(Drop)]
 struct Explained<W> {
     writer: W,

@@ -50,13 +50,15 @@ word_answer (reply.Marked number) = 0
 
 -- the addresses of a range, in bytes
 abbrev pub mapping_of : Frames → MappingAnswer
-mapping_of range = record { refused = 0; address = range.lo * FRAME_BYTES; bytes = range.len * FRAME_BYTES }
+mapping_of range =
+    record { refused = 0; address = range.lo * FRAME_BYTES; bytes = range.len * FRAME_BYTES }
 
 -- the range of a reply to `Alloc` or `Unmap`, in bytes
 abbrev pub mapping_answer : Reply → MappingAnswer
 mapping_answer (reply.Given range) = mapping_of range
 mapping_answer (reply.Queued range) = mapping_of range
-mapping_answer (reply.Refused refusal) = record { refused = refusal_number refusal; address = 0; bytes = 0 }
+mapping_answer (reply.Refused refusal) =
+    record { refused = refusal_number refusal; address = 0; bytes = 0 }
 mapping_answer (reply.Reserved range) = record { refused = 0; address = 0; bytes = 0 }
 mapping_answer (reply.Opened number) = record { refused = 0; address = 0; bytes = 0 }
 mapping_answer reply.Empty = record { refused = 0; address = 0; bytes = 0 }

@@ -18,8 +18,10 @@ with_ranges list ranges = map listed (take (length list) ranges) ++ drop (length
 
 -- a call that lists these ranges, or is refused and leaves the list
 abbrev pub Lists : Result (List Frames) Refusal → List Listed → NumberAnswer → List Listed → Type 0
-Lists (Ok ranges) list answer list' = (answer ≡ record { refused = 0; number = length ranges }) × (list' ≡ with_ranges list ranges)
-Lists (Err r) list answer list' = (answer ≡ record { refused = refusal_number r; number = 0 }) × (list' ≡ list)
+Lists (Ok ranges) list answer list' =
+    (answer ≡ record { refused = 0; number = length ranges }) × (list' ≡ with_ranges list ranges)
+Lists (Err r) list answer list' =
+    (answer ≡ record { refused = refusal_number r; number = 0 }) × (list' ≡ list)
 
 abbrev pub holdings_of : Option Client → Result (List Frames) Refusal
 holdings_of None = Err refusal.NoClient
@@ -33,8 +35,10 @@ abbrev pub windows_in : Option State → Result (List Frames) Refusal
 windows_in None = Err refusal.NoDomain
 windows_in (Some s) = Ok s.windows
 
-abbrev pub ListsHoldings : Option State → ℕ → List Listed → NumberAnswer → List Listed → Option State → Type 0
+abbrev pub ListsHoldings : Option State → ℕ → List Listed → NumberAnswer → List Listed
+    → Option State → Type 0
 ListsHoldings old id list answer list' new = Lists (held_in id old) list answer list' × (new ≡ old)
 
-abbrev pub ListsWindows : Option State → List Listed → NumberAnswer → List Listed → Option State → Type 0
+abbrev pub ListsWindows : Option State → List Listed → NumberAnswer → List Listed → Option State
+    → Type 0
 ListsWindows old list answer list' new = Lists (windows_in old) list answer list' × (new ≡ old)

@@ -72,18 +72,28 @@ totals_answer (Some s) = some_totals (totals s.clients)
 -- over the clients of a worker
 abbrev pub share_answer : ℕ → Option State → TotalsAnswer
 share_answer worker None = no_totals refusal.NoDomain
-share_answer worker (Some s) = if nat_lt worker s.workers then some_totals (share_of worker s.clients) else no_totals refusal.NoWorker
+share_answer worker (Some s) =
+    if nat_lt worker s.workers then some_totals (share_of worker s.clients)
+    else no_totals refusal.NoWorker
 
 abbrev pub one_if : Bool → ℕ
 one_if false = 0
 one_if true = 1
 
 abbrev pub client_told : Option Client → ClientAnswer
-client_told None = record { refused = refusal_number refusal.NoClient; worker = 0; closing = 0; holdings = 0 }
-client_told (Some c) = record { refused = 0; worker = c.worker; closing = one_if c.closing; holdings = length c.holdings }
+client_told None =
+    record { refused = refusal_number refusal.NoClient; worker = 0; closing = 0; holdings = 0 }
+client_told (Some c) =
+    record {
+      refused = 0;
+      worker = c.worker;
+      closing = one_if c.closing;
+      holdings = length c.holdings;
+    }
 
 abbrev pub client_answer : ℕ → Option State → ClientAnswer
-client_answer id None = record { refused = refusal_number refusal.NoDomain; worker = 0; closing = 0; holdings = 0 }
+client_answer id None =
+    record { refused = refusal_number refusal.NoDomain; worker = 0; closing = 0; holdings = 0 }
 client_answer id (Some s) = client_told (client_with id s.clients)
 
 abbrev pub bounds_answer : Option State → BoundsAnswer

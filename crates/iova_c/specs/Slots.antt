@@ -19,7 +19,8 @@ abbrev pub is_set : ℕ → Bool
 is_set zero = false
 is_set (suc n) = true
 
--- The domain of a slot takes the step, with this reply. Without a domain the step is refused, and nothing has changed.
+-- The domain of a slot takes the step, with this reply. Without a domain the step is refused, and
+-- nothing has changed.
 abbrev pub HasStepped : Option State → Step → Reply → Option State → Type 0
 HasStepped (Some s) st r new = (s' : State) × IsStepOf s st r s' × (new ≡ Some s')
 HasStepped None st r new = (r ≡ reply.Refused refusal.NoDomain) × (new ≡ None)
@@ -42,14 +43,19 @@ MappingStep old st answer new = (r : Reply) × HasStepped old st r new × (answe
 abbrev pub IsWorkerCount : ℕ → Type 0
 IsWorkerCount workers = (1 ≤ workers) × (workers ≤ MAX_WORKERS)
 
--- What making a domain answers and leaves: with 0 a new one in the slot, with the number of a refusal what was there.
--- Bounds of the profile and a worker count are refused only for want of memory.
-pub record IsMade (old : Option State) (extent : Extent) (workers answer : ℕ) (new : Option State) : Type 0 where
+-- What making a domain answers and leaves: with 0 a new one in the slot, with the number of a
+-- refusal what was there. Bounds of the profile and a worker count are refused only for want of
+-- memory.
+pub record IsMade (old : Option State) (extent : Extent) (workers answer : ℕ)
+    (new : Option State) : Type 0 where
   pub made : answer ≡ 0 → new ≡ Some (new_domain extent workers)
   pub kept : answer ≢ 0 → new ≡ old
-  pub bad_window : (answer ≡ refusal_number refusal.BadWindow) ↔ (AreBounds extent.profile extent.start extent.last → ⊥)
-  pub no_worker : AreBounds extent.profile extent.start extent.last → (answer ≡ refusal_number refusal.NoWorker) ↔ (IsWorkerCount workers → ⊥)
-  pub no_other : (answer ≡ 0) ⊎ (answer ≡ refusal_number refusal.BadWindow) ⊎ (answer ≡ refusal_number refusal.NoWorker) ⊎ (answer ≡ refusal_number refusal.NoMemory)
+  pub bad_window : (answer ≡ refusal_number refusal.BadWindow)
+      ↔ (AreBounds extent.profile extent.start extent.last → ⊥)
+  pub no_worker : AreBounds extent.profile extent.start extent.last
+      → (answer ≡ refusal_number refusal.NoWorker) ↔ (IsWorkerCount workers → ⊥)
+  pub no_other : (answer ≡ 0) ⊎ (answer ≡ refusal_number refusal.BadWindow)
+      ⊎ (answer ≡ refusal_number refusal.NoWorker) ⊎ (answer ≡ refusal_number refusal.NoMemory)
 
 -- in the first profile
 abbrev pub HasMade : Option State → ℕ → ℕ → ℕ → ℕ → Option State → Type 0
@@ -57,6 +63,8 @@ HasMade old start last workers answer new =
     IsMade old (record { start = start; last = last; profile = first_profile }) workers answer new
 
 -- in the second one, whose depot has a limit
-pub record HasMadeSecond (old : Option State) (start last workers depot answer : ℕ) (new : Option State) : Type 0 where
+pub record HasMadeSecond (old : Option State) (start last workers depot answer : ℕ)
+    (new : Option State) : Type 0 where
   pub bad_profile : MAX_DEPOT < depot → (answer ≡ refusal_number refusal.BadProfile) × (new ≡ old)
-  pub made : depot ≤ MAX_DEPOT → IsMade old (record { start = start; last = last; profile = second_profile depot }) workers answer new
+  pub made : depot ≤ MAX_DEPOT → IsMade old
+      (record { start = start; last = last; profile = second_profile depot }) workers answer new

@@ -1,4 +1,5 @@
-//! What C is answered: structs of numbers, the first of which is 0, or the number of the refusal; then all others are 0.
+//! What C is answered: structs of numbers, the first of which is 0, or the number of the refusal;
+//! then all others are 0.
 ghost use Rattle.std.specs.Prelude.{◌≡◌, ◌≤◌, ◌*◌, ◌+◌, ◌^◌};
 ghost use Rattle.iova_range.specs.Refusals.{refusal_number};
 ghost use Rattle.iova_c.specs.Answers.{range_answer, number_answer, word_answer, mapping_answer, HasAddresses};
@@ -43,7 +44,8 @@ pub struct PlaceAnswer {
     pub number: u64,
 }
 
-/// How many frames of the bounds are at each kind of place, and how many clients and windows there are.
+/// How many frames of the bounds are at each kind of place, and how many clients and windows there
+/// are.
 #[repr(C)]
 #[derive(Drop)]
 pub struct CountsAnswer {
@@ -78,7 +80,8 @@ pub struct ClientAnswer {
     pub holdings: u64,
 }
 
-/// The first and the last frame, the entries of a magazine, the magazines of the depot, and the workers.
+/// The first and the last frame, the entries of a magazine, the magazines of the depot, and the
+/// workers.
 #[repr(C)]
 #[derive(Drop)]
 pub struct BoundsAnswer {

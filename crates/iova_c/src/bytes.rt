@@ -25,10 +25,12 @@ pub fn frames_of(bytes: u64) -> u64
     }
 }
 
-/// The last frame whose bytes all have addresses up to the mask. 0 where there is none, and frame 0 is never given.
+/// The last frame whose bytes all have addresses up to the mask. 0 where there is none, and frame 0
+/// is never given.
 pub fn last_frame(mask: u64) -> u64
     ensures is { result ≡ last_frame mask }
-    ensures within { (frame : ℕ) → 1 ≤ frame → (frame ≤ result) ↔ (frame * FRAME_BYTES + (FRAME_BYTES - 1) ≤ mask) }
+    ensures within { (frame : ℕ) → 1 ≤ frame → (frame ≤ result)
+        ↔ (frame * FRAME_BYTES + (FRAME_BYTES - 1) ≤ mask) }
     ensures small { result < 2 ^ 52 }
 {
     mask.saturating_sub(FRAME_BYTES - 1) / FRAME_BYTES
@@ -36,7 +38,8 @@ pub fn last_frame(mask: u64) -> u64
 
 /// `Alloc` in bytes: frames for so many bytes, none of them with an address above the mask.
 pub fn map(slot: &mut Slot, worker: u64, client: u64, bytes: u64, mask: u64) -> MappingAnswer
-    ensures { MappingStep slot.old.domain (Step.Alloc worker client (frames_of bytes) (last_frame mask)) result slot.new.domain }
+    ensures { MappingStep slot.old.domain
+        (Step.Alloc worker client (frames_of bytes) (last_frame mask)) result slot.new.domain }
 {
     // for the proof: what is given has no frame above the limit
     requests_are_answered();
@@ -58,7 +61,8 @@ pub fn map(slot: &mut Slot, worker: u64, client: u64, bytes: u64, mask: u64) -> 
 
 /// `Unmap` in bytes: the holding in whose first frame the address is.
 pub fn unmap_bytes(slot: &mut Slot, worker: u64, client: u64, address: u64) -> MappingAnswer
-    ensures { MappingStep slot.old.domain (Step.Unmap worker client (frame_at address)) result slot.new.domain }
+    ensures { MappingStep slot.old.domain (Step.Unmap worker client (frame_at address)) result
+        slot.new.domain }
 {
     // for the proof: what is queued begins at that frame, and was held
     steps_are_answered_in_kind();

@@ -1,5 +1,6 @@
-//! The functions that C calls. Each takes a pointer to a slot, which the caller lends for the call: it lies there before and
-//! after, and nobody else reads or writes it meanwhile. Each is one call of a function of this crate, whose contract it has.
+//! The functions that C calls. Each takes a pointer to a slot, which the caller lends for the call:
+//! it lies there before and after, and nobody else reads or writes it meanwhile. Each is one call
+//! of a function of this crate, whose contract it has.
 ghost use Rattle.std.specs.Prelude.{◌≡◌, ◌≤◌, None};
 ghost use Rattle.std.specs.Borrow.{full_share, sem};
 ghost use Rattle.std.specs.Ptr.{lies_at, room_at};
@@ -22,7 +23,8 @@ use crate::steps::{alloc, begin, close, close_one, drain, end, open, reserve, un
 use iova_core::Step;
 use std::alloc::Global;
 
-/// The type that C has for a slot. No value of it is ever made: a pointer to one is a pointer to a `Slot`.
+/// The type that C has for a slot. No value of it is ever made: a pointer to one is a pointer to a
+/// `Slot`.
 #[repr(C)]
 pub struct SlotRoom {
     never: u8,
@@ -46,7 +48,8 @@ pub unsafe extern "C" fn iova_domain_init(domain: *mut SlotRoom)
     (domain as *mut Slot).write(empty());
 }
 
-/// Makes a domain for the slot, in place of the one that it has. Answers 0, or the number of the refusal.
+/// Makes a domain for the slot, in place of the one that it has. Answers 0, or the number of the
+/// refusal.
 #[unsafe(no_mangle)]
 pub unsafe extern "C" fn iova_domain_make(
     alloc: Global,
@@ -88,7 +91,8 @@ pub unsafe extern "C" fn iova_domain_make_second(
     )
 }
 
-/// Ends the domain of the slot, and gives its memory back. The slot may be used again, or its room left.
+/// Ends the domain of the slot, and gives its memory back. The slot may be used again, or its room
+/// left.
 #[unsafe(no_mangle)]
 pub unsafe extern "C" fn iova_domain_clear(domain: *mut SlotRoom)
     ghost old: { Slot }
@@ -225,7 +229,8 @@ pub unsafe extern "C" fn iova_map(
     ghost old: { Slot }
     requires* { sem 𝓛 (lies_at the_row full_share domain old) }
     ensures* { ∃ₛ (λ (new : Slot). sem 𝓛 (lies_at the_row full_share domain new)
-        ∗ ⌜ MappingStep old.domain (Step.Alloc worker client (frames_of bytes) (last_frame mask)) result new.domain ⌝) }
+        ∗ ⌜ MappingStep old.domain (Step.Alloc worker client (frames_of bytes) (last_frame mask))
+        result new.domain ⌝) }
 {
     map(&mut *(domain as *mut Slot), worker, client, bytes, mask)
 }
@@ -241,7 +246,8 @@ pub unsafe extern "C" fn iova_unmap_bytes(
     ghost old: { Slot }
     requires* { sem 𝓛 (lies_at the_row full_share domain old) }
     ensures* { ∃ₛ (λ (new : Slot). sem 𝓛 (lies_at the_row full_share domain new)
-        ∗ ⌜ MappingStep old.domain (Step.Unmap worker client (frame_at address)) result new.domain ⌝) }
+        ∗ ⌜ MappingStep old.domain (Step.Unmap worker client (frame_at address)) result new.domain
+        ⌝) }
 {
     unmap_bytes(&mut *(domain as *mut Slot), worker, client, address)
 }

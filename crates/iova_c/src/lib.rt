@@ -1,5 +1,5 @@
-//! The allocator as a static library for C: `libiova.a`, whose header is `include/iova.h`. C gives the memory that a domain
-//! lies in, and each export is told where it lies.
+//! The allocator as a static library for C: `libiova.a`, whose header is `include/iova.h`. C gives
+//! the memory that a domain lies in, and each export is told where it lies.
 #![tactic(auto)]
 
 pub mod answer;

@@ -54,8 +54,8 @@ fn put_text(bytes: &[u8], text: &mut [u8])
     text[..count].copy_from_slice(&bytes[..count]);
 }
 
-/// Writes the refusal's name to the front of the text, as much of it as has room, and answers its length; 0 where no refusal has
-/// the number.
+/// Writes the refusal's name to the front of the text, as much of it as has room, and answers its
+/// length; 0 where no refusal has the number.
 #[unsafe(no_mangle)]
 pub extern "C" fn iova_refusal_text(number: u64, text: &mut [u8]) -> u64
     ensures { HasNamed number text.old result text.new }
@@ -70,7 +70,8 @@ pub extern "C" fn iova_refusal_text(number: u64, text: &mut [u8]) -> u64
     }
 }
 
-/// The bytes of a type of `iova.h`, by its place there; of a slot for 0, and 0 where there is no such type.
+/// The bytes of a type of `iova.h`, by its place there; of a slot for 0, and 0 where there is no
+/// such type.
 #[unsafe(no_mangle)]
 pub extern "C" fn iova_type_size(number: u64) -> u64
     ensures slot { number ≡ 0 → result ≤ 1536 }

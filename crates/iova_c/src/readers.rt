@@ -1,4 +1,5 @@
-//! What a slot's domain holds. Each call leaves the slot as it is, and answers `NoDomain` where it has no domain.
+//! What a slot's domain holds. Each call leaves the slot as it is, and answers `NoDomain` where it
+//! has no domain.
 ghost use Rattle.std.specs.Prelude.{◌≡◌};
 ghost use Rattle.iova_c.specs.Readers.{Reads, place_answer, counts_answer, totals_answer, share_answer, client_answer, bounds_answer, flushes_answer};
 
@@ -19,8 +20,8 @@ fn a_place(kind: u64, number: u64) -> PlaceAnswer
     }
 }
 
-/// Where a frame is: the kinds are 0 outside the bounds, 1 free, 2 reserved, 3 a client's, 4 a worker's magazine, 5 the
-/// depot, 6 a worker's ring.
+/// Where a frame is: the kinds are 0 outside the bounds, 1 free, 2 reserved, 3 a client's, 4 a
+/// worker's magazine, 5 the depot, 6 a worker's ring.
 pub fn place(slot: &mut Slot, frame: u64) -> PlaceAnswer
     ensures { Reads (place_answer frame) slot.old.domain result slot.new.domain }
 {
@@ -73,7 +74,12 @@ pub fn counts(slot: &mut Slot) -> CountsAnswer
 }
 
 fn some_totals(totals: Totals) -> TotalsAnswer
-    ensures { result ≡ record { refused = 0; count = totals.count; frames = totals.frames; sum_lo = totals.sum_lo } }
+    ensures { result ≡ record {
+      refused = 0;
+      count = totals.count;
+      frames = totals.frames;
+      sum_lo = totals.sum_lo;
+    } }
 {
     TotalsAnswer {
         refused: 0,

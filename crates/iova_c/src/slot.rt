@@ -58,8 +58,8 @@ pub fn queues_at_once(slot: &Slot, worker: u64, client: u64, lo: u64) -> bool {
     }
 }
 
-/// A new domain of the first profile for the slot, in place of the one that it has. Answers 0, or the number of the
-/// refusal, by which nothing has changed: `BadWindow`, `NoWorker`, `NoMemory`.
+/// A new domain of the first profile for the slot, in place of the one that it has. Answers 0, or
+/// the number of the refusal, by which nothing has changed: `BadWindow`, `NoWorker`, `NoMemory`.
 pub fn make(alloc: Global, slot: &mut Slot, start: u64, last: u64, workers: u64) -> u64
     ensures { HasMade slot.old.domain start last workers result slot.new.domain }
 {
@@ -75,7 +75,8 @@ pub fn make(alloc: Global, slot: &mut Slot, start: u64, last: u64, workers: u64)
     }
 }
 
-/// The same in the second profile, with so many magazines of each order in the depot. `BadProfile`, and then as above.
+/// The same in the second profile, with so many magazines of each order in the depot. `BadProfile`,
+/// and then as above.
 pub fn make_second(
     alloc: Global,
     slot: &mut Slot,

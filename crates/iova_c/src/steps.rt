@@ -20,7 +20,8 @@ pub fn open(slot: &mut Slot, worker: u64, sac: u64) -> NumberAnswer
 }
 
 pub fn alloc(slot: &mut Slot, worker: u64, client: u64, frames: u64, limit: u64) -> RangeAnswer
-    ensures { RangeStep slot.old.domain (Step.Alloc worker client frames limit) result slot.new.domain }
+    ensures { RangeStep slot.old.domain (Step.Alloc worker client frames limit) result
+        slot.new.domain }
 {
     of_range(step(
         slot,

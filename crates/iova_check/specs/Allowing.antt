@@ -7,9 +7,11 @@ use Rattle.iova_check.specs.Bounds.{Bounds}
 use Rattle.iova_check.specs.Findings.{told, told_outside}
 use Rattle.iova_check.specs.Marks.{shown}
 
--- of each frame that a line can name, whether it is out of these bounds: the frames that may be mapped are kept as mapped ones
+-- of each frame that a line can name, whether it is out of these bounds: the frames that may be
+-- mapped are kept as mapped ones
 abbrev pub Allows : Allowed → Bounds → Type 0
-Allows allowed bounds = (f : ℕ) → f < 2 ^ 64 - 1 → told kind.Unmapped (shown allowed.stages f) ≡ told_outside bounds f
+Allows allowed bounds =
+    (f : ℕ) → f < 2 ^ 64 - 1 → told kind.Unmapped (shown allowed.stages f) ≡ told_outside bounds f
 
 -- the bounds with a window more
 abbrev pub with_window : Bounds → Frames → Bounds

@@ -3,7 +3,8 @@ use Rattle.std.specs.Prelude.{ℕ, List, unwrap_or}
 use Rattle.iova_range.specs.Frames.{Frames}
 use Rattle.iova_check.specs.declared.allowed.Asked.{Asked}
 
--- those from the first to the last one that are in none of the windows: none at all where the first is above the last
+-- those from the first to the last one that are in none of the windows: none at all where the first
+-- is above the last
 pub record Bounds : Type 0 where
   pub first : ℕ
   pub last : ℕ
@@ -11,4 +12,9 @@ pub record Bounds : Type 0 where
 
 -- what is asked for, from and to these frames where nothing else is
 abbrev pub bounds_asked : Asked → ℕ → ℕ → Bounds
-bounds_asked asked first last = record { first = unwrap_or asked.first first; last = unwrap_or asked.last last; windows = asked.windows.now }
+bounds_asked asked first last =
+    record {
+      first = unwrap_or asked.first first;
+      last = unwrap_or asked.last last;
+      windows = asked.windows.now;
+    }

@@ -9,15 +9,19 @@ use Rattle.iova_check.specs.Counting.{IsCounted}
 use Rattle.iova_check.specs.Output.{IsTold}
 
 -- it has taken these lines under these bounds, and this is the text of what was told of them
-pub record HasChecked (bounds : Bounds) (past : List Event) (c : Checker) (text : List ℕ) : Type 0 where
+pub record HasChecked (bounds : Bounds) (past : List Event) (c : Checker)
+    (text : List ℕ) : Type 0 where
   pub under : Allows c.allowed bounds
   pub follows : Follows past c.tracker
   pub found : ℕ
   pub told : IsTold bounds past text found
   pub counted : IsCounted past found c.counts
 
--- It takes a line more, and appends what is told of it: whatever it had told, it has told that and what was appended.
-pub record ChecksNext (old : Checker) (e : Event) (before : List ℕ) (new : Checker) (after : List ℕ) : Type 0 where
+-- It takes a line more, and appends what is told of it: whatever it had told, it has told that and
+-- what was appended.
+pub record ChecksNext (old : Checker) (e : Event) (before : List ℕ) (new : Checker)
+    (after : List ℕ) : Type 0 where
   pub more : List ℕ
   pub appended : after ≡ before ++ more
-  pub checks : (bounds : Bounds) (past : List Event) (text : List ℕ) → HasChecked bounds past old text → HasChecked bounds (e ∷ past) new (text ++ more)
+  pub checks : (bounds : Bounds) (past : List Event) (text : List ℕ)
+      → HasChecked bounds past old text → HasChecked bounds (e ∷ past) new (text ++ more)

@@ -10,13 +10,69 @@ use Rattle.iova_check.specs.declared.counts.Counts.{Counts}
 
 -- with a line more, of which so many findings are told
 abbrev pub counts_after : Counts → Event → ℕ → Counts
-counts_after c (event.Map r) found = record { maps = c.maps + 1; unmaps = c.unmaps; flushes = c.flushes; uses = c.uses; others = c.others; findings = c.findings + found }
-counts_after c (event.Unmap r) found = record { maps = c.maps; unmaps = c.unmaps + 1; flushes = c.flushes; uses = c.uses; others = c.others; findings = c.findings + found }
-counts_after c (event.Use r) found = record { maps = c.maps; unmaps = c.unmaps; flushes = c.flushes; uses = c.uses + 1; others = c.others; findings = c.findings + found }
-counts_after c (event.Begin number range) found = record { maps = c.maps; unmaps = c.unmaps; flushes = c.flushes + 1; uses = c.uses; others = c.others; findings = c.findings + found }
-counts_after c (event.End number ok) found = record { maps = c.maps; unmaps = c.unmaps; flushes = c.flushes; uses = c.uses; others = c.others; findings = c.findings + found }
-counts_after c (event.Flush range) found = record { maps = c.maps; unmaps = c.unmaps; flushes = c.flushes + 1; uses = c.uses; others = c.others; findings = c.findings + found }
-counts_after c event.Other found = record { maps = c.maps; unmaps = c.unmaps; flushes = c.flushes; uses = c.uses; others = c.others + 1; findings = c.findings + found }
+counts_after c (event.Map r) found =
+    record {
+      maps = c.maps + 1;
+      unmaps = c.unmaps;
+      flushes = c.flushes;
+      uses = c.uses;
+      others = c.others;
+      findings = c.findings + found;
+    }
+counts_after c (event.Unmap r) found =
+    record {
+      maps = c.maps;
+      unmaps = c.unmaps + 1;
+      flushes = c.flushes;
+      uses = c.uses;
+      others = c.others;
+      findings = c.findings + found;
+    }
+counts_after c (event.Use r) found =
+    record {
+      maps = c.maps;
+      unmaps = c.unmaps;
+      flushes = c.flushes;
+      uses = c.uses + 1;
+      others = c.others;
+      findings = c.findings + found;
+    }
+counts_after c (event.Begin number range) found =
+    record {
+      maps = c.maps;
+      unmaps = c.unmaps;
+      flushes = c.flushes + 1;
+      uses = c.uses;
+      others = c.others;
+      findings = c.findings + found;
+    }
+counts_after c (event.End number ok) found =
+    record {
+      maps = c.maps;
+      unmaps = c.unmaps;
+      flushes = c.flushes;
+      uses = c.uses;
+      others = c.others;
+      findings = c.findings + found;
+    }
+counts_after c (event.Flush range) found =
+    record {
+      maps = c.maps;
+      unmaps = c.unmaps;
+      flushes = c.flushes + 1;
+      uses = c.uses;
+      others = c.others;
+      findings = c.findings + found;
+    }
+counts_after c event.Other found =
+    record {
+      maps = c.maps;
+      unmaps = c.unmaps;
+      flushes = c.flushes;
+      uses = c.uses;
+      others = c.others + 1;
+      findings = c.findings + found;
+    }
 
 abbrev pub is_map : Event → Bool
 is_map (event.Map r) = true

@@ -16,7 +16,8 @@ use Rattle.iova_check.specs.Bounds.{Bounds}
 use Rattle.iova_check.specs.History.{next_line}
 use Rattle.iova_check.specs.Promise.{IsKeptAt}
 
--- what a kind tells of a frame at this stage: nothing where it is not so, else the line since which, where it tells one
+-- what a kind tells of a frame at this stage: nothing where it is not so, else the line since
+-- which, where it tells one
 abbrev pub told : Kind → Stage → Option (Option ℕ)
 told kind.Outside s = None
 told kind.Overlap stage.Free = None
@@ -36,7 +37,8 @@ told kind.Wild stage.Free = Some None
 told kind.Wild (stage.Mapped since) = None
 told kind.Wild (stage.Stale since) = None
 
--- The lowest of the frames from `lo` on and below `to` of which something is told, and all after it of which the same is told.
+-- The lowest of the frames from `lo` on and below `to` of which something is told, and all after it
+-- of which the same is told.
 pub record IsRun (tells : ℕ → Option (Option ℕ)) (lo to : ℕ) (run : Run) : Type 0 where
   pub from : lo ≤ run.lo
   pub some : 1 ≤ run.len
@@ -51,7 +53,9 @@ IsFound tells lo to (Some run) = IsRun tells lo to run
 
 -- what is told of a frame that is out of the bounds
 abbrev pub told_outside : Bounds → ℕ → Option (Option ℕ)
-told_outside bounds f = if (nat_lt f bounds.first || nat_lt bounds.last f) || list_any (covers f) bounds.windows then Some None else None
+told_outside bounds f =
+    if (nat_lt f bounds.first || nat_lt bounds.last f) || list_any (covers f) bounds.windows
+    then Some None else None
 
 -- the two are mapped since one line
 abbrev pub are_joined : Stage → Stage → Bool
@@ -78,7 +82,8 @@ abbrev pub IsCutOff : (ℕ → Stage) → ℕ → ℕ → Option Run → Type 0
 IsCutOff at lo to None = ⊥
 IsCutOff at lo to (Some run) = IsCutAbove at lo to run
 
--- The frames that are cut off from the frame before `lo`, else those that are cut off from frame `to`.
+-- The frames that are cut off from the frame before `lo`, else those that are cut off from frame
+-- `to`.
 pub record IsCut (at : ℕ → Stage) (lo to : ℕ) (found : Option Run) : Type 0 where
   pub below : is_joined at lo ≡ true → IsFound (λ f. told kind.Overlap (at f)) lo to found
   pub above : is_joined at lo ≡ false → is_joined at to ≡ true → IsCutOff at lo to found
@@ -91,27 +96,32 @@ framed kind None = None
 framed kind (Some run) = Some (finding.Frames kind run)
 
 -- what is told of a line that maps these frames
-pub record IsMapTold (bounds : Bounds) (at : ℕ → Stage) (r : Frames) (fs : List (Option Finding)) : Type 0 where
+pub record IsMapTold (bounds : Bounds) (at : ℕ → Stage) (r : Frames)
+    (fs : List (Option Finding)) : Type 0 where
   pub outside : Option Run
   pub overlap : Option Run
   pub reused : Option Run
   pub is_outside : IsFound (told_outside bounds) r.lo (r.lo + r.len) outside
   pub is_overlap : IsFound (λ f. told kind.Overlap (at f)) r.lo (r.lo + r.len) overlap
   pub is_reused : IsFound (λ f. told kind.Reused (at f)) r.lo (r.lo + r.len) reused
-  pub are : fs ≡ framed kind.Outside outside ∷ framed kind.Overlap overlap ∷ framed kind.Reused reused ∷ []
+  pub are : fs ≡ framed kind.Outside outside ∷ framed kind.Overlap overlap ∷ framed kind.Reused
+      reused ∷ []
 
 -- that unmaps them
-pub record IsUnmapTold (bounds : Bounds) (at : ℕ → Stage) (r : Frames) (fs : List (Option Finding)) : Type 0 where
+pub record IsUnmapTold (bounds : Bounds) (at : ℕ → Stage) (r : Frames)
+    (fs : List (Option Finding)) : Type 0 where
   pub outside : Option Run
   pub cut : Option Run
   pub unmapped : Option Run
   pub is_outside : IsFound (told_outside bounds) r.lo (r.lo + r.len) outside
   pub is_cut : IsCut at r.lo (r.lo + r.len) cut
   pub is_unmapped : IsFound (λ f. told kind.Unmapped (at f)) r.lo (r.lo + r.len) unmapped
-  pub are : fs ≡ framed kind.Outside outside ∷ framed kind.Cut cut ∷ framed kind.Unmapped unmapped ∷ []
+  pub are : fs ≡ framed kind.Outside outside ∷ framed kind.Cut cut ∷ framed kind.Unmapped
+      unmapped ∷ []
 
 -- at which a device reached them
-pub record IsUseTold (bounds : Bounds) (at : ℕ → Stage) (r : Frames) (fs : List (Option Finding)) : Type 0 where
+pub record IsUseTold (bounds : Bounds) (at : ℕ → Stage) (r : Frames)
+    (fs : List (Option Finding)) : Type 0 where
   pub outside : Option Run
   pub stale : Option Run
   pub wild : Option Run
@@ -124,13 +134,17 @@ pub record IsUseTold (bounds : Bounds) (at : ℕ → Stage) (r : Frames) (fs : L
 abbrev pub flush_told : ℕ → Bool → List (Option Finding)
 flush_told number odd = (if odd then Some (finding.Flush number) else None) ∷ None ∷ None ∷ []
 
--- what is told of a line that says `e`, where the frames are at these stages and these flushes in flight before it
-abbrev pub AreFindings : Bounds → (ℕ → Stage) → (ℕ → Option Flight) → Event → List (Option Finding) → Type 0
+-- what is told of a line that says `e`, where the frames are at these stages and these flushes in
+-- flight before it
+abbrev pub AreFindings : Bounds → (ℕ → Stage) → (ℕ → Option Flight) → Event → List (Option Finding)
+    → Type 0
 AreFindings bounds at flights (event.Map r) fs = IsMapTold bounds at r fs
 AreFindings bounds at flights (event.Unmap r) fs = IsUnmapTold bounds at r fs
 AreFindings bounds at flights (event.Use r) fs = IsUseTold bounds at r fs
-AreFindings bounds at flights (event.Begin number range) fs = fs ≡ flush_told number (is_some (flights number))
-AreFindings bounds at flights (event.End number ok) fs = fs ≡ flush_told number (not (is_some (flights number)))
+AreFindings bounds at flights (event.Begin number range) fs =
+    fs ≡ flush_told number (is_some (flights number))
+AreFindings bounds at flights (event.End number ok) fs =
+    fs ≡ flush_told number (not (is_some (flights number)))
 AreFindings bounds at flights (event.Flush range) fs = fs ≡ None ∷ None ∷ None ∷ []
 AreFindings bounds at flights event.Other fs = fs ≡ None ∷ None ∷ None ∷ []
 
@@ -155,7 +169,8 @@ is_reuse (Some (finding.Flush number)) = false
 abbrev pub IsKeptNext : List Event → Frames → Type 0
 IsKeptNext past r = (f : ℕ) → covers f r ≡ true → IsKeptAt (event.Map r ∷ past) f (next_line past)
 
--- Of a line that maps frames none of its findings is of reuse exactly where the promise is kept at it.
+-- Of a line that maps frames none of its findings is of reuse exactly where the promise is kept at
+-- it.
 abbrev pub TellsBreaks : List Event → Event → List (Option Finding) → Type 0
 TellsBreaks past (event.Map r) fs = (list_any is_reuse fs ≡ false) ↔ IsKeptNext past r
 TellsBreaks past (event.Unmap r) fs = Unit {0}

@@ -8,7 +8,8 @@ use Rattle.iova_check.specs.declared.tracker.Tracker.{Tracker}
 use Rattle.iova_check.specs.History.{next_line, flight_of, stage_of}
 use Rattle.iova_check.specs.Marks.{shown}
 
--- the number of the next line, the flushes in flight, and the stages of all frames; no line can name frame 2^64 - 1
+-- the number of the next line, the flushes in flight, and the stages of all frames; no line can
+-- name frame 2^64 - 1
 pub record Follows (past : List Event) (t : Tracker) : Type 0 where
   pub line : t.line ≡ next_line past
   pub flights : (number : ℕ) → get nat_cmp t.flights number ≡ flight_of past number

@@ -1,4 +1,5 @@
--- What became of each frame, by the lines of a log. A list of lines is told with the newest one first. Own.
+-- What became of each frame, by the lines of a log. A list of lines is told with the newest one
+-- first. Own.
 use Rattle.std.specs.Prelude.{ℕ, ◌+◌, ◌<◌, ◌≤◌, ◌^◌, ◌==◌, Bool, true, false, nat_lt, List, [], ◌∷◌, length, Option, Some, None, if◌then◌else◌}
 use Rattle.iova_range.specs.Frames.{Frames, covers}
 use Rattle.iova_check.specs.declared.event.Event.{Event}
@@ -44,7 +45,8 @@ abbrev pub flight_after : ℕ → Event → ℕ → Option Flight → Option Fli
 flight_after line (event.Map r) number was = was
 flight_after line (event.Unmap r) number was = was
 flight_after line (event.Use r) number was = was
-flight_after line (event.Begin begun range) number was = if begun == number then Some (record { line = line; range = range }) else was
+flight_after line (event.Begin begun range) number was =
+    if begun == number then Some (record { line = line; range = range }) else was
 flight_after line (event.End ended ok) number was = if ended == number then None else was
 flight_after line (event.Flush range) number was = was
 flight_after line event.Other number was = was
@@ -55,7 +57,8 @@ flight_of (e ∷ past) number = flight_after (next_line past) e number (flight_o
 
 -- Frames
 
--- what is mapped is stale since the line that unmaps it; what is stale is free once a flush that began after that line ended well
+-- what is mapped is stale since the line that unmaps it; what is stale is free once a flush that
+-- began after that line ended well
 abbrev pub changed : Change → Stage → Stage
 changed (change.Mapped line) s = stage.Mapped line
 changed (change.Unmapped line) stage.Free = stage.Free
@@ -63,22 +66,28 @@ changed (change.Unmapped line) (stage.Mapped since) = stage.Stale line
 changed (change.Unmapped line) (stage.Stale since) = stage.Stale since
 changed (change.Flushed begun) stage.Free = stage.Free
 changed (change.Flushed begun) (stage.Mapped since) = stage.Mapped since
-changed (change.Flushed begun) (stage.Stale since) = if nat_lt since begun then stage.Free else stage.Stale since
+changed (change.Flushed begun) (stage.Stale since) =
+    if nat_lt since begun then stage.Free else stage.Stale since
 
 -- a flush ended well
 abbrev pub flushed_by : Option Flight → ℕ → Stage → Stage
 flushed_by None f was = was
-flushed_by (Some flight) f was = if has f flight.range then changed (change.Flushed flight.line) was else was
+flushed_by (Some flight) f was =
+    if has f flight.range then changed (change.Flushed flight.line) was else was
 
--- the stage of the frame after line `line`, which is `e`, where `was` was before, and these flushes were in flight
+-- the stage of the frame after line `line`, which is `e`, where `was` was before, and these flushes
+-- were in flight
 abbrev pub stage_after : ℕ → (ℕ → Option Flight) → Event → ℕ → Stage → Stage
-stage_after line flights (event.Map r) f was = if covers f r then changed (change.Mapped line) was else was
-stage_after line flights (event.Unmap r) f was = if covers f r then changed (change.Unmapped line) was else was
+stage_after line flights (event.Map r) f was =
+    if covers f r then changed (change.Mapped line) was else was
+stage_after line flights (event.Unmap r) f was =
+    if covers f r then changed (change.Unmapped line) was else was
 stage_after line flights (event.Use r) f was = was
 stage_after line flights (event.Begin number range) f was = was
 stage_after line flights (event.End number true) f was = flushed_by (flights number) f was
 stage_after line flights (event.End number false) f was = was
-stage_after line flights (event.Flush range) f was = flushed_by (Some (record { line = line; range = range })) f was
+stage_after line flights (event.Flush range) f was =
+    flushed_by (Some (record { line = line; range = range })) f was
 stage_after line flights event.Other f was = was
 
 abbrev pub stage_of : List Event → ℕ → Stage

@@ -1,4 +1,5 @@
--- What stands in the bytes of a log or of a kernel's trace: their lines, and of a log the first bad one. Own.
+-- What stands in the bytes of a log or of a kernel's trace: their lines, and of a log the first bad
+-- one. Own.
 use Rattle.std.specs.Prelude.{ℕ, ◌≡◌, ◌≢◌, ◌⊎◌, List, [], ◌∷◌, ◌++◌, Option, Some, None}
 use Rattle.std.specs.List.{AllByRecursion}
 use Rattle.iova_text.specs.Lines.{HasNoLf, whole_line, IsOverlong}
@@ -40,9 +41,11 @@ pub record IsLog (asked : Asked) (l : Lines) : Type 0 where
 abbrev pub AreSaid : Option ℕ → List Event → List ℕ → Type 0
 AreSaid domain [] text = text ≡ []
 AreSaid domain (e ∷ past) text =
-    (before : List ℕ) × (line : List ℕ) × AreSaid domain past before × HasNoLf line × (e ≡ event_said domain line) × (text ≡ before ++ whole_line line)
+    (before : List ℕ) × (line : List ℕ) × AreSaid domain past before × HasNoLf line
+    × (e ≡ event_said domain line) × (text ≡ before ++ whole_line line)
 
--- They are lines of a kernel's trace, in which any frame up to the greatest may be mapped where nothing else is asked for.
+-- They are lines of a kernel's trace, in which any frame up to the greatest may be mapped where
+-- nothing else is asked for.
 pub record IsTrace (asked : Asked) (domain : Option ℕ) (l : Lines) : Type 0 where
   pub under : l.bounds ≡ bounds_asked asked 0 WIDE_TOP
   pub say : AreSaid domain l.past l.text
@@ -76,11 +79,13 @@ next_line_number (Some l) = next_line l.past
 
 -- this line, which is without its LF, may stand after them in a log
 abbrev pub MayFollow : Option Lines → List ℕ → Type 0
-MayFollow None line = (first : ℕ) × (last : ℕ) × IsHeader first last × (line ≡ header_text first last)
+MayFollow None line =
+    (first : ℕ) × (last : ℕ) × IsHeader first last × (line ≡ header_text first last)
 MayFollow (Some l) line = (e : Event) × IsEvent e × (line ≡ event_text e)
 
 -- the bytes are these lines and a rest
-pub record BeginsWithLines (source : Source) (bytes : List ℕ) (lines : Option Lines) (rest : List ℕ) : Type 0 where
+pub record BeginsWithLines (source : Source) (bytes : List ℕ) (lines : Option Lines)
+    (rest : List ℕ) : Type 0 where
   pub good : AreFirstLines source lines
   pub whole : bytes ≡ first_lines_text lines ++ rest
 

@@ -43,8 +43,10 @@ found_text line (Some f) = finding_text line f
 abbrev pub findings_text : ℕ → List (Option Finding) → List ℕ
 findings_text line fs = flat_map (found_text line) fs
 
--- The text of what is told of lines, and how many findings that are: of those before, and then of the newest one.
-pub record IsToldNext (bounds : Bounds) (past : List Event) (e : Event) (before text : List ℕ) (n found : ℕ) : Type 0 where
+-- The text of what is told of lines, and how many findings that are: of those before, and then of
+-- the newest one.
+pub record IsToldNext (bounds : Bounds) (past : List Event) (e : Event) (before text : List ℕ)
+    (n found : ℕ) : Type 0 where
   pub findings : List (Option Finding)
   pub are : AreFindings bounds (stage_of past) (flight_of past) e findings
   pub breaks : TellsBreaks past e findings
@@ -53,4 +55,6 @@ pub record IsToldNext (bounds : Bounds) (past : List Event) (e : Event) (before 
 
 abbrev pub IsTold : Bounds → List Event → List ℕ → ℕ → Type 0
 IsTold bounds [] text found = (text ≡ []) × (found ≡ 0)
-IsTold bounds (e ∷ past) text found = (before : List ℕ) × (n : ℕ) × IsTold bounds past before n × IsToldNext bounds past e before text n found
+IsTold bounds (e ∷ past) text found =
+    (before : List ℕ) × (n : ℕ) × IsTold bounds past before n
+    × IsToldNext bounds past e before text n found

@@ -15,7 +15,8 @@ use Rattle.iova_check.specs.Checking.{HasChecked}
 use Rattle.iova_check.specs.Logs.{Lines, BeginsWithLines}
 use Rattle.iova_check.specs.Runs.{IsChecked, IsDone, StopsAtBad, StopsAtCut, BreaksOff}
 
--- the front of a line is kept: all of it, or as much as the longest line has of which something is read
+-- the front of a line is kept: all of it, or as much as the longest line has of which something is
+-- read
 pub record IsFront (kept line : List ℕ) : Type 0 where
   pub dropped : List ℕ
   pub whole : line ≡ kept ++ dropped
@@ -44,7 +45,8 @@ IsBegun form.Log asked checker = checker ≡ None
 IsBegun (form.Trace domain) asked None = ⊥
 IsBegun (form.Trace domain) asked (Some c) = HasChecked (bounds_asked asked 0 WIDE_TOP) [] c []
 
--- What was taken is good lines and the front of one. What was written and the kept findings are the text of what was told of them.
+-- What was taken is good lines and the front of one. What was written and the kept findings are the
+-- text of what was told of them.
 pub record Stands (source : Source) (taken written : List ℕ) (p : Progress) : Type 0 where
   pub lines : Option Lines
   pub text : List ℕ
@@ -62,7 +64,9 @@ number_at (Some c) = c.tracker.line
 
 -- from wherever it stood, it takes these bytes and writes these
 abbrev pub Goes : Source → Progress → List ℕ → List ℕ → Progress → Type 0
-Goes source old bytes more new = (taken written : List ℕ) → Stands source taken written old → Stands source (taken ++ bytes) (written ++ more) new
+Goes source old bytes more new =
+    (taken written : List ℕ) → Stands source taken written old
+    → Stands source (taken ++ bytes) (written ++ more) new
 
 -- what a fault says of all bytes taken and written, but for those of reading
 abbrev pub EndsCheck : Source → List ℕ → List ℕ → CheckFault → Type 0
@@ -73,17 +77,22 @@ EndsCheck source taken written fault.WriteFault = BreaksOff source taken written
 
 -- from wherever it stood, it ends with this fault among these bytes, after writing these
 abbrev pub Stops : Source → Progress → List ℕ → List ℕ → CheckFault → Type 0
-Stops source old bytes more e = (taken written : List ℕ) → Stands source taken written old → EndsCheck source (taken ++ bytes) (written ++ more) e
+Stops source old bytes more e =
+    (taken written : List ℕ) → Stands source taken written old
+    → EndsCheck source (taken ++ bytes) (written ++ more) e
 
 -- these bytes are taken and these written
-abbrev pub Outcome : Source → Progress → List ℕ → List ℕ → Progress → Result Unit CheckFault → Type 0
+abbrev pub Outcome : Source → Progress → List ℕ → List ℕ → Progress → Result Unit CheckFault
+    → Type 0
 Outcome source old bytes more new (Ok u) = Goes source old bytes more new
 Outcome source old bytes more new (Err e) = Stops source old bytes more e
 
--- These bytes are taken and nothing is written: it goes on, or it ends once the kept findings are written.
+-- These bytes are taken and nothing is written: it goes on, or it ends once the kept findings are
+-- written.
 abbrev pub TakesBytes : Source → Progress → List ℕ → Progress → Result Unit CheckFault → Type 0
 TakesBytes source old bytes new (Ok u) = Goes source old bytes [] new
-TakesBytes source old bytes new (Err e) = Stops source old bytes old.findings.items e × (new.findings.items ≡ old.findings.items)
+TakesBytes source old bytes new (Err e) =
+    Stops source old bytes old.findings.items e × (new.findings.items ≡ old.findings.items)
 
 -- what the end of the input says
 abbrev pub Closes : Source → List ℕ → List ℕ → Result Checker CheckFault → Type 0

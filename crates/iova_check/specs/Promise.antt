@@ -1,4 +1,5 @@
--- The promise of a log in words that need no state: lines, their order, and the frames that they name. Own.
+-- The promise of a log in words that need no state: lines, their order, and the frames that they
+-- name. Own.
 use Rattle.std.specs.Prelude.{ℕ, ◌≡◌, ◌<◌, ◌↔◌, ◌⊎◌, ◌==◌, ◌&&◌, Bool, true, false, List, [], ◌∷◌, if◌then◌else◌}
 use Rattle.iova_range.specs.Frames.{covers}
 use Rattle.iova_check.specs.declared.event.Event.{Event}
@@ -88,7 +89,8 @@ NoneBetween passes past n to = (m : ℕ) → n < m → m < to → is_line passes
 
 -- What has to hold of a frame
 
--- a flush that has the frame began at line `begun` and ended well at line `ended`, told by two lines of its number
+-- a flush that has the frame began at line `begun` and ended well at line `ended`, told by two
+-- lines of its number
 pub record IsLongFlush (past : List Event) (f begun ended : ℕ) : Type 0 where
   pub number : ℕ
   pub starts : IsLine (begins number f) past begun
@@ -112,8 +114,9 @@ pub record TakesBack (past : List Event) (f n : ℕ) : Type 0 where
   pub kept : NoneBetween (unmaps f) past mapped_at n
   pub unmapped : IsLine (unmaps f) past n
 
--- The frame may be given out after these lines: since each line that mapped it one has unmapped it; and since each line that
--- unmapped it while it was mapped, where none has mapped it again, a flush that has it began and ended well.
+-- The frame may be given out after these lines: since each line that mapped it one has unmapped it;
+-- and since each line that unmapped it while it was mapped, where none has mapped it again, a flush
+-- that has it began and ended well.
 pub record MayBeGiven (past : List Event) (f : ℕ) : Type 0 where
   pub unmapped : (n : ℕ) → IsLine (maps f) past n → (m : ℕ) × (n < m) × IsLine (unmaps f) past m
   pub flushed : (n : ℕ) → TakesBack past f n → NoneAfter (maps f) past n
@@ -127,7 +130,8 @@ pub record IsMappedSince (past : List Event) (f n : ℕ) : Type 0 where
   pub last : NoneAfter (maps f) past n
   pub kept : NoneAfter (unmaps f) past n
 
--- line n unmapped the frame while it was mapped; since then no line has mapped it, and no flush that has it began and ended well
+-- line n unmapped the frame while it was mapped; since then no line has mapped it, and no flush
+-- that has it began and ended well
 pub record IsStaleSince (past : List Event) (f n : ℕ) : Type 0 where
   pub takes_back : TakesBack past f n
   pub last : NoneAfter (maps f) past n
@@ -153,14 +157,18 @@ abbrev pub lines_before : List Event → ℕ → List Event
 lines_before [] n = []
 lines_before (e ∷ past) n = if n == next_line past then past else lines_before past n
 
--- The promise at line n, which maps the frame: between each line before it that maps the frame and line n one unmaps it; and between
--- each line before it that unmaps the frame while it is mapped and line n, where that is the next line that maps it, a flush that
--- has the frame began and ended well.
+-- The promise at line n, which maps the frame: between each line before it that maps the frame and
+-- line n one unmaps it; and between each line before it that unmaps the frame while it is mapped
+-- and line n, where that is the next line that maps it, a flush that has the frame began and ended
+-- well.
 pub record IsKeptAt (log : List Event) (f n : ℕ) : Type 0 where
-  pub unmapped : (m : ℕ) → m < n → IsLine (maps f) log m → (k : ℕ) × (m < k) × (k < n) × IsLine (unmaps f) log k
+  pub unmapped : (m : ℕ) → m < n → IsLine (maps f) log m
+      → (k : ℕ) × (m < k) × (k < n) × IsLine (unmaps f) log k
   pub flushed : (m : ℕ) → m < n → TakesBack log f m → NoneBetween (maps f) log m n
       → (begun : ℕ) × (ended : ℕ) × (m < begun) × (ended < n) × IsFlush log f begun ended
 
 -- At each line that maps a frame the promise is kept exactly where the frame was free before it.
 abbrev pub PromiseIsTold : Type 0
-PromiseIsTold = (log : List Event) (f n : ℕ) → IsLine (maps f) log n → IsKeptAt log f n ↔ (stage_of (lines_before log n) f ≡ stage.Free)
+PromiseIsTold =
+    (log : List Event) (f n : ℕ) → IsLine (maps f) log n → IsKeptAt log f n
+    ↔ (stage_of (lines_before log n) f ≡ stage.Free)

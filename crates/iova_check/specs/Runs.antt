@@ -12,14 +12,16 @@ use Rattle.iova_check.specs.Logs.{Lines, AreLines, IsOfLog, next_line_number, Be
 use Rattle.iova_check.specs.Checking.{HasChecked}
 use Rattle.iova_check.specs.Summary.{summary_text}
 
--- lines were checked: this is known of them, nothing before the header of a log, and this is the text of what was told of them
+-- lines were checked: this is known of them, nothing before the header of a log, and this is the
+-- text of what was told of them
 abbrev pub IsChecked : Option Lines → Option Checker → List ℕ → Type 0
 IsChecked None None text = text ≡ []
 IsChecked None (Some c) text = ⊥
 IsChecked (Some l) None text = ⊥
 IsChecked (Some l) (Some c) text = HasChecked l.bounds l.past c text
 
--- all that was taken are whole lines, what was told of each line is written, and this is known of it
+-- all that was taken are whole lines, what was told of each line is written, and this is known of
+-- it
 pub record IsDone (source : Source) (taken written : List ℕ) (c : Checker) : Type 0 where
   pub lines : Lines
   pub good : AreLines source lines
@@ -31,7 +33,8 @@ abbrev pub IsUnendedIn : Form → List ℕ → Type 0
 IsUnendedIn form.Log rest = IsUnended rest
 IsUnendedIn (form.Trace domain) rest = HasNoLf rest
 
--- what was told of the good lines of a log is written, and the line after them, of this number, is bad
+-- what was told of the good lines of a log is written, and the line after them, of this number, is
+-- bad
 pub record StopsAtBad (source : Source) (taken written : List ℕ) (number : ℕ) : Type 0 where
   pub lines : Option Lines
   pub rest : List ℕ
@@ -74,9 +77,11 @@ pub record BreaksOff (source : Source) (taken written : List ℕ) : Type 0 where
   pub begun : text ≡ written ++ unwritten
 
 -- what each answer says, where `left` is what the reader has left
-abbrev pub TellsOfCheck : Source → List ℕ → List ℕ → Option (List ℕ) → Result Checker CheckFault → Type 0
+abbrev pub TellsOfCheck : Source → List ℕ → List ℕ → Option (List ℕ) → Result Checker CheckFault
+    → Type 0
 TellsOfCheck source taken written left (Ok done) = IsDone source taken written done × IsAtEnd left
-TellsOfCheck source taken written left (Err (fault.BadLog number)) = StopsAtBad source taken written number ⊎ (StopsAtCut source taken written number × IsAtEnd left)
+TellsOfCheck source taken written left (Err (fault.BadLog number)) =
+    StopsAtBad source taken written number ⊎ (StopsAtCut source taken written number × IsAtEnd left)
 TellsOfCheck source taken written left (Err fault.NoMemory) = BreaksOff source taken written
 TellsOfCheck source taken written left (Err fault.ReadFault) = StopsInLine source taken written
 TellsOfCheck source taken written left (Err fault.WriteFault) = BreaksOff source taken written
@@ -96,8 +101,10 @@ abbrev pub AreRead : Form → List ℕ → Option (List ℕ) → List ℕ → Ty
 AreRead form.Log taken left read = read ≡ taken
 AreRead (form.Trace domain) taken left read = (read ≡ taken) ⊎ EndsInLine taken left read
 
--- A reader and a writer before and after, where they tell their bytes: some were taken from the one and some written to the other.
-pub record Checks (source : Source) (input left output filled : Option (List ℕ)) (answer : Result Checker CheckFault) : Type 0 where
+-- A reader and a writer before and after, where they tell their bytes: some were taken from the one
+-- and some written to the other.
+pub record Checks (source : Source) (input left output filled : Option (List ℕ))
+    (answer : Result Checker CheckFault) : Type 0 where
   pub taken : List ℕ
   pub read : List ℕ
   pub written : List ℕ
@@ -106,16 +113,20 @@ pub record Checks (source : Source) (input left output filled : Option (List ℕ
   pub writes : Appends output filled written
   pub tells : TellsOfCheck source read written left answer
 
--- what a writer gets after the findings, and the answer: the counts, or their first bytes where a write fails; nothing after a check
--- that fails
-abbrev pub Counts : Option (List ℕ) → Option (List ℕ) → Result Checker CheckFault → Result Bool CheckFault → Type 0
-Counts told filled (Ok c) (Ok found) = Appends told filled (summary_text c) × (found ≡ nat_lt 0 c.counts.findings)
-Counts told filled (Ok c) (Err fault.WriteFault) = (n : ℕ) × Appends told filled (take n (summary_text c))
+-- what a writer gets after the findings, and the answer: the counts, or their first bytes where a
+-- write fails; nothing after a check that fails
+abbrev pub Counts : Option (List ℕ) → Option (List ℕ) → Result Checker CheckFault
+    → Result Bool CheckFault → Type 0
+Counts told filled (Ok c) (Ok found) =
+    Appends told filled (summary_text c) × (found ≡ nat_lt 0 c.counts.findings)
+Counts told filled (Ok c) (Err fault.WriteFault) =
+    (n : ℕ) × Appends told filled (take n (summary_text c))
 Counts told filled (Ok c) (Err e) = ⊥
 Counts told filled (Err e) answer = (filled ≡ told) × (answer ≡ Err e)
 
 -- A check, and then, where it succeeds, the counts of the log.
-pub record ChecksAndCounts (source : Source) (input left output filled : Option (List ℕ)) (answer : Result Bool CheckFault) : Type 0 where
+pub record ChecksAndCounts (source : Source) (input left output filled : Option (List ℕ))
+    (answer : Result Bool CheckFault) : Type 0 where
   pub told : Option (List ℕ)
   pub check : Result Checker CheckFault
   pub checks : Checks source input left output told check

@@ -13,4 +13,5 @@ is_stale (stage.Stale since) = true
 
 -- each mark that tells stale is in the index
 abbrev pub IsIndexed : BTreeMap ℕ Stage → BTreeSet ℕ → Type 0
-IsIndexed marks index = (q since : ℕ) → get nat_cmp marks q ≡ Some (stage.Stale since) → contains nat_cmp index q ≡ true
+IsIndexed marks index =
+    (q since : ℕ) → get nat_cmp marks q ≡ Some (stage.Stale since) → contains nat_cmp index q ≡ true

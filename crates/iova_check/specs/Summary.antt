@@ -16,7 +16,8 @@ number_text n = replicate (20 - length (decimal n)) 32 ++ decimal n
 abbrev pub field_text : List ℕ → ℕ → List ℕ
 field_text name n = name_text name ++ (number_text n ++ 10 ∷ [])
 
--- the lines of each kind, the frames that are mapped and stale at the end, the findings, and the lines of the log
+-- the lines of each kind, the frames that are mapped and stale at the end, the findings, and the
+-- lines of the log
 abbrev pub summary_text : Checker → List ℕ
 summary_text c =
     field_text (codes "maps") c.counts.maps

@@ -31,7 +31,9 @@ last_seven words = drop (length words - 7) words
 -- Numbers
 
 abbrev pub hex_digit : ℕ → Option ℕ
-hex_digit b = if nat_le 48 b && nat_le b 57 then Some (b - 48) else (if nat_le 97 b && nat_le b 102 then Some (b - 87) else None)
+hex_digit b =
+    if nat_le 48 b && nat_le b 57 then Some (b - 48)
+    else (if nat_le 97 b && nat_le b 102 then Some (b - 87) else None)
 
 -- what digits behind a number make of it
 abbrev pub hex_more : ℕ → Option ℕ → Option ℕ
@@ -45,11 +47,14 @@ hex_from (Some n) (b ∷ digits) = hex_from (hex_more n (hex_digit b)) digits
 
 -- of 1 to 16 digits
 abbrev pub hex_number : List ℕ → Option ℕ
-hex_number digits = if nat_le 1 (length digits) && nat_le (length digits) 16 then hex_from (Some 0) digits else None
+hex_number digits =
+    if nat_le 1 (length digits) && nat_le (length digits) 16 then hex_from (Some 0) digits else None
 
 -- what stands in the word behind these bytes
 abbrev pub after : List ℕ → List ℕ → Option (List ℕ)
-after prefix word = if nat_le (length prefix) (length word) && bytes_eq (take (length prefix) word) prefix then Some (drop (length prefix) word) else None
+after prefix word =
+    if nat_le (length prefix) (length word) && bytes_eq (take (length prefix) word) prefix
+    then Some (drop (length prefix) word) else None
 
 abbrev pub hex_of : Option (List ℕ) → Option ℕ
 hex_of None = None
@@ -67,10 +72,12 @@ are_digits_after prefix word = are_digits (after prefix word)
 
 -- Maps and unmaps
 
--- the frames, of 4,096 bytes each, of the bytes from `start` on and before `behind`: none where there is no byte
+-- the frames, of 4,096 bytes each, of the bytes from `start` on and before `behind`: none where
+-- there is no byte
 abbrev pub frames_between : ℕ → ℕ → Option Frames
 frames_between start behind =
-    if nat_lt start behind then Some (record { lo = start / 4096; len = ((behind - 1) / 4096 - start / 4096) + 1 }) else None
+    if nat_lt start behind then Some (record
+    { lo = start / 4096; len = ((behind - 1) / 4096 - start / 4096) + 1 }) else None
 
 abbrev pub frames_of : Option ℕ → Option ℕ → Option Frames
 frames_of None behind = None
@@ -80,13 +87,15 @@ frames_of (Some start) (Some behind) = frames_between start behind
 -- iova=0x<hex> - 0x<hex> paddr=0x<hex> size=<digits>
 abbrev pub mapped_frames : List ℕ → List ℕ → List ℕ → List ℕ → List ℕ → Option Frames
 mapped_frames a b c d e =
-    if bytes_eq b (codes "-") && (is_some (hex_after (codes "paddr=0x") d) && are_digits_after (codes "size=") e)
+    if bytes_eq b (codes "-") && (is_some (hex_after (codes "paddr=0x") d)
+    && are_digits_after (codes "size=") e)
     then frames_of (hex_after (codes "iova=0x") a) (hex_after (codes "0x") c) else None
 
 -- iova=0x<hex> - 0x<hex> size=<digits> unmapped_size=<digits>
 abbrev pub unmapped_frames : List ℕ → List ℕ → List ℕ → List ℕ → List ℕ → Option Frames
 unmapped_frames a b c d e =
-    if bytes_eq b (codes "-") && (are_digits_after (codes "size=") d && are_digits_after (codes "unmapped_size=") e)
+    if bytes_eq b (codes "-") && (are_digits_after (codes "size=") d
+    && are_digits_after (codes "unmapped_size=") e)
     then frames_of (hex_after (codes "iova=0x") a) (hex_after (codes "0x") c) else None
 
 abbrev pub map_said : Option Frames → Event
@@ -104,11 +113,14 @@ abbrev pub is_other_domain : Option ℕ → ℕ → Bool
 is_other_domain None number = false
 is_other_domain (Some domain) number = not (domain == number)
 
--- 2^n frames from a multiple of 2^n on, the n and one of the frames standing in this word of the queue
+-- 2^n frames from a multiple of 2^n on, the n and one of the frames standing in this word of the
+-- queue
 abbrev pub paged_frames : ℕ → Frames
-paged_frames q1 = record { lo = ((q1 / 4096) / (2 ^ (q1 % 64))) * (2 ^ (q1 % 64)); len = 2 ^ (q1 % 64) }
+paged_frames q1 =
+    record { lo = ((q1 / 4096) / (2 ^ (q1 % 64))) * (2 ^ (q1 % 64)); len = 2 ^ (q1 % 64) }
 
--- of bits 5 and 4 of q0, of its bits 31 to 16, and of q1: a flush of everything, of a domain, or of frames of a domain
+-- of bits 5 and 4 of q0, of its bits 31 to 16, and of q1: a flush of everything, of a domain, or of
+-- frames of a domain
 abbrev pub flush_at : Option ℕ → ℕ → ℕ → ℕ → Event
 flush_at domain granularity number q1 =
     if granularity == 1 then event.Flush None
@@ -134,31 +146,38 @@ is_either short long name = bytes_eq name short || bytes_eq name long
 
 abbrev pub said : Option ℕ → List ℕ → List ℕ → List ℕ → List ℕ → List ℕ → List ℕ → List ℕ → Event
 said domain name about a b c d e =
-    if is_either (codes "map:") (codes "iommu:map:") name && bytes_eq about (codes "IOMMU:") then map_said (mapped_frames a b c d e)
-    else (if is_either (codes "unmap:") (codes "iommu:unmap:") name && bytes_eq about (codes "IOMMU:") then unmap_said (unmapped_frames a b c d e)
-    else (if is_either (codes "qi_submit:") (codes "intel_iommu:qi_submit:") name && bytes_eq about (codes "iotlb_inv") then flush_said domain b c d e
+    if is_either (codes "map:") (codes "iommu:map:") name && bytes_eq about (codes "IOMMU:")
+    then map_said (mapped_frames a b c d e)
+    else (if is_either (codes "unmap:") (codes "iommu:unmap:") name
+    && bytes_eq about (codes "IOMMU:") then unmap_said (unmapped_frames a b c d e)
+    else (if is_either (codes "qi_submit:") (codes "intel_iommu:qi_submit:") name
+    && bytes_eq about (codes "iotlb_inv") then flush_said domain b c d e
     else event.Other))
 
 abbrev pub said_by : Option ℕ → List (List ℕ) → Event
 said_by domain (name ∷ about ∷ a ∷ b ∷ c ∷ d ∷ e ∷ []) = said domain name about a b c d e
 said_by domain words = event.Other
 
--- what a line says, which is without its LF, where flushes of this domain count, or of each: of a line that has at most 1,024 bytes
--- with its LF its last seven words say it
+-- what a line says, which is without its LF, where flushes of this domain count, or of each: of a
+-- line that has at most 1,024 bytes with its LF its last seven words say it
 abbrev pub event_said : Option ℕ → List ℕ → Event
-event_said domain line = if nat_lt (length line) 1024 then said_by domain (last_seven (spaced line)) else event.Other
+event_said domain line =
+    if nat_lt (length line) 1024 then said_by domain (last_seven (spaced line)) else event.Other
 
 -- Lost events
 
 -- these bytes are a number and then ` EVENTS]`
 abbrev pub counts_lost : Option (List ℕ) → Bool
 counts_lost None = false
-counts_lost (Some bytes) = are_digits (Some (word_at_front bytes)) && bytes_eq (from_blank bytes) (codes " EVENTS]")
+counts_lost (Some bytes) =
+    are_digits (Some (word_at_front bytes)) && bytes_eq (from_blank bytes) (codes " EVENTS]")
 
 -- these bytes are a number, and then ` [LOST `, a number and ` EVENTS]`
 abbrev pub is_lost_behind : Option (List ℕ) → Bool
 is_lost_behind None = false
-is_lost_behind (Some bytes) = are_digits (Some (word_at_front bytes)) && counts_lost (after (codes " [LOST ") (from_blank bytes))
+is_lost_behind (Some bytes) =
+    are_digits (Some (word_at_front bytes))
+    && counts_lost (after (codes " [LOST ") (from_blank bytes))
 
 -- a line, which is without its LF, says that events were lost: CPU:<digits> [LOST <digits> EVENTS]
 abbrev pub says_lost : List ℕ → Bool

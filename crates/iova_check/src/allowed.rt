@@ -16,7 +16,8 @@ use std::alloc::{AllocError, Global};
 pub struct Asked<'a> {
     /// The first frame that may be mapped. None: the one that the log says.
     pub first: Option<u64>,
-    /// The last frame that may be mapped. None: the one that the log says. Where the first is above it no frame may be mapped.
+    /// The last frame that may be mapped. None: the one that the log says. Where the first is above
+    /// it no frame may be mapped.
     pub last: Option<u64>,
     /// Frames that may not be mapped, any number of ranges in any order.
     pub windows: &'a [Range],
@@ -30,15 +31,16 @@ pub struct Allowed {
 }
 
 impl Allowed {
-    /// The frames from the first to the last one, without those of the windows. None where the first is above the last. Refused
-    /// where memory is.
+    /// The frames from the first to the last one, without those of the windows. None where the
+    /// first is above the last. Refused where memory is.
     pub fn new(
         alloc: Global,
         first: u64,
         last: u64,
         windows: &[Range],
     ) -> Result<Allowed, AllocError>
-        ensures { IfOk result (λ a. Allows a (record { first = first; last = last; windows = windows.now })) }
+        ensures { IfOk result (λ a. Allows a
+            (record { first = first; last = last; windows = windows.now })) }
     {
         let mut allowed = Allowed::within(alloc, first, last)?;
         for window in windows {
@@ -49,7 +51,8 @@ impl Allowed {
 
     /// The frames from the first to the last one.
     fn within(alloc: Global, first: u64, last: u64) -> Result<Allowed, AllocError>
-        ensures { IfOk result (λ a. Allows a (record { first = first; last = last; windows = [] })) }
+        ensures { IfOk result (λ a. Allows a
+            (record { first = first; last = last; windows = [] })) }
     {
         let mut stages = Stages::new(alloc);
         if first > last {
@@ -62,16 +65,19 @@ impl Allowed {
 
     /// Takes the frames of a window out.
     fn without(&mut self, window: Range) -> Result<(), AllocError>
-        ensures { OnOk result ((bounds : Bounds) → Allows self.old bounds → Allows self.new (with_window bounds window)) }
+        ensures { OnOk result ((bounds : Bounds) → Allows self.old bounds
+            → Allows self.new (with_window bounds window)) }
     {
         self.stages.change_range(window, Change::Unmapped(0))?;
         Ok(())
     }
 
-    /// The lowest of the frames from `lo` on and below `to` that may not be mapped, and those after it.
+    /// The lowest of the frames from `lo` on and below `to` that may not be mapped, and those after
+    /// it.
     pub fn find_outside(&self, lo: u64, to: u64) -> Option<Run>
         requires { lo ≤ to }
-        ensures { (bounds : Bounds) → Allows self.now bounds → IsFound (told_outside bounds) lo to result }
+        ensures { (bounds : Bounds) → Allows self.now bounds
+            → IsFound (told_outside bounds) lo to result }
     {
         find(&self.stages, Kind::Unmapped, lo, to)
     }

@@ -48,12 +48,13 @@ impl Checker {
         }
     }
 
-    /// Takes the next line, and appends what is told of it. Refused by `NoMemory`, also where no further line has
-    /// a number; nothing is appended then.
+    /// Takes the next line, and appends what is told of it. Refused by `NoMemory`, also where no
+    /// further line has a number; nothing is appended then.
     pub fn check(&mut self, event: Event, out: &mut Vec<u8>) -> Result<(), Refusal>
         requires { IsInReach event }
         ensures ok { OnOk result (ChecksNext self.old event out.old.items self.new out.new.items) }
-        ensures err { OnErr result ((result ≡ Err Refusal.NoMemory) × (out.new.items ≡ out.old.items)) }
+        ensures err { OnErr result ((result ≡ Err Refusal.NoMemory)
+            × (out.new.items ≡ out.old.items)) }
     {
         if self.tracker.line == u64::MAX {
             return Err(Refusal::NoMemory);

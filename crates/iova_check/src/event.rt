@@ -1,7 +1,8 @@
 //! What a line of a log says.
 use iova_range::range::Range;
 
-/// What a line says. Its ranges end below frame 2^64 - 1; the number of a flush is any number. Our own.
+/// What a line says. Its ranges end below frame 2^64 - 1; the number of a flush is any number. Our
+/// own.
 #[derive(Clone, Copy, Debug, PartialEq, Eq)]
 pub enum Event {
     /// The frames were mapped for a device.
@@ -14,7 +15,8 @@ pub enum Event {
     Begin { no: u64, range: Option<Range> },
     /// The flush of this number ended, well or not.
     End { no: u64, ok: bool },
-    /// A flush of these frames began at this line and ended well, or of every frame. No line of a log says it.
+    /// A flush of these frames began at this line and ended well, or of every frame. No line of a
+    /// log says it.
     Flush(Option<Range>),
     /// Nothing of frames or flushes: a log's header, or a line that is passed over.
     Other,

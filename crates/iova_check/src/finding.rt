@@ -60,7 +60,8 @@ fn one_if(finding: &Option<Finding>) -> u64
 }
 
 impl Kind {
-    /// What the kind tells of a frame at this stage: nothing where it is not so, else the line since which, where it tells one.
+    /// What the kind tells of a frame at this stage: nothing where it is not so, else the line
+    /// since which, where it tells one.
     pub fn told(self, stage: Stage) -> Option<Option<u64>>
         ensures { result ≡ told self stage }
     {

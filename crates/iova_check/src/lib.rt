@@ -1,5 +1,5 @@
-//! Logs of what was mapped, unmapped and flushed, by whomever: the text of their lines, what became of each frame, and the law
-//! that no frame is given out again while a device might still reach it.
+//! Logs of what was mapped, unmapped and flushed, by whomever: the text of their lines, what became
+//! of each frame, and the law that no frame is given out again while a device might still reach it.
 #![tactic(auto)]
 
 pub mod allowed;

@@ -36,7 +36,8 @@ pub struct Header {
     pub last: u64,
 }
 
-/// What this line, which is without its LF, says. None exactly where it is no line of a log, or its header. Our own.
+/// What this line, which is without its LF, says. None exactly where it is no line of a log, or its
+/// header. Our own.
 pub fn read_event(line: &[u8]) -> Option<Event>
     ensures spelled { IfSome result (λ e. IsEvent e × (line.now ≡ event_text e)) }
     ensures read { (e : Event) → IsEvent e → line.now ≡ event_text e → result ≡ Some e }
@@ -49,13 +50,15 @@ pub fn read_event(line: &[u8]) -> Option<Event>
     }
 }
 
-/// The header of this line, which is without its LF: `iovalog 1 <first> <last>`. None exactly where the line is no header's,
-/// also where the bounds are not in order, or not 1 to 2^40 - 1. Our own.
+/// The header of this line, which is without its LF: `iovalog 1 <first> <last>`. None exactly where
+/// the line is no header's, also where the bounds are not in order, or not 1 to 2^40 - 1. Our own.
 pub fn read_header(line: &[u8]) -> Option<Header>
-    ensures spelled { IfSome result (λ h. IsHeader h.first h.last × (line.now ≡ header_text h.first h.last)) }
+    ensures spelled { IfSome result (λ h. IsHeader h.first h.last
+        × (line.now ≡ header_text h.first h.last)) }
     ensures read { (first last : ℕ) → IsHeader first last → line.now ≡ header_text first last
         → result ≡ Some (record { first = first; last = last }) }
-    ensures all { IsNone result → (first last : ℕ) → IsHeader first last → line.now ≢ header_text first last }
+    ensures all { IsNone result → (first last : ℕ) → IsHeader first last
+        → line.now ≢ header_text first last }
 {
     let (word, numbers) = first_word(line);
     if word != b"iovalog".as_slice() {
@@ -88,9 +91,11 @@ fn verb_named(word: &[u8]) -> Option<Verb>
 }
 
 fn event_of(verb: Verb, arguments: &[u8]) -> Option<Event>
-    ensures spelled { IfSome result (λ e. (verb_of e ≡ Some verb) × (arguments.now ≡ spaced_words (arguments_of e))) }
+    ensures spelled { IfSome result (λ e. (verb_of e ≡ Some verb)
+        × (arguments.now ≡ spaced_words (arguments_of e))) }
     ensures good { IfSome result (λ e. IsEvent e) }
-    ensures read { (e : Event) → IsEvent e → verb_of e ≡ Some verb → arguments.now ≡ spaced_words (arguments_of e)
+    ensures read { (e : Event) → IsEvent e → verb_of e ≡ Some verb
+        → arguments.now ≡ spaced_words (arguments_of e)
         → result ≡ Some e }
 {
     match verb {
@@ -122,7 +127,8 @@ fn event_of(verb: Verb, arguments: &[u8]) -> Option<Event>
 /// A range of at least one frame, which ends below frame 2^64 - 1.
 fn range_of(text: &[u8]) -> Option<Range>
     ensures spelled { IfSome result (λ r. IsRange r × (text.now ≡ spaced_words (range_words r))) }
-    ensures read { (r : Frames) → IsRange r → text.now ≡ spaced_words (range_words r) → result ≡ Some r }
+    ensures read { (r : Frames) → IsRange r → text.now ≡ spaced_words (range_words r)
+        → result ≡ Some r }
 {
     let (lo, len) = two_numbers(text)?;
     if len == 0 || len > u64::MAX - lo {
@@ -134,7 +140,8 @@ fn range_of(text: &[u8]) -> Option<Range>
 /// Nothing, or a range.
 fn scope_of(text: &[u8]) -> Option<Option<Range>>
     ensures spelled { IfSome result (λ s. IsScope s × (text.now ≡ spaced_words (scope_words s))) }
-    ensures read { (s : Option Frames) → IsScope s → text.now ≡ spaced_words (scope_words s) → result ≡ Some s }
+    ensures read { (s : Option Frames) → IsScope s → text.now ≡ spaced_words (scope_words s)
+        → result ≡ Some s }
 {
     if text.is_empty() {
         return Some(None);

@@ -30,21 +30,24 @@ const BUFFER: usize = 65_536;
 /// Room for a notice of the longest line, in bytes.
 const NOTICE: usize = 1_051;
 
-/// Checks a log under the bounds of its header, or those that are asked for in their place, and without the windows: reads its
-/// lines, and writes a line for each finding. It gives what is known after the last line. One line is kept at a time, and findings
-/// are written before each read, so that a peer that waits for them gets them.
+/// Checks a log under the bounds of its header, or those that are asked for in their place, and
+/// without the windows: reads its lines, and writes a line for each finding. It gives what is known
+/// after the last line. One line is kept at a time, and findings are written before each read, so
+/// that a peer that waits for them gets them.
 ///
-/// The answer is the fault of the earliest line. `BadLog` where a line is none of a log's, or where the input ends in a line
-/// without LF or has no line; the findings of the lines before it are written. `ReadFault` where a read fails, an interruption
-/// too; the findings of all whole lines are written. `WriteFault` where a write fails or takes nothing, and `NoMemory`: some
-/// first bytes of the findings are written. Our own.
+/// The answer is the fault of the earliest line. `BadLog` where a line is none of a log's, or where
+/// the input ends in a line without LF or has no line; the findings of the lines before it are
+/// written. `ReadFault` where a read fails, an interruption too; the findings of all whole lines
+/// are written. `WriteFault` where a write fails or takes nothing, and `NoMemory`: some first bytes
+/// of the findings are written. Our own.
 pub fn check<R: Read, W: Write>(
     alloc: Global,
     asked: &Asked<'_>,
     reader: &mut R,
     writer: &mut W,
 ) -> Result<Checker, CheckFault>
-    ensures { Checks (record { form = Form.Log; asked = asked.now }) (R.remaining reader.old) (R.remaining reader.new)
+    ensures { Checks (record { form = Form.Log; asked = asked.now }) (R.remaining reader.old)
+        (R.remaining reader.new)
         (W.contents writer.old) (W.contents writer.new) result }
 {
     let source = Source {
@@ -54,9 +57,10 @@ pub fn check<R: Read, W: Write>(
     run(alloc, &source, reader, writer, &mut io::sink())
 }
 
-/// Checks a kernel's trace as a log is checked, under the bounds that are asked for, else from frame 0 to frame 2^40 - 1. Of its
-/// flushes of a domain those of `domain` count, or all. No line is refused: one that says nothing of frames or flushes is passed
-/// over, as is one of more than 1,024 bytes with its LF, and a last line needs no LF. A line that says that events were lost is
+/// Checks a kernel's trace as a log is checked, under the bounds that are asked for, else from
+/// frame 0 to frame 2^40 - 1. Of its flushes of a domain those of `domain` count, or all. No line
+/// is refused: one that says nothing of frames or flushes is passed over, as is one of more than
+/// 1,024 bytes with its LF, and a last line needs no LF. A line that says that events were lost is
 /// told to `notices` with its number before the next one is taken; what fails there is passed over.
 ///
 /// Refused as a log is, without `BadLog`. Our own.
@@ -68,7 +72,8 @@ pub fn check_trace<R: Read, W: Write, N: Write>(
     writer: &mut W,
     notices: &mut N,
 ) -> Result<Checker, CheckFault>
-    ensures { Checks (record { form = Form.Trace domain; asked = asked.now }) (R.remaining reader.old) (R.remaining reader.new)
+    ensures { Checks (record { form = Form.Trace domain; asked = asked.now })
+        (R.remaining reader.old) (R.remaining reader.new)
         (W.contents writer.old) (W.contents writer.new) result }
 {
     let source = Source {
@@ -103,15 +108,16 @@ fn run<R: Read, W: Write, N: Write>(
     Err(CheckFault::ReadFault)
 }
 
-/// Checks a log, and writes its counts after the findings. It gives whether there is a finding. Refused as the check is, and then
-/// no count is written, or by `WriteFault`.
+/// Checks a log, and writes its counts after the findings. It gives whether there is a finding.
+/// Refused as the check is, and then no count is written, or by `WriteFault`.
 pub fn check_and_count<R: Read, W: Write>(
     alloc: Global,
     asked: &Asked<'_>,
     reader: &mut R,
     writer: &mut W,
 ) -> Result<bool, CheckFault>
-    ensures { ChecksAndCounts (record { form = Form.Log; asked = asked.now }) (R.remaining reader.old) (R.remaining reader.new)
+    ensures { ChecksAndCounts (record { form = Form.Log; asked = asked.now })
+        (R.remaining reader.old) (R.remaining reader.new)
         (W.contents writer.old) (W.contents writer.new) result }
 {
     let checked = check(alloc, asked, reader, writer);
@@ -120,8 +126,9 @@ pub fn check_and_count<R: Read, W: Write>(
     told
 }
 
-/// Writes the counts of a log that was checked, and gives whether there is a finding. Where the check failed its fault is given
-/// and nothing is written. Refused by `WriteFault` where a write fails or takes nothing; some first bytes are written then.
+/// Writes the counts of a log that was checked, and gives whether there is a finding. Where the
+/// check failed its fault is given and nothing is written. Refused by `WriteFault` where a write
+/// fails or takes nothing; some first bytes are written then.
 pub fn write_counts<W: Write>(
     checked: &Result<Checker, CheckFault>,
     writer: &mut W,
@@ -188,7 +195,8 @@ impl Progress {
         writer: &mut W,
         notices: &mut N,
     ) -> Result<(), CheckFault>
-        ensures outcome { (more : List ℕ) × Appends (W.contents writer.old) (W.contents writer.new) more
+        ensures outcome { (more : List ℕ)
+            × Appends (W.contents writer.old) (W.contents writer.new) more
             × Outcome source.now self.old piece.now more self.new result }
         ensures written { OnOk result (self.new.findings.items ≡ []) }
     {
@@ -211,10 +219,12 @@ impl Progress {
         notices: &mut N,
     ) -> Result<(), CheckFault>
         ensures other { is_last source.now.form self.old.line.items ≡ false
-            → (result ≡ Ok tt) × (self.new ≡ self.old) × (W.contents writer.new ≡ W.contents writer.old) }
+            → (result ≡ Ok tt) × (self.new ≡ self.old)
+            × (W.contents writer.new ≡ W.contents writer.old) }
         ensures last { is_last source.now.form self.old.line.items ≡ true
             → (more : List ℕ) × Appends (W.contents writer.old) (W.contents writer.new) more
-            × Outcome source.now self.old (10 ∷ []) more self.new result × OnOk result (self.new.findings.items ≡ []) }
+            × Outcome source.now self.old (10 ∷ []) more self.new result
+            × OnOk result (self.new.findings.items ≡ []) }
     {
         if is_last(source.form, &self.line) {
             return self.check_piece(b"\n", source, writer, notices);
@@ -222,8 +232,8 @@ impl Progress {
         Ok(())
     }
 
-    /// Takes the rest of a line, without its LF, and writes the findings where they are many. Where the line is
-    /// refused, those of the lines before it are written first.
+    /// Takes the rest of a line, without its LF, and writes the findings where they are many. Where
+    /// the line is refused, those of the lines before it are written first.
     fn tell_line<W: Write, N: Write>(
         &mut self,
         end: &[u8],
@@ -278,7 +288,8 @@ impl Progress {
     /// Keeps what has come of a log's line. One of 128 bytes without an LF is refused.
     fn keep_all(&mut self, bytes: &[u8]) -> Result<(), CheckFault>
         requires { HasNoLf bytes.now }
-        ensures takes { (source : Source) → source.form ≡ Form.Log → TakesBytes source self.old bytes.now self.new result }
+        ensures takes { (source : Source) → source.form ≡ Form.Log
+            → TakesBytes source self.old bytes.now self.new result }
         ensures findings { self.new.findings.items ≡ self.old.findings.items }
     {
         if self.line.len() + bytes.len() >= MAX_LINE {
@@ -321,7 +332,8 @@ impl Progress {
     fn run_log_line(&mut self, line: &[u8], source: &Source<'_>) -> Result<(), CheckFault>
         requires log { source.now.form ≡ Form.Log }
         requires fresh { self.old.line.items ≡ [] }
-        ensures takes { HasNoLf line.now → TakesBytes source.now self.old (whole_line line.now) self.new result }
+        ensures takes { HasNoLf line.now → TakesBytes source.now self.old (whole_line line.now)
+            self.new result }
         ensures findings { OnErr result (self.new.findings.items ≡ self.old.findings.items) }
     {
         let number = self.number();
@@ -341,7 +353,8 @@ impl Progress {
         requires log { source.now.form ≡ Form.Log }
         requires fresh { self.old.line.items ≡ [] }
         requires first { self.old.checker ≡ None }
-        ensures takes { HasNoLf line.now → TakesBytes source.now self.old (whole_line line.now) self.new result }
+        ensures takes { HasNoLf line.now → TakesBytes source.now self.old (whole_line line.now)
+            self.new result }
         ensures findings { OnErr result (self.new.findings.items ≡ self.old.findings.items) }
     {
         let Some(header) = read_header(line) else {
@@ -358,7 +371,8 @@ impl Progress {
         Ok(())
     }
 
-    /// Takes a whole line of a trace, of which this is kept, and tells notices where it says that events were lost.
+    /// Takes a whole line of a trace, of which this is kept, and tells notices where it says that
+    /// events were lost.
     fn run_trace_line<N: Write>(
         &mut self,
         line: &[u8],
@@ -366,7 +380,8 @@ impl Progress {
         notices: &mut N,
     ) -> Result<(), CheckFault>
         requires { self.old.line.items ≡ [] }
-        ensures takes { (source : Source) (whole : List ℕ) → source.form ≡ Form.Trace domain → HasNoLf whole → IsFront line.now whole
+        ensures takes { (source : Source) (whole : List ℕ) → source.form ≡ Form.Trace domain
+            → HasNoLf whole → IsFront line.now whole
             → TakesBytes source self.old (whole_line whole) self.new result }
         ensures findings { OnErr result (self.new.findings.items ≡ self.old.findings.items) }
     {
@@ -386,11 +401,13 @@ impl Progress {
 
     /// Writes the findings that have been gathered.
     fn write_findings<W: Write>(&mut self, writer: &mut W) -> Result<(), CheckFault>
-        ensures ok { OnOk result (Appends (W.contents writer.old) (W.contents writer.new) self.old.findings.items) }
+        ensures ok { OnOk result (Appends (W.contents writer.old) (W.contents writer.new)
+            self.old.findings.items) }
         ensures none { OnOk result (self.new.findings.items ≡ []) }
         ensures same { self.new ≡ record self.old { findings = self.new.findings } }
         ensures err { IfErr result (λ e. (e ≡ CheckFault.WriteFault)
-            × ((n : ℕ) × Appends (W.contents writer.old) (W.contents writer.new) (take n self.old.findings.items))) }
+            × ((n : ℕ) × Appends (W.contents writer.old) (W.contents writer.new)
+            (take n self.old.findings.items))) }
     {
         if self.findings.is_empty() {
             return Ok(());
@@ -402,7 +419,8 @@ impl Progress {
 
     /// What the check comes to where the text ends here.
     fn finish(self) -> Result<Checker, CheckFault>
-        ensures { (source : Source) (taken written : List ℕ) → Stands source taken written self → self.findings.items ≡ []
+        ensures { (source : Source) (taken written : List ℕ) → Stands source taken written self
+            → self.findings.items ≡ []
             → is_last source.form self.line.items ≡ false → Closes source taken written result }
     {
         let number = self.number();
@@ -432,7 +450,8 @@ fn is_last(form: Form, kept: &[u8]) -> bool
     }
 }
 
-/// What is known before the first line: of a log nothing, since its header has the bounds. Refused by `NoMemory`.
+/// What is known before the first line: of a log nothing, since its header has the bounds. Refused
+/// by `NoMemory`.
 fn first_checker(alloc: Global, source: &Source<'_>) -> Result<Option<Checker>, CheckFault>
     ensures ok { IfOk result (λ c. IsBegun source.now.form source.now.asked c) }
     ensures err { OnErr result (result ≡ Err CheckFault.NoMemory) }
@@ -469,10 +488,12 @@ fn notify<N: Write>(number: u64, line: &[u8], notices: &mut N)
     let _told = write_all(notices, text.as_slice());
 }
 
-/// Reads once, and gives how many bytes came, none only at the end. Any error is a fault, an interruption too.
+/// Reads once, and gives how many bytes came, none only at the end. Any error is a fault, an
+/// interruption too.
 fn read_some<R: Read>(reader: &mut R, buffer: &mut [u8]) -> Result<usize, CheckFault>
     requires { 0 < length buffer.old }
-    ensures ok { IfOk result (λ len. Consumes (R.remaining reader.old) (R.remaining reader.new) (take len buffer.new)) }
+    ensures ok { IfOk result (λ len. Consumes (R.remaining reader.old) (R.remaining reader.new)
+        (take len buffer.new)) }
     ensures bound { IfOk result (λ len. len ≤ length buffer.new) }
     ensures end { IfOk result (λ len. len ≡ 0 → IsAtEnd (R.remaining reader.new)) }
     ensures err { OnErr result ((result ≡ Err CheckFault.ReadFault)

@@ -1,4 +1,5 @@
-//! The lowest frames of a range of which something is told, and those after them of which the same is.
+//! The lowest frames of a range of which something is told, and those after them of which the same
+//! is.
 ghost use Rattle.std.specs.Prelude.{◌≡◌, ◌≢◌, ℕ, ◌+◌, ◌-◌, ◌≤◌, ◌<◌, Some};
 ghost use Rattle.iova_check.specs.Marks.{shown};
 ghost use Rattle.iova_check.specs.declared.finding.Kind.TheVariants.{Overlap as Overlapping};
@@ -9,8 +10,8 @@ use crate::finding::{Kind, Run};
 use crate::stage::Stage;
 use crate::stages::Stages;
 
-/// The lowest of the frames from `lo` on and below `to` of which the kind tells something, and the frames after it of which it tells
-/// the same.
+/// The lowest of the frames from `lo` on and below `to` of which the kind tells something, and the
+/// frames after it of which it tells the same.
 pub fn find(stages: &Stages, kind: Kind, lo: u64, to: u64) -> Option<Run>
     requires { lo ≤ to }
     ensures { IsFound (λ f. told kind (shown stages.now f)) lo to result }
@@ -43,8 +44,8 @@ fn stretch(stages: &Stages, kind: Kind, since: Option<u64>, lo: u64, to: u64) ->
     at
 }
 
-/// The frames from `lo` on and below `to` that are cut off from a frame beside them: those mapped with the frame before `lo`, else
-/// those mapped with `to`.
+/// The frames from `lo` on and below `to` that are cut off from a frame beside them: those mapped
+/// with the frame before `lo`, else those mapped with `to`.
 pub fn find_cut(stages: &Stages, lo: u64, to: u64) -> Option<Run>
     requires { lo < to }
     ensures { IsCut (shown stages.now) lo to result }
@@ -77,13 +78,15 @@ fn joined(stages: &Stages, frame: u64) -> bool
     }
 }
 
-/// The first of the frames from `lo` on that are all mapped since this line up to the one before `to`.
+/// The first of the frames from `lo` on that are all mapped since this line up to the one before
+/// `to`.
 fn last_start(stages: &Stages, since: Option<u64>, lo: u64, to: u64) -> u64
     requires some { lo < to }
     requires last { told Overlapping (shown stages.now (to - 1)) ≡ Some since }
     ensures from { lo ≤ result }
     ensures within { result < to }
-    ensures same { (f : ℕ) → result ≤ f → f < to → told Overlapping (shown stages.now f) ≡ Some since }
+    ensures same { (f : ℕ) → result ≤ f → f < to
+        → told Overlapping (shown stages.now f) ≡ Some since }
     ensures longest { lo < result → told Overlapping (shown stages.now (result - 1)) ≢ Some since }
 {
     let mut start = lo;

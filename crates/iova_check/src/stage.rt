@@ -4,15 +4,16 @@ ghost use Rattle.iova_check.specs.History.{changed};
 
 use iova_range::range::Range;
 
-/// Where a frame stands after some lines of a log. Lines are told by their number, counted from 1. Our own.
+/// Where a frame stands after some lines of a log. Lines are told by their number, counted from 1.
+/// Our own.
 #[derive(Clone, Copy, Debug, PartialEq, Eq)]
 pub enum Stage {
     /// No device can reach it.
     Free,
     /// It has been mapped since this line.
     Mapped(u64),
-    /// It was unmapped at this line, and a device may still reach it: no flush that has it began after that line and ended
-    /// well.
+    /// It was unmapped at this line, and a device may still reach it: no flush that has it began
+    /// after that line and ended well.
     Stale(u64),
 }
 

@@ -1,5 +1,5 @@
-//! The stages of all frames, as marks in an ordered map: a step costs the logarithm of how many there are. Those that tell
-//! stale are in an index, so that a flush looks at these alone.
+//! The stages of all frames, as marks in an ordered map: a step costs the logarithm of how many
+//! there are. Those that tell stale are in an index, so that a flush looks at these alone.
 ghost use Rattle.iova_check.specs.StaleIndex.{IsIndexed};
 
 use crate::stage::{Change, Stage};
@@ -7,12 +7,13 @@ use iova_range::range::Range;
 use std::alloc::{AllocError, Global};
 use std::collections::{BTreeMap, BTreeSet};
 
-/// The stage of each frame. A mark at a frame tells the stage of it and of those after it, up to the next mark; before the first
-/// mark all are free.
+/// The stage of each frame. A mark at a frame tells the stage of it and of those after it, up to
+/// the next mark; before the first mark all are free.
 #[derive(Drop)]
 pub struct Stages {
     marks: BTreeMap<u64, Stage>,
-    /// The marks that tell stale are at these frames; where memory was refused there may be more of them.
+    /// The marks that tell stale are at these frames; where memory was refused there may be more of
+    /// them.
     stale: BTreeSet<u64>,
     ghost indexed: { IsIndexed marks stale },
 }
@@ -73,8 +74,10 @@ impl Stages {
     /// Changes the stages of these frames below frame 2^64 - 1.
     pub fn change_range(&mut self, range: Range, change: Change) -> Result<(), AllocError>
         ensures below { OnOk result ((f : ℕ) → f < 2 ^ 64 - 1
-            → shown self.new f ≡ (if covers f range then changed change (shown self.old f) else shown self.old f)) }
-        ensures above { OnOk result ((f : ℕ) → 2 ^ 64 - 1 ≤ f → shown self.new f ≡ shown self.old f) }
+            → shown self.new f ≡ (if covers f range then changed change (shown self.old f)
+            else shown self.old f)) }
+        ensures above { OnOk result ((f : ℕ) → 2 ^ 64 - 1 ≤ f
+            → shown self.new f ≡ shown self.old f) }
     {
         let to = range.lo().saturating_add(range.len());
         self.change(range.lo(), to, change)?;
@@ -84,7 +87,8 @@ impl Stages {
     /// Changes the stages of the frames from `lo` on and below `to`.
     pub fn change(&mut self, lo: u64, to: u64, change: Change) -> Result<(), AllocError>
         requires { lo ≤ to }
-        ensures inside { OnOk result ((f : ℕ) → lo ≤ f → f < to → shown self.new f ≡ changed change (shown self.old f)) }
+        ensures inside { OnOk result ((f : ℕ) → lo ≤ f → f < to
+            → shown self.new f ≡ changed change (shown self.old f)) }
         ensures below { OnOk result ((f : ℕ) → f < lo → shown self.new f ≡ shown self.old f) }
         ensures above { OnOk result ((f : ℕ) → to ≤ f → shown self.new f ≡ shown self.old f) }
     {
@@ -101,15 +105,18 @@ impl Stages {
         Ok(())
     }
 
-    /// A frame above `frame` and at most `to`. Where the change changes `frame`, the stage up to there is one; else it changes
-    /// none up to there: a flush leaves all frames up to the next one that is stale.
+    /// A frame above `frame` and at most `to`. Where the change changes `frame`, the stage up to
+    /// there is one; else it changes none up to there: a flush leaves all frames up to the next one
+    /// that is stale.
     fn end_of_change(&self, frame: u64, to: u64, change: Change) -> u64
         requires { frame < to }
         ensures after { frame < result }
         ensures within { result ≤ to }
-        ensures bare { changed change (shown self.now frame) ≢ shown self.now frame → IsBare self.now frame result }
+        ensures bare { changed change (shown self.now frame) ≢ shown self.now frame
+            → IsBare self.now frame result }
         ensures kept { changed change (shown self.now frame) ≡ shown self.now frame
-            → (f : ℕ) → frame ≤ f → f < result → changed change (shown self.now f) ≡ shown self.now f }
+            → (f : ℕ) → frame ≤ f → f < result
+            → changed change (shown self.now f) ≡ shown self.now f }
     {
         match change {
             Change::Flushed(_) if !self.stage(frame).is_stale() => self.next_stale(frame, to),
@@ -122,7 +129,8 @@ impl Stages {
         requires { frame < to }
         ensures after { frame < result }
         ensures within { result ≤ to }
-        ensures none { (q : ℕ) → frame < q → q < result → (since : ℕ) → get nat_cmp self.now.marks q ≢ Some (IsStale since) }
+        ensures none { (q : ℕ) → frame < q → q < result → (since : ℕ)
+            → get nat_cmp self.now.marks q ≢ Some (IsStale since) }
     {
         match self.stale.range(frame + 1..).next() {
             Some(next) if *next < to => *next,
@@ -149,7 +157,8 @@ impl Stages {
     fn cut(&mut self, at: u64) -> Result<(), AllocError>
         ensures same { OnOk result ((f : ℕ) → shown self.new f ≡ shown self.old f) }
         ensures marked { OnOk result (IsSome (get nat_cmp self.new.marks at)) }
-        ensures others { OnOk result ((q : ℕ) → q ≢ at → get nat_cmp self.new.marks q ≡ get nat_cmp self.old.marks q) }
+        ensures others { OnOk result ((q : ℕ) → q ≢ at
+            → get nat_cmp self.new.marks q ≡ get nat_cmp self.old.marks q) }
     {
         if self.marks.contains_key(&at) {
             return Ok(());
@@ -162,7 +171,8 @@ impl Stages {
     /// Sets the stage from a frame on.
     fn mark(&mut self, at: u64, stage: Stage) -> Result<(), AllocError>
         ensures marked { OnOk result (get nat_cmp self.new.marks at ≡ Some stage) }
-        ensures others { OnOk result ((q : ℕ) → q ≢ at → get nat_cmp self.new.marks q ≡ get nat_cmp self.old.marks q) }
+        ensures others { OnOk result ((q : ℕ) → q ≢ at
+            → get nat_cmp self.new.marks q ≡ get nat_cmp self.old.marks q) }
     {
         if let Stage::Stale(_) = stage {
             self.stale.insert(at)?;

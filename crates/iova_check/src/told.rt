@@ -18,13 +18,15 @@ use crate::stages::Stages;
 use crate::tracker::Tracker;
 use iova_range::range::Range;
 
-/// What is told of the next line, in order: at most three findings. None is of a frame that was given out too early exactly where
-/// the promise is kept for each frame that the line maps.
+/// What is told of the next line, in order: at most three findings. None is of a frame that was
+/// given out too early exactly where the promise is kept for each frame that the line maps.
 pub fn findings(tracker: &Tracker, allowed: &Allowed, event: &Event) -> [Option<Finding>; 3]
     requires { IsInReach event.now }
-    ensures told { (bounds : Bounds) (past : List Event) → Allows allowed.now bounds → Follows past tracker.now
+    ensures told { (bounds : Bounds) (past : List Event) → Allows allowed.now bounds
+        → Follows past tracker.now
         → AreFindings bounds (stage_of past) (flight_of past) event.now result }
-    ensures breaks { (bounds : Bounds) (past : List Event) → Allows allowed.now bounds → Follows past tracker.now
+    ensures breaks { (bounds : Bounds) (past : List Event) → Allows allowed.now bounds
+        → Follows past tracker.now
         → TellsBreaks past event.now result }
 {
     tell(tracker, allowed, event)
@@ -34,7 +36,8 @@ pub fn findings(tracker: &Tracker, allowed: &Allowed, event: &Event) -> [Option<
 fn tell(tracker: &Tracker, allowed: &Allowed, event: &Event) -> [Option<Finding>; 3]
     requires { IsInReach event.now }
     ensures { (bounds : Bounds) → Allows allowed.now bounds
-        → AreFindings bounds (shown tracker.now.stages) (get nat_cmp tracker.now.flights) event.now result }
+        → AreFindings bounds (shown tracker.now.stages) (get nat_cmp tracker.now.flights) event.now
+        result }
 {
     match event {
         Event::Map(range) => of_map(&tracker.stages, allowed, *range),
@@ -48,7 +51,8 @@ fn tell(tracker: &Tracker, allowed: &Allowed, event: &Event) -> [Option<Finding>
 
 fn of_map(stages: &Stages, allowed: &Allowed, range: Range) -> [Option<Finding>; 3]
     requires { IsRange range }
-    ensures { (bounds : Bounds) → Allows allowed.now bounds → IsMapTold bounds (shown stages.now) range result }
+    ensures { (bounds : Bounds) → Allows allowed.now bounds
+        → IsMapTold bounds (shown stages.now) range result }
 {
     let (lo, to) = (range.lo(), range.lo() + range.len());
     let outside = allowed.find_outside(lo, to);
@@ -63,7 +67,8 @@ fn of_map(stages: &Stages, allowed: &Allowed, range: Range) -> [Option<Finding>;
 
 fn of_unmap(stages: &Stages, allowed: &Allowed, range: Range) -> [Option<Finding>; 3]
     requires { IsRange range }
-    ensures { (bounds : Bounds) → Allows allowed.now bounds → IsUnmapTold bounds (shown stages.now) range result }
+    ensures { (bounds : Bounds) → Allows allowed.now bounds
+        → IsUnmapTold bounds (shown stages.now) range result }
 {
     let (lo, to) = (range.lo(), range.lo() + range.len());
     let outside = allowed.find_outside(lo, to);
@@ -78,7 +83,8 @@ fn of_unmap(stages: &Stages, allowed: &Allowed, range: Range) -> [Option<Finding
 
 fn of_use(stages: &Stages, allowed: &Allowed, range: Range) -> [Option<Finding>; 3]
     requires { IsRange range }
-    ensures { (bounds : Bounds) → Allows allowed.now bounds → IsUseTold bounds (shown stages.now) range result }
+    ensures { (bounds : Bounds) → Allows allowed.now bounds
+        → IsUseTold bounds (shown stages.now) range result }
 {
     let (lo, to) = (range.lo(), range.lo() + range.len());
     let outside = allowed.find_outside(lo, to);

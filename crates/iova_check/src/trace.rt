@@ -85,7 +85,8 @@ fn word_and_rest(bytes: &[u8]) -> (&[u8], &[u8])
 }
 
 fn event_of(domain: Option<u64>, words: &Seven<'_>) -> Event
-    ensures said { result ≡ said domain words.now.name.now words.now.about.now words.now.a.now words.now.b.now words.now.c.now
+    ensures said { result ≡ said domain words.now.name.now words.now.about.now words.now.a.now
+        words.now.b.now words.now.c.now
         words.now.d.now words.now.e.now }
     ensures reach { IsInReach result }
 {
@@ -117,7 +118,8 @@ fn is_either(name: &[u8], short: &[u8], long: &[u8]) -> bool
 }
 
 fn mapped_frames(words: &Seven<'_>) -> Option<Range>
-    ensures is { result ≡ mapped_frames words.now.a.now words.now.b.now words.now.c.now words.now.d.now words.now.e.now }
+    ensures is { result ≡ mapped_frames words.now.a.now words.now.b.now words.now.c.now
+        words.now.d.now words.now.e.now }
     ensures reach { IfSome result (λ r. IsRange r) }
 {
     let dash = words.b == b"-".as_slice();
@@ -129,7 +131,8 @@ fn mapped_frames(words: &Seven<'_>) -> Option<Range>
 }
 
 fn unmapped_frames(words: &Seven<'_>) -> Option<Range>
-    ensures is { result ≡ unmapped_frames words.now.a.now words.now.b.now words.now.c.now words.now.d.now words.now.e.now }
+    ensures is { result ≡ unmapped_frames words.now.a.now words.now.b.now words.now.c.now
+        words.now.d.now words.now.e.now }
     ensures reach { IfSome result (λ r. IsRange r) }
 {
     let dash = words.b == b"-".as_slice();
@@ -142,7 +145,8 @@ fn unmapped_frames(words: &Seven<'_>) -> Option<Range>
 
 /// The frames between the first byte and the byte behind the last one.
 fn frames_of(words: &Seven<'_>) -> Option<Range>
-    ensures is { result ≡ frames_of (hex_after (codes "iova=0x") words.now.a.now) (hex_after (codes "0x") words.now.c.now) }
+    ensures is { result ≡ frames_of (hex_after (codes "iova=0x") words.now.a.now)
+        (hex_after (codes "0x") words.now.c.now) }
     ensures reach { IfSome result (λ r. IsRange r) }
 {
     let start = hex_after(b"iova=0x", words.a)?;
@@ -163,7 +167,8 @@ fn frames_between(start: u64, behind: u64) -> Option<Range>
 }
 
 fn flush_said(domain: Option<u64>, words: &Seven<'_>) -> Event
-    ensures said { result ≡ flush_said domain words.now.b.now words.now.c.now words.now.d.now words.now.e.now }
+    ensures said { result ≡ flush_said domain words.now.b.now words.now.c.now words.now.d.now
+        words.now.e.now }
     ensures reach { IsInReach result }
 {
     if hex_after(b"0x", words.d).is_none() || hex_after(b"0x", words.e).is_none() {
@@ -294,7 +299,8 @@ fn hex_digit(byte: u8) -> Option<u8>
 
 /// The last seven words that have a blank before them. None where there are fewer.
 fn seven_words(line: &[u8]) -> Option<Seven<'_>>
-    ensures some { IfSome result (λ w. (before : List (List ℕ)) × (spaced line.now ≡ before ++ w.name.now ∷ w.about.now ∷ w.a.now
+    ensures some { IfSome result (λ w. (before : List (List ℕ))
+        × (spaced line.now ≡ before ++ w.name.now ∷ w.about.now ∷ w.a.now
         ∷ w.b.now ∷ w.c.now ∷ w.d.now ∷ w.e.now ∷ [])) }
     ensures none { IfNone result (length (spaced line.now) < 7) }
 {
@@ -313,7 +319,8 @@ fn seven_words(line: &[u8]) -> Option<Seven<'_>>
 }
 
 fn four_words(line: &[u8]) -> Option<(&[u8], &[u8], &[u8], &[u8], &[u8])>
-    ensures some { IfSome result (λ p. spaced line.now ≡ spaced p.0.now ++ p.1.now ∷ p.2.now ∷ p.3.now ∷ p.4.now ∷ []) }
+    ensures some { IfSome result (λ p. spaced line.now ≡ spaced p.0.now
+        ++ p.1.now ∷ p.2.now ∷ p.3.now ∷ p.4.now ∷ []) }
     ensures none { IfNone result (length (spaced line.now) < 4) }
 {
     let (line, c, d) = two_words(line)?;

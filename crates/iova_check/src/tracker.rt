@@ -38,11 +38,13 @@ impl Tracker {
         }
     }
 
-    /// Takes the next line. Refused where memory is: what is known then is no more than of some of it.
+    /// Takes the next line. Refused where memory is: what is known then is no more than of some of
+    /// it.
     pub fn take(&mut self, event: Event) -> Result<(), AllocError>
         requires event { IsInReach event }
         requires few { self.old.line < 2 ^ 64 - 1 }
-        ensures { OnOk result ((past : List Event) → Follows past self.old → Follows (event ∷ past) self.new) }
+        ensures { OnOk result ((past : List Event) → Follows past self.old
+            → Follows (event ∷ past) self.new) }
     {
         match event {
             Event::Map(range) => self.stages.change_range(range, Change::Mapped(self.line))?,
@@ -62,7 +64,8 @@ impl Tracker {
     /// A flush begins at the next line.
     fn begin(&mut self, no: u64, range: Option<Range>) -> Result<(), AllocError>
         ensures flights { OnOk result ((n : ℕ) → get nat_cmp self.new.flights n
-            ≡ (if no == n then Some (record { line = self.old.line; range = range }) else get nat_cmp self.old.flights n)) }
+            ≡ (if no == n then Some (record { line = self.old.line; range = range })
+            else get nat_cmp self.old.flights n)) }
         ensures stages { self.new.stages ≡ self.old.stages }
         ensures line { self.new.line ≡ self.old.line }
     {
@@ -74,8 +77,10 @@ impl Tracker {
     /// A flush begins and ends at the next line.
     fn flush_at_once(&mut self, range: Option<Range>) -> Result<(), AllocError>
         ensures stages { OnOk result ((f : ℕ) → f < 2 ^ 64 - 1 → shown self.new.stages f
-            ≡ flushed_by (Some (record { line = self.old.line; range = range })) f (shown self.old.stages f)) }
-        ensures top { OnOk result ((f : ℕ) → 2 ^ 64 - 1 ≤ f → shown self.new.stages f ≡ shown self.old.stages f) }
+            ≡ flushed_by (Some (record { line = self.old.line; range = range })) f
+            (shown self.old.stages f)) }
+        ensures top { OnOk result ((f : ℕ) → 2 ^ 64 - 1 ≤ f
+            → shown self.new.stages f ≡ shown self.old.stages f) }
         ensures flights { self.new.flights ≡ self.old.flights }
         ensures line { self.new.line ≡ self.old.line }
     {
@@ -88,8 +93,10 @@ impl Tracker {
         ensures flights { OnOk result ((n : ℕ) → get nat_cmp self.new.flights n
             ≡ (if no == n then None else get nat_cmp self.old.flights n)) }
         ensures stages { OnOk result ((f : ℕ) → f < 2 ^ 64 - 1 → shown self.new.stages f
-            ≡ (if ok then flushed_by (get nat_cmp self.old.flights no) f (shown self.old.stages f) else shown self.old.stages f)) }
-        ensures top { OnOk result ((f : ℕ) → 2 ^ 64 - 1 ≤ f → shown self.new.stages f ≡ shown self.old.stages f) }
+            ≡ (if ok then flushed_by (get nat_cmp self.old.flights no) f (shown self.old.stages f)
+            else shown self.old.stages f)) }
+        ensures top { OnOk result ((f : ℕ) → 2 ^ 64 - 1 ≤ f
+            → shown self.new.stages f ≡ shown self.old.stages f) }
         ensures line { self.new.line ≡ self.old.line }
     {
         let flight = self.flights.remove(&no);
@@ -104,7 +111,8 @@ impl Tracker {
 fn flush(stages: &mut Stages, flight: &Flight) -> Result<(), AllocError>
     ensures below { OnOk result ((f : ℕ) → f < 2 ^ 64 - 1
         → shown stages.new f ≡ flushed_by (Some flight.now) f (shown stages.old f)) }
-    ensures above { OnOk result ((f : ℕ) → 2 ^ 64 - 1 ≤ f → shown stages.new f ≡ shown stages.old f) }
+    ensures above { OnOk result ((f : ℕ) → 2 ^ 64 - 1 ≤ f
+        → shown stages.new f ≡ shown stages.old f) }
 {
     let change = Change::Flushed(flight.line);
     match flight.range {

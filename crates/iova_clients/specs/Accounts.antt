@@ -10,7 +10,8 @@ pub record Row : Type 0 where
   pub ranges : List Frames
   pub spare : ℕ
 
--- What a `Ledger` is seen as: a client but for its serial, and how many more holdings fit without memory
+-- What a `Ledger` is seen as: a client but for its serial, and how many more holdings fit without
+-- memory
 pub record Account : Type 0 where
   pub worker : ℕ
   pub sac : Bool
@@ -50,13 +51,21 @@ abbrev pub IsRemembered : Option (ℕ × ℕ) → List (ℕ × ℕ) → Type 0
 IsRemembered None keys = Unit {0}
 IsRemembered (Some e) keys = lookup (is_serial e.0) keys ≡ Some e.1
 
-pub record AreLedgers (at : ℕ → Option Account) (keys : List (ℕ × ℕ)) (last : Option (ℕ × ℕ)) : Type 0 where
+pub record AreLedgers (at : ℕ → Option Account) (keys : List (ℕ × ℕ))
+    (last : Option (ℕ × ℕ)) : Type 0 where
   pub keyed : AreKeyed at keys
   pub remembered : IsRemembered last keys
 
 -- the client of this serial and account
 abbrev pub client_at : ℕ × Account → Client
-client_at e = record { id = e.0; worker = e.1.worker; sac = e.1.sac; closing = e.1.closing; holdings = e.1.holdings }
+client_at e =
+    record {
+      id = e.0;
+      worker = e.1.worker;
+      sac = e.1.sac;
+      closing = e.1.closing;
+      holdings = e.1.holdings;
+    }
 
 abbrev pub clients_at : List (ℕ × Account) → List Client
 clients_at es = map client_at es

@@ -10,7 +10,8 @@ use Rattle.iova_clients.specs.Sums.{share_at}
 pub record AreSumsOf (clients : List Client) (sums : Sums) : Type 0 where
   pub workers : length sums.shares ≡ MAX_WORKERS
   pub all : sums.all ≡ totals clients
-  pub shares : (worker : ℕ) → worker < MAX_WORKERS → share_at worker sums.shares ≡ share_of worker clients
+  pub shares : (worker : ℕ) → worker < MAX_WORKERS
+      → share_at worker sums.shares ≡ share_of worker clients
 
 pub record AreBooks (r : Registry) (s : Sums) : Type 0 where
   pub registry : IsRegistry r

@@ -12,8 +12,8 @@ use Rattle.iova_model.specs.Next.{first_refusal}
 use Rattle.iova_model.specs.Valid.{AreClients}
 use Rattle.iova_clients.specs.declared.marks.Marks.{Marks}
 
--- The clients, rising by serial; the last serial given; and by the serial of each client how many more holdings it can be given
--- without memory
+-- The clients, rising by serial; the last serial given; and by the serial of each client how many
+-- more holdings it can be given without memory
 pub record Registry : Type 0 where
   pub clients : List Client
   pub serial : ℕ
@@ -26,7 +26,8 @@ empty_registry serial = record { clients = []; serial = serial; spares = [] }
 abbrev pub is_serial : ℕ → ℕ → Bool
 is_serial id serial = serial == id
 
--- how many more holdings the client of this serial can be given without memory, 0 where there is no such client
+-- how many more holdings the client of this serial can be given without memory, 0 where there is no
+-- such client
 abbrev pub spare_of : ℕ → Registry → ℕ
 spare_of id r = unwrap_or (lookup (is_serial id) r.spares) 0
 
@@ -47,12 +48,15 @@ pub record IsRegistry (r : Registry) : Type 0 where
 -- of `open`, where memory is left
 abbrev pub open_refusal : Registry → Option Refusal
 open_refusal r =
-    first_refusal ((nat_le MAX_SERIAL r.serial, refusal.Worn) ∷ (nat_le MAX_CLIENTS (length r.clients), refusal.ClientsFull) ∷ [])
+    first_refusal ((nat_le MAX_SERIAL r.serial, refusal.Worn)
+    ∷ (nat_le MAX_CLIENTS (length r.clients), refusal.ClientsFull) ∷ [])
 
 -- of `room`, where memory is left
 abbrev pub room_refusal : Option Client → Option Refusal
 room_refusal None = Some refusal.NoClient
-room_refusal (Some c) = first_refusal ((c.closing, refusal.Closing) ∷ (nat_le MAX_HOLDINGS (length c.holdings), refusal.HoldingsFull) ∷ [])
+room_refusal (Some c) =
+    first_refusal ((c.closing, refusal.Closing)
+    ∷ (nat_le MAX_HOLDINGS (length c.holdings), refusal.HoldingsFull) ∷ [])
 
 -- a client has fewer than 4,096 holdings, none of which begins where the range does
 pub record CanBeGiven (r : Frames) (c : Client) : Type 0 where
@@ -66,7 +70,8 @@ held_at lo (Some c) = ok_or (find (begins_at lo) c.holdings) refusal.NotHeld
 
 -- the holdings from this place on begin above `lo`
 abbrev pub AllBehind : ℕ → ℕ → List Frames → Type 0
-AllBehind place lo holdings = (k : ℕ) (d : Frames) → place ≤ k → k < length holdings → lo < (slice_index_or holdings k d).lo
+AllBehind place lo holdings =
+    (k : ℕ) (d : Frames) → place ≤ k → k < length holdings → lo < (slice_index_or holdings k d).lo
 
 -- those before this place begin at `lo` or below, and the others above
 pub record IsReach (lo : ℕ) (holdings : List Frames) (place : ℕ) : Type 0 where

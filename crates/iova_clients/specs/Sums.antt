@@ -12,7 +12,8 @@ abbrev pub with_one : Frames → Totals → Totals
 with_one r t = record { count = t.count + 1; frames = t.frames + r.len; sum_lo = t.sum_lo + r.lo }
 
 abbrev pub without_one : Frames → Totals → Totals
-without_one r t = record { count = t.count - 1; frames = t.frames - r.len; sum_lo = t.sum_lo - r.lo }
+without_one r t =
+    record { count = t.count - 1; frames = t.frames - r.len; sum_lo = t.sum_lo - r.lo }
 
 -- one worker's share, and the shares with another in its place
 abbrev pub share_at : ℕ → List Totals → Totals
@@ -21,7 +22,8 @@ share_at worker shares = slice_index_or shares worker no_totals
 abbrev pub with_share : ℕ → (Totals → Totals) → List Totals → List Totals
 with_share worker change shares = slice_set shares worker (change (share_at worker shares))
 
--- one holding more fits into the numbers: there are less than 2^22 of at most 2^20 frames, none of which is above 2^40
+-- one holding more fits into the numbers: there are less than 2^22 of at most 2^20 frames, none of
+-- which is above 2^40
 pub record HaveRoom (t : Totals) : Type 0 where
   pub count : t.count ≤ 2 ^ 62
   pub frames : t.frames ≤ 2 ^ 62

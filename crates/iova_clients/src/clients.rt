@@ -18,8 +18,9 @@ use std::marker::Model;
 
 /// The clients of a domain, each with its holdings, and the totals over them. It is all our own.
 ///
-/// Contracts see a `Registry`: the clients by rising serial, the last serial given, and how many more holdings each
-/// client can be given without memory (its spare). Holdings are ranges of page frames.
+/// Contracts see a `Registry`: the clients by rising serial, the last serial given, and how many
+/// more holdings each client can be given without memory (its spare). Holdings are ranges of page
+/// frames.
 pub struct Clients {
     ledgers: Ledgers,
     serial: u64,
@@ -46,10 +47,15 @@ impl Model for Clients {
 
     ghost Value = { Registry };
 
-    ghost view = { λ c. record { clients = clients_at c.ledgers; serial = c.serial; spares = spares_at c.ledgers } };
+    ghost view = { λ c. record {
+      clients = clients_at c.ledgers;
+      serial = c.serial;
+      spares = spares_at c.ledgers;
+    } };
 
     ghost invariant = { λ c. AreBooks
-        (record { clients = clients_at c.ledgers; serial = c.serial; spares = spares_at c.ledgers }) c.sums };
+        (record { clients = clients_at c.ledgers; serial = c.serial; spares = spares_at c.ledgers })
+        c.sums };
 }
 
 impl Clients {
@@ -65,16 +71,17 @@ impl Clients {
         }
     }
 
-    /// A new client of this worker, 0 to 15, which holds nothing. One that is `sac` is first sought a place below 4 GiB.
-    /// Its serial is one more than the last one given.
+    /// A new client of this worker, 0 to 15, which holds nothing. One that is `sac` is first sought
+    /// a place below 4 GiB. Its serial is one more than the last one given.
     ///
-    /// Refused by `Worn` where serial 2^63 - 1 was given, else by `ClientsFull` where there are 1,024 clients, else by
-    /// `NoMemory` where memory is refused.
+    /// Refused by `Worn` where serial 2^63 - 1 was given, else by `ClientsFull` where there are
+    /// 1,024 clients, else by `NoMemory` where memory is refused.
     pub fn open(&mut self, worker: u64, sac: bool) -> Result<ClientId, Refusal>
         requires { worker < MAX_WORKERS }
         ensures id { IfOk result (λ id. id ≡ self.old.serial + 1) }
         ensures clients { OnOk result
-            (self.new.clients ≡ self.old.clients ++ new_client (self.old.serial + 1) worker sac ∷ []) }
+            (self.new.clients ≡ self.old.clients
+            ++ new_client (self.old.serial + 1) worker sac ∷ []) }
         ensures serial { OnOk result (self.new.serial ≡ self.old.serial + 1) }
         ensures spares { OnOk result ((id : ℕ) → spare_of id self.new ≡ spare_of id self.old) }
 
@@ -121,8 +128,8 @@ impl Clients {
         self.serial
     }
 
-    /// The marks of the client, where it is one of this worker. Its ledger is found by what follows with no other
-    /// look-up, until another client is looked up or one comes or goes.
+    /// The marks of the client, where it is one of this worker. Its ledger is found by what follows
+    /// with no other look-up, until another client is looked up or one comes or goes.
     #[inline(always)]
     pub fn look_up(&mut self, worker: u64, id: ClientId) -> Option<Marks>
         ensures is { result ≡ option_map marks_of (client_of worker id self.old.clients) }
@@ -162,7 +169,8 @@ impl Clients {
 
     /// The client's holdings, rising by first frame.
     pub fn holdings(&self, id: ClientId) -> Option<&[Range]>
-        ensures is { option_copied result ≡ option_map (λ c. c.holdings) (client_with id self.now.clients) }
+        ensures is { option_copied result
+            ≡ option_map (λ c. c.holdings) (client_with id self.now.clients) }
         ensures registry { IsRegistry self.now }
     {
         Some(self.ledgers.get(id)?.holdings())
@@ -178,29 +186,34 @@ impl Clients {
 
     /// The client's holding that begins at `lo`, where it has one: a look-up and a binary search.
     pub fn holding(&self, id: ClientId, lo: u64) -> Option<Range>
-        ensures { result ≡ option_and_then (λ c. find (begins_at lo) c.holdings) (client_with id self.now.clients) }
+        ensures { result ≡ option_and_then (λ c. find (begins_at lo) c.holdings)
+            (client_with id self.now.clients) }
     {
         self.ledgers.get(id)?.holding(lo)
     }
 
-    /// The first client, by serial, that has a holding with the frame. This looks through all holdings.
+    /// The first client, by serial, that has a holding with the frame. This looks through all
+    /// holdings.
     pub fn holder(&self, frame: u64) -> Option<ClientId>
-        ensures is { result ≡ option_map (λ c. c.id) (find (λ c. is_covered frame c.holdings) self.now.clients) }
+        ensures is { result ≡ option_map (λ c. c.id)
+            (find (λ c. is_covered frame c.holdings) self.now.clients) }
         ensures holds { IfSome result (IsHolder frame self.now.clients) }
-        ensures none { IfNone result (All (λ c. is_covered frame c.holdings ≡ false) self.now.clients) }
+        ensures none { IfNone result (All (λ c. is_covered frame c.holdings ≡ false)
+            self.now.clients) }
     {
         self.ledgers.holder(frame)
     }
 
-    /// The first client, by serial, that this worker opened and whose serial is above this one. This looks through all clients.
+    /// The first client, by serial, that this worker opened and whose serial is above this one.
+    /// This looks through all clients.
     pub fn newer(&self, worker: u64, than: ClientId) -> Option<ClientId>
         ensures { result ≡ option_map (λ c. c.id) (newer_client worker than self.now.clients) }
     {
         self.ledgers.newer(worker, than)
     }
 
-    /// Whether the client is first sought a place below 4 GiB, where it was looked up last, is one of this worker, and has
-    /// room for one holding more.
+    /// Whether the client is first sought a place below 4 GiB, where it was looked up last, is one
+    /// of this worker, and has room for one holding more.
     #[inline(always)]
     pub fn sac_with_room(&self, worker: u64, id: ClientId) -> Option<bool> {
         let ledger = self.ledgers.last(id)?;
@@ -211,7 +224,8 @@ impl Clients {
         }
     }
 
-    /// Whether the client was looked up last, is one of this worker, isn't closing, and its first holding begins there.
+    /// Whether the client was looked up last, is one of this worker, isn't closing, and its first
+    /// holding begins there.
     #[inline(always)]
     pub fn holds_first(&self, worker: u64, id: ClientId, lo: u64) -> bool {
         match self.ledgers.last(id) {
@@ -220,7 +234,8 @@ impl Clients {
         }
     }
 
-    /// Whether the client was looked up last, and a holding that begins there comes behind all its others.
+    /// Whether the client was looked up last, and a holding that begins there comes behind all its
+    /// others.
     #[inline(always)]
     fn adds_last(&self, id: ClientId, lo: u64) -> bool {
         match self.ledgers.last(id) {
@@ -231,8 +246,9 @@ impl Clients {
 
     /// Makes room for one holding more of the client, so that the next `add` needs no memory.
     ///
-    /// Refused by `NoClient` where there is no such client, else by `Closing` where it is closing, else by
-    /// `HoldingsFull` where it has 4,096 holdings, else by `NoMemory` where it has no spare and memory is refused.
+    /// Refused by `NoClient` where there is no such client, else by `Closing` where it is closing,
+    /// else by `HoldingsFull` where it has 4,096 holdings, else by `NoMemory` where it has no spare
+    /// and memory is refused.
     #[inline(always)]
     pub fn room(&mut self, id: ClientId) -> Result<(), Refusal>
         ensures refused { IfSome (room_refusal (client_with id self.old.clients))
@@ -246,15 +262,16 @@ impl Clients {
         // Nothing else changes, and nothing at all where it is refused.
         ensures clients { self.new.clients ≡ self.old.clients }
         ensures serial { self.new.serial ≡ self.old.serial }
-        ensures others { (other : ℕ) → other ≢ id → spare_of other self.new ≡ spare_of other self.old }
+        ensures others { (other : ℕ) → other ≢ id
+            → spare_of other self.new ≡ spare_of other self.old }
         ensures unchanged { OnErr result (self.new ≡ self.old) }
     {
         let ledger = self.ledgers.get_mut(id).ok_or(Refusal::NoClient)?;
         ledger.room()
     }
 
-    /// Gives the client a holding, of 1 to 1,048,576 frames below 2^40, and says it again. It takes no memory: `room` makes
-    /// the room.
+    /// Gives the client a holding, of 1 to 1,048,576 frames below 2^40, and says it again. It takes
+    /// no memory: `room` makes the room.
     #[inline(always)]
     pub fn add(&mut self, id: ClientId, range: Range) -> Range
         requires client { IsSomeAnd (client_with id self.old.clients) (CanBeGiven range) }
@@ -265,7 +282,8 @@ impl Clients {
         ensures clients { self.new.clients ≡ changed id (with_holding range) self.old.clients }
         ensures serial { self.new.serial ≡ self.old.serial }
         ensures spare { spare_of id self.new + 1 ≡ spare_of id self.old }
-        ensures others { (other : ℕ) → other ≢ id → spare_of other self.new ≡ spare_of other self.old }
+        ensures others { (other : ℕ) → other ≢ id
+            → spare_of other self.new ≡ spare_of other self.old }
     {
         if self.adds_last(id, range.lo()) {
             self.add_here(id, range);
@@ -285,7 +303,8 @@ impl Clients {
         ensures clients { self.new.clients ≡ changed id (with_holding range) self.old.clients }
         ensures serial { self.new.serial ≡ self.old.serial }
         ensures spare { spare_of id self.new + 1 ≡ spare_of id self.old }
-        ensures others { (other : ℕ) → other ≢ id → spare_of other self.new ≡ spare_of other self.old }
+        ensures others { (other : ℕ) → other ≢ id
+            → spare_of other self.new ≡ spare_of other self.old }
     {
         self.add_here(id, range);
         range
@@ -300,7 +319,8 @@ impl Clients {
         ensures clients { self.new.clients ≡ changed id (with_holding range) self.old.clients }
         ensures serial { self.new.serial ≡ self.old.serial }
         ensures spare { spare_of id self.new + 1 ≡ spare_of id self.old }
-        ensures others { (other : ℕ) → other ≢ id → spare_of other self.new ≡ spare_of other self.old }
+        ensures others { (other : ℕ) → other ≢ id
+            → spare_of other self.new ≡ spare_of other self.old }
     {
         let ledger = self.ledgers.get_mut(id).unwrap();
         ledger.add(range);
@@ -310,14 +330,17 @@ impl Clients {
 
     /// The client gives up its holding that begins at `lo`.
     ///
-    /// Refused by `NoClient` where there is no such client, else by `NotHeld` where it has no such holding.
+    /// Refused by `NoClient` where there is no such client, else by `NotHeld` where it has no such
+    /// holding.
     #[inline(always)]
     pub fn take(&mut self, id: ClientId, lo: u64) -> Result<Range, Refusal>
         ensures value { result ≡ held_at lo (client_with id self.old.clients) }
-        ensures clients { OnOk result (self.new.clients ≡ changed id (without_holding lo) self.old.clients) }
+        ensures clients { OnOk result (self.new.clients
+            ≡ changed id (without_holding lo) self.old.clients) }
         ensures serial { self.new.serial ≡ self.old.serial }
         ensures spare { OnOk result (spare_of id self.new ≡ spare_of id self.old + 1) }
-        ensures others { (other : ℕ) → other ≢ id → spare_of other self.new ≡ spare_of other self.old }
+        ensures others { (other : ℕ) → other ≢ id
+            → spare_of other self.new ≡ spare_of other self.old }
         ensures unchanged { OnErr result (self.new ≡ self.old) }
     {
         let ledger = self.ledgers.get_mut(id).ok_or(Refusal::NoClient)?;
@@ -327,8 +350,8 @@ impl Clients {
         Ok(range)
     }
 
-    /// Marks the client closing, and says how many holdings it has left. A second call says the same. Refused by
-    /// `NoClient` where there is no such client.
+    /// Marks the client closing, and says how many holdings it has left. A second call says the
+    /// same. Refused by `NoClient` where there is no such client.
     pub fn mark_closing(&mut self, id: ClientId) -> Result<u64, Refusal>
         ensures value { result ≡ count_held (client_with id self.old.clients) }
         ensures clients { OnOk result (self.new.clients ≡ changed id marked self.old.clients) }
@@ -347,7 +370,8 @@ impl Clients {
         ensures clients { self.new.clients ≡ forgotten id self.old.clients }
         ensures serial { self.new.serial ≡ self.old.serial }
         ensures spare { spare_of id self.new ≡ 0 }
-        ensures others { (other : ℕ) → other ≢ id → spare_of other self.new ≡ spare_of other self.old }
+        ensures others { (other : ℕ) → other ≢ id
+            → spare_of other self.new ≡ spare_of other self.old }
     {
         let _ = self.ledgers.remove(id);
     }

@@ -10,16 +10,16 @@ use iova_range::range::Range;
 use std::alloc::{AllocError, Global};
 use std::marker::Model;
 
-/// The most cells of a block: a quarter more than a client's holdings. With a cell of 16 bytes that is 20 bytes a holding
-/// where there are as many as may be.
+/// The most cells of a block: a quarter more than a client's holdings. With a cell of 16 bytes that
+/// is 20 bytes a holding where there are as many as may be.
 const MAX_CELLS: usize = MAX_HOLDINGS + MAX_HOLDINGS / 4;
 
 /// The cells of the first block.
 const SOME_CELLS: usize = 8;
 
-/// Ranges in a row, as one slice. A range that comes in or goes moves those between it and the nearer end by one cell.
-/// Only where that end of the block has no spare cell do all of them move, to the middle: an eighth as many come in before
-/// that happens again.
+/// Ranges in a row, as one slice. A range that comes in or goes moves those between it and the
+/// nearer end by one cell. Only where that end of the block has no spare cell do all of them move,
+/// to the middle: an eighth as many come in before that happens again.
 #[derive(Drop)]
 pub(crate) struct Holdings {
     cells: Vec<Range>,
@@ -39,7 +39,8 @@ impl Model for Holdings {
       spare = vec_len h.cells - h.count;
     } };
 
-    ghost invariant = { λ h. (h.first + h.count ≤ vec_len h.cells) × (vec_len h.cells ≤ MAX_CELLS) };
+    ghost invariant = { λ h. (h.first + h.count ≤ vec_len h.cells)
+        × (vec_len h.cells ≤ MAX_CELLS) };
 }
 
 impl Holdings {
@@ -74,8 +75,8 @@ impl Holdings {
         self.first + self.count < self.cells.len()
     }
 
-    /// Makes room for one range more. Where at most a quarter as many cells as ranges are spare the block grows; where memory
-    /// is refused, the spare cells that there are do.
+    /// Makes room for one range more. Where at most a quarter as many cells as ranges are spare the
+    /// block grows; where memory is refused, the spare cells that there are do.
     #[inline(always)]
     pub(crate) fn reserve(&mut self) -> Result<(), AllocError>
         requires { length self.old.ranges < MAX_HOLDINGS }

@@ -39,8 +39,8 @@ impl Model for Ledger {
 /// The least number of holdings that are searched.
 const NEAR: usize = 128;
 
-/// A number of holdings from the first on, after which none begins there or below. New holdings come in front, so the
-/// first ones are looked at before all are.
+/// A number of holdings from the first on, after which none begins there or below. New holdings
+/// come in front, so the first ones are looked at before all are.
 #[inline]
 fn reach_at_most(holdings: &[Range], lo: u64) -> usize
     requires { Rises 0 holdings.now }
@@ -56,7 +56,13 @@ fn reach_at_most(holdings: &[Range], lo: u64) -> usize
 
 impl Ledger {
     pub(crate) fn new(alloc: Global, worker: u64, sac: bool) -> Ledger
-        ensures { result ≡ record { worker = worker; sac = sac; closing = false; holdings = []; spare = 0 } }
+        ensures { result ≡ record {
+          worker = worker;
+          sac = sac;
+          closing = false;
+          holdings = [];
+          spare = 0;
+        } }
     {
         Ledger {
             worker,
@@ -126,8 +132,10 @@ impl Ledger {
     /// Makes room for one holding more.
     #[inline(always)]
     pub(crate) fn room(&mut self) -> Result<(), Refusal>
-        ensures refused { IfSome (room_refusal (Some (client_at (0, self.old)))) (λ refusal. result ≡ Err refusal) }
-        ensures accepted { IfNone (room_refusal (Some (client_at (0, self.old)))) (IsOkUnless result Refusal.NoMemory) }
+        ensures refused { IfSome (room_refusal (Some (client_at (0, self.old))))
+            (λ refusal. result ≡ Err refusal) }
+        ensures accepted { IfNone (room_refusal (Some (client_at (0, self.old))))
+            (IsOkUnless result Refusal.NoMemory) }
         ensures starved { result ≡ Err Refusal.NoMemory → self.old.spare ≡ 0 }
         ensures spare { OnOk result (1 ≤ self.new.spare) }
         ensures grows { self.old.spare ≤ self.new.spare }
@@ -183,8 +191,8 @@ impl Ledger {
         self.holdings.insert(place, range);
     }
 
-    /// Where the holding stands that begins there. The first is looked at before they are searched: a client that closes
-    /// gives up its first holding each time.
+    /// Where the holding stands that begins there. The first is looked at before they are searched:
+    /// a client that closes gives up its first holding each time.
     #[inline(always)]
     fn position_of(&self, lo: u64) -> Option<usize>
         requires { Rises 0 self.now.holdings }

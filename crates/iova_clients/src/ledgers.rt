@@ -15,13 +15,14 @@ use std::alloc::Global;
 use std::collections::BTreeMap;
 use std::marker::Model;
 
-/// The ledgers by the serials of their clients. They stand in a slab, under keys that nobody else sees.
+/// The ledgers by the serials of their clients. They stand in a slab, under keys that nobody else
+/// sees.
 #[derive(Drop)]
 pub(crate) struct Ledgers {
     slab: Slab<Ledger>,
     keys: BTreeMap<u64, usize>,
-    /// The serial that was looked up last to change its ledger, with its key. Most steps speak of the client of the step
-    /// before, and each part of a step of the same one.
+    /// The serial that was looked up last to change its ledger, with its key. Most steps speak of
+    /// the client of the step before, and each part of a step of the same one.
     last: Option<(u64, usize)>,
 }
 
@@ -148,7 +149,8 @@ impl Ledgers {
 
     /// The serial of the first ledger with a holding that has the frame.
     pub(crate) fn holder(&self, frame: u64) -> Option<u64>
-        ensures { result ≡ option_map (λ e. e.0) (find (λ e. is_covered frame e.1.holdings) self.now) }
+        ensures { result ≡ option_map (λ e. e.0)
+            (find (λ e. is_covered frame e.1.holdings) self.now) }
     {
         for (id, key) in self.keys.iter() {
             if let Some(ledger) = self.slab.get(*key)
@@ -162,7 +164,8 @@ impl Ledgers {
 
     /// The first serial above this one with a ledger of the worker.
     pub(crate) fn newer(&self, worker: u64, than: u64) -> Option<u64>
-        ensures { result ≡ option_map (λ e. e.0) (find (λ e. is_newer_entry worker than e) self.now) }
+        ensures { result ≡ option_map (λ e. e.0)
+            (find (λ e. is_newer_entry worker than e) self.now) }
     {
         for (id, key) in self.keys.iter() {
             if let Some(ledger) = self.slab.get(*key)

@@ -1,12 +1,14 @@
-//! Ranges in a block of cells, and how they move there, each time in one block: by one cell, to let a range in or to close
-//! the gap that one leaves, or to the middle of the cells, to have room at an end.
+//! Ranges in a block of cells, and how they move there, each time in one block: by one cell, to let
+//! a range in or to close the gap that one leaves, or to the middle of the cells, to have room at
+//! an end.
 ghost use Rattle.std.specs.Prelude.{◌≡◌, ◌<◌, ◌≤◌, ◌+◌, ◌-◌, ◌++◌, length, take, drop, vec_len, OnOk, OnErr};
 ghost use Rattle.std.specs.List.{insert, remove};
 
 use iova_range::range::Range;
 use std::alloc::AllocError;
 
-/// Where so many ranges begin, once there is a cell before the first. They stand where they did, or in the middle.
+/// Where so many ranges begin, once there is a cell before the first. They stand where they did, or
+/// in the middle.
 #[inline]
 pub(crate) fn room_below(cells: &mut [Range], first: usize, count: usize) -> usize
     requires within { first + count ≤ length cells.old }
@@ -40,7 +42,8 @@ pub(crate) fn room_above(cells: &mut [Range], first: usize, count: usize) -> usi
     middle
 }
 
-/// As many cells as that, the new ones after the others. Where memory is refused nothing has changed.
+/// As many cells as that, the new ones after the others. Where memory is refused nothing has
+/// changed.
 pub(crate) fn grow(cells: &mut Vec<Range>, count: usize) -> Result<(), AllocError>
     requires { vec_len cells.old ≤ count }
     ensures count { OnOk result (vec_len cells.new ≡ count) }
@@ -62,11 +65,13 @@ pub(crate) fn insert_low(cells: &mut [Range], place: usize, range: Range)
     moved[place] = range;
 }
 
-/// The last range comes first, and the others move up by one cell. Where there is one range nothing is called.
+/// The last range comes first, and the others move up by one cell. Where there is one range nothing
+/// is called.
 #[inline(always)]
 fn turn_up(cells: &mut [Range])
     requires { 1 ≤ length cells.old }
-    ensures { cells.new ≡ drop (length cells.old - 1) cells.old ++ take (length cells.old - 1) cells.old }
+    ensures { cells.new ≡ drop (length cells.old - 1) cells.old
+        ++ take (length cells.old - 1) cells.old }
 {
     if cells.len() > 1 {
         cells.rotate_right(1);
@@ -84,7 +89,8 @@ pub(crate) fn insert_high(cells: &mut [Range], place: usize, range: Range)
     moved[0] = range;
 }
 
-/// The range at this place goes. Those before it move up by one cell, and the first cell is left over.
+/// The range at this place goes. Those before it move up by one cell, and the first cell is left
+/// over.
 #[inline(always)]
 pub(crate) fn remove_low(cells: &mut [Range], place: usize)
     requires { place < length cells.old }
@@ -93,7 +99,8 @@ pub(crate) fn remove_low(cells: &mut [Range], place: usize)
     turn_up(&mut cells[..place + 1]);
 }
 
-/// The first range comes last, and the others move down by one cell. Where there is one range nothing is called.
+/// The first range comes last, and the others move down by one cell. Where there is one range
+/// nothing is called.
 #[inline(always)]
 fn turn_down(cells: &mut [Range])
     requires { 1 ≤ length cells.old }
@@ -104,7 +111,8 @@ fn turn_down(cells: &mut [Range])
     }
 }
 
-/// The range at this place goes. Those after it move down by one cell, and the last cell is left over.
+/// The range at this place goes. Those after it move down by one cell, and the last cell is left
+/// over.
 #[inline(always)]
 pub(crate) fn remove_high(cells: &mut [Range], place: usize)
     requires { place < length cells.old }

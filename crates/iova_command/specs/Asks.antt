@@ -13,9 +13,12 @@ use Rattle.iova_command.specs.declared.plan.Plan.{Plan}
 
 -- the flag is there
 abbrev pub HasFlag : List Row → Text → Bool → Type 0
-HasFlag rows id flag = (one_of id rows ≡ Some (codes "true") → flag ≡ true) × (one_of id rows ≡ Some (codes "false") → flag ≡ false)
+HasFlag rows id flag =
+    (one_of id rows ≡ Some (codes "true") → flag ≡ true)
+    × (one_of id rows ≡ Some (codes "false") → flag ≡ false)
 
--- each part of the plan is the option of its name; workers, domain and bounds that are left out are those of the limits
+-- each part of the plan is the option of its name; workers, domain and bounds that are left out are
+-- those of the limits
 pub record Plans (rows : List Row) (plan : Plan) : Type 0 where
   pub socket : first_of (codes "socket") rows ≡ Some plan.socket.now
   pub workers : HasNumberOr rows (codes "workers") DEFAULT_WORKERS plan.workers
@@ -31,7 +34,8 @@ pub record Plans (rows : List Row) (plan : Plan) : Type 0 where
   pub record_path : first_of (codes "record") rows ≡ option_map (λ path. path.now) plan.record
   pub record_steps : HasOptional rows (codes "record-steps") plan.record_steps
   pub windows : HasSpans rows (codes "reserve") plan.start plan.last plan.windows
-  pub regions : first_of (codes "reserved-regions") rows ≡ option_map (λ path. path.now) plan.regions
+  pub regions : first_of (codes "reserved-regions") rows
+      ≡ option_map (λ path. path.now) plan.regions
   pub sink_timeout : HasOptional rows (codes "sink-timeout") plan.sink_timeout
   pub log_level : HasLevel rows (codes "log-level") plan.log_level
   pub control : first_of (codes "control") rows ≡ option_map (λ path. path.now) plan.control
@@ -42,23 +46,28 @@ pub record PlansCheck (rows : List Row) (plan : CheckPlan) : Type 0 where
   pub quiet : HasFlag rows (codes "quiet") plan.quiet
   pub first : HasOptional rows (codes "first") plan.first
   pub last : HasOptional rows (codes "last") plan.last
-  pub regions : first_of (codes "reserved-regions") rows ≡ option_map (λ path. path.now) plan.regions
+  pub regions : first_of (codes "reserved-regions") rows
+      ≡ option_map (λ path. path.now) plan.regions
   pub ftrace : HasFlag rows (codes "ftrace") plan.ftrace
   pub did : HasOptional rows (codes "did") plan.did
 
 -- a subcommand of this name and what it matched ask for this
 abbrev pub AsksOf : Text → List Row → Asked → Type 0
 AsksOf name rows (Replay path has_report log) =
-    (name ≢ codes "serve") × (name ≢ codes "ask") × (name ≢ codes "check") × (name ≢ codes "control") × (first_of (codes "file") rows ≡ Some path.now) × HasFlag rows (codes "report") has_report
+    (name ≢ codes "serve") × (name ≢ codes "ask") × (name ≢ codes "check")
+    × (name ≢ codes "control") × (first_of (codes "file") rows ≡ Some path.now)
+    × HasFlag rows (codes "report") has_report
     × (first_of (codes "log") rows ≡ option_map (λ log. log.now) log)
 AsksOf name rows (Serve plan) = (name ≡ codes "serve") × Plans rows plan
 AsksOf name rows (Ask path) = (name ≡ codes "ask") × (first_of (codes "path") rows ≡ Some path.now)
 AsksOf name rows (Check plan) = (name ≡ codes "check") × PlansCheck rows plan
 AsksOf name rows (Control path word) =
-    (name ≡ codes "control") × (first_of (codes "path") rows ≡ Some path.now) × HasControl rows (codes "word") word
+    (name ≡ codes "control") × (first_of (codes "path") rows ≡ Some path.now)
+    × HasControl rows (codes "word") word
 
 -- what matched words ask for; no subcommand asks for a replay of standard input
 abbrev pub AsksFor : Option (Text × List Row) → Asked → Type 0
-AsksFor None (Replay path has_report log) = (path.now ≡ codes "-") × (has_report ≡ false) × (log ≡ None)
+AsksFor None (Replay path has_report log) =
+    (path.now ≡ codes "-") × (has_report ≡ false) × (log ≡ None)
 AsksFor None other = ⊥
 AsksFor (Some matched) asked = AsksOf matched.0 matched.1 asked

@@ -1,4 +1,5 @@
--- The commands of the program, as `clap` reads them: names, options and what each option takes. Own.
+-- The commands of the program, as `clap` reads them: names, options and what each option takes.
+-- Own.
 use Rattle.std.specs.Prelude.{ℕ, ◌≡◌, ◌-◌, true, false, Some, codes}
 use Rattle.clap.specs.Words.{App, app_of, Rule, Text, new_app, new_rule, with_rule, with_subcommand}
 use Rattle.clap.specs.declared.builder.command.Command.{Command}
@@ -40,7 +41,10 @@ replay_app =
 
 abbrev pub serve_app : App
 serve_app =
-    with_rule (with_rule (with_rule (with_rule (with_rule (with_rule (with_rule (with_rule (with_rule (with_rule (with_rule (with_rule (with_rule (with_rule (with_rule (with_rule (with_rule (with_rule (new_app (codes "serve"))
+    with_rule (with_rule (with_rule (with_rule
+    (with_rule (with_rule (with_rule (with_rule
+    (with_rule (with_rule (with_rule (with_rule
+    (with_rule (with_rule (with_rule (with_rule (with_rule (with_rule (new_app (codes "serve"))
     (option_rule (codes "socket")))
     (optional_number_rule (codes "workers") 1 MAX_WORKERS))
     (optional_number_rule (codes "domain") 0 (MAX_DOMAINS - 1)))
@@ -64,11 +68,14 @@ abbrev pub ask_app : App
 ask_app = with_rule (new_app (codes "ask")) (place_rule (codes "path"))
 
 abbrev pub control_app : App
-control_app = with_rule (with_rule (new_app (codes "control")) (place_rule (codes "path"))) (place_rule (codes "word"))
+control_app =
+    with_rule (with_rule (new_app (codes "control")) (place_rule (codes "path")))
+    (place_rule (codes "word"))
 
 abbrev pub check_app : App
 check_app =
-    with_rule (with_rule (with_rule (with_rule (with_rule (with_rule (with_rule (new_app (codes "check"))
+    with_rule (with_rule (with_rule (with_rule
+    (with_rule (with_rule (with_rule (new_app (codes "check"))
     (flag_rule (codes "quiet")))
     (optional_number_rule (codes "first") 0 WIDE_TOP))
     (optional_number_rule (codes "last") 0 WIDE_TOP))
@@ -84,7 +91,9 @@ versioned app = record app { top = record app.top { has_version = true } }
 -- the program
 abbrev pub iovad_app : App
 iovad_app =
-    with_subcommand (with_subcommand (with_subcommand (with_subcommand (with_subcommand (versioned (new_app (codes "iovad"))) replay_app.top) serve_app.top) ask_app.top) check_app.top) control_app.top
+    with_subcommand (with_subcommand (with_subcommand
+    (with_subcommand (with_subcommand (versioned (new_app (codes "iovad"))) replay_app.top)
+    serve_app.top) ask_app.top) check_app.top) control_app.top
 
 -- a command that is read so, with no option for all of its subcommands
 pub record IsCommand (read : App) (c : Command) : Type 0 where

@@ -7,10 +7,12 @@ use Rattle.iova_command.specs.declared.usage.WordsFault.{WordsFault}
 use Rattle.iova_command.specs.declared.usage.WordsFault.TheVariants.{Usage, NoMemory}
 use Rattle.iova_command.specs.Usage.{words_status}
 
--- words with these faults end the process with this status: that of one of them; and that of words which aren't understood
--- where they have none, but a value of theirs is out of reach
+-- words with these faults end the process with this status: that of one of them; and that of words
+-- which aren't understood where they have none, but a value of theirs is out of reach
 abbrev pub EndsWithStatus : Kinds → ℕ → Type 0
-EndsWithStatus kinds status = ((kind : ErrorKind) × IsAmong kind kinds × (status ≡ words_status kind)) ⊎ ((kinds ≡ []) × (status ≡ 2))
+EndsWithStatus kinds status =
+    ((kind : ErrorKind) × IsAmong kind kinds × (status ≡ words_status kind))
+    ⊎ ((kinds ≡ []) × (status ≡ 2))
 
 -- what is answered to words with these faults
 abbrev pub RefusesBy : Kinds → Result Asked WordsFault → Type 0

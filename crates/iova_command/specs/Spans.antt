@@ -6,7 +6,8 @@ use Rattle.iova_regions.specs.Regions.{with_part}
 use Rattle.iova_regions.specs.Span.{IsSpan, span_text}
 use Rattle.iova_regions.specs.Windows.{part}
 
--- the text is that of two frames; those from the one to the other, as far as they are within the bounds, are inserted
+-- the text is that of two frames; those from the one to the other, as far as they are within the
+-- bounds, are inserted
 pub record InsertsSpan (start last : ℕ) (text : Text) (old new : List Frames) : Type 0 where
   pub from : ℕ
   pub to : ℕ
@@ -18,7 +19,8 @@ pub record InsertsSpan (start last : ℕ) (text : Text) (old new : List Frames) 
 abbrev pub InsertsSpans : ℕ → ℕ → List Text → List Frames → List Frames → Type 0
 InsertsSpans start last [] old new = new ≡ old
 InsertsSpans start last (text ∷ texts) old new =
-    (mid : List Frames) × InsertsSpan start last text old mid × InsertsSpans start last texts mid new
+    (mid : List Frames) × InsertsSpan start last text old mid
+    × InsertsSpans start last texts mid new
 
 -- no window where the option isn't there
 abbrev pub AreWindowsOf : ℕ → ℕ → Option (List Text) → List Frames → Type 0

@@ -33,8 +33,8 @@ pub struct CheckPlan<'a> {
 impl<'a> CheckPlan<'a> {
     ghost use Rattle.iova_command.specs.Asks.{PlansCheck};
 
-    /// What the matches of `check` say. None where the file is missing, a number is outside its range, or a domain is
-    /// named of a log that is no kernel's trace.
+    /// What the matches of `check` say. None where the file is missing, a number is outside its
+    /// range, or a domain is named of a log that is no kernel's trace.
     pub(crate) fn of(found: &ArgMatches<'a>) -> Option<CheckPlan<'a>>
         ensures { IfSome result (λ p. PlansCheck (rows_of (found_of found.now)) p) }
     {

@@ -24,7 +24,8 @@ const USAGE: &str = "iovad < FILE
        iovad check [--quiet] [--first N] [--last N] [--reserved-regions PATH]
                    [--ftrace [--did N]] FILE";
 
-/// How `serve` is called, which stands in its help and after words of its own that aren't understood.
+/// How `serve` is called, which stands in its help and after words of its own that aren't
+/// understood.
 const SERVE_USAGE: &str = "iovad serve --socket PATH --sink PATH [OPTIONS]
 Example: iovad serve --socket /tmp/iovad.socket --sink /tmp/flushes";
 
@@ -414,7 +415,8 @@ fn with_subcommand<'a>(
     subcommand: Result<Command<'a>, AllocError>,
 ) -> Result<Command<'a>, AllocError>
     ensures { (app : App) (more : App) → IfOk command.entry (IsCommand app)
-        → IfOk subcommand.entry (IsCommand more) → IfOk result (IsCommand (with_subcommand app more.top)) }
+        → IfOk subcommand.entry (IsCommand more)
+        → IfOk result (IsCommand (with_subcommand app more.top)) }
 {
     command?.subcommand(subcommand?)
 }

@@ -30,7 +30,8 @@ pub struct Plan<'a> {
     pub start: u64,
     /// The last frame that may be given; it may be below the first one.
     pub last: u64,
-    /// The path of the file that the records of flushes are appended to, or of the socket of a peer that answers.
+    /// The path of the file that the records of flushes are appended to, or of the socket of a peer
+    /// that answers.
     pub sink: &'a str,
     /// How many sessions are served; none: sessions without end.
     pub sessions: Option<u64>,
@@ -38,17 +39,21 @@ pub struct Plan<'a> {
     pub session_requests: Option<u64>,
     /// How many seconds a session may be idle; none: for as long as it likes.
     pub idle: Option<u64>,
-    /// How many magazines the depot of the second profile takes; none: the domain has the first profile.
+    /// How many magazines the depot of the second profile takes; none: the domain has the first
+    /// profile.
     pub depot: Option<u64>,
     /// Whether a range that is freed is flushed at once.
     pub strict: bool,
-    /// The path of the file that the record of the domain's steps is written to, where one is wanted.
+    /// The path of the file that the record of the domain's steps is written to, where one is
+    /// wanted.
     pub record: Option<&'a str>,
     /// How many steps are recorded, where it is said.
     pub record_steps: Option<u64>,
-    /// The windows that are named, as far as they are within the bounds: frames that are given to nobody.
+    /// The windows that are named, as far as they are within the bounds: frames that are given to
+    /// nobody.
     pub windows: Windows,
-    /// The path of the file with a group's reserved regions, or `-` for standard input, which are windows too.
+    /// The path of the file with a group's reserved regions, or `-` for standard input, which are
+    /// windows too.
     pub regions: Option<&'a str>,
     /// How many seconds a sink that answers has for that, where it is said.
     pub sink_timeout: Option<u64>,
@@ -61,7 +66,8 @@ pub struct Plan<'a> {
     pub ghost start_in_range: { (1 ≤ start) × (start ≤ WIDE_TOP) },
     pub ghost last_in_range: { (1 ≤ last) × (last ≤ WIDE_TOP) },
     pub ghost sessions_in_range: { ForSome sessions (λ n. (1 ≤ n) × (n ≤ MAX_SESSIONS)) },
-    pub ghost requests_in_range: { ForSome session_requests (λ n. (1 ≤ n) × (n ≤ MAX_SESSION_REQUESTS)) },
+    pub ghost requests_in_range: { ForSome session_requests
+        (λ n. (1 ≤ n) × (n ≤ MAX_SESSION_REQUESTS)) },
     pub ghost idle_in_range: { ForSome idle (λ n. (1 ≤ n) × (n ≤ MAX_IDLE)) },
     pub ghost depot_in_range: { ForSome depot (λ n. n ≤ MAX_DEPOT) },
     pub ghost steps_in_range: { ForSome record_steps (λ n. (1 ≤ n) × (n ≤ MAX_RECORDED_STEPS)) },
@@ -97,9 +103,10 @@ impl<'a> Drop for Plan<'a> {
 impl<'a> Plan<'a> {
     ghost use Rattle.iova_command.specs.Asks.{Plans};
 
-    /// What the matches of `serve` say; workers, domain and bounds that are left out are those of the limits. None where
-    /// the socket or the sink is missing, a number is outside its range, a level is none of the four, a window is of
-    /// another form or makes too many, or where a count of steps is said and no record is wanted.
+    /// What the matches of `serve` say; workers, domain and bounds that are left out are those of
+    /// the limits. None where the socket or the sink is missing, a number is outside its range, a
+    /// level is none of the four, a window is of another form or makes too many, or where a count
+    /// of steps is said and no record is wanted.
     pub(crate) fn of(found: &ArgMatches<'a>) -> Option<Plan<'a>>
         ensures { IfSome result (λ p. Plans (rows_of (found_of found.now)) p) }
     {
@@ -132,7 +139,8 @@ impl<'a> Plan<'a> {
     }
 }
 
-/// The level of an option that may be missing: warnings and errors then. None where it is none of the four.
+/// The level of an option that may be missing: warnings and errors then. None where it is none of
+/// the four.
 fn level(found: &ArgMatches<'_>, name: &str) -> Option<LevelFilter>
     ensures { IfSome result (λ l. HasLevel (rows_of (found_of found.now)) name.now l) }
 {
@@ -155,8 +163,8 @@ fn level_of(name: &str) -> Option<LevelFilter>
     }
 }
 
-/// The windows of an option that may be there any number of times, each cut at the frames `start` and `last`. None where a
-/// value is none of two frames, or makes too many windows.
+/// The windows of an option that may be there any number of times, each cut at the frames `start`
+/// and `last`. None where a value is none of two frames, or makes too many windows.
 fn windows(found: &ArgMatches<'_>, name: &str, start: u64, last: u64) -> Option<Windows>
     requires { (1 ≤ start) × (last ≤ WIDE_TOP) }
     ensures { IfSome result (λ ws. HasSpans (rows_of (found_of found.now)) name.now start last ws) }
@@ -171,10 +179,12 @@ fn windows(found: &ArgMatches<'_>, name: &str, start: u64, last: u64) -> Option<
     }
 }
 
-/// Inserts the windows that these texts name. None where a text is none of two frames, or makes too many windows.
+/// Inserts the windows that these texts name. None where a text is none of two frames, or makes too
+/// many windows.
 fn insert_spans(texts: &[&str], start: u64, last: u64, windows: &mut Windows) -> Option<()>
     requires { (1 ≤ start) × (last ≤ WIDE_TOP) }
-    ensures { IfSome result (λ u. InsertsSpans start last (map (λ t. t.now) texts.now) windows.old windows.new) }
+    ensures { IfSome result (λ u. InsertsSpans start last (map (λ t. t.now) texts.now) windows.old
+        windows.new) }
 {
     let mut rest = texts;
     while !rest.is_empty() {
@@ -186,7 +196,8 @@ fn insert_spans(texts: &[&str], start: u64, last: u64, windows: &mut Windows) ->
     Some(())
 }
 
-/// Inserts the window that this text names. None where it is none of two frames, or makes too many windows.
+/// Inserts the window that this text names. None where it is none of two frames, or makes too many
+/// windows.
 fn insert_span(text: &str, start: u64, last: u64, windows: &mut Windows) -> Option<()>
     requires { (1 ≤ start) × (last ≤ WIDE_TOP) }
     ensures { IfSome result (λ u. InsertsSpan start last text.now windows.old windows.new) }
@@ -212,11 +223,13 @@ fn number(found: &ArgMatches<'_>, name: &str, low: u64, high: u64) -> Option<u64
     Some(n)
 }
 
-/// The number of an option that may be left out, which is `default` then, where it is from `low` to `high`.
+/// The number of an option that may be left out, which is `default` then, where it is from `low` to
+/// `high`.
 fn number_or(found: &ArgMatches<'_>, name: &str, default: u64, low: u64, high: u64) -> Option<u64>
     requires { (low ≤ default) × (default ≤ high) }
     ensures range { IfSome result (λ n. (low ≤ n) × (n ≤ high)) }
-    ensures read { IfSome result (λ n. HasNumberOr (rows_of (found_of found.now)) name.now default n) }
+    ensures read { IfSome result (λ n. HasNumberOr (rows_of (found_of found.now)) name.now default
+        n) }
 {
     match found.get_str(name) {
         None => Some(default),

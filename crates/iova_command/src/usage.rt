@@ -7,8 +7,8 @@ use std::alloc::AllocError;
 use std::marker::Model;
 use std::{fmt, io};
 
-/// The text for whoever wrote the words: what is wrong with them and the usage, or the help that they ask for. A contract
-/// sees the status that the process ends with. Own.
+/// The text for whoever wrote the words: what is wrong with them and the usage, or the help that
+/// they ask for. A contract sees the status that the process ends with. Own.
 #[derive(Drop)]
 pub struct Usage {
     error: Error,
@@ -25,7 +25,8 @@ impl Model for Usage {
 }
 
 impl Usage {
-    /// The status that the process ends with: 0 where the words ask for help, 2 where they are not understood.
+    /// The status that the process ends with: 0 where the words ask for help, 2 where they are not
+    /// understood.
     pub fn status(&self) -> u8
         ensures { result ≡ self.now }
     {

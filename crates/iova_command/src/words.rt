@@ -37,9 +37,11 @@ pub fn words<R: Env + AllocGlobal>(rt: &R) -> Result<Vec<String>, WordsFault>
     }
 }
 
-/// What these words ask for, the program's name first; no word but that asks for a replay of standard input.
+/// What these words ask for, the program's name first; no word but that asks for a replay of
+/// standard input.
 pub fn asked<'a, S: AsStr>(alloc: Global, words: &'a [S]) -> Result<Asked<'a>, WordsFault>
-    ensures asks { IfOk result (λ a. AsksFor (subcommand_of iovad_app (map S.text words.entry.now)) a) }
+    ensures asks { IfOk result (λ a. AsksFor (subcommand_of iovad_app (map S.text words.entry.now))
+        a) }
     ensures refused { RefusesBy (fault_of iovad_app (map S.text words.entry.now)) result }
 {
     asked_of(alloc, iovad_command(alloc)?, words)
@@ -52,7 +54,8 @@ fn asked_of<'a, S: AsStr>(
     words: &'a [S],
 ) -> Result<Asked<'a>, WordsFault>
     ensures asks { is_simple (app_of command.entry) ≡ true
-        → IfOk result (λ a. AsksFor (subcommand_of (app_of command.entry) (map S.text words.entry.now)) a) }
+        → IfOk result (λ a. AsksFor (subcommand_of (app_of command.entry)
+        (map S.text words.entry.now)) a) }
     ensures refused { is_simple_and_free (app_of command.entry) ≡ true
         → RefusesBy (fault_of (app_of command.entry) (map S.text words.entry.now)) result }
 {
@@ -66,7 +69,8 @@ fn asked_of<'a, S: AsStr>(
     }
 }
 
-/// What the matched words ask for. None where an option is missing, or its number is outside its range.
+/// What the matched words ask for. None where an option is missing, or its number is outside its
+/// range.
 fn asked_by<'a>(matches: &ArgMatches<'a>) -> Option<Asked<'a>>
     ensures { IfSome result (λ a. AsksFor (subcommand_rows_of matches.now) a) }
 {

@@ -37,8 +37,8 @@ state_of p = record {
   flushes = p.flushes;
 }
 
--- The state is valid, the tree has what somebody has, the caches are of the profile of the bounds, and the frames of the
--- windows are counted.
+-- The state is valid, the tree has what somebody has, the caches are of the profile of the bounds,
+-- and the frames of the windows are counted.
 pub record IsDomain (p : Parts) : Type 0 where
   pub valid : IsValid (state_of p)
   pub tied : IsTied (ranges_of p.tree) (state_of p)
@@ -48,11 +48,14 @@ pub record IsDomain (p : Parts) : Type 0 where
 
 -- the step has this reply and leaves this state, with or without a growth that was refused
 abbrev pub IsStepOf : State → Step → Reply → State → Type 0
-IsStepOf old st reply new = (m : Point) × (reply ≡ (next old st m).reply) × (new ≡ (next old st m).state)
+IsStepOf old st reply new =
+    (m : Point) × (reply ≡ (next old st m).reply) × (new ≡ (next old st m).state)
 
 -- where a frame is, inside the bounds
 abbrev pub place_inside : State → ℕ → Option Place
-place_inside s frame = if nat_lt frame s.bounds.start || nat_lt s.bounds.last frame then None else Some (place_of s frame)
+place_inside s frame =
+    if nat_lt frame s.bounds.start || nat_lt s.bounds.last frame then None
+    else Some (place_of s frame)
 
 -- how many frames wait in rings
 abbrev pub frames_in_rings : List (List Entry) → ℕ

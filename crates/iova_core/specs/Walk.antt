@@ -12,16 +12,20 @@ use Rattle.iova_core.specs.Tied.{IsTied}
 use Rattle.iova_core.specs.declared.walk.Walked.{Walked}
 use Rattle.iova_core.specs.declared.walk.Walked.TheVariants as found
 
--- what a worker's caches give, by the order of the size if it has one, and what is left of all caches
+-- what a worker's caches give, by the order of the size if it has one, and what is left of all
+-- caches
 abbrev pub get_cached : Caches → ℕ → ℕ → ℕ → Option ℕ → Option ℕ × Caches
 get_cached c w size limit None = (None, c)
-get_cached c w size limit (Some o) = let got = get (shelf_at c w o) limit size in (got.0, with_shelf c w o got.1)
+get_cached c w size limit (Some o) =
+    let got = get (shelf_at c w o) limit size in (got.0, with_shelf c w o got.1)
 
--- Of the tree alone: the range is inserted at the best place, or its growth was refused and nothing is; or nothing fits.
+-- Of the tree alone: the range is inserted at the best place, or its growth was refused and nothing
+-- is; or nothing fits.
 abbrev pub Places : Option ℕ → Point → ℕ → Space → Space → Walked → Type 0
 Places None here size old new found.Nowhere = new ≡ old
 Places (Some lo) here size old new (found.Placed r) =
-    (r ≡ record { lo = lo; len = size }) × (new ≡ record old { inserted = insert_rising r old.inserted })
+    (r ≡ record { lo = lo; len = size })
+    × (new ≡ record old { inserted = insert_rising r old.inserted })
 Places (Some lo) here size old new (found.OutOfMemory m) = (m ≡ here) × (new ≡ old)
 Places lo here size old new f = ⊥
 

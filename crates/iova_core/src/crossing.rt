@@ -1,5 +1,5 @@
-//! That a domain may go to another thread. One `search` doesn't get through all of it, so each law here is of one layer, and the next
-//! one starts from it.
+//! That a domain may go to another thread. One `search` doesn't get through all of it, so each law
+//! here is of one layer, and the next one starts from it.
 ghost use Rattle.std.specs.Thread.{IsSend};
 ghost use Rattle.iova_tree.specs.contracts.tree.Tree as trees;
 ghost use Rattle.iova_clients.specs.contracts.clients.Clients as clients;

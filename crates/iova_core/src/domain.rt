@@ -37,8 +37,8 @@ use std::marker::Model;
 
 /// The address space of one device: what is handed out, to whom, and what waits for a flush.
 ///
-/// Contracts see it as a `State`, which is always valid: each frame of the bounds is in exactly one place, and no list is
-/// longer than its limit.
+/// Contracts see it as a `State`, which is always valid: each frame of the bounds is in exactly one
+/// place, and no list is longer than its limit.
 pub struct Domain {
     tree: Tree,
     clients: Clients,
@@ -109,12 +109,14 @@ fn refused_at(refusal: Refusal, here: Point) -> (Reply, Point)
 }
 
 impl Domain {
-    /// A domain with nothing handed out, for 1 to 16 workers. Refused by `NoWorker` for another number of workers, and
-    /// by `NoMemory`, in this order.
+    /// A domain with nothing handed out, for 1 to 16 workers. Refused by `NoWorker` for another
+    /// number of workers, and by `NoMemory`, in this order.
     pub fn new(alloc: Global, bounds: Bounds, workers: u64) -> Result<Self, Refusal>
         ensures value { IfOk result (λ d. d ≡ new_domain bounds workers) }
-        ensures workers { (result ≡ Err Refusal.NoWorker) ↔ ((workers ≡ 0) ⊎ (MAX_WORKERS < workers)) }
-        ensures memory { IsErr result → (result ≡ Err Refusal.NoWorker) ⊎ (result ≡ Err Refusal.NoMemory) }
+        ensures workers { (result ≡ Err Refusal.NoWorker)
+            ↔ ((workers ≡ 0) ⊎ (MAX_WORKERS < workers)) }
+        ensures memory { IsErr result → (result ≡ Err Refusal.NoWorker)
+            ⊎ (result ≡ Err Refusal.NoMemory) }
     {
         if workers == 0 || workers > MAX_WORKERS {
             return Err(Refusal::NoWorker);
@@ -132,7 +134,8 @@ impl Domain {
         })
     }
 
-    /// Runs one step, and answers its reply and the growth in it that was refused memory, or `Never`.
+    /// Runs one step, and answers its reply and the growth in it that was refused memory, or
+    /// `Never`.
     #[inline(always)]
     pub fn step_at(&mut self, step: Step) -> (Reply, Point)
         ensures reply { result.0 ≡ (next self.old step result.1).reply }
@@ -181,8 +184,8 @@ impl Domain {
         self.step_at(step).0
     }
 
-    /// One window of the frames `lo` to `hi` and of the windows that overlap them. `BadWindow`, `Taken`, `WindowsFull`,
-    /// `NoMemory`.
+    /// One window of the frames `lo` to `hi` and of the windows that overlap them. `BadWindow`,
+    /// `Taken`, `WindowsFull`, `NoMemory`.
     fn reserve(&mut self, lo: u64, hi: u64) -> (Reply, Point)
         ensures reply { result.0 ≡ (reserve self.old lo hi result.1).reply }
         ensures state { self.new ≡ (reserve self.old lo hi result.1).state }
@@ -216,8 +219,9 @@ impl Domain {
         }
     }
 
-    /// A new holding of the client, of `need(frames)` frames, none above `limit`. `NoWorker`, `Zero`, `TooBig`,
-    /// `NoClient`, `Closing`, `HoldingsFull`, `NoMemory` in the ledger; then `NoMemory` in the tree, or `NoSpace`.
+    /// A new holding of the client, of `need(frames)` frames, none above `limit`. `NoWorker`,
+    /// `Zero`, `TooBig`, `NoClient`, `Closing`, `HoldingsFull`, `NoMemory` in the ledger; then
+    /// `NoMemory` in the tree, or `NoSpace`.
     #[inline(always)]
     fn alloc(&mut self, worker: u64, client: ClientId, frames: u64, limit: u64) -> (Reply, Point)
         ensures reply { result.0 ≡ (alloc self.old worker client frames limit result.1).reply }
@@ -241,8 +245,9 @@ impl Domain {
         }
     }
 
-    /// Whether the client is that of the step before, and a magazine gives a range at once. The compiler then leaves out of
-    /// `alloc_here` all that is called otherwise. Nothing is promised: either way the step is the same.
+    /// Whether the client is that of the step before, and a magazine gives a range at once. The
+    /// compiler then leaves out of `alloc_here` all that is called otherwise. Nothing is promised:
+    /// either way the step is the same.
     #[inline(always)]
     fn gives_at_once(&self, worker: u64, client: ClientId, size: u64, limit: u64) -> bool
         requires worker { worker < self.now.workers }
@@ -321,8 +326,8 @@ impl Domain {
         }
     }
 
-    /// The client's holding that begins at `lo` goes into the worker's ring. `NoWorker`, `NoClient`, `Closing`,
-    /// `NotHeld`, `RingFull`.
+    /// The client's holding that begins at `lo` goes into the worker's ring. `NoWorker`,
+    /// `NoClient`, `Closing`, `NotHeld`, `RingFull`.
     #[inline(always)]
     fn unmap(&mut self, worker: u64, client: ClientId, lo: u64) -> (Reply, Point)
         ensures reply { result.0 ≡ (unmap self.old worker client lo).reply }
@@ -336,8 +341,8 @@ impl Domain {
         }
     }
 
-    /// Whether the client is that of the step before, its first holding begins there, and nothing leaves the worker's
-    /// ring. As for `alloc`, nothing is promised.
+    /// Whether the client is that of the step before, its first holding begins there, and nothing
+    /// leaves the worker's ring. As for `alloc`, nothing is promised.
     #[inline(always)]
     pub fn queues_at_once(&self, worker: u64, client: ClientId, lo: u64) -> bool {
         worker < self.workers()
@@ -373,15 +378,18 @@ impl Domain {
         self.queue(worker, client, lo)
     }
 
-    /// Takes the client's holding that begins at `lo` and puts it into the worker's ring, which is drained first. Where
-    /// the ring is full all the same, nothing has changed. `NotHeld`, `RingFull`.
+    /// Takes the client's holding that begins at `lo` and puts it into the worker's ring, which is
+    /// drained first. Where the ring is full all the same, nothing has changed. `NotHeld`,
+    /// `RingFull`.
     #[inline(always)]
     fn queue(&mut self, worker: u64, client: ClientId, lo: u64) -> (Reply, Point)
         requires { worker < self.old.workers }
         ensures reply { (c : Client) → client_with client self.old.clients ≡ Some c
-            → result.0 ≡ (unmap_held (find (begins_at lo) c.holdings) self.old worker client).reply }
+            → result.0 ≡ (unmap_held (find (begins_at lo) c.holdings) self.old worker
+            client).reply }
         ensures state { (c : Client) → client_with client self.old.clients ≡ Some c
-            → self.new ≡ (unmap_held (find (begins_at lo) c.holdings) self.old worker client).state }
+            → self.new ≡ (unmap_held (find (begins_at lo) c.holdings) self.old worker
+            client).state }
         ensures point { result.1 ≡ Point.Never }
     {
         let finish = self.flights.finish();
@@ -469,8 +477,8 @@ impl Domain {
         }
     }
 
-    /// Marks the client closing, and puts its lowest holding into the worker's ring; without one the client is gone.
-    /// `NoWorker`, `NoClient`; `RingFull`, where the mark stays.
+    /// Marks the client closing, and puts its lowest holding into the worker's ring; without one
+    /// the client is gone. `NoWorker`, `NoClient`; `RingFull`, where the mark stays.
     fn close_one(&mut self, worker: u64, client: ClientId) -> (Reply, Point)
         ensures reply { result.0 ≡ (close_one self.old worker client).reply }
         ensures state { self.new ≡ (close_one self.old worker client).state }
@@ -489,8 +497,8 @@ impl Domain {
         }
     }
 
-    /// Where the frame is, or None where it isn't inside the bounds. The tree says whether it is free; only for a frame that
-    /// somebody has are the holders looked through.
+    /// Where the frame is, or None where it isn't inside the bounds. The tree says whether it is
+    /// free; only for a frame that somebody has are the holders looked through.
     pub fn place(&self, frame: u64) -> Option<Place>
         ensures { result ≡ place_inside self.now frame }
     {
@@ -514,12 +522,13 @@ impl Domain {
         }
     }
 
-    /// How many frames of the bounds are at each kind of place. All six are kept as numbers: no holding, entry or range
-    /// is looked at.
+    /// How many frames of the bounds are at each kind of place. All six are kept as numbers: no
+    /// holding, entry or range is looked at.
     pub fn counts(&self) -> Counts
         ensures { result ≡ counts self.now }
     {
-        // for the proof: the frames of all places are those of the bounds, so that no difference is below 0
+        // for the proof: the frames of all places are those of the bounds, so that no difference is
+        // below 0
         places_add_up();
         let bounds = self.tree.bounds();
         let client = self.clients.totals().frames;
@@ -548,7 +557,8 @@ impl Domain {
         self.clients.totals()
     }
 
-    /// The count, frames and sum of first frames of the holdings of the clients that this worker opened.
+    /// The count, frames and sum of first frames of the holdings of the clients that this worker
+    /// opened.
     #[inline]
     pub fn share_of(&self, worker: u64) -> Totals
         requires { worker < self.now.workers }
@@ -570,13 +580,15 @@ impl Domain {
     /// The client's holdings, rising by first frame.
     #[inline]
     pub fn holdings_of(&self, client: ClientId) -> Option<&[Range]>
-        ensures { option_copied result ≡ option_map (λ c. c.holdings) (client_with client self.now.clients) }
+        ensures { option_copied result ≡ option_map (λ c. c.holdings)
+            (client_with client self.now.clients) }
     {
         self.clients.holdings(client)
     }
 
-    /// The range that this step would put into its worker's ring if the ring had room: none where it is refused before
-    /// the ring is asked, and none for a step that queues nothing. It takes one look-up and a binary search.
+    /// The range that this step would put into its worker's ring if the ring had room: none where
+    /// it is refused before the ring is asked, and none for a step that queues nothing. It takes
+    /// one look-up and a binary search.
     pub fn to_queue(&self, step: Step) -> Option<Range>
         ensures { result ≡ to_queue self.now step }
     {
@@ -632,7 +644,8 @@ impl Domain {
         self.clients.owner(client)
     }
 
-    /// The first client, by serial, that this worker opened and whose serial is above this one. This looks through all clients.
+    /// The first client, by serial, that this worker opened and whose serial is above this one.
+    /// This looks through all clients.
     pub fn newer(&self, worker: u64, than: ClientId) -> Option<ClientId>
         ensures { result ≡ option_map (λ c. c.id) (newer_client worker than self.now.clients) }
     {
@@ -714,17 +727,21 @@ impl Domain {
     }
 }
 
-/// Runs the steps in order and appends their replies. Room for each reply is taken before its step, so that where that is
-/// refused, by `NoMemory`, the replies so far and the state that they leave stand.
+/// Runs the steps in order and appends their replies. Room for each reply is taken before its step,
+/// so that where that is refused, by `NoMemory`, the replies so far and the state that they leave
+/// stand.
 ///
-/// The contract is the headline of the product. After every list of steps, whatever they are and wherever memory is
-/// refused: each frame is in exactly one place; the totals are the sums of all workers' shares; no frame was lost or made;
-/// a frame that was unmapped has left the rings, and is given again, only where a flush that began after its unmap has
-/// ended well; clients that close give up their holdings lowest first; and a client that is gone stays gone.
+/// The contract is the headline of the product. After every list of steps, whatever they are and
+/// wherever memory is refused: each frame is in exactly one place; the totals are the sums of all
+/// workers' shares; no frame was lost or made; a frame that was unmapped has left the rings, and is
+/// given again, only where a flush that began after its unmap has ended well; clients that close
+/// give up their holdings lowest first; and a client that is gone stays gone.
 pub fn run(domain: &mut Domain, steps: &[Step], replies: &mut Vec<Reply>) -> Result<(), Refusal>
-    ensures ok { OnOk result (Runs domain.old domain.new steps.now replies.old.items replies.new.items) }
+    ensures ok { OnOk result (Runs domain.old domain.new steps.now replies.old.items
+        replies.new.items) }
     ensures err { OnErr result ((result ≡ Err Refusal.NoMemory)
-        × ((n : ℕ) × Runs domain.old domain.new (take n steps.now) replies.old.items replies.new.items)) }
+        × ((n : ℕ) × Runs domain.old domain.new (take n steps.now) replies.old.items
+        replies.new.items)) }
 {
     // for the proof: every run keeps the promises, and the state is valid
     promises_are_kept();

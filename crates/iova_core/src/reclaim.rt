@@ -1,5 +1,5 @@
-//! What goes back to a domain's tree and caches. The tree has all that is cached: a range that goes to a magazine stays in
-//! it, and is removed where it becomes free.
+//! What goes back to a domain's tree and caches. The tree has all that is cached: a range that goes
+//! to a magazine stays in it, and is removed where it becomes free.
 
 ghost use Rattle.std.specs.Prelude.{◌≡◌, ◌≤◌, ◌<◌, ◌^◌, [], ◌∷◌, length, map, Some, IsTrue};
 ghost use Rattle.iova_range.specs.Sizes.{order_of};
@@ -48,8 +48,8 @@ fn free_magazine(tree: &mut Tree, magazine: &Magazine, order: u8)
     }
 }
 
-/// Puts a range that nobody has any more into the magazines of worker `w`, where its length has an order; what a full depot
-/// sends out becomes free. Another range becomes free itself.
+/// Puts a range that nobody has any more into the magazines of worker `w`, where its length has an
+/// order; what a full depot sends out becomes free. Another range becomes free itself.
 fn put_back(tree: &mut Tree, caches: &mut Caches, w: usize, range: Range)
     requires worker { w < caches.old.workers }
     requires sized { range.len ≤ MAX_FRAMES }
@@ -80,9 +80,10 @@ fn put_full(tree: &mut Tree, caches: &mut Caches, w: usize, order: u8, range: Ra
     }
 }
 
-/// Takes the entries out of a ring whose counts are below `finish`, oldest first and up to the first that is not, and puts
-/// them into the magazines of worker `w`. It answers how many there were
-/// (Linux 5.15 `drivers/iommu/iova.c`: `fq_ring_free`). Mostly there is none, and nothing is called.
+/// Takes the entries out of a ring whose counts are below `finish`, oldest first and up to the
+/// first that is not, and puts them into the magazines of worker `w`. It answers how many there
+/// were (Linux 5.15 `drivers/iommu/iova.c`: `fq_ring_free`). Mostly there is none, and nothing is
+/// called.
 #[inline(always)]
 pub fn drain(tree: &mut Tree, caches: &mut Caches, ring: &mut Ring, w: usize, finish: u64) -> u64
     requires worker { w < caches.old.workers }
@@ -90,8 +91,10 @@ pub fn drain(tree: &mut Tree, caches: &mut Caches, ring: &mut Ring, w: usize, fi
     requires backed { IsBacked tree.old caches.old (map entry_range ring.old) }
     ensures count { result ≡ length (flushed finish ring.old) }
     ensures ring { ring.new ≡ unflushed finish ring.old }
-    ensures caches { caches.new ≡ with_ranges caches.old w (map entry_range (flushed finish ring.old)) }
-    ensures backed { Exchanges tree.old tree.new caches.old caches.new [] (map entry_range (flushed finish ring.old)) }
+    ensures caches { caches.new ≡ with_ranges caches.old w
+        (map entry_range (flushed finish ring.old)) }
+    ensures backed { Exchanges tree.old tree.new caches.old caches.new []
+        (map entry_range (flushed finish ring.old)) }
 {
     let waits = ring.waits(finish);
     drain_unless(waits, tree, caches, ring, w, finish)
@@ -114,8 +117,10 @@ pub fn drain_unless(
     requires backed { IsBacked tree.old caches.old (map entry_range ring.old) }
     ensures count { result ≡ length (flushed finish ring.old) }
     ensures ring { ring.new ≡ unflushed finish ring.old }
-    ensures caches { caches.new ≡ with_ranges caches.old w (map entry_range (flushed finish ring.old)) }
-    ensures backed { Exchanges tree.old tree.new caches.old caches.new [] (map entry_range (flushed finish ring.old)) }
+    ensures caches { caches.new ≡ with_ranges caches.old w
+        (map entry_range (flushed finish ring.old)) }
+    ensures backed { Exchanges tree.old tree.new caches.old caches.new []
+        (map entry_range (flushed finish ring.old)) }
 {
     if waits {
         return 0;
@@ -137,8 +142,10 @@ fn drain_flushed(
     requires backed { IsBacked tree.old caches.old (map entry_range ring.old) }
     ensures count { result ≡ length (flushed finish ring.old) }
     ensures ring { ring.new ≡ unflushed finish ring.old }
-    ensures caches { caches.new ≡ with_ranges caches.old w (map entry_range (flushed finish ring.old)) }
-    ensures backed { Exchanges tree.old tree.new caches.old caches.new [] (map entry_range (flushed finish ring.old)) }
+    ensures caches { caches.new ≡ with_ranges caches.old w
+        (map entry_range (flushed finish ring.old)) }
+    ensures backed { Exchanges tree.old tree.new caches.old caches.new []
+        (map entry_range (flushed finish ring.old)) }
 {
     let mut count = 0;
     while let Some(entry) = ring.take_flushed(finish) {

@@ -37,7 +37,8 @@ fn from_caches(caches: &mut Caches, w: usize, size: u64, limit: u64) -> Option<u
     requires some { 1 ≤ size }
     requires bounded { size ≤ MAX_FRAMES }
     ensures value { result ≡ (get_cached caches.old.caches w size limit (order_of size)).0 }
-    ensures left { caches.new ≡ with_contents caches.old (get_cached caches.old.caches w size limit (order_of size)).1 }
+    ensures left { caches.new ≡ with_contents caches.old
+        (get_cached caches.old.caches w size limit (order_of size)).1 }
     ensures cached { IsCached caches.old → IsCached caches.new }
 {
     let order = order_of(size)?;
@@ -58,7 +59,8 @@ fn first_limit(sac: bool, limit: u64) -> u64
     }
 }
 
-/// Whether the walk takes the newest entry of worker `w`'s loaded magazine, and comes to nothing else.
+/// Whether the walk takes the newest entry of worker `w`'s loaded magazine, and comes to nothing
+/// else.
 #[inline(always)]
 pub fn is_at_hand(caches: &Caches, w: usize, sac: bool, size: u64, limit: u64) -> bool
     requires worker { w < caches.now.workers }
@@ -71,15 +73,18 @@ pub fn is_at_hand(caches: &Caches, w: usize, sac: bool, size: u64, limit: u64) -
     }
 }
 
-/// Asks the caches of worker `w`, where the newest entry of its loaded magazine is given. Else None, and nothing changes.
+/// Asks the caches of worker `w`, where the newest entry of its loaded magazine is given. Else
+/// None, and nothing changes.
 #[inline(always)]
 fn from_loaded(caches: &mut Caches, w: usize, size: u64, limit: u64) -> Option<u64>
     requires worker { w < caches.old.workers }
     requires some { 1 ≤ size }
     requires bounded { size ≤ MAX_FRAMES }
-    ensures value { IfSome result (λ lo. (get_cached caches.old.caches w size limit (order_of size)).0 ≡ Some lo) }
+    ensures value { IfSome result (λ lo.
+        (get_cached caches.old.caches w size limit (order_of size)).0 ≡ Some lo) }
     ensures left { OnSome result
-        (caches.new ≡ with_contents caches.old (get_cached caches.old.caches w size limit (order_of size)).1) }
+        (caches.new ≡ with_contents caches.old
+        (get_cached caches.old.caches w size limit (order_of size)).1) }
     ensures none { IfNone result (caches.new ≡ caches.old) }
     ensures cached { IsCached caches.old → IsCached caches.new }
 {
@@ -87,17 +92,21 @@ fn from_loaded(caches: &mut Caches, w: usize, size: u64, limit: u64) -> Option<u
     caches.get_newest(w, order, limit)
 }
 
-/// One try as `try_once`, where the newest entry of worker `w`'s loaded magazine is given. Else None, and nothing changes.
+/// One try as `try_once`, where the newest entry of worker `w`'s loaded magazine is given. Else
+/// None, and nothing changes.
 #[inline(always)]
 fn try_loaded(tree: &Tree, caches: &mut Caches, w: usize, size: u64, limit: u64) -> Option<Range>
     requires worker { w < caches.old.workers }
     requires some { 1 ≤ size }
     requires bounded { size ≤ MAX_FRAMES }
     requires backed { IsBacked tree.now caches.old [] }
-    ensures comes { IfSome result (λ r. (s : State) (emptying : Bool) (here : Point) → ArePartsOf tree.now caches.old.caches s
-        → Comes (next.try s w size limit emptying here Point.Never) (Walked.Placed r) caches.new.caches) }
+    ensures comes { IfSome result (λ r. (s : State) (emptying : Bool) (here : Point)
+        → ArePartsOf tree.now caches.old.caches s
+        → Comes (next.try s w size limit emptying here Point.Never) (Walked.Placed r)
+        caches.new.caches) }
     ensures size { IfSome result (λ r. IsPlacedOf size (Walked.Placed r)) }
-    ensures backed { IfSome result (λ r. Exchanges tree.now tree.now caches.old caches.new (placed (Walked.Placed r)) []) }
+    ensures backed { IfSome result (λ r. Exchanges tree.now tree.now caches.old caches.new
+        (placed (Walked.Placed r)) []) }
     ensures none { IfNone result (caches.new ≡ caches.old) }
 {
     match from_loaded(caches, w, size, limit) {
@@ -106,12 +115,14 @@ fn try_loaded(tree: &Tree, caches: &mut Caches, w: usize, size: u64, limit: u64)
     }
 }
 
-/// Takes the highest place for `size` frames in the tree, none above `limit`, by a growth that is the point `here`.
+/// Takes the highest place for `size` frames in the tree, none above `limit`, by a growth that is
+/// the point `here`.
 #[inline(never)]
 fn from_tree(tree: &mut Tree, size: u64, limit: u64, here: Point) -> Walked
     requires some { 1 ≤ size }
     requires bounded { size ≤ MAX_FRAMES }
-    ensures places { Places (best tree.old.bounds (ranges_of tree.old) size limit) here size tree.old tree.new result }
+    ensures places { Places (best tree.old.bounds (ranges_of tree.old) size limit) here size
+        tree.old tree.new result }
     ensures space { IsSpace tree.old → IsSpace tree.new }
 {
     let Some(lo) = tree.highest(size, limit) else {
@@ -124,8 +135,9 @@ fn from_tree(tree: &mut Tree, size: u64, limit: u64, here: Point) -> Walked
     }
 }
 
-/// One try for `size` frames, none above `limit`: the caches of worker `w`, then the tree, by a growth that is the point
-/// `here`, and, where `emptying` is allowed, the tree again with all caches emptied.
+/// One try for `size` frames, none above `limit`: the caches of worker `w`, then the tree, by a
+/// growth that is the point `here`, and, where `emptying` is allowed, the tree again with all
+/// caches emptied.
 #[inline(always)]
 fn try_once(
     tree: &mut Tree,
@@ -161,9 +173,9 @@ fn try_once(
     from_tree(tree, size, limit, Point::Last)
 }
 
-/// The walk of a request: for a client that is `sac`, one try below 4 GiB that empties nothing, where the limit is above
-/// that; then one with the limit that was asked for. What a loaded magazine gives first is taken here, and all else is
-/// out of line.
+/// The walk of a request: for a client that is `sac`, one try below 4 GiB that empties nothing,
+/// where the limit is above that; then one with the limit that was asked for. What a loaded
+/// magazine gives first is taken here, and all else is out of line.
 #[inline(always)]
 pub fn walk(
     tree: &mut Tree,

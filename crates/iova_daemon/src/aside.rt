@@ -22,7 +22,8 @@ pub trait Standing {
     /// How it stands now.
     fn figures(&self) -> Figures;
 
-    /// The session that this worker serves now, if it serves one: the serial behind which its client is, where it has opened one.
+    /// The session that this worker serves now, if it serves one: the serial behind which its
+    /// client is, where it has opened one.
     fn session(&self, worker: u64) -> Option<ClientId>;
 }
 
@@ -31,8 +32,8 @@ pub trait Look {
     /// Appends the domain's report, as it is in one hold of the lock. Refused by `NoMemory`.
     fn look(&self, out: &mut Vec<u8>) -> Result<(), Refusal>;
 
-    /// The first client that the worker opened behind this serial, with its ranges appended, in one hold of the lock. Refused by
-    /// `NoMemory`.
+    /// The first client that the worker opened behind this serial, with its ranges appended, in one
+    /// hold of the lock. Refused by `NoMemory`.
     fn client(
         &self,
         worker: u64,
@@ -70,7 +71,8 @@ impl<Q: Wait, C: Ledger, F: Ledger, S: Ledger, G: Ledger> Look for &Shared<Q, C,
     }
 }
 
-/// What is done on a thread of its own, from the start of the first session to the end of the last one. Own.
+/// What is done on a thread of its own, from the start of the first session to the end of the last
+/// one. Own.
 pub trait Aside {
     /// Whether there is anything to do: else no thread is started.
     fn is_wanted(&self) -> bool;

@@ -1,5 +1,5 @@
-//! That what a worker is lent and given may go to its thread. One `search` doesn't get through all of it, so each law here is of
-//! one type.
+//! That what a worker is lent and given may go to its thread. One `search` doesn't get through all
+//! of it, so each law here is of one type.
 ghost use Rattle.std.specs.Thread.{IsSend, IsSync};
 ghost use Rattle.iova_lock.specs.contracts.shared.Shared as domains;
 ghost use Rattle.iova_session.specs.contracts.post.Post as posts;
@@ -39,7 +39,8 @@ where
     F: Send,
     S: Send,
     G: Send,
-    ensures { IsSync (domains.the_row Q.row C.row F.row S.row G.row C.Ledger F.Ledger S.Ledger G.Ledger) }
+    ensures { IsSync (domains.the_row Q.row C.row F.row S.row G.row C.Ledger F.Ledger S.Ledger
+        G.Ledger) }
 {
     books_are_send::<C, F, S, G>();
     is_sync::<Shared<Q, C, F, S, G>>();

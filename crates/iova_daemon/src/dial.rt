@@ -6,8 +6,8 @@ use std::os::unix::net::UnixStream;
 use std::rt::Files;
 use std::{fs, io};
 
-/// What a thread needs of `Net` and of `Files`. A bound by `Net` is assumed of one thread alone, so what goes to others has this one:
-/// a program has it of its runtime. Own.
+/// What a thread needs of `Net` and of `Files`. A bound by `Net` is assumed of one thread alone, so
+/// what goes to others has this one: a program has it of its runtime. Own.
 pub trait Dial {
     /// Connects to the Unix socket at this address.
     fn dial(&self, address: &unix::SocketAddr) -> io::Result<UnixStream>;

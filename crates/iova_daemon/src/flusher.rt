@@ -36,7 +36,8 @@ where
     D: Sink,
     P: Pause,
 {
-    /// Makes a round after each pause, until a pause says stop or all workers have ended. A round that is refused is a notice.
+    /// Makes a round after each pause, until a pause says stop or all workers have ended. A round
+    /// that is refused is a notice.
     fn go_on(&mut self) {
         for _ in self.rt.forever() {
             if !self.pause.pause() || self.turns.have_ended() {

@@ -85,7 +85,8 @@ where
     requires some { 1 ≤ vec_len posts }
     requires sinks { vec_len sinks ≡ vec_len posts + 1 }
     requires parts { ForSome (slice_get posts.items 0) (λ p. 2 ≤ p.seat.tally.parts) }
-    ensures posts { IfOk result (λ s. map (λ p. p.seat.worker) s.posts.items ≡ map (λ p. p.seat.worker) posts.items) }
+    ensures posts { IfOk result (λ s. map (λ p. p.seat.worker) s.posts.items
+        ≡ map (λ p. p.seat.worker) posts.items) }
     ensures shared { IfOk result (λ s. s.shared ≡ shared) }
     ensures refusal { IfErr result IsServeRefusal }
 {
@@ -107,21 +108,24 @@ where
     )
 }
 
-/// Serves sessions on the domain, by a thread for each post, and flushes beside them on the calling thread. Each
-/// thread has a sink of its own, the flusher the last one; the flusher's tally is split from the first post's seat. It
-/// returns once all sessions have ended, and gives the domain back, and the posts in their order.
+/// Serves sessions on the domain, by a thread for each post, and flushes beside them on the calling
+/// thread. Each thread has a sink of its own, the flusher the last one; the flusher's tally is
+/// split from the first post's seat. It returns once all sessions have ended, and gives the domain
+/// back, and the posts in their order.
 ///
-/// A worker repeats: it tries its waiting clients again, takes the next session number, where it has none, and, where one is
-/// left, accepts a link and serves a session over it; else it stops. While clients wait an accept takes no longer
-/// than a second, and one that had none keeps the number; an accept that fails uses it up. Once each session had its accept,
-/// no more are accepted (`close`). Once no link is to come any more (`has_ended`), a worker tries its waiting clients a last time and
-/// stops. What is to be done `aside` has a thread of its own. The flusher repeats:
-/// it pauses, and stops where the pause says so or all workers have ended; else it makes a round (`timeout`). A session that
-/// ends by `LinkFault` or `NoMemory`, a sink that fails, a round that is refused and a thread that can't be started are notices,
-/// a line each; each other end of a session is one of the level `debug`.
+/// A worker repeats: it tries its waiting clients again, takes the next session number, where it
+/// has none, and, where one is left, accepts a link and serves a session over it; else it stops.
+/// While clients wait an accept takes no longer than a second, and one that had none keeps the
+/// number; an accept that fails uses it up. Once each session had its accept, no more are accepted
+/// (`close`). Once no link is to come any more (`has_ended`), a worker tries its waiting clients a
+/// last time and stops. What is to be done `aside` has a thread of its own. The flusher repeats: it
+/// pauses, and stops where the pause says so or all workers have ended; else it makes a round
+/// (`timeout`). A session that ends by `LinkFault` or `NoMemory`, a sink that fails, a round that
+/// is refused and a thread that can't be started are notices, a line each; each other end of a
+/// session is one of the level `debug`.
 ///
-/// Refused by `LinkFault` where a thread can't be started: then no link has been accepted, and those that were started are
-/// joined. Refused by `NoMemory` before the first one is started. Own.
+/// Refused by `LinkFault` where a thread can't be started: then no link has been accepted, and
+/// those that were started are joined. Refused by `NoMemory` before the first one is started. Own.
 pub fn serve_sessions<R, Q, N, C, F, S, G, L, A, D, P, X>(
     rt: &R,
     alloc: Global,
@@ -150,7 +154,8 @@ where
     requires some { 1 ≤ vec_len posts }
     requires sinks { vec_len sinks ≡ vec_len posts + 1 }
     requires parts { ForSome (slice_get posts.items 0) (λ p. 2 ≤ p.seat.tally.parts) }
-    ensures posts { IfOk result (λ s. map (λ p. p.seat.worker) s.posts.items ≡ map (λ p. p.seat.worker) posts.items) }
+    ensures posts { IfOk result (λ s. map (λ p. p.seat.worker) s.posts.items
+        ≡ map (λ p. p.seat.worker) posts.items) }
     ensures shared { IfOk result (λ s. s.shared ≡ shared) }
     ensures refusal { IfErr result IsServeRefusal }
 {
@@ -197,7 +202,8 @@ where
     requires some { 1 ≤ vec_len posts }
     requires sinks { vec_len sinks ≡ vec_len posts + 1 }
     requires parts { ForSome (slice_get posts.items 0) (λ p. 2 ≤ p.seat.tally.parts) }
-    ensures posts { IfOk result (λ v. map (λ p. p.seat.worker) v.items ≡ map (λ p. p.seat.worker) posts.items) }
+    ensures posts { IfOk result (λ v. map (λ p. p.seat.worker) v.items
+        ≡ map (λ p. p.seat.worker) posts.items) }
     ensures refusal { IfErr result IsServeRefusal }
 {
     // for the proof: what a worker has may go to its thread

@@ -38,8 +38,8 @@ impl<'a, D: Sink, N: Log> Sink for NotingSink<'a, D, N> {
     }
 }
 
-/// A notice of what happened to the flush, the client or the session of this number. Its target is the word, so that what takes
-/// notices may tell those of a kind less often.
+/// A notice of what happened to the flush, the client or the session of this number. Its target is
+/// the word, so that what takes notices may tell those of a kind less often.
 pub(crate) fn note<N: Log>(notices: &N, what: &str, number: u64, how: &str) {
     warn!(notices; target: what, "{what} {number}: {how}");
 }

@@ -13,7 +13,8 @@ use std::os::unix::net::UnixStream;
 use std::sync::Wait;
 use std::time::Duration;
 
-/// How long a session's peer is waited for, in turns after each of which it is seen whether the daemon stops. Own.
+/// How long a session's peer is waited for, in turns after each of which it is seen whether the
+/// daemon stops. Own.
 #[derive(Clone, Copy, Debug)]
 pub struct Patience {
     /// The time of a turn; none: one turn without an end.
@@ -22,10 +23,11 @@ pub struct Patience {
     pub turns: u64,
 }
 
-/// A connected Unix socket that a daemon serves. A read that finds no byte, and a write that finds no room, are made again
-/// turn after turn, until there were as many as its patience has. One that is interrupted is made again too, and takes no
-/// turn: an interruption is no failure of this link. A read of a daemon that stops finds the end. Contracts see the
-/// numbers of its reads, its failures and the reads that found the end; what bytes come and go, no contract can say. Own.
+/// A connected Unix socket that a daemon serves. A read that finds no byte, and a write that finds
+/// no room, are made again turn after turn, until there were as many as its patience has. One that
+/// is interrupted is made again too, and takes no turn: an interruption is no failure of this link.
+/// A read of a daemon that stops finds the end. Contracts see the numbers of its reads, its
+/// failures and the reads that found the end; what bytes come and go, no contract can say. Own.
 pub struct ServedLink<'a, R> {
     rt: &'a R,
     signals: &'a Signals,
@@ -60,7 +62,8 @@ impl<'a, R> Model for ServedLink<'a, R> {
 }
 
 impl<'a, R> ServedLink<'a, R> {
-    /// A link over this socket, of which no call was made. The socket's own time limits are set to those of a turn.
+    /// A link over this socket, of which no call was made. The socket's own time limits are set to
+    /// those of a turn.
     pub fn new(
         rt: &'a R,
         signals: &'a Signals,
@@ -147,7 +150,8 @@ fn received<R: Wait>(
     unreachable!()
 }
 
-/// Writes what finds room within the patience, and nothing more once the daemon stops and there is none.
+/// Writes what finds room within the patience, and nothing more once the daemon stops and there is
+/// none.
 fn sent<R: Wait>(
     rt: &R,
     signals: &Signals,

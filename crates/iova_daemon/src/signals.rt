@@ -2,7 +2,8 @@
 use iova_sink::hurry::Hurry;
 use std::sync::atomic::{AtomicU64, Ordering};
 
-/// Whether the daemon is asked to stop, and what was counted so far. Threads share it. A count begins anew behind 2^64 - 1. Own.
+/// Whether the daemon is asked to stop, and what was counted so far. Threads share it. A count
+/// begins anew behind 2^64 - 1. Own.
 pub struct Signals {
     hurry: Hurry,
     requests: AtomicU64,

@@ -17,9 +17,10 @@ use std::sync::{Mutex, Wait};
 use std::time::Duration;
 use std::{io, thread};
 
-/// Accepts the connections of a listener, each one a link, until it is closed or the daemon is asked to stop. An accept that fails is a
-/// notice, and a pause follows, which doubles with each failure after another; none was had then, and the next call tries again. While
-/// it waits it has one descriptor of its own. Own.
+/// Accepts the connections of a listener, each one a link, until it is closed or the daemon is
+/// asked to stop. An accept that fails is a notice, and a pause follows, which doubles with each
+/// failure after another; none was had then, and the next call tries again. While it waits it has
+/// one descriptor of its own. Own.
 pub struct SocketAccept<'a, R, N> {
     rt: &'a R,
     notices: &'a N,
@@ -46,8 +47,8 @@ impl<'a, R, N> Drop for SocketAccept<'a, R, N> {
 }
 
 impl<'a, R: AllocGlobal + Dial + Wait, N: Log> SocketAccept<'a, R, N> {
-    /// Accepts what connects to this listener, which is that of the file at this path. The caller has made it one that doesn't block;
-    /// else an accept has no limit.
+    /// Accepts what connects to this listener, which is that of the file at this path. The caller
+    /// has made it one that doesn't block; else an accept has no limit.
     pub fn new(
         rt: &'a R,
         notices: &'a N,
@@ -67,7 +68,8 @@ impl<'a, R: AllocGlobal + Dial + Wait, N: Log> SocketAccept<'a, R, N> {
         }
     }
 
-    /// The next connection; where none stands there, it is waited for. None where none came, or another thread had it.
+    /// The next connection; where none stands there, it is waited for. None where none came, or
+    /// another thread had it.
     fn next(&self, limit: Option<u64>) -> io::Result<Option<ServedLink<'a, R>>> {
         if let Some(link) = self.standing()? {
             return Ok(Some(link));
@@ -157,8 +159,9 @@ impl<'a, R: AllocGlobal + Dial + Clock + Wait, N: Log> Accept<ServedLink<'a, R>>
         }
     }
 
-    /// Removes the listener's file, has whoever waits there hung up on, and closes it: whoever connects is refused. The file goes first,
-    /// while somebody still listens there, so that no other daemon has put one of its own in its place.
+    /// Removes the listener's file, has whoever waits there hung up on, and closes it: whoever
+    /// connects is refused. The file goes first, while somebody still listens there, so that no
+    /// other daemon has put one of its own in its place.
     fn close(&self) {
         let mut held = self.listener.lock(self.rt);
         if let Some(listener) = held.take() {
@@ -173,8 +176,8 @@ impl<'a, R: AllocGlobal + Dial + Clock + Wait, N: Log> Accept<ServedLink<'a, R>>
     }
 }
 
-/// Accepts whoever waits at the listener, and closes the connection. What came on it is read first: else the peer would be told of a
-/// reset.
+/// Accepts whoever waits at the listener, and closes the connection. What came on it is read first:
+/// else the peer would be told of a reset.
 fn hang_up(listener: &UnixListener) {
     for _ in 0..MAX_WAITING {
         let Ok((mut stream, _peer)) = listener.accept() else {

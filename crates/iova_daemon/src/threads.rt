@@ -1,4 +1,5 @@
-//! The workers' threads, started and joined. What a worker does, and what is done beside them, stand behind bounds here.
+//! The workers' threads, started and joined. What a worker does, and what is done beside them,
+//! stand behind bounds here.
 ghost use Rattle.std.specs.Prelude.{◌≡◌, ◌≤◌, ℕ, [], IfOk, IfErr, map, vec_len, vec_capacity, true};
 ghost use Rattle.iova_daemon.specs.Serving.{IsServeRefusal};
 
@@ -60,8 +61,8 @@ impl Promise<()> for Nothing {
     ghost kept_by = { λ p r. Unit {0} };
 }
 
-/// Starts a worker at each place, goes on beside them, and joins them. It gives the places back in their order. Refused by
-/// `NoMemory` before one is started, and by `LinkFault` where one can't be.
+/// Starts a worker at each place, goes on beside them, and joins them. It gives the places back in
+/// their order. Refused by `NoMemory` before one is started, and by `LinkFault` where one can't be.
 pub(crate) fn run_all<R, W, P, D, L, B>(
     rt: &R,
     alloc: Global,
@@ -172,7 +173,8 @@ where
     }
 }
 
-/// Starts a worker at each place, and gives whether all were started. It stops at the first one that can't be.
+/// Starts a worker at each place, and gives whether all were started. It stops at the first one
+/// that can't be.
 fn start_all<'s, E, W, P, D, L>(
     scope: &Scope<'s, E>,
     lent: &'s W,
@@ -190,7 +192,8 @@ where
     requires room { vec_len places ≤ vec_capacity started.old }
     requires sinks { vec_len places ≤ vec_len sinks }
     ensures fits { vec_len started.new ≤ vec_len places }
-    ensures whole { result ≡ true → map (λ h. h.promise.0) started.new.items ≡ map P.worker places.items }
+    ensures whole { result ≡ true → map (λ h. h.promise.0) started.new.items
+        ≡ map P.worker places.items }
 {
     let mut sinks = sinks.into_iter();
     for place in places {

@@ -8,17 +8,19 @@ use std::array;
 use std::sync::Mutex;
 use std::sync::atomic::{AtomicU64, Ordering};
 
-/// The gate that workers wait at until all are started, what is served, the next session's number, how many sessions had their
-/// accept, and how many workers have ended.
+/// The gate that workers wait at until all are started, what is served, the next session's number,
+/// how many sessions had their accept, and how many workers have ended.
 #[derive(Drop)]
 pub(crate) struct Turns {
-    /// Held while threads are started; then whether all were, so that none accepts a link where one couldn't be.
+    /// Held while threads are started; then whether all were, so that none accepts a link where one
+    /// couldn't be.
     pub gate: Mutex<bool>,
     serving: Serving,
     next: AtomicU64,
     met: AtomicU64,
     served: AtomicU64,
-    /// By worker: 0 where it serves no session, else one more than the serial of its newest client that waits.
+    /// By worker: 0 where it serves no session, else one more than the serial of its newest client
+    /// that waits.
     sessions: [AtomicU64; MAX_WORKERS as usize],
     waiting: AtomicU64,
     workers: u64,
@@ -46,7 +48,8 @@ impl Turns {
         self.serving.limits
     }
 
-    /// The next session's number, counted from 0; none where all were taken. It begins anew behind 2^64 - 1.
+    /// The next session's number, counted from 0; none where all were taken. It begins anew behind
+    /// 2^64 - 1.
     pub(crate) fn next_session(&self) -> Option<u64> {
         let session = self.next.fetch_add(1, Ordering::SeqCst);
         match self.serving.sessions {
@@ -64,7 +67,8 @@ impl Turns {
         }
     }
 
-    /// This worker begins a session. Its clients that wait have serials up to this one, so that of the session has one above it.
+    /// This worker begins a session. Its clients that wait have serials up to this one, so that of
+    /// the session has one above it.
     pub(crate) fn begin_session(&self, worker: u64, newest: ClientId) {
         self.mark(worker, newest.saturating_add(1));
         self.served.fetch_add(1, Ordering::SeqCst);

@@ -28,8 +28,8 @@ impl<C: Ledger, F: Ledger, S: Ledger, G: Ledger> Place for Post<C, F, S, G> {
     }
 }
 
-/// What every worker is lent: references, and a keeper of the domain. Each is a parameter, so that one short law says that
-/// threads may share it where they may share each of them.
+/// What every worker is lent: references, and a keeper of the domain. Each is a parameter, so that
+/// one short law says that threads may share it where they may share each of them.
 #[derive(Drop)]
 pub(crate) struct Lent<R, N, K, A, T, X> {
     pub rt: R,
@@ -56,8 +56,9 @@ where
     D: Sink + Drop,
     X: Aside,
 {
-    /// Waits at the gate, and then serves sessions at the post until no number is left. Its waiting clients are tried again
-    /// before each accept, and no later than a second after the last try while it waits for a link.
+    /// Waits at the gate, and then serves sessions at the post until no number is left. Its waiting
+    /// clients are tried again before each accept, and no later than a second after the last try
+    /// while it waits for a link.
     fn work(&self, place: Post<C, F, S, G>, sink: D) -> Post<C, F, S, G> {
         let mut post = place;
         let mut keeper = self.keeper;
@@ -133,7 +134,8 @@ where
     }
 }
 
-/// The serial of the newest client that waits; 0 where none does. They wait in the order in which they were opened.
+/// The serial of the newest client that waits; 0 where none does. They wait in the order in which
+/// they were opened.
 fn newest(waiting: &[ClientId]) -> ClientId {
     waiting.last().copied().unwrap_or(0)
 }
@@ -145,7 +147,8 @@ fn meet<L, A: Accept<L>>(turns: &Turns, accept: &A) {
     }
 }
 
-/// How long a link may be waited for, in milliseconds, where so many clients wait: they are tried again then.
+/// How long a link may be waited for, in milliseconds, where so many clients wait: they are tried
+/// again then.
 fn limit_of(waiting: u64) -> Option<u64> {
     if waiting > 0 { Some(RETRY_PAUSE) } else { None }
 }

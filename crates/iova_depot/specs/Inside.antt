@@ -9,18 +9,21 @@ use Rattle.iova_mag.specs.Workers.{WorkerCache, AreEmpty}
 use Rattle.iova_depot.specs.Stored.{Stored}
 use Rattle.iova_model.specs.Laws.{frames_of}
 
--- The entries stand in slots: six for each worker, one for each order, and then one for each depot. The slots below this one
--- are empty.
+-- The entries stand in slots: six for each worker, one for each order, and then one for each depot.
+-- The slots below this one are empty.
 pub record AreEmptyBelow (slot workers : ℕ) (c : Caches) : Type 0 where
   pub magazines : (w o : ℕ) → w < workers → o < 6 → w * 6 + o < slot → AreEmpty (cache_at c w o)
   pub depots : (o : ℕ) → o < 6 → workers * 6 + o < slot → slice_index_or c.depots o [] ≡ []
 
 -- what is seen of the workers and the depots
 abbrev pub seen : List WorkerCache → List Stored → Caches
-seen workers depots = record { workers = map (λ w. w.caches) workers; depots = map (λ d. d.lists) depots }
+seen workers depots =
+    record { workers = map (λ w. w.caches) workers; depots = map (λ d. d.lists) depots }
 
--- all have the profile, the two counts are those of the frames, and there is nothing below the first slot that may be filled
-pub record AreCachesKept (profile : Capacities) (workers : List WorkerCache) (depots : List Stored) (in_magazines in_depot first_filled : ℕ) : Type 0 where
+-- all have the profile, the two counts are those of the frames, and there is nothing below the
+-- first slot that may be filled
+pub record AreCachesKept (profile : Capacities) (workers : List WorkerCache) (depots : List Stored)
+    (in_magazines in_depot first_filled : ℕ) : Type 0 where
   pub is_profile : IsProfile profile
   pub some_worker : 1 ≤ length workers
   pub few_workers : length workers ≤ MAX_WORKERS

@@ -19,9 +19,9 @@ use iova_range::refusal::Refusal;
 use std::alloc::{AllocError, Global};
 use std::marker::Model;
 
-/// The cached ranges of a domain, by their first frames: each worker's two magazines of each of the six orders, and for
-/// each order a depot of full magazines that all workers share. All memory is taken by `new`
-/// (Linux 5.15 `drivers/iommu/iova.c`: `init_iova_rcaches`).
+/// The cached ranges of a domain, by their first frames: each worker's two magazines of each of the
+/// six orders, and for each order a depot of full magazines that all workers share. All memory is
+/// taken by `new` (Linux 5.15 `drivers/iommu/iova.c`: `init_iova_rcaches`).
 pub struct Caches {
     profile: Profile,
     workers: Vec<WorkerCache>,
@@ -115,10 +115,11 @@ impl Caches {
         self.workers.len()
     }
 
-    /// Gets a cached range of this order, 0 to 5, for worker `w` with no frame above `limit`, and gives its first frame.
-    /// Where the worker's loaded magazine is empty and previous isn't, they change places; where both are empty, the
-    /// depot's last magazine becomes loaded. None where no entry of loaded fits then; the moves stand
-    /// (Linux 5.15 `drivers/iommu/iova.c`: `__iova_rcache_get`).
+    /// Gets a cached range of this order, 0 to 5, for worker `w` with no frame above `limit`, and
+    /// gives its first frame. Where the worker's loaded magazine is empty and previous isn't, they
+    /// change places; where both are empty, the depot's last magazine becomes loaded. None where no
+    /// entry of loaded fits then; the moves stand (Linux 5.15 `drivers/iommu/iova.c`:
+    /// `__iova_rcache_get`).
     #[inline(always)]
     pub fn get(&mut self, w: usize, order: u8, limit: u64) -> Option<u64>
         requires worker { w < self.old.workers }
@@ -134,8 +135,8 @@ impl Caches {
         }
     }
 
-    /// Whether worker `w`'s loaded magazine of this order, 0 to 5, has a newest entry, whose range has no frame above
-    /// `limit`: `get` then gives it. Our own.
+    /// Whether worker `w`'s loaded magazine of this order, 0 to 5, has a newest entry, whose range
+    /// has no frame above `limit`: `get` then gives it. Our own.
     #[inline(always)]
     pub fn gives_newest(&self, w: usize, order: u8, limit: u64) -> bool
         requires worker { w < self.now.workers }
@@ -145,12 +146,14 @@ impl Caches {
         self.workers[w].gives_newest(order, limit)
     }
 
-    /// Gets as `get` does, where loaded's newest entry is given. Else None, and nothing changes. Our own.
+    /// Gets as `get` does, where loaded's newest entry is given. Else None, and nothing changes.
+    /// Our own.
     #[inline(always)]
     pub fn get_newest(&mut self, w: usize, order: u8, limit: u64) -> Option<u64>
         requires worker { w < self.old.workers }
         requires order { order < ORDERS }
-        ensures value { IfSome result (λ lo. (get (shelf_at self.old.caches w order) limit (2 ^ order)).0 ≡ Some lo) }
+        ensures value { IfSome result (λ lo.
+            (get (shelf_at self.old.caches w order) limit (2 ^ order)).0 ≡ Some lo) }
         ensures left { OnSome result (self.new ≡ after_get self.old w order limit) }
         ensures none { IfNone result (self.new ≡ self.old) }
         ensures sound { IsCached self.old → IsCached self.new }
@@ -161,11 +164,11 @@ impl Caches {
         self.get(w, order, limit)
     }
 
-    /// Puts the first frame of a range of this order, 0 to 5, into worker `w`'s loaded magazine; it is below 2^40. Where
-    /// loaded is full and previous isn't, they change places first; where both are full, loaded goes last into the depot
-    /// and an empty one stands in its place. Where the depot has as many as it takes, that magazine is given to the
-    /// caller, who frees its ranges; else None
-    /// (Linux 5.15 `drivers/iommu/iova.c`: `__iova_rcache_insert`).
+    /// Puts the first frame of a range of this order, 0 to 5, into worker `w`'s loaded magazine; it
+    /// is below 2^40. Where loaded is full and previous isn't, they change places first; where both
+    /// are full, loaded goes last into the depot and an empty one stands in its place. Where the
+    /// depot has as many as it takes, that magazine is given to the caller, who frees its ranges;
+    /// else None (Linux 5.15 `drivers/iommu/iova.c`: `__iova_rcache_insert`).
     #[inline]
     pub fn put(&mut self, w: usize, order: u8, lo: u64) -> Option<Magazine>
         requires worker { w < self.old.workers }
@@ -173,7 +176,8 @@ impl Caches {
         requires small { lo < 2 ^ 40 }
         ensures left { self.new ≡ after_put self.old w order lo }
         ensures none { IfNone result (sent_by_put self.old w order ≡ []) }
-        ensures sent { IfSome result (λ m. m ≡ magazine_of self.old.profile (sent_by_put self.old w order)) }
+        ensures sent { IfSome result (λ m. m
+            ≡ magazine_of self.old.profile (sent_by_put self.old w order)) }
         ensures some { IfSome result (λ m. 1 ≤ length m.entries) }
         ensures sound { IsCached self.new }
     {
@@ -183,9 +187,10 @@ impl Caches {
         self.put_full(w, order, lo)
     }
 
-    /// Puts as `put` does, where one of worker `w`'s two magazines of this order has room. False exactly where both are
-    /// full, and nothing changes: `put` then stores one of them. Our own: an answer of `put` is as large as a magazine,
-    /// and a caller's place for it is cleared at each call, which costs more than all else that a put does.
+    /// Puts as `put` does, where one of worker `w`'s two magazines of this order has room. False
+    /// exactly where both are full, and nothing changes: `put` then stores one of them. Our own: an
+    /// answer of `put` is as large as a magazine, and a caller's place for it is cleared at each
+    /// call, which costs more than all else that a put does.
     #[inline]
     pub fn try_put(&mut self, w: usize, order: u8, lo: u64) -> bool
         requires worker { w < self.old.workers }
@@ -200,12 +205,14 @@ impl Caches {
         self.put_in_worker(w, order, lo)
     }
 
-    /// Takes some cached entry out, and gives its order and its first frame. None where nothing is cached. Taking all
-    /// entries out one by one goes over each place that is empty once: where the last one was found is remembered. An own
-    /// form of what Linux 5.15 `drivers/iommu/iova.c` does by magazines: `free_cpu_cached_iovas`, `free_global_cached_iovas`.
+    /// Takes some cached entry out, and gives its order and its first frame. None where nothing is
+    /// cached. Taking all entries out one by one goes over each place that is empty once: where the
+    /// last one was found is remembered. An own form of what Linux 5.15 `drivers/iommu/iova.c` does
+    /// by magazines: `free_cpu_cached_iovas`, `free_global_cached_iovas`.
     pub fn take_any(&mut self) -> Option<(u8, u64)>
         ensures taken { TakesAny self.old.caches result self.new.caches }
-        ensures loses { IfSome result (λ entry. LosesOnly (range_of_entry entry) self.old.caches self.new.caches) }
+        ensures loses { IfSome result (λ entry. LosesOnly (range_of_entry entry) self.old.caches
+            self.new.caches) }
         ensures fewer { IfSome result
             (λ entry. cached_frames self.new.caches + 2 ^ entry.0 ≡ cached_frames self.old.caches) }
         ensures emptied { emptied self.new.caches ≡ emptied self.old.caches }
@@ -224,8 +231,8 @@ impl Caches {
         None
     }
 
-    /// How many frames are in magazines of the workers, and how many in the depot, together fewer than 2^21. Both are
-    /// kept, and nothing is counted. Our own.
+    /// How many frames are in magazines of the workers, and how many in the depot, together fewer
+    /// than 2^21. Both are kept, and nothing is counted. Our own.
     #[inline]
     pub fn frames(&self) -> (u64, u64)
         ensures magazines { result.0 ≡ frames_of (magazine_holders 0 self.now.caches.workers) }
@@ -235,8 +242,8 @@ impl Caches {
         (self.in_magazines, self.in_depot)
     }
 
-    /// Where a cached range has the frame: the first such place, the magazines by worker and then the depot. None exactly
-    /// where no cached range has it. All entries may be looked at. Our own.
+    /// Where a cached range has the frame: the first such place, the magazines by worker and then
+    /// the depot. None exactly where no cached range has it. All entries may be looked at. Our own.
     pub fn find(&self, frame: u64) -> Option<Spot>
         ensures { option_map place_at result ≡ cached_place frame self.now.caches }
     {
@@ -271,7 +278,8 @@ impl Caches {
         found
     }
 
-    /// Where both of worker `w`'s magazines are empty: loads the depot's last one, and gets from that.
+    /// Where both of worker `w`'s magazines are empty: loads the depot's last one, and gets from
+    /// that.
     #[cold]
     fn reload_and_get(&mut self, w: usize, order: u8, limit: u64) -> Option<u64>
         requires worker { w < self.old.workers }
@@ -290,12 +298,14 @@ impl Caches {
         }
     }
 
-    /// Moves the depot's last magazine to worker `w`, whose magazines are both empty. False where there is none.
+    /// Moves the depot's last magazine to worker `w`, whose magazines are both empty. False where
+    /// there is none.
     fn reload(&mut self, w: usize, order: u8) -> bool
         requires worker { w < self.old.workers }
         requires order { order < ORDERS }
         requires empty { AreEmpty (cache_at self.old.caches w order) }
-        ensures none { OnFalse result ((depot_at self.old.caches order ≡ []) × (self.new ≡ self.old)) }
+        ensures none { OnFalse result ((depot_at self.old.caches order ≡ [])
+            × (self.new ≡ self.old)) }
         ensures some { OnTrue result (depot_at self.old.caches order ≢ []) }
         ensures moved { OnTrue result (self.new ≡ after_reload self.old w order) }
         ensures sound { IsCached self.new }
@@ -333,8 +343,8 @@ impl Caches {
         true
     }
 
-    /// Where both of worker `w`'s magazines are full: stores loaded in the depot, or gives it to the caller, and puts
-    /// into the empty one.
+    /// Where both of worker `w`'s magazines are full: stores loaded in the depot, or gives it to
+    /// the caller, and puts into the empty one.
     #[cold]
     fn put_full(&mut self, w: usize, order: u8, lo: u64) -> Option<Magazine>
         requires worker { w < self.old.workers }
@@ -343,7 +353,8 @@ impl Caches {
         requires full { AreFullAt self.old w order }
         ensures left { self.new ≡ after_put self.old w order lo }
         ensures none { IfNone result (sent_by_put self.old w order ≡ []) }
-        ensures sent { IfSome result (λ m. m ≡ magazine_of self.old.profile (sent_by_put self.old w order)) }
+        ensures sent { IfSome result (λ m. m
+            ≡ magazine_of self.old.profile (sent_by_put self.old w order)) }
         ensures some { IfSome result (λ m. 1 ≤ length m.entries) }
         ensures sound { IsCached self.new }
     {
@@ -358,7 +369,8 @@ impl Caches {
         requires worker { w < self.old.workers }
         requires order { order < ORDERS }
         requires full { length (cache_at self.old.caches w order).loaded ≡ self.old.profile.mag }
-        ensures value { result ≡ magazine_of self.old.profile (cache_at self.old.caches w order).loaded }
+        ensures value { result ≡ magazine_of self.old.profile
+            (cache_at self.old.caches w order).loaded }
         ensures left { self.new ≡ after_renewal self.old w order }
         ensures sound { IsCached self.new }
     {
@@ -368,13 +380,16 @@ impl Caches {
         magazine
     }
 
-    /// Stores a magazine that isn't empty in this order's depot, or gives it back where that has as many as it takes.
+    /// Stores a magazine that isn't empty in this order's depot, or gives it back where that has as
+    /// many as it takes.
     fn store(&mut self, order: u8, magazine: Magazine) -> Option<Magazine>
         requires order { order < ORDERS }
         requires profile { magazine.profile ≡ self.old.profile }
         requires some { 1 ≤ length magazine.entries }
-        ensures full { IfSome result (λ m. (m ≡ magazine) × (self.new ≡ self.old) × IsDepotFull self.old order) }
-        ensures room { IfNone result (length (depot_at self.old.caches order) < self.old.profile.depot) }
+        ensures full { IfSome result (λ m. (m ≡ magazine) × (self.new ≡ self.old)
+            × IsDepotFull self.old order) }
+        ensures room { IfNone result (length
+            (depot_at self.old.caches order) < self.old.profile.depot) }
         ensures stored { IfNone result (self.new ≡ after_store self.old order magazine.entries) }
         ensures sound { IsCached self.new }
     {
@@ -390,7 +405,8 @@ impl Caches {
         None
     }
 
-    /// Takes the newest entry of a slot: six for each worker, one for each order, and then one for each depot.
+    /// Takes the newest entry of a slot: six for each worker, one for each order, and then one for
+    /// each depot.
     fn take_from(&mut self, slot: usize) -> Option<u64>
         requires { slot < (self.old.workers + 1) * ORDERS }
         ensures none { IfNone result (self.new ≡ self.old) }
@@ -398,7 +414,8 @@ impl Caches {
             → IfNone result (AreEmpty (cache_at self.old.caches w o)) }
         ensures depots { (o : ℕ) → o < ORDERS → self.old.workers * ORDERS + o ≡ slot
             → IfNone result (depot_at self.old.caches o ≡ []) }
-        ensures taken { IfSome result (λ lo. TakesEntry (slot % ORDERS) lo self.old.caches self.new.caches) }
+        ensures taken { IfSome result (λ lo. TakesEntry (slot % ORDERS) lo self.old.caches
+            self.new.caches) }
         ensures same { self.new ≡ record self.old { caches = self.new.caches } }
         ensures sound { IsCached self.new }
     {
@@ -413,7 +430,8 @@ impl Caches {
     fn take_from_worker(&mut self, w: usize, order: u8) -> Option<u64>
         requires worker { w < self.old.workers }
         requires order { order < ORDERS }
-        ensures none { IfNone result ((self.new ≡ self.old) × AreEmpty (cache_at self.old.caches w order)) }
+        ensures none { IfNone result ((self.new ≡ self.old)
+            × AreEmpty (cache_at self.old.caches w order)) }
         ensures taken { IfSome result (λ lo. TakesEntry order lo self.old.caches self.new.caches) }
         ensures same { self.new ≡ record self.old { caches = self.new.caches } }
         ensures sound { IsCached self.new }
@@ -426,7 +444,8 @@ impl Caches {
 
     fn take_from_depot(&mut self, order: u8) -> Option<u64>
         requires { order < ORDERS }
-        ensures none { IfNone result ((self.new ≡ self.old) × (depot_at self.old.caches order ≡ [])) }
+        ensures none { IfNone result ((self.new ≡ self.old)
+            × (depot_at self.old.caches order ≡ [])) }
         ensures taken { IfSome result (λ lo. TakesEntry order lo self.old.caches self.new.caches) }
         ensures same { self.new ≡ record self.old { caches = self.new.caches } }
         ensures sound { IsCached self.new }
@@ -455,7 +474,8 @@ fn new_workers(alloc: Global, profile: Profile, count: usize) -> Result<Vec<Work
 }
 
 fn new_depots(alloc: Global, profile: Profile) -> Result<Vec<Depot>, AllocError>
-    ensures { IfOk result (λ v. v.items ≡ replicate ORDERS (record { profile = profile; lists = [] })) }
+    ensures { IfOk result (λ v. v.items
+        ≡ replicate ORDERS (record { profile = profile; lists = [] })) }
 {
     let mut depots = Vec::with_capacity(alloc, ORDERS)?;
     for _ in 0..ORDERS {

@@ -29,7 +29,8 @@ impl Model for Depot {
 
     ghost view = { λ d. record { profile = d.profile; lists = lists_of d.magazines.items } };
 
-    ghost invariant = { λ d. AreStored d.profile d.magazines.items × (d.profile.depot ≤ vec_capacity d.magazines) };
+    ghost invariant = { λ d. AreStored d.profile d.magazines.items
+        × (d.profile.depot ≤ vec_capacity d.magazines) };
 }
 
 impl Depot {
@@ -54,7 +55,8 @@ impl Depot {
         requires room { length self.old.lists < self.old.profile.depot }
         requires profile { magazine.profile ≡ self.old.profile }
         requires some { 1 ≤ length magazine.entries }
-        ensures pushed { self.new ≡ record self.old { lists = self.old.lists ++ magazine.entries ∷ [] } }
+        ensures pushed { self.new ≡ record self.old
+            { lists = self.old.lists ++ magazine.entries ∷ [] } }
         ensures sound { IsDepot self.new.profile self.new.lists }
     {
         // for the proof: the magazine has no more entries than it is full at
@@ -66,14 +68,16 @@ impl Depot {
     pub fn pop(&mut self) -> Option<Magazine>
         ensures none { IfNone result (self.old.lists ≡ []) }
         ensures some { IfSome result
-            (λ m. (self.old.lists ≢ []) × (m ≡ magazine_of self.old.profile (last_or [] self.old.lists))) }
+            (λ m. (self.old.lists ≢ []) × (m
+            ≡ magazine_of self.old.profile (last_or [] self.old.lists))) }
         ensures left { self.new ≡ record self.old { lists = front self.old.lists } }
         ensures sound { IsDepot self.new.profile self.new.lists }
     {
         self.magazines.pop()
     }
 
-    /// Takes the newest entry out of the newest magazine, and that goes where it was its last. None where there is none.
+    /// Takes the newest entry out of the newest magazine, and that goes where it was its last. None
+    /// where there is none.
     pub fn take_newest(&mut self) -> Option<u64>
         ensures none { IfNone result ((self.old.lists ≡ []) × (self.new ≡ self.old)) }
         ensures taken { IfSome result (λ lo. TakesOutOfDepot lo self.old.lists self.new.lists) }
@@ -92,7 +96,8 @@ impl Depot {
     /// Whether a range of this order, 0 to 5, that an entry begins has the frame.
     pub fn has_frame(&self, frame: u64, order: u8) -> bool
         requires { order < ORDERS }
-        ensures { result ≡ list_any (λ h. covers frame h.range) (list_holders order self.now.lists) }
+        ensures { result ≡ list_any (λ h. covers frame h.range)
+            (list_holders order self.now.lists) }
     {
         for magazine in &self.magazines {
             if magazine.has_frame(frame, order) {

@@ -14,7 +14,8 @@ abbrev pub OldestWaits : ℕ → List Entry → Type 0
 OldestWaits finish [] = Unit {0}
 OldestWaits finish (e ∷ es) = finish ≤ e.count
 
--- A ring of so many slots, one of which stays empty, with the number of its frames kept beside the entries.
+-- A ring of so many slots, one of which stays empty, with the number of its frames kept beside the
+-- entries.
 pub record IsRingKept (slots frames : ℕ) (entries : List Entry) : Type 0 where
   pub capacity : slots ≡ RING_SLOTS
   pub room : length entries ≤ MAX_ENTRIES

@@ -8,17 +8,19 @@ use iova_range::limits::{MAX_FLIGHTS, MAX_SERIAL};
 use iova_range::refusal::Refusal;
 use std::marker::Model;
 
-/// The flushes: how many have begun, how many are accounted for, and those in flight, at most 32, rising by number.
+/// The flushes: how many have begun, how many are accounted for, and those in flight, at most 32,
+/// rising by number.
 ///
-/// The two counts are the kernel's (Linux 5.15 `drivers/iommu/iova.c`: `iova_domain_flush`, which raises the start count,
-/// flushes, and raises the finish count). Flushes that overlap or fail are our own: each flight has a credit, by which
-/// the finish count grows where it ends well. A flight that fails gives its credit to the one with the next greater
-/// number, and where there is none, the credit is owed to the next flush that begins. So the finish count is never above
-/// the greatest number of a flush that ended well, and an entry whose count is below it was queued before that flush
-/// began.
+/// The two counts are the kernel's (Linux 5.15 `drivers/iommu/iova.c`: `iova_domain_flush`, which
+/// raises the start count, flushes, and raises the finish count). Flushes that overlap or fail are
+/// our own: each flight has a credit, by which the finish count grows where it ends well. A flight
+/// that fails gives its credit to the one with the next greater number, and where there is none,
+/// the credit is owed to the next flush that begins. So the finish count is never above the
+/// greatest number of a flush that ended well, and an entry whose count is below it was queued
+/// before that flush began.
 ///
-/// Contracts see it as `Flushes`, for which `AreSound` always holds: the start count is the sum of the finish count, the
-/// credits in flight and what is owed.
+/// Contracts see it as `Flushes`, for which `AreSound` always holds: the start count is the sum of
+/// the finish count, the credits in flight and what is owed.
 pub struct Flights {
     start: u64,
     finish: u64,
@@ -74,7 +76,8 @@ impl Flights {
         Flights::starting_at(0)
     }
 
-    /// As if `n` flushes had begun and ended well, `n` being at most 2^63 - 1: the next one has the number `n` + 1.
+    /// As if `n` flushes had begun and ended well, `n` being at most 2^63 - 1: the next one has the
+    /// number `n` + 1.
     pub fn starting_at(n: u64) -> Self
         requires { n ≤ 2 ^ 63 - 1 }
         ensures { result ≡ flushes_from n }
@@ -89,16 +92,18 @@ impl Flights {
         }
     }
 
-    /// Begins a flush, and answers its number, the new start count. Its credit is one more than what was owed, and
-    /// nothing is owed then. Refused, with no change, by `FlightsFull` exactly where 32 are in flight, else by `Worn`
-    /// exactly where the start count is 2^63 - 1.
+    /// Begins a flush, and answers its number, the new start count. Its credit is one more than
+    /// what was owed, and nothing is owed then. Refused, with no change, by `FlightsFull` exactly
+    /// where 32 are in flight, else by `Worn` exactly where the start count is 2^63 - 1.
     pub fn begin(&mut self) -> Result<u64, Refusal>
-        ensures begins { IsOk result ↔ (length self.old.in_flight < MAX_FLIGHTS) × (self.old.start < MAX_SERIAL) }
+        ensures begins { IsOk result ↔ (length self.old.in_flight < MAX_FLIGHTS)
+            × (self.old.start < MAX_SERIAL) }
         ensures begun { OnOk result (self.new ≡ begun self.old) }
         ensures number { IfOk result (λ no. no ≡ self.new.start) }
 
         // Too many in flight come before too great a number.
-        ensures full { (result ≡ Err Refusal.FlightsFull) ↔ (MAX_FLIGHTS ≤ length self.old.in_flight) }
+        ensures full { (result ≡ Err Refusal.FlightsFull)
+            ↔ (MAX_FLIGHTS ≤ length self.old.in_flight) }
         ensures worn { (result ≡ Err Refusal.Worn)
             ↔ (length self.old.in_flight < MAX_FLIGHTS) × (MAX_SERIAL ≤ self.old.start) }
         ensures refused { IfErr result (λ r. (r ≡ Refusal.FlightsFull) ⊎ (r ≡ Refusal.Worn)) }
@@ -119,9 +124,10 @@ impl Flights {
         Ok(self.start)
     }
 
-    /// Ends the flush of this number. Where it ended well (`ok`), its credit is added to the finish count; where it
-    /// failed, its credit goes to the flight with the next greater number, and where there is none, it is owed. Refused,
-    /// with no change, by `NoFlight` exactly where no flush of that number is in flight.
+    /// Ends the flush of this number. Where it ended well (`ok`), its credit is added to the finish
+    /// count; where it failed, its credit goes to the flight with the next greater number, and
+    /// where there is none, it is owed. Refused, with no change, by `NoFlight` exactly where no
+    /// flush of that number is in flight.
     pub fn end(&mut self, no: u64, ok: bool) -> Result<(), Refusal>
         ensures known { is_ok result ≡ is_in_flight no self.old.in_flight }
         ensures ended { OnOk result (self.new ≡ ended self.old no ok) }
@@ -157,8 +163,8 @@ impl Flights {
         self.start
     }
 
-    /// How many flushes are accounted for, at most the greatest number of a flush that ended well: an entry whose count
-    /// is below this was queued before that flush began.
+    /// How many flushes are accounted for, at most the greatest number of a flush that ended well:
+    /// an entry whose count is below this was queued before that flush began.
     #[inline]
     pub fn finish(&self) -> u64
         ensures is { result ≡ self.now.finish }
@@ -185,7 +191,8 @@ impl Flights {
         self.in_flight.len()
     }
 
-    /// The greatest number of a flush that ended well; at first the number that the flushes started at.
+    /// The greatest number of a flush that ended well; at first the number that the flushes started
+    /// at.
     #[inline]
     pub fn newest_done(&self) -> u64
         ensures is { result ≡ self.now.newest }

@@ -13,8 +13,9 @@ use iova_range::refusal::Refusal;
 use std::alloc::Global;
 use std::marker::Model;
 
-/// The ranges of one worker that wait for a flush, oldest first: at most 255 entries of 1 to 1,048,576 frames each
-/// (Linux 5.15 `include/linux/iova.h`: `iova_fq`). Contracts see it as the list of its entries.
+/// The ranges of one worker that wait for a flush, oldest first: at most 255 entries of 1 to
+/// 1,048,576 frames each (Linux 5.15 `include/linux/iova.h`: `iova_fq`). Contracts see it as the
+/// list of its entries.
 pub struct Ring {
     entries: HeapCircularBuffer<Entry>,
     frames: u64,
@@ -43,8 +44,8 @@ impl Model for Ring {
 }
 
 impl Ring {
-    /// A ring with no entry, and with the room for all that it will ever have: no other call of it takes memory.
-    /// Refused by `NoMemory` where there is no such room.
+    /// A ring with no entry, and with the room for all that it will ever have: no other call of it
+    /// takes memory. Refused by `NoMemory` where there is no such room.
     pub fn new(alloc: Global) -> Result<Self, Refusal>
         ensures empty { IfOk result (λ ring. ring ≡ []) }
         ensures refused { IsOkUnless result Refusal.NoMemory }
@@ -55,9 +56,10 @@ impl Ring {
         Ok(Ring { entries, frames: 0 })
     }
 
-    /// Puts the entry last; its length is 1 to 1,048,576 frames. Exactly where there are 255 entries, the ring stays as
-    /// it is and the entry comes back (Linux 5.15 `drivers/iommu/iova.c`: `queue_iova`, which flushes and drains a full
-    /// ring itself; that the entry comes back is our own).
+    /// Puts the entry last; its length is 1 to 1,048,576 frames. Exactly where there are 255
+    /// entries, the ring stays as it is and the entry comes back (Linux 5.15
+    /// `drivers/iommu/iova.c`: `queue_iova`, which flushes and drains a full ring itself; that the
+    /// entry comes back is our own).
     #[inline(always)]
     pub fn add(&mut self, entry: Entry) -> Result<(), Entry>
         requires some { 1 ≤ entry.len }
@@ -76,9 +78,9 @@ impl Ring {
         Ok(())
     }
 
-    /// Takes the oldest entry, exactly where its count is below `finish`, the finish count of the flushes; else the ring
-    /// stays as it is. A caller drains a ring by calling this until it answers `None`
-    /// (Linux 5.15 `drivers/iommu/iova.c`: `fq_ring_free`).
+    /// Takes the oldest entry, exactly where its count is below `finish`, the finish count of the
+    /// flushes; else the ring stays as it is. A caller drains a ring by calling this until it
+    /// answers `None` (Linux 5.15 `drivers/iommu/iova.c`: `fq_ring_free`).
     #[inline]
     pub fn take_flushed(&mut self, finish: u64) -> Option<Entry>
         ensures oldest { IfSome result (λ entry. self.old ≡ entry ∷ self.new) }
@@ -142,7 +144,8 @@ impl Ring {
         self.len() == MAX_ENTRIES
     }
 
-    /// How many frames the entries have together. The number is kept, so that this walks over nothing.
+    /// How many frames the entries have together. The number is kept, so that this walks over
+    /// nothing.
     #[inline]
     pub fn frames(&self) -> u64
         ensures is { result ≡ frame_count self.now }

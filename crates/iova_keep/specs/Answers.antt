@@ -39,10 +39,12 @@ ReadsHoldings w id old new result s =
 -- Single holds of the others.
 
 abbrev pub UnmapsFirst : SeatState → ℕ → ℕ → Option Reply → Option Reply → State → State → Type 0
-UnmapsFirst seat id lo o begun s t = Does (UnmapFirst (step.Unmap seat.worker id lo) seat.held o begun) s t
+UnmapsFirst seat id lo o begun s t =
+    Does (UnmapFirst (step.Unmap seat.worker id lo) seat.held o begun) s t
 
 abbrev pub UnmapsAgain : SeatState → ℕ → ℕ → ℕ → Bool → Option Reply → State → State → Type 0
-UnmapsAgain seat id lo n ok o s t = Does (UnmapAgain (step.Unmap seat.worker id lo) seat.held n ok o) s t
+UnmapsAgain seat id lo n ok o s t =
+    Does (UnmapAgain (step.Unmap seat.worker id lo) seat.held n ok o) s t
 
 abbrev pub Begins : Option Reply → State → State → Type 0
 Begins begun s t = MatchOption begun ⊥ (λ b. Takes s step.Begin b t)
@@ -50,27 +52,38 @@ Begins begun s t = MatchOption begun ⊥ (λ b. Takes s step.Begin b t)
 abbrev pub Ends : ℕ → Bool → Option Reply → State → State → Type 0
 Ends n ok o s t = MatchOption o ⊥ (λ r. Takes s (step.End n ok) r t)
 
-abbrev pub ClosesFirst : SeatState → Totals → ℕ → Option Reply → Option Reply → State → State → Type 0
-ClosesFirst seat left id o begun s t = Does (CloseFirst (step.CloseOne seat.worker id) seat.held left o begun) s t
+abbrev pub ClosesFirst : SeatState → Totals → ℕ → Option Reply → Option Reply → State → State
+    → Type 0
+ClosesFirst seat left id o begun s t =
+    Does (CloseFirst (step.CloseOne seat.worker id) seat.held left o begun) s t
 
-abbrev pub ClosesAgain : SeatState → Totals → ℕ → ℕ → Bool → Option Reply → Option Reply → State → State → Type 0
-ClosesAgain seat left id n ok o begun s t = Does (CloseAgain (step.CloseOne seat.worker id) n ok seat.held left o begun) s t
+abbrev pub ClosesAgain : SeatState → Totals → ℕ → ℕ → Bool → Option Reply → Option Reply → State
+    → State → Type 0
+ClosesAgain seat left id n ok o begun s t =
+    Does (CloseAgain (step.CloseOne seat.worker id) n ok seat.held left o begun) s t
 
 -- a tally rises by the flush that the hold's End ended well, where it wasn't refused
 abbrev pub RaisesByEnd : ℕ → ℕ → ℕ → Bool → State → State → Type 0
-RaisesByEnd old new n ok s t = (r : Reply) × (mid : State) × Takes s (step.End n ok) r mid × (new ≡ old + ended_well (step.End n ok) r)
+RaisesByEnd old new n ok s t =
+    (r : Reply) × (mid : State) × Takes s (step.End n ok) r mid
+    × (new ≡ old + ended_well (step.End n ok) r)
 
 -- so many holdings are left to the client
 abbrev pub Leaves : ℕ → ℕ → State → State → Type 0
 Leaves id left s t = left ≡ left_of id t
 
--- Calls of several holds, with the calls of the sink between them: the domain's number, and the sink's calls before and after.
+-- Calls of several holds, with the calls of the sink between them: the domain's number, and the
+-- sink's calls before and after.
 
 abbrev pub UnmapsWith : Step → Totals → Reply → ℕ → List Call → List Call → List Event → Type 0
-UnmapsWith st held r number before now es = Unmap st held r es × (now ≡ before ++ sink_calls number es)
+UnmapsWith st held r number before now es =
+    Unmap st held r es × (now ≡ before ++ sink_calls number es)
 
-abbrev pub DoesUnmap : SeatState → ℕ → ℕ → Result Frames Refusal → ℕ → List Call → List Call → State → State → Type 0
-DoesUnmap seat id lo result number before now s t = Does (UnmapsWith (step.Unmap seat.worker id lo) seat.held (queued_or result) number before now) s t
+abbrev pub DoesUnmap : SeatState → ℕ → ℕ → Result Frames Refusal → ℕ → List Call → List Call → State
+    → State → Type 0
+DoesUnmap seat id lo result number before now s t =
+    Does (UnmapsWith (step.Unmap seat.worker id lo) seat.held (queued_or result) number before now)
+    s t
 
 abbrev pub FlushesWith : Result ℕ Refusal → ℕ → List Call → List Call → List Event → Type 0
 FlushesWith result number before now es = Flush result es × (now ≡ before ++ sink_calls number es)
@@ -78,22 +91,32 @@ FlushesWith result number before now es = Flush result es × (now ≡ before ++ 
 abbrev pub DoesFlush : Result ℕ Refusal → ℕ → List Call → List Call → State → State → Type 0
 DoesFlush result number before now s t = Does (FlushesWith result number before now) s t
 
-abbrev pub RestWith : SeatState → Totals → ℕ → ℕ → Bool → Option Reply → Option Reply → ℕ → List Call → List Call → List Event → Type 0
+abbrev pub RestWith : SeatState → Totals → ℕ → ℕ → Bool → Option Reply → Option Reply → ℕ
+    → List Call → List Call → List Event → Type 0
 RestWith seat left id n ok o begun number before now es =
-    CloseRest (step.CloseOne seat.worker id) n seat.held left ok o begun es × (now ≡ before ++ sink_calls number es)
+    CloseRest (step.CloseOne seat.worker id) n seat.held left ok o begun es
+    × (now ≡ before ++ sink_calls number es)
 
-abbrev pub DoesRest : SeatState → Totals → ℕ → ℕ → Bool → Option Reply → Option Reply → ℕ → List Call → List Call → State → State → Type 0
-DoesRest seat left id n ok o begun number before now s t = Does (RestWith seat left id n ok o begun number before now) s t
+abbrev pub DoesRest : SeatState → Totals → ℕ → ℕ → Bool → Option Reply → Option Reply → ℕ
+    → List Call → List Call → State → State → Type 0
+DoesRest seat left id n ok o begun number before now s t =
+    Does (RestWith seat left id n ok o begun number before now) s t
 
-abbrev pub EndsWith : SeatState → Totals → ℕ → ℕ → Result Ending Refusal → ℕ → List Call → List Call → List Event → Type 0
+abbrev pub EndsWith : SeatState → Totals → ℕ → ℕ → Result Ending Refusal → ℕ → List Call → List Call
+    → List Event → Type 0
 EndsWith seat left id remains result number before now es =
-    EndClient (step.CloseOne seat.worker id) seat.held left remains result es × (now ≡ before ++ sink_calls number es)
+    EndClient (step.CloseOne seat.worker id) seat.held left remains result es
+    × (now ≡ before ++ sink_calls number es)
 
-abbrev pub DoesEndClient : SeatState → Totals → ℕ → Result Ending Refusal → ℕ → List Call → List Call → State → State → Type 0
-DoesEndClient seat left id result number before now s t = Does (EndsWith seat left id (left_of id t) result number before now) s t
+abbrev pub DoesEndClient : SeatState → Totals → ℕ → Result Ending Refusal → ℕ → List Call
+    → List Call → State → State → Type 0
+DoesEndClient seat left id result number before now s t =
+    Does (EndsWith seat left id (left_of id t) result number before now) s t
 
 abbrev pub TimesOutWith : ℕ → ℕ → Result ℕ Refusal → ℕ → List Call → List Call → List Event → Type 0
-TimesOutWith workers queued result number before now es = Timeout workers queued result es × (now ≡ before ++ sink_calls number es)
+TimesOutWith workers queued result number before now es =
+    Timeout workers queued result es × (now ≡ before ++ sink_calls number es)
 
 abbrev pub DoesTimeout : Result ℕ Refusal → ℕ → List Call → List Call → State → State → Type 0
-DoesTimeout result number before now s t = Does (TimesOutWith s.workers (counts s).ring result number before now) s t
+DoesTimeout result number before now s t =
+    Does (TimesOutWith s.workers (counts s).ring result number before now) s t

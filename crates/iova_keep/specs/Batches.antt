@@ -16,8 +16,8 @@ use Rattle.iova_keep.specs.Steps.{Takes}
 use Rattle.iova_keep.specs.Views.{SeatState, IsAllocRefusal, IsUnmapRefusal, IsGivenTo, stat_of}
 use Rattle.iova_keep.specs.Events.{Does, Unmapping}
 
--- what may be told of an ask: a request is given a range of its own, or refused; what is freed begins where it was
--- asked, and where the ring is full nothing is told
+-- what may be told of an ask: a request is given a range of its own, or refused; what is freed
+-- begins where it was asked, and where the ring is full nothing is told
 abbrev pub IsToldOf : Ask → Told → Type 0
 IsToldOf (ask.Alloc frames limit) (told.Given r) = IsGivenTo frames limit r
 IsToldOf (ask.Alloc frames limit) (told.Refused e) = IsAllocRefusal e
@@ -57,21 +57,24 @@ pub record TellsReply (a : Ask) (r : Reply) (before now : List Told) : Type 0 wh
   pub of_ask : IsToldOf a told
 
 -- One ask is done, and what is told of it appended.
-pub record TellsOne (w id : ℕ) (a : Ask) (before now : List Told) (held left : Totals) (s t : State) : Type 0 where
+pub record TellsOne (w id : ℕ) (a : Ask) (before now : List Told) (held left : Totals)
+    (s t : State) : Type 0 where
   pub told : Told
   pub appended : now ≡ before ++ told ∷ []
   pub of_ask : IsToldOf a told
   pub moves : MovesTold told held left
   pub does : DoesAsk w id a told held s t
 
--- A batch stops at a free whose ring is full, and there it has changed nothing but what that step did.
+-- A batch stops at a free whose ring is full, and there it has changed nothing but what that step
+-- did.
 abbrev pub StopsAt : ℕ → ℕ → List Ask → Totals → State → State → Type 0
 StopsAt w id [] held s t = t ≡ s
 StopsAt w id (ask.Free lo ∷ asks) held s t =
     Does (Unmapping (step.Unmap w id lo) held (reply.Refused refusal.RingFull)) s t
 StopsAt w id (a ∷ asks) held s t = ⊥
 
--- The asks are done in order, and told so; where some are left, the next one is a free whose ring is full.
+-- The asks are done in order, and told so; where some are left, the next one is a free whose ring
+-- is full.
 abbrev pub DoesAsks : ℕ → ℕ → List Ask → List Told → Totals → Totals → State → State → Type 0
 DoesAsks w id asks [] held left s t = StopsAt w id asks held s t × (left ≡ held)
 DoesAsks w id [] (x ∷ xs) held left s t = ⊥
@@ -93,14 +96,16 @@ ToldOfAsks (a ∷ asks) (x ∷ xs) held left =
     (now : Totals) × IsToldOf a x × MovesTold x held now × ToldOfAsks asks xs now left
 
 -- so many asks were done, and what is told of them appended
-pub record Batched (w id : ℕ) (asks : List Ask) (before now : List Told) (count : ℕ) (held left : Totals) (s t : State)
+pub record Batched (w id : ℕ) (asks : List Ask) (before now : List Told) (count : ℕ)
+    (held left : Totals) (s t : State)
     : Type 0 where
   pub more : List Told
   pub appended : now ≡ before ++ more
   pub counted : length more ≡ count
   pub does : DoesAsks w id asks more held left s t
 
-pub record TellsAsks (asks : List Ask) (before now : List Told) (count : ℕ) (held left : Totals) : Type 0 where
+pub record TellsAsks (asks : List Ask) (before now : List Told) (count : ℕ)
+    (held left : Totals) : Type 0 where
   pub more : List Told
   pub appended : now ≡ before ++ more
   pub counted : length more ≡ count
@@ -119,8 +124,10 @@ may_do true asks = before_free asks
 may_do false asks = asks
 
 -- a batch that is refused has done nothing
-abbrev pub DoesBatch : Bool → SeatState → Totals → ℕ → List Ask → List Told → List Told → Result ℕ Refusal → State
+abbrev pub DoesBatch : Bool → SeatState → Totals → ℕ → List Ask → List Told → List Told
+    → Result ℕ Refusal → State
     → State → Type 0
 DoesBatch strict seat left id asks before now result s t =
-    MatchResult result (λ count. Batched seat.worker id (may_do strict asks) before now count seat.held left s t)
+    MatchResult result (λ count. Batched seat.worker id (may_do strict asks) before now count
+    seat.held left s t)
     (λ e. t ≡ s)

@@ -18,8 +18,8 @@ use Rattle.iova_keep.specs.declared.ending.Ending.TheVariants as ending
 use Rattle.iova_keep.specs.declared.ending.Why.TheVariants as why
 use Rattle.iova_keep.specs.Views.{Lacks, IsUnknown}
 
--- What happens in a call: a step is run and answered; a step is not run, since the seat has these totals and the range
--- that would be queued is more; the sink is told of a flush, and answers.
+-- What happens in a call: a step is run and answered; a step is not run, since the seat has these
+-- totals and the range that would be queued is more; the sink is told of a flush, and answers.
 pub data Event : Type 0 where
   Ran : Step → Reply → Event
   NotRun : Step → Totals → Event
@@ -49,25 +49,30 @@ pub record Does (Allowed : List Event → Type 0) (s t : State) : Type 0 where
   pub allowed : Allowed events
   pub leads : Leads s events t
 
--- an unmap or a step of a closing at a seat: it is run; or it is not, and heard as refused by NotHeld
+-- an unmap or a step of a closing at a seat: it is run; or it is not, and heard as refused by
+-- NotHeld
 pub data Unmapping (st : Step) (held : Totals) : Reply → List Event → Type 0 where
   run : (r : Reply) → Unmapping st held r (Ran st r ∷ [])
   not_run : Unmapping st held (reply.Refused refusal.NotHeld) (NotRun st held ∷ [])
 
 -- The first hold of an unmap: where the ring is full, a flush begins in it.
-pub data UnmapFirst (st : Step) (held : Totals) : Option Reply → Option Reply → List Event → Type 0 where
-  tried : (r : Reply) (es : List Event) → r ≢ reply.Refused refusal.RingFull → Unmapping st held r es
+pub data UnmapFirst (st : Step) (held : Totals) : Option Reply → Option Reply → List Event
+    → Type 0 where
+  tried : (r : Reply) (es : List Event) → r ≢ reply.Refused refusal.RingFull
+      → Unmapping st held r es
       → UnmapFirst st held (Some r) None es
   full : (begin : Reply)
       → UnmapFirst st held (Some (reply.Refused refusal.RingFull)) (Some begin)
       (Ran st (reply.Refused refusal.RingFull) ∷ Ran step.Begin begin ∷ [])
 
 -- The second hold: the flush ends, and the unmap is tried again.
-pub data UnmapAgain (st : Step) (held : Totals) (n : ℕ) (ok : Bool) : Option Reply → List Event → Type 0 where
+pub data UnmapAgain (st : Step) (held : Totals) (n : ℕ) (ok : Bool) : Option Reply → List Event
+    → Type 0 where
   again : (end r : Reply) (es : List Event) → Unmapping st held r es
       → UnmapAgain st held n ok (Some r) (Ran (step.End n ok) end ∷ es)
 
--- An unmap: one hold; or, where the ring is full and a flush begins, two with a call of the sink between them.
+-- An unmap: one hold; or, where the ring is full and a flush begins, two with a call of the sink
+-- between them.
 pub data Unmap (st : Step) (held : Totals) : Reply → List Event → Type 0 where
   once : (r : Reply) (es : List Event) → UnmapFirst st held (Some r) None es → Unmap st held r es
   not_begun : (e : Refusal)
@@ -75,62 +80,76 @@ pub data Unmap (st : Step) (held : Totals) : Reply → List Event → Type 0 whe
       (Ran st (reply.Refused refusal.RingFull) ∷ Ran step.Begin (reply.Refused e) ∷ [])
   flushed : (n : ℕ) (ok : Bool) (r : Reply) (es : List Event) → UnmapAgain st held n ok (Some r) es
       → Unmap st held r
-      (Ran st (reply.Refused refusal.RingFull) ∷ Ran step.Begin (reply.Begun n) ∷ Invalidated n ok ∷ es)
+      (Ran st (reply.Refused refusal.RingFull) ∷ Ran step.Begin (reply.Begun n) ∷ Invalidated n
+      ok ∷ es)
 
 -- A flush: it begins, the sink is told, and it ends as the sink answered.
 pub data Flush : Result ℕ Refusal → List Event → Type 0 where
   refused : (e : Refusal) → Flush (Err e) (Ran step.Begin (reply.Refused e) ∷ [])
   done : (n : ℕ) (end : Reply)
-      → Flush (Ok n) (Ran step.Begin (reply.Begun n) ∷ Invalidated n true ∷ Ran (step.End n true) end ∷ [])
+      → Flush (Ok n) (Ran step.Begin (reply.Begun n) ∷ Invalidated n true ∷ Ran (step.End n true)
+      end ∷ [])
   failed : (n : ℕ) (end : Reply)
       → Flush (Err refusal.SinkFault)
       (Ran step.Begin (reply.Begun n) ∷ Invalidated n false ∷ Ran (step.End n false) end ∷ [])
 
--- Closings of one client, at a seat that has `held` and is left with `left`: ranges are queued, one step each, until a
--- step queues none; that one's reply is the last.
+-- Closings of one client, at a seat that has `held` and is left with `left`: ranges are queued, one
+-- step each, until a step queues none; that one's reply is the last.
 pub data Closing (st : Step) : Totals → Totals → Reply → List Event → Type 0 where
-  stops : (held left : Totals) (r : Reply) (es : List Event) → left ≡ held → ((q : Frames) → r ≢ reply.Queued q)
+  stops : (held left : Totals) (r : Reply) (es : List Event) → left ≡ held
+      → ((q : Frames) → r ≢ reply.Queued q)
       → Unmapping st held r es → Closing st held left r es
   queues : (held mid left : Totals) (q : Frames) (r : Reply) (es : List Event)
       → held ≡ add_totals mid (totals_of (q ∷ [])) → Closing st mid left r es
       → Closing st held left r (Ran st (reply.Queued q) ∷ es)
 
 -- The first hold of a client's end: closings; where the ring is full, a flush begins in it.
-pub data CloseFirst (st : Step) (held left : Totals) : Option Reply → Option Reply → List Event → Type 0 where
-  closed : (r : Reply) (es : List Event) → r ≢ reply.Refused refusal.RingFull → Closing st held left r es
-      → CloseFirst st held left (Some r) None es
-  closed_full : (begin : Reply) (es : List Event) → Closing st held left (reply.Refused refusal.RingFull) es
-      → CloseFirst st held left (Some (reply.Refused refusal.RingFull)) (Some begin) (es ++ Ran step.Begin begin ∷ [])
-
--- Each further hold: the flush ends, and then as the first one; but where the ring is full before a range was queued,
--- it stops there.
-pub data CloseAgain (st : Step) (n : ℕ) (ok : Bool) (held left : Totals) : Option Reply → Option Reply → List Event
+pub data CloseFirst (st : Step) (held left : Totals) : Option Reply → Option Reply → List Event
     → Type 0 where
-  closed_again : (end r : Reply) (es : List Event) → r ≢ reply.Refused refusal.RingFull → Closing st held left r es
+  closed : (r : Reply) (es : List Event) → r ≢ reply.Refused refusal.RingFull
+      → Closing st held left r es
+      → CloseFirst st held left (Some r) None es
+  closed_full : (begin : Reply) (es : List Event)
+      → Closing st held left (reply.Refused refusal.RingFull) es
+      → CloseFirst st held left (Some (reply.Refused refusal.RingFull)) (Some begin)
+      (es ++ Ran step.Begin begin ∷ [])
+
+-- Each further hold: the flush ends, and then as the first one; but where the ring is full before a
+-- range was queued, it stops there.
+pub data CloseAgain (st : Step) (n : ℕ) (ok : Bool) (held left : Totals) : Option Reply
+    → Option Reply → List Event
+    → Type 0 where
+  closed_again : (end r : Reply) (es : List Event) → r ≢ reply.Refused refusal.RingFull
+      → Closing st held left r es
       → CloseAgain st n ok held left (Some r) None (Ran (step.End n ok) end ∷ es)
   full_at_once : (end : Reply) (es : List Event) → left.count ≡ held.count
       → Closing st held left (reply.Refused refusal.RingFull) es
-      → CloseAgain st n ok held left (Some (reply.Refused refusal.RingFull)) None (Ran (step.End n ok) end ∷ es)
+      → CloseAgain st n ok held left (Some (reply.Refused refusal.RingFull)) None
+      (Ran (step.End n ok) end ∷ es)
   full_again : (end begin : Reply) (es : List Event) → left.count < held.count
       → Closing st held left (reply.Refused refusal.RingFull) es
       → CloseAgain st n ok held left (Some (reply.Refused refusal.RingFull)) (Some begin)
       (Ran (step.End n ok) end ∷ (es ++ Ran step.Begin begin ∷ []))
 
--- All further holds, from the call of the sink for flush n on. The last of them is after a flush that its sink answered
--- so, and was heard so.
-pub data CloseRest (st : Step) : ℕ → Totals → Totals → Bool → Option Reply → Option Reply → List Event → Type 0 where
+-- All further holds, from the call of the sink for flush n on. The last of them is after a flush
+-- that its sink answered so, and was heard so.
+pub data CloseRest (st : Step) : ℕ → Totals → Totals → Bool → Option Reply → Option Reply
+    → List Event → Type 0 where
   last : (n : ℕ) (ok : Bool) (held left : Totals) (o b : Option Reply) (es : List Event)
       → CloseAgain st n ok held left o b es
       → CloseRest st n held left ok o b (Invalidated n ok ∷ es)
-  another : (n m : ℕ) (ok well : Bool) (held mid left : Totals) (o b : Option Reply) (es fs : List Event)
-      → CloseAgain st n ok held mid (Some (reply.Refused refusal.RingFull)) (Some (reply.Begun m)) es
+  another : (n m : ℕ) (ok well : Bool) (held mid left : Totals) (o b : Option Reply)
+      (es fs : List Event)
+      → CloseAgain st n ok held mid (Some (reply.Refused refusal.RingFull)) (Some (reply.Begun m))
+      es
       → CloseRest st m mid left well o b fs
       → CloseRest st n held left well o b (Invalidated n ok ∷ (es ++ fs))
 
--- What a client's end is answered, by what its last hold heard: how many ranges were queued, how many the client has
--- left, how the sink answered the flush before that hold, if one was, and the replies of the last closing and of a
--- Begin after it.
-pub data Answered (queued left : ℕ) (flushed : Option Bool) : Option Reply → Option Reply → Result Ending Refusal
+-- What a client's end is answered, by what its last hold heard: how many ranges were queued, how
+-- many the client has left, how the sink answered the flush before that hold, if one was, and the
+-- replies of the last closing and of a Begin after it.
+pub data Answered (queued left : ℕ) (flushed : Option Bool) : Option Reply → Option Reply
+    → Result Ending Refusal
     → Type 0 where
   ended : Answered queued left flushed (Some reply.Empty) None (Ok (ending.Ended queued))
   unknown : (e : Refusal) → IsUnknown e → queued ≡ 0
@@ -138,30 +157,36 @@ pub data Answered (queued left : ℕ) (flushed : Option Bool) : Option Reply →
   -- the client was there and is gone; no run comes to it
   gone : (e : Refusal) → IsUnknown e → 1 ≤ queued
       → Answered queued left flushed (Some (reply.Refused e)) None (Ok (ending.Ended queued))
-  share : Answered queued left flushed (Some (reply.Refused refusal.NotHeld)) None (Ok (ending.Waiting left why.Share))
+  share : Answered queued left flushed (Some (reply.Refused refusal.NotHeld)) None
+      (Ok (ending.Waiting left why.Share))
   sink_failed : flushed ≡ Some false
       → Answered queued left flushed (Some (reply.Refused refusal.RingFull)) None
       (Ok (ending.Waiting left why.SinkFailed))
   overlap : flushed ≡ Some true
-      → Answered queued left flushed (Some (reply.Refused refusal.RingFull)) None (Ok (ending.Waiting left why.Overlap))
+      → Answered queued left flushed (Some (reply.Refused refusal.RingFull)) None
+      (Ok (ending.Waiting left why.Overlap))
   flights_full : Answered queued left flushed (Some (reply.Refused refusal.RingFull))
       (Some (reply.Refused refusal.FlightsFull)) (Ok (ending.Waiting left why.FlightsFull))
-  worn : Answered queued left flushed (Some (reply.Refused refusal.RingFull)) (Some (reply.Refused refusal.Worn))
+  worn : Answered queued left flushed (Some (reply.Refused refusal.RingFull))
+      (Some (reply.Refused refusal.Worn))
       (Ok (ending.Waiting left why.Worn))
 
--- A client's end: one hold; or, where the ring is full and a flush begins, further ones with a call of the sink before
--- each. `remains` is how many ranges the client has left.
-pub data EndClient (st : Step) (held left : Totals) (remains : ℕ) : Result Ending Refusal → List Event → Type 0 where
+-- A client's end: one hold; or, where the ring is full and a flush begins, further ones with a call
+-- of the sink before each. `remains` is how many ranges the client has left.
+pub data EndClient (st : Step) (held left : Totals) (remains : ℕ) : Result Ending Refusal
+    → List Event → Type 0 where
   in_one_hold : (queued : ℕ) (o b : Option Reply) (result : Result Ending Refusal) (es : List Event)
       → held.count ≡ left.count + queued
       → CloseFirst st held left o b es → Answered queued remains None o b result
       → EndClient st held left remains result es
-  in_more : (queued n : ℕ) (ok : Bool) (mid : Totals) (o b : Option Reply) (result : Result Ending Refusal)
+  in_more : (queued n : ℕ) (ok : Bool) (mid : Totals) (o b : Option Reply)
+      (result : Result Ending Refusal)
       (es fs : List Event)
       → held.count ≡ left.count + queued
       → CloseFirst st held mid (Some (reply.Refused refusal.RingFull)) (Some (reply.Begun n)) es
       → CloseRest st n mid left ok o b fs
-      → Answered queued remains (Some ok) o b result → EndClient st held left remains result (es ++ fs)
+      → Answered queued remains (Some ok) o b result
+      → EndClient st held left remains result (es ++ fs)
 
 -- Rings are drained in turn, all by one worker, which frees so many entries.
 pub data Draining (by : ℕ) : List ℕ → ℕ → List Event → Type 0 where
@@ -176,15 +201,18 @@ rings_from q (suc n) = q ∷ rings_from (q + 1) n
 
 -- All rings are drained, where there is such a worker.
 pub data DrainAll (workers by : ℕ) : Result ℕ Refusal → List Event → Type 0 where
-  drained : (freed : ℕ) (es : List Event) → by < workers → Draining by (rings_from 0 workers) freed es
+  drained : (freed : ℕ) (es : List Event) → by < workers
+      → Draining by (rings_from 0 workers) freed es
       → DrainAll workers by (Ok freed) es
   no_worker : workers ≤ by
-      → DrainAll workers by (Err refusal.NoWorker) (Ran (step.Drain 0 by) (reply.Refused refusal.NoWorker) ∷ [])
+      → DrainAll workers by (Err refusal.NoWorker)
+      (Ran (step.Drain 0 by) (reply.Refused refusal.NoWorker) ∷ [])
 
--- A flusher's round: nothing where no ring has a frame; else a flush, and where it ended well all rings are drained by
--- worker 0.
+-- A flusher's round: nothing where no ring has a frame; else a flush, and where it ended well all
+-- rings are drained by worker 0.
 pub data Timeout (workers queued : ℕ) : Result ℕ Refusal → List Event → Type 0 where
   idle : queued ≡ 0 → Timeout workers queued (Ok 0) []
-  not_flushed : (e : Refusal) (es : List Event) → 1 ≤ queued → Flush (Err e) es → Timeout workers queued (Err e) es
+  not_flushed : (e : Refusal) (es : List Event) → 1 ≤ queued → Flush (Err e) es
+      → Timeout workers queued (Err e) es
   flushed_and_drained : (n freed : ℕ) (es fs : List Event) → 1 ≤ queued → Flush (Ok n) es
       → DrainAll workers 0 (Ok freed) fs → Timeout workers queued (Ok freed) (es ++ fs)

@@ -6,8 +6,8 @@ use Rattle.iova_model.specs.declared.step.Point.{Point}
 use Rattle.iova_model.specs.State.{State, new_domain}
 use Rattle.iova_model.specs.Transcript.{Pair, IsTranscript, after}
 
--- the steps of a domain with their points and replies, oldest first, whether it still takes more, and for how many
--- there is room
+-- the steps of a domain with their points and replies, oldest first, whether it still takes more,
+-- and for how many there is room
 pub record StepLog : Type 0 where
   pub recording : Bool
   pub room : ℕ
@@ -17,8 +17,8 @@ pub record StepLog : Type 0 where
 abbrev pub new_log : ℕ → StepLog
 new_log room = record { recording = true; room = room; pairs = [] }
 
--- A pair comes to a log. Where that records and has room, the pair is appended and it goes on; else the list stays, and
--- it records no more.
+-- A pair comes to a log. Where that records and has room, the pair is appended and it goes on; else
+-- the list stays, and it records no more.
 abbrev pub StoresPair : StepLog → Pair → StepLog → Type 0
 StoresPair old pair new =
     ((old.recording ≡ true) × (length old.pairs < old.room)
@@ -35,8 +35,8 @@ Stores (Some old) pair new = MatchOption new ⊥ (StoresPair old pair)
 abbrev pub StoresStep : Option StepLog → Step → Reply → Option StepLog → Type 0
 StoresStep old st r new = (m : Point) × Stores old (record { step = st; point = m; reply = r }) new
 
--- What any steps make of a log: more pairs are appended, and its room stays. It ends only where it is full, and from
--- then on it stays as it is.
+-- What any steps make of a log: more pairs are appended, and its room stays. It ends only where it
+-- is full, and from then on it stays as it is.
 pub record LogGoesOn (old new : StepLog) : Type 0 where
   pub more : List Pair
   pub appended : new.pairs ≡ old.pairs ++ more
@@ -49,7 +49,8 @@ pub data GoesOn : Option StepLog → Option StepLog → Type 0 where
   unrecorded : GoesOn None None
   recorded : (old new : StepLog) → LogGoesOn old new → GoesOn (Some old) (Some new)
 
--- The pairs have room, and are a transcript from the new domain. While recording, they leave the state.
+-- The pairs have room, and are a transcript from the new domain. While recording, they leave the
+-- state.
 pub record IsLogOf (log : StepLog) (s : State) : Type 0 where
   pub fits : length log.pairs ≤ log.room
   pub transcript : IsTranscript (new_domain s.bounds s.workers) log.pairs

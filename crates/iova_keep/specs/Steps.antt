@@ -11,8 +11,8 @@ use Rattle.iova_model.specs.declared.step.Point.{Point}
 use Rattle.iova_model.specs.State.{State}
 use Rattle.iova_model.specs.Next.{next}
 
--- The step is answered so and leaves this state, at some memory point. It stays folded above this crate's one door to
--- the domain: what is known of a step there are the laws.
+-- The step is answered so and leaves this state, at some memory point. It stays folded above this
+-- crate's one door to the domain: what is known of a step there are the laws.
 unfoldable pub Takes : State → Step → Reply → State → Type 0
 Takes s st r t = (m : Point) × (r ≡ (next s st m).reply) × (t ≡ (next s st m).state)
 
@@ -22,9 +22,12 @@ IsGivenWithin (step.Alloc w id frames limit) (reply.Given r) =
     (r.len ≡ need frames) × (r.lo % align_of r.len ≡ 0) × (r.lo + r.len ≤ limit + 1)
 IsGivenWithin st r = Unit {0}
 
--- A drain is refused where there is no such ring or worker, and else frees at most a ring of entries.
+-- A drain is refused where there is no such ring or worker, and else frees at most a ring of
+-- entries.
 abbrev pub IsDrainReply : ℕ → Step → Reply → Type 0
-IsDrainReply workers (step.Drain q by) (reply.Drained n) = (n ≤ MAX_ENTRIES) × (q < workers) × (by < workers)
-IsDrainReply workers (step.Drain q by) (reply.Refused e) = (e ≡ refusal.NoWorker) × ((workers ≤ q) ⊎ (workers ≤ by))
+IsDrainReply workers (step.Drain q by) (reply.Drained n) =
+    (n ≤ MAX_ENTRIES) × (q < workers) × (by < workers)
+IsDrainReply workers (step.Drain q by) (reply.Refused e) =
+    (e ≡ refusal.NoWorker) × ((workers ≤ q) ⊎ (workers ≤ by))
 IsDrainReply workers (step.Drain q by) r = ⊥
 IsDrainReply workers st r = Unit {0}

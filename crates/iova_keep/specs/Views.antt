@@ -42,7 +42,12 @@ nothing = totals_of []
 
 -- a worker's new seat
 abbrev pub new_seat : ℕ → SeatState
-new_seat worker = record { worker = worker; held = record { count = 0; frames = 0; sum_lo = 0 }; tally = record { good = 0; parts = TALLY_PARTS } }
+new_seat worker =
+    record {
+      worker = worker;
+      held = record { count = 0; frames = 0; sum_lo = 0 };
+      tally = record { good = 0; parts = TALLY_PARTS };
+    }
 
 -- the new seats of the workers below a number
 abbrev pub new_seats : ℕ → List SeatState
@@ -57,9 +62,10 @@ Lacks held r = (held.count < 1) ⊎ (held.frames < r.len) ⊎ (held.sum_lo < r.l
 abbrev pub Covers : Totals → Frames → Type 0
 Covers held r = (1 ≤ held.count) × (r.len ≤ held.frames) × (r.lo ≤ held.sum_lo)
 
--- What each domain keeps: no limit of a list is passed, the numbers of the flushes are sound, and the counts of each ring rise
--- up to the start count; each frame is in one place; what somebody has is inside the bounds, and aligned unless it is a window;
--- the counts add up to the bounds; and the totals are the sums of all workers' shares.
+-- What each domain keeps: no limit of a list is passed, the numbers of the flushes are sound, and
+-- the counts of each ring rise up to the start count; each frame is in one place; what somebody has
+-- is inside the bounds, and aligned unless it is a window; the counts add up to the bounds; and the
+-- totals are the sums of all workers' shares.
 pub record IsKept (s : State) : Type 0 where
   pub valid : IsValid s
   pub one_place : OnePlace s
@@ -130,14 +136,17 @@ abbrev pub IsOpenRefusal : Refusal → Type 0
 IsOpenRefusal e = IsAmong e (refusal.Worn ∷ refusal.ClientsFull ∷ refusal.NoMemory ∷ [])
 
 abbrev pub IsReserveRefusal : Refusal → Type 0
-IsReserveRefusal e = IsAmong e (refusal.BadWindow ∷ refusal.Taken ∷ refusal.WindowsFull ∷ refusal.NoMemory ∷ [])
+IsReserveRefusal e =
+    IsAmong e (refusal.BadWindow ∷ refusal.Taken ∷ refusal.WindowsFull ∷ refusal.NoMemory ∷ [])
 
 abbrev pub IsAllocRefusal : Refusal → Type 0
 IsAllocRefusal e =
-    IsAmong e (refusal.Zero ∷ refusal.TooBig ∷ refusal.NoClient ∷ refusal.Closing ∷ refusal.HoldingsFull ∷ refusal.NoMemory ∷ refusal.NoSpace ∷ [])
+    IsAmong e (refusal.Zero ∷ refusal.TooBig ∷ refusal.NoClient ∷ refusal.Closing
+    ∷ refusal.HoldingsFull ∷ refusal.NoMemory ∷ refusal.NoSpace ∷ [])
 
 abbrev pub IsUnmapRefusal : Refusal → Type 0
-IsUnmapRefusal e = IsAmong e (refusal.NoClient ∷ refusal.Closing ∷ refusal.NotHeld ∷ refusal.RingFull ∷ [])
+IsUnmapRefusal e =
+    IsAmong e (refusal.NoClient ∷ refusal.Closing ∷ refusal.NotHeld ∷ refusal.RingFull ∷ [])
 
 abbrev pub IsBeginRefusal : Refusal → Type 0
 IsBeginRefusal e = IsAmong e (refusal.FlightsFull ∷ refusal.Worn ∷ [])
@@ -153,9 +162,11 @@ IsUnknown e = e ≡ refusal.NoClient
 abbrev pub IsCloseRefusal : Refusal → Type 0
 IsCloseRefusal e = IsUnknown e ⊎ (e ≡ refusal.NotHeld) ⊎ (e ≡ refusal.RingFull)
 
--- what is given to a request of so many frames with this limit: as many as it needs, aligned to their size, and none above
+-- what is given to a request of so many frames with this limit: as many as it needs, aligned to
+-- their size, and none above
 abbrev pub IsGivenTo : ℕ → ℕ → Frames → Type 0
-IsGivenTo frames limit r = (r.len ≡ need frames) × (r.lo % align_of r.len ≡ 0) × (r.lo + r.len ≤ limit + 1)
+IsGivenTo frames limit r =
+    (r.len ≡ need frames) × (r.lo % align_of r.len ≡ 0) × (r.lo + r.len ≤ limit + 1)
 
 -- What a hold may be heard to answer.
 
@@ -205,7 +216,8 @@ IsLowered ranges old new = old ≡ add_totals new (totals_of ranges)
 
 -- some ranges were queued, whose totals these are, and the shares lowered by them
 abbrev pub Lowers : Totals → Totals → Totals → Type 0
-Lowers queued old new = (ranges : List Frames) × (queued ≡ totals_of ranges) × IsLowered ranges old new
+Lowers queued old new =
+    (ranges : List Frames) × (queued ≡ totals_of ranges) × IsLowered ranges old new
 
 -- so many ranges are told of where all were queued, and none is where the call was refused
 abbrev pub Tells : Result Ending Refusal → ℕ → Type 0
@@ -213,9 +225,11 @@ Tells (Ok (ending.Ended queued)) count = queued ≡ count
 Tells (Ok (ending.Waiting left why)) count = Unit {0}
 Tells (Err e) count = (count ≡ 0) × IsUnknown e
 
--- a client's end queues some ranges, lowers the shares by them, and tells how many where it has ended
+-- a client's end queues some ranges, lowers the shares by them, and tells how many where it has
+-- ended
 abbrev pub LowersTold : Result Ending Refusal → Totals → Totals → Type 0
-LowersTold result old new = (ranges : List Frames) × IsLowered ranges old new × Tells result (length ranges)
+LowersTold result old new =
+    (ranges : List Frames) × IsLowered ranges old new × Tells result (length ranges)
 
 -- a seat's shares move as its last reply says
 abbrev pub MovesHeard : Option Reply → Totals → Totals → Type 0

@@ -14,9 +14,10 @@ use iova_range::refusal::Refusal;
 use iova_sink::sink::Sink;
 use std::sync::ledger::Ledger;
 
-/// Begins a flush, calls the sink, and ends the flush as the sink answered. It gives the flush's number, which the sink was
-/// told with the domain's in its last call. Refused by `FlightsFull` and `Worn` where none begins, and then the sink isn't
-/// called; by `SinkFault` where the sink failed. Linux 5.15 drivers/iommu/iova.c: fq_flush_iotlb; failures are our own.
+/// Begins a flush, calls the sink, and ends the flush as the sink answered. It gives the flush's
+/// number, which the sink was told with the domain's in its last call. Refused by `FlightsFull` and
+/// `Worn` where none begins, and then the sink isn't called; by `SinkFault` where the sink failed.
+/// Linux 5.15 drivers/iommu/iova.c: fq_flush_iotlb; failures are our own.
 pub fn flush<C: Ledger, F: Ledger, S: Ledger, G: Ledger, K: Keep<C, F, S, G>, D: Sink>(
     keeper: &mut K,
     tally: &mut Tally<G>,
@@ -30,7 +31,8 @@ pub fn flush<C: Ledger, F: Ledger, S: Ledger, G: Ledger, K: Keep<C, F, S, G>, D:
         × (D.calls sink.new ≡ D.calls
         sink.old ++ Invalidation (K.domain_number keeper.old) no false ∷ []) }
     ensures refusal { IfErr result IsFlushRefusal }
-    ensures tally { RisesWithin tally.old.good tally.new.good (D.calls sink.old) (D.calls sink.new) }
+    ensures tally { RisesWithin tally.old.good tally.new.good (D.calls sink.old)
+        (D.calls sink.new) }
     ensures parts { tally.new.parts ≡ tally.old.parts }
     ensures number { K.domain_number keeper.new ≡ K.domain_number keeper.old }
     ensures strict { K.strict keeper.new ≡ K.strict keeper.old }
@@ -53,9 +55,10 @@ pub fn flush<C: Ledger, F: Ledger, S: Ledger, G: Ledger, K: Keep<C, F, S, G>, D:
     if ok { Ok(no) } else { Err(Refusal::SinkFault) }
 }
 
-/// Unmaps the client's range that begins at `lo`: it leaves the client, and waits in the worker's ring for a flush. Where the
-/// ring is full, it flushes and tries once more. Refused by `NoClient`, `Closing` and `NotHeld`, and by `RingFull` where the
-/// ring stays full or no flush begins; then the range is still the client's. Own.
+/// Unmaps the client's range that begins at `lo`: it leaves the client, and waits in the worker's
+/// ring for a flush. Where the ring is full, it flushes and tries once more. Refused by `NoClient`,
+/// `Closing` and `NotHeld`, and by `RingFull` where the ring stays full or no flush begins; then
+/// the range is still the client's. Own.
 pub fn unmap<C: Ledger, F: Ledger, S: Ledger, G: Ledger, K: Keep<C, F, S, G>, D: Sink>(
     keeper: &mut K,
     seat: &mut Seat<C, F, S, G>,
@@ -64,11 +67,13 @@ pub fn unmap<C: Ledger, F: Ledger, S: Ledger, G: Ledger, K: Keep<C, F, S, G>, D:
     lo: u64,
 ) -> Result<Range, Refusal>
     ensures domain { WhereKnown (K.domain keeper.old) (K.domain keeper.new)
-        (DoesUnmap seat.old id lo result (K.domain_number keeper.old) (D.calls sink.old) (D.calls sink.new)) }
+        (DoesUnmap seat.old id lo result (K.domain_number keeper.old) (D.calls sink.old)
+        (D.calls sink.new)) }
     ensures answer { MatchResult result (λ r. r.lo ≡ lo) IsUnmapRefusal }
     ensures seat { MovesTotals (queued_or result) seat.old.held seat.new.held }
     ensures worker { seat.new.worker ≡ seat.old.worker }
-    ensures tally { RisesWithin seat.old.tally.good seat.new.tally.good (D.calls sink.old) (D.calls sink.new) }
+    ensures tally { RisesWithin seat.old.tally.good seat.new.tally.good (D.calls sink.old)
+        (D.calls sink.new) }
     ensures parts { seat.new.tally.parts ≡ seat.old.tally.parts }
     ensures number { K.domain_number keeper.new ≡ K.domain_number keeper.old }
     ensures strict { K.strict keeper.new ≡ K.strict keeper.old }
@@ -89,10 +94,11 @@ pub fn unmap<C: Ledger, F: Ledger, S: Ledger, G: Ledger, K: Keep<C, F, S, G>, D:
     answer(lo, keeper.unmap_again(seat, id, lo, no, ok).reply)
 }
 
-/// A flusher's round: where any ring has an entry it flushes, and where the flush ended well it drains all rings into the
-/// magazines of worker 0 and gives how many entries that freed. With all rings empty it gives 0 and the sink isn't called.
-/// Refused by `FlightsFull`, `Worn` and `SinkFault`; then nothing is drained. Linux 5.15 drivers/iommu/iova.c:
-/// fq_flush_timeout; the test for entries is our own.
+/// A flusher's round: where any ring has an entry it flushes, and where the flush ended well it
+/// drains all rings into the magazines of worker 0 and gives how many entries that freed. With all
+/// rings empty it gives 0 and the sink isn't called. Refused by `FlightsFull`, `Worn` and
+/// `SinkFault`; then nothing is drained. Linux 5.15 drivers/iommu/iova.c: fq_flush_timeout; the
+/// test for entries is our own.
 pub fn timeout<C: Ledger, F: Ledger, S: Ledger, G: Ledger, K: Keep<C, F, S, G>, D: Sink>(
     keeper: &mut K,
     tally: &mut Tally<G>,
@@ -103,7 +109,8 @@ pub fn timeout<C: Ledger, F: Ledger, S: Ledger, G: Ledger, K: Keep<C, F, S, G>, 
     ensures refusal { IfErr result IsFlushRefusal }
     ensures fault { result ≡ Err Refusal.SinkFault
         → failed_calls (D.calls sink.old) < failed_calls (D.calls sink.new) }
-    ensures tally { RisesWithin tally.old.good tally.new.good (D.calls sink.old) (D.calls sink.new) }
+    ensures tally { RisesWithin tally.old.good tally.new.good (D.calls sink.old)
+        (D.calls sink.new) }
     ensures parts { tally.new.parts ≡ tally.old.parts }
     ensures number { K.domain_number keeper.new ≡ K.domain_number keeper.old }
     ensures strict { K.strict keeper.new ≡ K.strict keeper.old }

@@ -16,10 +16,11 @@ use iova_range::refusal::Refusal;
 use iova_sink::sink::Sink;
 use std::sync::ledger::Ledger;
 
-/// Ends a client: it is closing from now on, and its ranges are unmapped, lowest first, until it is gone. Where the worker's
-/// ring is full it flushes and goes on. `Waiting` where the ring stays full right after a flush, where none can begin, or
-/// where a share would fall below 0; the client stays closing then, keeps what is left, and may be ended again. Refused by
-/// `NoClient`; then nothing has changed. Own.
+/// Ends a client: it is closing from now on, and its ranges are unmapped, lowest first, until it is
+/// gone. Where the worker's ring is full it flushes and goes on. `Waiting` where the ring stays
+/// full right after a flush, where none can begin, or where a share would fall below 0; the client
+/// stays closing then, keeps what is left, and may be ended again. Refused by `NoClient`; then
+/// nothing has changed. Own.
 pub fn end_client<C: Ledger, F: Ledger, S: Ledger, G: Ledger, K: Keep<C, F, S, G>, D: Sink>(
     keeper: &mut K,
     seat: &mut Seat<C, F, S, G>,
@@ -27,13 +28,15 @@ pub fn end_client<C: Ledger, F: Ledger, S: Ledger, G: Ledger, K: Keep<C, F, S, G
     id: ClientId,
 ) -> Result<Ending, Refusal>
     ensures domain { WhereKnown (K.domain keeper.old) (K.domain keeper.new)
-        (DoesEndClient seat.old seat.new.held id result (K.domain_number keeper.old) (D.calls sink.old)
+        (DoesEndClient seat.old seat.new.held id result (K.domain_number keeper.old)
+        (D.calls sink.old)
         (D.calls sink.new)) }
     ensures shares { LowersTold result seat.old.held seat.new.held }
     ensures fault { (left : ℕ) → result ≡ Ok (Ending.Waiting left Why.SinkFailed)
         → failed_calls (D.calls sink.old) < failed_calls (D.calls sink.new) }
     ensures worker { seat.new.worker ≡ seat.old.worker }
-    ensures tally { RisesWithin seat.old.tally.good seat.new.tally.good (D.calls sink.old) (D.calls sink.new) }
+    ensures tally { RisesWithin seat.old.tally.good seat.new.tally.good (D.calls sink.old)
+        (D.calls sink.new) }
     ensures parts { seat.new.tally.parts ≡ seat.old.tally.parts }
     ensures number { K.domain_number keeper.new ≡ K.domain_number keeper.old }
     ensures strict { K.strict keeper.new ≡ K.strict keeper.old }
@@ -67,15 +70,18 @@ fn close_rest<C: Ledger, F: Ledger, S: Ledger, G: Ledger, K: Keep<C, F, S, G>, D
     ensures domain { WhereKnown (K.domain keeper.old) (K.domain keeper.new)
         (DoesRest seat.old seat.new.held id no result.ok result.heard.reply result.heard.begun
         (K.domain_number keeper.old) (D.calls sink.old) (D.calls sink.new)) }
-    ensures left { WhereKnown (K.domain keeper.old) (K.domain keeper.new) (Leaves id result.heard.left) }
+    ensures left { WhereKnown (K.domain keeper.old) (K.domain keeper.new)
+        (Leaves id result.heard.left) }
     ensures shares { (ranges : List Frames) × IsLowered ranges seat.old.held seat.new.held }
     ensures heard { IsCloseHeard result.heard.reply }
     ensures begun { IsBeginHeard result.heard.reply result.heard.begun }
     ensures none { (no : ℕ) → result.heard.begun ≢ Some (Reply.Begun no) }
     ensures failed { failed_calls (D.calls sink.old) ≤ failed_calls (D.calls sink.new) }
-    ensures fault { result.ok ≡ false → failed_calls (D.calls sink.old) < failed_calls (D.calls sink.new) }
+    ensures fault { result.ok ≡ false → failed_calls (D.calls sink.old) < failed_calls
+        (D.calls sink.new) }
     ensures worker { seat.new.worker ≡ seat.old.worker }
-    ensures tally { RisesWithin seat.old.tally.good seat.new.tally.good (D.calls sink.old) (D.calls sink.new) }
+    ensures tally { RisesWithin seat.old.tally.good seat.new.tally.good (D.calls sink.old)
+        (D.calls sink.new) }
     ensures parts { seat.new.tally.parts ≡ seat.old.tally.parts }
     ensures number { K.domain_number keeper.new ≡ K.domain_number keeper.old }
     ensures strict { K.strict keeper.new ≡ K.strict keeper.old }
@@ -100,13 +106,14 @@ pub(crate) fn flush_begun(heard: &Heard) -> Option<u64>
     }
 }
 
-/// What ending a client is answered, by what its last hold heard: `queued` ranges were queued in all, and `flushed` is how
-/// the sink answered the flush before that hold, if one was.
+/// What ending a client is answered, by what its last hold heard: `queued` ranges were queued in
+/// all, and `flushed` is how the sink answered the flush before that hold, if one was.
 fn ending(queued: u64, flushed: Option<bool>, heard: Heard) -> Result<Ending, Refusal>
     requires heard { IsCloseHeard heard.reply }
     requires begun { IsBeginHeard heard.reply heard.begun }
     requires none { (no : ℕ) → heard.begun ≢ Some (Reply.Begun no) }
-    requires first { flushed ≡ None → heard.begun ≡ None → heard.reply ≢ Some (Reply.Refused Refusal.RingFull) }
+    requires first { flushed ≡ None → heard.begun ≡ None
+        → heard.reply ≢ Some (Reply.Refused Refusal.RingFull) }
     ensures { Answered queued heard.left flushed heard.reply heard.begun result }
 {
     let Heard {
@@ -182,8 +189,8 @@ fn still_full(flushed: Option<bool>) -> Why
     }
 }
 
-/// What ending a client is answered where there is no such client. One whose ranges were queued before was there, and is
-/// gone; no run comes to that.
+/// What ending a client is answered where there is no such client. One whose ranges were queued
+/// before was there, and is gone; no run comes to that.
 fn unknown(queued: u64, refusal: Refusal) -> Result<Ending, Refusal>
     ensures { MatchBool (queued == 0) (result ≡ Err refusal) (result ≡ Ok (Ending.Ended queued)) }
 {

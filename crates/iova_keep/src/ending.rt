@@ -18,7 +18,8 @@ pub enum Why {
     Overlap,
     /// The worker's ring is full, and no flush can begin, since 32 are in flight.
     FlightsFull,
-    /// The worker's ring is full, and no flush can begin any more, since the start count is at its last value.
+    /// The worker's ring is full, and no flush can begin any more, since the start count is at its
+    /// last value.
     Worn,
     /// The seat's shares are less than the range to be queued. No run comes to this.
     Share,

@@ -35,11 +35,11 @@ pub struct Heard {
     pub left: u64,
 }
 
-/// A keeper of a domain. Each call but `number` is one hold of it: its steps are run together, and nothing else runs between
-/// them. Own.
+/// A keeper of a domain. Each call but `number` is one hold of it: its steps are run together, and
+/// nothing else runs between them. Own.
 ///
-/// Where the domain is known, a call says what it leaves. Of every keeper a call says what it answers and how it moves the
-/// seat's shares and tally.
+/// Where the domain is known, a call says what it leaves. Of every keeper a call says what it
+/// answers and how it moves the seat's shares and tally.
 pub trait Keep<C: Ledger, F: Ledger, S: Ledger, G: Ledger> {
     /// The domain, where that is known.
     ghost domain: { Self → Option State };
@@ -50,20 +50,22 @@ pub trait Keep<C: Ledger, F: Ledger, S: Ledger, G: Ledger> {
     /// Whether the domain is strict, where it is known.
     ghost strict: { Self → Bool };
 
-    /// What is recorded of its steps, where that is known. No call ends the recording before it is full, and then it is over for
-    /// good.
+    /// What is recorded of its steps, where that is known. No call ends the recording before it is
+    /// full, and then it is over for good.
     ghost log: { Self → Option StepLog };
 
     /// The domain's number. It takes no hold.
     fn number(&self) -> u64
         ensures { result ≡ domain_number self.now };
 
-    /// A domain that is known keeps what each domain keeps. It takes no hold, and does nothing: it is there for proofs.
+    /// A domain that is known keeps what each domain keeps. It takes no hold, and does nothing: it
+    /// is there for proofs.
     fn domain_is_kept(&self)
         ensures { IfSome (domain self.now) IsKept };
 
-    /// Makes one window of the frames `lo` to `hi`, both inside the bounds, and of all windows that overlap them, and gives it.
-    /// Refused by `BadWindow`, `Taken`, `WindowsFull` and `NoMemory`; then nothing has changed. No seat has a share in it.
+    /// Makes one window of the frames `lo` to `hi`, both inside the bounds, and of all windows that
+    /// overlap them, and gives it. Refused by `BadWindow`, `Taken`, `WindowsFull` and `NoMemory`;
+    /// then nothing has changed. No seat has a share in it.
     fn reserve(&mut self, lo: u64, hi: u64) -> Result<Range, Refusal>
         ensures number { domain_number self.new ≡ domain_number self.old }
         ensures strict { strict self.new ≡ strict self.old }
@@ -71,18 +73,20 @@ pub trait Keep<C: Ledger, F: Ledger, S: Ledger, G: Ledger> {
         ensures domain { WhereKnown (domain self.old) (domain self.new) (Reserves lo hi result) }
         ensures refusal { IfErr result IsReserveRefusal };
 
-    /// Opens a client of the seat's worker, which is first sought places below 4 GiB where it is `sac`. Refused by `Worn`,
-    /// `ClientsFull` and `NoMemory`; then nothing has changed.
+    /// Opens a client of the seat's worker, which is first sought places below 4 GiB where it is
+    /// `sac`. Refused by `Worn`, `ClientsFull` and `NoMemory`; then nothing has changed.
     fn open(&mut self, seat: &mut Seat<C, F, S, G>, sac: bool) -> Result<ClientId, Refusal>
         ensures number { domain_number self.new ≡ domain_number self.old }
         ensures strict { strict self.new ≡ strict self.old }
         ensures log { GoesOn (log self.old) (log self.new) }
-        ensures domain { WhereKnown (domain self.old) (domain self.new) (Opens seat.old.worker sac result) }
+        ensures domain { WhereKnown (domain self.old) (domain self.new)
+            (Opens seat.old.worker sac result) }
         ensures refusal { IfErr result IsOpenRefusal }
         ensures seat { seat.new ≡ seat.old };
 
-    /// Gives the client a range of as many frames as `frames` needs, none above `limit`. Refused by `Zero`, `TooBig`,
-    /// `NoClient`, `Closing`, `HoldingsFull`, `NoMemory` and `NoSpace`; then the client has nothing new.
+    /// Gives the client a range of as many frames as `frames` needs, none above `limit`. Refused by
+    /// `Zero`, `TooBig`, `NoClient`, `Closing`, `HoldingsFull`, `NoMemory` and `NoSpace`; then the
+    /// client has nothing new.
     fn alloc(
         &mut self,
         seat: &mut Seat<C, F, S, G>,
@@ -113,8 +117,8 @@ pub trait Keep<C: Ledger, F: Ledger, S: Ledger, G: Ledger> {
         ensures queued { MatchOption result.reply ⊥ (λ r. result.queued ≡ queued_by r) }
         ensures begun { IsBeginHeard result.reply result.begun };
 
-    /// The second hold of an unmap: the flush ends, as `ok` says, and the unmap is tried again. `ok` is what a sink answered
-    /// for this flush.
+    /// The second hold of an unmap: the flush ends, as `ok` says, and the unmap is tried again.
+    /// `ok` is what a sink answered for this flush.
     fn unmap_again(
         &mut self,
         seat: &mut Seat<C, F, S, G>,
@@ -150,7 +154,8 @@ pub trait Keep<C: Ledger, F: Ledger, S: Ledger, G: Ledger> {
         ensures heard { MatchOption result.begun ⊥ (λ b. IsReplyTo Step.Begin b) }
         ensures none { (result.reply ≡ None) × (result.queued ≡ nothing) × (result.left ≡ 0) };
 
-    /// The second hold of a flush: it ends, as `ok` says. Refused by `NoFlight`. `ok` is what a sink answered for this flush.
+    /// The second hold of a flush: it ends, as `ok` says. Refused by `NoFlight`. `ok` is what a
+    /// sink answered for this flush.
     fn end(&mut self, tally: &mut Tally<G>, no: u64, ok: bool) -> Heard
         ensures number { domain_number self.new ≡ domain_number self.old }
         ensures strict { strict self.new ≡ strict self.old }
@@ -162,8 +167,8 @@ pub trait Keep<C: Ledger, F: Ledger, S: Ledger, G: Ledger> {
         ensures heard { MatchOption result.reply ⊥ (λ r. IsReplyTo (Step.End no ok) r) }
         ensures none { (result.begun ≡ None) × (result.queued ≡ nothing) × (result.left ≡ 0) };
 
-    /// The first hold of a client's end: its ranges are queued, lowest first, until it is gone or a step is refused; where
-    /// the ring is full, a flush begins.
+    /// The first hold of a client's end: its ranges are queued, lowest first, until it is gone or a
+    /// step is refused; where the ring is full, a flush begins.
     fn close_first(&mut self, seat: &mut Seat<C, F, S, G>, id: ClientId) -> Heard
         ensures number { domain_number self.new ≡ domain_number self.old }
         ensures strict { strict self.new ≡ strict self.old }
@@ -177,8 +182,9 @@ pub trait Keep<C: Ledger, F: Ledger, S: Ledger, G: Ledger> {
         ensures begun { IsBeginHeard result.reply result.begun }
         ensures full { result.begun ≡ None → result.reply ≢ Some (Reply.Refused Refusal.RingFull) };
 
-    /// A further hold of a client's end: the flush ends, as `ok` says, and then as the first one; but where the ring is full
-    /// before a range was queued, no flush begins. `ok` is what a sink answered for this flush.
+    /// A further hold of a client's end: the flush ends, as `ok` says, and then as the first one;
+    /// but where the ring is full before a range was queued, no flush begins. `ok` is what a sink
+    /// answered for this flush.
     fn close_again(&mut self, seat: &mut Seat<C, F, S, G>, id: ClientId, no: u64, ok: bool) -> Heard
         ensures number { domain_number self.new ≡ domain_number self.old }
         ensures strict { strict self.new ≡ strict self.old }
@@ -197,7 +203,8 @@ pub trait Keep<C: Ledger, F: Ledger, S: Ledger, G: Ledger> {
         ensures begun { IsBeginHeard result.reply result.begun }
         ensures goes_on { result.begun ≢ None → seat.new.held.count < seat.old.held.count };
 
-    /// The first hold of a release: an unmap; where the ring is full, or a range was queued in a strict domain, a flush begins.
+    /// The first hold of a release: an unmap; where the ring is full, or a range was queued in a
+    /// strict domain, a flush begins.
     fn release_first(&mut self, seat: &mut Seat<C, F, S, G>, id: ClientId, lo: u64) -> Heard
         ensures number { domain_number self.new ≡ domain_number self.old }
         ensures strict { strict self.new ≡ strict self.old }
@@ -211,8 +218,9 @@ pub trait Keep<C: Ledger, F: Ledger, S: Ledger, G: Ledger> {
         ensures queued { MatchOption result.reply ⊥ (λ r. result.queued ≡ queued_by r) }
         ensures begun { IsReleaseBegin result.reply result.begun };
 
-    /// The hold of a release after a ring that was full: the flush ends, as `ok` says, and the unmap is tried again; where it
-    /// queued a range in a strict domain, a second flush begins. `ok` is what a sink answered for the first one.
+    /// The hold of a release after a ring that was full: the flush ends, as `ok` says, and the
+    /// unmap is tried again; where it queued a range in a strict domain, a second flush begins.
+    /// `ok` is what a sink answered for the first one.
     fn release_again(
         &mut self,
         seat: &mut Seat<C, F, S, G>,
@@ -238,13 +246,15 @@ pub trait Keep<C: Ledger, F: Ledger, S: Ledger, G: Ledger> {
         ensures queued { MatchOption result.reply ⊥ (λ r. result.queued ≡ queued_by r) }
         ensures begun { IsSecondBegin result.reply result.begun };
 
-    /// The last hold of a release, after a range that was queued: the flush ends, as `ok` says, and the worker's ring is
-    /// drained. Whether the finish count is at least the flush's number then. `ok` is what a sink answered for this flush.
+    /// The last hold of a release, after a range that was queued: the flush ends, as `ok` says, and
+    /// the worker's ring is drained. Whether the finish count is at least the flush's number then.
+    /// `ok` is what a sink answered for this flush.
     fn release_last(&mut self, seat: &mut Seat<C, F, S, G>, no: u64, ok: bool) -> bool
         ensures number { domain_number self.new ≡ domain_number self.old }
         ensures strict { strict self.new ≡ strict self.old }
         ensures log { GoesOn (log self.old) (log self.new) }
-        ensures domain { WhereKnown (domain self.old) (domain self.new) (ReleasesLast seat.old no ok result) }
+        ensures domain { WhereKnown (domain self.old) (domain self.new)
+            (ReleasesLast seat.old no ok result) }
         ensures seat { (seat.new.worker ≡ seat.old.worker) × (seat.new.held ≡ seat.old.held) }
         ensures good { (seat.old.tally.good ≤ seat.new.tally.good)
             × (seat.new.tally.good ≤ seat.old.tally.good + (if ok then 1 else 0)) }
@@ -252,9 +262,9 @@ pub trait Keep<C: Ledger, F: Ledger, S: Ledger, G: Ledger> {
             (RaisesByEnd seat.old.tally.good seat.new.tally.good no ok) }
         ensures parts { seat.new.tally.parts ≡ seat.old.tally.parts };
 
-    /// Drains every ring, 0 first, into the magazines of worker `by`, and gives how many entries that frees. Refused by
-    /// `NoWorker`, where the domain has no such worker; then nothing has changed. Worker 0 is there in every domain, and so is
-    /// that of each seat.
+    /// Drains every ring, 0 first, into the magazines of worker `by`, and gives how many entries
+    /// that frees. Refused by `NoWorker`, where the domain has no such worker; then nothing has
+    /// changed. Worker 0 is there in every domain, and so is that of each seat.
     fn drain_all(&mut self, by: u64) -> Result<u64, Refusal>
         ensures number { domain_number self.new ≡ domain_number self.old }
         ensures strict { strict self.new ≡ strict self.old }
@@ -264,9 +274,9 @@ pub trait Keep<C: Ledger, F: Ledger, S: Ledger, G: Ledger> {
         ensures known { by < C.parts → IsOk result }
         ensures first { by ≡ 0 → IsOk result };
 
-    /// Does the asks in order, in one hold, and stops before the first free whose ring is full, in a strict domain before the
-    /// first free. It answers how many were done, and appends what is told of each. Refused by `NoMemory` where there is no
-    /// room for that; then nothing was done.
+    /// Does the asks in order, in one hold, and stops before the first free whose ring is full, in
+    /// a strict domain before the first free. It answers how many were done, and appends what is
+    /// told of each. Refused by `NoMemory` where there is no room for that; then nothing was done.
     fn batch(
         &mut self,
         seat: &mut Seat<C, F, S, G>,
@@ -279,15 +289,19 @@ pub trait Keep<C: Ledger, F: Ledger, S: Ledger, G: Ledger> {
         ensures strict { strict self.new ≡ strict self.old }
         ensures log { GoesOn (log self.old) (log self.new) }
         ensures domain { WhereKnown (domain self.old) (domain self.new)
-            (DoesBatch (strict self.old) seat.old seat.new.held id asks.now told.old.items told.new.items result) }
-        ensures told { IfOk result (λ n. TellsAsks asks.now told.old.items told.new.items n seat.old.held
+            (DoesBatch (strict self.old) seat.old seat.new.held id asks.now told.old.items
+            told.new.items result) }
+        ensures told { IfOk result (λ n. TellsAsks asks.now told.old.items told.new.items n
+            seat.old.held
             seat.new.held) }
-        ensures memory { IfErr result (λ e. (e ≡ Refusal.NoMemory) × (told.new.items ≡ told.old.items)
+        ensures memory { IfErr result (λ e. (e ≡ Refusal.NoMemory)
+            × (told.new.items ≡ told.old.items)
             × (seat.new ≡ seat.old)) }
         ensures rest { (seat.new.worker ≡ seat.old.worker) × (seat.new.tally ≡ seat.old.tally) };
 
-    /// Appends the holdings of the seat's client, at most 4,096, rising by first frame. Refused by `NoClient` and `NoMemory`;
-    /// then nothing is appended. With room for 4,096 more it takes no memory.
+    /// Appends the holdings of the seat's client, at most 4,096, rising by first frame. Refused by
+    /// `NoClient` and `NoMemory`; then nothing is appended. With room for 4,096 more it takes no
+    /// memory.
     fn holdings(
         &self,
         seat: &Seat<C, F, S, G>,
@@ -296,9 +310,11 @@ pub trait Keep<C: Ledger, F: Ledger, S: Ledger, G: Ledger> {
     ) -> Result<(), Refusal>
         ensures domain { IfSome (domain self.now)
             (ReadsHoldings seat.now.worker id ranges.old.items ranges.new.items result) }
-        ensures ok { IfOk result (λ u. (more : List Frames) × (ranges.new.items ≡ ranges.old.items ++ more) × Rises 0 more) }
+        ensures ok { IfOk result (λ u. (more : List Frames)
+            × (ranges.new.items ≡ ranges.old.items ++ more) × Rises 0 more) }
         ensures most { length ranges.new.items ≤ length ranges.old.items + MAX_HOLDINGS }
-        ensures room { vec_len ranges.old + MAX_HOLDINGS ≤ vec_capacity ranges.old → result ≢ Err Refusal.NoMemory }
+        ensures room { vec_len ranges.old + MAX_HOLDINGS ≤ vec_capacity ranges.old
+            → result ≢ Err Refusal.NoMemory }
         ensures capacity { vec_capacity ranges.old ≤ vec_capacity ranges.new }
         ensures err { IfErr result (λ e. ((e ≡ Refusal.NoClient) ⊎ (e ≡ Refusal.NoMemory))
             × (ranges.new.items ≡ ranges.old.items)) };

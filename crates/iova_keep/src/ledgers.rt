@@ -15,8 +15,9 @@ use std::marker::Model;
 use std::sync::ledger;
 use std::sync::ledger::{Blank, Ledger, Share};
 
-/// The totals over all holdings of a domain, and how many of its flushes ended well. It takes no memory: only proofs see it.
-/// Whoever keeps a domain has its ledgers beside it, and moves a seat's shares with them. Own.
+/// The totals over all holdings of a domain, and how many of its flushes ended well. It takes no
+/// memory: only proofs see it. Whoever keeps a domain has its ledgers beside it, and moves a seat's
+/// shares with them. Own.
 pub struct Ledgers<C: Ledger, F: Ledger, S: Ledger, G: Ledger> {
     count: ledger::Book<C>,
     frames: ledger::Book<F>,
@@ -58,9 +59,12 @@ impl<C: Ledger, F: Ledger, S: Ledger, G: Ledger> Ledgers<C, F, S, G> {
         good: Blank,
     ) -> Result<(Ledgers<C, F, S, G>, Vec<Seat<C, F, S, G>>), Refusal>
         requires count { (count.name ≡ C.name) × (count.parts ≡ C.parts) × (count.parts ≡ workers) }
-        requires frames { (frames.name ≡ F.name) × (frames.parts ≡ F.parts) × (frames.parts ≡ workers) }
-        requires sum_lo { (sum_lo.name ≡ S.name) × (sum_lo.parts ≡ S.parts) × (sum_lo.parts ≡ workers) }
-        requires good { (good.name ≡ G.name) × (good.parts ≡ G.parts) × (good.parts ≡ TALLY_PARTS * workers) }
+        requires frames { (frames.name ≡ F.name) × (frames.parts ≡ F.parts)
+            × (frames.parts ≡ workers) }
+        requires sum_lo { (sum_lo.name ≡ S.name) × (sum_lo.parts ≡ S.parts)
+            × (sum_lo.parts ≡ workers) }
+        requires good { (good.name ≡ G.name) × (good.parts ≡ G.parts)
+            × (good.parts ≡ TALLY_PARTS * workers) }
         requires workers { workers ≤ MAX_WORKERS }
         ensures ok { IfOk result (λ r. (r.0 ≡ record { shares = nothing; ended = 0 })
             × (r.1.items ≡ new_seats workers)) }
@@ -155,7 +159,8 @@ impl<C: Ledger, F: Ledger, S: Ledger, G: Ledger> Ledgers<C, F, S, G> {
         requires framed { framed.old.parts ≡ F.parts }
         requires summed { summed.old.parts ≡ S.parts }
         ensures same { self.new ≡ self.old }
-        ensures sums { (self.old.shares.count ≡ counted.old.amount) × (self.old.shares.frames ≡ framed.old.amount)
+        ensures sums { (self.old.shares.count ≡ counted.old.amount)
+            × (self.old.shares.frames ≡ framed.old.amount)
             × (self.old.shares.sum_lo ≡ summed.old.amount) }
     {
         self.count.audit(counted);

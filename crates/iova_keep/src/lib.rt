@@ -1,4 +1,5 @@
-//! What keeps a domain, hold by hold, for a seat of each worker, and the calls of several holds that are made of these.
+//! What keeps a domain, hold by hold, for a seat of each worker, and the calls of several holds
+//! that are made of these.
 #![tactic(auto)]
 
 pub mod ask;

@@ -1,5 +1,5 @@
-//! An unmap that in a strict domain waits for a flush of its own, over any keeper. The sink runs between two holds, never in
-//! one.
+//! An unmap that in a strict domain waits for a flush of its own, over any keeper. The sink runs
+//! between two holds, never in one.
 ghost use Rattle.std.specs.Prelude.{◌≡◌, ◌+◌, ◌≤◌, ◌++◌, ◌∷◌, [], MatchResult};
 ghost use Rattle.iova_model.specs.Laws.{MovesTotals};
 ghost use Rattle.iova_keep.specs.Views.{TallyState, SeatState, WhereKnown, RisesWithin, IsUnmapRefusal, unmapped_or, range_of};
@@ -16,13 +16,14 @@ use iova_range::refusal::Refusal;
 use iova_sink::sink::Sink;
 use std::sync::ledger::Ledger;
 
-/// Unmaps the client's range that begins at `lo`, as `unmap` does. In a strict domain it then flushes and drains the worker's
-/// ring: `Freed` where the finish count, once that flush has ended, is at least its number, so that it, or one that began
-/// later, has ended well; else `Queued`, and the range waits for a later flush, as in every other domain. It is `Freed` where
-/// the flush ended well and none is in flight that began before it; with an older one in flight, or where the flush itself
-/// failed, only if enough later ones have ended well. Where the ring is full it flushes first, and tries once more. Refused by
-/// `NoClient`, `Closing` and `NotHeld`, and by `RingFull` where the ring stays full or no flush begins; then the range is still
-/// the client's. Own.
+/// Unmaps the client's range that begins at `lo`, as `unmap` does. In a strict domain it then
+/// flushes and drains the worker's ring: `Freed` where the finish count, once that flush has ended,
+/// is at least its number, so that it, or one that began later, has ended well; else `Queued`, and
+/// the range waits for a later flush, as in every other domain. It is `Freed` where the flush ended
+/// well and none is in flight that began before it; with an older one in flight, or where the flush
+/// itself failed, only if enough later ones have ended well. Where the ring is full it flushes
+/// first, and tries once more. Refused by `NoClient`, `Closing` and `NotHeld`, and by `RingFull`
+/// where the ring stays full or no flush begins; then the range is still the client's. Own.
 pub fn release<C: Ledger, F: Ledger, S: Ledger, G: Ledger, K: Keep<C, F, S, G>, D: Sink>(
     keeper: &mut K,
     seat: &mut Seat<C, F, S, G>,
@@ -31,12 +32,14 @@ pub fn release<C: Ledger, F: Ledger, S: Ledger, G: Ledger, K: Keep<C, F, S, G>, 
     lo: u64,
 ) -> Result<Unmapped, Refusal>
     ensures domain { WhereKnown (K.domain keeper.old) (K.domain keeper.new)
-        (DoesRelease (K.strict keeper.old) seat.old id lo result (K.domain_number keeper.old) (D.calls sink.old)
+        (DoesRelease (K.strict keeper.old) seat.old id lo result (K.domain_number keeper.old)
+        (D.calls sink.old)
         (D.calls sink.new)) }
     ensures answer { MatchResult result (λ u. (range_of u).lo ≡ lo) IsUnmapRefusal }
     ensures seat { MovesTotals (unmapped_or result) seat.old.held seat.new.held }
     ensures worker { seat.new.worker ≡ seat.old.worker }
-    ensures tally { RisesWithin seat.old.tally.good seat.new.tally.good (D.calls sink.old) (D.calls sink.new) }
+    ensures tally { RisesWithin seat.old.tally.good seat.new.tally.good (D.calls sink.old)
+        (D.calls sink.new) }
     ensures parts { seat.new.tally.parts ≡ seat.old.tally.parts }
     ensures number { K.domain_number keeper.new ≡ K.domain_number keeper.old }
     ensures strict { K.strict keeper.new ≡ K.strict keeper.old }
@@ -67,7 +70,8 @@ fn try_again<C: Ledger, F: Ledger, S: Ledger, G: Ledger, K: Keep<C, F, S, G>, D:
     ensures answer { MatchResult result (λ u. (range_of u).lo ≡ lo) IsUnmapRefusal }
     ensures seat { MovesTotals (unmapped_or result) seat.old.held seat.new.held }
     ensures worker { seat.new.worker ≡ seat.old.worker }
-    ensures tally { RisesWithin seat.old.tally.good seat.new.tally.good (D.calls sink.old) (D.calls sink.new) }
+    ensures tally { RisesWithin seat.old.tally.good seat.new.tally.good (D.calls sink.old)
+        (D.calls sink.new) }
     ensures parts { seat.new.tally.parts ≡ seat.old.tally.parts }
     ensures number { K.domain_number keeper.new ≡ K.domain_number keeper.old }
     ensures strict { K.strict keeper.new ≡ K.strict keeper.old }
@@ -81,8 +85,8 @@ fn try_again<C: Ledger, F: Ledger, S: Ledger, G: Ledger, K: Keep<C, F, S, G>, D:
     }
 }
 
-/// What becomes of a range that was queued: where a flush began after it, the sink is called, and the last hold ends that
-/// flush and drains the ring.
+/// What becomes of a range that was queued: where a flush began after it, the sink is called, and
+/// the last hold ends that flush and drains the ring.
 fn follow<C: Ledger, F: Ledger, S: Ledger, G: Ledger, K: Keep<C, F, S, G>, D: Sink>(
     keeper: &mut K,
     seat: &mut Seat<C, F, S, G>,
@@ -91,12 +95,14 @@ fn follow<C: Ledger, F: Ledger, S: Ledger, G: Ledger, K: Keep<C, F, S, G>, D: Si
     begun: Option<u64>,
 ) -> Unmapped
     ensures domain { WhereKnown (K.domain keeper.old) (K.domain keeper.new)
-        (DoesFollow seat.old.worker range begun result (K.domain_number keeper.old) (D.calls sink.old)
+        (DoesFollow seat.old.worker range begun result (K.domain_number keeper.old)
+        (D.calls sink.old)
         (D.calls sink.new)) }
     ensures range { range_of result ≡ range }
     ensures held { seat.new.held ≡ seat.old.held }
     ensures worker { seat.new.worker ≡ seat.old.worker }
-    ensures tally { RisesWithin seat.old.tally.good seat.new.tally.good (D.calls sink.old) (D.calls sink.new) }
+    ensures tally { RisesWithin seat.old.tally.good seat.new.tally.good (D.calls sink.old)
+        (D.calls sink.new) }
     ensures parts { seat.new.tally.parts ≡ seat.old.tally.parts }
     ensures number { K.domain_number keeper.new ≡ K.domain_number keeper.old }
     ensures strict { K.strict keeper.new ≡ K.strict keeper.old }

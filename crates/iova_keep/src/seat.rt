@@ -7,8 +7,8 @@ use iova_range::range::Range;
 use std::marker::Model;
 use std::sync::ledger::{Ledger, Share};
 
-/// How many flushes its holder ended well, a share of all that ended well in the domain. Its parts can be split off, so that
-/// several threads of one worker end flushes. Own.
+/// How many flushes its holder ended well, a share of all that ended well in the domain. Its parts
+/// can be split off, so that several threads of one worker end flushes. Own.
 pub struct Tally<G: Ledger> {
     pub(crate) good: u64,
     pub(crate) parts: u64,
@@ -34,7 +34,8 @@ impl<G: Ledger> Model for Tally<G> {
 
     ghost view = { λ t. record { good = t.good; parts = t.parts } };
 
-    ghost invariant = { λ t. (t.share.amount ≡ t.good) × (t.share.parts ≡ t.parts) × (1 ≤ t.parts) };
+    ghost invariant = { λ t. (t.share.amount ≡ t.good) × (t.share.parts ≡ t.parts)
+        × (1 ≤ t.parts) };
 }
 
 impl<G: Ledger> Tally<G> {
@@ -80,9 +81,9 @@ impl<G: Ledger> Tally<G> {
     }
 }
 
-/// A worker's place at the domain: its shares of the count, the frames and the sum of first frames of all holdings, which
-/// each call moves by what it answers, and its tally. A seat of another domain has another type, and its worker is one of the
-/// domain's. Own.
+/// A worker's place at the domain: its shares of the count, the frames and the sum of first frames
+/// of all holdings, which each call moves by what it answers, and its tally. A seat of another
+/// domain has another type, and its worker is one of the domain's. Own.
 pub struct Seat<C: Ledger, F: Ledger, S: Ledger, G: Ledger> {
     pub(crate) worker: u64,
     pub(crate) held: Totals,
@@ -156,7 +157,8 @@ impl<C: Ledger, F: Ledger, S: Ledger, G: Ledger> Seat<C, F, S, G> {
     pub fn tally(&mut self) -> &mut Tally<G>
         ensures* writes_back { sem 𝓛 (Lends
             (the_row C.row F.row S.row G.row C.Ledger F.Ledger S.Ledger G.Ledger)
-            (tallies.the_row G.row G.Ledger) self.entry result (λ w. record self.old { tally = w })) }
+            (tallies.the_row G.row G.Ledger) self.entry result
+            (λ w. record self.old { tally = w })) }
         ensures value { result.now ≡ self.old.tally }
     {
         &mut self.tally

@@ -7,7 +7,8 @@ use iova_range::range::Range;
 pub enum Unmapped {
     /// The range is unmapped, and waits in the worker's ring for a flush.
     Queued(Range),
-    /// The range is unmapped, the finish count had reached the number of the flush that began after it once that flush had
-    /// ended, and the worker's ring was drained: that flush, or one that began later, has ended well.
+    /// The range is unmapped, the finish count had reached the number of the flush that began after
+    /// it once that flush had ended, and the worker's ring was drained: that flush, or one that
+    /// began later, has ended well.
     Freed(Range),
 }

@@ -6,8 +6,9 @@ pub fn totals_are_shares()
     ensures { TotalsAreShares }
 {}
 
-/// A range that is given raises the totals by what it is, one that is queued lowers them by that, and no other reply
-/// moves them. The share of the worker that the step names moves alike, and no other share moves.
+/// A range that is given raises the totals by what it is, one that is queued lowers them by that,
+/// and no other reply moves them. The share of the worker that the step names moves alike, and no
+/// other share moves.
 pub fn steps_move_ledgers()
     ensures { StepsMoveLedgers }
 {}

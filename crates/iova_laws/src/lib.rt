@@ -1,5 +1,5 @@
-//! The laws of the product: what follows from the definitions of `iova_model` for every state and every transcript. Each
-//! function has a law as its contract, and no body.
+//! The laws of the product: what follows from the definitions of `iova_model` for every state and
+//! every transcript. Each function has a law as its contract, and no body.
 #![tactic(auto)]
 
 pub mod closing;

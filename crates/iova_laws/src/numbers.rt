@@ -1,5 +1,5 @@
-//! The numbers of the flushes stay sound: the credits balance, the numbers in flight rise, and the finish count reaches no
-//! further than flushes that ended well.
+//! The numbers of the flushes stay sound: the credits balance, the numbers in flight rise, and the
+//! finish count reaches no further than flushes that ended well.
 ghost use Rattle.iova_model.specs.Laws.{NewFlushesAreSound, BeginsKeepFlushesSound, EndsKeepFlushesSound, OldestFlushReaches};
 
 /// With no flush in flight the numbers are sound, from wherever they count.

@@ -11,13 +11,14 @@ pub fn other_steps_take_no_memory()
     ensures { OtherStepsTakeNoMemory }
 {}
 
-/// A growth that is refused is answered so, or the step is as it would be with memory: no other reply, and no other state.
+/// A growth that is refused is answered so, or the step is as it would be with memory: no other
+/// reply, and no other state.
 pub fn points_only_refuse()
     ensures { PointsOnlyRefuse }
 {}
 
-/// A refused step leaves the state as it was, but for the caches of a request that found nothing or no memory, and for the
-/// mark of a client whose closing finds the ring full.
+/// A refused step leaves the state as it was, but for the caches of a request that found nothing or
+/// no memory, and for the mark of a client whose closing finds the ring full.
 pub fn refusals_keep_the_state()
     ensures { RefusalsKeepTheState }
 {}

@@ -1,7 +1,8 @@
 //! What a step may be answered, and what follows from the answer.
 ghost use Rattle.iova_model.specs.Laws.{StepsAreAnsweredInKind, StepsMoveGood, QueuedWereHeld, OthersKeepTheirHoldings};
 
-/// A step has answers of its own kind, and is refused by its own refusals alone; an unmap queues the range that was named.
+/// A step has answers of its own kind, and is refused by its own refusals alone; an unmap queues
+/// the range that was named.
 pub fn steps_are_answered_in_kind()
     ensures { StepsAreAnsweredInKind }
 {}

@@ -6,7 +6,8 @@ pub fn new_domains_are_valid()
     ensures { NewDomainsAreValid }
 {}
 
-/// A step from a valid state leaves a valid state, whatever it answers and whichever growth in it was refused.
+/// A step from a valid state leaves a valid state, whatever it answers and whichever growth in it
+/// was refused.
 pub fn steps_keep_validity()
     ensures { StepsKeepValidity }
 {}

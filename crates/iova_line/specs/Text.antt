@@ -1,5 +1,5 @@
--- The text of a trace: a line for its header, and one for each step. All of it is ASCII, a line ends by LF, and the words of a line
--- have one space between them. Own.
+-- The text of a trace: a line for its header, and one for each step. All of it is ASCII, a line
+-- ends by LF, and the words of a line have one space between them. Own.
 use Rattle.std.specs.Prelude.{ℕ, ◌<◌, ◌≤◌, ◌^◌, ◌==◌, Bool, true, false, List, [], ◌∷◌, codes, decimal, if◌then◌else◌}
 use Rattle.iova_range.specs.Bounds.{Extent, IsExtent, first_profile}
 use Rattle.iova_text.specs.Words.{line_text, numbers_line, kind_text}
@@ -40,7 +40,8 @@ outcome_text false = codes "fail"
 abbrev pub arguments_of : Step → List (List ℕ)
 arguments_of (step.Reserve lo hi) = decimal lo ∷ decimal hi ∷ []
 arguments_of (step.Open worker sac) = decimal worker ∷ kind_text sac ∷ []
-arguments_of (step.Alloc worker client frames limit) = decimal worker ∷ decimal client ∷ decimal frames ∷ decimal limit ∷ []
+arguments_of (step.Alloc worker client frames limit) =
+    decimal worker ∷ decimal client ∷ decimal frames ∷ decimal limit ∷ []
 arguments_of (step.Unmap worker client lo) = decimal worker ∷ decimal client ∷ decimal lo ∷ []
 arguments_of step.Begin = []
 arguments_of (step.End number ok) = decimal number ∷ outcome_text ok ∷ []
@@ -56,7 +57,8 @@ step_text s = line_text (verb_text (verb_of s)) (arguments_of s)
 abbrev pub NumbersFit : Step → Type 0
 NumbersFit (step.Reserve lo hi) = (lo < 2 ^ 64) × (hi < 2 ^ 64)
 NumbersFit (step.Open worker sac) = worker < 2 ^ 64
-NumbersFit (step.Alloc worker client frames limit) = (worker < 2 ^ 64) × (client < 2 ^ 64) × (frames < 2 ^ 64) × (limit < 2 ^ 64)
+NumbersFit (step.Alloc worker client frames limit) =
+    (worker < 2 ^ 64) × (client < 2 ^ 64) × (frames < 2 ^ 64) × (limit < 2 ^ 64)
 NumbersFit (step.Unmap worker client lo) = (worker < 2 ^ 64) × (client < 2 ^ 64) × (lo < 2 ^ 64)
 NumbersFit step.Begin = Unit {0}
 NumbersFit (step.End number ok) = number < 2 ^ 64
@@ -66,7 +68,8 @@ NumbersFit (step.CloseOne worker client) = (worker < 2 ^ 64) × (client < 2 ^ 64
 
 -- The header
 
--- the version, the bounds, the worker count, and in the second version the depot's limit: version 1 is the first profile
+-- the version, the bounds, the worker count, and in the second version the depot's limit: version 1
+-- is the first profile
 abbrev pub header_numbers : Extent → ℕ → List ℕ
 header_numbers bounds workers =
     if bounds.profile.mag == first_profile.mag
@@ -82,7 +85,8 @@ abbrev pub first_words : Extent → ℕ → List (List ℕ)
 first_words bounds workers = decimal bounds.start ∷ decimal bounds.last ∷ decimal workers ∷ []
 
 abbrev pub second_words : Extent → ℕ → List (List ℕ)
-second_words bounds workers = decimal bounds.start ∷ decimal bounds.last ∷ decimal workers ∷ decimal bounds.profile.depot ∷ []
+second_words bounds workers =
+    decimal bounds.start ∷ decimal bounds.last ∷ decimal workers ∷ decimal bounds.profile.depot ∷ []
 
 -- good bounds, and a worker count that a domain can have
 pub record IsHeader (bounds : Extent) (workers : ℕ) : Type 0 where

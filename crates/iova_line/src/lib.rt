@@ -1,4 +1,5 @@
-//! What a trace says, and the text of its lines: the header and the steps, read from lines and written to them.
+//! What a trace says, and the text of its lines: the header and the steps, read from lines and
+//! written to them.
 #![tactic(auto)]
 
 pub mod line;

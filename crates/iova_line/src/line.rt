@@ -47,7 +47,8 @@ pub struct Header {
     pub workers: u64,
 }
 
-/// The step of this line, which is without its LF. None exactly where the line is no step's. Our own.
+/// The step of this line, which is without its LF. None exactly where the line is no step's. Our
+/// own.
 pub fn read_step(line: &[u8]) -> Option<Step>
     ensures spelled { IfSome result (λ s. line.now ≡ step_text s) }
     ensures read { (s : Step) → NumbersFit s → line.now ≡ step_text s → result ≡ Some s }
@@ -58,13 +59,15 @@ pub fn read_step(line: &[u8]) -> Option<Step>
     step_of(verb, arguments)
 }
 
-/// The header of this line, which is without its LF: `iovatrace 1 <start> <last> <workers>` in the first profile,
-/// `iovatrace 2 <start> <last> <workers> <depot>` in the second. None exactly where the line is no header's, also
-/// where the depot is above 32, the bounds are none of the profile, or there are not 1 to 16 workers. Our own.
+/// The header of this line, which is without its LF: `iovatrace 1 <start> <last> <workers>` in the
+/// first profile, `iovatrace 2 <start> <last> <workers> <depot>` in the second. None exactly where
+/// the line is no header's, also where the depot is above 32, the bounds are none of the profile,
+/// or there are not 1 to 16 workers. Our own.
 pub fn read_header(line: &[u8]) -> Option<Header>
     ensures spelled { IfSome result (λ h. line.now ≡ header_text h.bounds h.workers) }
     ensures good { IfSome result (λ h. IsHeader h.bounds h.workers) }
-    ensures read { (bounds : Extent) (workers : ℕ) → IsHeader bounds workers → line.now ≡ header_text bounds workers
+    ensures read { (bounds : Extent) (workers : ℕ) → IsHeader bounds workers
+        → line.now ≡ header_text bounds workers
         → result ≡ Some (record { bounds = bounds; workers = workers }) }
     ensures all { IsNone result → (bounds : Extent) (workers : ℕ) → IsHeader bounds workers
         → line.now ≢ header_text bounds workers }
@@ -81,13 +84,14 @@ pub fn read_header(line: &[u8]) -> Option<Header>
     }
 }
 
-/// Appends the step's line with its LF: each step is one that a line may say. Refused by `NoMemory`, which appends nothing and
-/// comes only where `out` has to grow. Our own form.
+/// Appends the step's line with its LF: each step is one that a line may say. Refused by
+/// `NoMemory`, which appends nothing and comes only where `out` has to grow. Our own form.
 pub fn write_step(step: &Step, out: &mut Vec<u8>) -> Result<(), Refusal>
     ensures ok { OnOk result (out.new.items ≡ out.old.items ++ (step_text step.now ++ 10 ∷ [])) }
     ensures step { IsStep step.now }
     ensures err { OnErr result ((result ≡ Err Refusal.NoMemory) × (out.new.items ≡ out.old.items)) }
-    ensures full { OnErr result (vec_capacity out.old < vec_len out.old + (length (step_text step.now) + 1)) }
+    ensures full { OnErr result (vec_capacity out.old < vec_len
+        out.old + (length (step_text step.now) + 1)) }
 {
     // for the proof: the numbers of a step have 64 bits
     is_step(*step);
@@ -96,10 +100,11 @@ pub fn write_step(step: &Step, out: &mut Vec<u8>) -> Result<(), Refusal>
     append(out, &text)
 }
 
-/// Appends the header's line with its LF. Refused by `NoMemory`, which appends nothing and comes only where
-/// `out` has to grow. Our own form.
+/// Appends the header's line with its LF. Refused by `NoMemory`, which appends nothing and comes
+/// only where `out` has to grow. Our own form.
 pub fn write_header(bounds: &Bounds, workers: u64, out: &mut Vec<u8>) -> Result<(), Refusal>
-    ensures ok { OnOk result (out.new.items ≡ out.old.items ++ (header_text bounds.now workers ++ 10 ∷ [])) }
+    ensures ok { OnOk result (out.new.items ≡ out.old.items
+        ++ (header_text bounds.now workers ++ 10 ∷ [])) }
     ensures err { OnErr result ((result ≡ Err Refusal.NoMemory) × (out.new.items ≡ out.old.items)) }
     ensures full { OnErr result
         (vec_capacity out.old < vec_len out.old + (length (header_text bounds.now workers) + 1)) }
@@ -137,8 +142,10 @@ fn verb_named(word: &[u8]) -> Option<Verb>
 }
 
 fn step_of(verb: Verb, arguments: &[u8]) -> Option<Step>
-    ensures spelled { IfSome result (λ s. (verb_of s ≡ verb) × (arguments.now ≡ spaced_words (arguments_of s))) }
-    ensures read { (s : Step) → NumbersFit s → verb_of s ≡ verb → arguments.now ≡ spaced_words (arguments_of s)
+    ensures spelled { IfSome result (λ s. (verb_of s ≡ verb)
+        × (arguments.now ≡ spaced_words (arguments_of s))) }
+    ensures read { (s : Step) → NumbersFit s → verb_of s ≡ verb
+        → arguments.now ≡ spaced_words (arguments_of s)
         → result ≡ Some s }
 {
     match verb {
@@ -212,9 +219,11 @@ fn outcome_of(text: &[u8]) -> Option<bool>
 
 fn first_header(numbers: &[u8]) -> Option<Header>
     ensures profile { IfSome result (λ h. h.bounds.profile ≡ first_profile) }
-    ensures spelled { IfSome result (λ h. numbers.now ≡ spaced_words (first_words h.bounds h.workers)) }
+    ensures spelled { IfSome result (λ h. numbers.now
+        ≡ spaced_words (first_words h.bounds h.workers)) }
     ensures good { IfSome result (λ h. IsHeader h.bounds h.workers) }
-    ensures read { (bounds : Extent) (workers : ℕ) → IsHeader bounds workers → bounds.profile ≡ first_profile
+    ensures read { (bounds : Extent) (workers : ℕ) → IsHeader bounds workers
+        → bounds.profile ≡ first_profile
         → numbers.now ≡ spaced_words (first_words bounds workers)
         → result ≡ Some (record { bounds = bounds; workers = workers }) }
 {
@@ -223,8 +232,10 @@ fn first_header(numbers: &[u8]) -> Option<Header>
 }
 
 fn second_header(numbers: &[u8]) -> Option<Header>
-    ensures profile { IfSome result (λ h. h.bounds.profile ≡ second_profile h.bounds.profile.depot) }
-    ensures spelled { IfSome result (λ h. numbers.now ≡ spaced_words (second_words h.bounds h.workers)) }
+    ensures profile { IfSome result (λ h. h.bounds.profile
+        ≡ second_profile h.bounds.profile.depot) }
+    ensures spelled { IfSome result (λ h. numbers.now
+        ≡ spaced_words (second_words h.bounds h.workers)) }
     ensures good { IfSome result (λ h. IsHeader h.bounds h.workers) }
     ensures read { (bounds : Extent) (workers : ℕ) → IsHeader bounds workers
         → bounds.profile ≡ second_profile bounds.profile.depot
@@ -241,8 +252,12 @@ fn second_header(numbers: &[u8]) -> Option<Header>
 
 fn header_of(profile: Profile, start: u64, last: u64, workers: u64) -> Option<Header>
     ensures value { IfSome result (λ h.
-        h ≡ record { bounds = record { start = start; last = last; profile = profile }; workers = workers }) }
-    ensures accepted { IsSome result ↔ (AreBounds profile start last × ((1 ≤ workers) × (workers ≤ MAX_WORKERS))) }
+        h ≡ record {
+          bounds = record { start = start; last = last; profile = profile };
+          workers = workers;
+        }) }
+    ensures accepted { IsSome result ↔ (AreBounds profile start last
+        × ((1 ≤ workers) × (workers ≤ MAX_WORKERS))) }
 {
     if workers == 0 || workers > MAX_WORKERS {
         return None;

@@ -51,13 +51,15 @@ impl Steps {
     }
 }
 
-/// The step that this line, which is without its LF, says after so many steps. None exactly where the line may not stand
-/// there.
+/// The step that this line, which is without its LF, says after so many steps. None exactly where
+/// the line may not stand there.
 pub fn next_step(line: &[u8], steps: u64) -> Option<Step>
     ensures room { IfSome result (λ _. steps < MAX_STEPS) }
     ensures spelled { IfSome result (λ s. IsStep s × (line.now ≡ step_text s)) }
-    ensures read { (s : Step) → steps < MAX_STEPS → IsStep s → line.now ≡ step_text s → result ≡ Some s }
-    ensures all { IsNone result → (s : Step) → steps < MAX_STEPS → IsStep s → line.now ≢ step_text s }
+    ensures read { (s : Step) → steps < MAX_STEPS → IsStep s → line.now ≡ step_text s
+        → result ≡ Some s }
+    ensures all { IsNone result → (s : Step) → steps < MAX_STEPS → IsStep s
+        → line.now ≢ step_text s }
 {
     if steps >= MAX_STEPS {
         return None;

@@ -11,8 +11,8 @@ use Rattle.iova_model.specs.State.{State, new_domain}
 use Rattle.iova_keep.specs.Views.{SeatState, IsKept, nothing}
 use Rattle.iova_keep.specs.StepLogs.{StepLog, IsRecorded, GoesOn}
 
--- A book: its domain's number, whether it is strict, its domain, and its log; and the totals of its four ledgers, which are the
--- sums of the shares that all seats and tallies keep.
+-- A book: its domain's number, whether it is strict, its domain, and its log; and the totals of its
+-- four ledgers, which are the sums of the shares that all seats and tallies keep.
 pub record BookState : Type 0 where
   pub number : ℕ
   pub strict : Bool
@@ -36,18 +36,28 @@ abbrev pub ranges_of : Option Client → List Frames
 ranges_of None = []
 ranges_of (Some c) = c.holdings
 
--- What is read of the first client of a worker behind a serial: its own serial, and its ranges, which come behind those of before.
-pub record ReadsNewer (worker than : ℕ) (s : State) (before after : List Frames) (id : Option ℕ) : Type 0 where
+-- What is read of the first client of a worker behind a serial: its own serial, and its ranges,
+-- which come behind those of before.
+pub record ReadsNewer (worker than : ℕ) (s : State) (before after : List Frames)
+    (id : Option ℕ) : Type 0 where
   pub serial : id ≡ option_map (λ c. c.id) (newer_client worker than s.clients)
   pub ranges : after ≡ before ++ ranges_of (option_and_then (λ i. client_with i s.clients) id)
 
 -- a new domain's book
 abbrev pub new_book : ℕ → Extent → ℕ → Option StepLog → BookState
 new_book number bounds workers log =
-    record { number = number; strict = false; state = new_domain bounds workers; log = log; shares = nothing; ended = 0 }
+    record {
+      number = number;
+      strict = false;
+      state = new_domain bounds workers;
+      log = log;
+      shares = nothing;
+      ended = 0;
+    }
 
--- What the value under the lock keeps: its domain's promises; the totals of its ledgers are the domain's totals and the number
--- of its flushes that ended well; and while it records, its log is a transcript that leaves the domain.
+-- What the value under the lock keeps: its domain's promises; the totals of its ledgers are the
+-- domain's totals and the number of its flushes that ended well; and while it records, its log is a
+-- transcript that leaves the domain.
 pub record IsBook (b : BookState) : Type 0 where
   pub domain : IsKept b.state
   pub shares : b.shares ≡ totals b.state.clients
@@ -91,4 +101,9 @@ is_each_once workers seats = (length seats == workers) && have_seats workers sea
 
 -- the sums of their shares
 abbrev pub held_sum : List SeatState → Totals
-held_sum seats = record { count = sum_by (λ s. s.held.count) seats; frames = sum_by (λ s. s.held.frames) seats; sum_lo = sum_by (λ s. s.held.sum_lo) seats }
+held_sum seats =
+    record {
+      count = sum_by (λ s. s.held.count) seats;
+      frames = sum_by (λ s. s.held.frames) seats;
+      sum_lo = sum_by (λ s. s.held.sum_lo) seats;
+    }

@@ -72,7 +72,8 @@ impl<C: Ledger, F: Ledger, S: Ledger, G: Ledger> Model for Book<C, F, S, G> {
 }
 
 impl<C: Ledger, F: Ledger, S: Ledger, G: Ledger> Book<C, F, S, G> {
-    /// A new domain, and a seat for each worker. Refused by `NoWorker` where the workers aren't 1 to 16, and by `NoMemory`.
+    /// A new domain, and a seat for each worker. Refused by `NoWorker` where the workers aren't 1
+    /// to 16, and by `NoMemory`.
     pub fn new(
         alloc: Global,
         number: u64,
@@ -83,17 +84,22 @@ impl<C: Ledger, F: Ledger, S: Ledger, G: Ledger> Book<C, F, S, G> {
         sum_lo: Blank,
         good: Blank,
     ) -> Result<(Book<C, F, S, G>, Vec<Seat<C, F, S, G>>), Refusal>
-        requires count { 1 ≤ workers → workers ≤ MAX_WORKERS → (count.name ≡ C.name) × (count.parts ≡ C.parts)
+        requires count { 1 ≤ workers → workers ≤ MAX_WORKERS
+            → (count.name ≡ C.name) × (count.parts ≡ C.parts)
             × (count.parts ≡ workers) }
         requires frames { 1 ≤ workers → workers ≤ MAX_WORKERS → (frames.name ≡ F.name)
             × (frames.parts ≡ F.parts) × (frames.parts ≡ workers) }
         requires sum_lo { 1 ≤ workers → workers ≤ MAX_WORKERS → (sum_lo.name ≡ S.name)
             × (sum_lo.parts ≡ S.parts) × (sum_lo.parts ≡ workers) }
-        requires good { 1 ≤ workers → workers ≤ MAX_WORKERS → (good.name ≡ G.name) × (good.parts ≡ G.parts)
+        requires good { 1 ≤ workers → workers ≤ MAX_WORKERS
+            → (good.name ≡ G.name) × (good.parts ≡ G.parts)
             × (good.parts ≡ TALLY_PARTS * workers) }
-        ensures ok { IfOk result (λ r. (r.0 ≡ new_book number bounds workers None) × (r.1.items ≡ new_seats workers)) }
-        ensures workers { (result ≡ Err Refusal.NoWorker) ↔ ((workers ≡ 0) ⊎ (MAX_WORKERS < workers)) }
-        ensures memory { IsErr result → (result ≡ Err Refusal.NoWorker) ⊎ (result ≡ Err Refusal.NoMemory) }
+        ensures ok { IfOk result (λ r. (r.0 ≡ new_book number bounds workers None)
+            × (r.1.items ≡ new_seats workers)) }
+        ensures workers { (result ≡ Err Refusal.NoWorker)
+            ↔ ((workers ≡ 0) ⊎ (MAX_WORKERS < workers)) }
+        ensures memory { IsErr result → (result ≡ Err Refusal.NoWorker)
+            ⊎ (result ≡ Err Refusal.NoMemory) }
     {
         match Machine::new(alloc, bounds, workers) {
             Ok(machine) => Book::over(alloc, number, workers, machine, count, frames, sum_lo, good),
@@ -101,8 +107,8 @@ impl<C: Ledger, F: Ledger, S: Ledger, G: Ledger> Book<C, F, S, G> {
         }
     }
 
-    /// A new domain whose first steps are recorded, `pairs` of them, and a seat for each worker. Refused by `NoWorker` where
-    /// the workers aren't 1 to 16, and by `NoMemory`.
+    /// A new domain whose first steps are recorded, `pairs` of them, and a seat for each worker.
+    /// Refused by `NoWorker` where the workers aren't 1 to 16, and by `NoMemory`.
     pub fn recorded(
         alloc: Global,
         number: u64,
@@ -114,18 +120,22 @@ impl<C: Ledger, F: Ledger, S: Ledger, G: Ledger> Book<C, F, S, G> {
         sum_lo: Blank,
         good: Blank,
     ) -> Result<(Book<C, F, S, G>, Vec<Seat<C, F, S, G>>), Refusal>
-        requires count { 1 ≤ workers → workers ≤ MAX_WORKERS → (count.name ≡ C.name) × (count.parts ≡ C.parts)
+        requires count { 1 ≤ workers → workers ≤ MAX_WORKERS
+            → (count.name ≡ C.name) × (count.parts ≡ C.parts)
             × (count.parts ≡ workers) }
         requires frames { 1 ≤ workers → workers ≤ MAX_WORKERS → (frames.name ≡ F.name)
             × (frames.parts ≡ F.parts) × (frames.parts ≡ workers) }
         requires sum_lo { 1 ≤ workers → workers ≤ MAX_WORKERS → (sum_lo.name ≡ S.name)
             × (sum_lo.parts ≡ S.parts) × (sum_lo.parts ≡ workers) }
-        requires good { 1 ≤ workers → workers ≤ MAX_WORKERS → (good.name ≡ G.name) × (good.parts ≡ G.parts)
+        requires good { 1 ≤ workers → workers ≤ MAX_WORKERS
+            → (good.name ≡ G.name) × (good.parts ≡ G.parts)
             × (good.parts ≡ TALLY_PARTS * workers) }
         ensures ok { IfOk result (λ r. (r.0 ≡ new_book number bounds workers (Some (new_log pairs)))
             × (r.1.items ≡ new_seats workers)) }
-        ensures workers { (result ≡ Err Refusal.NoWorker) ↔ ((workers ≡ 0) ⊎ (MAX_WORKERS < workers)) }
-        ensures memory { IsErr result → (result ≡ Err Refusal.NoWorker) ⊎ (result ≡ Err Refusal.NoMemory) }
+        ensures workers { (result ≡ Err Refusal.NoWorker)
+            ↔ ((workers ≡ 0) ⊎ (MAX_WORKERS < workers)) }
+        ensures memory { IsErr result → (result ≡ Err Refusal.NoWorker)
+            ⊎ (result ≡ Err Refusal.NoMemory) }
     {
         match Machine::recorded(alloc, bounds, workers, pairs) {
             Ok(machine) => Book::over(alloc, number, workers, machine, count, frames, sum_lo, good),
@@ -145,9 +155,12 @@ impl<C: Ledger, F: Ledger, S: Ledger, G: Ledger> Book<C, F, S, G> {
         good: Blank,
     ) -> Result<(Book<C, F, S, G>, Vec<Seat<C, F, S, G>>), Refusal>
         requires count { (count.name ≡ C.name) × (count.parts ≡ C.parts) × (count.parts ≡ workers) }
-        requires frames { (frames.name ≡ F.name) × (frames.parts ≡ F.parts) × (frames.parts ≡ workers) }
-        requires sum_lo { (sum_lo.name ≡ S.name) × (sum_lo.parts ≡ S.parts) × (sum_lo.parts ≡ workers) }
-        requires good { (good.name ≡ G.name) × (good.parts ≡ G.parts) × (good.parts ≡ TALLY_PARTS * workers) }
+        requires frames { (frames.name ≡ F.name) × (frames.parts ≡ F.parts)
+            × (frames.parts ≡ workers) }
+        requires sum_lo { (sum_lo.name ≡ S.name) × (sum_lo.parts ≡ S.parts)
+            × (sum_lo.parts ≡ workers) }
+        requires good { (good.name ≡ G.name) × (good.parts ≡ G.parts)
+            × (good.parts ≡ TALLY_PARTS * workers) }
         requires workers { (workers ≤ MAX_WORKERS) × (machine.state.workers ≡ workers) }
         requires new { (totals machine.state.clients ≡ nothing) × (machine.state.flushes.good ≡ 0) }
         ensures ok { IfOk result (λ r. (r.0 ≡ record {
@@ -177,7 +190,8 @@ impl<C: Ledger, F: Ledger, S: Ledger, G: Ledger> Book<C, F, S, G> {
         }
     }
 
-    /// The domain becomes strict: a range that is released there waits for a flush of its own. It takes no memory.
+    /// The domain becomes strict: a range that is released there waits for a flush of its own. It
+    /// takes no memory.
     pub fn strict(self) -> Self
         ensures { result ≡ record self { strict = true } }
     {
@@ -186,7 +200,8 @@ impl<C: Ledger, F: Ledger, S: Ledger, G: Ledger> Book<C, F, S, G> {
         book
     }
 
-    /// What every book keeps, whoever holds it: so whatever a thread finds under the lock, and whatever it leaves there.
+    /// What every book keeps, whoever holds it: so whatever a thread finds under the lock, and
+    /// whatever it leaves there.
     pub fn is_kept(&self)
         ensures is { IsBook self.now }
         ensures workers { self.now.state.workers ≡ C.parts }
@@ -196,8 +211,8 @@ impl<C: Ledger, F: Ledger, S: Ledger, G: Ledger> Book<C, F, S, G> {
         let _pairs = self.machine.pairs();
     }
 
-    /// Whether steps are still recorded. While they are, the recorded pairs are a transcript from the new domain that
-    /// leaves this one.
+    /// Whether steps are still recorded. While they are, the recorded pairs are a transcript from
+    /// the new domain that leaves this one.
     pub fn recording(&self) -> bool
         ensures { result ≡ is_recording self.now.log }
     {
@@ -212,12 +227,16 @@ impl<C: Ledger, F: Ledger, S: Ledger, G: Ledger> Book<C, F, S, G> {
         self.machine.pairs()
     }
 
-    /// Appends what was recorded, as a trace: the header's line and a line for each step; of a domain that isn't recorded the
-    /// header alone. Gives the number of steps. What is recorded is a transcript from the new domain, so the promises hold of
-    /// it; and of at most 1,000,000 steps it is a trace, whose replay prints those replies. Refused by `NoMemory`, which appends nothing.
+    /// Appends what was recorded, as a trace: the header's line and a line for each step; of a
+    /// domain that isn't recorded the header alone. Gives the number of steps. What is recorded is
+    /// a transcript from the new domain, so the promises hold of it; and of at most 1,000,000 steps
+    /// it is a trace, whose replay prints those replies. Refused by `NoMemory`, which appends
+    /// nothing.
     pub fn transcript(&self, out: &mut Vec<u8>) -> Result<u64, Refusal>
-        ensures recorded { WritesLog self.now.state self.now.log out.old.items out.new.items result }
-        ensures err { OnErr result ((result ≡ Err Refusal.NoMemory) × (out.new.items ≡ out.old.items)) }
+        ensures recorded { WritesLog self.now.state self.now.log out.old.items out.new.items
+            result }
+        ensures err { OnErr result ((result ≡ Err Refusal.NoMemory)
+            × (out.new.items ≡ out.old.items)) }
     {
         self.machine.transcript(out)
     }
@@ -235,21 +254,24 @@ impl<C: Ledger, F: Ledger, S: Ledger, G: Ledger> Book<C, F, S, G> {
     /// Appends the domain's report. Refused by `NoMemory`, which appends nothing.
     pub fn report(&self, out: &mut Vec<u8>) -> Result<(), Refusal>
         ensures ok { OnOk result (out.new.items ≡ out.old.items ++ report_text self.now.state) }
-        ensures err { OnErr result ((result ≡ Err Refusal.NoMemory) × (out.new.items ≡ out.old.items)) }
+        ensures err { OnErr result ((result ≡ Err Refusal.NoMemory)
+            × (out.new.items ≡ out.old.items)) }
     {
         report(self.machine.domain(), out)
     }
 
-    /// The first client that the worker opened behind this serial, and its ranges, at most 4,096, appended rising by first frame.
-    /// Refused by `NoMemory`, which appends nothing.
+    /// The first client that the worker opened behind this serial, and its ranges, at most 4,096,
+    /// appended rising by first frame. Refused by `NoMemory`, which appends nothing.
     pub fn newer(
         &self,
         worker: u64,
         than: ClientId,
         ranges: &mut Vec<Range>,
     ) -> Result<Option<ClientId>, Refusal>
-        ensures ok { IfOk result (ReadsNewer worker than self.now.state ranges.old.items ranges.new.items) }
-        ensures err { OnErr result ((result ≡ Err Refusal.NoMemory) × (ranges.new.items ≡ ranges.old.items)) }
+        ensures ok { IfOk result (ReadsNewer worker than self.now.state ranges.old.items
+            ranges.new.items) }
+        ensures err { OnErr result ((result ≡ Err Refusal.NoMemory)
+            × (ranges.new.items ≡ ranges.old.items)) }
     {
         let domain = self.machine.domain();
         let Some(id) = domain.newer(worker, than) else {
@@ -320,7 +342,8 @@ impl<C: Ledger, F: Ledger, S: Ledger, G: Ledger> Book<C, F, S, G> {
     pub(crate) fn holdings_of(&self, worker: u64, id: u64) -> Option<&[Range]>
         ensures is { option_copied result ≡ option_map (λ c. c.holdings)
             (client_of worker id self.now.state.clients) }
-        ensures kept { IfSome (option_copied result) (λ held. (length held ≤ MAX_HOLDINGS) × Rises 0 held) }
+        ensures kept { IfSome (option_copied result)
+            (λ held. (length held ≤ MAX_HOLDINGS) × Rises 0 held) }
     {
         // for the proof: what the domain keeps
         self.machine.is_kept();
@@ -362,7 +385,8 @@ impl<C: Ledger, F: Ledger, S: Ledger, G: Ledger> Book<C, F, S, G> {
         self.machine.totals()
     }
 
-    /// Runs a seat's step that may queue a range, unless one of the seat's shares is less than the range.
+    /// Runs a seat's step that may queue a range, unless one of the seat's shares is less than the
+    /// range.
     #[inline(always)]
     pub(crate) fn run_within(&mut self, seat: &mut Seat<C, F, S, G>, step: Step) -> Reply
         requires by_seat { by_seat step ≡ true }
@@ -380,8 +404,9 @@ impl<C: Ledger, F: Ledger, S: Ledger, G: Ledger> Book<C, F, S, G> {
         self.run(seat, step)
     }
 
-    /// Whether the seat's shares cover what a step of its worker would queue. They do where they are at least the worker's
-    /// share of the domain's totals; only where they aren't the range is sought.
+    /// Whether the seat's shares cover what a step of its worker would queue. They do where they
+    /// are at least the worker's share of the domain's totals; only where they aren't the range is
+    /// sought.
     #[inline(always)]
     fn covers_step(&self, seat: &Seat<C, F, S, G>, step: Step) -> bool
         requires { worker_of step ≡ Some seat.now.worker }
@@ -407,7 +432,8 @@ impl<C: Ledger, F: Ledger, S: Ledger, G: Ledger> Book<C, F, S, G> {
 
     /// Closes the client, range by range, until a step queues none, and answers that step's reply.
     pub(crate) fn close_all(&mut self, seat: &mut Seat<C, F, S, G>, id: u64) -> Reply
-        ensures closes { Does (Closing (Step.CloseOne seat.old.worker id) seat.old.held seat.new.held result)
+        ensures closes { Does (Closing (Step.CloseOne seat.old.worker id) seat.old.held
+            seat.new.held result)
             self.old.state self.new.state }
         ensures shares { (ranges : List Frames) × IsLowered ranges seat.old.held seat.new.held }
         ensures heard { IsCloseHeard (Some result) }
@@ -429,7 +455,8 @@ impl<C: Ledger, F: Ledger, S: Ledger, G: Ledger> Book<C, F, S, G> {
         requires few { ring + left ≤ MAX_WORKERS }
         requires rings { ring + left ≡ C.parts }
         requires worker { by < C.parts }
-        ensures drains { Does (Draining by (rings_from ring left) result) self.old.state self.new.state }
+        ensures drains { Does (Draining by (rings_from ring left) result) self.old.state
+            self.new.state }
         ensures bound { result ≤ MAX_ENTRIES * left }
         ensures same { IsSame self.old self.new }
     {
@@ -444,7 +471,8 @@ impl<C: Ledger, F: Ledger, S: Ledger, G: Ledger> Book<C, F, S, G> {
     pub(crate) fn drain_one(&mut self, ring: u64, by: u64) -> u64
         requires ring { ring < C.parts }
         requires worker { by < C.parts }
-        ensures takes { Takes self.old.state (Step.Drain ring by) (Reply.Drained result) self.new.state }
+        ensures takes { Takes self.old.state (Step.Drain ring by) (Reply.Drained result)
+            self.new.state }
         ensures bound { result ≤ MAX_ENTRIES }
         ensures same { IsSame self.old self.new }
     {
@@ -477,7 +505,8 @@ impl<C: Ledger, F: Ledger, S: Ledger, G: Ledger> Book<C, F, S, G> {
     pub(crate) fn run(&mut self, seat: &mut Seat<C, F, S, G>, step: Step) -> Reply
         requires by_seat { by_seat step ≡ true }
         requires worker { worker_of step ≡ Some seat.old.worker }
-        requires enough { (r : Frames) → to_queue self.old.state step ≡ Some r → Covers seat.old.held r }
+        requires enough { (r : Frames) → to_queue self.old.state step ≡ Some r
+            → Covers seat.old.held r }
         ensures takes { Takes self.old.state step result self.new.state }
         ensures same { IsSame self.old self.new }
         ensures kind { IsReplyTo step result }

@@ -60,7 +60,8 @@ pub(crate) fn is_full(reply: &Reply) -> bool
 
 /// Whether a range was queued in a strict domain.
 fn queued_strictly(strict: bool, reply: &Reply) -> bool
-    ensures { MatchBool result (QueuedStrictly strict reply.now) (QueuedStrictly strict reply.now → ⊥) }
+    ensures { MatchBool result (QueuedStrictly strict reply.now)
+        (QueuedStrictly strict reply.now → ⊥) }
 {
     strict && is_queued(reply)
 }

@@ -1,4 +1,5 @@
-//! A book and the lock round one: what each call answers, what it records, what takes threads, and refused growths.
+//! A book and the lock round one: what each call answers, what it records, what takes threads, and
+//! refused growths.
 ghost use Rattle.std.specs.Prelude.{◌≡◌, ◌*◌};
 ghost use Rattle.iova_range.specs.declared.limits.TheConstants.{TALLY_PARTS};
 
@@ -24,7 +25,8 @@ mod growths;
 mod random;
 mod threads;
 
-// What a case asks of one seat, or of two in turn. What was answered, where the case doesn't say what is to be.
+// What a case asks of one seat, or of two in turn. What was answered, where the case doesn't say
+// what is to be.
 fn run<C: Ledger, F: Ledger, S: Ledger, G: Ledger, K: Keep<C, F, S, G>, R: Abort + Print>(
     rt: &R,
     alloc: Global,
@@ -46,8 +48,8 @@ fn run<C: Ledger, F: Ledger, S: Ledger, G: Ledger, K: Keep<C, F, S, G>, R: Abort
     Vec::new(alloc)
 }
 
-// The same of a keeper that threads share, and what takes threads. The seats, how many flushes of tallies that were split
-// off ended well, and what was answered.
+// The same of a keeper that threads share, and what takes threads. The seats, how many flushes of
+// tallies that were split off ended well, and what was answered.
 fn run_shared<
     C: Ledger + Send + Sync,
     F: Ledger + Send + Sync,
@@ -97,7 +99,8 @@ fn in_a_book<C: Ledger, F: Ledger, S: Ledger, G: Ledger, R: Abort + Print>(
     requires count { (count.name ≡ C.name) × (count.parts ≡ C.parts) × (count.parts ≡ 16) }
     requires frames { (frames.name ≡ F.name) × (frames.parts ≡ F.parts) × (frames.parts ≡ 16) }
     requires sum_lo { (sum_lo.name ≡ S.name) × (sum_lo.parts ≡ S.parts) × (sum_lo.parts ≡ 16) }
-    requires good { (good.name ≡ G.name) × (good.parts ≡ G.parts) × (good.parts ≡ TALLY_PARTS * 16) }
+    requires good { (good.name ≡ G.name) × (good.parts ≡ G.parts)
+        × (good.parts ≡ TALLY_PARTS * 16) }
 {
     match Book::<C, F, S, G>::new(alloc, 7, bounds, 16, count, frames, sum_lo, good) {
         Ok((book, mut seats)) => {
@@ -135,7 +138,8 @@ fn under_a_lock<
     requires count { (count.name ≡ C.name) × (count.parts ≡ C.parts) × (count.parts ≡ 16) }
     requires frames { (frames.name ≡ F.name) × (frames.parts ≡ F.parts) × (frames.parts ≡ 16) }
     requires sum_lo { (sum_lo.name ≡ S.name) × (sum_lo.parts ≡ S.parts) × (sum_lo.parts ≡ 16) }
-    requires good { (good.name ≡ G.name) × (good.parts ≡ G.parts) × (good.parts ≡ TALLY_PARTS * 16) }
+    requires good { (good.name ≡ G.name) × (good.parts ≡ G.parts)
+        × (good.parts ≡ TALLY_PARTS * 16) }
 {
     let pairs = case(no).1.pairs;
     let recorded = 0 < pairs && pairs <= 100;

@@ -48,8 +48,8 @@ enum Failure {
     TakesNone,
 }
 
-/// A writer into 4,096 bytes, at most `most` of them a call. Its write of number `fail_at` fails, and its flush of number
-/// `fail_flush_at`.
+/// A writer into 4,096 bytes, at most `most` of them a call. Its write of number `fail_at` fails,
+/// and its flush of number `fail_flush_at`.
 #[derive(Drop)]
 struct Page {
     text: ArrayVec<u8, 4096>,
@@ -138,8 +138,8 @@ fn replayed<R: Read, W: Write>(
     Ok(steps)
 }
 
-/// A replay in which one growth may be refused, wherever that is: it ends, or the step is answered so. No answer changes in
-/// place of that, and the next replay is whole.
+/// A replay in which one growth may be refused, wherever that is: it ends, or the step is answered
+/// so. No answer changes in place of that, and the next replay is whole.
 fn settled(rt: &(impl Abort + Print), alloc: Global) {
     let mut reader = Pieces::whole(TRACE);
     let mut writer = Page::new(4096, 0, Failure::Interrupted);
@@ -269,7 +269,8 @@ fn each_flush_fails_in_turn(rt: HostRuntime) {
     }
 }
 
-/// What a replay of this text answers and writes, read `most` bytes at a time and interrupted where there is no more.
+/// What a replay of this text answers and writes, read `most` bytes at a time and interrupted where
+/// there is no more.
 fn interrupted(
     alloc: Global,
     text: &[u8],
@@ -416,7 +417,8 @@ fn where_the_input_ends(rt: HostRuntime) {
     }
 }
 
-/// A reader that gives one line a call, and fails unless the reply to the line before has been flushed.
+/// A reader that gives one line a call, and fails unless the reply to the line before has been
+/// flushed.
 #[derive(Drop)]
 struct Peer<'a> {
     next: usize,

@@ -65,7 +65,8 @@ fn whole_traces_and_refused_ones(rt: HostRuntime) {
     }
 }
 
-// The lines of the header and of these steps. Where memory is refused, nothing is appended, and the same call goes well then.
+// The lines of the header and of these steps. Where memory is refused, nothing is appended, and the
+// same call goes well then.
 fn written(
     rt: &(impl Abort + Print),
     alloc: Global,
@@ -127,7 +128,8 @@ static STEPS: [Step; 10] = [
 const LINES: &str =
     "reserve 16 23\nopen 1 sac\nopen 0 dac\nalloc 1 1 5 18446744073709551615\nunmap 1 1 1016\nbegin\nend 1 fail\ndrain 1 0\nclose 1 1\ncloseone 1 1\n";
 
-// What is written of a domain of each profile is read back as that. It passes whichever growth is refused, and prints where.
+// What is written of a domain of each profile is read back as that. It passes whichever growth is
+// refused, and prints where.
 #[test]
 fn what_is_written_is_read_also_after_a_refused_growth(rt: HostRuntime) -> Result<(), Fail> {
     let second = Bounds::new_in(Profile::two(7)?, 5, 1_099_511_627_775)?;

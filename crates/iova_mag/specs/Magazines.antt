@@ -3,7 +3,8 @@ use Rattle.std.specs.Prelude.{ℕ, ◌≤◌, ◌<◌, ◌^◌, List, [], length
 use Rattle.iova_range.specs.Bounds.{Capacities, IsProfile}
 use Rattle.iova_model.specs.Caches.{Shelf, fitting, popped}
 
--- What a `Magazine` is seen as: its entries, and the profile that says how many of them it is full at
+-- What a `Magazine` is seen as: its entries, and the profile that says how many of them it is full
+-- at
 pub record Magazine : Type 0 where
   pub profile : Capacities
   pub entries : List ℕ

@@ -43,7 +43,8 @@ shelf_of c = record { loaded = c.loaded; previous = c.previous; depot = [] }
 abbrev pub pair_of : Shelf → Cache
 pair_of s = record { loaded = s.loaded; previous = s.previous }
 
--- what a get leaves of the two magazines, what a put leaves of them, and what they are with an empty one for loaded
+-- what a get leaves of the two magazines, what a put leaves of them, and what they are with an
+-- empty one for loaded
 abbrev pub cache_after_get : Cache → ℕ → ℕ → Cache
 cache_after_get c limit size = pair_of (get (shelf_of c) limit size).1
 
@@ -55,7 +56,9 @@ renewed_cache c = record { loaded = []; previous = c.previous }
 
 -- a range of this order that an entry begins has the frame
 abbrev pub has_frame : ℕ → ℕ → Cache → Bool
-has_frame frame order c = list_any (covers frame) (of_order order c.loaded) || list_any (covers frame) (of_order order c.previous)
+has_frame frame order c =
+    list_any (covers frame) (of_order order c.loaded)
+    || list_any (covers frame) (of_order order c.previous)
 
 -- neither has an entry
 abbrev pub AreEmpty : Cache → Type 0
@@ -74,7 +77,9 @@ found None = Miss
 found (Some lo) = Hit lo
 
 abbrev pub got : Cache → ℕ → ℕ → Got
-got c limit size = if is_empty c.loaded && is_empty c.previous then Empty else found (get (shelf_of c) limit size).0
+got c limit size =
+    if is_empty c.loaded && is_empty c.previous then Empty
+    else found (get (shelf_of c) limit size).0
 
 -- loaded has an entry, and the newest one fits
 pub record GivesNewest (c : Cache) (limit size : ℕ) : Type 0 where
@@ -83,7 +88,9 @@ pub record GivesNewest (c : Cache) (limit size : ℕ) : Type 0 where
 
 -- the newest entry of loaded, or of previous where loaded is empty
 abbrev pub newest : Cache → Option ℕ
-newest c = if is_empty c.loaded then slice_get c.previous (length c.previous - 1) else slice_get c.loaded (length c.loaded - 1)
+newest c =
+    if is_empty c.loaded then slice_get c.previous (length c.previous - 1)
+    else slice_get c.loaded (length c.loaded - 1)
 
 -- the two without it
 abbrev pub without_newest : Cache → Cache

@@ -11,8 +11,8 @@ use iova_range::limits::{MAGAZINE, MAX_FRAMES};
 use iova_range::profile::Profile;
 use std::marker::Model;
 
-/// First frames of cached ranges of one order, the newest last. Each is below 2^40. It is full at the profile's `mag()`
-/// entries (Linux 5.15 `drivers/iommu/iova.c`: `struct iova_magazine`).
+/// First frames of cached ranges of one order, the newest last. Each is below 2^40. It is full at
+/// the profile's `mag()` entries (Linux 5.15 `drivers/iommu/iova.c`: `struct iova_magazine`).
 #[derive(Drop)]
 pub struct Magazine {
     profile: Profile,
@@ -26,7 +26,8 @@ impl Model for Magazine {
 
     ghost view = { λ m. record { profile = m.profile; entries = m.entries.items } };
 
-    ghost invariant = { λ m. IsMagazine (record { profile = m.profile; entries = m.entries.items }) };
+    ghost invariant = { λ m. IsMagazine
+        (record { profile = m.profile; entries = m.entries.items }) };
 }
 
 impl Magazine {
@@ -92,8 +93,8 @@ impl Magazine {
         self.entries.len() == self.profile.mag()
     }
 
-    /// Puts the first frame of a range after the others. The magazine isn't full, and `lo` is below 2^40
-    /// (Linux 5.15 `drivers/iommu/iova.c`: `iova_magazine_push`).
+    /// Puts the first frame of a range after the others. The magazine isn't full, and `lo` is below
+    /// 2^40 (Linux 5.15 `drivers/iommu/iova.c`: `iova_magazine_push`).
     #[inline]
     pub fn push(&mut self, lo: u64)
         requires room { length self.old.entries < self.old.profile.mag }
@@ -104,15 +105,16 @@ impl Magazine {
         self.entries.push(lo);
     }
 
-    /// Gives the newest entry whose range of `size` frames, 1 to 1,048,576, has no frame above `limit`. The newest
-    /// entry of all is put in its place. None where no entry fits, and nothing changes
-    /// (Linux 5.15 `drivers/iommu/iova.c`: `iova_magazine_pop`).
+    /// Gives the newest entry whose range of `size` frames, 1 to 1,048,576, has no frame above
+    /// `limit`. The newest entry of all is put in its place. None where no entry fits, and nothing
+    /// changes (Linux 5.15 `drivers/iommu/iova.c`: `iova_magazine_pop`).
     #[inline(always)]
     pub fn pop(&mut self, limit: u64, size: u64) -> Option<u64>
         requires some { 1 ≤ size }
         requires bounded { size ≤ MAX_FRAMES }
         ensures value { result ≡ (pop self.old.entries limit size).0 }
-        ensures left { self.new ≡ record self.old { entries = (pop self.old.entries limit size).1.loaded } }
+        ensures left { self.new ≡ record self.old
+            { entries = (pop self.old.entries limit size).1.loaded } }
         ensures sound { IsMagazine self.new }
     {
         if newest_fits(self.entries.as_slice(), limit, size) {
@@ -127,14 +129,15 @@ impl Magazine {
         Some(lo)
     }
 
-    /// Whether there is a newest entry, and its range of `size` frames, 1 to 1,048,576, has none above `limit`: `pop` then
-    /// gives it. Our own.
+    /// Whether there is a newest entry, and its range of `size` frames, 1 to 1,048,576, has none
+    /// above `limit`: `pop` then gives it. Our own.
     #[inline(always)]
     pub fn gives_newest(&self, limit: u64, size: u64) -> bool
         requires some { 1 ≤ size }
         requires bounded { size ≤ MAX_FRAMES }
         ensures some { IsTrue result → 1 ≤ length self.now.entries }
-        ensures is { IsTrue result → fitting self.now.entries limit size ≡ Some (length self.now.entries - 1) }
+        ensures is { IsTrue result → fitting self.now.entries limit size
+            ≡ Some (length self.now.entries - 1) }
     {
         newest_fits(self.entries.as_slice(), limit, size)
     }
@@ -149,7 +152,8 @@ impl Magazine {
         self.entries.pop()
     }
 
-    /// Whether a range of this order, which is below 6, that an entry begins has the frame. Our own.
+    /// Whether a range of this order, which is below 6, that an entry begins has the frame. Our
+    /// own.
     pub fn has_frame(&self, frame: u64, order: u8) -> bool
         requires { order < 6 }
         ensures { result ≡ list_any (covers frame) (of_order order self.now.entries) }

@@ -30,7 +30,8 @@ pub enum Got {
     Empty,
 }
 
-/// The two magazines of one order. Each has a place of its own on the heap, so that they change places by two pointers.
+/// The two magazines of one order. Each has a place of its own on the heap, so that they change
+/// places by two pointers.
 #[derive(Drop)]
 struct Pair {
     loaded: Box<Magazine>,
@@ -67,7 +68,8 @@ impl Pair {
     fn try_get(&mut self, order: u8, limit: u64) -> Got
         requires { order < ORDERS }
         ensures value { result ≡ got self.old.cache limit (2 ^ order) }
-        ensures left { self.new ≡ record self.old { cache = cache_after_get self.old.cache limit (2 ^ order) } }
+        ensures left { self.new ≡ record self.old
+            { cache = cache_after_get self.old.cache limit (2 ^ order) } }
         ensures empty { result ≡ Got.Empty → AreEmpty self.old.cache }
         ensures sound { IsCache self.new.profile self.new.cache }
     {
@@ -94,7 +96,8 @@ impl Pair {
     fn load(&mut self, magazine: Magazine)
         requires empty { AreEmpty self.old.cache }
         requires profile { magazine.profile ≡ self.old.profile }
-        ensures loaded { self.new ≡ record self.old { cache = record { loaded = magazine.entries; previous = [] } } }
+        ensures loaded { self.new ≡ record self.old
+            { cache = record { loaded = magazine.entries; previous = [] } } }
         ensures sound { IsCache self.new.profile self.new.cache }
     {
         // for the proof: the magazine has no more entries than it is full at
@@ -107,8 +110,12 @@ impl Pair {
         requires { lo < 2 ^ 40 }
         ensures room { IsTrue result ↔ HasRoom self.old.profile self.old.cache }
         ensures done { OnTrue result
-            (self.new ≡ record self.old { cache = cache_after_put self.old.profile self.old.cache lo }) }
-        ensures refused { OnFalse result ((self.new ≡ self.old) × AreFull self.old.profile self.old.cache) }
+            (self.new ≡ record self.old {
+              cache = cache_after_put self.old.profile self.old.cache
+                  lo;
+            }) }
+        ensures refused { OnFalse result ((self.new ≡ self.old)
+            × AreFull self.old.profile self.old.cache) }
         ensures same { self.new.profile ≡ self.old.profile }
         ensures sound { IsCache self.new.profile self.new.cache }
     {
@@ -152,8 +159,9 @@ impl Pair {
     }
 }
 
-/// One worker's magazines of the six orders, two of each: gets and puts go to loaded, and previous stands after it.
-/// All memory is taken by `new` (Linux 5.15 `drivers/iommu/iova.c`: `struct iova_cpu_rcache`).
+/// One worker's magazines of the six orders, two of each: gets and puts go to loaded, and previous
+/// stands after it. All memory is taken by `new` (Linux 5.15 `drivers/iommu/iova.c`: `struct
+/// iova_cpu_rcache`).
 pub struct WorkerCache {
     profile: Profile,
     pairs: Vec<Pair>,
@@ -175,7 +183,10 @@ impl Model for WorkerCache {
 
     ghost Value = { Seen };
 
-    ghost view = { λ w. record { profile = w.profile; caches = map (λ (p : SeenPair). p.cache) w.pairs.items } };
+    ghost view = { λ w. record {
+      profile = w.profile;
+      caches = map (λ (p : SeenPair). p.cache) w.pairs.items;
+    } };
 
     ghost use Rattle.iova_mag.specs.Inside.{ArePairsSound};
 
@@ -213,16 +224,17 @@ impl WorkerCache {
         self.profile
     }
 
-    /// Gets an entry of this order, 0 to 5, whose range has no frame above `limit`: where loaded is empty and previous
-    /// isn't, they change places; then the last entry of loaded that fits is `Hit`. `Miss` where none fits, and a change
-    /// of places stands. `Empty` exactly where both are empty
-    /// (Linux 5.15 `drivers/iommu/iova.c`: `__iova_rcache_get`).
+    /// Gets an entry of this order, 0 to 5, whose range has no frame above `limit`: where loaded is
+    /// empty and previous isn't, they change places; then the last entry of loaded that fits is
+    /// `Hit`. `Miss` where none fits, and a change of places stands. `Empty` exactly where both are
+    /// empty (Linux 5.15 `drivers/iommu/iova.c`: `__iova_rcache_get`).
     #[inline(always)]
     pub fn try_get(&mut self, order: u8, limit: u64) -> Got
         requires { order < ORDERS }
         ensures value { result ≡ got (cache_of self.old order) limit (2 ^ order) }
         ensures left { self.new
-            ≡ with_cache self.old order (cache_after_get (cache_of self.old order) limit (2 ^ order)) }
+            ≡ with_cache self.old order (cache_after_get (cache_of self.old order) limit
+            (2 ^ order)) }
         ensures empty { result ≡ Got.Empty → AreEmpty (cache_of self.old order) }
         ensures sound { IsWorkerCache self.new }
     {
@@ -230,8 +242,8 @@ impl WorkerCache {
         pair.try_get(order, limit)
     }
 
-    /// Whether loaded of this order, 0 to 5, has a newest entry, whose range has no frame above `limit`: `try_get` then
-    /// gives it. Our own.
+    /// Whether loaded of this order, 0 to 5, has a newest entry, whose range has no frame above
+    /// `limit`: `try_get` then gives it. Our own.
     #[inline(always)]
     pub fn gives_newest(&self, order: u8, limit: u64) -> bool
         requires { order < ORDERS }
@@ -246,50 +258,56 @@ impl WorkerCache {
         requires order { order < ORDERS }
         requires empty { AreEmpty (cache_of self.old order) }
         requires profile { magazine.profile ≡ self.old.profile }
-        ensures loaded { self.new ≡ with_cache self.old order (record { loaded = magazine.entries; previous = [] }) }
+        ensures loaded { self.new ≡ with_cache self.old order
+            (record { loaded = magazine.entries; previous = [] }) }
         ensures sound { IsWorkerCache self.new }
     {
         let pair = &mut self.pairs[order as usize];
         pair.load(magazine);
     }
 
-    /// Puts a first frame below 2^40 into this order's magazines, order 0 to 5: where loaded is full and previous isn't,
-    /// they change places; then it goes last into loaded. False exactly where both are full, and nothing changes
-    /// (Linux 5.15 `drivers/iommu/iova.c`: `__iova_rcache_insert`).
+    /// Puts a first frame below 2^40 into this order's magazines, order 0 to 5: where loaded is
+    /// full and previous isn't, they change places; then it goes last into loaded. False exactly
+    /// where both are full, and nothing changes (Linux 5.15 `drivers/iommu/iova.c`:
+    /// `__iova_rcache_insert`).
     #[inline]
     pub fn try_put(&mut self, order: u8, lo: u64) -> bool
         requires order { order < ORDERS }
         requires small { lo < 2 ^ 40 }
         ensures room { IsTrue result ↔ HasRoom self.old.profile (cache_of self.old order) }
         ensures done { OnTrue result
-            (self.new ≡ with_cache self.old order (cache_after_put self.old.profile (cache_of self.old order) lo)) }
-        ensures refused { OnFalse result ((self.new ≡ self.old) × AreFull self.old.profile (cache_of self.old order)) }
+            (self.new ≡ with_cache self.old order
+            (cache_after_put self.old.profile (cache_of self.old order) lo)) }
+        ensures refused { OnFalse result ((self.new ≡ self.old)
+            × AreFull self.old.profile (cache_of self.old order)) }
         ensures sound { IsWorkerCache self.new }
     {
         let pair = &mut self.pairs[order as usize];
         pair.try_put(lo)
     }
 
-    /// Takes this order's loaded magazine, order 0 to 5, which is full, and leaves an empty one in its place
-    /// (Linux 5.15 `drivers/iommu/iova.c`: `__iova_rcache_insert`).
+    /// Takes this order's loaded magazine, order 0 to 5, which is full, and leaves an empty one in
+    /// its place (Linux 5.15 `drivers/iommu/iova.c`: `__iova_rcache_insert`).
     pub fn renew(&mut self, order: u8) -> Magazine
         requires order { order < ORDERS }
         requires full { length (cache_of self.old order).loaded ≡ self.old.profile.mag }
         ensures value { result ≡ magazine_of self.old.profile (cache_of self.old order).loaded }
-        ensures left { self.new ≡ with_cache self.old order (renewed_cache (cache_of self.old order)) }
+        ensures left { self.new ≡ with_cache self.old order
+            (renewed_cache (cache_of self.old order)) }
         ensures sound { IsWorkerCache self.new }
     {
         let pair = &mut self.pairs[order as usize];
         pair.renew()
     }
 
-    /// Takes the newest entry of this order, 0 to 5, out of loaded, or out of previous where loaded is empty; they don't
-    /// change places. None where both are empty. Our own.
+    /// Takes the newest entry of this order, 0 to 5, out of loaded, or out of previous where loaded
+    /// is empty; they don't change places. None where both are empty. Our own.
     #[inline]
     pub fn take_newest(&mut self, order: u8) -> Option<u64>
         requires { order < ORDERS }
         ensures value { result ≡ newest (cache_of self.old order) }
-        ensures left { self.new ≡ with_cache self.old order (without_newest (cache_of self.old order)) }
+        ensures left { self.new ≡ with_cache self.old order
+            (without_newest (cache_of self.old order)) }
         ensures sound { IsWorkerCache self.new }
     {
         let pair = &mut self.pairs[order as usize];

@@ -1,4 +1,5 @@
--- The magazines of the workers, and the depot. Linux 5.15 drivers/iommu/iova.c, from iova_magazine_alloc on.
+-- The magazines of the workers, and the depot. Linux 5.15 drivers/iommu/iova.c, from
+-- iova_magazine_alloc on.
 use Rattle.std.specs.Prelude.{ℕ, ◌≡◌, ◌+◌, ◌-◌, ◌^◌, ◌≤◌, Bool, true, false, not, nat_lt, nat_le, List, [], ◌∷◌, ◌++◌, length, take, map, Option, Some, None, slice_get, slice_index, slice_index_or, slice_set, if◌then◌else◌, remove, swap_remove, ◌⊎◌, replicate}
 use Rattle.iova_range.specs.declared.limits.TheConstants.{ORDERS}
 use Rattle.iova_range.specs.Frames.{Frames}
@@ -38,7 +39,11 @@ no_magazines = record { loaded = []; previous = [] }
 
 -- nothing is cached yet
 abbrev pub new_caches : ℕ → Caches
-new_caches workers = record { workers = replicate workers (replicate ORDERS no_magazines); depots = replicate ORDERS [] }
+new_caches workers =
+    record {
+      workers = replicate workers (replicate ORDERS no_magazines);
+      depots = replicate ORDERS [];
+    }
 
 abbrev pub cache_at : Caches → ℕ → ℕ → Cache
 cache_at c w o = slice_index_or (slice_index_or c.workers w []) o no_magazines
@@ -52,7 +57,8 @@ shelf_at c w o = record {
 
 abbrev pub with_shelf : Caches → ℕ → ℕ → Shelf → Caches
 with_shelf c w o s = record {
-  workers = slice_set c.workers w (slice_set (slice_index_or c.workers w []) o (record { loaded = s.loaded; previous = s.previous }));
+  workers = slice_set c.workers w (slice_set (slice_index_or c.workers w []) o
+      (record { loaded = s.loaded; previous = s.previous }));
   depots = slice_set c.depots o s.depot;
 }
 
@@ -60,37 +66,58 @@ with_shelf c w o s = record {
 abbrev pub of_order : ℕ → List ℕ → List Frames
 of_order o los = map (λ lo. record { lo = lo; len = 2 ^ o }) los
 
--- What a get leaves before it pops: where loaded is empty and previous isn't, they change places; where both are empty, the
--- depot's last list leaves it and becomes loaded. __iova_rcache_get
+-- What a get leaves before it pops: where loaded is empty and previous isn't, they change places;
+-- where both are empty, the depot's last list leaves it and becomes loaded. __iova_rcache_get
 abbrev pub reloaded : Shelf → Shelf
 reloaded s =
     if not (is_empty s.loaded) then s else
-    if not (is_empty s.previous) then record { loaded = s.previous; previous = s.loaded; depot = s.depot } else
+    if not (is_empty s.previous) then record {
+      loaded = s.previous;
+      previous = s.loaded;
+      depot = s.depot;
+    } else
     record { loaded = last_or [] s.depot; previous = []; depot = front s.depot }
 
 -- the place of the last entry whose last frame isn't above the limit. iova_magazine_pop
 abbrev pub fitting : List ℕ → ℕ → ℕ → Option ℕ
-fitting loaded limit size = greatest (λ i. nat_le (slice_index loaded i + size - 1) limit) (length loaded)
+fitting loaded limit size =
+    greatest (λ i. nat_le (slice_index loaded i + size - 1) limit) (length loaded)
 
--- That entry is given, the last one is written to its place, and the list is one shorter. Without one the moves stand.
+-- That entry is given, the last one is written to its place, and the list is one shorter. Without
+-- one the moves stand.
 abbrev pub popped : Shelf → Option ℕ → Option ℕ × Shelf
 popped s None = (None, s)
-popped s (Some i) = (Some (slice_index s.loaded i), record { loaded = swap_remove s.loaded i 0; previous = s.previous; depot = s.depot })
+popped s (Some i) = (
+  Some (slice_index s.loaded i),
+  record {
+    loaded = swap_remove s.loaded i 0;
+    previous = s.previous;
+    depot = s.depot;
+  },
+)
 
 abbrev pub get : Shelf → ℕ → ℕ → Option ℕ × Shelf
 get s limit size = popped (reloaded s) (fitting (reloaded s).loaded limit size)
 
--- Room for one more: where loaded is full and previous isn't, they change places; where both are full, loaded goes last into
--- the depot, or is sent out where that has as many lists as it takes. __iova_rcache_insert
+-- Room for one more: where loaded is full and previous isn't, they change places; where both are
+-- full, loaded goes last into the depot, or is sent out where that has as many lists as it takes.
+-- __iova_rcache_insert
 abbrev pub with_room : Capacities → Shelf → Shelf
 with_room p s =
     if nat_lt (length s.loaded) p.mag then s else
-    if nat_lt (length s.previous) p.mag then record { loaded = s.previous; previous = s.loaded; depot = s.depot } else
-    if nat_lt (length s.depot) p.depot then record { loaded = []; previous = s.previous; depot = s.depot ++ s.loaded ∷ [] } else
+    if nat_lt (length s.previous) p.mag
+    then record { loaded = s.previous; previous = s.loaded; depot = s.depot } else
+    if nat_lt (length s.depot) p.depot
+    then record { loaded = []; previous = s.previous; depot = s.depot ++ s.loaded ∷ [] } else
     record { loaded = []; previous = s.previous; depot = s.depot }
 
 abbrev pub put : Capacities → Shelf → ℕ → Shelf
-put p s lo = record { loaded = (with_room p s).loaded ++ lo ∷ []; previous = (with_room p s).previous; depot = (with_room p s).depot }
+put p s lo =
+    record {
+      loaded = (with_room p s).loaded ++ lo ∷ [];
+      previous = (with_room p s).previous;
+      depot = (with_room p s).depot;
+    }
 
 -- the list that a put sends out, to become free
 abbrev pub sent_out : Capacities → Shelf → List ℕ
@@ -109,15 +136,17 @@ abbrev pub put_all : Capacities → Caches → ℕ → List Frames → Caches
 put_all p c w [] = c
 put_all p c w (r ∷ rs) = put_all p (put_range p c w r (order_of r.len)) w rs
 
--- What becomes free when a range goes to a worker's magazines: the range itself where its length has no order, else the list
--- that the put sends out.
+-- What becomes free when a range goes to a worker's magazines: the range itself where its length
+-- has no order, else the list that the put sends out.
 abbrev pub freed_by_put : Capacities → Caches → ℕ → Frames → Option ℕ → List Frames
 freed_by_put p c w r None = r ∷ []
 freed_by_put p c w r (Some o) = of_order o (sent_out p (shelf_at c w o))
 
 abbrev pub freed_by_puts : Capacities → Caches → ℕ → List Frames → List Frames
 freed_by_puts p c w [] = []
-freed_by_puts p c w (r ∷ rs) = freed_by_put p c w r (order_of r.len) ++ freed_by_puts p (put_range p c w r (order_of r.len)) w rs
+freed_by_puts p c w (r ∷ rs) =
+    freed_by_put p c w r (order_of r.len)
+    ++ freed_by_puts p (put_range p c w r (order_of r.len)) w rs
 
 -- nothing is cached any more
 abbrev pub emptied : Caches → Caches

@@ -3,8 +3,8 @@ use Rattle.std.specs.Prelude.{ℕ, ◌==◌, Bool, true, false, nat_lt, List, []
 use Rattle.iova_range.specs.Frames.{Frames}
 use Rattle.iova_model.specs.declared.totals.Totals.{Totals}
 
--- its serial, the worker that opened it, whether it is first sought a place below 4 GiB, whether it is closing, and its
--- holdings, rising by first frame
+-- its serial, the worker that opened it, whether it is first sought a place below 4 GiB, whether it
+-- is closing, and its holdings, rising by first frame
 pub record Client : Type 0 where
   pub id : ℕ
   pub worker : ℕ
@@ -13,7 +13,8 @@ pub record Client : Type 0 where
   pub holdings : List Frames
 
 abbrev pub new_client : ℕ → ℕ → Bool → Client
-new_client id worker sac = record { id = id; worker = worker; sac = sac; closing = false; holdings = [] }
+new_client id worker sac =
+    record { id = id; worker = worker; sac = sac; closing = false; holdings = [] }
 
 abbrev pub has_id : ℕ → Client → Bool
 has_id id c = c.id == id
@@ -70,7 +71,8 @@ marked c = record c { closing = true }
 
 -- count, frames and sum of the first frames of some holdings
 abbrev pub totals_of : List Frames → Totals
-totals_of rs = record { count = length rs; frames = sum_by (λ r. r.len) rs; sum_lo = sum_by (λ r. r.lo) rs }
+totals_of rs =
+    record { count = length rs; frames = sum_by (λ r. r.len) rs; sum_lo = sum_by (λ r. r.lo) rs }
 
 abbrev pub all_holdings : List Client → List Frames
 all_holdings [] = []

@@ -1,14 +1,15 @@
--- The flushes with their credits, and the rings. The two counts and the rings are those of Linux 5.15
--- drivers/iommu/iova.c (iova_domain_flush, fq_ring_free, queue_iova); credits, failures and numbers are our own.
+-- The flushes with their credits, and the rings. The two counts and the rings are those of Linux
+-- 5.15 drivers/iommu/iova.c (iova_domain_flush, fq_ring_free, queue_iova); credits, failures and
+-- numbers are our own.
 use Rattle.std.specs.Prelude.{ℕ, ◌≡◌, ◌<◌, ◌≤◌, ◌+◌, ◌-◌, ◌^◌, ◌==◌, Bool, true, false, nat_lt, max, List, [], ◌∷◌, ◌++◌, length, if◌then◌else◌}
 use Rattle.iova_range.specs.declared.limits.TheConstants.{MAX_FLIGHTS, MAX_SERIAL}
 use Rattle.iova_range.specs.Frames.{Frames}
 use Rattle.iova_model.specs.declared.flight.Flight.{Flight}
 use Rattle.iova_model.specs.declared.entry.Entry.{Entry}
 
--- How many flushes have begun (`start`) and are accounted for (`finish`); the credit of failed flushes that no newer flush in
--- flight could take (`owed`); the greatest number that ended well (`newest`) and how many did (`good`); the flushes in flight,
--- rising by number.
+-- How many flushes have begun (`start`) and are accounted for (`finish`); the credit of failed
+-- flushes that no newer flush in flight could take (`owed`); the greatest number that ended well
+-- (`newest`) and how many did (`good`); the flushes in flight, rising by number.
 pub record Flushes : Type 0 where
   pub start : ℕ
   pub finish : ℕ
@@ -59,7 +60,8 @@ left_over n [] = 0
 left_over n (f ∷ []) = if f.number == n then f.credit else 0
 left_over n (f ∷ g ∷ fs) = if f.number == n then 0 else left_over n (g ∷ fs)
 
--- A flush that ended well adds its credit to the finish count; one that failed passes it on, and the last one's is owed.
+-- A flush that ended well adds its credit to the finish count; one that failed passes it on, and
+-- the last one's is owed.
 abbrev pub ended : Flushes → ℕ → Bool → Flushes
 ended s n true = record {
   start = s.start;
@@ -90,12 +92,13 @@ abbrev pub NumbersRise : ℕ → List Flight → ℕ → Type 0
 NumbersRise low [] top = low ≤ top
 NumbersRise low (f ∷ fs) top = (low < f.number) × NumbersRise f.number fs top
 
--- Were all flights up to one to end well, the finish count would reach that one's number, and not pass the greatest number
--- that had then ended well.
+-- Were all flights up to one to end well, the finish count would reach that one's number, and not
+-- pass the greatest number that had then ended well.
 abbrev pub CreditsReach : ℕ → ℕ → List Flight → Type 0
 CreditsReach newest finish [] = Unit {0}
 CreditsReach newest finish (f ∷ fs) =
-    (f.number ≤ finish + f.credit) × (finish + f.credit ≤ max newest f.number) × CreditsReach newest (finish + f.credit) fs
+    (f.number ≤ finish + f.credit) × (finish + f.credit ≤ max newest f.number)
+    × CreditsReach newest (finish + f.credit) fs
 
 pub record AreSound (s : Flushes) : Type 0 where
   pub balance : s.start ≡ s.finish + credit_sum s.in_flight + s.owed
@@ -112,7 +115,8 @@ pub record AreSound (s : Flushes) : Type 0 where
 abbrev pub entry_range : Entry → Frames
 entry_range e = record { lo = e.lo; len = e.len }
 
--- What a drain takes out: the longest prefix whose counts are all below the finish count. The rest stays. fq_ring_free
+-- What a drain takes out: the longest prefix whose counts are all below the finish count. The rest
+-- stays. fq_ring_free
 abbrev pub flushed : ℕ → List Entry → List Entry
 flushed finish [] = []
 flushed finish (e ∷ es) = if nat_lt e.count finish then e ∷ flushed finish es else []

@@ -1,5 +1,5 @@
--- What follows from the definitions, for every transcript from every valid state: the promises of the product. Each is a
--- statement; the crate iova_laws proves it.
+-- What follows from the definitions, for every transcript from every valid state: the promises of
+-- the product. Each is a statement; the crate iova_laws proves it.
 use Rattle.std.specs.Prelude.{ℕ, zero, suc, ◌≡◌, ◌≢◌, ◌<◌, ◌≤◌, ◌+◌, ◌-◌, ◌%◌, ◌^◌, ◌==◌, ◌⊎◌, Bool, true, false, nat_lt, if◌then◌else◌, min, List, [], ◌∷◌, ◌++◌, length, map, filter, find, Option, Some, None, option_and_then, slice_get, sum_by}
 use Rattle.std.specs.List.{AllByRecursion}
 use Rattle.iova_range.specs.declared.limits.TheConstants.{MAX_WORKERS, MAX_FRAMES, MAX_FLIGHTS, MAX_SERIAL}
@@ -29,7 +29,9 @@ use Rattle.iova_model.specs.Transcript.{Pair, IsTranscript, after, IsUnmappedAt,
 -- 1. Validity is kept.
 
 abbrev pub NewDomainsAreValid : Type 0
-NewDomainsAreValid = (bounds : Extent) (workers : ℕ) → IsExtent bounds → 1 ≤ workers → workers ≤ MAX_WORKERS → IsValid (new_domain bounds workers)
+NewDomainsAreValid =
+    (bounds : Extent) (workers : ℕ) → IsExtent bounds → 1 ≤ workers → workers ≤ MAX_WORKERS
+    → IsValid (new_domain bounds workers)
 
 abbrev pub StepsKeepValidity : Type 0
 StepsKeepValidity = (s : State) (st : Step) (m : Point) → IsValid s → IsValid (next s st m).state
@@ -43,7 +45,8 @@ TranscriptsKeepValidity = (s : State) (ps : List Pair) → IsValid s → IsValid
 pub record IsOnlyAt (s : State) (frame : ℕ) (p : Place) : Type 0 where
   pub free : p ≡ place.Free → times_held frame (holders s) ≡ 0
   pub held : p ≢ place.Free → times_held frame (holders s) ≡ 1
-  pub here : p ≢ place.Free → (i : ℕ) × (h : Holder) × (slice_get (holders s) i ≡ Some h) × (covers frame h.range ≡ true) × (h.place ≡ p)
+  pub here : p ≢ place.Free → (i : ℕ) × (h : Holder) × (slice_get (holders s) i ≡ Some h)
+      × (covers frame h.range ≡ true) × (h.place ≡ p)
 
 abbrev pub EachFrameIsInOnePlace : Type 0
 EachFrameIsInOnePlace = (s : State) (frame : ℕ) → IsValid s → IsOnlyAt s frame (place_of s frame)
@@ -51,25 +54,30 @@ EachFrameIsInOnePlace = (s : State) (frame : ℕ) → IsValid s → IsOnlyAt s f
 abbrev pub frames_of : List Holder → ℕ
 frames_of hs = sum_by (λ h. h.range.len) hs
 
--- the counts of the places are the frames of the holders there, and all of them are the frames of the bounds
+-- the counts of the places are the frames of the holders there, and all of them are the frames of
+-- the bounds
 pub record CountsAddUp (s : State) : Type 0 where
   pub reserved : (counts s).reserved ≡ frames_of (window_holders s.windows)
   pub client : (counts s).client ≡ (totals s.clients).frames
   pub magazine : (counts s).magazine ≡ frames_of (magazine_holders 0 s.caches.workers)
   pub depot : (counts s).depot ≡ frames_of (depot_holders 0 s.caches.depots)
   pub ring : (counts s).ring ≡ frames_of (ring_holders 0 s.rings)
-  pub all : (counts s).free + (counts s).reserved + (counts s).client + (counts s).magazine + (counts s).depot + (counts s).ring ≡ s.bounds.last + 1 - s.bounds.start
+  pub all : (counts s).free + (counts s).reserved + (counts s).client + (counts
+      s).magazine + (counts s).depot + (counts s).ring ≡ s.bounds.last + 1 - s.bounds.start
 
 abbrev pub PlacesAddUp : Type 0
 PlacesAddUp = (s : State) → IsValid s → CountsAddUp s
 
--- 3. Conservation: no frame is lost, none is made. A step brings ranges in among those that somebody has (`gained`) and lets
--- ranges go (`freed`), those that are said here and no others; whatever ranges weigh, nothing else is gained or lost. A window
--- that joins others gains their frames again, and a range may be given from what emptied caches let go in the same step.
+-- 3. Conservation: no frame is lost, none is made. A step brings ranges in among those that
+--   somebody has (`gained`) and lets ranges go (`freed`), those that are said here and no others;
+--   whatever ranges weigh, nothing else is gained or lost. A window that joins others gains their
+--   frames again, and a range may be given from what emptied caches let go in the same step.
 
 -- what a drain of ring q by worker w makes free
 abbrev pub freed_by_drain : State → ℕ → ℕ → List Frames
-freed_by_drain s q w = freed_by_puts s.bounds.profile s.caches w (map entry_range (flushed s.flushes.finish (ring_at s q)))
+freed_by_drain s q w =
+    freed_by_puts s.bounds.profile s.caches w
+    (map entry_range (flushed s.flushes.finish (ring_at s q)))
 
 abbrev pub cached_ranges : Caches → List Frames
 cached_ranges c = map (λ h. h.range) (cached_holders c)
@@ -80,25 +88,32 @@ FreesCaches c freed = (freed ≡ []) ⊎ (freed ≡ cached_ranges c)
 
 -- a range is given from a cache, and nothing becomes free; or it is given from free frames
 abbrev pub MovesInAlloc : Caches → Reply → List Frames → List Frames → Type 0
-MovesInAlloc c (reply.Given r) gained freed = ((gained ≡ []) × (freed ≡ [])) ⊎ ((gained ≡ r ∷ []) × FreesCaches c freed)
-MovesInAlloc c (reply.Refused refusal.NoSpace) gained freed = (gained ≡ []) × (freed ≡ cached_ranges c)
+MovesInAlloc c (reply.Given r) gained freed =
+    ((gained ≡ []) × (freed ≡ [])) ⊎ ((gained ≡ r ∷ []) × FreesCaches c freed)
+MovesInAlloc c (reply.Refused refusal.NoSpace) gained freed =
+    (gained ≡ []) × (freed ≡ cached_ranges c)
 MovesInAlloc c (reply.Refused refusal.NoMemory) gained freed = (gained ≡ []) × FreesCaches c freed
 MovesInAlloc c r gained freed = (gained ≡ []) × (freed ≡ [])
 
 -- which ranges a step with this reply brings in, and which it lets go
 abbrev pub Moves : State → Step → Reply → List Frames → List Frames → Type 0
-Moves s (step.Reserve lo hi) (reply.Reserved window) gained freed = (gained ≡ window ∷ []) × (freed ≡ filter (meets (from_to lo hi)) s.windows)
+Moves s (step.Reserve lo hi) (reply.Reserved window) gained freed =
+    (gained ≡ window ∷ []) × (freed ≡ filter (meets (from_to lo hi)) s.windows)
 Moves s (step.Alloc w id frames limit) r gained freed = MovesInAlloc s.caches r gained freed
-Moves s (step.Unmap w id lo) (reply.Queued r) gained freed = (gained ≡ []) × (freed ≡ freed_by_drain s w w)
-Moves s (step.CloseOne w id) (reply.Queued r) gained freed = (gained ≡ []) × (freed ≡ freed_by_drain s w w)
-Moves s (step.Drain q w) (reply.Drained n) gained freed = (gained ≡ []) × (freed ≡ freed_by_drain s q w)
+Moves s (step.Unmap w id lo) (reply.Queued r) gained freed =
+    (gained ≡ []) × (freed ≡ freed_by_drain s w w)
+Moves s (step.CloseOne w id) (reply.Queued r) gained freed =
+    (gained ≡ []) × (freed ≡ freed_by_drain s w w)
+Moves s (step.Drain q w) (reply.Drained n) gained freed =
+    (gained ≡ []) × (freed ≡ freed_by_drain s q w)
 Moves s st r gained freed = (gained ≡ []) × (freed ≡ [])
 
 pub record Conserves (s : State) (st : Step) (n : Next) : Type 0 where
   pub gained : List Frames
   pub freed : List Frames
   pub moves : Moves s st n.reply gained freed
-  pub balance : (weigh : Frames → ℕ) → sum_by weigh (held_ranges n.state) + sum_by weigh freed ≡ sum_by weigh (held_ranges s) + sum_by weigh gained
+  pub balance : (weigh : Frames → ℕ) → sum_by weigh (held_ranges n.state) + sum_by weigh freed
+      ≡ sum_by weigh (held_ranges s) + sum_by weigh gained
 
 abbrev pub StepsConserve : Type 0
 StepsConserve = (s : State) (st : Step) (m : Point) → IsValid s → Conserves s st (next s st m)
@@ -106,7 +121,8 @@ StepsConserve = (s : State) (st : Step) (m : Point) → IsValid s → Conserves 
 -- 4. Totals.
 
 abbrev pub add_totals : Totals → Totals → Totals
-add_totals a b = record { count = a.count + b.count; frames = a.frames + b.frames; sum_lo = a.sum_lo + b.sum_lo }
+add_totals a b =
+    record { count = a.count + b.count; frames = a.frames + b.frames; sum_lo = a.sum_lo + b.sum_lo }
 
 -- the shares of the workers below w, added
 abbrev pub shares_below : ℕ → List Client → Totals
@@ -144,11 +160,13 @@ worker_of (step.Drain ring by) = None
 -- the share of the worker that the step names moves as the totals do, and no other
 abbrev pub MovesShare : Option ℕ → Reply → ℕ → Totals → Totals → Type 0
 MovesShare None r worker old new = new ≡ old
-MovesShare (Some w) r worker old new = ((worker ≡ w) × MovesTotals r old new) ⊎ ((worker ≢ w) × (new ≡ old))
+MovesShare (Some w) r worker old new =
+    ((worker ≡ w) × MovesTotals r old new) ⊎ ((worker ≢ w) × (new ≡ old))
 
 pub record MovesLedgers (s : State) (st : Step) (n : Next) : Type 0 where
   pub totals : MovesTotals n.reply (totals s.clients) (totals n.state.clients)
-  pub share : (worker : ℕ) → MovesShare (worker_of st) n.reply worker (share_of worker s.clients) (share_of worker n.state.clients)
+  pub share : (worker : ℕ) → MovesShare (worker_of st) n.reply worker (share_of worker s.clients)
+      (share_of worker n.state.clients)
 
 abbrev pub StepsMoveLedgers : Type 0
 StepsMoveLedgers = (s : State) (st : Step) (m : Point) → IsValid s → MovesLedgers s st (next s st m)
@@ -247,7 +265,8 @@ pub record IsEmptiedAt (ps : List Pair) (i id : ℕ) : Type 0 where
   pub is : slice_get ps i ≡ Some pair
   pub empties : Empties id pair.step pair.reply
 
--- the client is closing, and what was queued and what it has left are its old holdings, in their order
+-- the client is closing, and what was queued and what it has left are its old holdings, in their
+-- order
 pub record IsClosing (id : ℕ) (old : List Frames) (ps : List Pair) (t : State) : Type 0 where
   pub client : Client
   pub is : client_with id t.clients ≡ Some client
@@ -255,7 +274,8 @@ pub record IsClosing (id : ℕ) (old : List Frames) (ps : List Pair) (t : State)
   pub left : queued_by_closing id ps ++ client.holdings ≡ old
   pub none_emptied : (i : ℕ) → IsEmptiedAt ps i id → ⊥
 
--- the client is gone, after `Empty`, and all its old holdings were queued, in their order; its serial isn't given again
+-- the client is gone, after `Empty`, and all its old holdings were queued, in their order; its
+-- serial isn't given again
 pub record IsGone (id : ℕ) (old : List Frames) (ps : List Pair) (t : State) : Type 0 where
   pub known : id ≤ t.serial
   pub gone : client_with id t.clients ≡ None
@@ -263,12 +283,15 @@ pub record IsGone (id : ℕ) (old : List Frames) (ps : List Pair) (t : State) : 
   pub index : ℕ
   pub emptied : IsEmptiedAt ps index id
 
--- From the pair that marks a client on, nothing but its closing takes its holdings, and takes them lowest first.
+-- From the pair that marks a client on, nothing but its closing takes its holdings, and takes them
+-- lowest first.
 abbrev pub ClientsCloseInOrder : Type 0
 ClientsCloseInOrder =
-    (s : State) (p : Pair) (ps : List Pair) (id : ℕ) (c : Client) → IsValid s → IsTranscript s (p ∷ ps)
+    (s : State) (p : Pair) (ps : List Pair) (id : ℕ) (c : Client) → IsValid s
+    → IsTranscript s (p ∷ ps)
     → client_with id s.clients ≡ Some c → Marks id p.step p.reply
-    → IsClosing id c.holdings (p ∷ ps) (after s (p ∷ ps)) ⊎ IsGone id c.holdings (p ∷ ps) (after s (p ∷ ps))
+    → IsClosing id c.holdings (p ∷ ps) (after s (p ∷ ps))
+    ⊎ IsGone id c.holdings (p ∷ ps) (after s (p ∷ ps))
 
 -- the client that a step names
 abbrev pub client_named : Step → Option ℕ
@@ -288,7 +311,8 @@ unless_no_worker s w r = if no_worker s w then refusal.NoWorker else r
 
 abbrev pub unknown_refusal : State → Step → Refusal
 unknown_refusal s (step.Alloc w id frames limit) =
-    unless_no_worker s w (if frames == 0 then refusal.Zero else if nat_lt MAX_FRAMES frames then refusal.TooBig else refusal.NoClient)
+    unless_no_worker s w (if frames == 0 then refusal.Zero else if nat_lt MAX_FRAMES frames
+    then refusal.TooBig else refusal.NoClient)
 unknown_refusal s (step.Unmap w id lo) = unless_no_worker s w refusal.NoClient
 unknown_refusal s (step.Close w id) = unless_no_worker s w refusal.NoClient
 unknown_refusal s (step.CloseOne w id) = unless_no_worker s w refusal.NoClient
@@ -298,12 +322,15 @@ unknown_refusal s step.Begin = refusal.NoClient
 unknown_refusal s (step.End number ok) = refusal.NoClient
 unknown_refusal s (step.Drain ring by) = refusal.NoClient
 
--- A serial that was given and whose client is gone stays so, and each step that names it is refused.
+-- A serial that was given and whose client is gone stays so, and each step that names it is
+-- refused.
 abbrev pub GoneClientsStayGone : Type 0
 GoneClientsStayGone =
-    (s : State) (ps : List Pair) (id : ℕ) → IsValid s → IsTranscript s ps → id ≤ s.serial → client_with id s.clients ≡ None
+    (s : State) (ps : List Pair) (id : ℕ) → IsValid s → IsTranscript s ps → id ≤ s.serial
+    → client_with id s.clients ≡ None
     → (client_with id (after s ps).clients ≡ None)
-    × ((i : ℕ) (p : Pair) → slice_get ps i ≡ Some p → client_named p.step ≡ Some id → p.reply ≡ reply.Refused (unknown_refusal s p.step))
+    × ((i : ℕ) (p : Pair) → slice_get ps i ≡ Some p → client_named p.step ≡ Some id
+    → p.reply ≡ reply.Refused (unknown_refusal s p.step))
 
 -- 7. What a request is given.
 
@@ -317,21 +344,29 @@ pub record IsAnswerTo (s : State) (frames limit : ℕ) (r : Frames) : Type 0 whe
 abbrev pub AnswersRequest : State → ℕ → ℕ → Reply → Type 0
 AnswersRequest s frames limit (reply.Given r) = IsAnswerTo s frames limit r
 -- nothing fits with all caches emptied
-AnswersRequest s frames limit (reply.Refused refusal.NoSpace) = IsBest s.bounds (held_ranges (with_caches s (emptied s.caches))) (need frames) limit None
+AnswersRequest s frames limit (reply.Refused refusal.NoSpace) =
+    IsBest s.bounds (held_ranges (with_caches s (emptied s.caches))) (need frames) limit None
 AnswersRequest s frames limit r = Unit {0}
 
 abbrev pub RequestsAreAnswered : Type 0
-RequestsAreAnswered = (s : State) (w id frames limit : ℕ) (m : Point) → IsValid s → AnswersRequest s frames limit (next s (step.Alloc w id frames limit) m).reply
+RequestsAreAnswered =
+    (s : State) (w id frames limit : ℕ) (m : Point) → IsValid s
+    → AnswersRequest s frames limit (next s (step.Alloc w id frames limit) m).reply
 
--- the greatest place that fits, as the definitions compute it, is that: no greater one fits, and none where there is none
+-- the greatest place that fits, as the definitions compute it, is that: no greater one fits, and
+-- none where there is none
 abbrev pub BestIsGreatest : Type 0
-BestIsGreatest = (bounds : Extent) (ranges : List Frames) (size limit : ℕ) → 1 ≤ size → AllByRecursion (λ (r : Frames). 1 ≤ r.len) ranges → IsBest bounds ranges size limit (best bounds ranges size limit)
+BestIsGreatest =
+    (bounds : Extent) (ranges : List Frames) (size limit : ℕ) → 1 ≤ size
+    → AllByRecursion (λ (r : Frames). 1 ≤ r.len) ranges
+    → IsBest bounds ranges size limit (best bounds ranges size limit)
 
 -- 8. Refusals and memory.
 
 -- memory is wanting only where a growth was refused
 abbrev pub NoMemoryIsRefused : Type 0
-NoMemoryIsRefused = (s : State) (st : Step) → (next s st point.Never).reply ≡ reply.Refused refusal.NoMemory → ⊥
+NoMemoryIsRefused =
+    (s : State) (st : Step) → (next s st point.Never).reply ≡ reply.Refused refusal.NoMemory → ⊥
 
 -- the steps that may grow something
 abbrev pub takes_memory : Step → Bool
@@ -347,26 +382,36 @@ takes_memory (step.CloseOne w id) = false
 
 -- no other step wants for memory
 abbrev pub OtherStepsTakeNoMemory : Type 0
-OtherStepsTakeNoMemory = (s : State) (st : Step) (m : Point) → takes_memory st ≡ false → (next s st m).reply ≡ reply.Refused refusal.NoMemory → ⊥
+OtherStepsTakeNoMemory =
+    (s : State) (st : Step) (m : Point) → takes_memory st ≡ false
+    → (next s st m).reply ≡ reply.Refused refusal.NoMemory → ⊥
 
 -- a refused growth is answered so, or the step didn't come to it and is as if there had been memory
 abbrev pub PointsOnlyRefuse : Type 0
-PointsOnlyRefuse = (s : State) (st : Step) (m : Point) → ((next s st m).reply ≡ reply.Refused refusal.NoMemory) ⊎ (next s st m ≡ next s st point.Never)
+PointsOnlyRefuse =
+    (s : State) (st : Step) (m : Point)
+    → ((next s st m).reply ≡ reply.Refused refusal.NoMemory) ⊎ (next s st m ≡ next s st point.Never)
 
--- what a refused step leaves: the state as it was, but for the caches of a request that found nothing or no memory, and the
--- mark of a client whose closing finds the ring full
+-- what a refused step leaves: the state as it was, but for the caches of a request that found
+-- nothing or no memory, and the mark of a client whose closing finds the ring full
 abbrev pub RefusalLeaves : State → Step → Refusal → State → Type 0
-RefusalLeaves s (step.Alloc w id frames limit) refusal.NoSpace t = t ≡ with_caches s (emptied s.caches)
+RefusalLeaves s (step.Alloc w id frames limit) refusal.NoSpace t =
+    t ≡ with_caches s (emptied s.caches)
 RefusalLeaves s (step.Alloc w id frames limit) refusal.NoMemory t = t ≡ with_caches s t.caches
-RefusalLeaves s (step.CloseOne w id) refusal.RingFull t = t ≡ with_clients s (changed id marked s.clients)
+RefusalLeaves s (step.CloseOne w id) refusal.RingFull t =
+    t ≡ with_clients s (changed id marked s.clients)
 RefusalLeaves s st r t = t ≡ s
 
 abbrev pub RefusalsKeepTheState : Type 0
-RefusalsKeepTheState = (s : State) (st : Step) (m : Point) (r : Refusal) → (next s st m).reply ≡ reply.Refused r → RefusalLeaves s st r (next s st m).state
+RefusalsKeepTheState =
+    (s : State) (st : Step) (m : Point) (r : Refusal) → (next s st m).reply ≡ reply.Refused r
+    → RefusalLeaves s st r (next s st m).state
 
 -- no step changes the bounds or the worker count
 abbrev pub StepsKeepTheDomain : Type 0
-StepsKeepTheDomain = (s : State) (st : Step) (m : Point) → ((next s st m).state.bounds ≡ s.bounds) × ((next s st m).state.workers ≡ s.workers)
+StepsKeepTheDomain =
+    (s : State) (st : Step) (m : Point)
+    → ((next s st m).state.bounds ≡ s.bounds) × ((next s st m).state.workers ≡ s.workers)
 
 -- 9. The numbers of the flushes.
 
@@ -374,24 +419,34 @@ abbrev pub NewFlushesAreSound : Type 0
 NewFlushesAreSound = (n : ℕ) → n ≤ MAX_SERIAL → AreSound (flushes_from n)
 
 abbrev pub BeginsKeepFlushesSound : Type 0
-BeginsKeepFlushesSound = (f : Flushes) → AreSound f → length f.in_flight < MAX_FLIGHTS → f.start < MAX_SERIAL → AreSound (begun f)
+BeginsKeepFlushesSound =
+    (f : Flushes) → AreSound f → length f.in_flight < MAX_FLIGHTS → f.start < MAX_SERIAL
+    → AreSound (begun f)
 
 abbrev pub EndsKeepFlushesSound : Type 0
-EndsKeepFlushesSound = (f : Flushes) (n : ℕ) (ok : Bool) → AreSound f → is_in_flight n f.in_flight ≡ true → AreSound (ended f n ok)
+EndsKeepFlushesSound =
+    (f : Flushes) (n : ℕ) (ok : Bool) → AreSound f → is_in_flight n f.in_flight ≡ true
+    → AreSound (ended f n ok)
 
 -- where the oldest flush in flight ends well, the finish count reaches its number
 abbrev pub OldestFlushReaches : Type 0
-OldestFlushReaches = (f : Flushes) (n : ℕ) → AreSound f → is_in_flight n f.in_flight ≡ true → NumbersRise (n - 1) f.in_flight f.start → n ≤ (ended f n true).finish
+OldestFlushReaches =
+    (f : Flushes) (n : ℕ) → AreSound f → is_in_flight n f.in_flight ≡ true
+    → NumbersRise (n - 1) f.in_flight f.start → n ≤ (ended f n true).finish
 
 -- 10. Which reply a step has, what it queues, and which flushes it ends well.
 
 -- the refusals of a step, in the order in which they are tried
 abbrev pub refusals_of : Step → List Refusal
-refusals_of (step.Reserve lo hi) = refusal.BadWindow ∷ refusal.Taken ∷ refusal.WindowsFull ∷ refusal.NoMemory ∷ []
-refusals_of (step.Open w sac) = refusal.NoWorker ∷ refusal.Worn ∷ refusal.ClientsFull ∷ refusal.NoMemory ∷ []
+refusals_of (step.Reserve lo hi) =
+    refusal.BadWindow ∷ refusal.Taken ∷ refusal.WindowsFull ∷ refusal.NoMemory ∷ []
+refusals_of (step.Open w sac) =
+    refusal.NoWorker ∷ refusal.Worn ∷ refusal.ClientsFull ∷ refusal.NoMemory ∷ []
 refusals_of (step.Alloc w id frames limit) =
-    refusal.NoWorker ∷ refusal.Zero ∷ refusal.TooBig ∷ refusal.NoClient ∷ refusal.Closing ∷ refusal.HoldingsFull ∷ refusal.NoMemory ∷ refusal.NoSpace ∷ []
-refusals_of (step.Unmap w id lo) = refusal.NoWorker ∷ refusal.NoClient ∷ refusal.Closing ∷ refusal.NotHeld ∷ refusal.RingFull ∷ []
+    refusal.NoWorker ∷ refusal.Zero ∷ refusal.TooBig ∷ refusal.NoClient ∷ refusal.Closing
+    ∷ refusal.HoldingsFull ∷ refusal.NoMemory ∷ refusal.NoSpace ∷ []
+refusals_of (step.Unmap w id lo) =
+    refusal.NoWorker ∷ refusal.NoClient ∷ refusal.Closing ∷ refusal.NotHeld ∷ refusal.RingFull ∷ []
 refusals_of step.Begin = refusal.FlightsFull ∷ refusal.Worn ∷ []
 refusals_of (step.End n ok) = refusal.NoFlight ∷ []
 refusals_of (step.Drain ring by) = refusal.NoWorker ∷ []
@@ -427,15 +482,21 @@ ended_well st r = 0
 
 -- only the end of a flush that its sink answered well counts as a good one
 abbrev pub StepsMoveGood : Type 0
-StepsMoveGood = (s : State) (st : Step) (m : Point) → (next s st m).state.flushes.good ≡ s.flushes.good + ended_well st (next s st m).reply
+StepsMoveGood =
+    (s : State) (st : Step) (m : Point)
+    → (next s st m).state.flushes.good ≡ s.flushes.good + ended_well st (next s st m).reply
 
--- the range that a step would queue if the ring had room: none where it is refused before the ring is asked
+-- the range that a step would queue if the ring had room: none where it is refused before the ring
+-- is asked
 abbrev pub unmapped_of : ℕ → Client → Option Frames
 unmapped_of lo c = if c.closing then None else find (begins_at lo) c.holdings
 
 abbrev pub to_queue : State → Step → Option Frames
-to_queue s (step.Unmap w id lo) = if no_worker s w then None else option_and_then (unmapped_of lo) (client_of w id s.clients)
-to_queue s (step.CloseOne w id) = if no_worker s w then None else option_and_then (λ c. slice_get c.holdings 0) (client_of w id s.clients)
+to_queue s (step.Unmap w id lo) =
+    if no_worker s w then None else option_and_then (unmapped_of lo) (client_of w id s.clients)
+to_queue s (step.CloseOne w id) =
+    if no_worker s w then None else option_and_then (λ c. slice_get c.holdings 0)
+    (client_of w id s.clients)
 to_queue s (step.Reserve lo hi) = None
 to_queue s (step.Open w sac) = None
 to_queue s (step.Alloc w id frames limit) = None
@@ -446,7 +507,9 @@ to_queue s (step.Close w id) = None
 
 -- what a step queues was held by the client that it names
 abbrev pub QueuedWereHeld : Type 0
-QueuedWereHeld = (s : State) (st : Step) (m : Point) (r : Frames) → (next s st m).reply ≡ reply.Queued r → to_queue s st ≡ Some r
+QueuedWereHeld =
+    (s : State) (st : Step) (m : Point) (r : Frames) → (next s st m).reply ≡ reply.Queued r
+    → to_queue s st ≡ Some r
 
 -- what the client with this serial holds, nothing where there is none
 abbrev pub held_in : Option Client → List Frames
@@ -458,4 +521,6 @@ held_by id clients = held_in (client_with id clients)
 
 -- a step changes the holdings of no client but the one that it names
 abbrev pub OthersKeepTheirHoldings : Type 0
-OthersKeepTheirHoldings = (s : State) (st : Step) (m : Point) (id : ℕ) → (client_named st ≡ Some id → ⊥) → held_by id (next s st m).state.clients ≡ held_by id s.clients
+OthersKeepTheirHoldings =
+    (s : State) (st : Step) (m : Point) (id : ℕ) → (client_named st ≡ Some id → ⊥)
+    → held_by id (next s st m).state.clients ≡ held_by id s.clients

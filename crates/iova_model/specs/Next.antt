@@ -68,7 +68,8 @@ with_caches s caches = record s { caches = caches }
 abbrev pub with_flushes : State → Flushes → State
 with_flushes s flushes = record s { flushes = flushes }
 
--- Windows: Linux 5.15 drivers/iommu/iova.c: reserve_iova; that there is one window afterwards is our own
+-- Windows: Linux 5.15 drivers/iommu/iova.c: reserve_iova; that there is one window afterwards is
+-- our own
 
 -- a window and all that overlap it
 abbrev pub union : Frames → List Frames → Frames
@@ -95,7 +96,11 @@ reserve_tests s lo hi m =
     ∷ []
 
 abbrev pub reserved : State → Frames → Next
-reserved s r = record { reply = reply.Reserved (union r s.windows); state = with_windows s (windows_with r s.windows) }
+reserved s r =
+    record {
+      reply = reply.Reserved (union r s.windows);
+      state = with_windows s (windows_with r s.windows);
+    }
 
 abbrev pub reserve : State → ℕ → ℕ → Point → Next
 reserve s lo hi m = unless (reserve_tests s lo hi m) s (reserved s (from_to lo hi))
@@ -103,7 +108,8 @@ reserve s lo hi m = unless (reserve_tests s lo hi m) s (reserved s (from_to lo h
 -- Clients
 
 abbrev pub opened : State → ℕ → Bool → State
-opened s w sac = record s { clients = s.clients ++ new_client (s.serial + 1) w sac ∷ []; serial = s.serial + 1 }
+opened s w sac =
+    record s { clients = s.clients ++ new_client (s.serial + 1) w sac ∷ []; serial = s.serial + 1 }
 
 abbrev pub open_tests : State → ℕ → Point → List (Bool × Refusal)
 open_tests s w m =
@@ -114,10 +120,13 @@ open_tests s w m =
     ∷ []
 
 abbrev pub open_client : State → ℕ → Bool → Point → Next
-open_client s w sac m = unless (open_tests s w m) s (record { reply = reply.Opened (s.serial + 1); state = opened s w sac })
+open_client s w sac m =
+    unless (open_tests s w m) s (record
+    { reply = reply.Opened (s.serial + 1); state = opened s w sac })
 
--- Requests: Linux 5.15 drivers/iommu/dma-iommu.c: iommu_dma_alloc_iova, and drivers/iommu/iova.c: alloc_iova_fast; what is
--- emptied before the tree is asked once more, and that a refused growth ends the walk, are our own
+-- Requests: Linux 5.15 drivers/iommu/dma-iommu.c: iommu_dma_alloc_iova, and drivers/iommu/iova.c:
+-- alloc_iova_fast; what is emptied before the tree is asked once more, and that a refused growth
+-- ends the walk, are our own
 
 -- what a try comes to
 pub data Found : Type 0 where
@@ -133,7 +142,8 @@ pub record Tried : Type 0 where
 abbrev pub from_cache : State → ℕ → ℕ → ℕ → Option ℕ → Option ℕ × State
 from_cache s w size limit None = (None, s)
 from_cache s w size limit (Some o) =
-    let got = get (shelf_at s.caches w o) limit size in (got.0, with_caches s (with_shelf s.caches w o got.1))
+    let got = get (shelf_at s.caches w o) limit size in
+    (got.0, with_caches s (with_shelf s.caches w o got.1))
 
 -- the greatest place that fits among all that somebody has
 abbrev pub best_place : State → ℕ → ℕ → Option ℕ
@@ -142,7 +152,8 @@ best_place s size limit = best s.bounds (held_ranges s) size limit
 -- a range of the tree, whose insertion may be refused memory
 abbrev pub from_tree : State → Option ℕ → Bool → Tried
 from_tree s None no_memory = record { found = Nowhere; state = s }
-from_tree s (Some lo) no_memory = record { found = if no_memory then OutOfMemory else At lo; state = s }
+from_tree s (Some lo) no_memory =
+    record { found = if no_memory then OutOfMemory else At lo; state = s }
 
 -- where there was nothing, the tree alone is asked again, with all caches emptied
 abbrev pub or_emptied : Found → State → ℕ → ℕ → Bool → Bool → Tried
@@ -156,12 +167,14 @@ or_emptied OutOfMemory s size limit emptying no_memory = record { found = OutOfM
 abbrev pub or_tree : Option ℕ → State → ℕ → ℕ → Bool → Point → Point → Tried
 or_tree (Some lo) s size limit emptying here m = record { found = At lo; state = s }
 or_tree None s size limit emptying here m =
-    let t = from_tree s (best_place s size limit) (is_at here m) in or_emptied t.found t.state size limit emptying (is_at point.Last m)
+    let t = from_tree s (best_place s size limit) (is_at here m) in or_emptied t.found t.state size
+    limit emptying (is_at point.Last m)
 
 -- one try, whose first growth is at the point `here`
 abbrev pub try : State → ℕ → ℕ → ℕ → Bool → Point → Point → Tried
 try s w size limit emptying here m =
-    let cached = from_cache s w size limit (order_of size) in or_tree cached.0 cached.1 size limit emptying here m
+    let cached = from_cache s w size limit (order_of size) in or_tree cached.0 cached.1 size limit
+    emptying here m
 
 -- the second try, where the first found nothing
 abbrev pub or_second : Found → State → ℕ → ℕ → ℕ → Point → Tried
@@ -172,7 +185,8 @@ or_second OutOfMemory s w size limit m = record { found = OutOfMemory; state = s
 abbrev pub walk : State → ℕ → Bool → ℕ → ℕ → Point → Tried
 walk s w sac size limit m =
     if sac && nat_lt SAC_LIMIT limit
-    then (let t = try s w size SAC_LIMIT false point.First m in or_second t.found t.state w size limit m)
+    then (let t = try s w size SAC_LIMIT false point.First m in or_second t.found t.state w size
+    limit m)
     else try s w size limit true point.Second m
 
 abbrev pub given : Found → State → ℕ → ℕ → Next
@@ -194,7 +208,8 @@ ledger_tests c m =
 
 abbrev pub alloc_to : Option Client → State → ℕ → ℕ → ℕ → ℕ → Point → Next
 alloc_to None s w id size limit m = refused refusal.NoClient s
-alloc_to (Some c) s w id size limit m = unless (ledger_tests c m) s (given_from (walk s w c.sac size limit m) id size)
+alloc_to (Some c) s w id size limit m =
+    unless (ledger_tests c m) s (given_from (walk s w c.sac size limit m) id size)
 
 abbrev pub alloc_tests : State → ℕ → ℕ → List (Bool × Refusal)
 alloc_tests s w frames =
@@ -204,9 +219,12 @@ alloc_tests s w frames =
     ∷ []
 
 abbrev pub alloc : State → ℕ → ℕ → ℕ → ℕ → Point → Next
-alloc s w id frames limit m = unless (alloc_tests s w frames) s (alloc_to (client_of w id s.clients) s w id (need frames) limit m)
+alloc s w id frames limit m =
+    unless (alloc_tests s w frames) s (alloc_to (client_of w id s.clients) s w id (need frames)
+    limit m)
 
--- Rings: Linux 5.15 drivers/iommu/iova.c: queue_iova, fq_ring_free; that a full ring refuses is our own
+-- Rings: Linux 5.15 drivers/iommu/iova.c: queue_iova, fq_ring_free; that a full ring refuses is our
+-- own
 
 abbrev pub ring_at : State → ℕ → List Entry
 ring_at s q = slice_index_or s.rings q []
@@ -214,7 +232,8 @@ ring_at s q = slice_index_or s.rings q []
 -- ring q is drained into the magazines of worker w
 abbrev pub drained : State → ℕ → ℕ → State
 drained s q w = record s {
-  caches = put_all s.bounds.profile s.caches w (map entry_range (flushed s.flushes.finish (ring_at s q)));
+  caches = put_all s.bounds.profile s.caches w
+      (map entry_range (flushed s.flushes.finish (ring_at s q)));
   rings = slice_set s.rings q (unflushed s.flushes.finish (ring_at s q));
 }
 
@@ -223,21 +242,28 @@ drain_tests s q w = (no_worker s q || no_worker s w, refusal.NoWorker) ∷ []
 
 abbrev pub drain : State → ℕ → ℕ → Next
 drain s q w =
-    unless (drain_tests s q w) s (record { reply = reply.Drained (length (flushed s.flushes.finish (ring_at s q))); state = drained s q w })
+    unless (drain_tests s q w) s (record {
+      reply = reply.Drained (length (flushed s.flushes.finish (ring_at s q)));
+      state = drained s q w;
+    })
 
 -- a holding goes last into the worker's ring, with the start count
 abbrev pub queued : State → ℕ → ℕ → Frames → State
 queued s w id r = record s {
   clients = changed id (without_holding r.lo) s.clients;
-  rings = slice_set s.rings w (ring_at s w ++ record { lo = r.lo; len = r.len; count = s.flushes.start } ∷ []);
+  rings = slice_set s.rings w (ring_at s w
+      ++ record { lo = r.lo; len = r.len; count = s.flushes.start } ∷ []);
 }
 
 abbrev pub full_tests : State → ℕ → List (Bool × Refusal)
 full_tests s w = (nat_le MAX_ENTRIES (length (ring_at s w)), refusal.RingFull) ∷ []
 
--- The worker's own ring is drained first. One that is still full has given nothing up, so a refusal leaves the state.
+-- The worker's own ring is drained first. One that is still full has given nothing up, so a refusal
+-- leaves the state.
 abbrev pub queue : State → ℕ → ℕ → Frames → Next
-queue s w id r = let d = drained s w w in unless (full_tests d w) s (record { reply = reply.Queued r; state = queued d w id r })
+queue s w id r =
+    let d = drained s w w in unless (full_tests d w) s
+    (record { reply = reply.Queued r; state = queued d w id r })
 
 abbrev pub unmap_held : Option Frames → State → ℕ → ℕ → Next
 unmap_held None s w id = refused refusal.NotHeld s
@@ -248,12 +274,14 @@ closing_tests c = (c.closing, refusal.Closing) ∷ []
 
 abbrev pub unmap_of : Option Client → State → ℕ → ℕ → ℕ → Next
 unmap_of None s w id lo = refused refusal.NoClient s
-unmap_of (Some c) s w id lo = unless (closing_tests c) s (unmap_held (find (begins_at lo) c.holdings) s w id)
+unmap_of (Some c) s w id lo =
+    unless (closing_tests c) s (unmap_held (find (begins_at lo) c.holdings) s w id)
 
 abbrev pub unmap : State → ℕ → ℕ → ℕ → Next
 unmap s w id lo = unless (worker_tests s w) s (unmap_of (client_of w id s.clients) s w id lo)
 
--- Flushes: the start count of Linux 5.15 drivers/iommu/iova.c: iova_domain_flush; several in flight are our own
+-- Flushes: the start count of Linux 5.15 drivers/iommu/iova.c: iova_domain_flush; several in flight
+-- are our own
 
 abbrev pub begin_tests : Flushes → List (Bool × Refusal)
 begin_tests f =
@@ -263,27 +291,34 @@ begin_tests f =
 
 abbrev pub begin : State → Next
 begin s =
-    unless (begin_tests s.flushes) s (record { reply = reply.Begun (s.flushes.start + 1); state = with_flushes s (begun s.flushes) })
+    unless (begin_tests s.flushes) s (record
+    { reply = reply.Begun (s.flushes.start + 1); state = with_flushes s (begun s.flushes) })
 
 abbrev pub end_tests : Flushes → ℕ → List (Bool × Refusal)
 end_tests f n = (not (is_in_flight n f.in_flight), refusal.NoFlight) ∷ []
 
 abbrev pub end : State → ℕ → Bool → Next
 end s n ok =
-    unless (end_tests s.flushes n) s (record { reply = reply.Ended; state = with_flushes s (ended s.flushes n ok) })
+    unless (end_tests s.flushes n) s (record
+    { reply = reply.Ended; state = with_flushes s (ended s.flushes n ok) })
 
 -- Closing: own
 
 abbrev pub close_of : Option Client → State → ℕ → Next
 close_of None s id = refused refusal.NoClient s
-close_of (Some c) s id = record { reply = reply.Marked (length c.holdings); state = with_clients s (changed id marked s.clients) }
+close_of (Some c) s id =
+    record {
+      reply = reply.Marked (length c.holdings);
+      state = with_clients s (changed id marked s.clients);
+    }
 
 abbrev pub close : State → ℕ → ℕ → Next
 close s w id = unless (worker_tests s w) s (close_of (client_of w id s.clients) s id)
 
 -- the lowest holding is queued, or the client goes; where the ring is full, the mark stays
 abbrev pub close_lowest : List Frames → State → ℕ → ℕ → Next
-close_lowest [] s w id = record { reply = reply.Empty; state = with_clients s (forgotten id s.clients) }
+close_lowest [] s w id =
+    record { reply = reply.Empty; state = with_clients s (forgotten id s.clients) }
 close_lowest (r ∷ rs) s w id = queue (with_clients s (changed id marked s.clients)) w id r
 
 abbrev pub close_one_of : Option Client → State → ℕ → ℕ → Next
@@ -293,8 +328,8 @@ close_one_of (Some c) s w id = close_lowest c.holdings s w id
 abbrev pub close_one : State → ℕ → ℕ → Next
 close_one s w id = unless (worker_tests s w) s (close_one_of (client_of w id s.clients) s w id)
 
--- The reply to a step, and the state after it, where the growth at this point was refused. A point that the step doesn't come
--- to changes nothing.
+-- The reply to a step, and the state after it, where the growth at this point was refused. A point
+-- that the step doesn't come to changes nothing.
 abbrev pub next : State → Step → Point → Next
 next s (step.Reserve lo hi) m = reserve s lo hi m
 next s (step.Open w sac) m = open_client s w sac m

@@ -1,5 +1,5 @@
--- The promises of the product: what holds of every list of steps that are run from a valid state, and of the state that they
--- leave. Whatever runs steps states these.
+-- The promises of the product: what holds of every list of steps that are run from a valid state,
+-- and of the state that they leave. Whatever runs steps states these.
 use Rattle.std.specs.Prelude.{ℕ, ◌≡◌, ◌<◌, ◌≤◌, ◌+◌, ◌%◌, ◌⊎◌, List, [], ◌∷◌, ◌++◌, take, Some, None, slice_get}
 use Rattle.iova_range.specs.Frames.{Frames}
 use Rattle.iova_range.specs.Sizes.{align_of}
@@ -15,26 +15,35 @@ use Rattle.iova_model.specs.Laws.{IsOnlyAt, CountsAddUp, shares_below, Conserves
 
 -- An unmapped frame is given again only after a flush that began after its unmap has ended well.
 abbrev pub ReuseLaw : List Pair → Type 0
-ReuseLaw ps = (i n frame : ℕ) → i < n → IsUnmappedAt ps i frame → IsGivenAt ps n frame → IsFlushedBetween ps i n
+ReuseLaw ps =
+    (i n frame : ℕ) → i < n → IsUnmappedAt ps i frame → IsGivenAt ps n frame
+    → IsFlushedBetween ps i n
 
--- From the step that marks a client closing on, nothing but its closing takes its holdings, and takes them lowest first.
+-- From the step that marks a client closing on, nothing but its closing takes its holdings, and
+-- takes them lowest first.
 abbrev pub ClosingLaw : State → List Pair → Type 0
 ClosingLaw s ps =
-    (before : List Pair) (p : Pair) (later : List Pair) (id : ℕ) (c : Client) → ps ≡ before ++ p ∷ later
+    (before : List Pair) (p : Pair) (later : List Pair) (id : ℕ) (c : Client)
+    → ps ≡ before ++ p ∷ later
     → client_with id (after s before).clients ≡ Some c → Marks id p.step p.reply
-    → IsClosing id c.holdings (p ∷ later) (after s ps) ⊎ IsGone id c.holdings (p ∷ later) (after s ps)
+    → IsClosing id c.holdings (p ∷ later) (after s ps)
+    ⊎ IsGone id c.holdings (p ∷ later) (after s ps)
 
--- A client whose serial was given and that is gone after some of the pairs stays gone, and each later step that names it is
--- refused.
+-- A client whose serial was given and that is gone after some of the pairs stays gone, and each
+-- later step that names it is refused.
 abbrev pub GoneLaw : State → List Pair → Type 0
 GoneLaw s ps =
-    (before later : List Pair) (id : ℕ) → ps ≡ before ++ later → id ≤ (after s before).serial → client_with id (after s before).clients ≡ None
+    (before later : List Pair) (id : ℕ) → ps ≡ before ++ later → id ≤ (after s before).serial
+    → client_with id (after s before).clients ≡ None
     → (client_with id (after s ps).clients ≡ None)
-    × ((i : ℕ) (p : Pair) → slice_get later i ≡ Some p → client_named p.step ≡ Some id → p.reply ≡ reply.Refused (unknown_refusal (after s before) p.step))
+    × ((i : ℕ) (p : Pair) → slice_get later i ≡ Some p → client_named p.step ≡ Some id
+    → p.reply ≡ reply.Refused (unknown_refusal (after s before) p.step))
 
 -- No step loses a frame, and none makes one.
 abbrev pub ConservationLaw : State → List Pair → Type 0
-ConservationLaw s ps = (n : ℕ) (p : Pair) → slice_get ps n ≡ Some p → Conserves (after s (take n ps)) p.step (next (after s (take n ps)) p.step p.point)
+ConservationLaw s ps =
+    (n : ℕ) (p : Pair) → slice_get ps n ≡ Some p
+    → Conserves (after s (take n ps)) p.step (next (after s (take n ps)) p.step p.point)
 
 -- Each frame is in exactly one place.
 abbrev pub OnePlace : State → Type 0
@@ -50,12 +59,15 @@ pub record IsWithin (s : State) (r : Frames) : Type 0 where
 abbrev pub HoldersAreWithin : State → Type 0
 HoldersAreWithin s = (i : ℕ) (h : Holder) → slice_get (holders s) i ≡ Some h → IsWithin s h.range
 
--- What somebody has, unless it is a window, begins at a multiple of the least power of two that isn't below its length.
+-- What somebody has, unless it is a window, begins at a multiple of the least power of two that
+-- isn't below its length.
 abbrev pub OwnersAreAligned : State → Type 0
-OwnersAreAligned s = (i : ℕ) (h : Holder) → slice_get (owners s) i ≡ Some h → h.range.lo % align_of h.range.len ≡ 0
+OwnersAreAligned s =
+    (i : ℕ) (h : Holder) → slice_get (owners s) i ≡ Some h → h.range.lo % align_of h.range.len ≡ 0
 
--- The steps from s on, with their replies, keep the laws, and each frame of the state that they leave is in one place; the
--- counts add up to the bounds, and the totals are the sums of the shares of all workers.
+-- The steps from s on, with their replies, keep the laws, and each frame of the state that they
+-- leave is in one place; the counts add up to the bounds, and the totals are the sums of the shares
+-- of all workers.
 pub record AreKept (s : State) (ps : List Pair) : Type 0 where
   pub flushed : FlushLaw s ps
   pub reuse : ReuseLaw ps
@@ -69,7 +81,8 @@ pub record AreKept (s : State) (ps : List Pair) : Type 0 where
   pub counted : CountsAddUp (after s ps)
   pub totals : totals (after s ps).clients ≡ shares_below (after s ps).workers (after s ps).clients
 
--- From old to new these steps were taken, at some memory points, and their replies appended; and the promises are kept.
+-- From old to new these steps were taken, at some memory points, and their replies appended; and
+-- the promises are kept.
 pub record Runs (old new : State) (taken : List Step) (before now : List Reply) : Type 0 where
   pub run : IsRun old new taken before now
   pub kept : AreKept old run.pairs

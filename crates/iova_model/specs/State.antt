@@ -10,8 +10,9 @@ use Rattle.iova_model.specs.Caches.{Cache, Caches, new_caches, of_order}
 use Rattle.iova_model.specs.Flushes.{Flushes, flushes_from, entry_range}
 use Rattle.iova_model.specs.Clients.{Client}
 
--- The bounds with their profile; the worker count; the windows, rising; the clients, rising by serial, and the last serial
--- given; the caches; each worker's ring, oldest entry first; the flushes.
+-- The bounds with their profile; the worker count; the windows, rising; the clients, rising by
+-- serial, and the last serial given; the caches; each worker's ring, oldest entry first; the
+-- flushes.
 pub record State : Type 0 where
   pub bounds : Extent
   pub workers : ℕ
@@ -54,7 +55,8 @@ client_holders (c ∷ cs) = at_place (place.Client c.id) c.holdings ++ client_ho
 abbrev pub cache_holders : ℕ → ℕ → List Cache → List Holder
 cache_holders w o [] = []
 cache_holders w o (c ∷ cs) =
-    at_place (place.Magazine w) (of_order o c.loaded) ++ (at_place (place.Magazine w) (of_order o c.previous) ++ cache_holders w (o + 1) cs)
+    at_place (place.Magazine w) (of_order o c.loaded)
+    ++ (at_place (place.Magazine w) (of_order o c.previous) ++ cache_holders w (o + 1) cs)
 
 -- of the workers from w on
 abbrev pub magazine_holders : ℕ → List (List Cache) → List Holder
@@ -136,7 +138,9 @@ count_below passes zero = 0
 count_below passes (suc n) = (if passes n then 1 else 0) + count_below passes n
 
 abbrev pub frames_at : State → (Place → Bool) → ℕ
-frames_at s kind = count_below (λ frame. nat_le s.bounds.start frame && kind (place_of s frame)) (s.bounds.last + 1)
+frames_at s kind =
+    count_below (λ frame. nat_le s.bounds.start frame && kind (place_of s frame))
+    (s.bounds.last + 1)
 
 abbrev pub counts : State → Counts
 counts s = record {

@@ -21,7 +21,8 @@ pub record Pair : Type 0 where
 -- each reply is the step's, in the state that the pairs before it leave
 abbrev pub IsTranscript : State → List Pair → Type 0
 IsTranscript s [] = Unit {0}
-IsTranscript s (p ∷ ps) = (p.reply ≡ (next s p.step p.point).reply) × IsTranscript (next s p.step p.point).state ps
+IsTranscript s (p ∷ ps) =
+    (p.reply ≡ (next s p.step p.point).reply) × IsTranscript (next s p.step p.point).state ps
 
 -- the state that the pairs leave
 abbrev pub after : State → List Pair → State
@@ -60,8 +61,10 @@ pub record IsWholeFlush (ps : List Pair) (b d : ℕ) : Type 0 where
   pub number : ℕ
   pub begin_point : Point
   pub end_point : Point
-  pub begins : slice_get ps b ≡ Some (record { step = step.Begin; point = begin_point; reply = reply.Begun number })
-  pub ends : slice_get ps d ≡ Some (record { step = step.End number true; point = end_point; reply = reply.Ended })
+  pub begins : slice_get ps b ≡ Some (record
+      { step = step.Begin; point = begin_point; reply = reply.Begun number })
+  pub ends : slice_get ps d ≡ Some (record
+      { step = step.End number true; point = end_point; reply = reply.Ended })
   pub order : b < d
 
 -- a ring has the frame
@@ -76,7 +79,8 @@ pub record IsFlushedBetween (ps : List Pair) (i n : ℕ) : Type 0 where
   pub later : i < began
   pub earlier : done < n
 
--- A frame that was unmapped has left the rings only where a flush that began afterwards has ended well.
+-- A frame that was unmapped has left the rings only where a flush that began afterwards has ended
+-- well.
 abbrev pub FlushLaw : State → List Pair → Type 0
 FlushLaw s ps =
     (n i frame : ℕ) → n ≤ length ps → i < n → IsUnmappedAt ps i frame

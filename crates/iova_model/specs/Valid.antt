@@ -19,8 +19,8 @@ is_inside b r = nat_le 1 r.len && nat_le b.start r.lo && nat_le (r.lo + r.len) (
 abbrev pub is_aligned : Frames → Bool
 is_aligned r = r.lo % align_of r.len == 0
 
--- No frame is in two holders; each holder is inside the bounds, and aligned to its length unless it is a window. So each
--- frame of the bounds is in exactly one place.
+-- No frame is in two holders; each holder is inside the bounds, and aligned to its length unless it
+-- is a window. So each frame of the bounds is in exactly one place.
 pub record IsOnePlace (s : State) : Type 0 where
   pub once : (frame : ℕ) → times_held frame (holders s) ≤ 1
   pub inside : list_all (λ h. is_inside s.bounds h.range) (holders s) ≡ true

@@ -1,5 +1,5 @@
-//! The definitions of the service in `specs/`, and the types that they speak of. No code runs here: the crates above
-//! are proved against these definitions.
+//! The definitions of the service in `specs/`, and the types that they speak of. No code runs here:
+//! the crates above are proved against these definitions.
 #![tactic(auto)]
 
 pub mod entry;

@@ -16,7 +16,8 @@ pub enum Place {
     Ring(u64),
 }
 
-/// How many frames of the bounds are at each kind of place. They add up to the length of the bounds.
+/// How many frames of the bounds are at each kind of place. They add up to the length of the
+/// bounds.
 #[derive(Clone, Copy, Debug, Default, PartialEq, Eq)]
 pub struct Counts {
     /// Nobody's.

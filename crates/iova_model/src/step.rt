@@ -5,11 +5,12 @@ use iova_range::refusal::Refusal;
 /// The serial of a client, 1 to 2^63 - 1. None is given twice.
 pub type ClientId = u64;
 
-/// One step of a domain. Workers, rings, clients and flush numbers are any numbers: the step itself refuses those that
-/// there are not.
+/// One step of a domain. Workers, rings, clients and flush numbers are any numbers: the step itself
+/// refuses those that there are not.
 #[derive(Clone, Copy, Debug)]
 pub enum Step {
-    /// Makes one window of the frames `lo` to `hi`, both inside, and of all windows that overlap them.
+    /// Makes one window of the frames `lo` to `hi`, both inside, and of all windows that overlap
+    /// them.
     Reserve {
         lo: u64,
         hi: u64,
@@ -49,7 +50,8 @@ pub enum Step {
         worker: u64,
         client: u64,
     },
-    /// Marks the client closing and puts its lowest holding into the worker's ring, or, where it has none, forgets it.
+    /// Marks the client closing and puts its lowest holding into the worker's ring, or, where it
+    /// has none, forgets it.
     CloseOne {
         worker: u64,
         client: u64,

@@ -8,7 +8,8 @@ use Rattle.iova_proto.specs.declared.answer.Answer.{Answer}
 use Rattle.iova_proto.specs.declared.answer.Answer.TheVariants as answer
 
 abbrev pub stat_numbers : Stat → List ℕ
-stat_numbers s = s.free ∷ s.reserved ∷ s.client ∷ s.magazine ∷ s.depot ∷ s.ring ∷ s.start ∷ s.finish ∷ []
+stat_numbers s =
+    s.free ∷ s.reserved ∷ s.client ∷ s.magazine ∷ s.depot ∷ s.ring ∷ s.start ∷ s.finish ∷ []
 
 -- the first line of an answer's text, with its LF
 abbrev pub first_line : Answer → List ℕ
@@ -17,7 +18,8 @@ first_line (answer.Given r) = whole_line (numbers_line (codes "given") (r.lo ∷
 first_line (answer.Queued r) = whole_line (numbers_line (codes "queued") (r.lo ∷ r.len ∷ []))
 first_line (answer.Freed r) = whole_line (numbers_line (codes "freed") (r.lo ∷ r.len ∷ []))
 first_line (answer.Held ranges) = whole_line (numbers_line (codes "held") (length ranges ∷ []))
-first_line (answer.Flushed number freed) = whole_line (numbers_line (codes "flushed") (number ∷ freed ∷ []))
+first_line (answer.Flushed number freed) =
+    whole_line (numbers_line (codes "flushed") (number ∷ freed ∷ []))
 first_line (answer.Stat stat) = whole_line (numbers_line (codes "stat") (stat_numbers stat))
 first_line answer.Bye = whole_line (codes "bye")
 first_line (answer.Refused r) = whole_line (refusal_line r)

@@ -18,14 +18,17 @@ pub record BeginsOdd (bytes : List ℕ) : Type 0 where
 abbrev pub BeginsBad : List ℕ → Type 0
 BeginsBad bytes = BeginsOdd bytes ⊎ IsOverlong bytes
 
--- the bytes that are kept and so many of the piece, one at least, are the line of this request, and nothing is kept after it
-pub record EndsLine (kept piece : List ℕ) (r : Request) (used : ℕ) (next : Option (List ℕ)) : Type 0 where
+-- the bytes that are kept and so many of the piece, one at least, are the line of this request, and
+-- nothing is kept after it
+pub record EndsLine (kept piece : List ℕ) (r : Request) (used : ℕ)
+    (next : Option (List ℕ)) : Type 0 where
   pub some : 1 ≤ used
   pub within : used ≤ length piece
   pub spells : Spells (kept ++ take used piece) r
   pub next_is : next ≡ Some []
 
--- What a piece gives after these bytes of a line that has not ended, and what is kept then: nothing more after a bad line.
+-- What a piece gives after these bytes of a line that has not ended, and what is kept then: nothing
+-- more after a bad line.
 abbrev pub Feeds : List ℕ → List ℕ → Fed → Option (List ℕ) → Type 0
 Feeds kept piece (fed.Request r used) next = EndsLine kept piece r used next
 Feeds kept piece fed.More next = IsUnended (kept ++ piece) × (next ≡ Some (kept ++ piece))

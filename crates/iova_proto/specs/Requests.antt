@@ -50,4 +50,5 @@ pub record Spells (line : List ℕ) (r : Request) : Type 0 where
 
 -- it is a request of this verb, and these bytes are its other words
 abbrev pub IsSpelledBy : List ℕ → List ℕ → Request → Type 0
-IsSpelledBy verb arguments r = IsRequest r × (request_verb r ≡ verb) × (arguments ≡ spaced_words (request_arguments r))
+IsSpelledBy verb arguments r =
+    IsRequest r × (request_verb r ≡ verb) × (arguments ≡ spaced_words (request_arguments r))

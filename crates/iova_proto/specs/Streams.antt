@@ -7,20 +7,24 @@ use Rattle.iova_proto.specs.declared.fed.Fed.TheVariants as fed
 use Rattle.iova_proto.specs.Requests.{request_text, IsRequest}
 use Rattle.iova_proto.specs.Feeds.{BeginsBad, Feeds}
 
--- A piece is fed whole: after each request what is left of it is fed again, until no line has ended, or one is bad. The states
--- before and after are what is kept of a line, or none after a bad line.
+-- A piece is fed whole: after each request what is left of it is fed again, until no line has
+-- ended, or one is bad. The states before and after are what is kept of a line, or none after a bad
+-- line.
 abbrev pub FeedsPiece : List Request → Option (List ℕ) → List ℕ → Option (List ℕ) → Type 0
 FeedsPiece [] None piece next = next ≡ None
-FeedsPiece [] (Some kept) piece next = Feeds kept piece fed.More next ⊎ Feeds kept piece fed.Bad next
+FeedsPiece [] (Some kept) piece next =
+    Feeds kept piece fed.More next ⊎ Feeds kept piece fed.Bad next
 FeedsPiece (r ∷ rs) None piece next = ⊥
 FeedsPiece (r ∷ rs) (Some kept) piece next =
-    (used : ℕ) × Feeds kept piece (fed.Request r used) (Some []) × FeedsPiece rs (Some []) (drop used piece) next
+    (used : ℕ) × Feeds kept piece (fed.Request r used) (Some [])
+    × FeedsPiece rs (Some []) (drop used piece) next
 
 -- pieces are fed one after another
 abbrev pub FeedsPieces : List (List ℕ) → Option (List ℕ) → List Request → Option (List ℕ) → Type 0
 FeedsPieces [] state rs next = (rs ≡ []) × (next ≡ state)
 FeedsPieces (piece ∷ pieces) state rs next =
-    (first : List Request) × (mid : Option (List ℕ)) × (others : List Request) × (rs ≡ first ++ others)
+    (first : List Request) × (mid : Option (List ℕ)) × (others : List Request)
+    × (rs ≡ first ++ others)
     × FeedsPiece first state piece mid × FeedsPieces pieces mid others next
 
 -- how a stream stands after its whole lines: in a line that has not ended, or at a bad line
@@ -41,15 +45,22 @@ joined pieces = flat_map (λ (piece : List ℕ). piece) pieces
 
 -- what the pieces of a stream give is what stands in the whole of it
 abbrev pub PiecesRead : Type 0
-PiecesRead = (pieces : List (List ℕ)) (rs : List Request) (state : Option (List ℕ)) → FeedsPieces pieces (Some []) rs state
+PiecesRead =
+    (pieces : List (List ℕ)) (rs : List Request) (state : Option (List ℕ))
+    → FeedsPieces pieces (Some []) rs state
     → Reads (joined pieces) rs state
 
 -- a stream is read in one way
 abbrev pub OneReading : Type 0
-OneReading = (stream : List ℕ) (rs ss : List Request) (state other : Option (List ℕ)) → Reads stream rs state → Reads stream ss other
+OneReading =
+    (stream : List ℕ) (rs ss : List Request) (state other : Option (List ℕ)) → Reads stream rs state
+    → Reads stream ss other
     → (rs ≡ ss) × (state ≡ other)
 
 -- so a stream gives the same however it is cut
 abbrev pub AnyCut : Type 0
-AnyCut = (pieces others : List (List ℕ)) (rs ss : List Request) (state other : Option (List ℕ)) → joined pieces ≡ joined others
-    → FeedsPieces pieces (Some []) rs state → FeedsPieces others (Some []) ss other → (rs ≡ ss) × (state ≡ other)
+AnyCut =
+    (pieces others : List (List ℕ)) (rs ss : List Request) (state other : Option (List ℕ))
+    → joined pieces ≡ joined others
+    → FeedsPieces pieces (Some []) rs state → FeedsPieces others (Some []) ss other
+    → (rs ≡ ss) × (state ≡ other)

@@ -17,7 +17,8 @@ pub enum Answer {
     Freed(Range),
     /// `held <n>`, and a line `<lo> <len>` for each of the n ranges: what the client holds.
     Held(HeldRanges),
-    /// `flushed <no> <freed>`: the number of the flush, and how many entries left the rings after it.
+    /// `flushed <no> <freed>`: the number of the flush, and how many entries left the rings after
+    /// it.
     Flushed { no: u64, freed: u64 },
     /// `stat` and eight numbers: what the domain holds.
     Stat(Stat),

@@ -15,8 +15,8 @@ use thiserror::Error;
 #[error("not a line of the protocol")]
 pub struct BadLine;
 
-/// The request of this line, which ends with its LF. Refused exactly where no request has that spelling: each request has
-/// one. Takes no memory. Own.
+/// The request of this line, which ends with its LF. Refused exactly where no request has that
+/// spelling: each request has one. Takes no memory. Own.
 pub fn decode(line: &[u8]) -> Result<Request, BadLine>
     ensures spelled { IfOk result (Spells line.now) }
     ensures read { (r : R) → Spells line.now r → result ≡ Ok r }
@@ -62,9 +62,9 @@ const ALLO: u32 = 0x6f6c_6c61;
 /// No line of these two words has fewer bytes: `free 1` and its LF.
 const SHORTEST: usize = 7;
 
-/// The request of the line at the front of the text, and what is behind that line, read in one pass. It knows the two
-/// requests of which there are many, `alloc` and `free`, with numbers of 1 to 18 digits that do not begin with `0`. None
-/// where no such line is at the front.
+/// The request of the line at the front of the text, and what is behind that line, read in one
+/// pass. It knows the two requests of which there are many, `alloc` and `free`, with numbers of 1
+/// to 18 digits that do not begin with `0`. None where no such line is at the front.
 #[inline(always)]
 pub(crate) fn request_at(text: &[u8]) -> Option<(Request, &[u8])>
     ensures { IfSome result (λ p. IsRequest p.0 × (text.now ≡ request_text p.0 ++ p.1.now)) }
@@ -85,7 +85,8 @@ pub(crate) fn request_at(text: &[u8]) -> Option<(Request, &[u8])>
 /// ` <frames> <limit>` and an LF.
 #[inline(always)]
 fn alloc_at(text: &[u8]) -> Option<(Request, &[u8])>
-    ensures { IfSome result (λ p. IsRequest p.0 × (codes "alloc" ++ text.now ≡ request_text p.0 ++ p.1.now)) }
+    ensures { IfSome result (λ p. IsRequest p.0
+        × (codes "alloc" ++ text.now ≡ request_text p.0 ++ p.1.now)) }
 {
     let (frames, more) = next_short(text)?;
     let (limit, end) = next_short(more)?;
@@ -98,7 +99,8 @@ fn alloc_at(text: &[u8]) -> Option<(Request, &[u8])>
 /// ` <lo>` and an LF.
 #[inline(always)]
 fn free_at(text: &[u8]) -> Option<(Request, &[u8])>
-    ensures { IfSome result (λ p. IsRequest p.0 × (codes "free" ++ text.now ≡ request_text p.0 ++ p.1.now)) }
+    ensures { IfSome result (λ p. IsRequest p.0
+        × (codes "free" ++ text.now ≡ request_text p.0 ++ p.1.now)) }
 {
     let (lo, end) = next_short(text)?;
     match end {
@@ -146,9 +148,11 @@ fn hello_of(arguments: &[u8]) -> Option<Request>
 
 /// ` <domain> sac` or ` <domain> dac`.
 fn client_of(arguments: &[u8]) -> Option<Request>
-    ensures spelled { IfSome result (IsSpelledBy (codes "hello") (codes " iova1" ++ arguments.now)) }
+    ensures spelled { IfSome result (IsSpelledBy (codes "hello")
+        (codes " iova1" ++ arguments.now)) }
     ensures read { (domain : ℕ) (sac : Bool) → IsRequest (Request.Hello domain sac)
-        → codes " iova1" ++ arguments.now ≡ spaced_words (request_arguments (Request.Hello domain sac))
+        → codes " iova1" ++ arguments.now
+        ≡ spaced_words (request_arguments (Request.Hello domain sac))
         → result ≡ Some (Request.Hello domain sac) }
 {
     let (domain, kind) = next_number(arguments)?;
@@ -158,8 +162,10 @@ fn client_of(arguments: &[u8]) -> Option<Request>
 
 /// A request of one word.
 fn word_alone(word: &[u8]) -> Option<Request>
-    ensures spelled { IfSome result (λ r. IsRequest r × (word.now ≡ request_verb r) × (request_arguments r ≡ [])) }
-    ensures read { (r : R) → word.now ≡ request_verb r → request_arguments r ≡ [] → result ≡ Some r }
+    ensures spelled { IfSome result (λ r. IsRequest r × (word.now ≡ request_verb r)
+        × (request_arguments r ≡ [])) }
+    ensures read { (r : R) → word.now ≡ request_verb r → request_arguments r ≡ []
+        → result ≡ Some r }
 {
     if word == b"list".as_slice() {
         Some(Request::List)

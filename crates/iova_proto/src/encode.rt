@@ -12,11 +12,13 @@ use iova_text::buffer::{LineBuffer, append, put, put_number, put_numbers, put_tw
 /// The most bytes of an answer's first line, with its LF: `stat` and eight numbers.
 pub const MAX_FIRST_LINE: usize = 173;
 
-/// Appends the answer's text. Refused by `NoMemory`, which appends nothing and comes only where `out` has to grow. Own.
+/// Appends the answer's text. Refused by `NoMemory`, which appends nothing and comes only where
+/// `out` has to grow. Own.
 pub fn encode(answer: &Answer, out: &mut Vec<u8>) -> Result<(), Refusal>
     ensures ok { OnOk result (out.new.items ≡ out.old.items ++ answer_text answer.now) }
     ensures err { OnErr result ((result ≡ Err Refusal.NoMemory) × (out.new.items ≡ out.old.items)) }
-    ensures full { OnErr result (vec_capacity out.old < vec_len out.old + length (answer_text answer.now)) }
+    ensures full { OnErr result (vec_capacity out.old < vec_len out.old + length
+        (answer_text answer.now)) }
 {
     let before = out.len();
     let mut line: ArrayVec<u8, MAX_FIRST_LINE> = ArrayVec::new();
@@ -32,8 +34,8 @@ pub fn encode(answer: &Answer, out: &mut Vec<u8>) -> Result<(), Refusal>
     listed
 }
 
-/// Appends the first line of the answer's text, with its LF, for which there is room: at most 173 bytes. It is all of the
-/// text, but for the ranges of `Held`. Takes no memory. Own.
+/// Appends the first line of the answer's text, with its LF, for which there is room: at most 173
+/// bytes. It is all of the text, but for the ranges of `Held`. Takes no memory. Own.
 pub fn put_first_line<const CAP: usize>(answer: &Answer, out: &mut ArrayVec<u8, CAP>)
     requires { length out.old.items + MAX_FIRST_LINE ≤ CAP }
     ensures items { out.new.items ≡ out.old.items ++ first_line answer.now }
@@ -82,7 +84,8 @@ fn append_ranges(ranges: &[Range], out: &mut Vec<u8>) -> Result<(), Refusal>
     ensures ok { OnOk result (out.new.items ≡ out.old.items ++ flat_map range_line ranges.now) }
     ensures err { OnErr result ((result ≡ Err Refusal.NoMemory)
         × ((more : List ℕ) × (out.new.items ≡ out.old.items ++ more))) }
-    ensures full { OnErr result (vec_capacity out.old < vec_len out.old + length (flat_map range_line ranges.now)) }
+    ensures full { OnErr result (vec_capacity out.old < vec_len out.old + length
+        (flat_map range_line ranges.now)) }
 {
     for range in ranges {
         let mut line = LineBuffer::new();

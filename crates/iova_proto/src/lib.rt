@@ -1,4 +1,5 @@
-//! The lines of the service: requests read from them, answers written to them, and a stream of bytes cut into requests.
+//! The lines of the service: requests read from them, answers written to them, and a stream of
+//! bytes cut into requests.
 #![tactic(auto)]
 
 pub mod answer;

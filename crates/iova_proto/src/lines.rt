@@ -13,8 +13,8 @@ use iova_text::buffer::{LineBuffer, put};
 use iova_text::line::cut_line;
 use std::marker::Model;
 
-/// What has come of a line that has not ended, or that a bad line has come. Contracts see the bytes that are kept, and none
-/// after a bad line. Own.
+/// What has come of a line that has not ended, or that a bad line has come. Contracts see the bytes
+/// that are kept, and none after a bad line. Own.
 #[derive(Drop)]
 pub struct Lines {
     /// What has come of the line.
@@ -47,9 +47,10 @@ impl Lines {
         }
     }
 
-    /// Takes the piece up to the end of its first line. That line, with what was kept before the piece, is a request's, or it
-    /// is bad. Where it has not ended, the piece is kept; 128 bytes without LF are bad. After a bad line each piece is bad.
-    /// Looks at 128 bytes of the piece at most, copies none where a line lies whole in it, and takes no memory. Own.
+    /// Takes the piece up to the end of its first line. That line, with what was kept before the
+    /// piece, is a request's, or it is bad. Where it has not ended, the piece is kept; 128 bytes
+    /// without LF are bad. After a bad line each piece is bad. Looks at 128 bytes of the piece at
+    /// most, copies none where a line lies whole in it, and takes no memory. Own.
     #[inline(always)]
     pub fn feed(&mut self, piece: &[u8]) -> Fed
         ensures fed { IfSome self.old (λ kept. Feeds kept piece.now result self.new) }
@@ -104,7 +105,8 @@ fn end_line(kept: &mut LineBuffer, line: &[u8]) -> Fed
     requires one { HasNoLf line.now }
     requires short { length kept.old.items + length line.now < MAX_LINE }
     ensures fed { (more : List ℕ)
-        → Feeds kept.old.items (whole_line line.now ++ more) result (state_behind result kept.new.items) }
+        → Feeds kept.old.items (whole_line line.now ++ more) result
+        (state_behind result kept.new.items) }
     ensures empty { kept.new.items ≡ [] }
 {
     let request = if kept.is_empty() {
@@ -122,8 +124,10 @@ fn end_line(kept: &mut LineBuffer, line: &[u8]) -> Fed
 /// The request of a line that came in parts.
 fn request_of_parts(kept: &mut LineBuffer, line: &[u8]) -> Option<Request>
     requires { length kept.old.items + length line.now < MAX_LINE }
-    ensures spelled { IfSome result (λ r. IsRequest r × (kept.old.items ++ line.now ≡ request_line r)) }
-    ensures read { (r : R) → IsRequest r → kept.old.items ++ line.now ≡ request_line r → result ≡ Some r }
+    ensures spelled { IfSome result (λ r. IsRequest r
+        × (kept.old.items ++ line.now ≡ request_line r)) }
+    ensures read { (r : R) → IsRequest r → kept.old.items ++ line.now ≡ request_line r
+        → result ≡ Some r }
 {
     put(kept, line);
     request_of(kept.as_slice())

@@ -3,8 +3,8 @@
 /// What a line asks of a session. Frames and domains are numbers of 64 bits. Own.
 #[derive(Clone, Copy, Debug, Default, PartialEq, Eq)]
 pub enum Request {
-    /// `hello iova1 <domain> sac` or `hello iova1 <domain> dac`: opens a client in the domain, which asks below 4 GiB first
-    /// where it is `sac`.
+    /// `hello iova1 <domain> sac` or `hello iova1 <domain> dac`: opens a client in the domain,
+    /// which asks below 4 GiB first where it is `sac`.
     Hello { domain: u64, sac: bool },
     /// `alloc <frames> <limit>`: a range of so many frames, its last one not above the limit.
     Alloc { frames: u64, limit: u64 },

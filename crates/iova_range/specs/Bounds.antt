@@ -2,15 +2,15 @@
 use Rattle.std.specs.Prelude.{◌≡◌, ℕ, ◌≤◌, ◌⊎◌}
 use Rattle.iova_range.specs.declared.limits.TheConstants.{MAGAZINE, SMALL_MAGAZINE, MAX_DEPOT, TOP, WIDE_TOP}
 
--- What a `Profile` is seen as: how many entries a magazine is full at, how many full magazines the depot takes for each
--- order, and the greatest frame number
+-- What a `Profile` is seen as: how many entries a magazine is full at, how many full magazines the
+-- depot takes for each order, and the greatest frame number
 pub record Capacities : Type 0 where
   pub mag : ℕ
   pub depot : ℕ
   pub top : ℕ
 
--- The kernel's sizes: IOVA_MAG_SIZE of Linux 5.15 drivers/iommu/iova.c and MAX_GLOBAL_MAGS of include/linux/iova.h; the
--- greatest frame is our own
+-- The kernel's sizes: IOVA_MAG_SIZE of Linux 5.15 drivers/iommu/iova.c and MAX_GLOBAL_MAGS of
+-- include/linux/iova.h; the greatest frame is our own
 abbrev pub first_profile : Capacities
 first_profile = record { mag = MAGAZINE; depot = MAX_DEPOT; top = TOP }
 

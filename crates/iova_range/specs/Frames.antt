@@ -16,4 +16,5 @@ meets a b = nat_lt a.lo (b.lo + b.len) && nat_lt b.lo (a.lo + a.len)
 
 -- the frames of both and what lies between them
 abbrev pub join : Frames → Frames → Frames
-join a b = let lo = min a.lo b.lo in record { lo = lo; len = max (a.lo + a.len) (b.lo + b.len) - lo }
+join a b =
+    let lo = min a.lo b.lo in record { lo = lo; len = max (a.lo + a.len) (b.lo + b.len) - lo }

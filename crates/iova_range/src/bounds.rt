@@ -6,8 +6,8 @@ use crate::profile::Profile;
 use crate::refusal::Refusal;
 use std::marker::Model;
 
-/// The first and the last frame that a domain may hand out, and its profile. Frame 0 is never handed out, so the first
-/// is at least 1; the last is at most the profile's greatest.
+/// The first and the last frame that a domain may hand out, and its profile. Frame 0 is never
+/// handed out, so the first is at least 1; the last is at most the profile's greatest.
 #[derive(Clone, Copy, Debug, PartialEq, Eq)]
 pub struct Bounds {
     start: u64,
@@ -22,26 +22,29 @@ impl Model for Bounds {
 
     ghost view = { λ b. record { start = b.start; last = b.last; profile = b.profile } };
 
-    ghost invariant = { λ b. IsExtent (record { start = b.start; last = b.last; profile = b.profile }) };
+    ghost invariant = { λ b. IsExtent (record
+        { start = b.start; last = b.last; profile = b.profile }) };
 
     ghost inverse = { λ v. record { start = v.start; last = v.last; profile = v.profile } };
 }
 
 impl Bounds {
-    /// Bounds in the first profile. Refused by `BadWindow` exactly where `start` is 0, `start` is above `last`, or
-    /// `last` is above 2^36 - 1.
+    /// Bounds in the first profile. Refused by `BadWindow` exactly where `start` is 0, `start` is
+    /// above `last`, or `last` is above 2^36 - 1.
     pub fn new(start: u64, last: u64) -> Result<Self, Refusal>
-        ensures value { IfOk result (λ b. b ≡ record { start = start; last = last; profile = first_profile }) }
+        ensures value { IfOk result (λ b. b
+            ≡ record { start = start; last = last; profile = first_profile }) }
         ensures accepted { IsOk result ↔ AreBounds first_profile start last }
         ensures refused { IsErr result → result ≡ Err Refusal.BadWindow }
     {
         Bounds::new_in(Profile::one(), start, last)
     }
 
-    /// Bounds in this profile. Refused by `BadWindow` exactly where `start` is 0, `start` is above `last`, or `last` is
-    /// above the profile's greatest frame.
+    /// Bounds in this profile. Refused by `BadWindow` exactly where `start` is 0, `start` is above
+    /// `last`, or `last` is above the profile's greatest frame.
     pub fn new_in(profile: Profile, start: u64, last: u64) -> Result<Self, Refusal>
-        ensures value { IfOk result (λ b. b ≡ record { start = start; last = last; profile = profile }) }
+        ensures value { IfOk result (λ b. b
+            ≡ record { start = start; last = last; profile = profile }) }
         ensures accepted { IsOk result ↔ AreBounds profile start last }
         ensures refused { IsErr result → result ≡ Err Refusal.BadWindow }
     {

@@ -1,5 +1,5 @@
-//! Ranges of page frames, the sizes that requests are rounded to, the bounds and the profile of a domain, and the
-//! refusals.
+//! Ranges of page frames, the sizes that requests are rounded to, the bounds and the profile of a
+//! domain, and the refusals.
 #![tactic(auto)]
 
 pub mod bounds;

@@ -1,4 +1,5 @@
-//! Every limit of the repository, each with its unit and where it comes from. Code and definitions cite these names.
+//! Every limit of the repository, each with its unit and where it comes from. Code and definitions
+//! cite these names.
 
 /// The most workers of a domain, 1 at least. Own.
 pub const MAX_WORKERS: u64 = 16;
@@ -25,22 +26,26 @@ pub const ORDERS: usize = 6;
 /// How many slots a flush ring has (`IOVA_FQ_SIZE` of Linux 5.15 `include/linux/iova.h`).
 pub const RING_SLOTS: usize = 256;
 
-/// The most entries of a flush ring: one slot stays empty (Linux 5.15 `drivers/iommu/iova.c`: `fq_full`).
+/// The most entries of a flush ring: one slot stays empty (Linux 5.15 `drivers/iommu/iova.c`:
+/// `fq_full`).
 pub const MAX_ENTRIES: usize = 255;
 
 /// The most flushes in flight at a time. Own.
 pub const MAX_FLIGHTS: usize = 32;
 
-/// The last serial of a client, and the last start count: after it a step is refused by `Worn`. Own.
+/// The last serial of a client, and the last start count: after it a step is refused by `Worn`.
+/// Own.
 pub const MAX_SERIAL: u64 = 9_223_372_036_854_775_807;
 
-/// The entries of a magazine in the first profile (`IOVA_MAG_SIZE` of Linux 5.15 `drivers/iommu/iova.c`).
+/// The entries of a magazine in the first profile (`IOVA_MAG_SIZE` of Linux 5.15
+/// `drivers/iommu/iova.c`).
 pub const MAGAZINE: usize = 128;
 
 /// The entries of a magazine in the second profile. Own.
 pub const SMALL_MAGAZINE: usize = 127;
 
-/// The most magazines of an order in the depot (`MAX_GLOBAL_MAGS` of Linux 5.15 `include/linux/iova.h`).
+/// The most magazines of an order in the depot (`MAX_GLOBAL_MAGS` of Linux 5.15
+/// `include/linux/iova.h`).
 pub const MAX_DEPOT: u64 = 32;
 
 /// The last frame that bounds of the first profile may have: 2^36 - 1. Own.
@@ -59,7 +64,8 @@ pub const MAX_LINE: usize = 128;
 /// The most bytes of a line of a kernel's trace of which something is read, its LF among them. Own.
 pub const MAX_TRACE_LINE: usize = 1_024;
 
-/// The last number that an IOMMU may give a domain, as a kernel's trace tells it: 16 bits (VT-d, "Domain-ID").
+/// The last number that an IOMMU may give a domain, as a kernel's trace tells it: 16 bits (VT-d,
+/// "Domain-ID").
 pub const LAST_DOMAIN_ID: u64 = 65_535;
 
 /// The most steps of one trace. Own.
@@ -92,24 +98,27 @@ pub const MAX_RUN: usize = 16;
 /// The most sessions that a daemon serves. Own.
 pub const MAX_SESSIONS: u64 = 65_536;
 
-/// The parts of a worker's new tally: with one part each, so many threads can end flushes at a time. Own.
+/// The parts of a worker's new tally: with one part each, so many threads can end flushes at a
+/// time. Own.
 pub const TALLY_PARTS: u64 = 256;
 
 /// The most steps that a domain may be asked to record. Own.
 pub const MAX_PAIRS: usize = 4_000_000;
 
-/// How many steps a daemon records where nobody says another count: the first ones of its domain. Own.
+/// How many steps a daemon records where nobody says another count: the first ones of its domain.
+/// Own.
 pub const RECORDED_STEPS: u64 = 100_000;
 
 /// The most steps that a daemon may be told to record. Own.
 pub const MAX_RECORDED_STEPS: u64 = 1_000_000;
 
-/// The time between two rounds of a daemon's flusher, in milliseconds: what is unmapped is free again after about as long, and
-/// 100 rounds a second cost next to nothing where no ring has an entry (`IOVA_FQ_TIMEOUT` of Linux 5.15
-/// `include/linux/iova.h`).
+/// The time between two rounds of a daemon's flusher, in milliseconds: what is unmapped is free
+/// again after about as long, and 100 rounds a second cost next to nothing where no ring has an
+/// entry (`IOVA_FQ_TIMEOUT` of Linux 5.15 `include/linux/iova.h`).
 pub const FLUSH_PAUSE: u64 = 10;
 
-/// The time after an accept that failed, in milliseconds. It doubles with each failure after another. Own.
+/// The time after an accept that failed, in milliseconds. It doubles with each failure after
+/// another. Own.
 pub const ACCEPT_PAUSE: u64 = 10;
 
 /// The longest time after an accept that failed, in milliseconds. Own.
@@ -121,16 +130,16 @@ pub const MAX_SINK_TIMEOUT: u64 = 3_600;
 /// The time that a daemon's sink is given to answer where none is asked for, in seconds. Own.
 pub const SINK_TIMEOUT: u64 = 10;
 
-/// The time between two rounds in which a daemon's clients that wait are tried again, in milliseconds: a worker that waits for a
-/// session looks about it so often. Own.
+/// The time between two rounds in which a daemon's clients that wait are tried again, in
+/// milliseconds: a worker that waits for a session looks about it so often. Own.
 pub const RETRY_PAUSE: u64 = 1_000;
 
-/// The longest time until a daemon sees that it is asked to stop, in milliseconds: what waits for a peer waits no longer at a time.
-/// Own.
+/// The longest time until a daemon sees that it is asked to stop, in milliseconds: what waits for a
+/// peer waits no longer at a time. Own.
 pub const STOP_PAUSE: u64 = 250;
 
-/// The most connections that are hung up on when a listener is closed: as many as the system lets wait there
-/// (`net.core.somaxconn` of Linux 5.15).
+/// The most connections that are hung up on when a listener is closed: as many as the system lets
+/// wait there (`net.core.somaxconn` of Linux 5.15).
 pub const MAX_WAITING: u64 = 4_096;
 
 /// The most connections that a control socket serves at a time; another one waits. Own.
@@ -139,7 +148,8 @@ pub const MAX_CONTROLS: usize = 8;
 /// The time between two looks at a control socket's connections, in milliseconds. Own.
 pub const CONTROL_PAUSE: u64 = 20;
 
-/// How many looks a control socket's connection may be silent where another one waits: 2 seconds. Own.
+/// How many looks a control socket's connection may be silent where another one waits: 2 seconds.
+/// Own.
 pub const MAX_CONTROL_SILENCE: u64 = 100;
 
 /// How often a control socket's connection is read at one look. Own.
@@ -160,11 +170,12 @@ pub const DEFAULT_WORKERS: u64 = 4;
 /// The number of a daemon's domain where nobody says another. Own.
 pub const DEFAULT_DOMAIN: u64 = 0;
 
-/// The first frame of a daemon's domain where nobody says another: frame 0 is never handed out. Own.
+/// The first frame of a daemon's domain where nobody says another: frame 0 is never handed out.
+/// Own.
 pub const DEFAULT_START: u64 = 1;
 
-/// The last frame of a daemon's domain where nobody says another: the last one below the interrupt window of x86, which begins at
-/// the byte 0xfee0_0000 (Intel's and AMD's manuals).
+/// The last frame of a daemon's domain where nobody says another: the last one below the interrupt
+/// window of x86, which begins at the byte 0xfee0_0000 (Intel's and AMD's manuals).
 pub const DEFAULT_LAST: u64 = 1_043_967;
 
 /// The least time between two notices of one kind, in milliseconds. Own.

@@ -27,9 +27,9 @@ impl Model for Profile {
 }
 
 impl Profile {
-    /// The first profile: magazines of 128 entries, 32 of them in the depot for each order, frames up to 2^36 - 1
-    /// (`IOVA_MAG_SIZE` of Linux 5.15 `drivers/iommu/iova.c` and `MAX_GLOBAL_MAGS` of `include/linux/iova.h`; the greatest
-    /// frame is our own).
+    /// The first profile: magazines of 128 entries, 32 of them in the depot for each order, frames
+    /// up to 2^36 - 1 (`IOVA_MAG_SIZE` of Linux 5.15 `drivers/iommu/iova.c` and `MAX_GLOBAL_MAGS`
+    /// of `include/linux/iova.h`; the greatest frame is our own).
     pub fn one() -> Self
         ensures { result ≡ first_profile }
     {
@@ -40,8 +40,9 @@ impl Profile {
         }
     }
 
-    /// The second profile: magazines of 127 entries, `depot` of them in the depot for each order, frames up to
-    /// 2^40 - 1. It is our own. Refused by `BadProfile` exactly where `depot` is above 32.
+    /// The second profile: magazines of 127 entries, `depot` of them in the depot for each order,
+    /// frames up to 2^40 - 1. It is our own. Refused by `BadProfile` exactly where `depot` is above
+    /// 32.
     pub fn two(depot: u64) -> Result<Self, Refusal>
         ensures value { IfOk result (λ p. p ≡ second_profile depot) }
         ensures accepted { IsOk result ↔ (depot ≤ MAX_DEPOT) }

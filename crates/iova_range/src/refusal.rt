@@ -4,7 +4,8 @@ ghost use Rattle.iova_range.specs.Refusals.{refusal_number, refusal_name};
 
 use thiserror::Error;
 
-/// Why a call is refused. Each kind has a number and a name, which the formats print as `no <number> <Name>`.
+/// Why a call is refused. Each kind has a number and a name, which the formats print as `no
+/// <number> <Name>`.
 #[derive(Clone, Copy, Debug, PartialEq, Eq, Error)]
 pub enum Refusal {
     /// No frame was asked for.

@@ -5,8 +5,9 @@ ghost use Rattle.iova_range.specs.Sizes.{need, align_of, order_of};
 
 use crate::limits::{MAX_FRAMES, ORDERS};
 
-/// How many frames a request for `n` frames is given, `n` being 1 to 1,048,576: the least power of two that is not
-/// below `n` for `n` below 32, else `n` itself (Linux 5.15 `drivers/iommu/dma-iommu.c`: `iommu_dma_alloc_iova`).
+/// How many frames a request for `n` frames is given, `n` being 1 to 1,048,576: the least power of
+/// two that is not below `n` for `n` below 32, else `n` itself (Linux 5.15
+/// `drivers/iommu/dma-iommu.c`: `iommu_dma_alloc_iova`).
 pub fn need(n: u64) -> u64
     requires some { 1 ≤ n }
     requires bounded { n ≤ MAX_FRAMES }
@@ -17,8 +18,9 @@ pub fn need(n: u64) -> u64
     if n < 32 { align_of(n) } else { n }
 }
 
-/// What the first frame of a range of `size` frames is a multiple of, `size` being 1 to 1,048,576: the least power of
-/// two that is not below `size` (Linux 5.15 `drivers/iommu/iova.c`: `__alloc_and_insert_iova_range`).
+/// What the first frame of a range of `size` frames is a multiple of, `size` being 1 to 1,048,576:
+/// the least power of two that is not below `size` (Linux 5.15 `drivers/iommu/iova.c`:
+/// `__alloc_and_insert_iova_range`).
 pub fn align_of(size: u64) -> u64
     requires some { 1 ≤ size }
     requires bounded { size ≤ MAX_FRAMES }
@@ -28,8 +30,9 @@ pub fn align_of(size: u64) -> u64
     size.next_power_of_two()
 }
 
-/// The order of the magazines that ranges of `size` frames go to, `size` being 1 to 1,048,576: 0 to 5 for 1, 2, 4, 8,
-/// 16 and 32 frames, else none (Linux 5.15 `drivers/iommu/iova.c`: `iova_rcache_get`).
+/// The order of the magazines that ranges of `size` frames go to, `size` being 1 to 1,048,576: 0 to
+/// 5 for 1, 2, 4, 8, 16 and 32 frames, else none (Linux 5.15 `drivers/iommu/iova.c`:
+/// `iova_rcache_get`).
 pub fn order_of(size: u64) -> Option<u8>
     requires some { 1 ≤ size }
     requires bounded { size ≤ MAX_FRAMES }

@@ -1,7 +1,7 @@
 //! How a domain stands, in numbers.
 
-/// The frames of a domain's bounds, place by place, and the two counts of its flushes. Each frame of the bounds is
-/// counted at one place, so the first six add up to the length of the bounds.
+/// The frames of a domain's bounds, place by place, and the two counts of its flushes. Each frame
+/// of the bounds is counted at one place, so the first six add up to the length of the bounds.
 #[derive(Clone, Copy, Debug, PartialEq, Eq)]
 pub struct Stat {
     /// Frames that nobody has.

@@ -13,7 +13,8 @@ pairs_in (Some log) = log.pairs
 
 -- where this is no refusal, the text of what is recorded of a domain was appended
 abbrev pub WritesText : State → Option StepLog → List ℕ → List ℕ → Result ℕ Refusal → Type 0
-WritesText s log old new result = IfOk result (IsTranscriptOf s.bounds s.workers (pairs_in log) old new)
+WritesText s log old new result =
+    IfOk result (IsTranscriptOf s.bounds s.workers (pairs_in log) old new)
 
 -- and that is a transcript from its new domain
 abbrev pub WritesLog : State → Option StepLog → List ℕ → List ℕ → Result ℕ Refusal → Type 0

@@ -1,4 +1,5 @@
-//! The one door to a domain that a keeper has: every step goes through `Machine::step`, which records it.
+//! The one door to a domain that a keeper has: every step goes through `Machine::step`, which
+//! records it.
 ghost use Rattle.std.specs.Prelude.{ℕ, ◌≡◌, ◌≢◌, ◌+◌, ◌<◌, ◌⊎◌, ◌++◌, ◌∷◌, IfOk, IfErr, IsErr, Err, ◌≤◌, ◌↔◌, Some, None, [], true, false, option_copied, option_map};
 ghost use Rattle.iova_range.specs.Frames.{Frames};
 ghost use Rattle.iova_model.specs.Clients.{totals, client_of};
@@ -69,7 +70,11 @@ impl Model for Log {
 
     ghost Value = { StepLog };
 
-    ghost view = { λ l. record { recording = l.recording; room = vec_capacity l.pairs; pairs = l.pairs.items } };
+    ghost view = { λ l. record {
+      recording = l.recording;
+      room = vec_capacity l.pairs;
+      pairs = l.pairs.items;
+    } };
 }
 
 impl Log {
@@ -115,9 +120,14 @@ impl Model for Machine {
 impl Machine {
     /// A new domain, which is recorded where there is a log.
     pub fn new(alloc: Global, bounds: Bounds, workers: u64) -> Result<Machine, Refusal>
-        ensures ok { IfOk result (λ m. m ≡ record { state = new_domain bounds workers; log = None }) }
-        ensures workers { (result ≡ Err Refusal.NoWorker) ↔ ((workers ≡ 0) ⊎ (MAX_WORKERS < workers)) }
-        ensures memory { IsErr result → (result ≡ Err Refusal.NoWorker) ⊎ (result ≡ Err Refusal.NoMemory) }
+        ensures ok { IfOk result (λ m. m ≡ record {
+          state = new_domain bounds workers;
+          log = None;
+        }) }
+        ensures workers { (result ≡ Err Refusal.NoWorker)
+            ↔ ((workers ≡ 0) ⊎ (MAX_WORKERS < workers)) }
+        ensures memory { IsErr result → (result ≡ Err Refusal.NoWorker)
+            ⊎ (result ≡ Err Refusal.NoMemory) }
     {
         Ok(Machine {
             domain: Domain::new(alloc, bounds, workers)?,
@@ -136,8 +146,10 @@ impl Machine {
           state = new_domain bounds workers;
           log = Some (new_log pairs);
         }) }
-        ensures workers { (result ≡ Err Refusal.NoWorker) ↔ ((workers ≡ 0) ⊎ (MAX_WORKERS < workers)) }
-        ensures memory { IsErr result → (result ≡ Err Refusal.NoWorker) ⊎ (result ≡ Err Refusal.NoMemory) }
+        ensures workers { (result ≡ Err Refusal.NoWorker)
+            ↔ ((workers ≡ 0) ⊎ (MAX_WORKERS < workers)) }
+        ensures memory { IsErr result → (result ≡ Err Refusal.NoWorker)
+            ⊎ (result ≡ Err Refusal.NoMemory) }
     {
         let domain = Domain::new(alloc, bounds, workers)?;
         let log = Log::with_room(alloc, pairs)?;
@@ -147,24 +159,28 @@ impl Machine {
         })
     }
 
-    /// Runs one step, and records it where there is room. The first step that finds none ends the recording for good.
+    /// Runs one step, and records it where there is room. The first step that finds none ends the
+    /// recording for good.
     #[inline]
     pub fn step(&mut self, step: Step) -> Reply
         ensures takes { Takes self.old.state step result self.new.state }
         ensures stores { StoresStep self.old.log step result self.new.log }
         ensures goes_on { GoesOn self.old.log self.new.log }
-        ensures moves { MovesTotals result (totals self.old.state.clients) (totals self.new.state.clients) }
-        ensures good { self.new.state.flushes.good ≡ self.old.state.flushes.good + ended_well step result }
+        ensures moves { MovesTotals result (totals self.old.state.clients)
+            (totals self.new.state.clients) }
+        ensures good { self.new.state.flushes.good
+            ≡ self.old.state.flushes.good + ended_well step result }
         ensures kind { IsReplyTo step result }
         ensures given { IsGivenWithin step result }
         ensures known { (w : ℕ) → worker_of step ≡ Some w → w < self.old.state.workers
             → result ≢ Reply.Refused Refusal.NoWorker }
         ensures drained { IsDrainReply self.old.state.workers step result }
         ensures workers { self.new.state.workers ≡ self.old.state.workers }
-        ensures held { (r : Frames) → result ≡ Reply.Queued r → to_queue self.old.state step ≡ Some r }
+        ensures held { (r : Frames) → result ≡ Reply.Queued r
+            → to_queue self.old.state step ≡ Some r }
     {
-        // for the proof: how a step moves the ledgers and the good flushes, how it is answered, what it queues, gives and
-        // keeps; and that the state is valid
+        // for the proof: how a step moves the ledgers and the good flushes, how it is answered,
+        // what it queues, gives and keeps; and that the state is valid
         steps_move_ledgers();
         steps_move_good();
         steps_are_answered_in_kind();
@@ -259,7 +275,8 @@ impl Machine {
         self.domain.bounds()
     }
 
-    /// Whether these totals are at least the worker's share of the domain's totals: the sums over all holdings of its clients.
+    /// Whether these totals are at least the worker's share of the domain's totals: the sums over
+    /// all holdings of its clients.
     #[inline]
     pub fn share_is_within(&self, worker: u64, held: Totals) -> bool
         ensures { result ≡ true → (st : Step) (r : Frames) → worker_of st ≡ Some worker
@@ -320,11 +337,13 @@ impl Machine {
 }
 
 impl Log {
-    /// Stores a step, the growth in it that was refused, and its reply where there is room, and else records no more. Out of
-    /// line, so that it costs a domain without a log nothing but the question.
+    /// Stores a step, the growth in it that was refused, and its reply where there is room, and
+    /// else records no more. Out of line, so that it costs a domain without a log nothing but the
+    /// question.
     #[inline(never)]
     fn store(&mut self, step: Step, point: Point, reply: Reply)
-        ensures { StoresPair self.old (record { step = step; point = point; reply = reply }) self.new }
+        ensures { StoresPair self.old (record { step = step; point = point; reply = reply })
+            self.new }
     {
         if self.recording && self.pairs.len() < self.pairs.capacity() {
             self.pairs.push_reserved(Stored { step, point, reply });

@@ -8,12 +8,16 @@ use iova_line::line::{write_header, write_step};
 use iova_range::refusal::Refusal;
 
 impl Machine {
-    /// Appends what was recorded, as a trace: the header's line and a line for each step; of a domain that isn't recorded the
-    /// header alone. Gives the number of steps. What is recorded is a transcript from the new domain, so the promises hold of
-    /// it; and of at most 1,000,000 steps it is a trace, whose replay prints those replies. Refused by `NoMemory`, which appends nothing.
+    /// Appends what was recorded, as a trace: the header's line and a line for each step; of a
+    /// domain that isn't recorded the header alone. Gives the number of steps. What is recorded is
+    /// a transcript from the new domain, so the promises hold of it; and of at most 1,000,000 steps
+    /// it is a trace, whose replay prints those replies. Refused by `NoMemory`, which appends
+    /// nothing.
     pub fn transcript(&self, out: &mut Vec<u8>) -> Result<u64, Refusal>
-        ensures recorded { WritesLog self.now.state self.now.log out.old.items out.new.items result }
-        ensures err { OnErr result ((result ≡ Err Refusal.NoMemory) × (out.new.items ≡ out.old.items)) }
+        ensures recorded { WritesLog self.now.state self.now.log out.old.items out.new.items
+            result }
+        ensures err { OnErr result ((result ≡ Err Refusal.NoMemory)
+            × (out.new.items ≡ out.old.items)) }
     {
         // for the proof: what every domain keeps, and that the log is a transcript
         self.is_kept();

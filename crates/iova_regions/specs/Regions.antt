@@ -49,20 +49,25 @@ after_all which bounds (r ∷ rs) ws =
 
 -- a region that counts has a byte in the frame, which is within the bounds
 abbrev pub keeps_back : Counted → Extent → ℕ → Region → Bool
-keeps_back which bounds frame r = counts which r.kind && (covers frame (frames_of r) && is_between bounds.start bounds.last frame)
+keeps_back which bounds frame r =
+    counts which r.kind && (covers frame (frames_of r) && is_between bounds.start bounds.last frame)
 
 -- a window has the frame afterwards exactly where one had it before or a region keeps it back
 abbrev pub Covers : Counted → Extent → List Region → List Frames → List Frames → Type 0
-Covers which bounds rs old new = (frame : ℕ) → covered frame new ≡ (covered frame old || list_any (keeps_back which bounds frame) rs)
+Covers which bounds rs old new =
+    (frame : ℕ) → covered frame new ≡ (covered frame old
+    || list_any (keeps_back which bounds frame) rs)
 
 -- lines of these regions, whose windows there is room for
-pub record AreTaken (which : Counted) (bounds : Extent) (rs : List Region) (old new : List Frames) : Type 0 where
+pub record AreTaken (which : Counted) (bounds : Extent) (rs : List Region)
+    (old new : List Frames) : Type 0 where
   pub good : AllByRecursion IsRegion rs
   pub windows : after_all which bounds rs old ≡ Some new
   pub covers : Covers which bounds rs old new
 
 -- the whole text is lines of regions
-pub record IsReadWell (which : Counted) (bounds : Extent) (text : List ℕ) (old new : List Frames) : Type 0 where
+pub record IsReadWell (which : Counted) (bounds : Extent) (text : List ℕ)
+    (old new : List Frames) : Type 0 where
   pub regions : List Region
   pub whole : text ≡ regions_text regions
   pub taken : AreTaken which bounds regions old new
@@ -73,15 +78,18 @@ pub record IsNoRegion (rest : List ℕ) : Type 0 where
   pub none : (r : Region) (more : List ℕ) → IsRegion r → rest ≢ whole_line (region_text r) ++ more
 
 -- the line of a region is at the front of these bytes, and it would make too many windows
-pub record HasNoRoom (which : Counted) (bounds : Extent) (rest : List ℕ) (ws : List Frames) : Type 0 where
+pub record HasNoRoom (which : Counted) (bounds : Extent) (rest : List ℕ)
+    (ws : List Frames) : Type 0 where
   pub region : Region
   pub more : List ℕ
   pub line : rest ≡ whole_line (region_text region) ++ more
   pub good : IsRegion region
   pub full : MAX_WINDOWS < length (windows_after which bounds region ws)
 
--- the line with this number, counted from 1, is the first bad one: the regions of the lines before it are taken
-pub record StopsAt (which : Counted) (bounds : Extent) (text : List ℕ) (number : ℕ) (old new : List Frames) : Type 0 where
+-- the line with this number, counted from 1, is the first bad one: the regions of the lines before
+-- it are taken
+pub record StopsAt (which : Counted) (bounds : Extent) (text : List ℕ) (number : ℕ)
+    (old new : List Frames) : Type 0 where
   pub regions : List Region
   pub rest : List ℕ
   pub whole : text ≡ regions_text regions ++ rest
@@ -90,7 +98,8 @@ pub record StopsAt (which : Counted) (bounds : Extent) (text : List ℕ) (number
   pub bad : IsNoRegion rest ⊎ HasNoRoom which bounds rest new
 
 -- what each answer says of a whole text
-abbrev pub Reads : Counted → Extent → List ℕ → List Frames → List Frames → Result Unit RegionsFault → Type 0
+abbrev pub Reads : Counted → Extent → List ℕ → List Frames → List Frames → Result Unit RegionsFault
+    → Type 0
 Reads which bounds text old new (Ok u) = IsReadWell which bounds text old new
 Reads which bounds text old new (Err (fault.Line number)) = StopsAt which bounds text number old new
 Reads which bounds text old new (Err fault.NoMemory) = ⊥
@@ -104,14 +113,19 @@ EndsReading input left (Err fault.NoMemory) = (taken : List ℕ) × Consumes inp
 EndsReading input left (Err fault.Read) = (taken : List ℕ) × Consumes input left taken
 
 -- the regions of all bytes; where they are not all had, the windows are as they were
-abbrev pub TellsOfBytes : Counted → Extent → List ℕ → Option (List ℕ) → List Frames → List Frames → Result Unit RegionsFault → Type 0
-TellsOfBytes which bounds taken left old new (Ok u) = IsAtEnd left × IsReadWell which bounds taken old new
-TellsOfBytes which bounds taken left old new (Err (fault.Line number)) = IsAtEnd left × StopsAt which bounds taken number old new
+abbrev pub TellsOfBytes : Counted → Extent → List ℕ → Option (List ℕ) → List Frames → List Frames
+    → Result Unit RegionsFault → Type 0
+TellsOfBytes which bounds taken left old new (Ok u) =
+    IsAtEnd left × IsReadWell which bounds taken old new
+TellsOfBytes which bounds taken left old new (Err (fault.Line number)) =
+    IsAtEnd left × StopsAt which bounds taken number old new
 TellsOfBytes which bounds taken left old new (Err fault.NoMemory) = new ≡ old
 TellsOfBytes which bounds taken left old new (Err fault.Read) = new ≡ old
 
--- A reader before and after, where it tells its bytes: some were taken, all of them but where a read fails or memory is refused.
-pub record ReadsAll (which : Counted) (bounds : Extent) (input left : Option (List ℕ)) (old new : List Frames) (answer : Result Unit RegionsFault) : Type 0 where
+-- A reader before and after, where it tells its bytes: some were taken, all of them but where a
+-- read fails or memory is refused.
+pub record ReadsAll (which : Counted) (bounds : Extent) (input left : Option (List ℕ))
+    (old new : List Frames) (answer : Result Unit RegionsFault) : Type 0 where
   pub taken : List ℕ
   pub takes : Consumes input left taken
   pub tells : TellsOfBytes which bounds taken left old new answer

@@ -22,7 +22,8 @@ lies_below a b = nat_le (a.lo + a.len) b.lo
 abbrev pub union : Frames → List Frames → Frames
 union r ws = fold join r (filter (meets r) ws)
 
--- the union in place of the windows that it is made of, between those below the range and those above it
+-- the union in place of the windows that it is made of, between those below the range and those
+-- above it
 abbrev pub windows_with : Frames → List Frames → List Frames
 windows_with r ws = filter (λ w. lies_below w r) ws ++ union r ws ∷ filter (λ w. lies_below r w) ws
 

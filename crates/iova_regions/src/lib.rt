@@ -1,4 +1,5 @@
-//! The regions of addresses that a kernel tells of a group of devices, and the windows of frames that they keep back.
+//! The regions of addresses that a kernel tells of a group of devices, and the windows of frames
+//! that they keep back.
 #![tactic(auto)]
 
 pub mod fault;

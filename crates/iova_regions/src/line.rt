@@ -6,9 +6,9 @@ ghost use Rattle.iova_regions.specs.Text.{hex_digit, hex_digits, address_text, k
 
 use crate::region::{Region, RegionKind};
 
-/// The region of this line, which is without its LF: `0x` and 16 hexadecimal digits (0-9, a-f), a blank, the same again, a blank
-/// and the region's kind. None exactly where the line has another form, also where the first byte is above the last. The longest
-/// such line has 54 bytes.
+/// The region of this line, which is without its LF: `0x` and 16 hexadecimal digits (0-9, a-f), a
+/// blank, the same again, a blank and the region's kind. None exactly where the line has another
+/// form, also where the first byte is above the last. The longest such line has 54 bytes.
 pub fn read_region(line: &[u8]) -> Option<Region>
     ensures spelled { IfSome result (λ r. IsRegion r × (line.now ≡ region_text r)) }
     ensures read { (r : Region) → IsRegion r → line.now ≡ region_text r → result ≡ Some r }

@@ -24,10 +24,11 @@ use std::io::Read;
 /// How many bytes are read at a time.
 const BUFFER: usize = 4096;
 
-/// Reads the whole text of `reserved_regions`, and inserts the frames of each region that counts, as far as they are within the
-/// bounds, in the order of the lines. A text of no bytes has no region. Refused by `Line`, with the number of the first bad line,
-/// exactly where a line is none of a region (one without its LF too), or where its region would make a 65th window; the regions of
-/// the lines before it are inserted then. Own.
+/// Reads the whole text of `reserved_regions`, and inserts the frames of each region that counts,
+/// as far as they are within the bounds, in the order of the lines. A text of no bytes has no
+/// region. Refused by `Line`, with the number of the first bad line, exactly where a line is none
+/// of a region (one without its LF too), or where its region would make a 65th window; the regions
+/// of the lines before it are inserted then. Own.
 pub fn read_regions(
     bytes: &[u8],
     which: Counted,
@@ -51,8 +52,9 @@ pub fn read_regions(
     Ok(())
 }
 
-/// Reads all bytes, and then their regions. All bytes are kept until then. Refused as that is; by `Read`, where a read fails, an
-/// interruption too, and by `NoMemory`: then the windows are as they were. Own.
+/// Reads all bytes, and then their regions. All bytes are kept until then. Refused as that is; by
+/// `Read`, where a read fails, an interruption too, and by `NoMemory`: then the windows are as they
+/// were. Own.
 pub fn read_all_regions<R: Read>(
     alloc: Global,
     reader: &mut R,
@@ -60,7 +62,8 @@ pub fn read_all_regions<R: Read>(
     bounds: Bounds,
     windows: &mut Windows,
 ) -> Result<(), RegionsFault>
-    ensures { ReadsAll which bounds (R.remaining reader.old) (R.remaining reader.new) windows.old windows.new result }
+    ensures { ReadsAll which bounds (R.remaining reader.old) (R.remaining reader.new) windows.old
+        windows.new result }
 {
     let text = read_all(alloc, reader)?;
     read_regions(text.as_slice(), which, bounds, windows)
@@ -68,8 +71,10 @@ pub fn read_all_regions<R: Read>(
 
 /// The region of the line at the front, and the bytes after that line.
 fn next_region(text: &[u8]) -> Option<(Region, &[u8])>
-    ensures spelled { IfSome result (λ p. IsRegion p.0 × (text.now ≡ whole_line (region_text p.0) ++ p.1.now)) }
-    ensures none { IfNone result ((r : Region) (more : List ℕ) → IsRegion r → text.now ≢ whole_line (region_text r) ++ more) }
+    ensures spelled { IfSome result (λ p. IsRegion p.0
+        × (text.now ≡ whole_line (region_text p.0) ++ p.1.now)) }
+    ensures none { IfNone result ((r : Region) (more : List ℕ) → IsRegion r
+        → text.now ≢ whole_line (region_text r) ++ more) }
     ensures less { IfSome result (λ p. length p.1.now < length text.now) }
 {
     let (line, more) = cut_line(text)?;
@@ -91,7 +96,8 @@ fn take_region(
     ensures room { OnOk result (length windows.new ≤ MAX_WINDOWS) }
     ensures covers { OnOk result (Covers which bounds (region ∷ []) windows.old windows.new) }
     ensures same { OnErr result (windows.new ≡ windows.old) }
-    ensures full { OnErr result (MAX_WINDOWS < length (windows_after which bounds region windows.old)) }
+    ensures full { OnErr result (MAX_WINDOWS < length
+        (windows_after which bounds region windows.old)) }
 {
     let _kept = windows.ranges(); // for the proof: there are at most 64
     if !is_counted(which, region.kind) {

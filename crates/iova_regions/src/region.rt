@@ -1,6 +1,7 @@
 //! What a line of `reserved_regions` says.
 
-/// What a region is, in the words of Linux 5.15 `drivers/iommu/iommu.c` (`iommu_group_resv_type_string`).
+/// What a region is, in the words of Linux 5.15 `drivers/iommu/iommu.c`
+/// (`iommu_group_resv_type_string`).
 #[derive(Clone, Copy, Debug, PartialEq, Eq)]
 pub enum RegionKind {
     /// `direct`: firmware needs it mapped to itself, always.
@@ -29,6 +30,7 @@ pub struct Region {
 pub enum Counted {
     /// All of them: nothing may be handed out there.
     All,
-    /// All but `direct` and `direct-relaxable` ones. In a trace of a kernel's own mappings those are mapped by the kernel itself.
+    /// All but `direct` and `direct-relaxable` ones. In a trace of a kernel's own mappings those
+    /// are mapped by the kernel itself.
     NotDirect,
 }

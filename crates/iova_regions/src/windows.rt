@@ -60,15 +60,18 @@ impl Windows {
         self.ranges.as_slice()
     }
 
-    /// Inserts the range, which doesn't have frame 0. The windows that have a frame in common with it are joined with it into
-    /// one; those that only adjoin it stay. Refused by `WindowsFull`, with no change, exactly where that would make a 65th.
+    /// Inserts the range, which doesn't have frame 0. The windows that have a frame in common with
+    /// it are joined with it into one; those that only adjoin it stay. Refused by `WindowsFull`,
+    /// with no change, exactly where that would make a 65th.
     pub fn insert(&mut self, range: Range) -> Result<(), Refusal>
         requires { 1 ≤ range.lo }
         ensures ok { OnOk result (self.new ≡ windows_with range self.old) }
         ensures windows { OnOk result (AreWindows self.new) }
-        ensures covers { OnOk result ((frame : ℕ) → covered frame self.new ≡ (covered frame self.old || covers frame range)) }
+        ensures covers { OnOk result ((frame : ℕ)
+            → covered frame self.new ≡ (covered frame self.old || covers frame range)) }
         ensures same { OnErr result (self.new ≡ self.old) }
-        ensures full { OnErr result ((result ≡ Err Refusal.WindowsFull) × (MAX_WINDOWS < length (windows_with range self.old))) }
+        ensures full { OnErr result ((result ≡ Err Refusal.WindowsFull)
+            × (MAX_WINDOWS < length (windows_with range self.old))) }
     {
         let _some = range.len(); // for the proof: a range has a frame
         let mut ranges = below(self.ranges.as_slice(), range);
@@ -86,7 +89,8 @@ impl Windows {
 /// The part of the range from frame `first` to frame `last`. None where it has no frame there.
 pub fn cut(range: Range, first: u64, last: u64) -> Option<Range>
     ensures is { result ≡ part range first last }
-    ensures covers { MatchOption result ((frame : ℕ) → (covers frame range && is_between first last frame) ≡ false)
+    ensures covers { MatchOption result
+        ((frame : ℕ) → (covers frame range && is_between first last frame) ≡ false)
         (λ p. (frame : ℕ) → covers frame p ≡ (covers frame range && is_between first last frame)) }
 {
     let lo = range.lo().max(first);

@@ -1,5 +1,5 @@
--- The text of a domain's report: twelve lines of a name and a number, then a line for each window. All of it is ASCII, and each
--- line ends by LF. Own.
+-- The text of a domain's report: twelve lines of a name and a number, then a line for each window.
+-- All of it is ASCII, and each line ends by LF. Own.
 use Rattle.std.specs.Prelude.{ℕ, ◌+◌, ◌-◌, List, [], ◌∷◌, ◌++◌, length, replicate, codes, decimal}
 use Rattle.std.specs.List.{flat_map}
 use Rattle.iova_range.specs.Frames.{Frames}
@@ -27,7 +27,8 @@ field_text name n = name_text name ++ number_text n ++ 10 ∷ []
 
 -- a window's line: its first and its last frame
 abbrev pub window_text : Frames → List ℕ
-window_text r = name_text (codes "window") ++ number_text r.lo ++ number_text (r.lo + r.len - 1) ++ 10 ∷ []
+window_text r =
+    name_text (codes "window") ++ number_text r.lo ++ number_text (r.lo + r.len - 1) ++ 10 ∷ []
 
 -- the frames at each kind of place
 abbrev pub counts_text : Counts → List ℕ

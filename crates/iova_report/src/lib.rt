@@ -25,15 +25,17 @@ const WINDOW: usize = NAME + 2 * NUMBER + 1;
 
 const SPACES: [u8; NUMBER] = [b' '; NUMBER];
 
-/// Appends the domain's report: twelve lines of a name and a number (the frames at each kind of place, the clients, their
-/// holdings, and the start count, the finish count, what is owed and the flights of the flushes), then a line for each
-/// window, rising, with its first and its last frame. Names are left in 10 places, numbers right in 20. Refused by
-/// `NoMemory`, which appends nothing and comes only where `out` has to grow. Our own form.
+/// Appends the domain's report: twelve lines of a name and a number (the frames at each kind of
+/// place, the clients, their holdings, and the start count, the finish count, what is owed and the
+/// flights of the flushes), then a line for each window, rising, with its first and its last frame.
+/// Names are left in 10 places, numbers right in 20. Refused by `NoMemory`, which appends nothing
+/// and comes only where `out` has to grow. Our own form.
 #[tactic(auto, unfolding(crate::specs::Report::report_text))]
 pub fn report(domain: &Domain, out: &mut Vec<u8>) -> Result<(), Refusal>
     ensures ok { OnOk result (out.new.items ≡ out.old.items ++ report_text domain.now) }
     ensures err { OnErr result ((result ≡ Err Refusal.NoMemory) × (out.new.items ≡ out.old.items)) }
-    ensures full { OnErr result (vec_capacity out.old < vec_len out.old + length (report_text domain.now)) }
+    ensures full { OnErr result (vec_capacity out.old < vec_len out.old + length
+        (report_text domain.now)) }
 {
     // for the proof: the state is valid, so that there are at most 64 windows
     let _bounds = domain.bounds();

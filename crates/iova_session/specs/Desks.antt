@@ -92,11 +92,15 @@ taken_in ps = flat_map (λ p. taken_by p.answer) ps
 
 -- a hello in this domain: another one is named, or none can be opened
 abbrev pub IsHelloRefusal : ℕ → ℕ → Refusal → Type 0
-IsHelloRefusal number domain e = ((domain ≢ number) × (e ≡ refusal.NoDomain)) ⊎ ((domain ≡ number) × IsOpenRefusal e)
+IsHelloRefusal number domain e =
+    ((domain ≢ number) × (e ≡ refusal.NoDomain)) ⊎ ((domain ≡ number) × IsOpenRefusal e)
 
--- A list where so many ranges were listed before: it passes the limit only where the most that a client can hold would.
+-- A list where so many ranges were listed before: it passes the limit only where the most that a
+-- client can hold would.
 abbrev pub IsListRefusal : ℕ → Refusal → Type 0
-IsListRefusal listed e = (e ≡ refusal.NoClient) ⊎ (e ≡ refusal.NoMemory) ⊎ ((e ≡ refusal.TooMany) × (MAX_LISTED < listed + MAX_HOLDINGS))
+IsListRefusal listed e =
+    (e ≡ refusal.NoClient) ⊎ (e ≡ refusal.NoMemory)
+    ⊎ ((e ≡ refusal.TooMany) × (MAX_LISTED < listed + MAX_HOLDINGS))
 
 -- Without a client.
 abbrev pub IsFirstAnswer : ℕ → Request → Answer → Type 0
@@ -120,7 +124,8 @@ IsClientAnswer listed (request.Free lo) (answer.Queued r) = r.lo ≡ lo
 IsClientAnswer listed (request.Free lo) (answer.Freed r) = r.lo ≡ lo
 IsClientAnswer listed (request.Free lo) (answer.Refused e) = IsUnmapRefusal e
 IsClientAnswer listed (request.Free lo) a = ⊥
-IsClientAnswer listed request.List (answer.Held ranges) = (listed + length ranges ≤ MAX_LISTED) × Rises 0 ranges
+IsClientAnswer listed request.List (answer.Held ranges) =
+    (listed + length ranges ≤ MAX_LISTED) × Rises 0 ranges
 IsClientAnswer listed request.List (answer.Refused e) = IsListRefusal listed e
 IsClientAnswer listed request.List a = ⊥
 IsClientAnswer listed request.Flush (answer.Flushed number freed) = Unit {0}
@@ -130,7 +135,8 @@ IsClientAnswer listed request.Stat (answer.Stat stat) = Unit {0}
 IsClientAnswer listed request.Stat a = ⊥
 IsClientAnswer listed request.Bye a = a ≡ answer.Bye
 
--- What a request may be answered in a domain of this number, by the client so far and the ranges listed so far.
+-- What a request may be answered in a domain of this number, by the client so far and the ranges
+-- listed so far.
 abbrev pub IsAnswer : ℕ → Option ℕ → ℕ → Request → Answer → Type 0
 IsAnswer number None listed r a = IsFirstAnswer number r a
 IsAnswer number (Some id) listed r a = IsClientAnswer listed r a
@@ -139,7 +145,8 @@ IsAnswer number (Some id) listed r a = IsClientAnswer listed r a
 unfoldable pub AreAnswers : ℕ → Option ℕ → ℕ → List Pair → Type 0
 AreAnswers number client listed [] = Unit {0}
 AreAnswers number client listed (p ∷ ps) =
-    IsAnswer number client listed p.request p.answer × AreAnswers number (next_client client p.answer) (listed + count_listed p.answer) ps
+    IsAnswer number client listed p.request p.answer
+    × AreAnswers number (next_client client p.answer) (listed + count_listed p.answer) ps
 
 -- The shares, raised by what was given and lowered by what was taken.
 abbrev pub MovesBy : List Frames → List Frames → Totals → Totals → Type 0
@@ -147,11 +154,15 @@ MovesBy given taken old new = add_totals new (totals_of taken) ≡ add_totals ol
 
 abbrev pub totals_code : Coded Totals
 totals_code =
-    code_by (ℕ × (ℕ × ℕ)) (coded× coded_ℕ (coded× coded_ℕ coded_ℕ)) (λ t. (t.count, (t.frames, t.sum_lo))) (λ p. record { count = p.0; frames = p.1.0; sum_lo = p.1.1 }) (λ _. refl)
+    code_by (ℕ × (ℕ × ℕ)) (coded× coded_ℕ (coded× coded_ℕ coded_ℕ))
+    (λ t. (t.count, (t.frames, t.sum_lo)))
+    (λ p. record { count = p.0; frames = p.1.0; sum_lo = p.1.1 }) (λ _. refl)
 
 -- that is one fact: two proofs of it are equal
-pub MovesBy-prop : (given taken : List Frames) (old new : Totals) → IsProp (MovesBy given taken old new)
-MovesBy-prop given taken old new = Coded-set totals_code (add_totals new (totals_of taken)) (add_totals old (totals_of given))
+pub MovesBy-prop : (given taken : List Frames) (old new : Totals)
+    → IsProp (MovesBy given taken old new)
+MovesBy-prop given taken old new =
+    Coded-set totals_code (add_totals new (totals_of taken)) (add_totals old (totals_of given))
 
 -- What is asked in one hold.
 
@@ -191,7 +202,8 @@ told_pairs rs [] = []
 told_pairs [] (x ∷ xs) = []
 told_pairs (r ∷ rs) (x ∷ xs) = record { request = r; answer = answer_of x } ∷ told_pairs rs xs
 
--- a session: the domain's number, its client, how many ranges it was told in lists, and its requests with their answers
+-- a session: the domain's number, its client, how many ranges it was told in lists, and its
+-- requests with their answers
 pub record SessionState : Type 0 where
   pub number : ℕ
   pub client : Option ℕ
@@ -219,9 +231,10 @@ IsFirstAlone (request.List ∷ rs) = Unit {0}
 IsFirstAlone (request.Flush ∷ rs) = Unit {0}
 IsFirstAlone (request.Bye ∷ rs) = Unit {0}
 
--- so many requests at the front were asked and answered: the session and the answers have the pairs more, and the shares moved
--- by them
-pub record AnswersRun (rs : List Request) (count : ℕ) (was now : SessionState) (before later : List Answer) (old new : Totals) : Type 0 where
+-- so many requests at the front were asked and answered: the session and the answers have the pairs
+-- more, and the shares moved by them
+pub record AnswersRun (rs : List Request) (count : ℕ) (was now : SessionState)
+    (before later : List Answer) (old new : Totals) : Type 0 where
   pub pairs : List Pair
   pub same : now.number ≡ was.number
   pub added : now.pairs ≡ was.pairs ++ pairs
@@ -229,8 +242,8 @@ pub record AnswersRun (rs : List Request) (count : ℕ) (was now : SessionState)
   pub told : later ≡ before ++ told pairs
   pub shares : MovesBy (given_in pairs) (taken_in pairs) old new
 
--- what a session leaves at a seat: its worker, its parts of the ledger, and a tally that grew by no more than the good calls of
--- its sink
+-- what a session leaves at a seat: its worker, its parts of the ledger, and a tally that grew by no
+-- more than the good calls of its sink
 pub record KeepsPlace (old new : SeatState) (before now : List Call) : Type 0 where
   pub worker : new.worker ≡ old.worker
   pub parts : new.tally.parts ≡ old.tally.parts

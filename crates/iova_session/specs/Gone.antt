@@ -1,4 +1,5 @@
--- What a round of tries comes to where nobody else holds a range of the domain, and the sink answers well. Own.
+-- What a round of tries comes to where nobody else holds a range of the domain, and the sink
+-- answers well. Own.
 use Rattle.std.specs.Prelude.{ℕ, ◌≡◌, ◌≢◌, ◌+◌, ◌≤◌, List, [], length, None, Contains}
 use Rattle.std.specs.List.{AllByRecursion}
 use Rattle.iova_range.specs.declared.limits.TheConstants.{MAX_HOLDINGS, MAX_SERIAL}
@@ -18,20 +19,23 @@ pub record HasAtLeast (held some : Totals) : Type 0 where
   pub frames : some.frames ≤ held.frames
   pub sum_lo : some.sum_lo ≤ held.sum_lo
 
--- Whoever holds a range is a client of the seat's worker that waits; the seat has the shares of all these ranges, without
--- which an end waits for them; and no flush is in flight, since a ring is emptied only once all flushes before have ended.
+-- Whoever holds a range is a client of the seat's worker that waits; the seat has the shares of all
+-- these ranges, without which an end waits for them; and no flush is in flight, since a ring is
+-- emptied only once all flushes before have ended.
 pub record IsAlone (seat : SeatState) (waiting : List ℕ) (s : State) : Type 0 where
   pub holders : AllByRecursion (IsOneOf seat.worker waiting) s.clients
   pub shares : HasAtLeast seat.held (totals s.clients)
   pub quiet : s.flushes.in_flight ≡ []
 
--- There is room for the ranges of a client, without which the round is over before it begins. And there are numbers for the
--- flushes that full rings begin: a range is queued after each, so that they are at most as many as the ranges that are held.
+-- There is room for the ranges of a client, without which the round is over before it begins. And
+-- there are numbers for the flushes that full rings begin: a range is queued after each, so that
+-- they are at most as many as the ranges that are held.
 pub record HasNumbers (space : ℕ) (s : State) : Type 0 where
   pub room : MAX_HOLDINGS ≤ space
   pub flushes : s.flushes.start + length (all_holdings s.clients) ≤ MAX_SERIAL
 
--- No call of the sink failed in between: calls are only appended, and so each of those that were went well.
+-- No call of the sink failed in between: calls are only appended, and so each of those that were
+-- went well.
 abbrev pub NoneFailed : List Call → List Call → Type 0
 NoneFailed before now = failed_calls now ≡ failed_calls before
 
@@ -45,7 +49,10 @@ pub record EndsAll (worker : ℕ) (waiting kept : List ℕ) (s : State) : Type 0
   pub nobody : NobodyHolds s
   pub gone : AllByRecursion (λ id. client_of worker id s.clients ≡ None) waiting
 
--- Where nobody else holds a range, and the sink answers each call well, one round ends all that wait.
-abbrev pub EndsWhereGood : ℕ → List ℕ → List ℕ → SeatState → List Call → List Call → State → State → Type 0
+-- Where nobody else holds a range, and the sink answers each call well, one round ends all that
+-- wait.
+abbrev pub EndsWhereGood : ℕ → List ℕ → List ℕ → SeatState → List Call → List Call → State → State
+    → Type 0
 EndsWhereGood room waiting kept seat before now s t =
-    IsAlone seat waiting s → HasNumbers room s → NoneFailed before now → EndsAll seat.worker waiting kept t
+    IsAlone seat waiting s → HasNumbers room s → NoneFailed before now
+    → EndsAll seat.worker waiting kept t

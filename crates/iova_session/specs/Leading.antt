@@ -44,24 +44,28 @@ alloc_answer (Err e) = answer.Refused e
 abbrev pub Greets : ℕ → ℕ → ℕ → Bool → Answer → State → State → Type 0
 Greets number w domain sac a s t =
     ((domain ≢ number) × (a ≡ answer.Refused refusal.NoDomain) × (t ≡ s))
-    ⊎ ((domain ≡ number) × ((result : Result ℕ Refusal) × Opens w sac result s t × (a ≡ open_answer result)))
+    ⊎ ((domain ≡ number) × ((result : Result ℕ Refusal) × Opens w sac result s t
+    × (a ≡ open_answer result)))
 
 -- What a request does without a client, in a domain of this number, at a seat of worker w.
 abbrev pub FirstDoes : ℕ → ℕ → Request → Answer → State → State → Type 0
 FirstDoes number w (request.Hello domain sac) a s t = Greets number w domain sac a s t
-FirstDoes number w (request.Alloc frames limit) a s t = (a ≡ answer.Refused refusal.NoClient) × (t ≡ s)
+FirstDoes number w (request.Alloc frames limit) a s t =
+    (a ≡ answer.Refused refusal.NoClient) × (t ≡ s)
 FirstDoes number w (request.Free lo) a s t = (a ≡ answer.Refused refusal.NoClient) × (t ≡ s)
 FirstDoes number w request.List a s t = (a ≡ answer.Refused refusal.NoClient) × (t ≡ s)
 FirstDoes number w request.Flush a s t = (a ≡ answer.Refused refusal.NoClient) × (t ≡ s)
 FirstDoes number w request.Stat a s t = (a ≡ answer.Refused refusal.NoClient) × (t ≡ s)
 FirstDoes number w request.Bye a s t = (a ≡ answer.Bye) × (t ≡ s)
 
--- What a request does with a client that was told so many ranges in lists: what its call of the lock does, which it is
--- answered by, between these calls of the sink.
-abbrev pub ClientDoes : Bool → ℕ → SeatState → ℕ → ℕ → Request → Answer → List Call → List Call → State → State
+-- What a request does with a client that was told so many ranges in lists: what its call of the
+-- lock does, which it is answered by, between these calls of the sink.
+abbrev pub ClientDoes : Bool → ℕ → SeatState → ℕ → ℕ → Request → Answer → List Call → List Call
+    → State → State
     → Type 0
 ClientDoes strict number seat id listed (request.Alloc frames limit) a before now s t =
-    (result : Result Frames Refusal) × Allocs seat.worker id frames limit result s t × (a ≡ alloc_answer result)
+    (result : Result Frames Refusal) × Allocs seat.worker id frames limit result s t
+    × (a ≡ alloc_answer result)
     × (now ≡ before)
 ClientDoes strict number seat id listed (request.Free lo) a before now s t =
     Frees strict seat id lo a number before now s t
@@ -73,7 +77,8 @@ ClientDoes strict number seat id listed request.Stat a before now s t =
     (a ≡ answer.Stat (stat_of s)) × (now ≡ before) × (t ≡ s)
 ClientDoes strict number seat id listed (request.Hello domain sac) a before now s t =
     (a ≡ answer.Refused refusal.Twice) × (now ≡ before) × (t ≡ s)
-ClientDoes strict number seat id listed request.Bye a before now s t = (a ≡ answer.Bye) × (now ≡ before) × (t ≡ s)
+ClientDoes strict number seat id listed request.Bye a before now s t =
+    (a ≡ answer.Bye) × (now ≡ before) × (t ≡ s)
 
 -- One request with its answer leads from a to b, by the client so far and the ranges listed so far.
 abbrev pub PairDoes : Bool → ℕ → Option ℕ → ℕ → Pair → Standing → Standing → Type 0
@@ -91,35 +96,44 @@ pub record MovesSeat (a : Answer) (old new : SeatState) : Type 0 where
 unfoldable pub PairsLead : Bool → ℕ → Option ℕ → ℕ → List Pair → Standing → Standing → Type 0
 PairsLead strict number client listed [] a b = b ≡ a
 PairsLead strict number client listed (p ∷ ps) a b =
-    (mid : Standing) × PairDoes strict number client listed p a mid × MovesSeat p.answer a.seat mid.seat
-    × PairsLead strict number (next_client client p.answer) (listed + count_listed p.answer) ps mid b
+    (mid : Standing) × PairDoes strict number client listed p a mid
+    × MovesSeat p.answer a.seat mid.seat
+    × PairsLead strict number (next_client client p.answer) (listed + count_listed p.answer) ps mid
+    b
 
--- A session's pairs from its first request on: from one seat to another, between these calls of the sink.
-abbrev pub LeadsFrom : Bool → ℕ → List Pair → SeatState → SeatState → List Call → List Call → State → State → Type 0
+-- A session's pairs from its first request on: from one seat to another, between these calls of the
+-- sink.
+abbrev pub LeadsFrom : Bool → ℕ → List Pair → SeatState → SeatState → List Call → List Call → State
+    → State → Type 0
 LeadsFrom strict number ps old new before now s t =
     PairsLead strict number None 0 ps (standing old before s) (standing new now t)
 
 -- A session goes on by some pairs, which lead so.
-abbrev pub GoesOn : Bool → SessionState → SessionState → SeatState → SeatState → List Call → List Call → State → State
+abbrev pub GoesOn : Bool → SessionState → SessionState → SeatState → SeatState → List Call
+    → List Call → State → State
     → Type 0
 GoesOn strict was now old new before calls s t =
     (ps : List Pair) × (now.pairs ≡ was.pairs ++ ps)
-    × PairsLead strict was.number was.client was.listed ps (standing old before s) (standing new calls t)
+    × PairsLead strict was.number was.client was.listed ps (standing old before s)
+    (standing new calls t)
 
 -- what is told of a client's end is what it came to, or nothing
 abbrev pub TellsAtMost : Option Ending → Result Ending Refusal → Type 0
 TellsAtMost None result = Unit {0}
 TellsAtMost (Some told) result = result ≡ Ok told
 
--- The client that a session opened leaves, of whose end this is told; where none was opened, nothing is done.
+-- The client that a session opened leaves, of whose end this is told; where none was opened,
+-- nothing is done.
 abbrev pub EndDoes : ℕ → Option ℕ → Option Ending → Standing → Standing → Type 0
 EndDoes number None told a b = (told ≡ None) × (b ≡ a)
 EndDoes number (Some id) told a b =
     (l : Leaving) × TellsAtMost told l.ended
     × Departs a.seat b.seat.held id l number a.calls b.calls a.domain b.domain
 
--- A whole session: its pairs lead from where it began to where its client is ended, and that end leads on.
-pub record SessionLeads (strict : Bool) (number : ℕ) (ps : List Pair) (told : Option Ending) (old new : SeatState)
+-- A whole session: its pairs lead from where it began to where its client is ended, and that end
+-- leads on.
+pub record SessionLeads (strict : Bool) (number : ℕ) (ps : List Pair) (told : Option Ending)
+    (old new : SeatState)
     (before now : List Call) (s t : State) : Type 0 where
   pub here : Standing
   pub asked : PairsLead strict number None 0 ps (standing old before s) here

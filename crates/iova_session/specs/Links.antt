@@ -9,14 +9,16 @@ CountsFailures result old new = MatchResult result (λ v. new ≡ old) (λ e. ne
 -- how the ends are counted at a read that answers this, where there is room for so many bytes
 abbrev pub CountsEnds : {E : Type 0} → Result ℕ E → ℕ → ℕ → ℕ → Type 0
 CountsEnds result room old new =
-    MatchResult result (λ n. (0 < n → new ≡ old) × (n ≡ 0 → 0 < room → new ≡ old + 1)) (λ e. new ≡ old)
+    MatchResult result (λ n. (0 < n → new ≡ old) × (n ≡ 0 → 0 < room → new ≡ old + 1))
+    (λ e. new ≡ old)
 
 -- a front of these bytes was written
 abbrev pub AppendsFront : Option (List ℕ) → Option (List ℕ) → List ℕ → Type 0
 AppendsFront old new bytes = (n : ℕ) × Appends old new (take n bytes)
 
--- a link in memory: the bytes that are left and those that were written, how many it moves at a time, the call that
--- fails, and how many calls there were, reads among them, failures, and reads that found the end
+-- a link in memory: the bytes that are left and those that were written, how many it moves at a
+-- time, the call that fails, and how many calls there were, reads among them, failures, and reads
+-- that found the end
 pub record Wire : Type 0 where
   pub left : List ℕ
   pub sent : List ℕ
@@ -27,7 +29,8 @@ pub record Wire : Type 0 where
   pub failures : ℕ
   pub ends : ℕ
 
--- a link whose bytes are not known: how many reads there were, failures, and reads that found the end
+-- a link whose bytes are not known: how many reads there were, failures, and reads that found the
+-- end
 pub record Counted : Type 0 where
   pub reads : ℕ
   pub failures : ℕ

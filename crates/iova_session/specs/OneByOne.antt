@@ -13,8 +13,8 @@ use Rattle.iova_session.specs.Domains.{LeavesOthers}
 use Rattle.iova_session.specs.Leading.{SessionLeads}
 use Rattle.iova_session.specs.Posts.{EndsClient}
 
--- how things stand between two sessions: the post's seat, its clients that wait, the calls of the sink, and the domain
--- where it is known
+-- how things stand between two sessions: the post's seat, its clients that wait, the calls of the
+-- sink, and the domain where it is known
 pub record Between : Type 0 where
   pub seat : SeatState
   pub waiting : List ℕ
@@ -22,11 +22,13 @@ pub record Between : Type 0 where
   pub domain : Option State
 
 abbrev pub between : SeatState → List ℕ → List Call → Option State → Between
-between seat waiting calls domain = record { seat = seat; waiting = waiting; calls = calls; domain = domain }
+between seat waiting calls domain =
+    record { seat = seat; waiting = waiting; calls = calls; domain = domain }
 
--- One session, over a link whose bytes to be read, bytes written and number of reads were (left, sent, reads) and are
--- (left', sent', reads'), which ended so: it leads from a to b.
-pub record ServesOne (strict : Bool) (number : ℕ) (left left' sent sent' : Option (List ℕ)) (reads reads' : ℕ)
+-- One session, over a link whose bytes to be read, bytes written and number of reads were (left,
+-- sent, reads) and are (left', sent', reads'), which ended so: it leads from a to b.
+pub record ServesOne (strict : Bool) (number : ℕ) (left left' sent sent' : Option (List ℕ))
+    (reads reads' : ℕ)
     (told : SessionEnd) (a b : Between) : Type 0 where
   pub taken : List ℕ
   pub pairs : List Pair
@@ -43,11 +45,14 @@ pub record ServesOne (strict : Bool) (number : ℕ) (left left' sent sent' : Opt
       (SessionLeads strict number pairs told.client a.seat b.seat a.calls b.calls) ∥₁
   pub place : KeepsPlace a.seat b.seat a.calls b.calls
 
--- A session over each of these links, which were the first ones and are the second, in turn, each of which ended so.
-unfoldable pub ServesEach : {L : Type 0} → (L → Option (List ℕ)) → (L → Option (List ℕ)) → (L → ℕ) → Bool → ℕ
+-- A session over each of these links, which were the first ones and are the second, in turn, each
+-- of which ended so.
+unfoldable pub ServesEach : {L : Type 0} → (L → Option (List ℕ)) → (L → Option (List ℕ)) → (L → ℕ)
+    → Bool → ℕ
     → List L → List L → List SessionEnd → Between → Between → Type 0
 ServesEach left sent reads strict number [] [] [] a b = b ≡ a
 ServesEach left sent reads strict number (l ∷ ls) (m ∷ ms) (e ∷ es) a b =
-    (mid : Between) × ServesOne strict number (left l) (left m) (sent l) (sent m) (reads l) (reads m) e a mid
+    (mid : Between) × ServesOne strict number (left l) (left m) (sent l) (sent m) (reads l)
+    (reads m) e a mid
     × ServesEach left sent reads strict number ls ms es mid b
 ServesEach left sent reads strict number ls ms es a b = ⊥

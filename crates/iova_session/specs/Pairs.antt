@@ -14,7 +14,8 @@ pub record Pair : Type 0 where
 -- one pair more
 abbrev pub after_one : Option (Snapshot (List Pair)) → Request → Snapshot Answer → List Pair
 after_one None request answer = []
-after_one (Some before) request answer = before.value ++ record { request = request; answer = answer.value } ∷ []
+after_one (Some before) request answer =
+    before.value ++ record { request = request; answer = answer.value } ∷ []
 
 -- the requests, in their order
 unfoldable pub asked : List Pair → List Request
@@ -32,8 +33,9 @@ requests_text rs = flat_map request_text rs
 unfoldable pub answers_text : List Answer → List ℕ
 answers_text as_told = flat_map answer_text as_told
 
--- A front of so many of the requests was asked: their pairs stand after those before, and their answers after
--- those before.
+-- A front of so many of the requests was asked: their pairs stand after those before, and their
+-- answers after those before.
 abbrev pub AsksFront : ℕ → List Request → List Pair → List Pair → List Answer → List Answer → Type 0
 AsksFront n requests old new before answers =
-    (ps : List Pair) × (new ≡ old ++ ps) × (asked ps ≡ take n requests) × (answers ≡ before ++ told ps)
+    (ps : List Pair) × (new ≡ old ++ ps) × (asked ps ≡ take n requests)
+    × (answers ≡ before ++ told ps)

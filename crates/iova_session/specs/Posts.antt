@@ -14,23 +14,30 @@ use Rattle.iova_session.specs.Leaving.{Attempts}
 use Rattle.iova_session.specs.Pairs.{Pair}
 use Rattle.iova_session.specs.Desks.{client_after, given_in, taken_in}
 
--- What is told of the end of a session's client, by the shares of the seat before the session and after it, and the clients that
--- wait. Where it ended, the shares are as before, and what its end queued is what was given to it and not taken back. Where it
--- waits, the count is greater by what it has left, and it is the last of those that wait.
-abbrev pub EndsClientOf : Option ℕ → List Pair → Option Ending → Totals → Totals → List ℕ → List ℕ → Type 0
+-- What is told of the end of a session's client, by the shares of the seat before the session and
+-- after it, and the clients that wait. Where it ended, the shares are as before, and what its end
+-- queued is what was given to it and not taken back. Where it waits, the count is greater by what
+-- it has left, and it is the last of those that wait.
+abbrev pub EndsClientOf : Option ℕ → List Pair → Option Ending → Totals → Totals → List ℕ → List ℕ
+    → Type 0
 EndsClientOf None ps told old new was now = (told ≡ None) × (new ≡ old) × (now ≡ was)
-EndsClientOf (Some id) ps (Some (ending.Ended queued)) old new was now = (new ≡ old) × (queued + length (taken_in ps) ≡ length (given_in ps)) × (now ≡ was)
-EndsClientOf (Some id) ps (Some (ending.Waiting left why)) old new was now = (new.count ≡ old.count + left) × (now ≡ was ++ id ∷ [])
+EndsClientOf (Some id) ps (Some (ending.Ended queued)) old new was now =
+    (new ≡ old) × (queued + length (taken_in ps) ≡ length (given_in ps)) × (now ≡ was)
+EndsClientOf (Some id) ps (Some (ending.Waiting left why)) old new was now =
+    (new.count ≡ old.count + left) × (now ≡ was ++ id ∷ [])
 EndsClientOf (Some id) ps None old new was now = (now ≡ was) ⊎ (now ≡ was ++ id ∷ [])
 
 -- the client is the one that a hello among the pairs opened
 abbrev pub EndsClient : List Pair → Option Ending → Totals → Totals → List ℕ → List ℕ → Type 0
 EndsClient ps told old new was now = EndsClientOf (client_after None ps) ps told old new was now
 
--- The same of the end of that client alone, which had these shares of before the session to come back to: it began at `held`.
+-- The same of the end of that client alone, which had these shares of before the session to come
+-- back to: it began at `held`.
 abbrev pub EndsFrom : ℕ → Option Ending → Totals → Totals → Totals → List ℕ → List ℕ → Type 0
-EndsFrom id (Some (ending.Ended queued)) old held new was now = (new ≡ old) × (held.count ≡ new.count + queued) × (now ≡ was)
-EndsFrom id (Some (ending.Waiting left why)) old held new was now = (new.count ≡ old.count + left) × (now ≡ was ++ id ∷ [])
+EndsFrom id (Some (ending.Ended queued)) old held new was now =
+    (new ≡ old) × (held.count ≡ new.count + queued) × (now ≡ was)
+EndsFrom id (Some (ending.Waiting left why)) old held new was now =
+    (new.count ≡ old.count + left) × (now ≡ was ++ id ∷ [])
 EndsFrom id None old held new was now = (now ≡ was) ⊎ (now ≡ was ++ id ∷ [])
 
 -- some of a list, in its order
@@ -44,10 +51,12 @@ abbrev pub kept_if : Bool → ℕ → List ℕ
 kept_if true id = id ∷ []
 kept_if false id = []
 
--- Each of the clients is tried once, in their order, until the round is over, and those that wait still are kept: in a domain of
--- this number, from s to t.
-abbrev pub Retries : Bool → ℕ → List ℕ → List ℕ → SeatState → SeatState → List Call → List Call → State → State → Type 0
-Retries over number [] kept seat left before now s t = (kept ≡ []) × (left ≡ seat) × (now ≡ before) × (t ≡ s)
+-- Each of the clients is tried once, in their order, until the round is over, and those that wait
+-- still are kept: in a domain of this number, from s to t.
+abbrev pub Retries : Bool → ℕ → List ℕ → List ℕ → SeatState → SeatState → List Call → List Call
+    → State → State → Type 0
+Retries over number [] kept seat left before now s t =
+    (kept ≡ []) × (left ≡ seat) × (now ≡ before) × (t ≡ s)
 Retries over number (id ∷ ids) kept seat left before now s t =
     (a : Attempt) × (mid : SeatState) × (calls : List Call) × (here : State) × (more : List ℕ)
     × (mid.worker ≡ seat.worker) × Attempts over seat mid id a number before calls s here
@@ -55,18 +64,23 @@ Retries over number (id ∷ ids) kept seat left before now s t =
     × Retries a.over number ids more mid left calls now here t
 
 -- and no round is over before it begins where there is room for the ranges of a client
-abbrev pub RetriesAll : ℕ → ℕ → List ℕ → List ℕ → SeatState → SeatState → List Call → List Call → State → State → Type 0
+abbrev pub RetriesAll : ℕ → ℕ → List ℕ → List ℕ → SeatState → SeatState → List Call → List Call
+    → State → State → Type 0
 RetriesAll room number ids kept seat left before now s t =
-    (over : Bool) × (over ≡ true → room < MAX_HOLDINGS) × Retries over number ids kept seat left before now s t
+    (over : Bool) × (over ≡ true → room < MAX_HOLDINGS)
+    × Retries over number ids kept seat left before now s t
 
 -- a flusher's round, where one is wanted
 abbrev pub MakesRound : Bool → ℕ → List Call → List Call → State → State → Type 0
 MakesRound false number before now s t = (now ≡ before) × (t ≡ s)
-MakesRound true number before now s t = (round : Result ℕ Refusal) × DoesTimeout round number before now s t
+MakesRound true number before now s t =
+    (round : Result ℕ Refusal) × DoesTimeout round number before now s t
 
--- The end of a post's service, in a domain of this number, from s to t: each client that waits is tried once more, and then,
--- where a flush is wanted, what is in a ring is flushed and drained. `held` are the seat's shares then.
-abbrev pub EndsPost : Bool → ℕ → ℕ → List ℕ → List ℕ → SeatState → Totals → List Call → List Call → State → State → Type 0
+-- The end of a post's service, in a domain of this number, from s to t: each client that waits is
+-- tried once more, and then, where a flush is wanted, what is in a ring is flushed and drained.
+-- `held` are the seat's shares then.
+abbrev pub EndsPost : Bool → ℕ → ℕ → List ℕ → List ℕ → SeatState → Totals → List Call → List Call
+    → State → State → Type 0
 EndsPost flushes room number ids kept seat held before now s t =
     (left : SeatState) × (calls : List Call) × (here : State)
     × RetriesAll room number ids kept seat left before calls s here

@@ -23,24 +23,28 @@ pub record AllAnswered (bytes : List ℕ) (ps : List Pair) (next written : List 
   pub byes : HasNoBye (asked ps)
   pub answered : written ≡ answers_text (told ps)
 
--- What gathering gives after the bytes that are kept: the requests, how much of the piece they take, what is kept
--- then.
+-- What gathering gives after the bytes that are kept: the requests, how much of the piece they
+-- take, what is kept then.
 abbrev pub Gathers : ℕ → List ℕ → List ℕ → List Request → ℕ → Stop → Option (List ℕ) → Type 0
 Gathers left kept piece rs used stops.More new =
-    HasNoBye rs × ((next : List ℕ) × IsLines (kept ++ piece) rs next × IsUnended next × (new ≡ Some next))
-Gathers left kept piece rs used stops.Full new = HasNoBye rs × IsLines (kept ++ take used piece) rs [] × (new ≡ Some [])
-Gathers left kept piece rs used stops.Bye new = EndsInBye rs × IsLines (kept ++ take used piece) rs []
+    HasNoBye rs × ((next : List ℕ) × IsLines (kept ++ piece) rs next × IsUnended next
+    × (new ≡ Some next))
+Gathers left kept piece rs used stops.Full new =
+    HasNoBye rs × IsLines (kept ++ take used piece) rs [] × (new ≡ Some [])
+Gathers left kept piece rs used stops.Bye new =
+    EndsInBye rs × IsLines (kept ++ take used piece) rs []
 Gathers left kept piece rs used stops.Bad new =
     HasNoBye rs × ((rest : List ℕ) × IsLines (kept ++ piece) rs rest × BeginsBad rest)
 Gathers left kept piece rs used stops.Limit new =
-    HasNoBye rs × (length rs ≡ left) × ((rest : List ℕ) × IsLines (kept ++ piece) rs rest × BeginsRequest rest)
+    HasNoBye rs × (length rs ≡ left) × ((rest : List ℕ) × IsLines (kept ++ piece) rs rest
+    × BeginsRequest rest)
 
 -- the ends at which not all that was gathered is asked, or not all answers are written
 abbrev pub IsCut : End → Type 0
 IsCut end = (end ≡ ends.LinkFault) ⊎ (end ≡ ends.NoMemory)
 
--- What asking a run of requests gives: all are asked and answered, or the first ones, and a front of the answers is
--- written.
+-- What asking a run of requests gives: all are asked and answered, or the first ones, and a front
+-- of the answers is written.
 abbrev pub AsksRun : List Request → List Pair → List ℕ → Result Unit End → Type 0
 AsksRun rs ps written (Ok u) = (asked ps ≡ rs) × (written ≡ answers_text (told ps))
 AsksRun rs ps written (Err end) =
@@ -52,8 +56,11 @@ abbrev pub CountsFault : Result Unit End → ℕ → ℕ → Type 0
 CountsFault (Ok u) old new = new ≡ old
 CountsFault (Err end) old new = new ≡ old + failures_at end
 
--- What a piece gives after what was kept: the session goes on with so many requests left, or it ends.
-abbrev pub TakesPiece : ℕ → List ℕ → List Pair → List ℕ → ℕ → Option (List ℕ) → Result Unit End → Type 0
+-- What a piece gives after what was kept: the session goes on with so many requests left, or it
+-- ends.
+abbrev pub TakesPiece : ℕ → List ℕ → List Pair → List ℕ → ℕ → Option (List ℕ) → Result Unit End
+    → Type 0
 TakesPiece left bytes ps written here new (Ok u) =
-    (next : List ℕ) × AllAnswered bytes ps next written × IsUnended next × (new ≡ Some next) × (length ps + here ≡ left)
+    (next : List ℕ) × AllAnswered bytes ps next written × IsUnended next × (new ≡ Some next)
+    × (length ps + here ≡ left)
 TakesPiece left bytes ps written here new (Err end) = Serves left bytes ps written 0 end

@@ -41,42 +41,48 @@ pub record BeginsRequest (bytes : List ℕ) : Type 0 where
   pub good : IsRequest request
   pub whole : bytes ≡ request_text request ++ more
 
--- The bytes begin with the lines of these requests, each a line of the protocol, and the rest follows. They are no
--- more than the most that may be asked, and none of them stands after a bye.
+-- The bytes begin with the lines of these requests, each a line of the protocol, and the rest
+-- follows. They are no more than the most that may be asked, and none of them stands after a bye.
 pub record BeginsWith (most : ℕ) (bytes : List ℕ) (rs : List Request) (rest : List ℕ) : Type 0 where
   pub good : AllByRecursion IsRequest rs
   pub whole : bytes ≡ requests_text rs ++ rest
   pub byes : StopsAtBye rs
   pub few : length rs ≤ most
 
--- a request follows the most that may be asked, or no whole line follows and the most reads were made
+-- a request follows the most that may be asked, or no whole line follows and the most reads were
+-- made
 abbrev pub IsPastLimit : ℕ → ℕ → List Request → List ℕ → ℕ → Type 0
 IsPastLimit most most_reads rs rest reads =
     ((length rs ≡ most) × BeginsRequest rest) ⊎ ((reads ≡ most_reads) × IsUnended rest)
 
--- Which line of its own a session may write at last: none; that a line is bad, where a bad one follows; that a
--- limit is passed.
+-- Which line of its own a session may write at last: none; that a line is bad, where a bad one
+-- follows; that a limit is passed.
 abbrev pub IsLastLine : ℕ → ℕ → List Request → List ℕ → ℕ → List ℕ → Type 0
 IsLastLine most most_reads rs rest reads line = (line ≡ [])
     ⊎ ((line ≡ bad_line) × HasNoBye rs × BeginsBad rest)
     ⊎ ((line ≡ too_many) × HasNoBye rs × IsPastLimit most most_reads rs rest reads)
 
--- What each end says, of the most that may be asked and the most that may be read, the requests that were asked, what follows them in the bytes
--- that were taken, the number of reads, the text of the answers, and what was written.
+-- What each end says, of the most that may be asked and the most that may be read, the requests
+-- that were asked, what follows them in the bytes that were taken, the number of reads, the text of
+-- the answers, and what was written.
 abbrev pub EndsSo : ℕ → ℕ → List Request → List ℕ → ℕ → List ℕ → List ℕ → End → Type 0
 EndsSo most most_reads rs rest reads text written ends.Bye = EndsInBye rs × (written ≡ text)
-EndsSo most most_reads rs rest reads text written ends.Closed = HasNoBye rs × IsUnended rest × (written ≡ text)
-EndsSo most most_reads rs rest reads text written ends.BadLine = HasNoBye rs × BeginsBad rest × (written ≡ text ++ bad_line)
+EndsSo most most_reads rs rest reads text written ends.Closed =
+    HasNoBye rs × IsUnended rest × (written ≡ text)
+EndsSo most most_reads rs rest reads text written ends.BadLine =
+    HasNoBye rs × BeginsBad rest × (written ≡ text ++ bad_line)
 EndsSo most most_reads rs rest reads text written ends.TooMany =
     HasNoBye rs × IsPastLimit most most_reads rs rest reads × (written ≡ text ++ too_many)
 EndsSo most most_reads rs rest reads text written ends.LinkFault =
-    (line : List ℕ) × (n : ℕ) × IsLastLine most most_reads rs rest reads line × (written ≡ take n (text ++ line))
+    (line : List ℕ) × (n : ℕ) × IsLastLine most most_reads rs rest reads line
+    × (written ≡ take n (text ++ line))
 EndsSo most most_reads rs rest reads text written ends.NoMemory = (n : ℕ) × (written ≡ take n text)
 
--- A session: the bytes that it took, the requests that it asked with their answers, the bytes that it wrote, the
--- number of its reads, and its end. The requests are the first ones that stand in the bytes, and all of them but at
--- LinkFault and NoMemory.
-pub record ServesWithin (most most_reads : ℕ) (taken : List ℕ) (ps : List Pair) (written : List ℕ) (reads : ℕ) (end : End) : Type 0 where
+-- A session: the bytes that it took, the requests that it asked with their answers, the bytes that
+-- it wrote, the number of its reads, and its end. The requests are the first ones that stand in the
+-- bytes, and all of them but at LinkFault and NoMemory.
+pub record ServesWithin (most most_reads : ℕ) (taken : List ℕ) (ps : List Pair) (written : List ℕ)
+    (reads : ℕ) (end : End) : Type 0 where
   pub rest : List ℕ
   pub requests : BeginsWith most taken (asked ps) rest
   pub few : reads ≤ most_reads
@@ -84,7 +90,8 @@ pub record ServesWithin (most most_reads : ℕ) (taken : List ℕ) (ps : List Pa
 
 -- the same where nobody says another bound of the reads
 abbrev pub Serves : ℕ → List ℕ → List Pair → List ℕ → ℕ → End → Type 0
-Serves most taken ps written reads end = ServesWithin most MAX_SESSION_READS taken ps written reads end
+Serves most taken ps written reads end =
+    ServesWithin most MAX_SESSION_READS taken ps written reads end
 
 -- how many calls of the link failed in a session that ended so
 abbrev pub failures_at : End → ℕ

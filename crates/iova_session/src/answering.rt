@@ -14,7 +14,8 @@ use iova_proto::encode::encode;
 use iova_proto::request::Request;
 use iova_range::limits::MAX_RUN;
 
-/// Asks all of the requests, in runs as the desk takes them, and writes the answers to each run before the next.
+/// Asks all of the requests, in runs as the desk takes them, and writes the answers to each run
+/// before the next.
 pub(crate) fn ask_all<L: Link, D: Desk>(
     link: &mut L,
     desk: &mut D,
@@ -27,7 +28,8 @@ pub(crate) fn ask_all<L: Link, D: Desk>(
     ensures reads { L.reads link.new ≡ L.reads link.old }
     ensures ends { L.ends link.new ≡ L.ends link.old }
     ensures failures { CountsFault result (L.failures link.old) (L.failures link.new) }
-    ensures asked { (ps : List Pair) × (written : List ℕ) × (D.pairs desk.new ≡ D.pairs desk.old ++ ps)
+    ensures asked { (ps : List Pair) × (written : List ℕ)
+        × (D.pairs desk.new ≡ D.pairs desk.old ++ ps)
         × Appends (L.sent link.old) (L.sent link.new) written × AsksRun run.now ps written result }
 {
     let mut asked = 0;
@@ -48,7 +50,8 @@ fn tell<L: Link>(link: &mut L, answers: &[Answer], out: &mut Vec<u8>) -> Result<
     ensures reads { L.reads link.new ≡ L.reads link.old }
     ensures ends { L.ends link.new ≡ L.ends link.old }
     ensures failures { CountsFault result (L.failures link.old) (L.failures link.new) }
-    ensures ok { OnOk result (Appends (L.sent link.old) (L.sent link.new) (answers_text answers.now)) }
+    ensures ok { OnOk result (Appends (L.sent link.old) (L.sent link.new)
+        (answers_text answers.now)) }
     ensures err { IfErr result (λ e. IsCut e
         × AppendsFront (L.sent link.old) (L.sent link.new) (answers_text answers.now)) }
 {

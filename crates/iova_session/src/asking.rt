@@ -1,5 +1,5 @@
-//! What a session's requests are answered, over any keeper: the checks of the session's own, and then the calls of
-//! the lock.
+//! What a session's requests are answered, over any keeper: the checks of the session's own, and
+//! then the calls of the lock.
 ghost use Rattle.std.specs.Prelude.{◌≡◌, ◌≢◌, ℕ, ◌+◌, ◌≤◌, IfSome};
 ghost use Rattle.iova_range.specs.declared.limits.TheConstants.{MAX_LISTED};
 ghost use Rattle.iova_sink.specs.Calls.{good_calls};
@@ -23,7 +23,8 @@ use iova_sink::sink::Sink;
 use std::alloc::Global;
 use std::sync::ledger::Ledger;
 
-/// What a request is answered before there is a client: `hello` opens one, in the domain of the keeper's number alone.
+/// What a request is answered before there is a client: `hello` opens one, in the domain of the
+/// keeper's number alone.
 pub(crate) fn ask_first<C: Ledger, F: Ledger, S: Ledger, G: Ledger, K: Keep<C, F, S, G>>(
     keeper: &mut K,
     seat: &mut Seat<C, F, S, G>,
@@ -52,8 +53,8 @@ pub(crate) fn ask_first<C: Ledger, F: Ledger, S: Ledger, G: Ledger, K: Keep<C, F
     }
 }
 
-/// What a request is answered that isn't asked together with others, of a session with a client that was told
-/// `listed` ranges in lists.
+/// What a request is answered that isn't asked together with others, of a session with a client
+/// that was told `listed` ranges in lists.
 pub(crate) fn ask_alone<C: Ledger, F: Ledger, S: Ledger, G: Ledger, K: Keep<C, F, S, G>, D: Sink>(
     alloc: Global,
     keeper: &mut K,
@@ -70,11 +71,13 @@ pub(crate) fn ask_alone<C: Ledger, F: Ledger, S: Ledger, G: Ledger, K: Keep<C, F
     ensures strict { K.strict keeper.new ≡ K.strict keeper.old }
     ensures answer { IsClientAnswer listed request result }
     ensures does { WhereKnown (K.domain keeper.old) (K.domain keeper.new)
-        (ClientDoes (K.strict keeper.old) (K.domain_number keeper.old) seat.old id listed request result
+        (ClientDoes (K.strict keeper.old) (K.domain_number keeper.old) seat.old id listed request
+        result
         (D.calls sink.old) (D.calls sink.new)) }
     ensures shares { MovesBy (given_by result) (taken_by result) seat.old.held seat.new.held }
     ensures worker { seat.new.worker ≡ seat.old.worker }
-    ensures tally { seat.new.tally.good + good_calls (D.calls sink.old) ≤ seat.old.tally.good + good_calls
+    ensures tally { seat.new.tally.good + good_calls
+        (D.calls sink.old) ≤ seat.old.tally.good + good_calls
         (D.calls sink.new) }
     ensures parts { seat.new.tally.parts ≡ seat.old.tally.parts }
 {
@@ -105,8 +108,8 @@ fn released(unmapped: Unmapped) -> Answer
     }
 }
 
-/// What the client holds. Refused by `NoClient`, `NoMemory`, and `TooMany` where the ranges listed so far and these
-/// pass 1,048,576.
+/// What the client holds. Refused by `NoClient`, `NoMemory`, and `TooMany` where the ranges listed
+/// so far and these pass 1,048,576.
 fn list<C: Ledger, F: Ledger, S: Ledger, G: Ledger, K: Keep<C, F, S, G>>(
     alloc: Global,
     keeper: &K,
@@ -132,8 +135,8 @@ fn list<C: Ledger, F: Ledger, S: Ledger, G: Ledger, K: Keep<C, F, S, G>>(
     }
 }
 
-/// Flushes, and where that ended well drains all rings into the magazines of the seat's worker. Refused by
-/// `FlightsFull`, `Worn` and `SinkFault`; then nothing is drained.
+/// Flushes, and where that ended well drains all rings into the magazines of the seat's worker.
+/// Refused by `FlightsFull`, `Worn` and `SinkFault`; then nothing is drained.
 fn flush_and_drain<C: Ledger, F: Ledger, S: Ledger, G: Ledger, K: Keep<C, F, S, G>, D: Sink>(
     keeper: &mut K,
     seat: &mut Seat<C, F, S, G>,
@@ -142,11 +145,13 @@ fn flush_and_drain<C: Ledger, F: Ledger, S: Ledger, G: Ledger, K: Keep<C, F, S, 
     ensures number { K.domain_number keeper.new ≡ K.domain_number keeper.old }
     ensures strict { K.strict keeper.new ≡ K.strict keeper.old }
     ensures flushes { WhereKnown (K.domain keeper.old) (K.domain keeper.new)
-        (FlushesAndDrains seat.old.worker result (K.domain_number keeper.old) (D.calls sink.old) (D.calls sink.new)) }
+        (FlushesAndDrains seat.old.worker result (K.domain_number keeper.old) (D.calls sink.old)
+        (D.calls sink.new)) }
     ensures answer { IsClientAnswer 0 Request.Flush result }
     ensures shares { MovesBy (given_by result) (taken_by result) seat.old.held seat.new.held }
     ensures worker { seat.new.worker ≡ seat.old.worker }
-    ensures tally { seat.new.tally.good + good_calls (D.calls sink.old) ≤ seat.old.tally.good + good_calls
+    ensures tally { seat.new.tally.good + good_calls
+        (D.calls sink.old) ≤ seat.old.tally.good + good_calls
         (D.calls sink.new) }
     ensures parts { seat.new.tally.parts ≡ seat.old.tally.parts }
 {

@@ -12,8 +12,9 @@ use iova_keep::seat::Tally;
 use iova_sink::sink::Sink;
 use std::sync::ledger::Ledger;
 
-/// Ends the service of a post: the clients that wait are tried once more (`retry`), and where a flush is wanted, what is in
-/// a ring is flushed and drained (`timeout`). Gives how many clients are left. Own.
+/// Ends the service of a post: the clients that wait are tried once more (`retry`), and where a
+/// flush is wanted, what is in a ring is flushed and drained (`timeout`). Gives how many clients
+/// are left. Own.
 pub fn end_post<C: Ledger, F: Ledger, S: Ledger, G: Ledger, K: Keep<C, F, S, G>, D: Sink>(
     keeper: &mut K,
     post: &mut Post<C, F, S, G>,
@@ -25,7 +26,8 @@ pub fn end_post<C: Ledger, F: Ledger, S: Ledger, G: Ledger, K: Keep<C, F, S, G>,
     ensures left { result ≡ length post.new.waiting.items }
     ensures waiting { IsSublist post.new.waiting.items post.old.waiting.items }
     ensures domain { WhereKnown (K.domain keeper.old) (K.domain keeper.new) (EndsPost flushes
-        (vec_capacity post.old.ranges) (K.domain_number keeper.old) post.old.waiting.items post.new.waiting.items
+        (vec_capacity post.old.ranges) (K.domain_number keeper.old) post.old.waiting.items
+        post.new.waiting.items
         post.old.seat post.new.seat.held (D.calls sink.old) (D.calls sink.new)) }
     ensures place { KeepsPlace post.old.seat post.new.seat (D.calls sink.old) (D.calls sink.new) }
 {
@@ -45,7 +47,8 @@ fn make_round<C: Ledger, F: Ledger, S: Ledger, G: Ledger, K: Keep<C, F, S, G>, D
     ensures strict { K.strict keeper.new ≡ K.strict keeper.old }
     ensures domain { WhereKnown (K.domain keeper.old) (K.domain keeper.new) (MakesRound wanted
         (K.domain_number keeper.old) (D.calls sink.old) (D.calls sink.new)) }
-    ensures tally { RisesWithin tally.old.good tally.new.good (D.calls sink.old) (D.calls sink.new) }
+    ensures tally { RisesWithin tally.old.good tally.new.good (D.calls sink.old)
+        (D.calls sink.new) }
     ensures parts { tally.new.parts ≡ tally.old.parts }
 {
     // for the proof: a domain that is known is there

@@ -23,8 +23,9 @@ pub(crate) enum Stop {
     Limit,
 }
 
-/// The requests whose lines stand at the front of the piece, at most 16 and at most `left`. Gives how many bytes of
-/// the piece they take, and why there are no more. Copies no line that lies whole in the piece.
+/// The requests whose lines stand at the front of the piece, at most 16 and at most `left`. Gives
+/// how many bytes of the piece they take, and why there are no more. Copies no line that lies whole
+/// in the piece.
 pub(crate) fn gather(
     lines: &mut Lines,
     piece: &[u8],

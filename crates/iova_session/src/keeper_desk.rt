@@ -81,8 +81,8 @@ pub(crate) struct Lent<
     pub(crate) sink: &'a mut D,
 }
 
-/// The desk of a session that began so. What it was asked has moved the seat's shares, and nothing else of it but its
-/// tally, and has led the domain from where it was to where it is.
+/// The desk of a session that began so. What it was asked has moved the seat's shares, and nothing
+/// else of it but its tally, and has led the domain from where it was to where it is.
 #[derive(Drop)]
 pub(crate) struct KeeperDesk<
     'a,
@@ -105,9 +105,12 @@ pub(crate) struct KeeperDesk<
         × (lent.sink.ghost_name ≡ O.sink_name) },
     ghost number: { (session.number ≡ O.number) × (K.domain_number lent.keeper.now ≡ O.number) },
     ghost strict: { K.strict lent.keeper.now ≡ O.strict },
-    ghost leads: { ∥ WhereKnown O.domain (K.domain lent.keeper.now) (LeadsFrom O.strict O.number session.pairs
+    ghost leads: { ∥ WhereKnown O.domain (K.domain lent.keeper.now)
+        (LeadsFrom O.strict O.number session.pairs
         O.seat lent.seat.now O.calls (D.calls lent.sink.now)) ∥₁ },
-    ghost shares: { MovesBy (given_in session.pairs) (taken_in session.pairs) O.seat.held lent.seat.now.held } by { MovesBy-prop (given_in session.pairs) (taken_in session.pairs) O.seat.held lent.seat.now.held },
+    ghost shares: { MovesBy (given_in session.pairs) (taken_in session.pairs) O.seat.held
+        lent.seat.now.held } by { MovesBy-prop (given_in session.pairs) (taken_in session.pairs)
+            O.seat.held lent.seat.now.held },
     ghost worker: { lent.seat.now.worker ≡ O.seat.worker },
     ghost parts: { lent.seat.now.tally.parts ≡ O.seat.tally.parts },
     ghost tally: { lent.seat.now.tally.good + good_calls O.calls ≤ O.seat.tally.good + good_calls
@@ -156,7 +159,8 @@ fn ask_lent<C: Ledger, F: Ledger, S: Ledger, G: Ledger, K: Keep<C, F, S, G>, D: 
     ensures after { (session.old.client ≡ client_after None session.old.pairs)
         × (session.old.listed ≡ listed_after 0 session.old.pairs) }
     ensures leads { WhereKnown (K.domain lent.old.keeper.now) (K.domain lent.new.keeper.now)
-        (GoesOn (K.strict lent.old.keeper.now) session.old session.new lent.old.seat.now lent.new.seat.now
+        (GoesOn (K.strict lent.old.keeper.now) session.old session.new lent.old.seat.now
+        lent.new.seat.now
         (D.calls lent.old.sink.now) (D.calls lent.new.sink.now)) }
     ensures count { IfOk result (λ n. (1 ≤ n) × (n ≤ length requests.now)) }
     ensures ok { IfOk result
@@ -180,9 +184,9 @@ fn ask_lent<C: Ledger, F: Ledger, S: Ledger, G: Ledger, K: Keep<C, F, S, G>, D: 
     )
 }
 
-/// Asks a front of the requests, at least one of them: with a client those that can be asked in one hold, else the
-/// first alone, as a free that the last hold stopped at. Refused by `NoMemory` where there is no room for the answers;
-/// then nothing was asked.
+/// Asks a front of the requests, at least one of them: with a client those that can be asked in one
+/// hold, else the first alone, as a free that the last hold stopped at. Refused by `NoMemory` where
+/// there is no room for the answers; then nothing was asked.
 pub(crate) fn ask_front<C: Ledger, F: Ledger, S: Ledger, G: Ledger, K: Keep<C, F, S, G>, D: Sink>(
     alloc: Global,
     keeper: &mut K,
@@ -206,7 +210,8 @@ pub(crate) fn ask_front<C: Ledger, F: Ledger, S: Ledger, G: Ledger, K: Keep<C, F
         (D.calls sink.new)) }
     ensures count { IfOk result (λ n. (1 ≤ n) × (n ≤ length requests.now)) }
     ensures ok { IfOk result
-        (λ n. AnswersRun requests.now n session.old session.new answers.old.items answers.new.items seat.old.held
+        (λ n. AnswersRun requests.now n session.old session.new answers.old.items answers.new.items
+        seat.old.held
         seat.new.held) }
     ensures err { IfErr result (λ e. (e ≡ Refusal.NoMemory) × (session.new ≡ session.old)
         × (answers.new.items ≡ answers.old.items) × (seat.new ≡ seat.old)) }

@@ -34,8 +34,9 @@ pub struct Attempt {
     pub over: bool,
 }
 
-/// Ends a client of the seat. Where it holds ranges, the sink is told first that it is gone, and of all of them; where
-/// the sink fails, none of them is queued, and the client waits with all of them. It takes no memory. Own.
+/// Ends a client of the seat. Where it holds ranges, the sink is told first that it is gone, and of
+/// all of them; where the sink fails, none of them is queued, and the client waits with all of
+/// them. It takes no memory. Own.
 pub(crate) fn leave<C: Ledger, F: Ledger, S: Ledger, G: Ledger, K: Keep<C, F, S, G>, D: Sink>(
     keeper: &mut K,
     seat: &mut Seat<C, F, S, G>,
@@ -44,7 +45,8 @@ pub(crate) fn leave<C: Ledger, F: Ledger, S: Ledger, G: Ledger, K: Keep<C, F, S,
     id: ClientId,
 ) -> Leaving
     requires { MAX_HOLDINGS ≤ vec_capacity ranges.old }
-    ensures domain { WhereKnown (K.domain keeper.old) (K.domain keeper.new) (Departs seat.old seat.new.held id result
+    ensures domain { WhereKnown (K.domain keeper.old) (K.domain keeper.new)
+        (Departs seat.old seat.new.held id result
         (K.domain_number keeper.old) (D.calls sink.old) (D.calls sink.new)) }
     ensures shares { LowersTold result.ended seat.old.held seat.new.held }
     ensures place { KeepsPlace seat.old seat.new (D.calls sink.old) (D.calls sink.new) }
@@ -98,7 +100,8 @@ pub(crate) fn try_to_end<C: Ledger, F: Ledger, S: Ledger, G: Ledger, K: Keep<C, 
     id: ClientId,
 ) -> Attempt
     requires { over ≢ true → MAX_HOLDINGS ≤ vec_capacity ranges.old }
-    ensures domain { WhereKnown (K.domain keeper.old) (K.domain keeper.new) (Attempts over seat.old seat.new id result
+    ensures domain { WhereKnown (K.domain keeper.old) (K.domain keeper.new)
+        (Attempts over seat.old seat.new id result
         (K.domain_number keeper.old) (D.calls sink.old) (D.calls sink.new)) }
     ensures place { KeepsPlace seat.old seat.new (D.calls sink.old) (D.calls sink.new) }
     ensures number { K.domain_number keeper.new ≡ K.domain_number keeper.old }

@@ -11,8 +11,8 @@ use thiserror::Error;
 #[error("the link failed")]
 pub struct LinkFault;
 
-/// A stream of bytes in each direction. Any error of the operating system is a failure, an interruption too, and so
-/// is a write that takes none of a nonempty slice. Own.
+/// A stream of bytes in each direction. Any error of the operating system is a failure, an
+/// interruption too, and so is a write that takes none of a nonempty slice. Own.
 pub trait Link {
     /// The bytes that are still to be read, where they are known.
     ghost left: { Self → Option (List ℕ) };
@@ -29,8 +29,8 @@ pub trait Link {
     /// How many reads found the end.
     ghost ends: { Self → ℕ };
 
-    /// Reads bytes into a front of `buf`, and gives their number. 0 bytes for a nonempty `buf` are the end. A call
-    /// that fails reads none.
+    /// Reads bytes into a front of `buf`, and gives their number. 0 bytes for a nonempty `buf` are
+    /// the end. A call that fails reads none.
     fn read(&mut self, buf: &mut [u8]) -> Result<usize, LinkFault>
         ensures bound { IfOk result (λ n. n ≤ length buf.old) }
         ensures bytes { ReadConsumes (left self.old) (left self.new) result buf.new }
@@ -39,8 +39,8 @@ pub trait Link {
         ensures ends { CountsEnds result (length buf.old) (ends self.old) (ends self.new) }
         ensures sent { sent self.new ≡ sent self.old };
 
-    /// Writes a front of the bytes, at least one byte where there is one, and gives their number. A call that fails
-    /// writes none.
+    /// Writes a front of the bytes, at least one byte where there is one, and gives their number. A
+    /// call that fails writes none.
     fn write(&mut self, bytes: &[u8]) -> Result<usize, LinkFault>
         ensures bound { IfOk result (λ n. n ≤ length bytes.now) }
         ensures some { IfOk result (λ n. 0 < length bytes.now → 0 < n) }
@@ -67,7 +67,8 @@ pub fn put_all<L: Link>(link: &mut L, bytes: &[u8]) -> Result<(), LinkFault>
     Ok(())
 }
 
-/// How many bytes a read gave. Any error of the operating system is a failure, an interruption too. Nothing is tried again.
+/// How many bytes a read gave. Any error of the operating system is a failure, an interruption too.
+/// Nothing is tried again.
 pub(crate) fn bytes_read(read: io::Result<usize>) -> Result<usize, LinkFault>
     ensures ok { IfOk result (λ n. read ≡ Ok n) }
     ensures err { OnErr result (IsErr read) }

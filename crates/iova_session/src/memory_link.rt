@@ -8,8 +8,9 @@ use iova_sink::count::Count;
 use std::alloc::Global;
 use std::marker::Model;
 
-/// Gives bytes from a slice, and keeps in memory those that are written to it, for tests. It moves at most `most`
-/// bytes in a call, and fails at its `fail_at`-th call (0: at none), and where a growth is refused. Own.
+/// Gives bytes from a slice, and keeps in memory those that are written to it, for tests. It moves
+/// at most `most` bytes in a call, and fails at its `fail_at`-th call (0: at none), and where a
+/// growth is refused. Own.
 #[derive(Drop)]
 pub struct MemoryLink<'a> {
     input: &'a [u8],
@@ -45,8 +46,8 @@ impl<'a> Model for MemoryLink<'a> {
 }
 
 impl<'a> MemoryLink<'a> {
-    /// A link that gives this input, moves at most `most` bytes in a call, and fails at its `fail_at`-th call (0:
-    /// at none).
+    /// A link that gives this input, moves at most `most` bytes in a call, and fails at its
+    /// `fail_at`-th call (0: at none).
     pub fn new(alloc: Global, input: &'a [u8], most: usize, fail_at: u64) -> MemoryLink<'a>
         requires { 1 ≤ most }
         ensures { result ≡ record {
@@ -85,7 +86,10 @@ impl<'a> MemoryLink<'a> {
         ensures good { result ≡ true → (self.old.calls + 1 ≢ self.old.fail_at)
             × (self.new ≡ record self.old { calls = self.old.calls + 1 }) }
         ensures fails { result ≡ false → (self.old.calls + 1 ≡ self.old.fail_at)
-            × (self.new ≡ record self.old { calls = self.old.calls + 1; failures = self.old.failures + 1 }) }
+            × (self.new ≡ record self.old {
+              calls = self.old.calls + 1;
+              failures = self.old.failures + 1;
+            }) }
     {
         let good = self.ahead != 1;
         self.ahead = self.ahead.saturating_sub(1);
@@ -115,7 +119,8 @@ impl<'a> Link for MemoryLink<'a> {
         ensures failures { CountsFailures result self.old.failures self.new.failures }
         ensures ends { CountsEnds result (length buf.old) self.old.ends self.new.ends }
         ensures sent { self.new.sent ≡ self.old.sent }
-        ensures most { IfOk result (λ n. n ≡ min self.old.most (min (length buf.old) (length self.old.left))) }
+        ensures most { IfOk result (λ n. n
+            ≡ min self.old.most (min (length buf.old) (length self.old.left))) }
         ensures turn { MatchResult result (λ n. self.old.calls + 1 ≢ self.old.fail_at)
             (λ e. self.old.calls + 1 ≡ self.old.fail_at) }
         ensures same { self.new ≡ record self.old {

@@ -15,9 +15,9 @@ use iova_sink::sink::Sink;
 use std::alloc::Global;
 use std::sync::ledger::Ledger;
 
-/// Serves a session over each of the links in turn, all at one post, and appends how each of them ended. Over a keeper
-/// that tells its domain, each leads it on from where the one before it left it; so all of them run one transcript of
-/// steps, which keeps the promises. Own.
+/// Serves a session over each of the links in turn, all at one post, and appends how each of them
+/// ended. Over a keeper that tells its domain, each leads it on from where the one before it left
+/// it; so all of them run one transcript of steps, which keeps the promises. Own.
 pub fn serve_one_by_one<
     C: Ledger,
     F: Ledger,
@@ -38,7 +38,8 @@ pub fn serve_one_by_one<
     ensures number { K.domain_number keeper.new ≡ K.domain_number keeper.old }
     ensures strict { K.strict keeper.new ≡ K.strict keeper.old }
     ensures sessions { (told : List SessionEnd) × (ends.new.items ≡ ends.old.items ++ told)
-        × ServesEach L.left L.sent L.reads (K.strict keeper.old) (K.domain_number keeper.old) links.old links.new told
+        × ServesEach L.left L.sent L.reads (K.strict keeper.old) (K.domain_number keeper.old)
+        links.old links.new told
         (between post.old.seat post.old.waiting.items (D.calls sink.old) (K.domain keeper.old))
         (between post.new.seat post.new.waiting.items (D.calls sink.new) (K.domain keeper.new)) }
     ensures promises { ∥ WhereKnown (K.domain keeper.old) (K.domain keeper.new) KeepsPromises ∥₁ }

@@ -6,8 +6,8 @@ use iova_proto::request::Request;
 use std::marker::Model;
 use std::snapshot::Snapshot;
 
-/// What a desk was asked, oldest first, each with its answer. Contracts see it as a list. It takes no memory: each
-/// pair keeps what was before it as a snapshot, which no code reads. Own.
+/// What a desk was asked, oldest first, each with its answer. Contracts see it as a list. It takes
+/// no memory: each pair keeps what was before it as a snapshot, which no code reads. Own.
 #[derive(Drop)]
 pub struct Pairs {
     before: Option<Snapshot<Pairs>>,

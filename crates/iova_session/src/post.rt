@@ -15,8 +15,8 @@ pub struct Post<C: Ledger, F: Ledger, S: Ledger, G: Ledger> {
     pub seat: Seat<C, F, S, G>,
     /// The clients of ended sessions that are not gone yet, oldest first.
     pub waiting: Vec<ClientId>,
-    /// Room for the ranges of a client that leaves: what is in it is what the sink was told last. The first session at the
-    /// post takes it.
+    /// Room for the ranges of a client that leaves: what is in it is what the sink was told last.
+    /// The first session at the post takes it.
     pub ranges: Vec<Range>,
 }
 
@@ -93,7 +93,8 @@ pub fn seats_of<C: Ledger, F: Ledger, S: Ledger, G: Ledger>(
     Some(seats)
 }
 
-/// Takes room for one client more that waits, and for the ranges of one that leaves. Whether it was had.
+/// Takes room for one client more that waits, and for the ranges of one that leaves. Whether it was
+/// had.
 pub(crate) fn take_room(waiting: &mut Vec<ClientId>, ranges: &mut Vec<Range>) -> bool
     ensures waiting { waiting.new.items ≡ waiting.old.items }
     ensures room { result ≡ true → vec_len waiting.new + 1 ≤ vec_capacity waiting.new }

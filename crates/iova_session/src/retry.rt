@@ -13,11 +13,12 @@ use iova_laws::validity::steps_keep_validity;
 use iova_sink::sink::Sink;
 use std::sync::ledger::Ledger;
 
-/// Tries once to end each client that waits, in the order of the list, and gives how many are left: the sink is told again
-/// that it is gone, and which ranges it still holds, and then they are queued. One that is gone leaves the list, and so does
-/// one that isn't known any more. A sink that gives no answer to that ends the round: those behind the client wait on. Where
-/// nobody else holds a range of the domain and no call of the sink fails, all of them end, and nobody holds anything. Takes no
-/// memory where a session was served at the post. Own.
+/// Tries once to end each client that waits, in the order of the list, and gives how many are left:
+/// the sink is told again that it is gone, and which ranges it still holds, and then they are
+/// queued. One that is gone leaves the list, and so does one that isn't known any more. A sink that
+/// gives no answer to that ends the round: those behind the client wait on. Where nobody else holds
+/// a range of the domain and no call of the sink fails, all of them end, and nobody holds anything.
+/// Takes no memory where a session was served at the post. Own.
 pub fn retry<C: Ledger, F: Ledger, S: Ledger, G: Ledger, K: Keep<C, F, S, G>, D: Sink>(
     keeper: &mut K,
     post: &mut Post<C, F, S, G>,
@@ -27,11 +28,15 @@ pub fn retry<C: Ledger, F: Ledger, S: Ledger, G: Ledger, K: Keep<C, F, S, G>, D:
     ensures strict { K.strict keeper.new ≡ K.strict keeper.old }
     ensures left { result ≡ length post.new.waiting.items }
     ensures waiting { IsSublist post.new.waiting.items post.old.waiting.items }
-    ensures domain { WhereKnown (K.domain keeper.old) (K.domain keeper.new) (RetriesAll (vec_capacity post.old.ranges)
-        (K.domain_number keeper.old) post.old.waiting.items post.new.waiting.items post.old.seat post.new.seat
+    ensures domain { WhereKnown (K.domain keeper.old) (K.domain keeper.new)
+        (RetriesAll (vec_capacity post.old.ranges)
+        (K.domain_number keeper.old) post.old.waiting.items post.new.waiting.items post.old.seat
+        post.new.seat
         (D.calls sink.old) (D.calls sink.new)) }
-    ensures gone { WhereKnown (K.domain keeper.old) (K.domain keeper.new) (EndsWhereGood (vec_capacity post.old.ranges)
-        post.old.waiting.items post.new.waiting.items post.old.seat (D.calls sink.old) (D.calls sink.new)) }
+    ensures gone { WhereKnown (K.domain keeper.old) (K.domain keeper.new)
+        (EndsWhereGood (vec_capacity post.old.ranges)
+        post.old.waiting.items post.new.waiting.items post.old.seat (D.calls sink.old)
+        (D.calls sink.new)) }
     ensures place { KeepsPlace post.old.seat post.new.seat (D.calls sink.old) (D.calls sink.new) }
 {
     // for the proof: a domain that is known is valid, and so is what a step leaves
@@ -56,7 +61,8 @@ fn retry_until<C: Ledger, F: Ledger, S: Ledger, G: Ledger, K: Keep<C, F, S, G>, 
     ensures strict { K.strict keeper.new ≡ K.strict keeper.old }
     ensures left { result ≡ length post.new.waiting.items }
     ensures waiting { IsSublist post.new.waiting.items post.old.waiting.items }
-    ensures domain { WhereKnown (K.domain keeper.old) (K.domain keeper.new) (Retries over (K.domain_number keeper.old)
+    ensures domain { WhereKnown (K.domain keeper.old) (K.domain keeper.new)
+        (Retries over (K.domain_number keeper.old)
         post.old.waiting.items post.new.waiting.items post.old.seat post.new.seat (D.calls sink.old)
         (D.calls sink.new)) }
     ensures place { KeepsPlace post.old.seat post.new.seat (D.calls sink.old) (D.calls sink.new) }

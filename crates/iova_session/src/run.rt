@@ -76,7 +76,8 @@ fn serve_lent<
     ensures names { (result.lent.keeper.ghost_name ≡ lent.entry.keeper.ghost_name)
         × (result.lent.seat.ghost_name ≡ lent.entry.seat.ghost_name)
         × (result.lent.sink.ghost_name ≡ lent.entry.sink.ghost_name) }
-    ensures number { K.domain_number result.lent.keeper.now ≡ K.domain_number lent.entry.keeper.now }
+    ensures number { K.domain_number result.lent.keeper.now
+        ≡ K.domain_number lent.entry.keeper.now }
     ensures strict { K.strict result.lent.keeper.now ≡ K.strict lent.entry.keeper.now }
     ensures session { (taken : List ℕ) × (ps : List Pair) × (written : List ℕ) × (reads : ℕ)
         × Consumes (L.left link.old) (L.left link.new) taken
@@ -87,11 +88,13 @@ fn serve_lent<
         × (result.client ≡ client_after None ps)
         × MovesBy (given_in ps) (taken_in ps) lent.entry.seat.now.held result.lent.seat.now.held
         × ∥ WhereKnown (K.domain lent.entry.keeper.now) (K.domain result.lent.keeper.now)
-        (LeadsFrom (K.strict lent.entry.keeper.now) (K.domain_number lent.entry.keeper.now) ps lent.entry.seat.now
+        (LeadsFrom (K.strict lent.entry.keeper.now) (K.domain_number lent.entry.keeper.now) ps
+        lent.entry.seat.now
         result.lent.seat.now (D.calls lent.entry.sink.now) (D.calls result.lent.sink.now)) ∥₁ }
     ensures failures { L.failures link.new ≡ L.failures link.old + failures_at result.end }
     ensures ends { L.ends link.new ≡ L.ends link.old + ends_at result.end }
-    ensures place { KeepsPlace lent.entry.seat.now result.lent.seat.now (D.calls lent.entry.sink.now)
+    ensures place { KeepsPlace lent.entry.seat.now result.lent.seat.now
+        (D.calls lent.entry.sink.now)
         (D.calls result.lent.sink.now) }
 {
     let session = Session::new(lent.keeper.number());
@@ -136,7 +139,8 @@ fn serve_at<C: Ledger, F: Ledger, S: Ledger, G: Ledger, K: Keep<C, F, S, G>, D: 
         × (result.1 ≡ client_after None ps)
         × MovesBy (given_in ps) (taken_in ps) seat.old.held seat.new.held
         × ∥ WhereKnown (K.domain keeper.old) (K.domain keeper.new) (LeadsFrom (K.strict keeper.old)
-        (K.domain_number keeper.old) ps seat.old seat.new (D.calls sink.old) (D.calls sink.new)) ∥₁ }
+        (K.domain_number keeper.old) ps seat.old seat.new (D.calls sink.old) (D.calls sink.new))
+        ∥₁ }
     ensures failures { L.failures link.new ≡ L.failures link.old + failures_at result.0 }
     ensures ends { L.ends link.new ≡ L.ends link.old + ends_at result.0 }
     ensures place { KeepsPlace seat.old seat.new (D.calls sink.old) (D.calls sink.new) }
@@ -153,12 +157,13 @@ fn serve_at<C: Ledger, F: Ledger, S: Ledger, G: Ledger, K: Keep<C, F, S, G>, D: 
     (end, client)
 }
 
-/// Serves one session at the post, and then ends the client that its `hello` opened, whatever ended the session. A
-/// client that waits is put on the post's list, last. `NoMemory` without a read where there is no room for that. Where the client
-/// holds ranges, the sink is told that it is gone, and of all of them, before the first is queued; where the sink fails, none is.
-/// `client` is none where no client was opened; so it would be where the seat's shares weren't as they have to be,
-/// but no run comes to that. Over a keeper that tells its domain, each request does there what its call of the lock
-/// does, and is answered by what that call answers. Own.
+/// Serves one session at the post, and then ends the client that its `hello` opened, whatever ended
+/// the session. A client that waits is put on the post's list, last. `NoMemory` without a read
+/// where there is no room for that. Where the client holds ranges, the sink is told that it is
+/// gone, and of all of them, before the first is queued; where the sink fails, none is. `client` is
+/// none where no client was opened; so it would be where the seat's shares weren't as they have to
+/// be, but no run comes to that. Over a keeper that tells its domain, each request does there what
+/// its call of the lock does, and is answered by what that call answers. Own.
 pub fn run_session<
     C: Ledger,
     F: Ledger,
@@ -184,8 +189,10 @@ pub fn run_session<
         × AreAnswers (K.domain_number keeper.old) None 0 ps
         × EndsClient ps result.client post.old.seat.held post.new.seat.held post.old.waiting.items
         post.new.waiting.items
-        × WhereKnown (K.domain keeper.old) (K.domain keeper.new) (LeavesOthers (client_after None ps) result.client)
-        × ∥ WhereKnown (K.domain keeper.old) (K.domain keeper.new) (SessionLeads (K.strict keeper.old)
+        × WhereKnown (K.domain keeper.old) (K.domain keeper.new)
+        (LeavesOthers (client_after None ps) result.client)
+        × ∥ WhereKnown (K.domain keeper.old) (K.domain keeper.new)
+        (SessionLeads (K.strict keeper.old)
         (K.domain_number keeper.old) ps result.client post.old.seat post.new.seat (D.calls sink.old)
         (D.calls sink.new)) ∥₁ }
     ensures failures { L.failures link.new ≡ L.failures link.old + failures_at result.end }
@@ -222,8 +229,10 @@ pub fn run_session_within<
         × AreAnswers (K.domain_number keeper.old) None 0 ps
         × EndsClient ps result.client post.old.seat.held post.new.seat.held post.old.waiting.items
         post.new.waiting.items
-        × WhereKnown (K.domain keeper.old) (K.domain keeper.new) (LeavesOthers (client_after None ps) result.client)
-        × ∥ WhereKnown (K.domain keeper.old) (K.domain keeper.new) (SessionLeads (K.strict keeper.old)
+        × WhereKnown (K.domain keeper.old) (K.domain keeper.new)
+        (LeavesOthers (client_after None ps) result.client)
+        × ∥ WhereKnown (K.domain keeper.old) (K.domain keeper.new)
+        (SessionLeads (K.strict keeper.old)
         (K.domain_number keeper.old) ps result.client post.old.seat post.new.seat (D.calls sink.old)
         (D.calls sink.new)) ∥₁ }
     ensures failures { L.failures link.new ≡ L.failures link.old + failures_at result.end }
@@ -247,8 +256,8 @@ pub fn run_session_within<
     SessionEnd { end, client }
 }
 
-/// Ends the client that a session opened, and puts it on the list where it waits. `before` are the shares of before the
-/// session: none where those of after it aren't as they have to be.
+/// Ends the client that a session opened, and puts it on the list where it waits. `before` are the
+/// shares of before the session: none where those of after it aren't as they have to be.
 fn end_opened<C: Ledger, F: Ledger, S: Ledger, G: Ledger, K: Keep<C, F, S, G>, D: Sink>(
     keeper: &mut K,
     post: &mut Post<C, F, S, G>,
@@ -260,11 +269,14 @@ fn end_opened<C: Ledger, F: Ledger, S: Ledger, G: Ledger, K: Keep<C, F, S, G>, D
     requires ranges { MAX_HOLDINGS ≤ vec_capacity post.old.ranges }
     ensures number { K.domain_number keeper.new ≡ K.domain_number keeper.old }
     ensures strict { K.strict keeper.new ≡ K.strict keeper.old }
-    ensures domain { WhereKnown (K.domain keeper.old) (K.domain keeper.new) (LeavesOthers (Some id) result) }
-    ensures does { WhereKnown (K.domain keeper.old) (K.domain keeper.new) (λ s t. EndDoes (K.domain_number keeper.old)
+    ensures domain { WhereKnown (K.domain keeper.old) (K.domain keeper.new)
+        (LeavesOthers (Some id) result) }
+    ensures does { WhereKnown (K.domain keeper.old) (K.domain keeper.new)
+        (λ s t. EndDoes (K.domain_number keeper.old)
         (Some id) result (standing post.old.seat (D.calls sink.old) s)
         (standing post.new.seat (D.calls sink.new) t)) }
-    ensures ended { EndsFrom id result before post.old.seat.held post.new.seat.held post.old.waiting.items
+    ensures ended { EndsFrom id result before post.old.seat.held post.new.seat.held
+        post.old.waiting.items
         post.new.waiting.items }
     ensures place { KeepsPlace post.old.seat post.new.seat (D.calls sink.old) (D.calls sink.new) }
 {

@@ -25,12 +25,13 @@ const PIECE: usize = 4096;
 /// How many bytes of answers have room from the start: those of 16 answers, but for `held`.
 const TEXT: usize = 4096;
 
-/// Serves the peer at the other end of the link until the session ends: reads lines, asks the desk in runs of 1 to
-/// 16 requests, and writes the answers to each run before the next. It reads no more while a whole request that was
-/// read is not answered. A bad line is answered `no 20 BadLine`, the 65,537th request and the read after 1,048,576
-/// ones `no 21 TooMany`, and each of them ends the session; what stands at the end of the link without an LF is
-/// dropped. `NoMemory` comes where a growth was refused, the desk's too: the requests of that run are not asked, or
-/// not answered. Own.
+/// Serves the peer at the other end of the link until the session ends: reads lines, asks the desk
+/// in runs of 1 to 16 requests, and writes the answers to each run before the next. It reads no
+/// more while a whole request that was read is not answered. A bad line is answered `no 20
+/// BadLine`, the 65,537th request and the read after 1,048,576 ones `no 21 TooMany`, and each of
+/// them ends the session; what stands at the end of the link without an LF is dropped. `NoMemory`
+/// comes where a growth was refused, the desk's too: the requests of that run are not asked, or not
+/// answered. Own.
 pub fn serve<L: Link, D: Desk>(alloc: Global, link: &mut L, desk: &mut D) -> End
     ensures session { (taken : List ℕ) × (ps : List Pair) × (written : List ℕ) × (reads : ℕ)
         × Consumes (L.left link.old) (L.left link.new) taken
@@ -44,8 +45,8 @@ pub fn serve<L: Link, D: Desk>(alloc: Global, link: &mut L, desk: &mut D) -> End
     serve_within(alloc, SessionLimits::usual(), link, desk)
 }
 
-/// The same within these limits: the request behind the last one, and the read behind the last one, are answered
-/// `no 21 TooMany`. Own.
+/// The same within these limits: the request behind the last one, and the read behind the last one,
+/// are answered `no 21 TooMany`. Own.
 pub fn serve_within<L: Link, D: Desk>(
     alloc: Global,
     limits: SessionLimits,
@@ -93,7 +94,8 @@ pub fn serve_within<L: Link, D: Desk>(
     refuse(link, b"no 21 TooMany\n", End::TooMany)
 }
 
-/// Takes the next piece of the stream: gathers, asks and answers until it is used or the session ends.
+/// Takes the next piece of the stream: gathers, asks and answers until it is used or the session
+/// ends.
 fn take_piece<L: Link, D: Desk>(
     link: &mut L,
     desk: &mut D,
@@ -109,8 +111,10 @@ fn take_piece<L: Link, D: Desk>(
     ensures ends { L.ends link.new ≡ L.ends link.old }
     ensures failures { CountsFault result (L.failures link.old) (L.failures link.new) }
     ensures open { IfErr result (λ e. ends_at e ≡ 0) }
-    ensures taken { (kept : List ℕ) × (ps : List Pair) × (written : List ℕ) × (lines.old ≡ Some kept)
-        × (D.pairs desk.new ≡ D.pairs desk.old ++ ps) × Appends (L.sent link.old) (L.sent link.new) written
+    ensures taken { (kept : List ℕ) × (ps : List Pair) × (written : List ℕ)
+        × (lines.old ≡ Some kept)
+        × (D.pairs desk.new ≡ D.pairs desk.old ++ ps)
+        × Appends (L.sent link.old) (L.sent link.new) written
         × TakesPiece left.old (kept ++ piece.now) ps written left.new lines.new result }
 {
     let mut at = 0;

@@ -1,4 +1,5 @@
-//! What a session has come to: its client, how many ranges it was told in lists, and its requests with their answers.
+//! What a session has come to: its client, how many ranges it was told in lists, and its requests
+//! with their answers.
 ghost use Rattle.std.specs.Prelude.{◌≡◌, ◌+◌, ◌++◌, ◌∷◌, [], None};
 ghost use Rattle.iova_session.specs.Desks.{SessionState, IsAnswer, next_client as the_next_client, count_listed as listed_in};
 
@@ -24,9 +25,15 @@ impl Model for Session {
 
     ghost Value = { SessionState };
 
-    ghost view = { λ s. record { number = s.number; client = s.client; listed = s.listed; pairs = s.log } };
+    ghost view = { λ s. record {
+      number = s.number;
+      client = s.client;
+      listed = s.listed;
+      pairs = s.log;
+    } };
 
-    ghost invariant = { λ s. (s.client ≡ client_after None s.log) × (s.listed ≡ listed_after 0 s.log)
+    ghost invariant = { λ s. (s.client ≡ client_after None s.log)
+        × (s.listed ≡ listed_after 0 s.log)
         × (s.listed ≤ MAX_LISTED) × AreAnswers s.number None 0 s.log };
 }
 

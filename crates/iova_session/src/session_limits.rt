@@ -26,7 +26,10 @@ impl SessionLimits {
 
     /// So many requests, in 16 times as many reads, or in 2^64 - 1 where that is less.
     pub fn of_requests(requests: u64) -> SessionLimits
-        ensures { result ≡ record { requests = requests; reads = min (requests * 16) 18446744073709551615 } }
+        ensures { result ≡ record {
+          requests = requests;
+          reads = min (requests * 16) 18446744073709551615;
+        } }
     {
         SessionLimits {
             requests,

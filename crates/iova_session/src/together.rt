@@ -17,10 +17,10 @@ use iova_range::limits::MAX_RUN;
 use iova_range::refusal::Refusal;
 use std::sync::ledger::Ledger;
 
-/// Asks the longest front of `alloc`, `free` and `stat` in one hold, up to the first free whose ring is full, and
-/// gives how many were asked. `stopped` keeps that such a free comes next: it isn't tried in a hold again, since it is
-/// to be asked alone. `told` is room for what the lock tells. Refused by `NoMemory` where that has to grow and can't;
-/// then nothing was asked.
+/// Asks the longest front of `alloc`, `free` and `stat` in one hold, up to the first free whose
+/// ring is full, and gives how many were asked. `stopped` keeps that such a free comes next: it
+/// isn't tried in a hold again, since it is to be asked alone. `told` is room for what the lock
+/// tells. Refused by `NoMemory` where that has to grow and can't; then nothing was asked.
 pub(crate) fn ask_together<C: Ledger, F: Ledger, S: Ledger, G: Ledger, K: Keep<C, F, S, G>>(
     keeper: &mut K,
     seat: &mut Seat<C, F, S, G>,
@@ -36,18 +36,21 @@ pub(crate) fn ask_together<C: Ledger, F: Ledger, S: Ledger, G: Ledger, K: Keep<C
     requires room { vec_len answers.old + length requests.now ≤ vec_capacity answers.old }
     ensures number { K.domain_number keeper.new ≡ K.domain_number keeper.old }
     ensures strict { K.strict keeper.new ≡ K.strict keeper.old }
-    ensures leads { (calls : List Call) → IfOk result (λ n. WhereKnown (K.domain keeper.old) (K.domain keeper.new)
+    ensures leads { (calls : List Call)
+        → IfOk result (λ n. WhereKnown (K.domain keeper.old) (K.domain keeper.new)
         (GoesOn (K.strict keeper.old) session.old session.new seat.old seat.new calls calls)) }
     ensures most { IfOk result (λ n. n ≤ length requests.now) }
     ensures ok { IfOk result
-        (λ n. AnswersRun requests.now n session.old session.new answers.old.items answers.new.items seat.old.held
+        (λ n. AnswersRun requests.now n session.old session.new answers.old.items answers.new.items
+        seat.old.held
         seat.new.held) }
     ensures client { session.new.client ≡ session.old.client }
     ensures alone { IfOk result (λ n. n ≡ 0 → IsFirstAlone requests.now) }
     ensures err { IfErr result (λ e. (e ≡ Refusal.NoMemory) × (session.new ≡ session.old)
         × (answers.new.items ≡ answers.old.items) × (seat.new ≡ seat.old)
         × WhereKnown (K.domain keeper.old) (K.domain keeper.new) IsSame) }
-    ensures none { IfOk result (λ n. n ≡ 0 → (session.new ≡ session.old) × (answers.new.items ≡ answers.old.items)
+    ensures none { IfOk result (λ n. n ≡ 0
+        → (session.new ≡ session.old) × (answers.new.items ≡ answers.old.items)
         × (seat.new ≡ seat.old) × WhereKnown (K.domain keeper.old) (K.domain keeper.new) IsSame) }
     ensures rest { (seat.new.worker ≡ seat.old.worker) × (seat.new.tally ≡ seat.old.tally) }
     ensures kept { IfOk result (λ n. vec_capacity answers.old ≤ vec_capacity answers.new) }
@@ -67,8 +70,8 @@ pub(crate) fn ask_together<C: Ledger, F: Ledger, S: Ledger, G: Ledger, K: Keep<C
     Ok(count)
 }
 
-/// Writes the asks at the front of the requests, and gives how many they are: none where the first is a free that the
-/// last hold stopped at.
+/// Writes the asks at the front of the requests, and gives how many they are: none where the first
+/// is a free that the last hold stopped at.
 fn asks_from(requests: &[Request], stopped: bool, asks: &mut [Ask]) -> usize
     requires { length requests.now ≤ length asks.old }
     ensures asks { 1 ≤ result → take result asks.new ≡ asks_in requests.now }

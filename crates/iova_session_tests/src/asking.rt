@@ -264,8 +264,8 @@ fn many_lines(rt: HostRuntime) -> Result<(), Fail> {
     Ok(())
 }
 
-// Where memory is refused nothing is sent and nothing written, and asked again it goes well. It passes whichever growth is
-// refused, and prints where.
+// Where memory is refused nothing is sent and nothing written, and asked again it goes well. It
+// passes whichever growth is refused, and prints where.
 #[test]
 fn a_refused_growth_of_asking(rt: HostRuntime) -> Result<(), Fail> {
     let input = b"list\nbye".as_slice();

@@ -1,5 +1,6 @@
-//! Serving: a flush with another worker beside it, accepts, sinks and links that fail, clients that wait, the flusher's rounds,
-//! and growths that are refused. The built program is tried over sockets by tests/run_service.
+//! Serving: a flush with another worker beside it, accepts, sinks and links that fail, clients that
+//! wait, the flusher's rounds, and growths that are refused. The built program is tried over
+//! sockets by tests/run_service.
 ghost use Rattle.std.specs.Prelude.{◌≡◌, ◌*◌, ◌≤◌};
 ghost use Rattle.iova_range.specs.declared.limits.TheConstants.{MAX_WORKERS, TALLY_PARTS};
 
@@ -35,8 +36,8 @@ use std::sync::ledger::{Blank, Ledger};
 use std::test::*;
 use std::thread::Threads;
 
-/// What serving left: whether the posts came back in their order, whether the domain is still recorded, what it holds, and the
-/// gathered totals.
+/// What serving left: whether the posts came back in their order, whether the domain is still
+/// recorded, what it holds, and the gathered totals.
 #[derive(Clone, Copy)]
 struct Seen {
     in_order: bool,
@@ -45,7 +46,8 @@ struct Seen {
     totals: Totals,
 }
 
-/// What is served on frames 1 to 4095, and what it comes to. Flags are named by their place in a list.
+/// What is served on frames 1 to 4095, and what it comes to. Flags are named by their place in a
+/// list.
 #[derive(Clone, Copy)]
 struct Case {
     name: &'static str,
@@ -60,14 +62,15 @@ struct Case {
     is_open: bool,
     /// At which calls a worker's sink and the flusher's fail; 0: at none.
     fail_at: (u64, u64),
-    /// How many rounds the flusher makes, none: as long as it may; and the flags that it waits for and raises.
+    /// How many rounds the flusher makes, none: as long as it may; and the flags that it waits for
+    /// and raises.
     rounds: Option<u64>,
     between: Option<(usize, usize)>,
     /// Which flags are raised at the end, and which are not.
     raised: &'static [usize],
     unraised: &'static [usize],
-    /// How many accepts there are, notices, frames in magazines and in rings, and flushes begun and finished; and whether all
-    /// holdings are gone. None: that isn't asked.
+    /// How many accepts there are, notices, frames in magazines and in rings, and flushes begun and
+    /// finished; and whether all holdings are gone. None: that isn't asked.
     accepts: Option<u64>,
     notices: Option<u64>,
     kept: Option<(u64, u64)>,
@@ -116,8 +119,8 @@ const SERVED: Case = Case {
     is_empty: false,
 };
 
-/// Two sessions at once: the flush that the first one asks for waits in its sink until the second one, which begins only
-/// then, has its answers.
+/// Two sessions at once: the flush that the first one asks for waits in its sink until the second
+/// one, which begins only then, has its answers.
 const OVERLAP: Case = Case {
     name: "overlap",
     workers: 2,
@@ -262,7 +265,8 @@ static CASES: [Case; 8] = [
         flushes: Some((2, 2)),
         ..DRAINED
     },
-    // a sink that fails in a session and a link that fails are a notice each, and the daemon goes on
+    // a sink that fails in a session and a link that fails are a notice each, and the daemon goes
+    // on
     Case {
         name: "sinks and links that fail",
         sessions: 3,
@@ -295,7 +299,8 @@ static CASES: [Case; 8] = [
     },
 ];
 
-/// A client whose end waits, since its ring is full and the sink fails, is tried again once its session has ended.
+/// A client whose end waits, since its ring is full and the sink fails, is tried again once its
+/// session has ended.
 const TRIED_AGAIN: Case = Case {
     name: "a waiting client",
     sessions: 1,
@@ -439,7 +444,8 @@ where
     requires count { (count.name ≡ C.name) × (count.parts ≡ C.parts) × (count.parts ≡ workers) }
     requires frames { (frames.name ≡ F.name) × (frames.parts ≡ F.parts) × (frames.parts ≡ workers) }
     requires sum_lo { (sum_lo.name ≡ S.name) × (sum_lo.parts ≡ S.parts) × (sum_lo.parts ≡ workers) }
-    requires good { (good.name ≡ G.name) × (good.parts ≡ G.parts) × (good.parts ≡ TALLY_PARTS * workers) }
+    requires good { (good.name ≡ G.name) × (good.parts ≡ G.parts)
+        × (good.parts ≡ TALLY_PARTS * workers) }
 {
     let Some((shared, mut posts)) = new_domain::<&R, C, F, S, G>(
         rt, alloc, kind, workers, count, frames, sum_lo, good,
@@ -462,7 +468,8 @@ where
     }
 }
 
-/// A new domain 0 of this kind on frames 1 to 4095, and a post at each seat. None for want of memory.
+/// A new domain 0 of this kind on frames 1 to 4095, and a post at each seat. None for want of
+/// memory.
 fn new_domain<Q, C, F, S, G>(
     rt: Q,
     alloc: Global,
@@ -482,7 +489,8 @@ where
     requires count { (count.name ≡ C.name) × (count.parts ≡ C.parts) × (count.parts ≡ workers) }
     requires frames { (frames.name ≡ F.name) × (frames.parts ≡ F.parts) × (frames.parts ≡ workers) }
     requires sum_lo { (sum_lo.name ≡ S.name) × (sum_lo.parts ≡ S.parts) × (sum_lo.parts ≡ workers) }
-    requires good { (good.name ≡ G.name) × (good.parts ≡ G.parts) × (good.parts ≡ TALLY_PARTS * workers) }
+    requires good { (good.name ≡ G.name) × (good.parts ≡ G.parts)
+        × (good.parts ≡ TALLY_PARTS * workers) }
 {
     let Ok(bounds) = Bounds::new(1, 4095) else {
         return None;
@@ -522,8 +530,8 @@ fn seen_of<Q: Wait + Drop, C: Ledger, F: Ledger, S: Ledger, G: Ledger>(
     }
 }
 
-/// Whether the posts stand in the order of their workers, and the totals that their seats are gathered to. None where a seat is
-/// missing, and for want of memory.
+/// Whether the posts stand in the order of their workers, and the totals that their seats are
+/// gathered to. None where a seat is missing, and for want of memory.
 fn gathered<Q: Wait, C: Ledger, F: Ledger, S: Ledger, G: Ledger>(
     alloc: Global,
     shared: &Shared<Q, C, F, S, G>,
@@ -543,8 +551,8 @@ fn gathered<Q: Wait, C: Ledger, F: Ledger, S: Ledger, G: Ledger>(
     }
 }
 
-/// Serves the case with these sessions, and compares what it comes to; gives in which call a growth was refused, where one was.
-/// Where nothing is served nothing is accepted.
+/// Serves the case with these sessions, and compares what it comes to; gives in which call a growth
+/// was refused, where one was. Where nothing is served nothing is accepted.
 fn check<R: Abort + Threads + Wait + Sync>(
     rt: &R,
     alloc: Global,
@@ -574,7 +582,8 @@ fn check<R: Abort + Threads + Wait + Sync>(
     compare(rt, case, served, accepts, told, &flags)
 }
 
-/// Compares what serving left with how many accepts and notices there were, and which flags are raised.
+/// Compares what serving left with how many accepts and notices there were, and which flags are
+/// raised.
 fn compare<R: Abort>(
     rt: &R,
     case: &Case,
@@ -675,7 +684,8 @@ const NO_LINK: Case = Case {
     ..SERVED
 };
 
-// A thread that gets no memory can't be started, which is a fault of its own: those that were started accept nothing.
+// A thread that gets no memory can't be started, which is a fault of its own: those that were
+// started accept nothing.
 #[test]
 fn a_refused_growth_of_serving(rt: HostRuntime) -> Result<(), Fail> {
     let call = check(&rt, rt.alloc(), &NO_LINK, &[]);

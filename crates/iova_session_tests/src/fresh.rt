@@ -42,12 +42,13 @@ pub(crate) struct Setup {
     pub(crate) frame: u64,
 }
 
-/// What a session came to: its end, the seat's shares and the domain's numbers then, how many clients wait, and whether there
-/// was room on their list. How many wait still once they were tried with a sink that fails, and how many once they were tried
-/// with the session's own, with the shares and the numbers then.
+/// What a session came to: its end, the seat's shares and the domain's numbers then, how many
+/// clients wait, and whether there was room on their list. How many wait still once they were tried
+/// with a sink that fails, and how many once they were tried with the session's own, with the
+/// shares and the numbers then.
 ///
-/// Of a domain under a lock what is left of it: the gathered totals, the frame's place, its clients, whether it is still
-/// recorded, and how many steps are.
+/// Of a domain under a lock what is left of it: the gathered totals, the frame's place, its
+/// clients, whether it is still recorded, and how many steps are.
 #[derive(Clone, Copy)]
 pub(crate) struct Seen {
     pub(crate) end: SessionEnd,
@@ -131,7 +132,8 @@ fn in_book<C: Ledger, F: Ledger, S: Ledger, G: Ledger, L: Link, D: Sink>(
     requires count { (count.name ≡ C.name) × (count.parts ≡ C.parts) × (count.parts ≡ workers) }
     requires frames { (frames.name ≡ F.name) × (frames.parts ≡ F.parts) × (frames.parts ≡ workers) }
     requires sum_lo { (sum_lo.name ≡ S.name) × (sum_lo.parts ≡ S.parts) × (sum_lo.parts ≡ workers) }
-    requires good { (good.name ≡ G.name) × (good.parts ≡ G.parts) × (good.parts ≡ TALLY_PARTS * workers) }
+    requires good { (good.name ≡ G.name) × (good.parts ≡ G.parts)
+        × (good.parts ≡ TALLY_PARTS * workers) }
 {
     let (book, mut seats) = if setup.pairs > 0 {
         Book::<C, F, S, G>::recorded(
@@ -169,7 +171,8 @@ pub(crate) fn new_shared<Q: Drop, C: Ledger, F: Ledger, S: Ledger, G: Ledger>(
     requires count { (count.name ≡ C.name) × (count.parts ≡ C.parts) × (count.parts ≡ workers) }
     requires frames { (frames.name ≡ F.name) × (frames.parts ≡ F.parts) × (frames.parts ≡ workers) }
     requires sum_lo { (sum_lo.name ≡ S.name) × (sum_lo.parts ≡ S.parts) × (sum_lo.parts ≡ workers) }
-    requires good { (good.name ≡ G.name) × (good.parts ≡ G.parts) × (good.parts ≡ TALLY_PARTS * workers) }
+    requires good { (good.name ≡ G.name) × (good.parts ≡ G.parts)
+        × (good.parts ≡ TALLY_PARTS * workers) }
 {
     let (strict, pairs) = kind;
     let (shared, seats) = if pairs > 0 {
@@ -209,7 +212,8 @@ fn in_shared<R: Wait, C: Ledger, F: Ledger, S: Ledger, G: Ledger, L: Link, D: Si
     requires count { (count.name ≡ C.name) × (count.parts ≡ C.parts) × (count.parts ≡ workers) }
     requires frames { (frames.name ≡ F.name) × (frames.parts ≡ F.parts) × (frames.parts ≡ workers) }
     requires sum_lo { (sum_lo.name ≡ S.name) × (sum_lo.parts ≡ S.parts) × (sum_lo.parts ≡ workers) }
-    requires good { (good.name ≡ G.name) × (good.parts ≡ G.parts) × (good.parts ≡ TALLY_PARTS * workers) }
+    requires good { (good.name ≡ G.name) × (good.parts ≡ G.parts)
+        × (good.parts ≡ TALLY_PARTS * workers) }
 {
     let (shared, mut seats) = new_shared::<&R, C, F, S, G>(
         rt,
@@ -237,7 +241,8 @@ fn in_shared<R: Wait, C: Ledger, F: Ledger, S: Ledger, G: Ledger, L: Link, D: Si
     }
 }
 
-/// What the seats are gathered to, and what was recorded. Refused by `NotHeld` where a seat is missing.
+/// What the seats are gathered to, and what was recorded. Refused by `NotHeld` where a seat is
+/// missing.
 fn after<Q: Wait, C: Ledger, F: Ledger, S: Ledger, G: Ledger>(
     shared: &Shared<Q, C, F, S, G>,
     seats: Vec<Seat<C, F, S, G>>,
@@ -283,8 +288,9 @@ fn session_at<
     Ok(seen)
 }
 
-/// Serves a session, beside a flush of the first seat where one is to be in flight, and then tries the clients that wait: with a
-/// sink that fails, and, once that flush has ended well, with the session's own.
+/// Serves a session, beside a flush of the first seat where one is to be in flight, and then tries
+/// the clients that wait: with a sink that fails, and, once that flush has ended well, with the
+/// session's own.
 fn one_session<C: Ledger, F: Ledger, S: Ledger, G: Ledger, K: Keep<C, F, S, G>, L: Link, D: Sink>(
     alloc: Global,
     keeper: &mut K,

@@ -1,5 +1,6 @@
-//! Tests of the lines of the service, of sessions, over desks of their own and over books and locks, of the threads that serve them
-//! and of the peer that asks. They stand apart from the crates that they test, which would be proved once more with them.
+//! Tests of the lines of the service, of sessions, over desks of their own and over books and
+//! locks, of the threads that serve them and of the peer that asks. They stand apart from the
+//! crates that they test, which would be proved once more with them.
 #![tactic(auto)]
 
 #[cfg(test)]

@@ -1,5 +1,5 @@
-//! Lines read and written, and streams cut into pieces. The texts named `SESSION_` come from an independent model of the
-//! rules: what a peer sends, and what it is answered.
+//! Lines read and written, and streams cut into pieces. The texts named `SESSION_` come from an
+//! independent model of the rules: what a peer sends, and what it is answered.
 use arrayvec::ArrayVec;
 use iova_proto::answer::Answer;
 use iova_proto::decode::{BadLine, decode};
@@ -124,8 +124,8 @@ fn feed_whole(
     false
 }
 
-/// However the stream is cut into two or three pieces, and with at most 1, 2 or 128 bytes a call, it gives these requests,
-/// and ends in a bad line or not.
+/// However the stream is cut into two or three pieces, and with at most 1, 2 or 128 bytes a call,
+/// it gives these requests, and ends in a bad line or not.
 fn gives(rt: &impl Abort, stream: &[u8], want: &[Request], want_bad: bool) {
     for most in [1usize, 2, 128] {
         for second in 0..stream.len() + 1 {
@@ -285,7 +285,8 @@ fn sessions_of_the_model_are_read(rt: HostRuntime) {
 const ANSWERS_ONE_OF_EACH: &str =
     "opened 1\ngiven 1020 4\nheld 1\n1020 4\nqueued 1020 4\nno 8 NotHeld\nflushed 1 1\nstat 1019 0 0 4 0 0 1 1\nbye\n";
 
-/// Appends the answer's text. Where memory is refused once, nothing is appended, and the next call goes well.
+/// Appends the answer's text. Where memory is refused once, nothing is appended, and the next call
+/// goes well.
 fn append_answer(rt: &impl Abort, answer: &Answer, out: &mut Vec<u8>) -> Result<(), Fail> {
     let before = out.len();
     if encode(answer, out).is_err() {
@@ -358,8 +359,8 @@ fn long_answers_are_written(rt: HostRuntime) -> Result<(), Fail> {
     Ok(())
 }
 
-// It passes whichever growth is refused, and prints where. Where one is, nothing is appended, and the same call goes well
-// then.
+// It passes whichever growth is refused, and prints where. Where one is, nothing is appended, and
+// the same call goes well then.
 #[test]
 fn answers_with_a_refused_growth(rt: HostRuntime) -> Result<(), Fail> {
     let ranges = [Range::new(8, 1), Range::new(1020, 4)];

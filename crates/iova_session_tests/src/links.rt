@@ -1,5 +1,6 @@
-//! Sessions over a desk of their own: however reads and writes are cut, links that fail at each of their calls, desks that take
-//! runs of any length and refuse one, reads of many lines, the limits, and sockets.
+//! Sessions over a desk of their own: however reads and writes are cut, links that fail at each of
+//! their calls, desks that take runs of any length and refuse one, reads of many lines, the limits,
+//! and sockets.
 ghost use Rattle.std.specs.Prelude.{◌≡◌, ◌≤◌, ◌+◌, ◌++◌, List, None, length, vec_len, vec_capacity};
 ghost use Rattle.iova_session.specs.Pairs.{Pair, asked, told};
 
@@ -23,8 +24,8 @@ use std::os::unix::net::UnixStream;
 use std::process::Abort;
 use std::test::*;
 
-// Answers `bye` by `Bye` and all else by `no 3 NoClient`. It takes at most `most` requests in a run, at least one,
-// and refuses its `fail_at`-th run (0: none).
+// Answers `bye` by `Bye` and all else by `no 3 NoClient`. It takes at most `most` requests in a
+// run, at least one, and refuses its `fail_at`-th run (0: none).
 #[derive(Drop)]
 struct PlainDesk {
     most: usize,
@@ -93,7 +94,8 @@ struct Seen {
     is_front: bool,
 }
 
-// The link moves so many bytes in a call and fails at one of them, the desk takes so many requests in a run and refuses one.
+// The link moves so many bytes in a call and fails at one of them, the desk takes so many requests
+// in a run and refuses one.
 fn serve_over(
     alloc: Global,
     input: &[u8],
@@ -226,8 +228,8 @@ fn sessions_over_a_desk(rt: HostRuntime) -> Result<(), Fail> {
     Ok(())
 }
 
-/// Whether a session that sends this line so many times is answered so often and then `no 21 TooMany`, where that comes, and ends
-/// so. The link moves at most so many bytes in a call.
+/// Whether a session that sends this line so many times is answered so often and then `no 21
+/// TooMany`, where that comes, and ends so. The link moves at most so many bytes in a call.
 fn is_limited<R: Abort>(
     rt: &R,
     alloc: Global,
@@ -266,8 +268,9 @@ fn the_limits_of_serving(rt: HostRuntime) {
     }
 }
 
-/// Gives so many lines in a read, or those that are left, and fails where one that it gave hasn't been answered. It tells how
-/// many lines it gave, how many answers came, and what was written, of which it keeps 8,192 bytes at most. It takes no memory.
+/// Gives so many lines in a read, or those that are left, and fails where one that it gave hasn't
+/// been answered. It tells how many lines it gave, how many answers came, and what was written, of
+/// which it keeps 8,192 bytes at most. It takes no memory.
 #[derive(Drop)]
 pub(crate) struct ByLines<'a> {
     input: &'a [u8],
@@ -393,7 +396,8 @@ fn sessions_over_sockets(rt: HostRuntime) -> Result<(), Fail> {
     assert!(rt; peer.read_to_end(&mut seen).is_ok());
     assert_eq!(rt; seen.as_slice(), text);
     drop(peer);
-    // a peer that sends a request and goes: the answer to it finds nobody, or the read after it the end
+    // a peer that sends a request and goes: the answer to it finds nobody, or the read after it the
+    // end
     let (mut peer, stream) = UnixStream::pair(&rt)?;
     assert!(rt; peer.write_all(b"list\nli").is_ok());
     drop(peer);

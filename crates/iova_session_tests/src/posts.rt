@@ -1,5 +1,5 @@
-//! Sessions at a post, over a book and under a lock: what they are answered however they are cut, links, sinks and growths that
-//! fail, clients that wait, and the limits.
+//! Sessions at a post, over a book and under a lock: what they are answered however they are cut,
+//! links, sinks and growths that fail, clients that wait, and the limits.
 use crate::fresh::{Seen, Setup, at_post};
 use crate::links::ByLines;
 use crate::session_files::SESSIONS;
@@ -18,7 +18,8 @@ use std::process::Abort;
 use std::sync::Wait;
 use std::test::*;
 
-/// On which domains a session is served, and what it comes to beside its answers. None: that isn't asked.
+/// On which domains a session is served, and what it comes to beside its answers. None: that isn't
+/// asked.
 #[derive(Clone, Copy)]
 struct Row {
     name: &'static str,
@@ -28,16 +29,18 @@ struct Row {
     /// The domains' depots, and whether they are strict and how many steps of them are recorded.
     depots: &'static [u64],
     kinds: &'static [(bool, usize)],
-    /// How many bytes a call of the link moves at most, and which call of it and of the sink fails; 0: none.
+    /// How many bytes a call of the link moves at most, and which call of it and of the sink fails;
+    /// 0: none.
     cuts: &'static [usize],
     fails_at: (u64, u64),
     end: End,
-    /// What the client came to that was opened; not asked: it is gone where the answers tell of it, and else there was none.
+    /// What the client came to that was opened; not asked: it is gone where the answers tell of it,
+    /// and else there was none.
     client: Option<Option<Ending>>,
     /// Where the frame is at last.
     place: Option<Place>,
-    /// The frames in the ring at the session's end and at last, the flushes begun and finished at the session's end, and the free
-    /// frames at last.
+    /// The frames in the ring at the session's end and at last, the flushes begun and finished at
+    /// the session's end, and the free frames at last.
     rings: Option<(u64, u64)>,
     flushes: Option<(u64, u64)>,
     free: Option<u64>,
@@ -292,8 +295,8 @@ static ROWS: [(&[u8], &[u8], Row); 15] = [
             ..SENT
         },
     ),
-    // what its flush drains goes to the session's own worker, which is given the frame that it gave back; and its client is
-    // sought a place below 4 GiB first, as its hello said
+    // what its flush drains goes to the session's own worker, which is given the frame that it gave
+    // back; and its client is sought a place below 4 GiB first, as its hello said
     (
         b"hello iova1 0 sac\nalloc 1 9\nfree 9\nflush\nalloc 1 9\nalloc 1 1048675\nbye\n",
         b"opened 1\ngiven 9 1\nqueued 9 1\nflushed 1 1\ngiven 9 1\ngiven 1048575 1\nbye\n",
@@ -354,8 +357,9 @@ static SECOND_LINES: [(&[u8], &[u8], End); 13] = [
 
 const HELLO: &[u8] = b"hello iova1 0 dac\n";
 
-/// A session that is given so many single frames and ends, the call of the sink that fails, what the client comes to, and the
-/// ring at the session's end and at last: with 600 its end makes two flushes.
+/// A session that is given so many single frames and ends, the call of the sink that fails, what
+/// the client comes to, and the ring at the session's end and at last: with 600 its end makes two
+/// flushes.
 static DYING: [(u32, u64, Ending, (u64, u64)); 6] = [
     (256, 1, Ending::Waiting(1, Why::SinkFailed), (255, 1)),
     (256, 2, Ending::Ended(256), (1, 1)),
@@ -375,8 +379,9 @@ pub(crate) fn repeated(alloc: Global, parts: &[(&[u8], u32)]) -> Result<Vec<u8>,
     Ok(text)
 }
 
-/// A session that was looked at, how many bytes it was answered, whether these are a front of the row's answers, and whether they
-/// end by them; and whether the sink wrote the row's records, and the domain recorded its steps.
+/// A session that was looked at, how many bytes it was answered, whether these are a front of the
+/// row's answers, and whether they end by them; and whether the sink wrote the row's records, and
+/// the domain recorded its steps.
 #[derive(Clone, Copy)]
 struct Told {
     seen: Seen,
@@ -387,7 +392,8 @@ struct Told {
     is_recorded: bool,
 }
 
-/// One session of the row, on this domain, with at most so many bytes a call. None where it was refused.
+/// One session of the row, on this domain, with at most so many bytes a call. None where it was
+/// refused.
 fn look<R: Wait>(
     rt: &R,
     alloc: Global,
@@ -444,7 +450,8 @@ fn is_recorded(row: &Row, setup: &Setup, seen: &Seen, text: &[u8]) -> bool {
             && text.strip_prefix(header) == Some(lines)
 }
 
-/// The sessions of a row, on each of its domains, whose input and answers are these parts, each so many times.
+/// The sessions of a row, on each of its domains, whose input and answers are these parts, each so
+/// many times.
 fn check_parts<R: Abort + Wait>(
     rt: &R,
     alloc: Global,
@@ -522,8 +529,8 @@ pub(crate) const NOTHING: Totals = Totals {
     sum_lo: 0,
 };
 
-/// Compares what is left at the session's end, and once the clients that wait were tried: nothing is lost, and the totals are the
-/// seat's shares.
+/// Compares what is left at the session's end, and once the clients that wait were tried: nothing
+/// is lost, and the totals are the seat's shares.
 fn compare_left<R: Abort>(rt: &R, row: &Row, seen: &Seen) {
     let left = match seen.end.client {
         Some(Ending::Waiting(left, _)) => left,
@@ -661,8 +668,9 @@ fn clients_that_wait(rt: HostRuntime) {
     check_parts(&rt, rt.alloc(), &OVERLAP, &[(HELLO, 1), (ALLOC, 256)], &[]);
 }
 
-/// A link of this session fails at each of its calls in turn, until none is left. What was written is a front of the answers, or
-/// all of them; the client is ended, and told of once it is opened; nothing is the peer's any more.
+/// A link of this session fails at each of its calls in turn, until none is left. What was written
+/// is a front of the answers, or all of them; the client is ended, and told of once it is opened;
+/// nothing is the peer's any more.
 fn each_call_fails<R: Abort + Wait>(
     rt: &R,
     alloc: Global,
@@ -731,7 +739,8 @@ static NAMES: [&[u8]; 8] = [
     b"no 24 Twice",
 ];
 
-/// Each front of this session is answered as it is where more of it comes, and by one answer more where it ends a line.
+/// Each front of this session is answered as it is where more of it comes, and by one answer more
+/// where it ends a line.
 fn fronts_are_answered<R: Abort + Wait>(
     rt: &R,
     alloc: Global,
@@ -756,7 +765,8 @@ fn fronts_are_answered<R: Abort + Wait>(
     assert!(rt; longest == answers.len());
 }
 
-/// Whether the session is answered so where so many lines come in a read, and none before those that came are answered.
+/// Whether the session is answered so where so many lines come in a read, and none before those
+/// that came are answered.
 fn is_answered_by_lines<R: Wait>(
     rt: &R,
     alloc: Global,
@@ -823,8 +833,9 @@ fn frees(alloc: Global) -> Result<Vec<u8>, AllocError> {
     Ok(text)
 }
 
-// `open`, and 300 steps of each kind; a ring has room for 255, so one `free` finds it full: two unmaps are refused, one in the
-// hold of its run and one before its flush, which is two steps. `closeone` at the end.
+// `open`, and 300 steps of each kind; a ring has room for 255, so one `free` finds it full: two
+// unmaps are refused, one in the hold of its run and one before its flush, which is two steps.
+// `closeone` at the end.
 #[test]
 fn the_steps_of_a_full_ring(rt: HostRuntime) -> Result<(), AllocError> {
     let alloc = rt.alloc();
@@ -898,7 +909,8 @@ fn the_limits_of_a_session(rt: HostRuntime) {
 const ALL: &[u8] =
     b"hello iova1 0 dac\nhello iova1 0 dac\nalloc 1 9\nalloc 1 9\nlist\nlist\nfree 9\nstat\nbye\n";
 
-// Where a growth is refused, how many ranges the session's end queues then, and what it was answered.
+// Where a growth is refused, how many ranges the session's end queues then, and what it was
+// answered.
 static ANSWERS: [(&str, u64, &[u8]); 7] = [
     (
         "nothing",
@@ -933,7 +945,8 @@ static ANSWERS: [(&str, u64, &[u8]); 7] = [
     ),
 ];
 
-// Where a growth was refused in a session of all these requests; none where it didn't end as it has to then.
+// Where a growth was refused in a session of all these requests; none where it didn't end as it has
+// to then.
 fn refused_in(link: &ByLines<'_>, seen: Result<Seen, Refusal>) -> Option<&'static str> {
     let Ok(seen) = seen else {
         return Some("Book::new");
@@ -984,7 +997,8 @@ fn refused_at_post<R: Wait>(rt: &R, alloc: Global) -> Option<&'static str> {
     refused_in(&link, seen)
 }
 
-// It passes whichever growth is refused, and prints where. The session is served twice, so once with memory.
+// It passes whichever growth is refused, and prints where. The session is served twice, so once
+// with memory.
 #[test]
 fn a_post_with_a_refused_growth(rt: HostRuntime) -> Result<(), Fail> {
     let mut refused = 0u64;

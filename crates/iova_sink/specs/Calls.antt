@@ -4,8 +4,8 @@ use Rattle.std.specs.declared.snapshot.Snapshot.{Snapshot}
 use Rattle.iova_range.specs.Frames.{Frames}
 use Rattle.iova_sink.specs.declared.sink.SinkFault.{SinkFault}
 
--- One call: a flush of a domain, and whether it was good; or that a client of a domain is gone, which had these ranges, and what was
--- answered.
+-- One call: a flush of a domain, and whether it was good; or that a client of a domain is gone,
+-- which had these ranges, and what was answered.
 pub data Call : Type 0 where
   Invalidation : (domain number : ℕ) → (ok : Bool) → Call
   Gone : (domain client : ℕ) → (ranges : List Frames) → (answer : Result Unit SinkFault) → Call
@@ -50,7 +50,8 @@ failed_calls (c ∷ cs) = failed_in c + failed_calls cs
 -- the last invalidation that was good, oldest first, with what is to be answered where none is
 abbrev pub last_good_or : Option Call → List Call → Option Call
 last_good_or last [] = last
-last_good_or last (Invalidation domain number ok ∷ cs) = last_good_or (if ok then Some (Invalidation domain number ok) else last) cs
+last_good_or last (Invalidation domain number ok ∷ cs) =
+    last_good_or (if ok then Some (Invalidation domain number ok) else last) cs
 last_good_or last (Gone domain client ranges answer ∷ cs) = last_good_or last cs
 
 abbrev pub last_good : List Call → Option Call
@@ -59,7 +60,8 @@ last_good cs = last_good_or None cs
 -- whether the last invalidation failed, with what is to be answered where there was none
 abbrev pub last_failed_or : Bool → List Call → Bool
 last_failed_or before [] = before
-last_failed_or before (Invalidation domain number ok ∷ cs) = last_failed_or (if ok then false else true) cs
+last_failed_or before (Invalidation domain number ok ∷ cs) =
+    last_failed_or (if ok then false else true) cs
 last_failed_or before (Gone domain client ranges answer ∷ cs) = last_failed_or before cs
 
 abbrev pub is_last_failed : List Call → Bool

@@ -10,8 +10,8 @@ use Rattle.iova_sink.specs.declared.sink.SinkFault.TheVariants as fault
 use Rattle.iova_sink.specs.declared.asking.Heard.{Heard}
 use Rattle.iova_sink.specs.declared.asking.Heard.TheVariants as heard
 
--- the bytes sent and the bytes received over all connections, where they are known; how many calls failed; how many looks found bytes;
--- and whether there is a connection
+-- the bytes sent and the bytes received over all connections, where they are known; how many calls
+-- failed; how many looks found bytes; and whether there is a connection
 pub record Talk : Type 0 where
   pub sent : Option (List ℕ)
   pub received : Option (List ℕ)
@@ -90,13 +90,16 @@ Readies old new (Err e) = (request : List ℕ) → IsCutOff old new request
 -- the bytes were sent, or a front of them and the call failed
 abbrev pub SendsAll : Talk → Talk → List ℕ → Result Unit ChannelFault → Type 0
 SendsAll old new bytes (Ok u) = new ≡ with_sent old bytes
-SendsAll old new bytes (Err e) = (front : List ℕ) × IsFront front bytes × (new ≡ with_failure (with_sent old front))
+SendsAll old new bytes (Err e) =
+    (front : List ℕ) × IsFront front bytes × (new ≡ with_failure (with_sent old front))
 
 -- some of a text was sent, and the rest of it stands in the block
 abbrev pub IsBegun : Talk → Talk → List ℕ → List ℕ → Type 0
-IsBegun old new block text = (front : List ℕ) × (new ≡ with_sent old front) × (front ++ block ≡ text)
+IsBegun old new block text =
+    (front : List ℕ) × (new ≡ with_sent old front) × (front ++ block ≡ text)
 
--- a line was appended to what stood in the block, of which some was sent; or what stood there was sent in part, and the call failed
+-- a line was appended to what stood in the block, of which some was sent; or what stood there was
+-- sent in part, and the call failed
 abbrev pub Adds : Talk → Talk → List ℕ → List ℕ → List ℕ → Result Unit ChannelFault → Type 0
 Adds old new block now line (Ok u) = IsBegun old new now (block ++ line)
 Adds old new block now line (Err e) = SendsAll old new block (Err e)
@@ -133,10 +136,13 @@ abbrev pub Hears : Talk → Talk → List ℕ → List ℕ → Heard → Type 0
 Hears old new done failed heard.Done = new ≡ with_received old done
 Hears old new done failed heard.Failed = new ≡ with_received old failed
 Hears old new done failed heard.Broken =
-    (got : List ℕ) × IsAnswer got done × ((new ≡ with_failure (with_received old got)) ⊎ ((new ≡ with_received old got) × (got ≢ done) × (got ≢ failed)))
+    (got : List ℕ) × IsAnswer got done
+    × ((new ≡ with_failure (with_received old got))
+    ⊎ ((new ≡ with_received old got) × (got ≢ done) × (got ≢ failed)))
 
--- The request came to nothing, and there is no connection any more: a front of it was sent and some bytes were received; and a call of the
--- channel failed, or bytes stood in the connection, or the whole request was sent and what was received is no answer.
+-- The request came to nothing, and there is no connection any more: a front of it was sent and some
+-- bytes were received; and a call of the channel failed, or bytes stood in the connection, or the
+-- whole request was sent and what was received is no answer.
 pub record BreaksOff (old new : Talk) (request done failed : List ℕ) : Type 0 where
   pub front : List ℕ
   pub got : List ℕ
@@ -147,8 +153,8 @@ pub record BreaksOff (old new : Talk) (request done failed : List ℕ) : Type 0 
   pub unconnected : new.connected ≡ false
   pub failure : HasFailed old new ⊎ ((got ≢ done) × (got ≢ failed))
 
--- the whole request was sent over a connection in which no byte was seen to stand, and these bytes and no other were received; the
--- connection stays, and no call of the channel failed
+-- the whole request was sent over a connection in which no byte was seen to stand, and these bytes
+-- and no other were received; the connection stays, and no call of the channel failed
 abbrev pub IsAnsweredBy : Talk → Talk → List ℕ → List ℕ → Type 0
 IsAnsweredBy old new request answer = new ≡ with_received (with_sent (opened old) request) answer
 
@@ -164,10 +170,12 @@ Settles middle new done failed (Ok u) = new ≡ with_received middle done
 Settles middle new done failed (Err fault.Refused) = new ≡ with_received middle failed
 Settles middle new done failed (Err fault.Broken) =
     (got : List ℕ) × IsAnswer got done
-    × ((new ≡ closed (with_failure (with_received middle got))) ⊎ ((new ≡ closed (with_received middle got)) × (got ≢ done) × (got ≢ failed)))
+    × ((new ≡ closed (with_failure (with_received middle got)))
+    ⊎ ((new ≡ closed (with_received middle got)) × (got ≢ done) × (got ≢ failed)))
 
 -- what becomes of one that was sent or cut off
-abbrev pub Concludes : Talk → Talk → List ℕ → List ℕ → Result Unit ChannelFault → Result Unit SinkFault → Type 0
+abbrev pub Concludes : Talk → Talk → List ℕ → List ℕ → Result Unit ChannelFault
+    → Result Unit SinkFault → Type 0
 Concludes middle new done failed (Ok u) result = Settles middle new done failed result
 Concludes middle new done failed (Err f) (Ok u) = ⊥
 Concludes middle new done failed (Err f) (Err e) = (e ≡ fault.Broken) × (new ≡ closed middle)

@@ -2,7 +2,8 @@
 use Rattle.std.specs.Prelude.{ℕ, List}
 use Rattle.iova_sink.specs.Calls.{Call}
 
--- a device in memory: what it took, how much it takes at a time, the call that fails, and how many calls there were and failed
+-- a device in memory: what it took, how much it takes at a time, the call that fails, and how many
+-- calls there were and failed
 pub record Kept : Type 0 where
   pub bytes : List ℕ
   pub most : ℕ

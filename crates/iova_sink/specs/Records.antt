@@ -2,16 +2,19 @@
 use Rattle.std.specs.Prelude.{ℕ, Bool, true, false, List, [], ◌∷◌, ◌++◌, length, codes, decimal}
 use Rattle.iova_range.specs.Frames.{Frames}
 
--- the line of one invalidation: a word, the domain's number, the flush's number, with a space between them, and a line feed
+-- the line of one invalidation: a word, the domain's number, the flush's number, with a space
+-- between them, and a line feed
 abbrev pub inval_line : ℕ → ℕ → List ℕ
-inval_line domain number = codes "inval" ++ (32 ∷ (decimal domain ++ (32 ∷ (decimal number ++ 10 ∷ []))))
+inval_line domain number =
+    codes "inval" ++ (32 ∷ (decimal domain ++ (32 ∷ (decimal number ++ 10 ∷ []))))
 
 -- after a call that failed, a line feed comes first
 abbrev pub record_text : Bool → ℕ → ℕ → List ℕ
 record_text false domain number = inval_line domain number
 record_text true domain number = 10 ∷ inval_line domain number
 
--- Requests to a peer that answers, and its answers: words with a space between them, and a line feed.
+-- Requests to a peer that answers, and its answers: words with a space between them, and a line
+-- feed.
 
 -- the answer to a request of this word and number, which says how it went
 abbrev pub answer_line : List ℕ → List ℕ → ℕ → List ℕ
@@ -31,7 +34,9 @@ reset_line domain = codes "reset" ++ (32 ∷ (decimal domain ++ 10 ∷ []))
 
 -- this client of the domain is gone, which had so many ranges
 abbrev pub gone_line : ℕ → ℕ → ℕ → List ℕ
-gone_line domain client count = codes "gone" ++ (32 ∷ (decimal domain ++ (32 ∷ (decimal client ++ (32 ∷ (decimal count ++ 10 ∷ []))))))
+gone_line domain client count =
+    codes "gone" ++ (32 ∷ (decimal domain
+    ++ (32 ∷ (decimal client ++ (32 ∷ (decimal count ++ 10 ∷ []))))))
 
 -- a range: its first frame, and how many there are
 abbrev pub range_line : Frames → List ℕ

@@ -44,7 +44,8 @@ fn begin<C: Channel>(channel: &mut C, request: &[u8]) -> Result<(), ChannelFault
     }
 }
 
-/// Makes a connection ready for a request: one that has ended is connected anew, and one in which bytes stand is refused.
+/// Makes a connection ready for a request: one that has ended is connected anew, and one in which
+/// bytes stand is refused.
 pub(crate) fn ready<C: Channel>(channel: &mut C) -> Result<(), ChannelFault>
     ensures { Readies (C.talk channel.old) (C.talk channel.new) result }
 {
@@ -73,7 +74,8 @@ pub(crate) fn send_all<C: Channel>(channel: &mut C, bytes: &[u8]) -> Result<(), 
     Ok(())
 }
 
-/// Takes the answer of a request that was sent, and closes the connection after anything but one of its two answers.
+/// Takes the answer of a request that was sent, and closes the connection after anything but one of
+/// its two answers.
 pub(crate) fn conclude<C: Channel>(
     channel: &mut C,
     sent: Result<(), ChannelFault>,
@@ -81,7 +83,8 @@ pub(crate) fn conclude<C: Channel>(
     number: u64,
 ) -> Result<(), SinkFault>
     requires { length word.now ≤ 8 }
-    ensures { Concludes (C.talk channel.old) (C.talk channel.new) (done_line word.now number) (fail_line word.now number)
+    ensures { Concludes (C.talk channel.old) (C.talk channel.new) (done_line word.now number)
+        (fail_line word.now number)
         sent result }
 {
     match sent {
@@ -96,7 +99,8 @@ pub(crate) fn conclude<C: Channel>(
 /// Takes the answer of a request that was sent whole.
 fn settle<C: Channel>(channel: &mut C, word: &[u8], number: u64) -> Result<(), SinkFault>
     requires { length word.now ≤ 8 }
-    ensures { Settles (C.talk channel.old) (C.talk channel.new) (done_line word.now number) (fail_line word.now number) result }
+    ensures { Settles (C.talk channel.old) (C.talk channel.new) (done_line word.now number)
+        (fail_line word.now number) result }
 {
     let done = answer(b"done", word, number);
     let failed = answer(b"fail", word, number);
@@ -151,7 +155,8 @@ fn said(got: &[u8], done: &[u8], failed: &[u8]) -> Heard
     }
 }
 
-/// Receives bytes up to an LF, the end of the stream or this many, one at a time: no byte behind them is taken.
+/// Receives bytes up to an LF, the end of the stream or this many, one at a time: no byte behind
+/// them is taken.
 fn receive_line<C: Channel>(
     channel: &mut C,
     limit: usize,

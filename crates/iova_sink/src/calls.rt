@@ -7,8 +7,8 @@ use iova_range::range::Range;
 use std::marker::Model;
 use std::snapshot::Snapshot;
 
-/// The calls that a sink was made, oldest first, each with its answer. Contracts see it as a list. It takes no memory:
-/// each call keeps what was before it as a snapshot, which no code reads.
+/// The calls that a sink was made, oldest first, each with its answer. Contracts see it as a list.
+/// It takes no memory: each call keeps what was before it as a snapshot, which no code reads.
 #[derive(Drop)]
 pub struct Calls {
     before: Option<Snapshot<Calls>>,
@@ -65,7 +65,8 @@ impl Calls {
         self.ok = ok;
     }
 
-    /// One call more, that this client of the domain is gone, which had these ranges, with what was answered.
+    /// One call more, that this client of the domain is gone, which had these ranges, with what was
+    /// answered.
     pub fn add_gone(
         &mut self,
         domain: u64,

@@ -17,32 +17,36 @@ pub enum Standing {
     End,
 }
 
-/// A stream of bytes to a peer and one back, over one connection at a time. Any error of the operating system is a failure, an
-/// interruption and a time-out too; nothing is tried again. Without a connection all calls but `connect` and `close` fail. Own.
+/// A stream of bytes to a peer and one back, over one connection at a time. Any error of the
+/// operating system is a failure, an interruption and a time-out too; nothing is tried again.
+/// Without a connection all calls but `connect` and `close` fail. Own.
 pub trait Channel {
     ghost use Rattle.iova_sink.specs.Channels.{Talk};
 
-    /// What is known of it: the bytes sent, the bytes received, how many calls failed, and whether there is a connection.
+    /// What is known of it: the bytes sent, the bytes received, how many calls failed, and whether
+    /// there is a connection.
     ghost talk: { Self → Talk };
 
     /// Whether there is a connection.
     fn is_open(&self) -> bool
         ensures { result ≡ (talk self.now).connected };
 
-    /// Sends a front of the bytes, at least one byte where there is one, and gives their number. A call that fails sends none.
+    /// Sends a front of the bytes, at least one byte where there is one, and gives their number. A
+    /// call that fails sends none.
     fn send(&mut self, bytes: &[u8]) -> Result<usize, ChannelFault>
         ensures bound { IfOk result (λ n. n ≤ length bytes.now) }
         ensures some { IfOk result (λ n. 0 < length bytes.now → 0 < n) }
         ensures sends { Sends (talk self.old) (talk self.new) bytes.now result };
 
-    /// Receives some bytes into the front of the buffer, which has room, and gives their number: 0 says that the stream has ended.
+    /// Receives some bytes into the front of the buffer, which has room, and gives their number: 0
+    /// says that the stream has ended.
     fn receive(&mut self, buffer: &mut [u8]) -> Result<usize, ChannelFault>
         requires { 0 < length buffer.old }
         ensures bound { IfOk result (λ n. n ≤ length buffer.new) }
         ensures receives { Receives (talk self.old) (talk self.new) buffer.new result };
 
-    /// Looks what stands in the connection, without waiting. Where it is `Bytes`, the connection is good for nothing but to be
-    /// closed: some of them may be lost.
+    /// Looks what stands in the connection, without waiting. Where it is `Bytes`, the connection is
+    /// good for nothing but to be closed: some of them may be lost.
     fn look(&mut self) -> Result<Standing, ChannelFault>
         ensures { Looks (talk self.old) (talk self.new) result };
 

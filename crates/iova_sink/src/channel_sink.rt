@@ -16,9 +16,10 @@ use std::marker::Model;
 /// The most bytes that are sent at a time of a request of many lines.
 const BLOCK: usize = 4_096;
 
-/// A sink over a channel. It sends a request for each call, one at a time, and takes the answer: `done` or `fail`, the request's
-/// word and its number, and a line feed. Any other bytes, the end of the stream and a failure of the channel, a time-out too,
-/// close the connection, and the next call connects anew. Own.
+/// A sink over a channel. It sends a request for each call, one at a time, and takes the answer:
+/// `done` or `fail`, the request's word and its number, and a line feed. Any other bytes, the end
+/// of the stream and a failure of the channel, a time-out too, close the connection, and the next
+/// call connects anew. Own.
 pub struct ChannelSink<C: Channel> {
     channel: C,
     calls: Calls,
@@ -60,9 +61,11 @@ impl<C: Channel> ChannelSink<C> {
         &self.channel
     }
 
-    /// Tells the peer that nothing of the domain is mapped. Good exactly where it answers `done reset <domain>`.
+    /// Tells the peer that nothing of the domain is mapped. Good exactly where it answers `done
+    /// reset <domain>`.
     pub fn reset(&mut self, domain: u64) -> Result<(), SinkFault>
-        ensures answers { Answers (C.talk self.old.channel) (C.talk self.new.channel) (reset_line domain)
+        ensures answers { Answers (C.talk self.old.channel) (C.talk self.new.channel)
+            (reset_line domain)
             (done_line (codes "reset") domain) (fail_line (codes "reset") domain) result }
         ensures calls { self.new.calls ≡ self.old.calls }
     {
@@ -77,10 +80,12 @@ impl<C: Channel> ChannelSink<C> {
 impl<C: Channel> Sink for ChannelSink<C> {
     ghost calls = { λ s. s.calls };
 
-    /// Sends the record of the invalidation. Good exactly where the peer answers `done inval <number>`.
+    /// Sends the record of the invalidation. Good exactly where the peer answers `done inval
+    /// <number>`.
     fn invalidate(&mut self, domain: u64, no: u64) -> Result<(), SinkFault>
         ensures calls { self.new.calls ≡ with_call self.old.calls domain no (is_ok result) }
-        ensures answers { Answers (C.talk self.old.channel) (C.talk self.new.channel) (inval_line domain no)
+        ensures answers { Answers (C.talk self.old.channel) (C.talk self.new.channel)
+            (inval_line domain no)
             (done_line (codes "inval") no) (fail_line (codes "inval") no) result }
     {
         let line = record_of(false, domain, no);
@@ -89,12 +94,15 @@ impl<C: Channel> Sink for ChannelSink<C> {
         told
     }
 
-    /// Sends the line of the client that is gone, and one for each range. Good exactly where the peer answers
-    /// `done gone <client>`. It takes no memory: the request goes out a block of 4 KiB at a time.
+    /// Sends the line of the client that is gone, and one for each range. Good exactly where the
+    /// peer answers `done gone <client>`. It takes no memory: the request goes out a block of 4 KiB
+    /// at a time.
     fn gone(&mut self, domain: u64, client: u64, ranges: &Vec<Range>) -> Result<(), SinkFault>
-        ensures calls { self.new.calls ≡ with_gone self.old.calls domain client ranges.now.items result }
+        ensures calls { self.new.calls ≡ with_gone self.old.calls domain client ranges.now.items
+            result }
         ensures answers { Answers (C.talk self.old.channel) (C.talk self.new.channel)
-            (gone_text domain client ranges.now.items) (done_line (codes "gone") client) (fail_line (codes "gone") client)
+            (gone_text domain client ranges.now.items) (done_line (codes "gone") client)
+            (fail_line (codes "gone") client)
             result }
     {
         let sent = begin_gone(&mut self.channel, domain, client, ranges.as_slice());
@@ -111,7 +119,8 @@ fn begin_gone<C: Channel>(
     client: u64,
     ranges: &[Range],
 ) -> Result<(), ChannelFault>
-    ensures { Requests (C.talk channel.old) (C.talk channel.new) (gone_text domain client ranges.now) result }
+    ensures { Requests (C.talk channel.old) (C.talk channel.new)
+        (gone_text domain client ranges.now) result }
 {
     match ready(channel) {
         Ok(()) => send_gone(channel, domain, client, ranges),
@@ -126,7 +135,8 @@ fn send_gone<C: Channel>(
     client: u64,
     ranges: &[Range],
 ) -> Result<(), ChannelFault>
-    ensures { SendsAll (C.talk channel.old) (C.talk channel.new) (gone_text domain client ranges.now) result }
+    ensures { SendsAll (C.talk channel.old) (C.talk channel.new)
+        (gone_text domain client ranges.now) result }
 {
     let line = gone_of(domain, client, ranges.len());
     let mut block = ArrayVec::new();
@@ -154,7 +164,8 @@ fn send_ranges<C: Channel>(
     block: &mut ArrayVec<u8, BLOCK>,
     ranges: &[Range],
 ) -> Result<(), ChannelFault>
-    ensures { SendsAll (C.talk channel.old) (C.talk channel.new) (block.old.items ++ ranges_text ranges.now) result }
+    ensures { SendsAll (C.talk channel.old) (C.talk channel.new)
+        (block.old.items ++ ranges_text ranges.now) result }
 {
     for range in ranges {
         let line = line_of(*range);
@@ -173,7 +184,8 @@ fn add<C: Channel>(
     line: &[u8],
 ) -> Result<(), ChannelFault>
     requires { length line.now ≤ MAX_RECORD }
-    ensures { Adds (C.talk channel.old) (C.talk channel.new) block.old.items block.new.items line.now result }
+    ensures { Adds (C.talk channel.old) (C.talk channel.new) block.old.items block.new.items
+        line.now result }
 {
     if block.remaining_capacity() < line.len() {
         match send_all(channel, block.as_slice()) {

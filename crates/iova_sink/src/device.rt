@@ -9,8 +9,8 @@ use std::io;
 #[derive(Clone, Copy, PartialEq, Eq, Debug)]
 pub struct DeviceFault;
 
-/// Takes bytes. Any error of the operating system is a failure, an interruption too, and so is a call that takes none
-/// of a nonempty slice. Own.
+/// Takes bytes. Any error of the operating system is a failure, an interruption too, and so is a
+/// call that takes none of a nonempty slice. Own.
 pub trait Device {
     /// The bytes that it took, where they are known.
     ghost taken: { Self → Option (List ℕ) };
@@ -18,8 +18,8 @@ pub trait Device {
     /// How many calls failed.
     ghost failures: { Self → ℕ };
 
-    /// Takes a front of the bytes, at least one byte where there is one, and gives their number. A call that fails takes
-    /// none.
+    /// Takes a front of the bytes, at least one byte where there is one, and gives their number. A
+    /// call that fails takes none.
     fn put(&mut self, bytes: &[u8]) -> Result<usize, DeviceFault>
         ensures bound { IfOk result (λ n. n ≤ length bytes.now) }
         ensures some { IfOk result (λ n. 0 < length bytes.now → 0 < n) }
@@ -32,8 +32,9 @@ pub trait Device {
         ensures failures { CountsFailure result (failures self.old) (failures self.new) };
 }
 
-/// How many bytes a write of `wanted` bytes took. None where it failed: any error of the operating system is a failure, an
-/// interruption too, and so is a call that took none of some. Nothing is tried again.
+/// How many bytes a write of `wanted` bytes took. None where it failed: any error of the operating
+/// system is a failure, an interruption too, and so is a call that took none of some. Nothing is
+/// tried again.
 pub fn bytes_taken(written: io::Result<usize>, wanted: usize) -> Option<usize>
     ensures some { IfSome result (λ n. (written ≡ Ok n) × (n ≡ 0 → wanted ≡ 0)) }
     ensures none { result ≡ None → IsErr written ⊎ ((written ≡ Ok 0) × (0 < wanted)) }

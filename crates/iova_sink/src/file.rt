@@ -8,9 +8,10 @@ use std::io;
 use std::io::Write;
 use std::marker::Model;
 
-/// A file that was opened for appending. Each `put` is one write of the operating system. Each write goes to the file's
-/// end, so records of several threads, each with a device of its own on one file, don't mix where the system takes each
-/// record whole. Contracts see the number of its failures; what lies in the file, no contract can say.
+/// A file that was opened for appending. Each `put` is one write of the operating system. Each
+/// write goes to the file's end, so records of several threads, each with a device of its own on
+/// one file, don't mix where the system takes each record whole. Contracts see the number of its
+/// failures; what lies in the file, no contract can say.
 pub struct FileDevice {
     file: File,
     failed: Count,
@@ -32,7 +33,8 @@ impl Model for FileDevice {
 }
 
 impl FileDevice {
-    /// Opens the file for appending, and makes it where it isn't there. `Err` is the operating system's.
+    /// Opens the file for appending, and makes it where it isn't there. `Err` is the operating
+    /// system's.
     pub fn open<R: Files<File = File>>(files: &R, path: &str) -> io::Result<FileDevice>
         ensures { IfOk result (λ d. d ≡ 0) }
     {
@@ -63,8 +65,8 @@ impl Device for FileDevice {
         }
     }
 
-    /// Nothing is kept back: what a `put` took has been handed to the operating system. That it has reached the disk is
-    /// not promised, since nothing is synced.
+    /// Nothing is kept back: what a `put` took has been handed to the operating system. That it has
+    /// reached the disk is not promised, since nothing is synced.
     fn push_out(&mut self) -> Result<(), DeviceFault> {
         match self.file.flush() {
             Ok(()) => Ok(()),

@@ -33,7 +33,8 @@ impl Flag {
         self.raised.load(Ordering::SeqCst)
     }
 
-    /// Waits until the flag is raised, at most 1,000,000 turns with a yield each. Whether it was raised.
+    /// Waits until the flag is raised, at most 1,000,000 turns with a yield each. Whether it was
+    /// raised.
     pub fn wait(&self) -> bool {
         for _turn in 0..MAX_TURNS {
             if self.is_raised() {
@@ -45,8 +46,8 @@ impl Flag {
     }
 }
 
-/// An invalidation raises `inside`, and then waits until `open` is raised; it fails where that doesn't come in
-/// 1,000,000 turns. Contracts see the list of its calls. Own.
+/// An invalidation raises `inside`, and then waits until `open` is raised; it fails where that
+/// doesn't come in 1,000,000 turns. Contracts see the list of its calls. Own.
 #[derive(Drop)]
 pub struct GateSink<'a> {
     inside: &'a Flag,

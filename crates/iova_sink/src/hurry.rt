@@ -1,9 +1,9 @@
 //! An end that doesn't wait long for a silent peer.
 use std::sync::atomic::{AtomicBool, Ordering};
 
-/// What the channels to one peer share. Once the end has begun, the first call that the peer leaves without an answer in time has all
-/// later ones of each channel fail at once: so an end takes no more than two time limits, however many calls are left. Threads share
-/// it. Own.
+/// What the channels to one peer share. Once the end has begun, the first call that the peer leaves
+/// without an answer in time has all later ones of each channel fail at once: so an end takes no
+/// more than two time limits, however many calls are left. Threads share it. Own.
 #[derive(Drop)]
 pub struct Hurry {
     is_ending: AtomicBool,

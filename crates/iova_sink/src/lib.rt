@@ -1,5 +1,5 @@
-//! Where invalidations go: sinks, which are told of each flush, the devices that records of them are written to, and the channels to
-//! a peer that answers.
+//! Where invalidations go: sinks, which are told of each flush, the devices that records of them
+//! are written to, and the channels to a peer that answers.
 #![tactic(auto)]
 
 pub mod asking;

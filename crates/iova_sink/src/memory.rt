@@ -55,7 +55,8 @@ impl Sink for MemorySink {
     }
 
     fn gone(&mut self, domain: u64, client: u64, ranges: &Vec<Range>) -> Result<(), SinkFault>
-        ensures calls { self.new.calls ≡ with_gone self.old.calls domain client ranges.now.items result }
+        ensures calls { self.new.calls ≡ with_gone self.old.calls domain client ranges.now.items
+            result }
         ensures fails { IsErr result ↔ (length self.old.calls + 1 ≡ self.old.fail_at) }
         ensures same { self.new.fail_at ≡ self.old.fail_at }
     {

@@ -10,16 +10,18 @@ use std::marker::Model;
 /// What a planned peer says over one connection.
 #[derive(Clone, Copy)]
 pub struct Peer<'a> {
-    /// The first of these stands in the connection from its beginning. Each next one comes with a send, once all before it has been
-    /// received.
+    /// The first of these stands in the connection from its beginning. Each next one comes with a
+    /// send, once all before it has been received.
     pub says: &'a [&'a [u8]],
-    /// Whether the stream ends behind them. Otherwise a receive behind them fails, as by a time-out.
+    /// Whether the stream ends behind them. Otherwise a receive behind them fails, as by a
+    /// time-out.
     pub ends: bool,
 }
 
-/// A channel whose peers are planned and whose bytes are kept in memory, for tests. Each connect takes the next peer, and fails where
-/// none is left. A send takes at most `most` bytes. The `fail_at`-th send, receive, look or connect fails (0: none), and so does one
-/// where a growth is refused.
+/// A channel whose peers are planned and whose bytes are kept in memory, for tests. Each connect
+/// takes the next peer, and fails where none is left. A send takes at most `most` bytes. The
+/// `fail_at`-th send, receive, look or connect fails (0: none), and so does one where a growth is
+/// refused.
 #[derive(Drop)]
 pub struct MemoryChannel<'a> {
     peers: &'a [Peer<'a>],
@@ -62,7 +64,13 @@ impl<'a> MemoryChannel<'a> {
     /// A channel to these peers, without a connection.
     pub fn new(alloc: Global, peers: &'a [Peer<'a>], most: usize, fail_at: u64) -> MemoryChannel<'a>
         requires { 1 ≤ most }
-        ensures { result ≡ record { sent = Some []; received = Some []; failures = 0; strays = 0; connected = false } }
+        ensures { result ≡ record {
+          sent = Some [];
+          received = Some [];
+          failures = 0;
+          strays = 0;
+          connected = false;
+        } }
     {
         MemoryChannel {
             peers,

@@ -8,8 +8,8 @@ use crate::device::{Device, DeviceFault};
 use std::alloc::Global;
 use std::marker::Model;
 
-/// Keeps the bytes in memory, for tests. It takes at most `most` bytes in a call, and fails at its `fail_at`-th call
-/// (0: at none), and where a growth is refused.
+/// Keeps the bytes in memory, for tests. It takes at most `most` bytes in a call, and fails at its
+/// `fail_at`-th call (0: at none), and where a growth is refused.
 #[derive(Drop)]
 pub struct MemoryDevice {
     bytes: Vec<u8>,
@@ -39,10 +39,17 @@ impl Model for MemoryDevice {
 }
 
 impl MemoryDevice {
-    /// A device with no bytes, that takes at most `most` bytes in a call and fails at its `fail_at`-th call (0: at none).
+    /// A device with no bytes, that takes at most `most` bytes in a call and fails at its
+    /// `fail_at`-th call (0: at none).
     pub fn new(alloc: Global, most: usize, fail_at: u64) -> MemoryDevice
         requires { 1 ≤ most }
-        ensures { result ≡ record { bytes = []; most = most; fail_at = fail_at; calls = 0; failures = 0 } }
+        ensures { result ≡ record {
+          bytes = [];
+          most = most;
+          fail_at = fail_at;
+          calls = 0;
+          failures = 0;
+        } }
     {
         MemoryDevice {
             bytes: Vec::new(alloc),
@@ -66,7 +73,10 @@ impl MemoryDevice {
         ensures good { result ≡ true → (self.old.calls + 1 ≢ self.old.fail_at)
             × (self.new ≡ record self.old { calls = self.old.calls + 1 }) }
         ensures fails { result ≡ false → (self.old.calls + 1 ≡ self.old.fail_at)
-            × (self.new ≡ record self.old { calls = self.old.calls + 1; failures = self.old.failures + 1 }) }
+            × (self.new ≡ record self.old {
+              calls = self.old.calls + 1;
+              failures = self.old.failures + 1;
+            }) }
     {
         let good = self.ahead != 1;
         self.ahead = self.ahead.saturating_sub(1);
@@ -91,7 +101,11 @@ impl Device for MemoryDevice {
         ensures most { IfOk result (λ n. n ≡ min self.old.most (length bytes.now)) }
         ensures turn { OnOk result (self.old.calls + 1 ≢ self.old.fail_at) }
         ensures same { self.new
-            ≡ record self.old { bytes = self.new.bytes; calls = self.old.calls + 1; failures = self.new.failures } }
+            ≡ record self.old {
+              bytes = self.new.bytes;
+              calls = self.old.calls + 1;
+              failures = self.new.failures;
+            } }
     {
         if !self.next_call() {
             return Err(DeviceFault);
@@ -111,7 +125,8 @@ impl Device for MemoryDevice {
         ensures failures { CountsFailure result self.old.failures self.new.failures }
         ensures turn { MatchResult result (λ u. self.old.calls + 1 ≢ self.old.fail_at)
             (λ e. self.old.calls + 1 ≡ self.old.fail_at) }
-        ensures same { self.new ≡ record self.old { calls = self.old.calls + 1; failures = self.new.failures } }
+        ensures same { self.new ≡ record self.old
+            { calls = self.old.calls + 1; failures = self.new.failures } }
     {
         if self.next_call() {
             Ok(())

@@ -13,11 +13,13 @@ use iova_range::range::Range;
 use itoa::Buffer;
 use std::marker::Model;
 
-/// The most bytes of a record, of a line of a request and of an answer: words, at most three numbers, and line feeds.
+/// The most bytes of a record, of a line of a request and of an answer: words, at most three
+/// numbers, and line feeds.
 pub(crate) const MAX_RECORD: usize = 72;
 
-/// Writes `inval <domain> <number>` and a line feed for each invalidation. The first record after one that failed begins
-/// with a line feed of its own, so that what was written of the failed one stays a line by itself. Own.
+/// Writes `inval <domain> <number>` and a line feed for each invalidation. The first record after
+/// one that failed begins with a line feed of its own, so that what was written of the failed one
+/// stays a line by itself. Own.
 pub struct RecordSink<D: Device> {
     device: D,
     calls: Calls,
@@ -70,15 +72,17 @@ impl<D: Device> RecordSink<D> {
 impl<D: Device> Sink for RecordSink<D> {
     ghost calls = { λ s. s.calls };
 
-    /// Writes the record, then hands it on. It fails where the device failed in this call, and nowhere else; some first
-    /// bytes of the record may be written then.
+    /// Writes the record, then hands it on. It fails where the device failed in this call, and
+    /// nowhere else; some first bytes of the record may be written then.
     fn invalidate(&mut self, domain: u64, no: u64) -> Result<(), SinkFault>
         ensures calls { self.new.calls ≡ with_call self.old.calls domain no (is_ok result) }
         ensures written { OnOk result (Appends (D.taken self.old.device) (D.taken self.new.device)
             (record_text (is_last_failed self.old.calls) domain no)) }
-        ensures cut { OnErr result ((n : ℕ) × Appends (D.taken self.old.device) (D.taken self.new.device)
+        ensures cut { OnErr result ((n : ℕ)
+            × Appends (D.taken self.old.device) (D.taken self.new.device)
             (take n (record_text (is_last_failed self.old.calls) domain no))) }
-        ensures failures { CountsFailure result (D.failures self.old.device) (D.failures self.new.device) }
+        ensures failures { CountsFailure result (D.failures self.old.device)
+            (D.failures self.new.device) }
     {
         let text = record_of(self.broken, domain, no);
         let ok = put_all(&mut self.device, text.as_slice()).is_ok();
@@ -89,7 +93,8 @@ impl<D: Device> Sink for RecordSink<D> {
 
     /// Does nothing, and is good: a device doesn't answer.
     fn gone(&mut self, domain: u64, client: u64, ranges: &Vec<Range>) -> Result<(), SinkFault>
-        ensures calls { self.new.calls ≡ with_gone self.old.calls domain client ranges.now.items result }
+        ensures calls { self.new.calls ≡ with_gone self.old.calls domain client ranges.now.items
+            result }
         ensures good { IsOk result }
         ensures same { self.new.device ≡ self.old.device }
     {
@@ -143,7 +148,8 @@ pub(crate) fn put_digits(text: &mut ArrayVec<u8, MAX_RECORD>, number: u64)
 /// Puts all bytes, going on after short counts, and pushes them out.
 fn put_all<D: Device>(device: &mut D, bytes: &[u8]) -> Result<(), DeviceFault>
     ensures ok { OnOk result (Appends (D.taken device.old) (D.taken device.new) bytes.now) }
-    ensures err { OnErr result ((n : ℕ) × Appends (D.taken device.old) (D.taken device.new) (take n bytes.now)) }
+    ensures err { OnErr result ((n : ℕ)
+        × Appends (D.taken device.old) (D.taken device.new) (take n bytes.now)) }
     ensures failures { CountsFailure result (D.failures device.old) (D.failures device.new) }
 {
     let mut done = 0;

@@ -16,9 +16,10 @@ use std::time::Duration;
 /// How many bytes are read ahead at a time: more than an answer has.
 const AHEAD: usize = 64;
 
-/// A Unix socket at a path, with one time limit for each read and each write. An answer is one read: what comes with it is read too,
-/// and is handed on with the next call that receives. What goes over it no contract can say; contracts
-/// see its failures, how many looks found bytes, and whether there is a connection.
+/// A Unix socket at a path, with one time limit for each read and each write. An answer is one
+/// read: what comes with it is read too, and is handed on with the next call that receives. What
+/// goes over it no contract can say; contracts see its failures, how many looks found bytes, and
+/// whether there is a connection.
 pub struct SocketChannel<'a, N: Net> {
     net: &'a N,
     path: &'a str,
@@ -113,10 +114,16 @@ impl<'a, N: Net> Model for SocketChannel<'a, N> {
 }
 
 impl<'a, N: Net> SocketChannel<'a, N> {
-    /// A channel to the socket at this path, without a connection. A read or a write that takes longer than this many seconds, at least
-    /// one, fails; with a limit of 0 each connect fails.
+    /// A channel to the socket at this path, without a connection. A read or a write that takes
+    /// longer than this many seconds, at least one, fails; with a limit of 0 each connect fails.
     pub fn new(net: &'a N, path: &'a str, seconds: u64) -> SocketChannel<'a, N>
-        ensures { result ≡ record { sent = None; received = None; failures = 0; strays = 0; connected = false } }
+        ensures { result ≡ record {
+          sent = None;
+          received = None;
+          failures = 0;
+          strays = 0;
+          connected = false;
+        } }
     {
         SocketChannel {
             net,
@@ -203,7 +210,8 @@ impl<'a, N: Net> Channel for SocketChannel<'a, N> {
         }
     }
 
-    /// Bytes that were read ahead stand there too. Where there are none, it reads a byte without waiting: one that stands there is lost.
+    /// Bytes that were read ahead stand there too. Where there are none, it reads a byte without
+    /// waiting: one that stands there is lost.
     fn look(&mut self) -> Result<Standing, ChannelFault> {
         let Some(stream) = &self.stream else {
             return Err(self.fault());

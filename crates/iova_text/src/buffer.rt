@@ -124,7 +124,8 @@ fn put_spaced<const CAP: usize>(out: &mut ArrayVec<u8, CAP>, a: u64, b: u64)
 pub fn put_numbers<const CAP: usize>(out: &mut ArrayVec<u8, CAP>, word: &[u8], ns: &[u64])
     requires { length out.old.items + length word.now + 21 * length ns.now ≤ CAP }
     ensures items { out.new.items ≡ out.old.items ++ numbers_line word.now ns.now }
-    ensures longer { length out.new.items ≤ length out.old.items + length word.now + 21 * length ns.now }
+    ensures longer { length out.new.items ≤ length out.old.items + length word.now + 21 * length
+        ns.now }
 {
     put(out, word);
     for n in ns {
@@ -133,7 +134,8 @@ pub fn put_numbers<const CAP: usize>(out: &mut ArrayVec<u8, CAP>, word: &[u8], n
     }
 }
 
-/// Appends the bytes. Refused by `NoMemory`, which appends nothing and comes only where `out` has to grow. Own.
+/// Appends the bytes. Refused by `NoMemory`, which appends nothing and comes only where `out` has
+/// to grow. Own.
 pub fn append<const CAP: usize>(out: &mut Vec<u8>, bytes: &ArrayVec<u8, CAP>) -> Result<(), Refusal>
     ensures ok { OnOk result (out.new.items ≡ out.old.items ++ bytes.now.items) }
     ensures err { OnErr result ((result ≡ Err Refusal.NoMemory) × (out.new.items ≡ out.old.items)) }

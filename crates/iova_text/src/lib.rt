@@ -1,5 +1,5 @@
-//! The text of lines: numbers of one spelling, a line cut off and cut into words, the buffer that a line is put
-//! together in, and bytes written whole.
+//! The text of lines: numbers of one spelling, a line cut off and cut into words, the buffer that a
+//! line is put together in, and bytes written whole.
 #![tactic(auto)]
 
 pub mod buffer;

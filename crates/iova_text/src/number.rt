@@ -3,8 +3,9 @@ ghost use Rattle.std.specs.Prelude.{◌≡◌, ◌≢◌, ℕ, ◌^◌, ◌<◌,
 ghost use Rattle.std.specs.Char.{is_ascii_digit};
 ghost use Rattle.iova_text.specs.Reading.{stops};
 
-/// The number of 64 bits that this text spells: `0`, or a digit 1 to 9 and further digits. None where the text is not the
-/// one spelling of a number below 2^64: with a sign, a leading zero, another byte, or no byte at all. Own.
+/// The number of 64 bits that this text spells: `0`, or a digit 1 to 9 and further digits. None
+/// where the text is not the one spelling of a number below 2^64: with a sign, a leading zero,
+/// another byte, or no byte at all. Own.
 pub fn number(text: &[u8]) -> Option<u64>
     ensures spelled { IfSome result (λ n. text.now ≡ decimal n) }
     ensures read { (n : ℕ) → n < 2 ^ 64 → text.now ≡ decimal n → result ≡ Some n }
@@ -14,8 +15,9 @@ pub fn number(text: &[u8]) -> Option<u64>
     if rest.is_empty() { Some(n) } else { None }
 }
 
-/// The number that the digits at the front spell, and the text after them; after a `0` no further digit is looked at. None
-/// where no digit is at the front, or where the digits spell no number below 2^64. Own.
+/// The number that the digits at the front spell, and the text after them; after a `0` no further
+/// digit is looked at. None where no digit is at the front, or where the digits spell no number
+/// below 2^64. Own.
 #[inline]
 pub fn leading_number(text: &[u8]) -> Option<(u64, &[u8])>
     ensures spelled { IfSome result (λ p. text.now ≡ decimal p.0 ++ p.1.now) }
@@ -31,11 +33,12 @@ pub fn leading_number(text: &[u8]) -> Option<(u64, &[u8])>
 /// Whichever digits they are, so many spell a number of 64 bits.
 const SURE_DIGITS: usize = 19;
 
-/// So many digits are read without a test for the end of the text at each of them, where the text is as long.
+/// So many digits are read without a test for the end of the text at each of them, where the text
+/// is as long.
 const FIRST_DIGITS: usize = 8;
 
-/// The number of 1 to 18 digits at the front, of which the first is not `0`, and the text after it. None where no such
-/// number is there, and where more digits are.
+/// The number of 1 to 18 digits at the front, of which the first is not `0`, and the text after it.
+/// None where no such number is there, and where more digits are.
 #[inline(always)]
 pub fn short_number(text: &[u8]) -> Option<(u64, &[u8])>
     ensures spelled { IfSome result (λ p. text.now ≡ decimal p.0 ++ p.1.now) }
@@ -65,7 +68,8 @@ pub fn short_number(text: &[u8]) -> Option<(u64, &[u8])>
     }
 }
 
-/// The number `front`, whose text ends at `start`, with the digits after it, up to `end` at most; and where these end.
+/// The number `front`, whose text ends at `start`, with the digits after it, up to `end` at most;
+/// and where these end.
 #[inline(always)]
 fn digits(text: &[u8], front: u64, start: usize, end: usize) -> (u64, usize)
     requires some { 0 < front }
@@ -107,7 +111,8 @@ fn any_number(text: &[u8]) -> Option<(u64, &[u8])>
     any_positive(text)
 }
 
-/// The same where the text does not begin with a `0`: each digit is added with a check that the number has 64 bits.
+/// The same where the text does not begin with a `0`: each digit is added with a check that the
+/// number has 64 bits.
 fn any_positive(text: &[u8]) -> Option<(u64, &[u8])>
     requires { slice_index text.now 0 ≢ 48 }
     ensures spelled { IfSome result (λ p. text.now ≡ decimal p.0 ++ p.1.now) }

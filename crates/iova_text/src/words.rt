@@ -10,7 +10,8 @@ use crate::number::{leading_number, short_number};
 /// The bytes before the first space, all where there is none, and the rest from that space on.
 pub fn first_word(line: &[u8]) -> (&[u8], &[u8])
     ensures whole { line.now ≡ result.0.now ++ result.1.now }
-    ensures read { (word rest : List ℕ) → IsTrue (list_all is_not_space word) → IsTrue (stops is_not_space rest)
+    ensures read { (word rest : List ℕ) → IsTrue (list_all is_not_space word)
+        → IsTrue (stops is_not_space rest)
         → line.now ≡ word ++ rest → (result.0.now ≡ word) × (result.1.now ≡ rest) }
 {
     let mut len = 0;
@@ -20,12 +21,14 @@ pub fn first_word(line: &[u8]) -> (&[u8], &[u8])
     line.split_at(len)
 }
 
-/// A space and the word after it, which may be empty, and the text from the next space on. None where no space is at the
-/// front. Own.
+/// A space and the word after it, which may be empty, and the text from the next space on. None
+/// where no space is at the front. Own.
 pub fn next_word(text: &[u8]) -> Option<(&[u8], &[u8])>
     ensures spelled { IfSome result (λ p. text.now ≡ 32 ∷ (p.0.now ++ p.1.now)) }
-    ensures read { (word rest : List ℕ) → IsTrue (list_all is_not_space word) → IsTrue (stops is_not_space rest)
-        → text.now ≡ 32 ∷ (word ++ rest) → IsSomeAnd result (λ p. (p.0.now ≡ word) × (p.1.now ≡ rest)) }
+    ensures read { (word rest : List ℕ) → IsTrue (list_all is_not_space word)
+        → IsTrue (stops is_not_space rest)
+        → text.now ≡ 32 ∷ (word ++ rest) → IsSomeAnd result
+        (λ p. (p.0.now ≡ word) × (p.1.now ≡ rest)) }
 {
     let (first, words) = text.split_first()?;
     if *first == b' ' {
@@ -40,7 +43,8 @@ pub fn next_word(text: &[u8]) -> Option<(&[u8], &[u8])>
 pub fn next_number(text: &[u8]) -> Option<(u64, &[u8])>
     ensures spelled { IfSome result (λ p. text.now ≡ 32 ∷ (decimal p.0 ++ p.1.now)) }
     ensures read { (n : ℕ) (rest : List ℕ) → n < 2 ^ 64 → IsTrue (stops is_ascii_digit rest)
-        → text.now ≡ 32 ∷ (decimal n ++ rest) → IsSomeAnd result (λ p. (p.0 ≡ n) × (p.1.now ≡ rest)) }
+        → text.now ≡ 32 ∷ (decimal n ++ rest)
+        → IsSomeAnd result (λ p. (p.0 ≡ n) × (p.1.now ≡ rest)) }
 {
     let (first, digits) = text.split_first()?;
     if *first == b' ' {
@@ -65,7 +69,8 @@ pub fn next_short(text: &[u8]) -> Option<(u64, &[u8])>
 #[inline]
 pub fn one_number(text: &[u8]) -> Option<u64>
     ensures spelled { IfSome result (λ a. text.now ≡ spaced_words (decimal a ∷ [])) }
-    ensures read { (a : ℕ) → a < 2 ^ 64 → text.now ≡ spaced_words (decimal a ∷ []) → result ≡ Some a }
+    ensures read { (a : ℕ) → a < 2 ^ 64 → text.now ≡ spaced_words (decimal a ∷ [])
+        → result ≡ Some a }
 {
     let (a, rest) = next_number(text)?;
     if rest.is_empty() { Some(a) } else { None }
@@ -74,8 +79,10 @@ pub fn one_number(text: &[u8]) -> Option<u64>
 /// Two numbers, each with a space before it, and nothing after them.
 #[inline]
 pub fn two_numbers(text: &[u8]) -> Option<(u64, u64)>
-    ensures spelled { IfSome result (λ p. text.now ≡ spaced_words (decimal p.0 ∷ decimal p.1 ∷ [])) }
-    ensures read { (a b : ℕ) → a < 2 ^ 64 → b < 2 ^ 64 → text.now ≡ spaced_words (decimal a ∷ decimal b ∷ [])
+    ensures spelled { IfSome result (λ p. text.now
+        ≡ spaced_words (decimal p.0 ∷ decimal p.1 ∷ [])) }
+    ensures read { (a b : ℕ) → a < 2 ^ 64 → b < 2 ^ 64
+        → text.now ≡ spaced_words (decimal a ∷ decimal b ∷ [])
         → result ≡ Some (record { 0 = a; 1 = b }) }
 {
     let (a, rest) = next_number(text)?;
@@ -85,7 +92,8 @@ pub fn two_numbers(text: &[u8]) -> Option<(u64, u64)>
 
 /// Three numbers, each with a space before it, and nothing after them.
 pub fn three_numbers(text: &[u8]) -> Option<(u64, u64, u64)>
-    ensures spelled { IfSome result (λ p. text.now ≡ spaced_words (decimal p.0 ∷ decimal p.1 ∷ decimal p.2 ∷ [])) }
+    ensures spelled { IfSome result (λ p. text.now
+        ≡ spaced_words (decimal p.0 ∷ decimal p.1 ∷ decimal p.2 ∷ [])) }
     ensures read { (a b c : ℕ) → a < 2 ^ 64 → b < 2 ^ 64 → c < 2 ^ 64
         → text.now ≡ spaced_words (decimal a ∷ decimal b ∷ decimal c ∷ [])
         → result ≡ Some (record { 0 = a; 1 = b; 2 = c }) }

@@ -11,11 +11,12 @@ use thiserror::Error;
 #[error("the output cannot be written")]
 pub struct WriteFault;
 
-/// Writes all bytes and flushes. A call that fails is not tried again. Refused where a call fails, an interruption too, or a
-/// write takes nothing; some first bytes are written then. Own.
+/// Writes all bytes and flushes. A call that fails is not tried again. Refused where a call fails,
+/// an interruption too, or a write takes nothing; some first bytes are written then. Own.
 pub fn write_all<W: Write>(writer: &mut W, bytes: &[u8]) -> Result<(), WriteFault>
     ensures ok { OnOk result (Appends (W.contents writer.old) (W.contents writer.new) bytes.now) }
-    ensures err { OnErr result ((n : ℕ) × Appends (W.contents writer.old) (W.contents writer.new) (take n bytes.now)) }
+    ensures err { OnErr result ((n : ℕ)
+        × Appends (W.contents writer.old) (W.contents writer.new) (take n bytes.now)) }
 {
     let mut done = 0;
     while done < bytes.len() {

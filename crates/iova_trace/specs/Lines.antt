@@ -10,11 +10,13 @@ use Rattle.iova_line.specs.LineSteps.{IsStep}
 use Rattle.iova_line.specs.Traces.{IsTrace, trace_text}
 
 -- these bytes are the text of the trace with this header and these steps
-pub record IsWritten (bytes : List ℕ) (bounds : Extent) (workers : ℕ) (steps : List Step) : Type 0 where
+pub record IsWritten (bytes : List ℕ) (bounds : Extent) (workers : ℕ)
+    (steps : List Step) : Type 0 where
   pub good : IsTrace (record { bounds = bounds; workers = workers; steps = steps })
   pub whole : bytes ≡ trace_text (record { bounds = bounds; workers = workers; steps = steps })
 
--- The good lines at the front of some bytes: none, or the header and some steps, which are a trace themselves.
+-- The good lines at the front of some bytes: none, or the header and some steps, which are a trace
+-- themselves.
 
 abbrev pub AreFirstLines : Option Trace → Type 0
 AreFirstLines None = Unit {0}
@@ -35,8 +37,11 @@ next_line_number (Some t) = length t.steps + 2
 
 -- this line, which is without its LF, may stand after them
 abbrev pub MayFollow : Option Trace → List ℕ → Type 0
-MayFollow None line = (bounds : Extent) × (workers : ℕ) × IsHeader bounds workers × (line ≡ header_text bounds workers)
-MayFollow (Some t) line = (length t.steps < MAX_STEPS) × (s : Step) × IsStep s × (line ≡ step_text s)
+MayFollow None line =
+    (bounds : Extent) × (workers : ℕ) × IsHeader bounds workers
+    × (line ≡ header_text bounds workers)
+MayFollow (Some t) line =
+    (length t.steps < MAX_STEPS) × (s : Step) × IsStep s × (line ≡ step_text s)
 
 -- the bytes are these lines and a rest
 pub record BeginsWithLines (bytes : List ℕ) (lines : Option Trace) (rest : List ℕ) : Type 0 where
@@ -62,8 +67,8 @@ abbrev pub IsCutOff : Option Trace → List ℕ → Type 0
 IsCutOff None rest = HasNoLf rest
 IsCutOff (Some t) rest = HasNoLf rest × (rest ≢ [])
 
--- As the whole text of a trace the bytes are refused, and this is the number of the first bad line. One that is too long is bad
--- in one of these ways too, since no line of a trace is as long.
+-- As the whole text of a trace the bytes are refused, and this is the number of the first bad line.
+-- One that is too long is bad in one of these ways too, since no line of a trace is as long.
 pub record IsRefused (bytes : List ℕ) (number : ℕ) : Type 0 where
   pub lines : Option Trace
   pub rest : List ℕ

@@ -1,4 +1,5 @@
--- The log of a replay: what its steps and their replies say of frames and flushes, in the form that a check of logs reads. Own.
+-- The log of a replay: what its steps and their replies say of frames and flushes, in the form that
+-- a check of logs reads. Own.
 use Rattle.std.specs.Prelude.{ℕ, List, [], ◌∷◌, ◌++◌, flat_map, decimal, codes}
 use Rattle.iova_range.specs.Bounds.{Extent}
 use Rattle.iova_text.specs.Words.{line_text, numbers_line}
@@ -12,11 +13,13 @@ use Rattle.iova_line.specs.Text.{outcome_text}
 
 -- the header's line with its LF: the version, and the first and the last frame
 abbrev pub log_header : Extent → List ℕ
-log_header bounds = whole_line (numbers_line (codes "iovalog") (1 ∷ bounds.start ∷ bounds.last ∷ []))
+log_header bounds =
+    whole_line (numbers_line (codes "iovalog") (1 ∷ bounds.start ∷ bounds.last ∷ []))
 
 -- the line of a flush that has ended, by the step that ended it
 abbrev pub end_line : Step → List ℕ
-end_line (step.End number ok) = whole_line (line_text (codes "end") (decimal number ∷ outcome_text ok ∷ []))
+end_line (step.End number ok) =
+    whole_line (line_text (codes "end") (decimal number ∷ outcome_text ok ∷ []))
 end_line (step.Reserve lo hi) = []
 end_line (step.Open worker sac) = []
 end_line (step.Alloc worker client frames limit) = []
@@ -26,8 +29,8 @@ end_line (step.Drain ring by) = []
 end_line (step.Close worker client) = []
 end_line (step.CloseOne worker client) = []
 
--- The line of a step that was answered so, or nothing. What was given is mapped, and what went into a ring is unmapped, by whichever
--- step; a flush begins and ends by its number.
+-- The line of a step that was answered so, or nothing. What was given is mapped, and what went into
+-- a ring is unmapped, by whichever step; a flush begins and ends by its number.
 abbrev pub log_line : Step → Reply → List ℕ
 log_line s (reply.Given r) = whole_line (numbers_line (codes "map") (r.lo ∷ r.len ∷ []))
 log_line s (reply.Queued r) = whole_line (numbers_line (codes "unmap") (r.lo ∷ r.len ∷ []))

@@ -11,14 +11,15 @@ use Rattle.iova_trace.specs.Replies.{reply_text}
 use Rattle.iova_trace.specs.Lines.{BeginsWithLines}
 use Rattle.iova_trace.specs.Replay.{Replays}
 
--- This is the log of some lines whose replies are this text: that of the header's bounds and of each step with its reply, and nothing
--- where there is no header.
+-- This is the log of some lines whose replies are this text: that of the header's bounds and of
+-- each step with its reply, and nothing where there is no header.
 abbrev pub IsLogged : Option Trace → List ℕ → List ℕ → Type 0
 IsLogged None text log = (text ≡ []) × (log ≡ [])
 IsLogged (Some t) text log = (pairs : List Pair) × (map (λ p. p.step) pairs ≡ t.steps)
     × (text ≡ flat_map (λ p. reply_text p.reply) pairs) × (log ≡ log_text t.bounds pairs)
 
--- A log before and now has got the log of the good lines at the front of what was taken, whose replies are what was written.
+-- A log before and now has got the log of the good lines at the front of what was taken, whose
+-- replies are what was written.
 pub record LogsAll (taken written : List ℕ) (before now : Option (List ℕ)) : Type 0 where
   pub lines : Option Trace
   pub rest : List ℕ
@@ -41,14 +42,17 @@ pub record LogsFront (taken written : List ℕ) (before now : Option (List ℕ))
   pub grown : Appends before now (take count log)
 
 -- what each answer says of the log
-abbrev pub TellsOfLog : List ℕ → List ℕ → Option (List ℕ) → Option (List ℕ) → Result (State × ℕ) ReplayFault → Type 0
+abbrev pub TellsOfLog : List ℕ → List ℕ → Option (List ℕ) → Option (List ℕ)
+    → Result (State × ℕ) ReplayFault → Type 0
 TellsOfLog taken written before now (Ok done) = LogsAll taken written before now
 TellsOfLog taken written before now (Err (fault.BadTrace number)) = LogsAll taken written before now
 TellsOfLog taken written before now (Err fault.NoMemory) = LogsFront taken written before now
 TellsOfLog taken written before now (Err fault.ReadFault) = LogsAll taken written before now
 TellsOfLog taken written before now (Err fault.WriteFault) = LogsFront taken written before now
 
--- A reader, a writer and a log before and after: the replay is one without a log, and the log is that of what it took and wrote.
-pub record ReplaysAndLogs (input left output filled before now : Option (List ℕ)) (answer : Result (State × ℕ) ReplayFault) : Type 0 where
+-- A reader, a writer and a log before and after: the replay is one without a log, and the log is
+-- that of what it took and wrote.
+pub record ReplaysAndLogs (input left output filled before now : Option (List ℕ))
+    (answer : Result (State × ℕ) ReplayFault) : Type 0 where
   pub replays : Replays input left output filled answer
   pub logs : TellsOfLog replays.taken replays.written before now answer

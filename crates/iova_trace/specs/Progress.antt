@@ -10,9 +10,10 @@ use Rattle.iova_trace.specs.Lines.{BeginsWithLines, count_steps}
 use Rattle.iova_trace.specs.Replay.{IsReplayed, IsDone, StopsAtBad, StopsAtCut, BreaksOff}
 use Rattle.iova_trace.specs.Logged.{IsLogged, LogsAll, LogsFront}
 
--- What was taken is good lines and the kept part of one. What was written and the kept replies are the replies to them. A log before
--- and now has got theirs.
-pub record Stands (taken written : List ℕ) (before now : Option (List ℕ)) (p : Progress) : Type 0 where
+-- What was taken is good lines and the kept part of one. What was written and the kept replies are
+-- the replies to them. A log before and now has got theirs.
+pub record Stands (taken written : List ℕ) (before now : Option (List ℕ))
+    (p : Progress) : Type 0 where
   pub lines : Option Trace
   pub text : List ℕ
   pub begins : BeginsWithLines taken lines p.line.items
@@ -30,7 +31,8 @@ number_at (Some s) steps = steps + 2
 
 -- from wherever it stood, it takes these bytes and writes these, and the log grows by what they say
 abbrev pub Goes : Progress → Option (List ℕ) → List ℕ → List ℕ → Progress → Option (List ℕ) → Type 0
-Goes old log bytes more new longer = (taken written : List ℕ) (before : Option (List ℕ)) → Stands taken written before log old
+Goes old log bytes more new longer =
+    (taken written : List ℕ) (before : Option (List ℕ)) → Stands taken written before log old
     → Stands (taken ++ bytes) (written ++ more) before longer new
 
 -- what a fault says of all bytes taken and written, but for those of reading
@@ -47,20 +49,28 @@ EndsLog taken written before now fault.NoMemory = LogsFront taken written before
 EndsLog taken written before now fault.ReadFault = ⊥
 EndsLog taken written before now fault.WriteFault = LogsFront taken written before now
 
--- from wherever it stood, it ends with this fault among these bytes, after writing these, and the log is left so
-abbrev pub Stops : Progress → Option (List ℕ) → List ℕ → List ℕ → Option (List ℕ) → ReplayFault → Type 0
-Stops old log bytes more longer e = (taken written : List ℕ) (before : Option (List ℕ)) → Stands taken written before log old
-    → EndsReplay (taken ++ bytes) (written ++ more) e × EndsLog (taken ++ bytes) (written ++ more) before longer e
+-- from wherever it stood, it ends with this fault among these bytes, after writing these, and the
+-- log is left so
+abbrev pub Stops : Progress → Option (List ℕ) → List ℕ → List ℕ → Option (List ℕ) → ReplayFault
+    → Type 0
+Stops old log bytes more longer e =
+    (taken written : List ℕ) (before : Option (List ℕ)) → Stands taken written before log old
+    → EndsReplay (taken ++ bytes) (written ++ more) e
+    × EndsLog (taken ++ bytes) (written ++ more) before longer e
 
 -- these bytes are taken and these written
-abbrev pub Outcome : Progress → Option (List ℕ) → List ℕ → List ℕ → Progress → Option (List ℕ) → Result Unit ReplayFault → Type 0
+abbrev pub Outcome : Progress → Option (List ℕ) → List ℕ → List ℕ → Progress → Option (List ℕ)
+    → Result Unit ReplayFault → Type 0
 Outcome old log bytes more new longer (Ok u) = Goes old log bytes more new longer
 Outcome old log bytes more new longer (Err e) = Stops old log bytes more longer e
 
--- These bytes are taken and nothing is written: it goes on, or it ends once the kept replies are written.
-abbrev pub TakesBytes : Progress → Option (List ℕ) → List ℕ → Progress → Option (List ℕ) → Result Unit ReplayFault → Type 0
+-- These bytes are taken and nothing is written: it goes on, or it ends once the kept replies are
+-- written.
+abbrev pub TakesBytes : Progress → Option (List ℕ) → List ℕ → Progress → Option (List ℕ)
+    → Result Unit ReplayFault → Type 0
 TakesBytes old log bytes new longer (Ok u) = Goes old log bytes [] new longer
-TakesBytes old log bytes new longer (Err e) = Stops old log bytes old.replies.items longer e × (new.replies.items ≡ old.replies.items)
+TakesBytes old log bytes new longer (Err e) =
+    Stops old log bytes old.replies.items longer e × (new.replies.items ≡ old.replies.items)
 
 -- what the end of the input says
 abbrev pub Closes : List ℕ → List ℕ → Result (State × ℕ) ReplayFault → Type 0

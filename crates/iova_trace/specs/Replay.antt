@@ -12,15 +12,17 @@ use Rattle.iova_text.specs.Lines.{IsUnended}
 use Rattle.iova_line.specs.Traces.{IsTrace, trace_text}
 use Rattle.iova_trace.specs.Lines.{next_line_number, BeginsWithLines, IsBad, IsCutOff}
 
--- Lines were replayed: in a new domain, once there is a header, their steps leave this state and are answered by this text.
--- The transcript of these steps keeps the promises.
+-- Lines were replayed: in a new domain, once there is a header, their steps leave this state and
+-- are answered by this text. The transcript of these steps keeps the promises.
 abbrev pub IsReplayed : Option Trace → Option State → List ℕ → Type 0
 IsReplayed None None text = text ≡ []
 IsReplayed (Some t) (Some s) text =
-    (replies : List Reply) × Runs (new_domain t.bounds t.workers) s t.steps [] replies × (text ≡ flat_map reply_text replies)
+    (replies : List Reply) × Runs (new_domain t.bounds t.workers) s t.steps [] replies
+    × (text ≡ flat_map reply_text replies)
 IsReplayed lines state text = ⊥
 
--- all that was taken is a trace, each reply is written, and this is the last state and the number of steps
+-- all that was taken is a trace, each reply is written, and this is the last state and the number
+-- of steps
 pub record IsDone (taken written : List ℕ) (state : State) (steps : ℕ) : Type 0 where
   pub trace : Trace
   pub good : IsTrace trace
@@ -69,15 +71,19 @@ pub record BreaksOff (taken written : List ℕ) : Type 0 where
   pub begun : text ≡ written ++ unwritten
 
 -- what each answer says, where `left` is what the reader has left
-abbrev pub TellsOfReplay : List ℕ → List ℕ → Option (List ℕ) → Result (State × ℕ) ReplayFault → Type 0
+abbrev pub TellsOfReplay : List ℕ → List ℕ → Option (List ℕ) → Result (State × ℕ) ReplayFault
+    → Type 0
 TellsOfReplay taken written left (Ok done) = IsDone taken written done.0 done.1 × IsAtEnd left
-TellsOfReplay taken written left (Err (fault.BadTrace number)) = StopsAtBad taken written number ⊎ (StopsAtCut taken written number × IsAtEnd left)
+TellsOfReplay taken written left (Err (fault.BadTrace number)) =
+    StopsAtBad taken written number ⊎ (StopsAtCut taken written number × IsAtEnd left)
 TellsOfReplay taken written left (Err fault.NoMemory) = BreaksOff taken written
 TellsOfReplay taken written left (Err fault.ReadFault) = StopsInLine taken written
 TellsOfReplay taken written left (Err fault.WriteFault) = BreaksOff taken written
 
--- A reader and a writer before and after, where they tell their bytes: some were taken from the one and some written to the other.
-pub record Replays (input left output filled : Option (List ℕ)) (answer : Result (State × ℕ) ReplayFault) : Type 0 where
+-- A reader and a writer before and after, where they tell their bytes: some were taken from the one
+-- and some written to the other.
+pub record Replays (input left output filled : Option (List ℕ))
+    (answer : Result (State × ℕ) ReplayFault) : Type 0 where
   pub taken : List ℕ
   pub written : List ℕ
   pub takes : Consumes input left taken

@@ -1,4 +1,5 @@
--- The text of a reply: a line of ASCII that ends by LF, whose words have one space between them. Own.
+-- The text of a reply: a line of ASCII that ends by LF, whose words have one space between them.
+-- Own.
 use Rattle.std.specs.Prelude.{ℕ, ◌+◌, ◌-◌, List, [], ◌∷◌, ◌++◌, codes}
 use Rattle.iova_text.specs.Words.{numbers_line, refusal_line}
 use Rattle.iova_model.specs.declared.step.Reply.{Reply}
@@ -8,7 +9,8 @@ use Rattle.iova_model.specs.declared.step.Reply.TheVariants as reply
 
 -- a reply's line with its LF
 abbrev pub reply_text : Reply → List ℕ
-reply_text (reply.Reserved r) = numbers_line (codes "reserved") (r.lo ∷ (r.lo + r.len - 1) ∷ []) ++ 10 ∷ []
+reply_text (reply.Reserved r) =
+    numbers_line (codes "reserved") (r.lo ∷ (r.lo + r.len - 1) ∷ []) ++ 10 ∷ []
 reply_text (reply.Opened serial) = numbers_line (codes "opened") (serial ∷ []) ++ 10 ∷ []
 reply_text (reply.Given r) = numbers_line (codes "given") (r.lo ∷ r.len ∷ []) ++ 10 ∷ []
 reply_text (reply.Queued r) = numbers_line (codes "queued") (r.lo ∷ r.len ∷ []) ++ 10 ∷ []

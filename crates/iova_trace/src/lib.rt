@@ -1,4 +1,5 @@
-//! Traces: the replies written, and whole traces read and replayed. What a trace says, and its lines, are passed on from `iova_line`.
+//! Traces: the replies written, and whole traces read and replayed. What a trace says, and its
+//! lines, are passed on from `iova_line`.
 #![tactic(auto)]
 
 pub mod fault;

@@ -1,4 +1,5 @@
-//! The log of a replay: what its steps and their replies say of frames and flushes, in the form that a check of logs reads.
+//! The log of a replay: what its steps and their replies say of frames and flushes, in the form
+//! that a check of logs reads.
 ghost use Rattle.std.specs.Prelude.{◌≡◌, ◌<◌, ℕ, List, [], Option, None, take, IfOk, OnOk, OnErr};
 ghost use Rattle.std.specs.Io.KnownBytes.{Appends, Keeps};
 ghost use Rattle.iova_trace.specs.Log.{log_header, log_line, end_line};
@@ -15,16 +16,18 @@ pub trait Log {
     /// The bytes that were written, where they are known.
     ghost contents: { Self → Option (List ℕ) };
 
-    /// Writes the header's line. Refused where a write fails, an interruption too, or takes nothing; some first bytes are
-    /// written then.
+    /// Writes the header's line. Refused where a write fails, an interruption too, or takes
+    /// nothing; some first bytes are written then.
     fn log_bounds(&mut self, bounds: &Bounds) -> Result<(), WriteFault>
-        ensures ok { OnOk result (Appends (contents self.old) (contents self.new) (log_header bounds.now)) }
+        ensures ok { OnOk result (Appends (contents self.old) (contents self.new)
+            (log_header bounds.now)) }
         ensures err { OnErr result ((n : ℕ) × Appends (contents self.old) (contents self.new)
             (take n (log_header bounds.now))) };
 
     /// Writes the line of a step that was answered so, if it has one. Refused as the header is.
     fn log_step(&mut self, step: &Step, reply: &Reply) -> Result<(), WriteFault>
-        ensures ok { OnOk result (Appends (contents self.old) (contents self.new) (log_line step.now reply.now)) }
+        ensures ok { OnOk result (Appends (contents self.old) (contents self.new)
+            (log_line step.now reply.now)) }
         ensures err { OnErr result ((n : ℕ) × Appends (contents self.old) (contents self.new)
             (take n (log_line step.now reply.now))) };
 
@@ -56,7 +59,8 @@ impl Log for NoLog {
     }
 }
 
-/// A log that is written to a writer, a line in a write: so that writer had better keep small writes back.
+/// A log that is written to a writer, a line in a write: so that writer had better keep small
+/// writes back.
 pub struct LogWriter<W: Write> {
     writer: W,
 }
@@ -96,15 +100,16 @@ impl<W: Write> Log for LogWriter<W> {
     }
 }
 
-/// Writes the line of a step that was answered so, if it has one: `map` for what was given, `unmap` for what went into a ring,
-/// `begin` and `end` for a flush. Refused where a write fails, an interruption too, or takes nothing; some first bytes of the
-/// line are written then.
+/// Writes the line of a step that was answered so, if it has one: `map` for what was given, `unmap`
+/// for what went into a ring, `begin` and `end` for a flush. Refused where a write fails, an
+/// interruption too, or takes nothing; some first bytes of the line are written then.
 pub fn write_log_line<W: Write>(
     step: &Step,
     reply: &Reply,
     writer: &mut W,
 ) -> Result<(), WriteFault>
-    ensures ok { OnOk result (Appends (W.contents writer.old) (W.contents writer.new) (log_line step.now reply.now)) }
+    ensures ok { OnOk result (Appends (W.contents writer.old) (W.contents writer.new)
+        (log_line step.now reply.now)) }
     ensures err { OnErr result ((n : ℕ) × Appends (W.contents writer.old) (W.contents writer.new)
         (take n (log_line step.now reply.now))) }
 {
@@ -115,7 +120,8 @@ pub fn write_log_line<W: Write>(
 
 /// Writes the header's line of a log in these bounds. Refused as a line is.
 pub fn write_log_header<W: Write>(bounds: &Bounds, writer: &mut W) -> Result<(), WriteFault>
-    ensures ok { OnOk result (Appends (W.contents writer.old) (W.contents writer.new) (log_header bounds.now)) }
+    ensures ok { OnOk result (Appends (W.contents writer.old) (W.contents writer.new)
+        (log_header bounds.now)) }
     ensures err { OnErr result ((n : ℕ) × Appends (W.contents writer.old) (W.contents writer.new)
         (take n (log_header bounds.now))) }
 {
@@ -158,10 +164,12 @@ fn put_end(step: &Step, out: &mut LineBuffer)
     }
 }
 
-/// Writes all bytes, and leaves it to the writer when it hands them on. A call that fails is not tried again.
+/// Writes all bytes, and leaves it to the writer when it hands them on. A call that fails is not
+/// tried again.
 fn write_bytes<W: Write>(writer: &mut W, bytes: &[u8]) -> Result<(), WriteFault>
     ensures ok { OnOk result (Appends (W.contents writer.old) (W.contents writer.new) bytes.now) }
-    ensures err { OnErr result ((n : ℕ) × Appends (W.contents writer.old) (W.contents writer.new) (take n bytes.now)) }
+    ensures err { OnErr result ((n : ℕ)
+        × Appends (W.contents writer.old) (W.contents writer.new) (take n bytes.now)) }
 {
     let mut done = 0;
     while done < bytes.len() {

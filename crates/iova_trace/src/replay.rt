@@ -25,15 +25,17 @@ use std::io::{Read, Write};
 /// How many bytes are read, or gathered before they are written.
 const BUFFER: usize = 65_536;
 
-/// Replays a trace: reads its lines, runs its steps in a new domain, and writes a line for each reply. It gives the domain
-/// as the last step left it, and the number of steps. One line is kept at a time, and replies are written before each
-/// read, so that a peer that waits for a reply gets it.
+/// Replays a trace: reads its lines, runs its steps in a new domain, and writes a line for each
+/// reply. It gives the domain as the last step left it, and the number of steps. One line is kept
+/// at a time, and replies are written before each read, so that a peer that waits for a reply gets
+/// it.
 ///
-/// The answer is the fault of the earliest line. `BadTrace` where a line is none of a trace's, where it is the line of step
-/// 1,000,001, or where the input ends in a line without LF; the replies to the lines before it are written. `ReadFault`
-/// where a read fails, an interruption too, or after 134,217,728 reads; the replies to all whole lines are written.
-/// `WriteFault` where a write fails or takes nothing, and `NoMemory`: some first bytes of the replies are written.
-/// Our own.
+/// The answer is the fault of the earliest line. `BadTrace` where a line is none of a trace's,
+/// where it is the line of step 1,000,001, or where the input ends in a line without LF; the
+/// replies to the lines before it are written. `ReadFault` where a read fails, an interruption too,
+/// or after 134,217,728 reads; the replies to all whole lines are written. `WriteFault` where a
+/// write fails or takes nothing, and `NoMemory`: some first bytes of the replies are written. Our
+/// own.
 pub fn replay<R: Read, W: Write>(
     alloc: Global,
     reader: &mut R,
@@ -45,9 +47,10 @@ pub fn replay<R: Read, W: Write>(
     replay_and_log(alloc, reader, writer, &mut NoLog)
 }
 
-/// Replays a trace as `replay` does, and writes its log: the header, and the line of each step that has one, as it is run.
-/// `WriteFault` also where the log can't be written or handed on. The log has what was said by the lines whose replies are
-/// written; at `WriteFault` and `NoMemory` some first bytes of that. Our own.
+/// Replays a trace as `replay` does, and writes its log: the header, and the line of each step that
+/// has one, as it is run. `WriteFault` also where the log can't be written or handed on. The log
+/// has what was said by the lines whose replies are written; at `WriteFault` and `NoMemory` some
+/// first bytes of that. Our own.
 pub fn replay_and_log<R: Read, W: Write, L: Log>(
     alloc: Global,
     reader: &mut R,
@@ -55,7 +58,8 @@ pub fn replay_and_log<R: Read, W: Write, L: Log>(
     log: &mut L,
 ) -> Result<(Domain, u64), ReplayFault>
     ensures { ReplaysAndLogs (R.remaining reader.old) (R.remaining reader.new)
-        (W.contents writer.old) (W.contents writer.new) (L.contents log.old) (L.contents log.new) result }
+        (W.contents writer.old) (W.contents writer.new) (L.contents log.old) (L.contents log.new)
+        result }
 {
     let replayed = replay_lines(alloc, reader, writer, log);
     let flushed = log.flush();
@@ -86,7 +90,8 @@ fn replay_lines<R: Read, W: Write, L: Log>(
     log: &mut L,
 ) -> Result<(Domain, u64), ReplayFault>
     ensures { ReplaysAndLogs (R.remaining reader.old) (R.remaining reader.new)
-        (W.contents writer.old) (W.contents writer.new) (L.contents log.old) (L.contents log.new) result }
+        (W.contents writer.old) (W.contents writer.new) (L.contents log.old) (L.contents log.new)
+        result }
 {
     let mut input: Vec<u8> = vec![in alloc; 0u8; BUFFER]?;
     let mut progress = Progress::new(alloc)?;
@@ -152,8 +157,10 @@ impl Progress {
         writer: &mut W,
         log: &mut L,
     ) -> Result<(), ReplayFault>
-        ensures outcome { (more : List ℕ) × Appends (W.contents writer.old) (W.contents writer.new) more
-            × Outcome self.old (L.contents log.old) piece.now more self.new (L.contents log.new) result }
+        ensures outcome { (more : List ℕ)
+            × Appends (W.contents writer.old) (W.contents writer.new) more
+            × Outcome self.old (L.contents log.old) piece.now more self.new (L.contents log.new)
+            result }
         ensures written { OnOk result (self.new.replies.items ≡ []) }
     {
         let mut rest = piece;
@@ -167,8 +174,8 @@ impl Progress {
         kept
     }
 
-    /// Takes the rest of a line, without its LF, and writes the replies where they are many. Where the line is
-    /// refused, the replies to those before it are written first.
+    /// Takes the rest of a line, without its LF, and writes the replies where they are many. Where
+    /// the line is refused, the replies to those before it are written first.
     fn reply_to_line<W: Write, L: Log>(
         &mut self,
         end: &[u8],
@@ -177,7 +184,8 @@ impl Progress {
     ) -> Result<(), ReplayFault>
         requires { HasNoLf end.now }
         ensures { (more : List ℕ) × Appends (W.contents writer.old) (W.contents writer.new) more
-            × Outcome self.old (L.contents log.old) (whole_line end.now) more self.new (L.contents log.new) result }
+            × Outcome self.old (L.contents log.old) (whole_line end.now) more self.new
+            (L.contents log.new) result }
     {
         let ended = self.complete_line(end, log);
         if ended.is_err() || self.replies.len() > BUFFER - MAX_LINE {
@@ -189,7 +197,8 @@ impl Progress {
     /// Takes the rest of a line, without its LF.
     fn complete_line<L: Log>(&mut self, end: &[u8], log: &mut L) -> Result<(), ReplayFault>
         requires { HasNoLf end.now }
-        ensures { TakesBytes self.old (L.contents log.old) (whole_line end.now) self.new (L.contents log.new) result }
+        ensures { TakesBytes self.old (L.contents log.old) (whole_line end.now) self.new
+            (L.contents log.new) result }
     {
         if self.line.is_empty() {
             return self.run_line(end, log);
@@ -202,7 +211,8 @@ impl Progress {
     /// Keeps what has come of a line. One of 128 bytes without an LF is refused.
     fn keep_part(&mut self, bytes: &[u8]) -> Result<(), ReplayFault>
         requires { HasNoLf bytes.now }
-        ensures takes { (log : Option (List ℕ)) → TakesBytes self.old log bytes.now self.new log result }
+        ensures takes { (log : Option (List ℕ))
+            → TakesBytes self.old log bytes.now self.new log result }
         ensures replies { self.new.replies.items ≡ self.old.replies.items }
     {
         if self.line.len() + bytes.len() >= MAX_LINE {
@@ -216,7 +226,8 @@ impl Progress {
     fn run_line<L: Log>(&mut self, line: &[u8], log: &mut L) -> Result<(), ReplayFault>
         requires one { HasNoLf line.now }
         requires fresh { self.old.line.items ≡ [] }
-        ensures { TakesBytes self.old (L.contents log.old) (whole_line line.now) self.new (L.contents log.new) result }
+        ensures { TakesBytes self.old (L.contents log.old) (whole_line line.now) self.new
+            (L.contents log.new) result }
     {
         // for the proof: the steps so far keep the promises
         promises_are_kept();
@@ -247,7 +258,8 @@ impl Progress {
         requires one { HasNoLf line.now }
         requires fresh { self.old.line.items ≡ [] }
         requires first { self.old.domain ≡ None }
-        ensures { TakesBytes self.old (L.contents log.old) (whole_line line.now) self.new (L.contents log.new) result }
+        ensures { TakesBytes self.old (L.contents log.old) (whole_line line.now) self.new
+            (L.contents log.new) result }
     {
         // for the proof: so does a new domain
         promises_are_kept();
@@ -269,11 +281,13 @@ impl Progress {
 
     /// Writes the replies that have been gathered.
     fn write_replies<W: Write>(&mut self, writer: &mut W) -> Result<(), ReplayFault>
-        ensures ok { OnOk result (Appends (W.contents writer.old) (W.contents writer.new) self.old.replies.items) }
+        ensures ok { OnOk result (Appends (W.contents writer.old) (W.contents writer.new)
+            self.old.replies.items) }
         ensures none { OnOk result (self.new.replies.items ≡ []) }
         ensures same { self.new ≡ record self.old { replies = self.new.replies } }
         ensures err { IfErr result (λ e. (e ≡ ReplayFault.WriteFault)
-            × ((n : ℕ) × Appends (W.contents writer.old) (W.contents writer.new) (take n self.old.replies.items))) }
+            × ((n : ℕ) × Appends (W.contents writer.old) (W.contents writer.new)
+            (take n self.old.replies.items))) }
     {
         if self.replies.is_empty() {
             return Ok(());
@@ -286,7 +300,8 @@ impl Progress {
     /// What the replay comes to where the trace ends here.
     fn finish(self) -> Result<(Domain, u64), ReplayFault>
         requires { self.replies.items ≡ [] }
-        ensures { (taken written : List ℕ) (before now : Option (List ℕ)) → Stands taken written before now self
+        ensures { (taken written : List ℕ) (before now : Option (List ℕ))
+            → Stands taken written before now self
             → Closes taken written result }
     {
         let number = self.number();
@@ -307,10 +322,12 @@ impl Progress {
     }
 }
 
-/// Reads once, and gives how many bytes came, none only at the end. Any error is a fault, an interruption too.
+/// Reads once, and gives how many bytes came, none only at the end. Any error is a fault, an
+/// interruption too.
 fn read_some<R: Read>(reader: &mut R, buffer: &mut [u8]) -> Result<usize, ReplayFault>
     requires { 0 < length buffer.old }
-    ensures ok { IfOk result (λ len. Consumes (R.remaining reader.old) (R.remaining reader.new) (take len buffer.new)) }
+    ensures ok { IfOk result (λ len. Consumes (R.remaining reader.old) (R.remaining reader.new)
+        (take len buffer.new)) }
     ensures bound { IfOk result (λ len. len ≤ length buffer.new) }
     ensures end { IfOk result (λ len. len ≡ 0 → IsAtEnd (R.remaining reader.new)) }
     ensures err { OnErr result ((result ≡ Err ReplayFault.ReadFault)

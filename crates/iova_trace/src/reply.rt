@@ -11,7 +11,8 @@ use iova_text::buffer::{LineBuffer, append, put, put_numbers};
 /// The most bytes that a reply's line has, with its LF.
 pub const MAX_REPLY: usize = 64;
 
-/// Appends the reply's line with its LF, at most 64 bytes, for which there is room. It takes no memory. Our own form.
+/// Appends the reply's line with its LF, at most 64 bytes, for which there is room. It takes no
+/// memory. Our own form.
 pub fn put_reply(reply: &Reply, out: &mut LineBuffer)
     requires { length out.old.items + MAX_REPLY ≤ MAX_LINE }
     ensures items { out.new.items ≡ out.old.items ++ reply_text reply.now }
@@ -32,12 +33,13 @@ pub fn put_reply(reply: &Reply, out: &mut LineBuffer)
     put(out, b"\n");
 }
 
-/// Appends the reply's line with its LF. Refused by `NoMemory`, which appends nothing and comes only where
-/// `out` has to grow. Our own form.
+/// Appends the reply's line with its LF. Refused by `NoMemory`, which appends nothing and comes
+/// only where `out` has to grow. Our own form.
 pub fn write_reply(reply: &Reply, out: &mut Vec<u8>) -> Result<(), Refusal>
     ensures ok { OnOk result (out.new.items ≡ out.old.items ++ reply_text reply.now) }
     ensures err { OnErr result ((result ≡ Err Refusal.NoMemory) × (out.new.items ≡ out.old.items)) }
-    ensures full { OnErr result (vec_capacity out.old < vec_len out.old + length (reply_text reply.now)) }
+    ensures full { OnErr result (vec_capacity out.old < vec_len out.old + length
+        (reply_text reply.now)) }
 {
     let mut text = LineBuffer::new();
     put_reply(reply, &mut text);

@@ -17,17 +17,18 @@ use iova_line::trace::{Steps, Trace, next_step};
 use iova_text::line::cut_line;
 use std::alloc::Global;
 
-/// Reads the whole text of a trace: the line of its header, and a line for each of its steps, at most 1,000,000, each line
-/// with its LF.
+/// Reads the whole text of a trace: the line of its header, and a line for each of its steps, at
+/// most 1,000,000, each line with its LF.
 ///
-/// Refused by `BadTrace` with the number of the first line that is another one, the header being line 1, or in which the
-/// text ends; and by `NoMemory`. Our own.
+/// Refused by `BadTrace` with the number of the first line that is another one, the header being
+/// line 1, or in which the text ends; and by `NoMemory`. Our own.
 pub fn read_trace(alloc: Global, text: &[u8]) -> Result<Trace, ReplayFault>
     ensures ok { IfOk result (λ trace. IsTrace trace × (text.now ≡ trace_text trace)) }
     ensures err { IfErr result (IsFaultOf text.now) }
 
     // It is the only reading, and the first bad line has one number.
-    ensures whole { (trace : T) → IsTrace trace → text.now ≡ trace_text trace → IsUnlessOutOfMemory (Ok trace) result }
+    ensures whole { (trace : T) → IsTrace trace → text.now ≡ trace_text trace
+        → IsUnlessOutOfMemory (Ok trace) result }
     ensures refused { (number : ℕ) → IsRefused text.now number
         → IsUnlessOutOfMemory (Err (ReplayFault.BadTrace number)) result }
 {
@@ -58,18 +59,21 @@ pub fn read_trace(alloc: Global, text: &[u8]) -> Result<Trace, ReplayFault>
     })
 }
 
-/// The first bad line of a text has one number, and a trace has none. Where a replay has stopped at a bad line, it is that of
-/// the whole input, whatever comes after what was taken.
+/// The first bad line of a text has one number, and a trace has none. Where a replay has stopped at
+/// a bad line, it is that of the whole input, whatever comes after what was taken.
 pub fn first_bad_line()
-    ensures unique_number { (text : List ℕ) (n m : ℕ) → IsRefused text n → IsRefused text m → n ≡ m }
+    ensures unique_number { (text : List ℕ) (n m : ℕ) → IsRefused text n → IsRefused text m
+        → n ≡ m }
     ensures no_trace { (text : List ℕ) (n : ℕ) (trace : T) → IsRefused text n → IsTrace trace
         → text ≢ trace_text trace }
-    ensures stops { (taken written more : List ℕ) (n : ℕ) → StopsAtBad taken written n → IsRefused (taken ++ more) n }
+    ensures stops { (taken written more : List ℕ) (n : ℕ) → StopsAtBad taken written n
+        → IsRefused (taken ++ more) n }
 {}
 
-/// What `write_header` writes of good bounds and 1 to 16 workers is the text of a trace without steps, and what `write_step`
-/// writes after the text of a trace, of fewer than 1,000,000 steps, makes it that of the trace with this step more. So the
-/// lines that are written are read back by `read_trace` as that header and those steps.
+/// What `write_header` writes of good bounds and 1 to 16 workers is the text of a trace without
+/// steps, and what `write_step` writes after the text of a trace, of fewer than 1,000,000 steps,
+/// makes it that of the trace with this step more. So the lines that are written are read back by
+/// `read_trace` as that header and those steps.
 pub fn written_lines_are_a_trace()
     ensures header { (bounds : Extent) (workers : ℕ) → IsHeader bounds workers
         → IsWritten (header_text bounds workers ++ 10 ∷ []) bounds workers [] }

@@ -16,9 +16,12 @@ abbrev pub higher : Option ℕ → Option ℕ → Option ℕ
 higher (Some s) o = Some s
 higher None o = o
 
--- the greatest multiple of the alignment from which the frames end by until, if it is not below from
+-- the greatest multiple of the alignment from which the frames end by until, if it is not below
+-- from
 abbrev pub place : ℕ → ℕ → Wanted → Option ℕ
-place from until w = if nat_lt until w.size then None else (let s = (until - w.size) / w.align * w.align in if nat_lt s from then None else Some s)
+place from until w =
+    if nat_lt until w.size then None else
+    (let s = (until - w.size) / w.align * w.align in if nat_lt s from then None else Some s)
 
 -- the highest place in a gap below one of the ranges and above e
 abbrev pub highest_after : Wanted → ℕ → List Span → Option ℕ

@@ -41,7 +41,8 @@ pub record IsBalanced (by : ℕ) (n : Node) : Type 0 where
 
 -- the summary of a subtree with these ranges and this height
 abbrev pub summary_of_spans : List Span → ℕ → Summary
-summary_of_spans s h = record { first = first_lo s; end = end_after 0 s; room = room_between s; height = h }
+summary_of_spans s h =
+    record { first = first_lo s; end = end_after 0 s; room = room_between s; height = h }
 
 abbrev pub node_summary : Node → Summary
 node_summary n = summary_of_spans (node_spans n) (node_height n)
@@ -58,7 +59,8 @@ IsSubtree s (Some b) = IsSummedUp s b.value
 
 -- the height h of what a node with sides l and r settles to
 abbrev pub IsHeightAfterRebalance : ℕ → ℕ → ℕ → Type 0
-IsHeightAfterRebalance l r h = (max l r ≤ h) × (h ≤ max l r + 1) × (DifferByAtMost 1 l r → h ≡ max l r + 1)
+IsHeightAfterRebalance l r h =
+    (max l r ≤ h) × (h ≤ max l r + 1) × (DifferByAtMost 1 l r → h ≡ max l r + 1)
 
 -- the new node is balanced, has the same ranges, and has a height that its old sides allow
 pub record Rebalances (n m : Node) : Type 0 where
@@ -103,7 +105,8 @@ pub record HasSameSummary (n m : Node) : Type 0 where
 pub record TakesBelow (x : Span) (n m : Node) : Type 0 where
   pub spans : node_spans n ≡ with_span x (node_spans m)
   pub balanced : IsBalanced 2 m
-  pub settles : (h : ℕ) → IsHeightAfterRebalance m.left.1 m.right.1 h → (h ≤ node_height n) × (node_height n ≤ h + 1)
+  pub settles : (h : ℕ) → IsHeightAfterRebalance m.left.1 m.right.1 h
+      → (h ≤ node_height n) × (node_height n ≤ h + 1)
 
 -- the ranges with that of the newest node, where there is one
 abbrev pub with_newest : Option (Box Node Global) → List Span → List Span

@@ -10,7 +10,8 @@ use Rattle.iova_model.specs.Fit.{is_clear, is_covered}
 use Rattle.iova_model.specs.Next.{first_refusal, from_to, windows_with}
 use Rattle.iova_tree.specs.Spans.{Span, IsRisingFrom, end_after, inserted_of, windows_of}
 
--- What a `Tree` is seen as: the bounds; the ranges that were inserted; the windows. Both rise by first frame.
+-- What a `Tree` is seen as: the bounds; the ranges that were inserted; the windows. Both rise by
+-- first frame.
 pub record Space : Type 0 where
   pub bounds : Extent
   pub inserted : List Frames
@@ -33,7 +34,8 @@ pub record IsInside (bounds : Extent) (r : Frames) : Type 0 where
 
 -- the frame is inside the bounds and in no allocated range
 abbrev pub IsFree : ℕ → Space → Type 0
-IsFree frame s = (s.bounds.start ≤ frame) × (frame ≤ s.bounds.last) × (is_covered frame (ranges_of s) ≡ false)
+IsFree frame s =
+    (s.bounds.start ≤ frame) × (frame ≤ s.bounds.last) × (is_covered frame (ranges_of s) ≡ false)
 
 -- what each tree keeps: no two of the ranges have a frame in common
 pub record IsSpace (s : Space) : Type 0 where
@@ -47,7 +49,8 @@ pub record IsSpace (s : Space) : Type 0 where
 abbrev pub LieWithin : ℕ → List Span → ℕ → Type 0
 LieWithin from spans until = IsRisingFrom from spans × (end_after from spans ≤ until)
 
--- what a tree's fields keep: all ranges lie in the bounds, apart, and the list of windows has those that are windows
+-- what a tree's fields keep: all ranges lie in the bounds, apart, and the list of windows has those
+-- that are windows
 pub record IsTreeKept (b : Extent) (spans : List Span) (ws : List Frames) : Type 0 where
   pub bounds : IsExtent b
   pub within : LieWithin b.start spans (b.last + 1)
@@ -56,7 +59,8 @@ pub record IsTreeKept (b : Extent) (spans : List Span) (ws : List Frames) : Type
 
 -- what these fields are seen as
 abbrev pub space_of : Extent → List Span → List Frames → Space
-space_of bounds spans windows = record { bounds = bounds; inserted = inserted_of spans; windows = windows }
+space_of bounds spans windows =
+    record { bounds = bounds; inserted = inserted_of spans; windows = windows }
 
 -- Windows.
 

@@ -1,5 +1,5 @@
-//! The newest range stands beside the others until so many others come that it has to join them: a range that goes before
-//! that never joins them.
+//! The newest range stands beside the others until so many others come that it has to join them: a
+//! range that goes before that never joins them.
 ghost use Rattle.std.specs.Prelude.{◌≡◌};
 
 use crate::ranges::Ranges;
@@ -52,8 +52,8 @@ impl<R: Ranges + Drop> Ranges for Beside<R> {
         }
     }
 
-    // A range that stands beside the others is taken from there. Else all of these join the tree, so that a search after it
-    // finds none in its way.
+    // A range that stands beside the others is taken from there. Else all of these join the tree,
+    // so that a search after it finds none in its way.
     #[inline]
     fn remove(&mut self, lo: u64) -> Box<Node> {
         if let Some(node) = self.take_newest(lo) {

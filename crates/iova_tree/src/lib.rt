@@ -1,4 +1,5 @@
-//! The allocated ranges of a domain, its windows among them, and the highest place where a request fits between them.
+//! The allocated ranges of a domain, its windows among them, and the highest place where a request
+//! fits between them.
 #![tactic(auto)]
 
 mod beside;

@@ -28,10 +28,11 @@ pub trait Ranges {
         requires few { length (spans self.old) ≤ 2 ^ 40 }
         ensures { IsTakenOut lo result.value (spans self.old) (spans self.new) };
 
-    /// Takes out the node of the range that begins at `lo`, if it is quickly at hand: one that stands beside the others. `None`
-    /// says only that nothing was taken. It takes no memory.
+    /// Takes out the node of the range that begins at `lo`, if it is quickly at hand: one that
+    /// stands beside the others. `None` says only that nothing was taken. It takes no memory.
     fn take_newest(&mut self, lo: u64) -> Option<Box<Node>>
-        ensures taken { IfSome result (λ node. IsTakenOut lo node.value (spans self.old) (spans self.new)) }
+        ensures taken { IfSome result (λ node. IsTakenOut lo node.value (spans self.old)
+            (spans self.new)) }
         ensures none { IfNone result (spans self.new ≡ spans self.old) };
 
     /// The highest place from `start` on: above all ranges, between two neighbours, or below all.
@@ -44,8 +45,10 @@ pub trait Ranges {
     fn covers(&self, frame: u64) -> bool
         ensures { result ≡ is_covered frame (all_of (spans self.now)) };
 
-    /// Whether one of the ranges that are no windows has a frame in common with those from `lo` on, below `end`.
+    /// Whether one of the ranges that are no windows has a frame in common with those from `lo` on,
+    /// below `end`.
     fn meets_inserted(&self, lo: u64, end: u64) -> bool
         requires { lo < end }
-        ensures { result ≡ list_any (meets (record { lo = lo; len = end - lo })) (inserted_of (spans self.now)) };
+        ensures { result ≡ list_any (meets (record { lo = lo; len = end - lo }))
+            (inserted_of (spans self.now)) };
 }

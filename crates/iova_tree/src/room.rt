@@ -4,16 +4,17 @@ ghost use Rattle.iova_tree.specs.Room.{room, FitsBetween};
 
 use iova_range::limits::MAX_FRAMES;
 
-/// The greatest size of a request, 1 to 1,048,576, that fits aligned into the frames from `from` on and below `until`;
-/// 0 where none does.
+/// The greatest size of a request, 1 to 1,048,576, that fits aligned into the frames from `from` on
+/// and below `until`; 0 where none does.
 ///
-/// Of these frames one has the most factors of two. From it on every size fits that ends by `until`, and below it
-/// powers of two alone.
+/// Of these frames one has the most factors of two. From it on every size fits that ends by
+/// `until`, and below it powers of two alone.
 #[inline]
 pub fn room_of(from: u64, until: u64) -> u32
     requires { 1 ≤ from }
     ensures greatest { result ≡ room from until }
-    ensures prunes_no_fit { (size : ℕ) → 1 ≤ size → size ≤ MAX_FRAMES → FitsBetween from until size → size ≤ result }
+    ensures prunes_no_fit { (size : ℕ) → 1 ≤ size → size ≤ MAX_FRAMES → FitsBetween from until size
+        → size ≤ result }
     ensures fits { 1 ≤ result → FitsBetween from until result }
 {
     if from >= until {
@@ -31,8 +32,8 @@ pub fn room_of(from: u64, until: u64) -> u32
     best.min(MAX_FRAMES) as u32
 }
 
-/// The greater of `known` and of the room of the frames from `from` on and below `until`. Where these frames are not
-/// more than `known`, their room isn't computed.
+/// The greater of `known` and of the room of the frames from `from` on and below `until`. Where
+/// these frames are not more than `known`, their room isn't computed.
 #[inline]
 pub fn room_with(known: u32, from: u64, until: u64) -> u32
     requires { 1 ≤ from }

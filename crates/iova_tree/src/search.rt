@@ -11,7 +11,8 @@ pub struct Wanted {
     pub cap: u64,
 }
 
-/// The greatest multiple of the alignment from which the frames lie from `from` on and below `until`, if there is one.
+/// The greatest multiple of the alignment from which the frames lie from `from` on and below
+/// `until`, if there is one.
 #[inline]
 pub fn place_in(from: u64, until: u64, wanted: &Wanted) -> Option<u64>
     requires { IsPowerOfTwo wanted.now.align }

@@ -1,6 +1,6 @@
-//! A balanced tree of ranges that rise apart. A link knows of the ranges below it where they begin and end, how high
-//! they stand, and the greatest size that fits aligned into a gap between two neighbours: so a search enters no part
-//! of the tree in which nothing fits.
+//! A balanced tree of ranges that rise apart. A link knows of the ranges below it where they begin
+//! and end, how high they stand, and the greatest size that fits aligned into a gap between two
+//! neighbours: so a search enters no part of the tree in which nothing fits.
 ghost use Rattle.std.specs.Prelude.{◌≡◌, ◌+◌, ◌^◌, ◌<◌, ◌≤◌, max, [], ◌∷◌, ◌++◌, ◌-◌};
 ghost use Rattle.std.specs.Prelude.{true, false, ◌&&◌, length, IfOk, Some};
 ghost use Rattle.std.specs.Int.{IsPowerOfTwo};
@@ -17,8 +17,9 @@ use std::alloc::{AllocError, Global};
 use std::marker::Model;
 use std::mem;
 
-/// What a link knows of the ranges below it: where the first begins and the last ends, the greatest size that fits
-/// aligned between two neighbours, and how many nodes stand on one another. All 0 where there is none.
+/// What a link knows of the ranges below it: where the first begins and the last ends, the greatest
+/// size that fits aligned between two neighbours, and how many nodes stand on one another. All 0
+/// where there is none.
 #[derive(Clone, Copy, Drop)]
 struct Summary {
     first: u64,
@@ -35,7 +36,8 @@ pub struct Subtree {
     root: Option<Box<Node>>,
 }
 
-/// The frames from `lo` on and below `end`, which are a window or were inserted, between those of the two sides.
+/// The frames from `lo` on and below `end`, which are a window or were inserted, between those of
+/// the two sides.
 #[cycle(ranges)]
 #[derive(Drop)]
 pub struct Node {
@@ -129,8 +131,8 @@ impl Subtree {
         self.summary.room
     }
 
-    // The greater of `known`, which is no less than the room between two neighbours, and of the room between `end` and
-    // the lowest range.
+    // The greater of `known`, which is no less than the room between two neighbours, and of the
+    // room between `end` and the lowest range.
     #[inline]
     fn room_after(&self, end: u64, known: u32) -> u32
         requires some { 1 ≤ end }
@@ -144,8 +146,8 @@ impl Subtree {
         }
     }
 
-    // The greater of `known`, which is no less than the room between two neighbours, and of the room between the highest
-    // range and `lo`.
+    // The greater of `known`, which is no less than the room between two neighbours, and of the
+    // room between the highest range and `lo`.
     #[inline]
     fn room_below(&self, lo: u64, known: u32) -> u32
         requires { room_between self.now.0 ≤ known }
@@ -205,7 +207,8 @@ impl Subtree {
         first
     }
 
-    // Takes out the node of the range that begins at `lo`; tells whether room or height have changed.
+    // Takes out the node of the range that begins at `lo`; tells whether room or height have
+    // changed.
     #[cycle(take)]
     fn take(&mut self, lo: u64) -> (Box<Node>, bool)
         requires held { Holds lo self.old.0 }
@@ -378,7 +381,8 @@ impl Ranges for Subtree {
 impl Node {
     /// A node of its own.
     pub fn single(alloc: Global, lo: u64, end: u64, window: bool) -> Result<Box<Self>, AllocError>
-        ensures own { IfOk result (λ node. own_span node.value ≡ record { lo = lo; end = end; window = window }) }
+        ensures own { IfOk result (λ node. own_span node.value
+            ≡ record { lo = lo; end = end; window = window }) }
         ensures single { IfOk result (λ node. IsSingle node.value) }
     {
         let node = Box::new(
@@ -561,7 +565,8 @@ fn renew(node: &mut Box<Node>, summary: &mut Summary) -> bool
     ensures rebalances { Rebalances node.old.value node.new.value }
     ensures is { summary.new ≡ node_summary node.new.value }
     ensures low { IsLow (node_spans node.new.value) (node_height node.new.value) }
-    ensures same { result ≡ false → (summary.new.height ≡ summary.old.height) × (summary.new.room ≡ summary.old.room) }
+    ensures same { result ≡ false → (summary.new.height ≡ summary.old.height)
+        × (summary.new.room ≡ summary.old.room) }
 {
     rebalance(node);
     let new = summary_of(node);

@@ -53,7 +53,8 @@ impl Model for Tree {
 impl Tree {
     /// A tree with nothing allocated.
     pub fn new(alloc: Global, bounds: Bounds) -> Result<Self, Refusal>
-        ensures value { IfOk result (λ t. t ≡ record { bounds = bounds; inserted = []; windows = [] }) }
+        ensures value { IfOk result (λ t. t
+            ≡ record { bounds = bounds; inserted = []; windows = [] }) }
         ensures space { IfOk result IsSpace }
         ensures refused { OnErr result (result ≡ Err Refusal.NoMemory) }
     {
@@ -75,10 +76,11 @@ impl Tree {
         self.bounds
     }
 
-    /// The greatest first frame from which `size` frames fit, `size` being 1 to 1,048,576: aligned to `align_of(size)`,
-    /// inside the bounds, none above `limit`, and all free. None where nothing fits. The search enters no part of the
-    /// tree in which nothing fits or that lies above the limit (own: the kernel walks from where it remembers, Linux 5.15
-    /// `drivers/iommu/iova.c`: `__alloc_and_insert_iova_range`).
+    /// The greatest first frame from which `size` frames fit, `size` being 1 to 1,048,576: aligned
+    /// to `align_of(size)`, inside the bounds, none above `limit`, and all free. None where nothing
+    /// fits. The search enters no part of the tree in which nothing fits or that lies above the
+    /// limit (own: the kernel walks from where it remembers, Linux 5.15 `drivers/iommu/iova.c`:
+    /// `__alloc_and_insert_iova_range`).
     pub fn highest(&self, size: u64, limit: u64) -> Option<u64>
         requires some { 1 ≤ size }
         requires bounded { size ≤ MAX_FRAMES }
@@ -97,7 +99,8 @@ impl Tree {
     pub fn insert(&mut self, range: Range) -> Result<(), Refusal>
         requires inside { IsInside self.old.bounds range }
         requires free { is_clear range (ranges_of self.old) ≡ true }
-        ensures ok { OnOk result (self.new ≡ record self.old { inserted = insert_rising range self.old.inserted }) }
+        ensures ok { OnOk result (self.new
+            ≡ record self.old { inserted = insert_rising range self.old.inserted }) }
         ensures err { OnErr result ((result ≡ Err Refusal.NoMemory) × (self.new ≡ self.old)) }
         ensures space { IsSpace self.new }
     {
@@ -143,16 +146,20 @@ impl Tree {
         &self.windows
     }
 
-    /// Makes one window of the frames `lo` to `hi`, both inside, and of all windows that have a frame in common with
-    /// them, and gives it. Windows that only touch stay apart. A refusal leaves the tree as it was. The first of these
-    /// that holds is the answer: `BadWindow` where `lo` is above `hi` or one of them isn't inside the bounds; `Taken`
-    /// where one of the frames is in an inserted range; `WindowsFull` where there would be 65 windows; `NoMemory` where
-    /// the window joins none and there is no memory for it (Linux 5.15 `drivers/iommu/iova.c`: `reserve_iova`; the
-    /// limit, and that one window of all is left, are our own).
+    /// Makes one window of the frames `lo` to `hi`, both inside, and of all windows that have a
+    /// frame in common with them, and gives it. Windows that only touch stay apart. A refusal
+    /// leaves the tree as it was. The first of these that holds is the answer: `BadWindow` where
+    /// `lo` is above `hi` or one of them isn't inside the bounds; `Taken` where one of the frames
+    /// is in an inserted range; `WindowsFull` where there would be 65 windows; `NoMemory` where the
+    /// window joins none and there is no memory for it (Linux 5.15 `drivers/iommu/iova.c`:
+    /// `reserve_iova`; the limit, and that one window of all is left, are our own).
     pub fn reserve(&mut self, lo: u64, hi: u64) -> Result<Range, Refusal>
-        ensures refused { IfSome (reserve_refusal self.old lo hi) (λ refusal. result ≡ Err refusal) }
-        ensures accepted { IfNone (reserve_refusal self.old lo hi) (IsOkUnless result Refusal.NoMemory) }
-        ensures memory { result ≡ Err Refusal.NoMemory → is_clear (from_to lo hi) self.old.windows ≡ true }
+        ensures refused { IfSome (reserve_refusal self.old lo hi)
+            (λ refusal. result ≡ Err refusal) }
+        ensures accepted { IfNone (reserve_refusal self.old lo hi)
+            (IsOkUnless result Refusal.NoMemory) }
+        ensures memory { result ≡ Err Refusal.NoMemory
+            → is_clear (from_to lo hi) self.old.windows ≡ true }
         ensures window { IfOk result (λ w. w ≡ union (from_to lo hi) self.old.windows) }
         ensures windows { OnOk result (self.new ≡ with_window self.old (from_to lo hi)) }
         ensures unchanged { OnErr result (self.new ≡ self.old) }
@@ -175,12 +182,14 @@ impl Tree {
         Ok(asked)
     }
 
-    // Makes a window of frames that are free. It takes its node and its place in the list before it changes anything.
+    // Makes a window of frames that are free. It takes its node and its place in the list before it
+    // changes anything.
     fn add_window(&mut self, window: Range) -> Result<(), Refusal>
         requires inside { IsInside self.old.bounds window }
         requires free { is_clear window (ranges_of self.old) ≡ true }
         requires few { length self.old.windows < MAX_WINDOWS }
-        ensures ok { OnOk result (self.new ≡ record self.old { windows = insert_rising window self.old.windows }) }
+        ensures ok { OnOk result (self.new
+            ≡ record self.old { windows = insert_rising window self.old.windows }) }
         ensures err { OnErr result ((result ≡ Err Refusal.NoMemory) × (self.new ≡ self.old)) }
     {
         // for the proof: the last frame is below 2^40
@@ -196,15 +205,16 @@ impl Tree {
         Ok(())
     }
 
-    // Makes one window of `asked` and of the windows that have a frame in common with it, and gives it. It takes no
-    // memory: the node and the place of one of these are the new one's.
+    // Makes one window of `asked` and of the windows that have a frame in common with it, and gives
+    // it. It takes no memory: the node and the place of one of these are the new one's.
     fn join_windows(&mut self, asked: Range) -> Range
         requires inside { IsInside self.old.bounds asked }
         requires clear { list_any (meets asked) self.old.inserted ≡ false }
         requires few { length (clear_of asked self.old.windows) < MAX_WINDOWS }
         requires joins { length (clear_of asked self.old.windows) < length self.old.windows }
         ensures value { result ≡ union asked self.old.windows }
-        ensures windows { self.new ≡ record self.old { windows = windows_with asked self.old.windows } }
+        ensures windows { self.new ≡ record self.old
+            { windows = windows_with asked self.old.windows } }
     {
         // for the proof: the last frame is below 2^40
         let _last = self.bounds.last();

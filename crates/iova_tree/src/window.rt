@@ -32,8 +32,9 @@ pub fn insert_window(windows: &mut Vec<Range>, window: Range)
     windows.insert(at, window).unwrap();
 }
 
-/// Takes out the windows that have a frame in common with `window`, from the tree too, and gives one window of all these
-/// and `window` itself, with the node of one of them. None has frame 0. It takes no memory.
+/// Takes out the windows that have a frame in common with `window`, from the tree too, and gives
+/// one window of all these and `window` itself, with the node of one of them. None has frame 0. It
+/// takes no memory.
 pub fn absorb(
     ranges: &mut Allocated,
     windows: &mut Vec<Range>,
@@ -47,7 +48,8 @@ pub fn absorb(
     ensures room { vec_capacity windows.new ≡ vec_capacity windows.old }
     ensures windows { windows.new.items ≡ windows_of ranges.new }
     ensures inserted { inserted_of ranges.new ≡ inserted_of ranges.old }
-    ensures kept { (from until : ℕ) → LieWithin from ranges.old until → LieWithin from ranges.new until }
+    ensures kept { (from until : ℕ) → LieWithin from ranges.old until
+        → LieWithin from ranges.new until }
     ensures spare { IfSome result.1 (λ node. IsSingle node.value × (node.value.window ≡ true)) }
     ensures none { IfNone result.1 (windows.new.items ≡ windows.old.items) }
 {

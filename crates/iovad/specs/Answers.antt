@@ -7,7 +7,8 @@ use Rattle.iova_trace.specs.declared.fault.ReplayFault.{ReplayFault}
 use Rattle.iova_trace.specs.declared.fault.ReplayFault.TheVariants as fault
 use Rattle.iova_trace.specs.Logged.{ReplaysAndLogs}
 
--- of the text that is to be written, this is; refused memory, nothing, and some first bytes where a write fails
+-- of the text that is to be written, this is; refused memory, nothing, and some first bytes where a
+-- write fails
 abbrev pub WritesText : List ℕ → List ℕ → Result ⊤ ReplayFault → Type 0
 WritesText text written (Ok done) = written ≡ text
 WritesText text written (Err fault.NoMemory) = written ≡ []
@@ -17,16 +18,22 @@ WritesText text written (Err other) = ⊥
 -- the report of the domain was written, or as much of it as the answer says
 abbrev pub Reports : Option (List ℕ) → Option (List ℕ) → State → Result ⊤ ReplayFault → Type 0
 Reports replied filled state answer =
-    (written : List ℕ) × Appends replied filled written × WritesText (report_text state) written answer
+    (written : List ℕ) × Appends replied filled written
+    × WritesText (report_text state) written answer
 
--- what a writer gets after the replies, and the answer: nothing after a replay that fails, or where no report is wanted
-abbrev pub Follows : Bool → Option (List ℕ) → Option (List ℕ) → Result (State × ℕ) ReplayFault → Result ⊤ ReplayFault → Type 0
+-- what a writer gets after the replies, and the answer: nothing after a replay that fails, or where
+-- no report is wanted
+abbrev pub Follows : Bool → Option (List ℕ) → Option (List ℕ) → Result (State × ℕ) ReplayFault
+    → Result ⊤ ReplayFault → Type 0
 Follows true replied filled (Ok done) answer = Reports replied filled done.0 answer
 Follows false replied filled (Ok done) answer = (filled ≡ replied) × (answer ≡ Ok (tt {0}))
 Follows has_report replied filled (Err fault) answer = (filled ≡ replied) × (answer ≡ Err fault)
 
--- A replay with its log, and then, where it succeeds and the report is wanted, the report of the domain that it leaves.
-pub record ReplaysAndReports (has_report : Bool) (input left output filled before now : Option (List ℕ)) (answer : Result ⊤ ReplayFault) : Type 0 where
+-- A replay with its log, and then, where it succeeds and the report is wanted, the report of the
+-- domain that it leaves.
+pub record ReplaysAndReports (has_report : Bool)
+    (input left output filled before now : Option (List ℕ))
+    (answer : Result ⊤ ReplayFault) : Type 0 where
   pub replied : Option (List ℕ)
   pub replay : Result (State × ℕ) ReplayFault
   pub replays : ReplaysAndLogs input left output replied before now replay

@@ -6,15 +6,16 @@ use Rattle.iova_command.specs.declared.usage.WordsFault.TheVariants as words
 use Rattle.iovad.specs.declared.fault.Fault.{Fault}
 use Rattle.iovad.specs.declared.fault.Fault.TheVariants as fault
 
--- the one line of a fault, without its LF; what is not understood, and help, are told in the words of the command line; that a
--- log has findings is told by these alone, and by the status
+-- the one line of a fault, without its LF; what is not understood, and help, are told in the words
+-- of the command line; that a log has findings is told by these alone, and by the status
 abbrev pub fault_text : Fault → Option (List ℕ)
 fault_text (fault.Words usage) = None
 fault_text fault.StartAboveLast = Some (codes "iovad: start is above last")
 fault_text fault.LastAboveProfile = Some (codes "iovad: last is above the profile")
 fault_text (fault.TraceRefused line) = Some (codes "iovad: trace refused at line " ++ decimal line)
 fault_text (fault.LogRefused line) = Some (codes "iovad: log refused at line " ++ decimal line)
-fault_text (fault.RegionsRefused line) = Some (codes "iovad: reserved regions refused at line " ++ decimal line)
+fault_text (fault.RegionsRefused line) =
+    Some (codes "iovad: reserved regions refused at line " ++ decimal line)
 fault_text fault.Found = Some (codes "iovad: the log has a finding")
 fault_text (fault.CannotRead path) = Some (codes "iovad: cannot read " ++ path.now)
 fault_text fault.CannotWrite = Some (codes "iovad: cannot write the output")

@@ -9,9 +9,11 @@ use Rattle.iovad.specs.declared.fault.Fault.TheVariants as fault
 
 -- a line with the domain's number, and the report of the domain
 abbrev pub domain_text : ℕ → State → List ℕ
-domain_text number state = (numbers_line (codes "domain") (number ∷ []) ++ 10 ∷ []) ++ report_text state
+domain_text number state =
+    (numbers_line (codes "domain") (number ∷ []) ++ 10 ∷ []) ++ report_text state
 
--- of the text that is to be printed, this is; refused memory, nothing, and some first bytes where a write fails
+-- of the text that is to be printed, this is; refused memory, nothing, and some first bytes where a
+-- write fails
 abbrev pub IsPrinted : List ℕ → List ℕ → Result ⊤ Fault → Type 0
 IsPrinted text written (Ok done) = written ≡ text
 IsPrinted text written (Err fault.NoMemory) = written ≡ []
@@ -21,4 +23,5 @@ IsPrinted text written (Err other) = ⊥
 -- the domain's line and report were printed, or as much of them as the answer says
 abbrev pub PrintsDomain : ℕ → State → Option (List ℕ) → Option (List ℕ) → Result ⊤ Fault → Type 0
 PrintsDomain number state before filled answer =
-    (written : List ℕ) × Appends before filled written × IsPrinted (domain_text number state) written answer
+    (written : List ℕ) × Appends before filled written
+    × IsPrinted (domain_text number state) written answer

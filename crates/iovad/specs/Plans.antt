@@ -24,7 +24,8 @@ IsAboveProfile plan = (profile_of plan.depot).top < plan.last
 
 -- the plan's frames, in its profile
 abbrev pub IsBoundsOf : Plan → Extent → Type 0
-IsBoundsOf plan bounds = bounds ≡ record { start = plan.start; last = plan.last; profile = profile_of plan.depot }
+IsBoundsOf plan bounds =
+    bounds ≡ record { start = plan.start; last = plan.last; profile = profile_of plan.depot }
 
 -- how many steps are recorded, where that is said or not
 abbrev pub steps_of : Option ℕ → ℕ
@@ -37,13 +38,16 @@ planned_log (Some path) steps = Some (new_log (steps_of steps))
 
 -- the plan's new domain with these bounds
 abbrev pub planned_book : Plan → Extent → BookState
-planned_book plan bounds = record (new_book plan.domain bounds plan.workers (planned_log plan.record plan.record_steps)) { strict = plan.strict }
+planned_book plan bounds =
+    record (new_book plan.domain bounds plan.workers (planned_log plan.record plan.record_steps))
+    { strict = plan.strict }
 
 -- these windows are reserved in s, one after another, and that leaves t
 abbrev pub ReservesAll : List Frames → State → State → Type 0
 ReservesAll [] s t = t ≡ s
 ReservesAll (w ∷ ws) s t =
-    (mid : State) × (got : Frames) × Takes s (step.Reserve w.lo (w.lo + w.len - 1)) (reply.Reserved got) mid
+    (mid : State) × (got : Frames) × Takes s (step.Reserve w.lo (w.lo + w.len - 1))
+    (reply.Reserved got) mid
     × ReservesAll ws mid t
 
 -- a new book, once these windows are reserved in it
@@ -52,8 +56,8 @@ pub record IsReserved (windows : List Frames) (new book : BookState) : Type 0 wh
   pub number : book.number ≡ new.number
   pub strict : book.strict ≡ new.strict
 
--- how serving what a plan says may end: the faults of the plan and of its regions come only where it has them, and else the
--- daemon's own
+-- how serving what a plan says may end: the faults of the plan and of its regions come only where
+-- it has them, and else the daemon's own
 abbrev pub IsFaultOfServing : Plan → Fault → Type 0
 IsFaultOfServing plan fault.StartAboveLast = plan.last < plan.start
 IsFaultOfServing plan fault.LastAboveProfile = (plan.start ≤ plan.last) × IsAboveProfile plan

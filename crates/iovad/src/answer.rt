@@ -10,8 +10,9 @@ use iova_trace::replay::replay_and_log;
 use std::alloc::Global;
 use std::io::{Read, Write};
 
-/// Replays a trace and logs it, and writes the report of the domain after the replies where it is wanted. Refused as the replay is;
-/// then by `NoMemory`, with no byte of the report written, and by `WriteFault`.
+/// Replays a trace and logs it, and writes the report of the domain after the replies where it is
+/// wanted. Refused as the replay is; then by `NoMemory`, with no byte of the report written, and by
+/// `WriteFault`.
 pub fn answer<R: Read, W: Write, L: Log>(
     alloc: Global,
     reader: &mut R,
@@ -20,7 +21,8 @@ pub fn answer<R: Read, W: Write, L: Log>(
     has_report: bool,
 ) -> Result<(), ReplayFault>
     ensures { ReplaysAndReports has_report (R.remaining reader.old) (R.remaining reader.new)
-        (W.contents writer.old) (W.contents writer.new) (L.contents log.old) (L.contents log.new) result }
+        (W.contents writer.old) (W.contents writer.new) (L.contents log.old) (L.contents log.new)
+        result }
 {
     let replayed = replay_and_log(alloc, reader, writer, log);
     let told = follow(alloc, &replayed, writer, has_report);
@@ -35,7 +37,8 @@ fn follow<W: Write>(
     writer: &mut W,
     has_report: bool,
 ) -> Result<(), ReplayFault>
-    ensures { Follows has_report (W.contents writer.old) (W.contents writer.new) replayed.now result }
+    ensures { Follows has_report (W.contents writer.old) (W.contents writer.new) replayed.now
+        result }
 {
     match replayed {
         Ok((domain, _steps)) => {

@@ -33,7 +33,8 @@ where
     }
 }
 
-/// The windows of the file with a group's reserved regions, where one is named: a kernel maps its direct ones itself.
+/// The windows of the file with a group's reserved regions, where one is named: a kernel maps its
+/// direct ones itself.
 fn windows_of<'a, R>(rt: &R, path: Option<&'a str>) -> Result<Windows, Fault<'a>>
 where
     R: Runtime + AllocGlobal + Files<File = File>,

@@ -21,7 +21,8 @@ use std::sync::{Mutex, Wait};
 use std::thread;
 use std::time::Duration;
 
-/// What is done beside the sessions of a daemon: its control socket, where it has one, and that a full record is told. Own.
+/// What is done beside the sessions of a daemon: its control socket, where it has one, and that a
+/// full record is told. Own.
 #[derive(Drop)]
 pub struct Control<'a, R, N> {
     rt: &'a R,
@@ -48,20 +49,23 @@ pub struct Pad {
     pub text: String,
 }
 
-/// A connection: the front of a line that has no LF yet, what is owed of answers, and how long nothing came.
+/// A connection: the front of a line that has no LF yet, what is owed of answers, and how long
+/// nothing came.
 #[derive(Drop)]
 struct Connection {
     stream: UnixStream,
     line: ArrayVec<u8, MAX_LINE>,
     owed: Vec<u8>,
     silent: u64,
-    /// Whether no more is read of it: it has ended, or has said `stop`, and then it is kept until the daemon's end.
+    /// Whether no more is read of it: it has ended, or has said `stop`, and then it is kept until
+    /// the daemon's end.
     is_read: bool,
     is_kept: bool,
 }
 
 impl<'a, R: Wait, N> Control<'a, R, N> {
-    /// What is done beside so many workers, which are recorded or not, without a control socket yet.
+    /// What is done beside so many workers, which are recorded or not, without a control socket
+    /// yet.
     pub fn new(
         rt: &'a R,
         notices: &'a N,
@@ -251,7 +255,8 @@ fn refuse(connection: &mut Connection) {
     connection.is_read = false;
 }
 
-/// Appends the word with the number of the text's lines, and the text. Whether there was memory for it.
+/// Appends the word with the number of the text's lines, and the text. Whether there was memory for
+/// it.
 fn is_owed(owed: &mut Vec<u8>, word: &[u8], text: &[u8]) -> bool
     requires { length word.now ≤ 32 }
 {

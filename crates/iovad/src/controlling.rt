@@ -12,9 +12,9 @@ use std::rt::Runtime;
 use std::time::Duration;
 use std::{io, str};
 
-/// Asks the daemon at this path for what the word names, and prints what it answers, without the line that tells how many lines
-/// follow. After `stop` it waits for the daemon's end. Refused by `SocketFault` where nobody answers, or not as asked, and by
-/// `CannotWrite`.
+/// Asks the daemon at this path for what the word names, and prints what it answers, without the
+/// line that tells how many lines follow. After `stop` it waits for the daemon's end. Refused by
+/// `SocketFault` where nobody answers, or not as asked, and by `CannotWrite`.
 pub fn control<R>(rt: &R, path: &str, word: ControlWord) -> Result<(), Fault<'static>>
 where
     R: Runtime + AllocGlobal + Net + Log,
@@ -37,7 +37,8 @@ where
     }
 }
 
-/// Sends the word, and takes all that comes. The end of a daemon that is told to stop is waited for as long as it takes.
+/// Sends the word, and takes all that comes. The end of a daemon that is told to stop is waited for
+/// as long as it takes.
 fn asked<R: Net>(rt: &R, path: &str, word: ControlWord, answer: &mut Vec<u8>) -> io::Result<()> {
     let mut stream = UnixStream::connect(rt, path)?;
     if word != ControlWord::Stop {
@@ -51,8 +52,8 @@ fn asked<R: Net>(rt: &R, path: &str, word: ControlWord, answer: &mut Vec<u8>) ->
     Ok(())
 }
 
-/// What is to be printed of the answer: all behind its first line, which has the word and how many lines follow, or `stopping`. None
-/// where it is neither, or isn't whole.
+/// What is to be printed of the answer: all behind its first line, which has the word and how many
+/// lines follow, or `stopping`. None where it is neither, or isn't whole.
 fn told(answer: &[u8], word: ControlWord) -> Option<&[u8]> {
     if word == ControlWord::Stop {
         return if answer == b"stopping\n".as_slice() {

@@ -61,16 +61,19 @@ struct Running<'a, R> {
     place: SinkPlace<'a>,
 }
 
-/// Serves the plan's sessions on its socket, writes the record of the domain's steps where one is wanted, and then prints a line
-/// with the domain's number and the domain's report. The socket's file is removed once the sessions are over, also where no
-/// thread could be started. Clients that still wait then are tried once more. A record is opened, emptied and begun before the
-/// socket is bound. What lies behind `CannotOpenSink`, `SocketFault` and `CannotWrite` is told on the line before.
+/// Serves the plan's sessions on its socket, writes the record of the domain's steps where one is
+/// wanted, and then prints a line with the domain's number and the domain's report. The socket's
+/// file is removed once the sessions are over, also where no thread could be started. Clients that
+/// still wait then are tried once more. A record is opened, emptied and begun before the socket is
+/// bound. What lies behind `CannotOpenSink`, `SocketFault` and `CannotWrite` is told on the line
+/// before.
 ///
-/// Faults come in this order: `StartAboveLast`; `LastAboveProfile`; `CannotRead`, `RegionsRefused` or `NoMemory` for the
-/// reserved regions; `NoMemory` for the domain; `SocketFault` where anything but a socket that was left stands at the
-/// socket's path, which is looked at before the sink; `NoMemory` or `CannotOpenSink` for the sinks; `CannotWrite` or
-/// `NoMemory` for the record, which may not be the sink's file; `SocketFault` where the control socket, and then the
-/// socket, can't be bound, or a thread can't be started; `NoMemory` or `CannotWrite` for the record at its end;
+/// Faults come in this order: `StartAboveLast`; `LastAboveProfile`; `CannotRead`, `RegionsRefused`
+/// or `NoMemory` for the reserved regions; `NoMemory` for the domain; `SocketFault` where anything
+/// but a socket that was left stands at the socket's path, which is looked at before the sink;
+/// `NoMemory` or `CannotOpenSink` for the sinks; `CannotWrite` or `NoMemory` for the record, which
+/// may not be the sink's file; `SocketFault` where the control socket, and then the socket, can't
+/// be bound, or a thread can't be started; `NoMemory` or `CannotWrite` for the record at its end;
 /// `NoMemory` for the report; `CannotWrite`. Own.
 pub fn serve<'a, R, C, F, S, G>(
     rt: &R,
@@ -86,12 +89,17 @@ where
     F: Ledger + Send + Sync,
     S: Ledger + Send + Sync,
     G: Ledger + Send + Sync,
-    requires count { (count.name ≡ C.name) × (count.parts ≡ C.parts) × (count.parts ≡ plan.now.workers) }
-    requires frames { (frames.name ≡ F.name) × (frames.parts ≡ F.parts) × (frames.parts ≡ plan.now.workers) }
-    requires sum_lo { (sum_lo.name ≡ S.name) × (sum_lo.parts ≡ S.parts) × (sum_lo.parts ≡ plan.now.workers) }
-    requires good { (good.name ≡ G.name) × (good.parts ≡ G.parts) × (good.parts ≡ TALLY_PARTS * plan.now.workers) }
+    requires count { (count.name ≡ C.name) × (count.parts ≡ C.parts)
+        × (count.parts ≡ plan.now.workers) }
+    requires frames { (frames.name ≡ F.name) × (frames.parts ≡ F.parts)
+        × (frames.parts ≡ plan.now.workers) }
+    requires sum_lo { (sum_lo.name ≡ S.name) × (sum_lo.parts ≡ S.parts)
+        × (sum_lo.parts ≡ plan.now.workers) }
+    requires good { (good.name ≡ G.name) × (good.parts ≡ G.parts)
+        × (good.parts ≡ TALLY_PARTS * plan.now.workers) }
     ensures order { plan.now.last < plan.now.start → result ≡ Err Fault.StartAboveLast }
-    ensures profile { plan.now.start ≤ plan.now.last → IsAboveProfile plan.now → result ≡ Err Fault.LastAboveProfile }
+    ensures profile { plan.now.start ≤ plan.now.last → IsAboveProfile plan.now
+        → result ≡ Err Fault.LastAboveProfile }
     ensures faults { IfErr result (IsFaultOfServing plan.now) }
 {
     let bounds = bounds_of(plan)?;
@@ -113,7 +121,8 @@ fn tell_start<R: Clock + Eprint>(notices: &Notices<'_, R>, plan: &Plan<'_>, wind
     info!(notices; target: "", "iovad {version} starts: {words}");
 }
 
-/// What keeps a daemon from its end once it has a domain: a plain value, which no function has to drop.
+/// What keeps a daemon from its end once it has a domain: a plain value, which no function has to
+/// drop.
 #[derive(Clone, Copy)]
 enum Hindrance {
     CannotOpenSink,
@@ -175,7 +184,8 @@ where
     }
 }
 
-/// Opens what the plan names, and serves its sessions. The posts that come back are those of all workers.
+/// Opens what the plan names, and serves its sessions. The posts that come back are those of all
+/// workers.
 fn serve_links<'a, 'p, R, C, F, S, G>(
     run: &Running<'a, R>,
     plan: &Plan<'p>,
@@ -239,7 +249,8 @@ where
     }
 }
 
-/// Begins the record, and listens on the sockets. Refused by `CannotWrite` and `NoMemory`, and by `SocketFault`.
+/// Begins the record, and listens on the sockets. Refused by `CannotWrite` and `NoMemory`, and by
+/// `SocketFault`.
 fn begin<'a, Q, R, C, F, S, G>(
     run: &Running<'a, R>,
     plan: &Plan<'_>,
@@ -265,7 +276,8 @@ where
     }
 }
 
-/// Listens on the control socket, where one is wanted, which only the same user may connect to. Refused by `SocketFault`.
+/// Listens on the control socket, where one is wanted, which only the same user may connect to.
+/// Refused by `SocketFault`.
 fn listen_for_control<'a, R: AllocGlobal + Clock + Eprint + Wait + Net + Files<File = File>>(
     run: &Running<'a, R>,
     plan: &Plan<'_>,
@@ -307,7 +319,8 @@ where
     requires workers { shared.workers ≡ plan.now.workers }
     requires posts { map (λ p. p.seat) posts.items ≡ new_seats plan.now.workers }
     requires sinks { vec_len sinks ≡ vec_len posts + 1 }
-    ensures { IfOk result (λ r. map (λ p. p.seat.worker) r.posts.items ≡ map (λ s. s.worker) (new_seats r.shared.workers)) }
+    ensures { IfOk result (λ r. map (λ p. p.seat.worker) r.posts.items
+        ≡ map (λ s. s.worker) (new_seats r.shared.workers)) }
 {
     let rt = run.rt;
     let accept = SocketAccept::new(
@@ -354,8 +367,8 @@ where
     }
 }
 
-/// How long a session's peer is waited for: in short turns, where the daemon may be asked to stop or a session may be idle for so long
-/// only.
+/// How long a session's peer is waited for: in short turns, where the daemon may be asked to stop
+/// or a session may be idle for so long only.
 fn patience_of(plan: &Plan<'_>) -> Patience {
     let turns = match plan.idle {
         Some(seconds) => seconds.saturating_mul(1000 / STOP_PAUSE),
@@ -381,8 +394,9 @@ fn serving_of(plan: &Plan<'_>) -> Serving {
     }
 }
 
-/// So many sinks, and the record's file where one is wanted, unless the socket's place is taken: so a daemon that serves there is not
-/// disturbed. Refused by `SocketFault`, `NoMemory`, `CannotOpenSink` and `CannotWrite`, in this order.
+/// So many sinks, and the record's file where one is wanted, unless the socket's place is taken: so
+/// a daemon that serves there is not disturbed. Refused by `SocketFault`, `NoMemory`,
+/// `CannotOpenSink` and `CannotWrite`, in this order.
 fn open_all<'a, 'p, R: AllocGlobal + Clock + Eprint + Net + Dial + Files<File = File>>(
     run: &Running<'a, R>,
     plan: &Plan<'p>,
@@ -417,7 +431,8 @@ fn open_record<'a, 'p, R: Clock + Eprint + Files<File = File>>(
     }
 }
 
-/// Gathers what was served on, writes the record where one is wanted, and prints the domain. The posts are those of all workers.
+/// Gathers what was served on, writes the record where one is wanted, and prints the domain. The
+/// posts are those of all workers.
 fn finish<'a, R, C, F, S, G>(
     run: &Running<'a, R>,
     plan: &Plan<'_>,
@@ -431,7 +446,8 @@ where
     F: Ledger,
     S: Ledger,
     G: Ledger,
-    requires posts { map (λ p. p.seat.worker) posts.items ≡ map (λ s. s.worker) (new_seats shared.workers) }
+    requires posts { map (λ p. p.seat.worker) posts.items
+        ≡ map (λ s. s.worker) (new_seats shared.workers) }
     ensures { IfErr result (IsFaultOfServing plan.now) }
 {
     let recorded = gather_all(run, &shared, posts, record);
@@ -471,7 +487,8 @@ where
     F: Ledger,
     S: Ledger,
     G: Ledger,
-    requires posts { map (λ p. p.seat.worker) posts.items ≡ map (λ s. s.worker) (new_seats shared.now.workers) }
+    requires posts { map (λ p. p.seat.worker) posts.items
+        ≡ map (λ s. s.worker) (new_seats shared.now.workers) }
 {
     let mut record = record;
     let mut posts = posts;
@@ -487,12 +504,13 @@ where
     write_record(run, shared, &mut record)
 }
 
-/// The bounds of the plan's domain: in the second profile where the plan has a depot, else in the first. Refused by
-/// `StartAboveLast`, and by `LastAboveProfile`.
+/// The bounds of the plan's domain: in the second profile where the plan has a depot, else in the
+/// first. Refused by `StartAboveLast`, and by `LastAboveProfile`.
 fn bounds_of(plan: &Plan<'_>) -> Result<Bounds, Fault<'static>>
     ensures ok { IfOk result (λ b. IsBoundsOf plan.now b) }
     ensures order { plan.now.last < plan.now.start → result ≡ Err Fault.StartAboveLast }
-    ensures profile { plan.now.start ≤ plan.now.last → IsAboveProfile plan.now → result ≡ Err Fault.LastAboveProfile }
+    ensures profile { plan.now.start ≤ plan.now.last → IsAboveProfile plan.now
+        → result ≡ Err Fault.LastAboveProfile }
     ensures faults { IfErr result (IsFaultOfServing plan.now) }
 {
     if plan.start > plan.last {
@@ -511,7 +529,8 @@ fn bounds_of(plan: &Plan<'_>) -> Result<Bounds, Fault<'static>>
     }
 }
 
-/// The windows of the plan: those that are named, and those of its reserved regions, of whatever kind. Refused as these are.
+/// The windows of the plan: those that are named, and those of its reserved regions, of whatever
+/// kind. Refused as these are.
 #[tactic(auto, using(crate::proofs::Reserving::of_regions))]
 fn windows_of<'a, R>(rt: &R, plan: &Plan<'a>, bounds: Bounds) -> Result<Windows, Fault<'a>>
 where
@@ -546,10 +565,14 @@ where
     F: Ledger,
     S: Ledger,
     G: Ledger,
-    requires count { (count.name ≡ C.name) × (count.parts ≡ C.parts) × (count.parts ≡ plan.now.workers) }
-    requires frames { (frames.name ≡ F.name) × (frames.parts ≡ F.parts) × (frames.parts ≡ plan.now.workers) }
-    requires sum_lo { (sum_lo.name ≡ S.name) × (sum_lo.parts ≡ S.parts) × (sum_lo.parts ≡ plan.now.workers) }
-    requires good { (good.name ≡ G.name) × (good.parts ≡ G.parts) × (good.parts ≡ TALLY_PARTS * plan.now.workers) }
+    requires count { (count.name ≡ C.name) × (count.parts ≡ C.parts)
+        × (count.parts ≡ plan.now.workers) }
+    requires frames { (frames.name ≡ F.name) × (frames.parts ≡ F.parts)
+        × (frames.parts ≡ plan.now.workers) }
+    requires sum_lo { (sum_lo.name ≡ S.name) × (sum_lo.parts ≡ S.parts)
+        × (sum_lo.parts ≡ plan.now.workers) }
+    requires good { (good.name ≡ G.name) × (good.parts ≡ G.parts)
+        × (good.parts ≡ TALLY_PARTS * plan.now.workers) }
     ensures number { IfSome result (λ r. r.0.number ≡ plan.now.domain) }
     ensures workers { IfSome result (λ r. r.0.workers ≡ plan.now.workers) }
     ensures seats { IfSome result (λ r. map (λ p. p.seat) r.1.items ≡ new_seats plan.now.workers) }
@@ -569,7 +592,8 @@ where
     }
 }
 
-/// The plan's new domain, in which these windows are reserved, and its seats. None for want of memory.
+/// The plan's new domain, in which these windows are reserved, and its seats. None for want of
+/// memory.
 fn reserved_book<C: Ledger, F: Ledger, S: Ledger, G: Ledger>(
     alloc: Global,
     plan: &Plan<'_>,
@@ -580,11 +604,16 @@ fn reserved_book<C: Ledger, F: Ledger, S: Ledger, G: Ledger>(
     sum_lo: Blank,
     good: Blank,
 ) -> Option<(Book<C, F, S, G>, Vec<Seat<C, F, S, G>>)>
-    requires count { (count.name ≡ C.name) × (count.parts ≡ C.parts) × (count.parts ≡ plan.now.workers) }
-    requires frames { (frames.name ≡ F.name) × (frames.parts ≡ F.parts) × (frames.parts ≡ plan.now.workers) }
-    requires sum_lo { (sum_lo.name ≡ S.name) × (sum_lo.parts ≡ S.parts) × (sum_lo.parts ≡ plan.now.workers) }
-    requires good { (good.name ≡ G.name) × (good.parts ≡ G.parts) × (good.parts ≡ TALLY_PARTS * plan.now.workers) }
-    ensures reserved { IfSome result (λ r. IsReserved windows.now (planned_book plan.now bounds) r.0) }
+    requires count { (count.name ≡ C.name) × (count.parts ≡ C.parts)
+        × (count.parts ≡ plan.now.workers) }
+    requires frames { (frames.name ≡ F.name) × (frames.parts ≡ F.parts)
+        × (frames.parts ≡ plan.now.workers) }
+    requires sum_lo { (sum_lo.name ≡ S.name) × (sum_lo.parts ≡ S.parts)
+        × (sum_lo.parts ≡ plan.now.workers) }
+    requires good { (good.name ≡ G.name) × (good.parts ≡ G.parts)
+        × (good.parts ≡ TALLY_PARTS * plan.now.workers) }
+    ensures reserved { IfSome result (λ r. IsReserved windows.now (planned_book plan.now bounds)
+        r.0) }
     ensures workers { IfSome result (λ r. r.0.state.workers ≡ plan.now.workers) }
     ensures seats { IfSome result (λ r. r.1.items ≡ new_seats plan.now.workers) }
 {
@@ -636,7 +665,8 @@ fn reserve<C: Ledger, F: Ledger, S: Ledger, G: Ledger>(
     }
 }
 
-/// The plan's new domain, recorded and strict where the plan says so, and its seats. None for want of memory.
+/// The plan's new domain, recorded and strict where the plan says so, and its seats. None for want
+/// of memory.
 fn book_of<C: Ledger, F: Ledger, S: Ledger, G: Ledger>(
     alloc: Global,
     plan: &Plan<'_>,
@@ -646,11 +676,16 @@ fn book_of<C: Ledger, F: Ledger, S: Ledger, G: Ledger>(
     sum_lo: Blank,
     good: Blank,
 ) -> Option<(Book<C, F, S, G>, Vec<Seat<C, F, S, G>>)>
-    requires count { (count.name ≡ C.name) × (count.parts ≡ C.parts) × (count.parts ≡ plan.now.workers) }
-    requires frames { (frames.name ≡ F.name) × (frames.parts ≡ F.parts) × (frames.parts ≡ plan.now.workers) }
-    requires sum_lo { (sum_lo.name ≡ S.name) × (sum_lo.parts ≡ S.parts) × (sum_lo.parts ≡ plan.now.workers) }
-    requires good { (good.name ≡ G.name) × (good.parts ≡ G.parts) × (good.parts ≡ TALLY_PARTS * plan.now.workers) }
-    ensures { IfSome result (λ r. (r.0 ≡ planned_book plan.now bounds) × (r.1.items ≡ new_seats plan.now.workers)) }
+    requires count { (count.name ≡ C.name) × (count.parts ≡ C.parts)
+        × (count.parts ≡ plan.now.workers) }
+    requires frames { (frames.name ≡ F.name) × (frames.parts ≡ F.parts)
+        × (frames.parts ≡ plan.now.workers) }
+    requires sum_lo { (sum_lo.name ≡ S.name) × (sum_lo.parts ≡ S.parts)
+        × (sum_lo.parts ≡ plan.now.workers) }
+    requires good { (good.name ≡ G.name) × (good.parts ≡ G.parts)
+        × (good.parts ≡ TALLY_PARTS * plan.now.workers) }
+    ensures { IfSome result (λ r. (r.0 ≡ planned_book plan.now bounds)
+        × (r.1.items ≡ new_seats plan.now.workers)) }
 {
     let made = if plan.record.is_some() {
         Book::recorded(
@@ -710,8 +745,8 @@ fn posted<Q: Drop, C: Ledger, F: Ledger, S: Ledger, G: Ledger>(
     }
 }
 
-/// Writes what was recorded to its file, where there is one, in place of what stands there. Refused by `NoMemory` and by
-/// `CannotWrite`.
+/// Writes what was recorded to its file, where there is one, in place of what stands there. Refused
+/// by `NoMemory` and by `CannotWrite`.
 fn write_record<'a, R, Q, C, F, S, G>(
     run: &Running<'a, R>,
     shared: &Shared<Q, C, F, S, G>,
@@ -736,8 +771,8 @@ where
     }
 }
 
-/// So many sinks there. A peer is told by the first one that nothing of the domain is mapped. Refused by `NoMemory` and by
-/// `CannotOpenSink`.
+/// So many sinks there. A peer is told by the first one that nothing of the domain is mapped.
+/// Refused by `NoMemory` and by `CannotOpenSink`.
 fn open_sinks<'a, R: AllocGlobal + Clock + Eprint + Net + Dial + Files<File = File>>(
     run: &Running<'a, R>,
     domain: u64,
@@ -789,7 +824,8 @@ where
     end_posts(run, keeper, more);
 }
 
-/// Tries the clients that wait at this post once more, and at a stop flushes what is in a ring, where a sink can be opened.
+/// Tries the clients that wait at this post once more, and at a stop flushes what is in a ring,
+/// where a sink can be opened.
 fn end_at<'a, R, C, F, S, G, K>(run: &Running<'a, R>, keeper: &mut K, post: &mut Post<C, F, S, G>)
 where
     R: Clock + Eprint + Net + Dial + Files<File = File>,

@@ -25,7 +25,8 @@ pub enum Fault<'a> {
     TraceRefused(u64),
     /// The line with this number, counted from 1, is no line of a log.
     LogRefused(u64),
-    /// The line with this number, counted from 1, is none of reserved regions, or makes too many windows.
+    /// The line with this number, counted from 1, is none of reserved regions, or makes too many
+    /// windows.
     RegionsRefused(u64),
     /// A log has a finding, which was told.
     Found,
@@ -44,7 +45,8 @@ pub enum Fault<'a> {
 impl<'a> Fault<'a> {
     /// The fault of a replay of the trace of this name.
     pub fn of_replay(fault: ReplayFault, path: &'a str) -> Fault<'a>
-        ensures refused { (line : ℕ) → fault ≡ ReplayFault.BadTrace line → result ≡ Fault.TraceRefused line }
+        ensures refused { (line : ℕ) → fault ≡ ReplayFault.BadTrace line
+            → result ≡ Fault.TraceRefused line }
         ensures unread { fault ≡ ReplayFault.ReadFault → result ≡ Fault.CannotRead path.entry }
         ensures unwritten { fault ≡ ReplayFault.WriteFault → result ≡ Fault.CannotWrite }
         ensures memory { fault ≡ ReplayFault.NoMemory → result ≡ Fault.NoMemory }
@@ -59,7 +61,8 @@ impl<'a> Fault<'a> {
 
     /// The fault of the check of the log of this name.
     pub fn of_check(fault: CheckFault, path: &'a str) -> Fault<'a>
-        ensures refused { (line : ℕ) → fault ≡ CheckFault.BadLog line → result ≡ Fault.LogRefused line }
+        ensures refused { (line : ℕ) → fault ≡ CheckFault.BadLog line
+            → result ≡ Fault.LogRefused line }
         ensures unread { fault ≡ CheckFault.ReadFault → result ≡ Fault.CannotRead path.entry }
         ensures unwritten { fault ≡ CheckFault.WriteFault → result ≡ Fault.CannotWrite }
         ensures memory { fault ≡ CheckFault.NoMemory → result ≡ Fault.NoMemory }
@@ -74,7 +77,8 @@ impl<'a> Fault<'a> {
 
     /// The fault of the reserved regions of this name.
     pub fn of_regions(fault: RegionsFault, path: &'a str) -> Fault<'a>
-        ensures refused { (line : ℕ) → fault ≡ RegionsFault.Line line → result ≡ Fault.RegionsRefused line }
+        ensures refused { (line : ℕ) → fault ≡ RegionsFault.Line line
+            → result ≡ Fault.RegionsRefused line }
         ensures unread { fault ≡ RegionsFault.Read → result ≡ Fault.CannotRead path.entry }
         ensures memory { fault ≡ RegionsFault.NoMemory → result ≡ Fault.NoMemory }
     {
@@ -100,9 +104,9 @@ impl<'a> Fault<'a> {
         }
     }
 
-    /// The status that the process ends with: 0 where help was asked for, 1 for a log that has a finding, 2 where the words
-    /// are not understood or can't be followed, 3 for a trace, a log or regions that are refused, 4 for a file that cannot
-    /// be read or written, 5 for memory.
+    /// The status that the process ends with: 0 where help was asked for, 1 for a log that has a
+    /// finding, 2 where the words are not understood or can't be followed, 3 for a trace, a log or
+    /// regions that are refused, 4 for a file that cannot be read or written, 5 for memory.
     pub fn status(&self) -> u8
         ensures { result ≡ fault_status self.now }
     {
@@ -119,12 +123,13 @@ impl<'a> Fault<'a> {
         }
     }
 
-    /// Prints the fault's line on standard error, or help on standard output, and gives the status. A finding has been told, and
-    /// prints nothing. Help that can't be
-    /// written is the fault `CannotWrite`; where a fault's line can't be, nobody is left to tell.
+    /// Prints the fault's line on standard error, or help on standard output, and gives the status.
+    /// A finding has been told, and prints nothing. Help that can't be written is the fault
+    /// `CannotWrite`; where a fault's line can't be, nobody is left to tell.
     pub fn tell<R: Print + Eprint>(&self, rt: &R) -> ExitCode
         ensures { (exit_status result ≡ fault_status self.now)
-            ⊎ ((fault_status self.now ≡ 0) × (exit_status result ≡ fault_status Fault.CannotWrite)) }
+            ⊎ ((fault_status self.now ≡ 0) × (exit_status result
+            ≡ fault_status Fault.CannotWrite)) }
     {
         let told = match self {
             Fault::Words(usage) => usage.print(rt),

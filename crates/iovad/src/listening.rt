@@ -28,12 +28,13 @@ pub enum Access {
     Private,
 }
 
-/// Listens on a socket at this path, in place of one that nobody listens on any more. Anything else that stands there is left as
-/// it is. An accept there doesn't block. None where it can't be had, which is told.
+/// Listens on a socket at this path, in place of one that nobody listens on any more. Anything else
+/// that stands there is left as it is. An accept there doesn't block. None where it can't be had,
+/// which is told.
 ///
-/// The folder is locked (`flock`) from the look to the socket, so that of several daemons that start at once one listens: none takes
-/// a socket that another one has just made for one that was left. A folder that can't be opened isn't locked, and nothing is replaced
-/// there.
+/// The folder is locked (`flock`) from the look to the socket, so that of several daemons that
+/// start at once one listens: none takes a socket that another one has just made for one that was
+/// left. A folder that can't be opened isn't locked, and nothing is replaced there.
 pub fn listen<R, N>(rt: &R, notices: &N, path: &str, access: Access) -> Option<UnixListener>
 where
     R: Clock + Net + Files<File = File>,
@@ -69,8 +70,8 @@ fn bound<R: Clock + Net + Files<File = File>>(
     }
 }
 
-/// The same in this folder, which is locked. A lock that somebody else has for longer than a second isn't waited for, and nothing is
-/// replaced then.
+/// The same in this folder, which is locked. A lock that somebody else has for longer than a second
+/// isn't waited for, and nothing is replaced then.
 fn bound_in<R: Clock + Net + Files<File = File>>(
     rt: &R,
     folder: &File,
@@ -87,7 +88,8 @@ fn bound_in<R: Clock + Net + Files<File = File>>(
     bind(rt, path, access)
 }
 
-/// Whether a daemon may listen at this path: nothing stands there, or a socket that nobody listens on. Else it is told.
+/// Whether a daemon may listen at this path: nothing stands there, or a socket that nobody listens
+/// on. Else it is told.
 pub fn is_free<R, N>(rt: &R, notices: &N, path: &str) -> bool
 where
     R: Net + Files<File = File>,
@@ -124,8 +126,9 @@ fn bind<R: Net + Files<File = File>>(
     }
 }
 
-/// Binds a socket to which only the same user may connect: it is made in a folder beside its place that only the same user may
-/// enter, and is put at its place once it has its mode. So whatever the umask is, nobody else can connect to it at any time.
+/// Binds a socket to which only the same user may connect: it is made in a folder beside its place
+/// that only the same user may enter, and is put at its place once it has its mode. So whatever the
+/// umask is, nobody else can connect to it at any time.
 fn bind_private<R: Net + Files<File = File>>(rt: &R, path: &str) -> io::Result<UnixListener> {
     let folder = beside(path, ".n")?;
     let made = beside(path, ".n/s")?;
@@ -167,7 +170,8 @@ fn remove_left<R: Net + Files<File = File>>(rt: &R, path: &str) {
     }
 }
 
-/// Whether a socket stands there that nobody listens on. Nobody is waited for, as where a listener's queue is full.
+/// Whether a socket stands there that nobody listens on. Nobody is waited for, as where a
+/// listener's queue is full.
 fn is_left<R: Net + Files<File = File>>(rt: &R, path: &str) -> bool {
     is_socket(rt, path) && is_refused(&UnixStream::connect(rt, path))
 }
@@ -188,7 +192,8 @@ fn is_refused(connected: &io::Result<UnixStream>) -> bool {
     }
 }
 
-/// Removes the file at this path. Where it can't be removed, what is left of it keeps nobody from the report.
+/// Removes the file at this path. Where it can't be removed, what is left of it keeps nobody from
+/// the report.
 pub fn remove<R: Files<File = File>>(rt: &R, path: &str) {
     let _ = fs::remove_file(rt, path);
 }

@@ -1,4 +1,5 @@
-//! `iovad`, the address service: it replays traces, serves sessions on a socket, and asks lines of such a service.
+//! `iovad`, the address service: it replays traces, serves sessions on a socket, and asks lines of
+//! such a service.
 #![tactic(auto)]
 
 mod answer;
@@ -94,8 +95,8 @@ where
     )
 }
 
-/// Asks the lines of standard input of the socket at this path, and prints the answers: by hand with prompts, and with
-/// what refusals mean.
+/// Asks the lines of standard input of the socket at this path, and prints the answers: by hand
+/// with prompts, and with what refusals mean.
 fn ask_at<R>(rt: &R, path: &str, is_by_hand: bool) -> Result<(), Fault<'static>>
 where
     R: Runtime + AllocGlobal + Net + Log,

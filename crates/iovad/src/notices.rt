@@ -16,7 +16,8 @@ pub type Notices<'a, R> = Logged<&'a R, CountedConsole<'a, R>>;
 /// The kinds of notices that may come in any number: the targets of their records.
 const KINDS: [&str; 4] = ["accept", "client", "flush", "session"];
 
-/// Standard error, and a count of the lines. Of a kind one line a second is told at most; the next one says how many were not.
+/// Standard error, and a count of the lines. Of a kind one line a second is told at most; the next
+/// one says how many were not.
 #[derive(Drop)]
 pub struct CountedConsole<'a, R> {
     rt: &'a R,
@@ -42,7 +43,8 @@ impl Rate {
         }
     }
 
-    /// Whether a line is told now, and how many before it were not. Of two threads one tells its line.
+    /// Whether a line is told now, and how many before it were not. Of two threads one tells its
+    /// line.
     fn take(&self, now: u64) -> Option<u64> {
         let due = self.due.load(Ordering::SeqCst);
         let next = now.saturating_add(NOTICE_PAUSE);

@@ -11,15 +11,16 @@ use iova_text::write::write_all;
 use std::alloc::Global;
 use std::io::Write;
 
-/// Prints a line with the domain's number, and the domain's report. Refused by `NoMemory`, with nothing written, and by
-/// `CannotWrite`. Our own form.
+/// Prints a line with the domain's number, and the domain's report. Refused by `NoMemory`, with
+/// nothing written, and by `CannotWrite`. Our own form.
 pub fn print_domain<W: Write>(
     alloc: Global,
     number: u64,
     domain: &Domain,
     writer: &mut W,
 ) -> Result<(), Fault<'static>>
-    ensures prints { PrintsDomain number domain.now (W.contents writer.old) (W.contents writer.new) result }
+    ensures prints { PrintsDomain number domain.now (W.contents writer.old) (W.contents writer.new)
+        result }
     ensures faults { IfErr result (λ e. (e ≡ Fault.NoMemory) ⊎ (e ≡ Fault.CannotWrite)) }
 {
     let mut text = Vec::new(alloc);

@@ -15,8 +15,8 @@ pub struct RecordFile<'a> {
 }
 
 impl<'a> RecordFile<'a> {
-    /// The file at this path, with what stands in it. None, which is told, where it can't be opened for writing, or is the file at
-    /// `other`.
+    /// The file at this path, with what stands in it. None, which is told, where it can't be opened
+    /// for writing, or is the file at `other`.
     pub fn open<R: Files<File = File>, N: Log>(
         rt: &R,
         notices: &N,
@@ -32,7 +32,8 @@ impl<'a> RecordFile<'a> {
         }
     }
 
-    /// Writes this text, in place of what stands in the file. Whether all of it was written: else it is told.
+    /// Writes this text, in place of what stands in the file. Whether all of it was written: else
+    /// it is told.
     pub fn write<N: Log>(&mut self, notices: &N, text: &[u8]) -> bool {
         match rewritten(&mut self.file, text) {
             Ok(()) => true,
@@ -44,7 +45,8 @@ impl<'a> RecordFile<'a> {
     }
 }
 
-/// The file at this path, which is made where it isn't there. Refused where it is the one at the other path.
+/// The file at this path, which is made where it isn't there. Refused where it is the one at the
+/// other path.
 fn opened<R: Files<File = File>>(rt: &R, path: &str, other: &str) -> io::Result<File> {
     let file = OpenOptions::new().write(true).create(true).open(rt, path)?;
     if is_at(rt, &file, other) {
@@ -64,7 +66,8 @@ fn is_at<R: Files<File = File>>(rt: &R, file: &File, path: &str) -> bool {
     }
 }
 
-/// Writes the text from the file's beginning on, and nothing stands behind it. What isn't a plain file is only written to.
+/// Writes the text from the file's beginning on, and nothing stands behind it. What isn't a plain
+/// file is only written to.
 fn rewritten(file: &mut File, text: &[u8]) -> io::Result<()> {
     if file.metadata()?.is_file() {
         file.set_len(0)?;

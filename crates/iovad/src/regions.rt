@@ -13,8 +13,8 @@ use std::fs::File;
 use std::io::Read;
 use std::rt::{Files, Runtime};
 
-/// Inserts the frames of the regions that count, as far as they are within the bounds. Refused by `CannotRead`, by
-/// `RegionsRefused` and by `NoMemory`.
+/// Inserts the frames of the regions that count, as far as they are within the bounds. Refused by
+/// `CannotRead`, by `RegionsRefused` and by `NoMemory`.
 pub fn add_regions<'a, R>(
     rt: &R,
     path: &'a str,

@@ -12,8 +12,8 @@ use std::rt::{Files, Runtime};
 /// How many bytes of a log are gathered before they are written.
 const BUFFER: usize = 65_536;
 
-/// Replays the trace of this name to standard output, and writes its log to a file where one is named, which is created or
-/// emptied before the trace is opened.
+/// Replays the trace of this name to standard output, and writes its log to a file where one is
+/// named, which is created or emptied before the trace is opened.
 pub fn replay<'a, R>(
     rt: &R,
     path: &'a str,

@@ -3,8 +3,8 @@ use iova_daemon::aside::{Look, Standing};
 use iova_range::range::Range;
 use std::alloc::{AllocError, Global};
 
-/// Puts into the text for each session that is served now its worker, its client, and how many ranges and frames that holds; client
-/// 0 before it has opened one. Refused for want of memory.
+/// Puts into the text for each session that is served now its worker, its client, and how many
+/// ranges and frames that holds; client 0 before it has opened one. Refused for want of memory.
 pub fn put_sessions<K: Look, T: Standing>(
     alloc: Global,
     workers: u64,

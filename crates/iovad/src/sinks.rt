@@ -76,8 +76,9 @@ fn is_socket<R: Files<File = File>>(rt: &R, path: &str) -> bool {
     }
 }
 
-/// A sink there; a peer is told first that nothing is mapped of the domain that is to be reset, where one is. None where the file
-/// can't be opened, nobody listens, or the peer didn't answer that it is done; which is told. The end of a connection is hurried there.
+/// A sink there; a peer is told first that nothing is mapped of the domain that is to be reset,
+/// where one is. None where the file can't be opened, nobody listens, or the peer didn't answer
+/// that it is done; which is told. The end of a connection is hurried there.
 pub fn open_sink<'a, R: Files<File = File>, W: Log, N: Net>(
     rt: &R,
     notices: &W,

@@ -15,7 +15,8 @@ use std::process::Abort;
 use std::sync::ledger::Ledger;
 use std::test::*;
 
-/// A call by a seat, or what is read of the seat or of its domain. A number is a client's first, where there is one.
+/// A call by a seat, or what is read of the seat or of its domain. A number is a client's first,
+/// where there is one.
 #[derive(Drop)]
 pub(crate) enum Act<'a> {
     Number,
@@ -23,7 +24,8 @@ pub(crate) enum Act<'a> {
     Open(bool),
     /// The frames and the limit.
     Alloc(u64, u64, u64),
-    /// So many single frames from 4,095 on down are given, and so many of them unmapped, highest first.
+    /// So many single frames from 4,095 on down are given, and so many of them unmapped, highest
+    /// first.
     Fill(u64, u64, u64),
     Unmap(u64, u64),
     Release(u64, u64),

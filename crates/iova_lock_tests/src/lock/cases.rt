@@ -29,8 +29,8 @@ pub(crate) struct Beside {
     pub(crate) after: &'static [Row],
 }
 
-/// A new domain of frames 1 to `last` with 16 workers, of which so many pairs are recorded, and what is recorded at the end, in so
-/// many steps.
+/// A new domain of frames 1 to `last` with 16 workers, of which so many pairs are recorded, and
+/// what is recorded at the end, in so many steps.
 #[derive(Drop)]
 pub(crate) struct Made {
     pub(crate) last: u64,
@@ -45,7 +45,8 @@ pub(crate) type Case = (Task, Made);
 /// The cases before this one are of a book and of the lock round one.
 pub(crate) const THREADS: usize = 14;
 
-/// Those from `THREADS` to this one are of the lock alone, and those behind it are run with each growth refused in turn.
+/// Those from `THREADS` to this one are of the lock alone, and those behind it are run with each
+/// growth refused in turn.
 pub(crate) const GROWTHS: usize = 17;
 
 /// How many cases there are.
@@ -80,7 +81,8 @@ const WITH_LITTLE_ROOM: Made = Made {
     steps: 2,
 };
 
-/// The case of this number. It is sought where it is run, since a signature that names `'static` beside a lock gets no proof.
+/// The case of this number. It is sought where it is run, since a signature that names `'static`
+/// beside a lock gets no proof.
 pub(crate) fn case(no: usize) -> Case {
     match no {
         0 => (Task::Rows(ONE_CLIENT), PLAIN),
@@ -155,7 +157,8 @@ const ONE_CLIENT: &[Row] = &[
     (1, EndClient(1), Always("ended Err(NoClient)")),
 ];
 
-// A batch that a full ring stops, the unmap that flushes, and a batch of all kinds. In a strict domain no free is in a batch.
+// A batch that a full ring stops, the unmap that flushes, and a batch of all kinds. In a strict
+// domain no free is in a batch.
 const FULL_RING: &[Row] = &[
     (0, Open(false), Always("opened Ok(1)")),
     (0, Fill(1, 256, 250), Always("filled Ok(())")),
@@ -254,8 +257,9 @@ const WAITING: &[Row] = &[
     (0, Counts, Always("counts (0, 1, 2, 2)")),
 ];
 
-// Each call that makes calls of a sink, over a sink that fails at each of them in turn, and then the same call again, which is
-// good. The ends are of clients with 900 holdings, beside three of another one.
+// Each call that makes calls of a sink, over a sink that fails at each of them in turn, and then
+// the same call again, which is good. The ends are of clients with 900 holdings, beside three of
+// another one.
 const FAILING: &[Row] = &[
     (0, Open(false), Always("opened Ok(1)")),
     (0, Fill(1, 256, 255), Always("filled Ok(())")),
@@ -502,7 +506,8 @@ const RELEASED_BESIDE_A_FLUSH: &[Row] = &[
     ),
 ];
 
-// No flush can begin: a range that was queued waits, at a full ring it stays, and the sink isn't called.
+// No flush can begin: a range that was queued waits, at a full ring it stays, and the sink isn't
+// called.
 const RELEASED_WITHOUT_A_FLUSH: &[Row] = &[
     (0, Open(false), Always("opened Ok(1)")),
     (

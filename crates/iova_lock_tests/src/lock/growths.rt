@@ -1,4 +1,5 @@
-//! Calls that pass whichever growth is refused: the call in which it was is printed, and the same call again is good.
+//! Calls that pass whichever growth is refused: the call in which it was is printed, and the same
+//! call again is good.
 
 use iova_keep::ask::{Ask, Told};
 use iova_keep::keep::Keep;

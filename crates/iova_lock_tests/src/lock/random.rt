@@ -1,5 +1,6 @@
-//! Calls of two seats by numbers from a fixed seed, so that a book and a lock that are asked the same are seen to answer alike: what a
-//! call of `&Shared` hands on to its book is what it was given.
+//! Calls of two seats by numbers from a fixed seed, so that a book and a lock that are asked the
+//! same are seen to answer alike: what a call of `&Shared` hands on to its book is what it was
+//! given.
 ghost use Rattle.std.specs.Prelude.{◌<◌};
 
 use crate::lock::act::{Act, answer, said};
@@ -16,8 +17,8 @@ const CALLS: u64 = 16_000;
 // Two times 4 GiB, in frames.
 pub(crate) const LAST: u64 = 2_097_151;
 
-// Numbers from a fixed seed: Steele, Lea and Flood's SplitMix64. The clients of worker 0 are the first two, those of worker 1
-// the others.
+// Numbers from a fixed seed: Steele, Lea and Flood's SplitMix64. The clients of worker 0 are the
+// first two, those of worker 1 the others.
 #[derive(Drop)]
 struct Script {
     alloc: Global,
@@ -174,7 +175,8 @@ impl Script {
     }
 }
 
-// Two clients of each of two workers, and then calls of either worker in turn, and of either one's clients. What was answered.
+// Two clients of each of two workers, and then calls of either worker in turn, and of either one's
+// clients. What was answered.
 pub(crate) fn said_by<C: Ledger, F: Ledger, S: Ledger, G: Ledger, K: Keep<C, F, S, G>, R: Abort>(
     rt: &R,
     alloc: Global,

@@ -89,7 +89,8 @@ fn flush_rounds<C: Ledger, F: Ledger, S: Ledger, G: Ledger, K: Keep<C, F, S, G> 
     tallies
 }
 
-// Each seat works in a thread of its own, beside a flusher. The seats, and how many flushes of the flusher ended well.
+// Each seat works in a thread of its own, beside a flusher. The seats, and how many flushes of the
+// flusher ended well.
 pub(crate) fn beside_flusher<
     C: Ledger + Send + Sync,
     F: Ledger + Send + Sync,
@@ -155,7 +156,8 @@ fn ask_beside<C: Ledger, F: Ledger, S: Ledger, G: Ledger, K: Keep<C, F, S, G> + 
     seat
 }
 
-// Rows of a seat before flushes, beside them while they wait in their sinks, and after them. The seat.
+// Rows of a seat before flushes, beside them while they wait in their sinks, and after them. The
+// seat.
 pub(crate) fn beside_flushes<
     C: Ledger + Send + Sync,
     F: Ledger + Send + Sync,

@@ -1,10 +1,10 @@
-//! Each growth refused in turn, by `rt try --test --fail-alloc N`, which prints the points that it came to. With N = 27
-//! these are `Once`, `First` and `Second`, with N = 28 `Once`, `Ledger` and `Last`, and with N = 302 `Second` where the walk
-//! has moved a magazine.
+//! Each growth refused in turn, by `rt try --test --fail-alloc N`, which prints the points that it
+//! came to. With N = 27 these are `Once`, `First` and `Second`, with N = 28 `Once`, `Ledger` and
+//! `Last`, and with N = 302 `Second` where the walk has moved a magazine.
 use super::*;
 
-// Runs a step. Where a growth is refused, at one of these points, it leaves the counts beside the point; with memory the
-// same step then comes to none.
+// Runs a step. Where a growth is refused, at one of these points, it leaves the counts beside the
+// point; with memory the same step then comes to none.
 fn step_twice(
     rt: &(impl Abort + Print),
     domain: &mut Domain,
@@ -143,7 +143,8 @@ fn second_with_the_limit_asked_for(rt: HostRuntime) -> Result<(), Fail> {
     Ok(())
 }
 
-// Worker 0 has nothing cached, so that the walk moves the depot's magazine to it; no entry fits, and the tree is asked.
+// Worker 0 has nothing cached, so that the walk moves the depot's magazine to it; no entry fits,
+// and the tree is asked.
 #[test]
 fn second_after_the_depot_gave_a_magazine(rt: HostRuntime) -> Result<(), Fail> {
     let bounds = Bounds::new_in(Profile::two(1)?, 1, 300)?;

@@ -1,4 +1,5 @@
-//! Links that wait for one another, accepts that fail, pauses without time, sinks that wait, and notices that are counted.
+//! Links that wait for one another, accepts that fail, pauses without time, sinks that wait, and
+//! notices that are counted.
 ghost use Rattle.std.specs.Prelude.{Some, None};
 
 use iova_daemon::accept::Accept;
@@ -18,8 +19,9 @@ use std::fmt::Display;
 use std::sync::atomic::{AtomicU64, Ordering};
 use std::thread;
 
-/// A session that is to come: what its peer sends, once a flag is raised if it waits for one, at which call its link fails (0:
-/// at none), what it is to be answered, and the flag that is raised once it has been. Flags are named by their place in a list.
+/// A session that is to come: what its peer sends, once a flag is raised if it waits for one, at
+/// which call its link fails (0: at none), what it is to be answered, and the flag that is raised
+/// once it has been. Flags are named by their place in a list.
 #[derive(Clone, Copy)]
 pub struct Row<'a> {
     pub input: &'a [u8],
@@ -68,8 +70,8 @@ impl<'a> Link for RowLink<'a> {
     }
 }
 
-/// Fails at its first calls, and then accepts the sessions of a list in turn; after its end each accept fails. How often it
-/// was called is counted.
+/// Fails at its first calls, and then accepts the sessions of a list in turn; after its end each
+/// accept fails. How often it was called is counted.
 #[derive(Drop)]
 pub struct Rows<'a> {
     pub alloc: Global,
@@ -96,8 +98,8 @@ impl<'a> Accept<RowLink<'a>> for Rows<'a> {
     }
 }
 
-/// So many rounds, or rounds as fast as they come. It waits for a flag before each of them, and raises another one once it
-/// stops, where it has such.
+/// So many rounds, or rounds as fast as they come. It waits for a flag before each of them, and
+/// raises another one once it stops, where it has such.
 #[derive(Drop)]
 pub struct Rounds<'a> {
     pub before: Option<&'a Flag>,
@@ -124,8 +126,8 @@ impl<'a> Pause for Rounds<'a> {
     }
 }
 
-/// A sink behind a gate: a call raises the first flag and waits for the second; it fails where that isn't raised, and at one
-/// call of its own.
+/// A sink behind a gate: a call raises the first flag and waits for the second; it fails where that
+/// isn't raised, and at one call of its own.
 #[derive(Drop)]
 pub struct GatedSink<'a> {
     pub gate: GateSink<'a>,

@@ -8,7 +8,8 @@ use std::io::{Read, Write};
 use std::os::unix::net::UnixListener;
 use std::test::Fail;
 
-/// Peers, the call of the channel that fails, how the calls for the numbers 1 and 2 went, and the bytes sent and received.
+/// Peers, the call of the channel that fails, how the calls for the numbers 1 and 2 went, and the
+/// bytes sent and received.
 struct Row {
     peers: &'static [Peer<'static>],
     fail_at: u64,
