@@ -61,20 +61,20 @@ counts_answer (Some s) = record {
 abbrev pub some_totals : Totals → TotalsAnswer
 some_totals t = record { refused = 0; count = t.count; frames = t.frames; sum_lo = t.sum_lo }
 
-abbrev pub no_totals : Refusal → TotalsAnswer
-no_totals r = record { refused = refusal_number r; count = 0; frames = 0; sum_lo = 0 }
+abbrev pub refused_totals : Refusal → TotalsAnswer
+refused_totals r = record { refused = refusal_number r; count = 0; frames = 0; sum_lo = 0 }
 
 -- over all clients
 abbrev pub totals_answer : Option State → TotalsAnswer
-totals_answer None = no_totals refusal.NoDomain
+totals_answer None = refused_totals refusal.NoDomain
 totals_answer (Some s) = some_totals (totals s.clients)
 
 -- over the clients of a worker
 abbrev pub share_answer : ℕ → Option State → TotalsAnswer
-share_answer worker None = no_totals refusal.NoDomain
+share_answer worker None = refused_totals refusal.NoDomain
 share_answer worker (Some s) =
     if nat_lt worker s.workers then some_totals (share_of worker s.clients)
-    else no_totals refusal.NoWorker
+    else refused_totals refusal.NoWorker
 
 abbrev pub one_if : Bool → ℕ
 one_if false = 0

@@ -89,7 +89,7 @@ fn some_totals(totals: Totals) -> TotalsAnswer
     }
 }
 
-fn no_totals(refused: u64) -> TotalsAnswer
+fn refused_totals(refused: u64) -> TotalsAnswer
     ensures { result ≡ record { refused = refused; count = 0; frames = 0; sum_lo = 0 } }
 {
     TotalsAnswer {
@@ -106,7 +106,7 @@ pub fn totals(slot: &mut Slot) -> TotalsAnswer
 {
     match &slot.domain {
         Some(domain) => some_totals(domain.totals()),
-        None => no_totals(number_of(Refusal::NoDomain)),
+        None => refused_totals(number_of(Refusal::NoDomain)),
     }
 }
 
@@ -116,8 +116,8 @@ pub fn share(slot: &mut Slot, worker: u64) -> TotalsAnswer
 {
     match &slot.domain {
         Some(domain) if worker < domain.workers() => some_totals(domain.share_of(worker)),
-        Some(_) => no_totals(number_of(Refusal::NoWorker)),
-        None => no_totals(number_of(Refusal::NoDomain)),
+        Some(_) => refused_totals(number_of(Refusal::NoWorker)),
+        None => refused_totals(number_of(Refusal::NoDomain)),
     }
 }
 

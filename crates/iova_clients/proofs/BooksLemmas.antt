@@ -4,10 +4,10 @@ use Rattle.std.proofs.lemmas.List.{get_or-set_same, get_or-set_other}
 use Rattle.std.proofs.lemmas.Bool.Decides.{nat_tests}
 use Rattle.iova_range.specs.Frames.{Frames}
 use Rattle.iova_model.specs.declared.totals.Totals.{Totals}
-use Rattle.iova_model.specs.Clients.{Client, client_with, changed, forgotten, begins_at, with_holding, without_holding, share_of}
+use Rattle.iova_model.specs.Clients.{Client, client_with, changed, forgotten, begins_at, with_holding, without_holding, share_of, no_totals}
 use Rattle.iova_clients.specs.declared.sums.Sums.{Sums}
 use Rattle.iova_clients.specs.Registry.{Registry, IsRegistry}
-use Rattle.iova_clients.specs.Sums.{no_totals, share_at, with_share, with_one, without_one, HaveRoom, Include}
+use Rattle.iova_clients.specs.Sums.{share_at, with_share, with_one, without_one, HaveRoom, Include}
 use Rattle.iova_clients.specs.Books.{AreSumsOf}
 use Rattle.iova_clients.proofs.TotalsLemmas.{totals_by, everyone, is_of, totals-by, share_of-by, totals_given, totals_taken, totals_kept, totals_passed_by, totals_forgotten, totals_push, totals_have_room, Leaves-include, Leaves-without}
 

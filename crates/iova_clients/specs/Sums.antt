@@ -2,10 +2,7 @@
 use Rattle.std.specs.Prelude.{ℕ, ◌+◌, ◌-◌, ◌^◌, ◌≤◌, List, slice_index_or, slice_set}
 use Rattle.iova_range.specs.Frames.{Frames}
 use Rattle.iova_model.specs.declared.totals.Totals.{Totals}
-
--- of no holdings
-abbrev pub no_totals : Totals
-no_totals = record { count = 0; frames = 0; sum_lo = 0 }
+use Rattle.iova_model.specs.Clients.{no_totals}
 
 -- with one holding more, and with one less
 abbrev pub with_one : Frames → Totals → Totals

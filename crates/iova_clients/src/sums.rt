@@ -1,6 +1,7 @@
 //! The totals that are kept as numbers.
 ghost use Rattle.std.specs.Prelude.{◌≡◌, ◌<◌, ◌≤◌, ◌+◌, ◌^◌, replicate, length};
-ghost use Rattle.iova_clients.specs.Sums.{no_totals, with_one, without_one, share_at, with_share, HaveRoom, Include};
+ghost use Rattle.iova_model.specs.Clients.{no_totals};
+ghost use Rattle.iova_clients.specs.Sums.{with_one, without_one, share_at, with_share, HaveRoom, Include};
 
 use iova_model::totals::Totals;
 use iova_range::limits::MAX_WORKERS;

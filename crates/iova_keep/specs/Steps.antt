@@ -1,5 +1,6 @@
 -- A step of a domain as a keeper sees it.
 use Rattle.std.specs.Prelude.{ℕ, ◌≡◌, ◌+◌, ◌<◌, ◌≤◌, ◌%◌, ◌⊎◌}
+use Rattle.iova_keep.specs.Views.{IsGivenTo}
 use Rattle.iova_range.specs.declared.refusal.Refusal.TheVariants as refusal
 use Rattle.iova_range.specs.Sizes.{need, align_of}
 use Rattle.iova_range.specs.declared.limits.TheConstants.{MAX_ENTRIES}
@@ -18,8 +19,7 @@ Takes s st r t = (m : Point) × (r ≡ (next s st m).reply) × (t ≡ (next s st
 
 -- what a request is given has the size that it needs, aligned, and no frame above its limit
 abbrev pub IsGivenWithin : Step → Reply → Type 0
-IsGivenWithin (step.Alloc w id frames limit) (reply.Given r) =
-    (r.len ≡ need frames) × (r.lo % align_of r.len ≡ 0) × (r.lo + r.len ≤ limit + 1)
+IsGivenWithin (step.Alloc w id frames limit) (reply.Given r) = IsGivenTo frames limit r
 IsGivenWithin st r = Unit {0}
 
 -- A drain is refused where there is no such ring or worker, and else frees at most a ring of

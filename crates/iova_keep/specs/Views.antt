@@ -10,7 +10,7 @@ use Rattle.iova_model.specs.declared.step.Step.TheVariants as step
 use Rattle.iova_model.specs.declared.step.Reply.{Reply}
 use Rattle.iova_model.specs.declared.step.Reply.TheVariants as reply
 use Rattle.iova_model.specs.declared.totals.Totals.{Totals}
-use Rattle.iova_model.specs.Clients.{Client, client_with, totals_of, totals}
+use Rattle.iova_model.specs.Clients.{Client, client_with, totals_of, totals, no_totals}
 use Rattle.iova_model.specs.Valid.{IsValid}
 use Rattle.iova_model.specs.Promises.{OnePlace, HoldersAreWithin, OwnersAreAligned}
 use Rattle.iova_model.specs.State.{State, counts}
@@ -36,9 +36,6 @@ pub record SeatState : Type 0 where
 pub record LedgersState : Type 0 where
   pub shares : Totals
   pub ended : ℕ
-
-abbrev pub nothing : Totals
-nothing = totals_of []
 
 -- a worker's new seat
 abbrev pub new_seat : ℕ → SeatState
@@ -239,4 +236,4 @@ MovesHeard (Some r) old new = MovesTotals r old new
 -- what an unmap with this reply queued
 abbrev pub queued_by : Reply → Totals
 queued_by (reply.Queued r) = totals_of (r ∷ [])
-queued_by r = nothing
+queued_by r = no_totals

@@ -2,11 +2,11 @@
 ghost use Rattle.std.specs.Prelude.{◌≡◌, ◌≢◌, ℕ, ◌+◌, ◌<◌, ◌≤◌, ◌++◌, Bool, Option, Some, None, List, IfOk, IfErr, IfSome, IsOk, MatchOption, MatchResult, length, vec_len, vec_capacity, ◌⊎◌, if◌then◌else◌};
 ghost use Rattle.iova_range.specs.declared.limits.TheConstants.{MAX_HOLDINGS};
 ghost use Rattle.iova_range.specs.Frames.{Frames};
-ghost use Rattle.iova_model.specs.Clients.{totals};
+ghost use Rattle.iova_model.specs.Clients.{totals, no_totals};
 ghost use Rattle.iova_model.specs.State.{State};
 ghost use Rattle.iova_model.specs.Valid.{Rises};
 ghost use Rattle.iova_model.specs.Laws.{MovesTotals, IsReplyTo, ended_well};
-ghost use Rattle.iova_keep.specs.Views.{TallyState, SeatState, WhereKnown, IsReserveRefusal, IsOpenRefusal, IsAllocRefusal, IsGivenTo, IsUnmapHeard, IsBeginHeard, IsReleaseBegin, IsSecondBegin, IsCloseHeard, MovesHeard, Lowers, queued_by, given_or, stat_of, nothing, IsKept};
+ghost use Rattle.iova_keep.specs.Views.{TallyState, SeatState, WhereKnown, IsReserveRefusal, IsOpenRefusal, IsAllocRefusal, IsGivenTo, IsUnmapHeard, IsBeginHeard, IsReleaseBegin, IsSecondBegin, IsCloseHeard, MovesHeard, Lowers, queued_by, given_or, stat_of, IsKept};
 ghost use Rattle.iova_keep.specs.Batches.{DoesBatch, TellsAsks};
 ghost use Rattle.iova_keep.specs.Releases.{ReleasesFirst, ReleasesAgain, ReleasesLast};
 ghost use Rattle.iova_keep.specs.StepLogs.{StepLog, GoesOn};
@@ -152,7 +152,7 @@ pub trait Keep<C: Ledger, F: Ledger, S: Ledger, G: Ledger> {
         ensures domain { WhereKnown (domain self.old) (domain self.new) (Begins result.begun) }
         ensures tally { tally.new ≡ tally.old }
         ensures heard { MatchOption result.begun ⊥ (λ b. IsReplyTo Step.Begin b) }
-        ensures none { (result.reply ≡ None) × (result.queued ≡ nothing) × (result.left ≡ 0) };
+        ensures none { (result.reply ≡ None) × (result.queued ≡ no_totals) × (result.left ≡ 0) };
 
     /// The second hold of a flush: it ends, as `ok` says. Refused by `NoFlight`. `ok` is what a
     /// sink answered for this flush.
@@ -165,7 +165,7 @@ pub trait Keep<C: Ledger, F: Ledger, S: Ledger, G: Ledger> {
             (λ r. tally.new.good ≡ tally.old.good + ended_well (Step.End no ok) r) }
         ensures parts { tally.new.parts ≡ tally.old.parts }
         ensures heard { MatchOption result.reply ⊥ (λ r. IsReplyTo (Step.End no ok) r) }
-        ensures none { (result.begun ≡ None) × (result.queued ≡ nothing) × (result.left ≡ 0) };
+        ensures none { (result.begun ≡ None) × (result.queued ≡ no_totals) × (result.left ≡ 0) };
 
     /// The first hold of a client's end: its ranges are queued, lowest first, until it is gone or a
     /// step is refused; where the ring is full, a flush begins.

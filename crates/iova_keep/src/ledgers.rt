@@ -1,9 +1,9 @@
 //! The four ledgers of a domain, whose shares its workers' seats and tallies hold.
 ghost use Rattle.std.specs.Prelude.{◌≡◌, ◌+◌, ◌*◌, ◌≤◌, ◌∷◌, [], IfOk, IsErr, Err};
 ghost use Rattle.iova_range.specs.declared.limits.TheConstants.{MAX_WORKERS, TALLY_PARTS};
-ghost use Rattle.iova_model.specs.Clients.{totals_of};
+ghost use Rattle.iova_model.specs.Clients.{totals_of, no_totals};
 ghost use Rattle.iova_model.specs.Laws.{add_totals};
-ghost use Rattle.iova_keep.specs.Views.{TallyState, SeatState, LedgersState, Covers, new_seats, nothing};
+ghost use Rattle.iova_keep.specs.Views.{TallyState, SeatState, LedgersState, Covers, new_seats};
 
 use crate::seat::{Seat, Tally};
 use iova_model::totals::Totals;
@@ -66,7 +66,7 @@ impl<C: Ledger, F: Ledger, S: Ledger, G: Ledger> Ledgers<C, F, S, G> {
         requires good { (good.name ≡ G.name) × (good.parts ≡ G.parts)
             × (good.parts ≡ TALLY_PARTS * workers) }
         requires workers { workers ≤ MAX_WORKERS }
-        ensures ok { IfOk result (λ r. (r.0 ≡ record { shares = nothing; ended = 0 })
+        ensures ok { IfOk result (λ r. (r.0 ≡ record { shares = no_totals; ended = 0 })
             × (r.1.items ≡ new_seats workers)) }
         ensures err { IsErr result → result ≡ Err Refusal.NoMemory }
     {

@@ -1,6 +1,7 @@
 //! What one worker keeps of its domain's totals.
 ghost use Rattle.std.specs.Prelude.{◌≡◌, ◌+◌, ◌<◌, ◌≤◌};
-ghost use Rattle.iova_keep.specs.Views.{TallyState, SeatState, nothing};
+ghost use Rattle.iova_model.specs.Clients.{no_totals};
+ghost use Rattle.iova_keep.specs.Views.{TallyState, SeatState};
 
 use iova_model::totals::Totals;
 use iova_range::range::Range;
@@ -137,7 +138,7 @@ impl<C: Ledger, F: Ledger, S: Ledger, G: Ledger> Seat<C, F, S, G> {
         requires framed { (framed.amount ≡ 0) × (framed.parts ≡ 1) }
         requires summed { (summed.amount ≡ 0) × (summed.parts ≡ 1) }
         requires worker { worker < C.parts }
-        ensures { result ≡ record { worker = worker; held = nothing; tally = tally } }
+        ensures { result ≡ record { worker = worker; held = no_totals; tally = tally } }
     {
         Seat {
             worker,

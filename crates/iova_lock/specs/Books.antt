@@ -6,9 +6,9 @@ use Rattle.iova_range.specs.Frames.{Frames}
 use Rattle.iova_model.specs.declared.step.Step.{Step}
 use Rattle.iova_model.specs.declared.step.Step.TheVariants as step
 use Rattle.iova_model.specs.declared.totals.Totals.{Totals}
-use Rattle.iova_model.specs.Clients.{Client, client_with, newer_client, totals}
+use Rattle.iova_model.specs.Clients.{Client, client_with, newer_client, totals, no_totals, holdings_in}
 use Rattle.iova_model.specs.State.{State, new_domain}
-use Rattle.iova_keep.specs.Views.{SeatState, IsKept, nothing}
+use Rattle.iova_keep.specs.Views.{SeatState, IsKept}
 use Rattle.iova_keep.specs.StepLogs.{StepLog, IsRecorded, GoesOn}
 
 -- A book: its domain's number, whether it is strict, its domain, and its log; and the totals of its
@@ -31,17 +31,12 @@ abbrev pub steps_in : Option StepLog → ℕ
 steps_in None = 0
 steps_in (Some log) = length log.pairs
 
--- The ranges of a client, none where there is no client.
-abbrev pub ranges_of : Option Client → List Frames
-ranges_of None = []
-ranges_of (Some c) = c.holdings
-
 -- What is read of the first client of a worker behind a serial: its own serial, and its ranges,
 -- which come behind those of before.
 pub record ReadsNewer (worker than : ℕ) (s : State) (before after : List Frames)
     (id : Option ℕ) : Type 0 where
   pub serial : id ≡ option_map (λ c. c.id) (newer_client worker than s.clients)
-  pub ranges : after ≡ before ++ ranges_of (option_and_then (λ i. client_with i s.clients) id)
+  pub ranges : after ≡ before ++ holdings_in (option_and_then (λ i. client_with i s.clients) id)
 
 -- a new domain's book
 abbrev pub new_book : ℕ → Extent → ℕ → Option StepLog → BookState
@@ -51,7 +46,7 @@ new_book number bounds workers log =
       strict = false;
       state = new_domain bounds workers;
       log = log;
-      shares = nothing;
+      shares = no_totals;
       ended = 0;
     }
 

@@ -4,7 +4,7 @@ ghost use Rattle.iova_report.specs.Report.{report_text};
 ghost use Rattle.std.specs.Prelude.{OnErr, OnOk, ◌++◌, ◌≡◌, ◌≢◌, ◌+◌, ◌<◌, ◌≤◌, ◌*◌, ◌⊎◌, ◌↔◌, Err, IsErr, option_copied, option_map, true, false, if◌then◌else◌, Some, None, [], ◌∷◌, IfOk, IfSome, MatchResult, MatchOption, List, length};
 ghost use Rattle.iova_range.specs.declared.limits.TheConstants.{MAX_HOLDINGS};
 ghost use Rattle.iova_range.specs.Frames.{Frames};
-ghost use Rattle.iova_model.specs.Clients.{totals, client_of};
+ghost use Rattle.iova_model.specs.Clients.{totals, client_of, no_totals};
 ghost use Rattle.iova_model.specs.State.{State, new_domain};
 ghost use Rattle.iova_model.specs.Valid.{Rises};
 ghost use Rattle.iova_model.specs.Laws.{MovesTotals, IsReplyTo, ended_well, to_queue, worker_of};
@@ -12,7 +12,7 @@ ghost use Rattle.iova_keep.specs.Steps.{Takes, IsGivenWithin, IsDrainReply};
 ghost use Rattle.iova_keep.specs.StepLogs.{StepLog, IsRecorded, is_recording, new_log};
 ghost use Rattle.iova_keep.specs.Events.{Does, Unmapping, IsShort, Closing, Draining, rings_from};
 ghost use Rattle.iova_lock.specs.Books.{BookState, IsSame, ReadsNewer, by_seat, by_tally, new_book, steps_in, IsBook};
-ghost use Rattle.iova_keep.specs.Views.{TallyState, SeatState, Covers, new_seats, left_of, stat_of, nothing, IsLowered, IsCloseHeard, IsKept};
+ghost use Rattle.iova_keep.specs.Views.{TallyState, SeatState, Covers, new_seats, left_of, stat_of, IsLowered, IsCloseHeard, IsKept};
 
 use iova_core::domain::Domain;
 use iova_core::{ClientId, Reply, Step};
@@ -162,13 +162,13 @@ impl<C: Ledger, F: Ledger, S: Ledger, G: Ledger> Book<C, F, S, G> {
         requires good { (good.name ≡ G.name) × (good.parts ≡ G.parts)
             × (good.parts ≡ TALLY_PARTS * workers) }
         requires workers { (workers ≤ MAX_WORKERS) × (machine.state.workers ≡ workers) }
-        requires new { (totals machine.state.clients ≡ nothing) × (machine.state.flushes.good ≡ 0) }
+        requires new { (totals machine.state.clients ≡ no_totals) × (machine.state.flushes.good ≡ 0) }
         ensures ok { IfOk result (λ r. (r.0 ≡ record {
           number = number;
           strict = false;
           state = machine.state;
           log = machine.log;
-          shares = nothing;
+          shares = no_totals;
           ended = 0;
         }) × (r.1.items ≡ new_seats workers)) }
         ensures err { IsErr result → result ≡ Err Refusal.NoMemory }

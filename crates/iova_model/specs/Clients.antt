@@ -74,6 +74,15 @@ abbrev pub totals_of : List Frames → Totals
 totals_of rs =
     record { count = length rs; frames = sum_by (λ r. r.len) rs; sum_lo = sum_by (λ r. r.lo) rs }
 
+-- of no holdings
+abbrev pub no_totals : Totals
+no_totals = totals_of []
+
+-- what a client holds, nothing where there is none
+abbrev pub holdings_in : Option Client → List Frames
+holdings_in None = []
+holdings_in (Some c) = c.holdings
+
 abbrev pub all_holdings : List Client → List Frames
 all_holdings [] = []
 all_holdings (c ∷ cs) = c.holdings ++ all_holdings cs

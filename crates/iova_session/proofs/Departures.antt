@@ -3,7 +3,7 @@ use Rattle.std.proofs.Common.{ℕ, ◌≡◌, ◌+◌, false, List, [], ◌∷�
 use Rattle.std.specs.Prelude.{Ok, Err, length, IfSome}
 use Rattle.iova_range.specs.Frames.{Frames}
 use Rattle.iova_model.specs.declared.totals.Totals.{Totals}
-use Rattle.iova_model.specs.Clients.{Client, client_of, client_with}
+use Rattle.iova_model.specs.Clients.{Client, client_of, client_with, holdings_in}
 use Rattle.iova_model.specs.State.{State}
 use Rattle.iova_laws.proofs.Finds.{owned}
 use Rattle.iova_sink.specs.declared.sink.SinkFault.{SinkFault}
@@ -13,7 +13,7 @@ use Rattle.iova_keep.specs.declared.ending.Why.TheVariants as why
 use Rattle.iova_keep.specs.Answers.{DoesEndClient}
 use Rattle.iova_keep.specs.Views.{SeatState, WhereKnown, left_in}
 use Rattle.iova_session.specs.declared.leaving.Leaving.{Leaving}
-use Rattle.iova_session.specs.Leaving.{holdings_in, is_silence, IsTold, Departs}
+use Rattle.iova_session.specs.Leaving.{is_silence, IsTold, Departs}
 
 good_gone : (calls : List Call) (domain client : ℕ) (ranges : List Frames) (answer : Result Unit SinkFault) → good_calls (calls ++ Gone domain client ranges answer ∷ []) ≡ good_calls calls
 good_gone [] domain client ranges answer = refl

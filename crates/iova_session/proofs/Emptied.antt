@@ -5,7 +5,7 @@ use Rattle.std.specs.List.{AllByRecursion}
 use Rattle.std.proofs.lemmas.Bool.{cases_eq}
 use Rattle.std.proofs.lemmas.Bool.Decides.{nat_tests}
 use Rattle.iova_range.specs.Frames.{Frames}
-use Rattle.iova_model.specs.Clients.{Client, client_with, client_of, has_id, if_owned, forgotten, all_holdings}
+use Rattle.iova_model.specs.Clients.{Client, client_with, client_of, has_id, if_owned, forgotten, all_holdings, holdings_in}
 use Rattle.iova_model.specs.State.{State}
 use Rattle.iova_model.specs.Valid.{SerialsRise}
 use Rattle.iova_model.specs.Laws.{StepsKeepValidity}
@@ -14,7 +14,7 @@ use Rattle.iova_sink.specs.Calls.{Call, Gone, failed_calls}
 use Rattle.iova_keep.specs.Views.{SeatState, WhereKnown, IsKept}
 use Rattle.iova_session.specs.declared.leaving.Leaving.{Leaving}
 use Rattle.iova_session.specs.declared.leaving.Attempt.{Attempt}
-use Rattle.iova_session.specs.Leaving.{holdings_in, IsTold, EndsAfter, Attempts}
+use Rattle.iova_session.specs.Leaving.{IsTold, EndsAfter, Attempts}
 use Rattle.iova_session.specs.Posts.{Retries, RetriesAll, kept_if}
 use Rattle.iova_session.specs.Gone.{IsOneOf, EndsAll, EndsWhereGood}
 use Rattle.iova_session.proofs.Gone.{forgotten_is_gone}

@@ -8,7 +8,7 @@ use Rattle.iova_model.specs.declared.step.Step.TheVariants as step
 use Rattle.iova_model.specs.declared.step.Reply.{Reply}
 use Rattle.iova_model.specs.declared.totals.Totals.{Totals}
 use Rattle.std.specs.Prelude.{length}
-use Rattle.iova_model.specs.Clients.{client_of}
+use Rattle.iova_model.specs.Clients.{client_of, holdings_in}
 use Rattle.iova_model.specs.State.{State}
 use Rattle.iova_model.specs.Laws.{held_by, client_named, OthersKeepTheirHoldings, StepsKeepValidity}
 use Rattle.iova_sink.specs.declared.sink.SinkFault.{SinkFault}
@@ -28,7 +28,7 @@ use Rattle.iova_proto.specs.declared.request.Request.{Request}
 use Rattle.iova_proto.specs.declared.request.Request.TheVariants as request
 use Rattle.iova_session.specs.Desks.{IsClientAnswer, next_client, client_after}
 use Rattle.iova_session.specs.declared.leaving.Leaving.{Leaving}
-use Rattle.iova_session.specs.Leaving.{holdings_in, IsTold, EndsAfter, Departs}
+use Rattle.iova_session.specs.Leaving.{IsTold, EndsAfter, Departs}
 use Rattle.iova_session.proofs.Departures.{left_ill}
 use Rattle.iova_session.specs.Domains.{KeepsOthers, IsLeft, LeavesOthers}
 use Rattle.iova_session.specs.Leading.{TellsAtMost}

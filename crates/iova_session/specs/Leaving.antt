@@ -3,7 +3,7 @@ use Rattle.std.specs.Prelude.{ℕ, ◌≡◌, Bool, true, false, List, [], ◌�
 use Rattle.iova_range.specs.declared.refusal.Refusal.{Refusal}
 use Rattle.iova_range.specs.Frames.{Frames}
 use Rattle.iova_model.specs.declared.totals.Totals.{Totals}
-use Rattle.iova_model.specs.Clients.{Client, client_of}
+use Rattle.iova_model.specs.Clients.{Client, client_of, holdings_in}
 use Rattle.iova_model.specs.State.{State}
 use Rattle.iova_sink.specs.declared.sink.SinkFault.{SinkFault}
 use Rattle.iova_sink.specs.declared.sink.SinkFault.TheVariants as fault
@@ -15,11 +15,6 @@ use Rattle.iova_keep.specs.declared.ending.Ending.TheVariants as ending
 use Rattle.iova_keep.specs.declared.ending.Why.TheVariants as why
 use Rattle.iova_session.specs.declared.leaving.Leaving.{Leaving}
 use Rattle.iova_session.specs.declared.leaving.Attempt.{Attempt}
-
--- what a client holds, nothing where there is none
-abbrev pub holdings_in : Option Client → List Frames
-holdings_in None = []
-holdings_in (Some c) = c.holdings
 
 -- What a sink is told before a client's end: nothing where it holds nothing; else that it is gone,
 -- which has these ranges. What was answered, between these calls of the sink.

@@ -2,10 +2,6 @@
 use Rattle.std.specs.Prelude.{ℕ, ◌≡◌, ◌+◌, ◌<◌, List, Option, Result, MatchResult, take}
 use Rattle.std.specs.Io.KnownBytes.{Appends}
 
--- how the failures are counted at a call that answers this
-abbrev pub CountsFailures : {A : Type 0} {E : Type 0} → Result A E → ℕ → ℕ → Type 0
-CountsFailures result old new = MatchResult result (λ v. new ≡ old) (λ e. new ≡ old + 1)
-
 -- how the ends are counted at a read that answers this, where there is room for so many bytes
 abbrev pub CountsEnds : {E : Type 0} → Result ℕ E → ℕ → ℕ → ℕ → Type 0
 CountsEnds result room old new =

@@ -1,7 +1,8 @@
 //! Requests asked, and their answers written.
 ghost use Rattle.std.specs.Prelude.{◌≡◌, ◌≢◌, ℕ, ◌+◌, ◌≤◌, ◌++◌, List, MatchResult, OnOk, OnErr, IfErr, ◌⊎◌, length, take};
+ghost use Rattle.iova_sink.specs.Counts.{CountsFailure};
 ghost use Rattle.std.specs.Io.KnownBytes.{Appends};
-ghost use Rattle.iova_session.specs.Links.{CountsFailures, AppendsFront};
+ghost use Rattle.iova_session.specs.Links.{AppendsFront};
 ghost use Rattle.iova_session.specs.Pairs.{Pair, answers_text};
 ghost use Rattle.iova_session.specs.Sessions.{failures_at, ends_at};
 ghost use Rattle.iova_session.specs.Rounds.{AsksRun, IsCut, CountsFault};

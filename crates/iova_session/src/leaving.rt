@@ -3,8 +3,8 @@ ghost use Rattle.std.specs.Prelude.{◌≡◌, ◌≢◌, ◌≤◌, [], true, v
 ghost use Rattle.iova_range.specs.declared.limits.TheConstants.{MAX_HOLDINGS};
 ghost use Rattle.iova_keep.specs.Views.{WhereKnown, LowersTold};
 ghost use Rattle.iova_session.specs.Desks.{KeepsPlace};
-ghost use Rattle.iova_session.specs.Leaving.{Attempts, Departs, IsTold, holdings_in, still_waits};
-ghost use Rattle.iova_model.specs.Clients.{client_of};
+ghost use Rattle.iova_session.specs.Leaving.{Attempts, Departs, IsTold, still_waits};
+ghost use Rattle.iova_model.specs.Clients.{client_of, holdings_in};
 
 use iova_keep::closing::end_client;
 use iova_keep::ending::{Ending, Why};

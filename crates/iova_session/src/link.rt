@@ -1,7 +1,8 @@
 //! What a session reads from and writes to.
 ghost use Rattle.std.specs.Prelude.{◌≡◌, ◌+◌, ◌<◌, ◌≤◌, ℕ, List, Option, Ok, IfOk, IsErr, OnErr, OnOk, length};
+ghost use Rattle.iova_sink.specs.Counts.{CountsFailure};
 ghost use Rattle.std.specs.Io.KnownBytes.{Appends, ReadConsumes, WriteAppends};
-ghost use Rattle.iova_session.specs.Links.{AppendsFront, CountsEnds, CountsFailures};
+ghost use Rattle.iova_session.specs.Links.{AppendsFront, CountsEnds};
 
 use std::io;
 use thiserror::Error;
@@ -35,7 +36,7 @@ pub trait Link {
         ensures bound { IfOk result (λ n. n ≤ length buf.old) }
         ensures bytes { ReadConsumes (left self.old) (left self.new) result buf.new }
         ensures reads { reads self.new ≡ reads self.old + 1 }
-        ensures failures { CountsFailures result (failures self.old) (failures self.new) }
+        ensures failures { CountsFailure result (failures self.old) (failures self.new) }
         ensures ends { CountsEnds result (length buf.old) (ends self.old) (ends self.new) }
         ensures sent { sent self.new ≡ sent self.old };
 
@@ -45,7 +46,7 @@ pub trait Link {
         ensures bound { IfOk result (λ n. n ≤ length bytes.now) }
         ensures some { IfOk result (λ n. 0 < length bytes.now → 0 < n) }
         ensures bytes { WriteAppends (sent self.old) (sent self.new) result bytes.now }
-        ensures failures { CountsFailures result (failures self.old) (failures self.new) }
+        ensures failures { CountsFailure result (failures self.old) (failures self.new) }
         ensures left { left self.new ≡ left self.old }
         ensures reads { reads self.new ≡ reads self.old }
         ensures ends { ends self.new ≡ ends self.old };
@@ -56,7 +57,7 @@ pub fn put_all<L: Link>(link: &mut L, bytes: &[u8]) -> Result<(), LinkFault>
     ensures left { L.left link.new ≡ L.left link.old }
     ensures reads { L.reads link.new ≡ L.reads link.old }
     ensures ends { L.ends link.new ≡ L.ends link.old }
-    ensures failures { CountsFailures result (L.failures link.old) (L.failures link.new) }
+    ensures failures { CountsFailure result (L.failures link.old) (L.failures link.new) }
     ensures ok { OnOk result (Appends (L.sent link.old) (L.sent link.new) bytes.now) }
     ensures err { OnErr result (AppendsFront (L.sent link.old) (L.sent link.new) bytes.now) }
 {

@@ -1,7 +1,8 @@
 //! A link in memory.
 ghost use Rattle.std.specs.Prelude.{◌≡◌, ◌≢◌, ◌+◌, ◌<◌, ◌≤◌, [], Some, IfOk, OnOk, MatchResult, length, min, true, false};
+ghost use Rattle.iova_sink.specs.Counts.{CountsFailure};
 ghost use Rattle.std.specs.Io.KnownBytes.{ReadConsumes, WriteAppends};
-ghost use Rattle.iova_session.specs.Links.{CountsFailures, CountsEnds};
+ghost use Rattle.iova_session.specs.Links.{CountsEnds};
 
 use crate::link::{Link, LinkFault};
 use iova_sink::count::Count;
@@ -116,7 +117,7 @@ impl<'a> Link for MemoryLink<'a> {
         ensures bound { IfOk result (λ n. n ≤ length buf.old) }
         ensures bytes { ReadConsumes (Some self.old.left) (Some self.new.left) result buf.new }
         ensures reads { self.new.reads ≡ self.old.reads + 1 }
-        ensures failures { CountsFailures result self.old.failures self.new.failures }
+        ensures failures { CountsFailure result self.old.failures self.new.failures }
         ensures ends { CountsEnds result (length buf.old) self.old.ends self.new.ends }
         ensures sent { self.new.sent ≡ self.old.sent }
         ensures most { IfOk result (λ n. n
@@ -149,7 +150,7 @@ impl<'a> Link for MemoryLink<'a> {
         ensures bound { IfOk result (λ n. n ≤ length bytes.now) }
         ensures some { IfOk result (λ n. 0 < length bytes.now → 0 < n) }
         ensures bytes { WriteAppends (Some self.old.sent) (Some self.new.sent) result bytes.now }
-        ensures failures { CountsFailures result self.old.failures self.new.failures }
+        ensures failures { CountsFailure result self.old.failures self.new.failures }
         ensures left { self.new.left ≡ self.old.left }
         ensures reads { self.new.reads ≡ self.old.reads }
         ensures ends { self.new.ends ≡ self.old.ends }
