@@ -1,8 +1,8 @@
-//! The flusher: rounds beside the workers.
+//! The flusher: rounds beside the workers, and flushes ahead of them.
 use crate::pause::Pause;
 use crate::threads::Beside;
 use crate::turns::Turns;
-use iova_keep::calls::timeout;
+use iova_keep::calls::{flush, timeout};
 use iova_keep::keep::Keep;
 use iova_keep::seat::Tally;
 use iova_range::refusal::Refusal;
@@ -11,6 +11,12 @@ use iova_sink::sink::Sink;
 use log::{Log, warn};
 use std::sync::Wait;
 use std::sync::ledger::Ledger;
+
+/// So many frames in rings, at least, let the flusher think that a ring may soon be full. Own.
+const FLUSH_AHEAD: u64 = 128;
+
+/// How many looks the flusher takes at a busy domain between two rounds. Own.
+const LOOKS: u64 = 64;
 
 /// What the flusher has: a keeper of the domain, a tally and a sink of its own, and its pauses.
 #[derive(Drop)]
@@ -22,6 +28,25 @@ pub(crate) struct Flusher<'e, R, N, K, G: Ledger, D, P> {
     pub sink: D,
     pub pause: P,
     pub turns: &'e Turns,
+    pub busy: Busy,
+}
+
+/// Whether the domain is busy, and how many frames are to be in rings for a flush ahead: the most
+/// with which workers seldom find a ring full.
+#[derive(Clone, Copy)]
+pub(crate) struct Busy {
+    is_busy: bool,
+    mark: u64,
+}
+
+impl Busy {
+    /// As long as nothing is known.
+    pub(crate) fn new() -> Busy {
+        Busy {
+            is_busy: false,
+            mark: FLUSH_AHEAD,
+        }
+    }
 }
 
 impl<'e, R, N, C, F, S, G, K, D, P> Beside<Post<C, F, S, G>> for Flusher<'e, R, N, K, G, D, P>
@@ -37,19 +62,83 @@ where
     P: Pause,
 {
     /// Makes a round after each pause, until a pause says stop or all workers have ended. A round
-    /// that is refused is a notice.
+    /// that is refused is a notice. Where a round freed many entries or a flush was made ahead
+    /// before it, it flushes ahead in place of the next pause.
     fn go_on(&mut self) {
         for _ in self.rt.forever() {
-            if !self.pause.pause() || self.turns.have_ended() {
+            let looked = self.busy.is_busy
+                && go_ahead(
+                    self.notices,
+                    &mut self.keeper,
+                    &mut self.tally,
+                    &mut self.sink,
+                    &mut self.pause,
+                    &mut self.busy,
+                );
+            if (!looked && !self.pause.pause()) || self.turns.have_ended() {
                 return;
             }
-            note_round(
-                self.notices,
-                timeout(&mut self.keeper, &mut self.tally, &mut self.sink),
-            );
+            let round = timeout(&mut self.keeper, &mut self.tally, &mut self.sink);
+            if let Ok(freed) = round
+                && freed >= FLUSH_AHEAD
+            {
+                self.busy.is_busy = true;
+            }
+            note_round(self.notices, round);
         }
         unreachable!()
     }
+}
+
+/// Flushes before the next round is due, where so much waits in rings that workers would soon find
+/// them full: so these needn't flush themselves, and wait for the sink. What was flushed they drain
+/// at their next unmap. False where it ended early: where no look is to be made, and where a flush
+/// is refused, which is a notice.
+fn go_ahead<N, C, F, S, G, K, D, P>(
+    notices: &N,
+    keeper: &mut K,
+    tally: &mut Tally<G>,
+    sink: &mut D,
+    pause: &mut P,
+    busy: &mut Busy,
+) -> bool
+where
+    N: Log,
+    C: Ledger,
+    F: Ledger,
+    S: Ledger,
+    G: Ledger,
+    K: Keep<C, F, S, G>,
+    D: Sink,
+    P: Pause,
+{
+    busy.is_busy = false;
+    let mut start = keeper.stat().start;
+    for _ in 0..LOOKS {
+        if !pause.pause_shortly() {
+            return false;
+        }
+        let stat = keeper.stat();
+        if stat.start != start {
+            // a worker found its ring full
+            start = stat.start;
+            busy.mark = (busy.mark / 2).max(FLUSH_AHEAD / 2);
+        }
+        if stat.ring >= busy.mark {
+            match flush(keeper, tally, sink) {
+                Ok(number) => {
+                    start = number;
+                    busy.is_busy = true;
+                    busy.mark = busy.mark.saturating_add(busy.mark / 16);
+                }
+                Err(refusal) => {
+                    note_round::<N>(notices, Err(refusal));
+                    return false;
+                }
+            }
+        }
+    }
+    true
 }
 
 /// A round that is refused is a notice.

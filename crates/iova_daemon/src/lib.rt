@@ -25,7 +25,7 @@ use crate::crossing::{domains_are_sync, posts_are_send, turns_are_sync};
 use crate::pause::Pause;
 use crate::turns::Turns;
 use crate::worker::Lent;
-use flusher::Flusher;
+use flusher::{Busy, Flusher};
 use iova_keep::keep::Keep;
 use iova_lock::shared::Shared;
 use iova_range::refusal::Refusal;
@@ -223,6 +223,7 @@ where
         sink,
         pause,
         turns: &turns,
+        busy: Busy::new(),
     };
     let lent = Lent {
         rt,

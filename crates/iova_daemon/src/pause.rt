@@ -4,13 +4,22 @@ use std::rt::Clock;
 use std::thread;
 use std::time::Duration;
 
-/// What a flusher waits for before each round. Own.
+/// The time between two looks at a busy domain, in microseconds. Own.
+const LOOK_PAUSE: u64 = 100;
+
+/// What a flusher waits for before each round, and between its looks at a busy domain. Own.
 pub trait Pause {
     /// Waits for the next round. False: there is none, the flusher stops.
     fn pause(&mut self) -> bool;
+
+    /// Waits for the next look between two rounds. False: none is made before the next round.
+    fn pause_shortly(&mut self) -> bool {
+        false
+    }
 }
 
-/// A round each 10 milliseconds, and the time that it takes itself. It never stops. Own.
+/// A round each 10 milliseconds, and the time that it takes itself; of a busy domain a look each
+/// 100 microseconds between them. It never stops. Own.
 #[derive(Drop)]
 pub struct Ticks<'a, C> {
     clock: &'a C,
@@ -26,6 +35,11 @@ impl<'a, C> Ticks<'a, C> {
 impl<'a, C: Clock> Pause for Ticks<'a, C> {
     fn pause(&mut self) -> bool {
         thread::sleep(self.clock, Duration::from_millis(FLUSH_PAUSE));
+        true
+    }
+
+    fn pause_shortly(&mut self) -> bool {
+        thread::sleep(self.clock, Duration::from_micros(LOOK_PAUSE));
         true
     }
 }
