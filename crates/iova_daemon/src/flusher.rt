@@ -73,6 +73,7 @@ where
                     &mut self.tally,
                     &mut self.sink,
                     &mut self.pause,
+                    self.turns,
                     &mut self.busy,
                 );
             if (!looked && !self.pause.pause()) || self.turns.have_ended() {
@@ -92,14 +93,16 @@ where
 
 /// Flushes before the next round is due, where so much waits in rings that workers would soon find
 /// them full: so these needn't flush themselves, and wait for the sink. What was flushed they drain
-/// at their next unmap. False where it ended early: where no look is to be made, and where a flush
-/// is refused, which is a notice.
+/// at their next unmap; so rings in which as much waits as at the last flush made here have most
+/// likely nothing new. False where it ended early: where no look is to be made, where all workers
+/// have ended, and where a flush is refused, which is a notice.
 fn go_ahead<N, C, F, S, G, K, D, P>(
     notices: &N,
     keeper: &mut K,
     tally: &mut Tally<G>,
     sink: &mut D,
     pause: &mut P,
+    turns: &Turns,
     busy: &mut Busy,
 ) -> bool
 where
@@ -114,8 +117,9 @@ where
 {
     busy.is_busy = false;
     let mut start = keeper.stat().start;
+    let mut flushed = 0;
     for _ in 0..LOOKS {
-        if !pause.pause_shortly() {
+        if !pause.pause_shortly() || turns.have_ended() {
             return false;
         }
         let stat = keeper.stat();
@@ -124,7 +128,8 @@ where
             start = stat.start;
             busy.mark = (busy.mark / 2).max(FLUSH_AHEAD / 2);
         }
-        if stat.ring >= busy.mark {
+        if stat.ring >= busy.mark && stat.ring != flushed {
+            flushed = stat.ring;
             match flush(keeper, tally, sink) {
                 Ok(number) => {
                     start = number;
