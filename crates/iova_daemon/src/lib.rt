@@ -120,9 +120,10 @@ where
 /// (`close`). Once no link is to come any more (`has_ended`), a worker tries its waiting clients a
 /// last time and stops. What is to be done `aside` has a thread of its own. The flusher repeats: it
 /// pauses, and stops where the pause says so or all workers have ended; else it makes a round
-/// (`timeout`). A session that ends by `LinkFault` or `NoMemory`, a sink that fails, a round that
-/// is refused and a thread that can't be started are notices, a line each; each other end of a
-/// session is one of the level `debug`.
+/// (`timeout`). At a busy domain it takes looks in place of the pause (`pause_shortly`), and
+/// flushes where much waits in rings. A session that ends by `LinkFault` or `NoMemory`, a sink that
+/// fails, a round or such a flush that is refused and a thread that can't be started are notices, a
+/// line each; each other end of a session is one of the level `debug`.
 ///
 /// Refused by `LinkFault` where a thread can't be started: then no link has been accepted, and
 /// those that were started are joined. Refused by `NoMemory` before the first one is started. Own.

@@ -66,6 +66,9 @@ struct Case {
     /// and raises.
     rounds: Option<u64>,
     between: Option<(usize, usize)>,
+    /// The flags of a look that it takes between rounds, where it takes one: the look waits until
+    /// the second one is raised.
+    look: Option<(usize, usize)>,
     /// Which flags are raised at the end, and which are not.
     raised: &'static [usize],
     unraised: &'static [usize],
@@ -110,6 +113,7 @@ const SERVED: Case = Case {
     fail_at: (0, 0),
     rounds: Some(0),
     between: None,
+    look: None,
     raised: &[],
     unraised: &[],
     accepts: None,
@@ -311,6 +315,24 @@ const TRIED_AGAIN: Case = Case {
     ..SERVED
 };
 
+/// The flusher's round frees what the first session's client had, 200 ranges, so that it takes a
+/// look before the next round. That one finds as many of the third session's client in the ring,
+/// and flushes; it drains nothing. The sessions between these tell that they are over.
+const AHEAD: Case = Case {
+    name: "a flush ahead",
+    sessions: 4,
+    rounds: Some(1),
+    between: Some((FIRST, OPEN)),
+    look: Some((SECOND, THIRD)),
+    raised: &[FIRST, SECOND, THIRD],
+    accepts: Some(4),
+    notices: Some(0),
+    kept: Some((0, 200)),
+    flushes: Some((2, 2)),
+    is_empty: true,
+    ..SERVED
+};
+
 /// A sink for each worker, and the flusher's. None for want of memory.
 fn sinks_of<'a>(alloc: Global, case: &Case, flags: &'a [Flag; 5]) -> Option<Vec<GatedSink<'a>>> {
     let mut sinks = Vec::new(alloc);
@@ -353,10 +375,15 @@ fn serve_case<R: Threads + Wait + Sync>(
         Some((before, after)) => (flags.get(before), flags.get(after)),
         None => (None, None),
     };
+    let look = match case.look {
+        Some((begun, before)) => pair_of(flags.get(begun), flags.get(before)),
+        None => None,
+    };
     let rounds = Rounds {
         before,
         left: case.rounds,
         after,
+        look,
     };
     match sinks_of(alloc, case, flags) {
         Some(sinks) => serve_few(
@@ -370,6 +397,14 @@ fn serve_case<R: Threads + Wait + Sync>(
             case.sessions,
         ),
         None => Err(BEFORE),
+    }
+}
+
+/// Both flags, where both are there.
+fn pair_of<'a>(one: Option<&'a Flag>, other: Option<&'a Flag>) -> Option<(&'a Flag, &'a Flag)> {
+    match (one, other) {
+        (Some(one), Some(other)) => Some((one, other)),
+        _ => None,
     }
 }
 
@@ -672,6 +707,32 @@ fn what_is_served(rt: HostRuntime) -> Result<(), Fail> {
         ..SILENT
     };
     assert_eq!(rt; check(&rt, rt.alloc(), &TRIED_AGAIN, &[row]), "");
+    let input = repeated(
+        rt.alloc(),
+        &[(b"hello iova1 0 dac\n", 1), (b"alloc 1 4095\n", 200)],
+    )?;
+    let row = Row {
+        input: input.as_slice(),
+        ..SILENT
+    };
+    let over = Row {
+        input: b"bye\n",
+        answers: b"bye\n",
+        ..SILENT
+    };
+    let rows = [
+        row,
+        over,
+        Row {
+            before: Some(SECOND),
+            ..row
+        },
+        Row {
+            answered: THIRD,
+            ..over
+        },
+    ];
+    assert_eq!(rt; check(&rt, rt.alloc(), &AHEAD, &rows), "");
     Ok(())
 }
 

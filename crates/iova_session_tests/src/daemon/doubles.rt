@@ -99,12 +99,14 @@ impl<'a> Accept<RowLink<'a>> for Rows<'a> {
 }
 
 /// So many rounds, or rounds as fast as they come. It waits for a flag before each of them, and
-/// raises another one once it stops, where it has such.
+/// raises another one once it stops, where it has such. Where it has two more flags there is one
+/// look between rounds: it raises the first of them, and waits for the second.
 #[derive(Drop)]
 pub struct Rounds<'a> {
     pub before: Option<&'a Flag>,
     pub left: Option<u64>,
     pub after: Option<&'a Flag>,
+    pub look: Option<(&'a Flag, &'a Flag)>,
 }
 
 impl<'a> Pause for Rounds<'a> {
@@ -123,6 +125,15 @@ impl<'a> Pause for Rounds<'a> {
             after.raise();
         }
         left > 0
+    }
+
+    fn pause_shortly(&mut self) -> bool {
+        let Some((begun, before)) = self.look.take() else {
+            return false;
+        };
+        begun.raise();
+        before.wait();
+        true
     }
 }
 
