@@ -119,7 +119,7 @@ where
     let mut start = keeper.stat().start;
     let mut flushed = 0;
     for _ in 0..LOOKS {
-        if !pause.pause_shortly() || turns.have_ended() {
+        if turns.have_ended() || !pause.pause_shortly() {
             return false;
         }
         let stat = keeper.stat();
