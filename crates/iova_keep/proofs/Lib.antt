@@ -2,3 +2,4 @@ mod Doing
 mod Closings
 mod Endings
 mod Releases
+mod Seating

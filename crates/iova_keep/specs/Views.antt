@@ -1,5 +1,5 @@
 -- What contracts see of seats and tallies, and what a keeper tells.
-use Rattle.std.specs.Prelude.{ℕ, zero, suc, ◌≡◌, ◌+◌, ◌<◌, ◌≤◌, ◌%◌, ◌⊎◌, List, [], ◌∷◌, ◌++◌, length, Option, Some, None, Result, Ok, Err, MatchOption}
+use Rattle.std.specs.Prelude.{ℕ, zero, suc, ◌≡◌, ◌+◌, ◌*◌, ◌<◌, ◌≤◌, ◌%◌, ◌⊎◌, List, [], ◌∷◌, ◌++◌, length, Option, Some, None, Result, Ok, Err, MatchOption}
 use Rattle.iova_range.specs.declared.refusal.Refusal.{Refusal}
 use Rattle.iova_range.specs.declared.refusal.Refusal.TheVariants as refusal
 use Rattle.iova_range.specs.Frames.{Frames}
@@ -37,19 +37,33 @@ pub record LedgersState : Type 0 where
   pub shares : Totals
   pub ended : ℕ
 
--- a worker's new seat
-abbrev pub new_seat : ℕ → SeatState
-new_seat worker =
+-- one of the workers of a domain, by the parts that all tallies of the domain have
+abbrev pub IsWorker : ℕ → ℕ → Type 0
+IsWorker parts worker = TALLY_PARTS * worker < parts
+
+-- a worker's new seat, with so many parts for its tally
+abbrev pub seat_with : ℕ → ℕ → SeatState
+seat_with parts worker =
     record {
       worker = worker;
       held = record { count = 0; frames = 0; sum_lo = 0 };
-      tally = record { good = 0; parts = TALLY_PARTS };
+      tally = record { good = 0; parts = parts };
     }
 
--- the new seats of the workers below a number
+-- a new seat that is its worker's only one
+abbrev pub new_seat : ℕ → SeatState
+new_seat worker = seat_with TALLY_PARTS worker
+
+-- So many new seats, of so many workers in turn: behind one of the last worker comes another one of
+-- worker 0.
+abbrev pub seats_in_turn : (parts workers n : ℕ) → List SeatState
+seats_in_turn parts workers zero = []
+seats_in_turn parts workers (suc n) =
+    seats_in_turn parts workers n ++ seat_with parts (n % workers) ∷ []
+
+-- a new seat for each worker
 abbrev pub new_seats : ℕ → List SeatState
-new_seats zero = []
-new_seats (suc n) = new_seats n ++ new_seat n ∷ []
+new_seats workers = seats_in_turn TALLY_PARTS workers workers
 
 -- a seat has less than a range, in one of its shares
 abbrev pub Lacks : Totals → Frames → Type 0

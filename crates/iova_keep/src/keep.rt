@@ -6,7 +6,7 @@ ghost use Rattle.iova_model.specs.Clients.{totals, no_totals};
 ghost use Rattle.iova_model.specs.State.{State};
 ghost use Rattle.iova_model.specs.Valid.{Rises};
 ghost use Rattle.iova_model.specs.Laws.{MovesTotals, IsReplyTo, ended_well};
-ghost use Rattle.iova_keep.specs.Views.{TallyState, SeatState, WhereKnown, IsReserveRefusal, IsOpenRefusal, IsAllocRefusal, IsGivenTo, IsUnmapHeard, IsBeginHeard, IsReleaseBegin, IsSecondBegin, IsCloseHeard, MovesHeard, Lowers, queued_by, given_or, stat_of, IsKept};
+ghost use Rattle.iova_keep.specs.Views.{TallyState, SeatState, WhereKnown, IsReserveRefusal, IsOpenRefusal, IsAllocRefusal, IsGivenTo, IsUnmapHeard, IsBeginHeard, IsReleaseBegin, IsSecondBegin, IsCloseHeard, MovesHeard, Lowers, queued_by, given_or, stat_of, IsKept, IsWorker};
 ghost use Rattle.iova_keep.specs.Batches.{DoesBatch, TellsAsks};
 ghost use Rattle.iova_keep.specs.Releases.{ReleasesFirst, ReleasesAgain, ReleasesLast};
 ghost use Rattle.iova_keep.specs.StepLogs.{StepLog, GoesOn};
@@ -271,7 +271,7 @@ pub trait Keep<C: Ledger, F: Ledger, S: Ledger, G: Ledger> {
         ensures log { GoesOn (log self.old) (log self.new) }
         ensures domain { WhereKnown (domain self.old) (domain self.new) (DrainsAll by result) }
         ensures refusal { IfErr result (λ e. e ≡ Refusal.NoWorker) }
-        ensures known { by < C.parts → IsOk result }
+        ensures known { IsWorker G.parts by → IsOk result }
         ensures first { by ≡ 0 → IsOk result };
 
     /// Does the asks in order, in one hold, and stops before the first free whose ring is full, in

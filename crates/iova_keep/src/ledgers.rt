@@ -1,13 +1,12 @@
-//! The four ledgers of a domain, whose shares its workers' seats and tallies hold.
+//! The four ledgers of a domain, whose shares its seats and tallies hold.
 ghost use Rattle.std.specs.Prelude.{◌≡◌, ◌+◌, ◌*◌, ◌≤◌, ◌∷◌, [], IfOk, IsErr, Err};
-ghost use Rattle.iova_range.specs.declared.limits.TheConstants.{MAX_WORKERS, TALLY_PARTS};
+ghost use Rattle.iova_range.specs.declared.limits.TheConstants.{TALLY_PARTS};
 ghost use Rattle.iova_model.specs.Clients.{totals_of, no_totals};
 ghost use Rattle.iova_model.specs.Laws.{add_totals};
-ghost use Rattle.iova_keep.specs.Views.{TallyState, SeatState, LedgersState, Covers, new_seats};
+ghost use Rattle.iova_keep.specs.Views.{TallyState, SeatState, LedgersState, Covers, seats_in_turn};
 
 use crate::seat::{Seat, Tally};
 use iova_model::totals::Totals;
-use iova_range::limits::{MAX_WORKERS, TALLY_PARTS};
 use iova_range::range::Range;
 use iova_range::refusal::Refusal;
 use std::alloc::Global;
@@ -49,41 +48,46 @@ impl<C: Ledger, F: Ledger, S: Ledger, G: Ledger> Model for Ledgers<C, F, S, G> {
 }
 
 impl<C: Ledger, F: Ledger, S: Ledger, G: Ledger> Ledgers<C, F, S, G> {
-    /// The ledgers of a new domain, all at 0, and a seat for each worker. Refused by `NoMemory`.
+    /// The ledgers of a new domain, all at 0, and so many seats, of its workers in turn, each with
+    /// so many parts for its tally. Refused by `NoMemory`.
+    #[tactic(auto, using(crate::proofs::Seating::room, crate::proofs::Seating::one_more))]
     pub fn open(
         alloc: Global,
         workers: u64,
+        seats: u64,
+        parts: u64,
         count: Blank,
         frames: Blank,
         sum_lo: Blank,
         good: Blank,
     ) -> Result<(Ledgers<C, F, S, G>, Vec<Seat<C, F, S, G>>), Refusal>
-        requires count { (count.name ≡ C.name) × (count.parts ≡ C.parts) × (count.parts ≡ workers) }
+        requires count { (count.name ≡ C.name) × (count.parts ≡ C.parts) × (count.parts ≡ seats) }
         requires frames { (frames.name ≡ F.name) × (frames.parts ≡ F.parts)
-            × (frames.parts ≡ workers) }
+            × (frames.parts ≡ seats) }
         requires sum_lo { (sum_lo.name ≡ S.name) × (sum_lo.parts ≡ S.parts)
-            × (sum_lo.parts ≡ workers) }
+            × (sum_lo.parts ≡ seats) }
         requires good { (good.name ≡ G.name) × (good.parts ≡ G.parts)
             × (good.parts ≡ TALLY_PARTS * workers) }
-        requires workers { workers ≤ MAX_WORKERS }
+        requires workers { 1 ≤ workers }
+        requires parts { (1 ≤ parts) × (parts * seats ≤ TALLY_PARTS * workers) }
         ensures ok { IfOk result (λ r. (r.0 ≡ record { shares = no_totals; ended = 0 })
-            × (r.1.items ≡ new_seats workers)) }
+            × (r.1.items ≡ seats_in_turn parts workers seats)) }
         ensures err { IsErr result → result ≡ Err Refusal.NoMemory }
     {
         let (count, mut counted) = count.open::<C>();
         let (frames, mut framed) = frames.open::<F>();
         let (sum_lo, mut summed) = sum_lo.open::<S>();
         let (good, mut ended) = good.open::<G>();
-        let mut seats = Vec::new(alloc);
-        for worker in 0..workers {
+        let mut opened = Vec::new(alloc);
+        for at in 0..seats {
             let seat = Seat::new(
-                worker,
+                at % workers,
                 counted.split_off(1, 0),
                 framed.split_off(1, 0),
                 summed.split_off(1, 0),
-                Tally::new(TALLY_PARTS, ended.split_off(TALLY_PARTS, 0)),
+                Tally::new(parts, ended.split_off(parts, 0)),
             );
-            if seats.push(seat).is_err() {
+            if opened.push(seat).is_err() {
                 return Err(Refusal::NoMemory);
             }
         }
@@ -94,7 +98,7 @@ impl<C: Ledger, F: Ledger, S: Ledger, G: Ledger> Ledgers<C, F, S, G> {
                 sum_lo,
                 good,
             },
-            seats,
+            opened,
         ))
     }
 

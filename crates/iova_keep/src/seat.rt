@@ -1,7 +1,7 @@
-//! What one worker keeps of its domain's totals.
-ghost use Rattle.std.specs.Prelude.{◌≡◌, ◌+◌, ◌<◌, ◌≤◌};
+//! What a seat at a domain keeps of the domain's totals.
+ghost use Rattle.std.specs.Prelude.{◌≡◌, ◌+◌, ◌≤◌};
 ghost use Rattle.iova_model.specs.Clients.{no_totals};
-ghost use Rattle.iova_keep.specs.Views.{TallyState, SeatState};
+ghost use Rattle.iova_keep.specs.Views.{TallyState, SeatState, IsWorker};
 
 use iova_model::totals::Totals;
 use iova_range::range::Range;
@@ -59,7 +59,7 @@ impl<G: Ledger> Tally<G> {
         self.good
     }
 
-    /// Its parts of the ledger; 256 in a new seat.
+    /// Its parts of the ledger: as many as its seat was opened with (`Ledgers::open`).
     pub fn parts(&self) -> u64
         ensures { result ≡ self.now.parts }
     {
@@ -82,8 +82,9 @@ impl<G: Ledger> Tally<G> {
     }
 }
 
-/// A worker's place at the domain: its shares of the count, the frames and the sum of first frames
-/// of all holdings, which each call moves by what it answers, and its tally. A seat of another
+/// A place at the domain, of one of its workers: its shares of the count, the frames and the sum of
+/// first frames of all holdings, which each call moves by what it answers, and its tally. A worker
+/// may have several seats, and each has the shares of what was given to it alone. A seat of another
 /// domain has another type, and its worker is one of the domain's. Own.
 pub struct Seat<C: Ledger, F: Ledger, S: Ledger, G: Ledger> {
     pub(crate) worker: u64,
@@ -109,8 +110,8 @@ impl<C: Ledger, F: Ledger, S: Ledger, G: Ledger> Drop for Seat<C, F, S, G> {
 }
 
 impl<C: Ledger, F: Ledger, S: Ledger, G: Ledger> Model for Seat<C, F, S, G> {
-    ghost use Rattle.std.specs.Prelude.{◌≡◌, ◌<◌};
-    ghost use Rattle.iova_keep.specs.Views.{SeatState};
+    ghost use Rattle.std.specs.Prelude.{◌≡◌};
+    ghost use Rattle.iova_keep.specs.Views.{SeatState, IsWorker};
 
     ghost Value = { SeatState };
 
@@ -118,7 +119,7 @@ impl<C: Ledger, F: Ledger, S: Ledger, G: Ledger> Model for Seat<C, F, S, G> {
 
     ghost invariant = { λ s. (s.counted.amount ≡ s.held.count) × (s.counted.parts ≡ 1)
         × (s.framed.amount ≡ s.held.frames) × (s.framed.parts ≡ 1)
-        × (s.summed.amount ≡ s.held.sum_lo) × (s.summed.parts ≡ 1) × (s.worker < C.parts) };
+        × (s.summed.amount ≡ s.held.sum_lo) × (s.summed.parts ≡ 1) × IsWorker G.parts s.worker };
 }
 
 impl<C: Ledger, F: Ledger, S: Ledger, G: Ledger> Seat<C, F, S, G> {
@@ -137,7 +138,7 @@ impl<C: Ledger, F: Ledger, S: Ledger, G: Ledger> Seat<C, F, S, G> {
         requires counted { (counted.amount ≡ 0) × (counted.parts ≡ 1) }
         requires framed { (framed.amount ≡ 0) × (framed.parts ≡ 1) }
         requires summed { (summed.amount ≡ 0) × (summed.parts ≡ 1) }
-        requires worker { worker < C.parts }
+        requires worker { IsWorker G.parts worker }
         ensures { result ≡ record { worker = worker; held = no_totals; tally = tally } }
     {
         Seat {
@@ -168,7 +169,7 @@ impl<C: Ledger, F: Ledger, S: Ledger, G: Ledger> Seat<C, F, S, G> {
     /// The worker, one of the domain's.
     pub fn worker(&self) -> u64
         ensures is { result ≡ self.now.worker }
-        ensures known { result < C.parts }
+        ensures known { IsWorker G.parts result }
     {
         self.worker
     }

@@ -21,10 +21,11 @@ pub record BookState : Type 0 where
   pub shares : Totals
   pub ended : ℕ
 
--- a lock round a book: the domain's number, and how many workers it has
+-- a lock round a book: the domain's number, how many workers it has, and how many seats there are
 pub record SharedState : Type 0 where
   pub number : ℕ
   pub workers : ℕ
+  pub seats : ℕ
 
 -- how many steps are recorded
 abbrev pub steps_in : Option StepLog → ℕ
@@ -90,9 +91,9 @@ abbrev pub have_seats : ℕ → List SeatState → Bool
 have_seats zero seats = true
 have_seats (suc n) seats = have_seats n seats && has_seat n seats
 
--- as many seats as workers, and one of each
-abbrev pub is_each_once : ℕ → List SeatState → Bool
-is_each_once workers seats = (length seats == workers) && have_seats workers seats
+-- so many seats, and one of each worker among them; of as many seats as workers each is there once
+abbrev pub are_all : (count workers : ℕ) → List SeatState → Bool
+are_all count workers seats = (length seats == count) && have_seats workers seats
 
 -- the sums of their shares
 abbrev pub held_sum : List SeatState → Totals

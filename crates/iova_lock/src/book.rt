@@ -2,7 +2,7 @@
 ghost use Rattle.iova_record.specs.Records.{WritesLog};
 ghost use Rattle.iova_report.specs.Report.{report_text};
 ghost use Rattle.std.specs.Prelude.{OnErr, OnOk, ◌++◌, ◌≡◌, ◌≢◌, ◌+◌, ◌<◌, ◌≤◌, ◌*◌, ◌⊎◌, ◌↔◌, Err, IsErr, option_copied, option_map, true, false, if◌then◌else◌, Some, None, [], ◌∷◌, IfOk, IfSome, MatchResult, MatchOption, List, length};
-ghost use Rattle.iova_range.specs.declared.limits.TheConstants.{MAX_HOLDINGS};
+ghost use Rattle.iova_range.specs.declared.limits.TheConstants.{MAX_CLIENTS, MAX_HOLDINGS, MAX_PAIRS, SEAT_PARTS, TALLY_PARTS};
 ghost use Rattle.iova_range.specs.Frames.{Frames};
 ghost use Rattle.iova_model.specs.Clients.{totals, client_of, no_totals};
 ghost use Rattle.iova_model.specs.State.{State, new_domain};
@@ -12,7 +12,7 @@ ghost use Rattle.iova_keep.specs.Steps.{Takes, IsGivenWithin, IsDrainReply};
 ghost use Rattle.iova_keep.specs.StepLogs.{StepLog, IsRecorded, is_recording, new_log};
 ghost use Rattle.iova_keep.specs.Events.{Does, Unmapping, IsShort, Closing, Draining, rings_from};
 ghost use Rattle.iova_lock.specs.Books.{BookState, IsSame, ReadsNewer, by_seat, by_tally, new_book, steps_in, IsBook};
-ghost use Rattle.iova_keep.specs.Views.{TallyState, SeatState, Covers, new_seats, left_of, stat_of, IsLowered, IsCloseHeard, IsKept};
+ghost use Rattle.iova_keep.specs.Views.{TallyState, SeatState, Covers, IsWorker, new_seats, seats_in_turn, left_of, stat_of, IsLowered, IsCloseHeard, IsKept};
 
 use iova_core::domain::Domain;
 use iova_core::{ClientId, Reply, Step};
@@ -20,7 +20,7 @@ use iova_keep::ledgers::Ledgers;
 use iova_keep::seat::{Seat, Tally};
 use iova_model::totals::Totals;
 use iova_range::bounds::Bounds;
-use iova_range::limits::{MAX_ENTRIES, MAX_WORKERS, TALLY_PARTS};
+use iova_range::limits::{MAX_ENTRIES, MAX_WORKERS, SEAT_PARTS, TALLY_PARTS};
 use iova_range::range::Range;
 use iova_range::refusal::Refusal;
 use iova_range::stat::Stat;
@@ -33,6 +33,7 @@ use std::sync::ledger::{Blank, Ledger, Share};
 /// A domain, with the ledgers of its totals and of its flushes that ended well.
 pub struct Book<C: Ledger, F: Ledger, S: Ledger, G: Ledger> {
     number: u64,
+    seats: u64,
     strict: bool,
     machine: Machine,
     ledgers: Ledgers<C, F, S, G>,
@@ -43,6 +44,7 @@ impl<C: Ledger, F: Ledger, S: Ledger, G: Ledger> Drop for Book<C, F, S, G> {
     fn drop(self) {
         let Book {
             number: _,
+            seats: _,
             strict: _,
             machine: _,
             ledgers: _,
@@ -51,7 +53,8 @@ impl<C: Ledger, F: Ledger, S: Ledger, G: Ledger> Drop for Book<C, F, S, G> {
 }
 
 impl<C: Ledger, F: Ledger, S: Ledger, G: Ledger> Model for Book<C, F, S, G> {
-    ghost use Rattle.std.specs.Prelude.{◌≡◌};
+    ghost use Rattle.std.specs.Prelude.{◌≡◌, ◌*◌};
+    ghost use Rattle.iova_range.specs.declared.limits.TheConstants.{TALLY_PARTS};
     ghost use Rattle.iova_model.specs.Clients.{totals};
     ghost use Rattle.iova_lock.specs.Books.{BookState};
 
@@ -67,8 +70,9 @@ impl<C: Ledger, F: Ledger, S: Ledger, G: Ledger> Model for Book<C, F, S, G> {
     } };
 
     ghost invariant = { λ b. (b.ledgers.shares ≡ totals b.machine.state.clients)
-        × (b.ledgers.ended ≡ b.machine.state.flushes.good) × (b.machine.state.workers ≡ C.parts)
-        × (F.parts ≡ C.parts) × (S.parts ≡ C.parts) };
+        × (b.ledgers.ended ≡ b.machine.state.flushes.good)
+        × (G.parts ≡ TALLY_PARTS * b.machine.state.workers) × (C.parts ≡ b.seats)
+        × (F.parts ≡ b.seats) × (S.parts ≡ b.seats) };
 }
 
 impl<C: Ledger, F: Ledger, S: Ledger, G: Ledger> Book<C, F, S, G> {
@@ -102,7 +106,18 @@ impl<C: Ledger, F: Ledger, S: Ledger, G: Ledger> Book<C, F, S, G> {
             ⊎ (result ≡ Err Refusal.NoMemory) }
     {
         match Machine::new(alloc, bounds, workers) {
-            Ok(machine) => Book::over(alloc, number, workers, machine, count, frames, sum_lo, good),
+            Ok(machine) => Book::over(
+                alloc,
+                number,
+                workers,
+                workers,
+                TALLY_PARTS,
+                machine,
+                count,
+                frames,
+                sum_lo,
+                good,
+            ),
             Err(refusal) => Err(refusal),
         }
     }
@@ -138,30 +153,85 @@ impl<C: Ledger, F: Ledger, S: Ledger, G: Ledger> Book<C, F, S, G> {
             ⊎ (result ≡ Err Refusal.NoMemory) }
     {
         match Machine::recorded(alloc, bounds, workers, pairs) {
-            Ok(machine) => Book::over(alloc, number, workers, machine, count, frames, sum_lo, good),
+            Ok(machine) => Book::over(
+                alloc,
+                number,
+                workers,
+                workers,
+                TALLY_PARTS,
+                machine,
+                count,
+                frames,
+                sum_lo,
+                good,
+            ),
             Err(refusal) => Err(refusal),
         }
     }
 
-    /// A book over this new machine, and a seat for each worker. Refused by `NoMemory`.
+    /// A new domain, whose first steps are recorded, so many of them, where a number is given, and
+    /// so many seats, of its workers in turn: as many as workers or more, and at most 1,024. A
+    /// worker that has several seats is that of several threads. Refused by `NoMemory`.
+    pub fn seated(
+        alloc: Global,
+        number: u64,
+        bounds: Bounds,
+        workers: u64,
+        seats: u64,
+        pairs: Option<usize>,
+        count: Blank,
+        frames: Blank,
+        sum_lo: Blank,
+        good: Blank,
+    ) -> Result<(Book<C, F, S, G>, Vec<Seat<C, F, S, G>>), Refusal>
+        requires workers { (1 ≤ workers) × (workers ≤ MAX_WORKERS) }
+        requires seats { (workers ≤ seats) × (seats ≤ MAX_CLIENTS) }
+        requires count { (count.name ≡ C.name) × (count.parts ≡ C.parts) × (count.parts ≡ seats) }
+        requires frames { (frames.name ≡ F.name) × (frames.parts ≡ F.parts)
+            × (frames.parts ≡ seats) }
+        requires sum_lo { (sum_lo.name ≡ S.name) × (sum_lo.parts ≡ S.parts)
+            × (sum_lo.parts ≡ seats) }
+        requires good { (good.name ≡ G.name) × (good.parts ≡ G.parts)
+            × (good.parts ≡ TALLY_PARTS * workers) }
+        ensures ok { IfOk result (λ r. (r.0 ≡ new_book number bounds workers
+            (option_map new_log pairs)) × (r.1.items ≡ seats_in_turn SEAT_PARTS workers seats)) }
+        ensures err { IsErr result → result ≡ Err Refusal.NoMemory }
+    {
+        let made = match pairs {
+            Some(pairs) => Machine::recorded(alloc, bounds, workers, pairs),
+            None => Machine::new(alloc, bounds, workers),
+        };
+        match made {
+            Ok(machine) => Book::over(
+                alloc, number, workers, seats, SEAT_PARTS, machine, count, frames, sum_lo, good,
+            ),
+            Err(_) => Err(Refusal::NoMemory),
+        }
+    }
+
+    /// A book over this new machine, and so many seats, of its workers in turn, each with so many
+    /// parts for its tally. Refused by `NoMemory`.
     fn over(
         alloc: Global,
         number: u64,
         workers: u64,
+        seats: u64,
+        parts: u64,
         machine: Machine,
         count: Blank,
         frames: Blank,
         sum_lo: Blank,
         good: Blank,
     ) -> Result<(Book<C, F, S, G>, Vec<Seat<C, F, S, G>>), Refusal>
-        requires count { (count.name ≡ C.name) × (count.parts ≡ C.parts) × (count.parts ≡ workers) }
+        requires count { (count.name ≡ C.name) × (count.parts ≡ C.parts) × (count.parts ≡ seats) }
         requires frames { (frames.name ≡ F.name) × (frames.parts ≡ F.parts)
-            × (frames.parts ≡ workers) }
+            × (frames.parts ≡ seats) }
         requires sum_lo { (sum_lo.name ≡ S.name) × (sum_lo.parts ≡ S.parts)
-            × (sum_lo.parts ≡ workers) }
+            × (sum_lo.parts ≡ seats) }
         requires good { (good.name ≡ G.name) × (good.parts ≡ G.parts)
             × (good.parts ≡ TALLY_PARTS * workers) }
-        requires workers { (workers ≤ MAX_WORKERS) × (machine.state.workers ≡ workers) }
+        requires workers { (1 ≤ workers) × (machine.state.workers ≡ workers) }
+        requires parts { (1 ≤ parts) × (parts * seats ≤ TALLY_PARTS * workers) }
         requires new { (totals machine.state.clients ≡ no_totals) × (machine.state.flushes.good ≡ 0) }
         ensures ok { IfOk result (λ r. (r.0 ≡ record {
           number = number;
@@ -170,18 +240,19 @@ impl<C: Ledger, F: Ledger, S: Ledger, G: Ledger> Book<C, F, S, G> {
           log = machine.log;
           shares = no_totals;
           ended = 0;
-        }) × (r.1.items ≡ new_seats workers)) }
+        }) × (r.1.items ≡ seats_in_turn parts workers seats)) }
         ensures err { IsErr result → result ≡ Err Refusal.NoMemory }
     {
-        match Ledgers::open(alloc, workers, count, frames, sum_lo, good) {
-            Ok((ledgers, seats)) => Ok((
+        match Ledgers::open(alloc, workers, seats, parts, count, frames, sum_lo, good) {
+            Ok((ledgers, opened)) => Ok((
                 Book {
                     number,
+                    seats,
                     strict: false,
                     machine,
                     ledgers,
                 },
-                seats,
+                opened,
             )),
             Err(refusal) => {
                 drop(machine);
@@ -204,7 +275,7 @@ impl<C: Ledger, F: Ledger, S: Ledger, G: Ledger> Book<C, F, S, G> {
     /// whatever it leaves there.
     pub fn is_kept(&self)
         ensures is { IsBook self.now }
-        ensures workers { self.now.state.workers ≡ C.parts }
+        ensures workers { G.parts ≡ TALLY_PARTS * self.now.state.workers }
     {
         // for the proof: what the domain keeps, and that its log is a transcript
         self.machine.is_kept();
@@ -305,10 +376,17 @@ impl<C: Ledger, F: Ledger, S: Ledger, G: Ledger> Book<C, F, S, G> {
         self.machine.left(id)
     }
 
+    /// How many seats there are at the domain.
+    pub(crate) fn seats(&self) -> u64
+        ensures { (C.parts ≡ result) × (F.parts ≡ result) × (S.parts ≡ result) }
+    {
+        self.seats
+    }
+
     /// How many workers the domain has.
     pub(crate) fn workers(&self) -> u64
         ensures is { result ≡ self.now.state.workers }
-        ensures parts { (C.parts ≡ result) × (F.parts ≡ result) × (S.parts ≡ result) }
+        ensures parts { G.parts ≡ TALLY_PARTS * result }
         ensures some { 1 ≤ result }
         ensures few { result ≤ MAX_WORKERS }
     {
@@ -353,12 +431,13 @@ impl<C: Ledger, F: Ledger, S: Ledger, G: Ledger> Book<C, F, S, G> {
     pub(crate) fn into_domain(self) -> Domain
         ensures is { result ≡ self.state }
         ensures kept { IsKept result }
-        ensures workers { result.workers ≡ C.parts }
+        ensures workers { G.parts ≡ TALLY_PARTS * result.workers }
     {
         // for the proof: what the domain keeps
         self.machine.is_kept();
         let Book {
             number: _,
+            seats: _,
             strict: _,
             machine,
             ledgers: _,
@@ -453,8 +532,8 @@ impl<C: Ledger, F: Ledger, S: Ledger, G: Ledger> Book<C, F, S, G> {
     /// Drains `left` rings from `ring` on, and answers how many entries that frees.
     pub(crate) fn drain_rings(&mut self, ring: u64, left: u64, by: u64) -> u64
         requires few { ring + left ≤ MAX_WORKERS }
-        requires rings { ring + left ≡ C.parts }
-        requires worker { by < C.parts }
+        requires rings { TALLY_PARTS * (ring + left) ≡ G.parts }
+        requires worker { IsWorker G.parts by }
         ensures drains { Does (Draining by (rings_from ring left) result) self.old.state
             self.new.state }
         ensures bound { result ≤ MAX_ENTRIES * left }
@@ -469,8 +548,8 @@ impl<C: Ledger, F: Ledger, S: Ledger, G: Ledger> Book<C, F, S, G> {
 
     /// Drains a ring, and answers how many entries that frees.
     pub(crate) fn drain_one(&mut self, ring: u64, by: u64) -> u64
-        requires ring { ring < C.parts }
-        requires worker { by < C.parts }
+        requires ring { IsWorker G.parts ring }
+        requires worker { IsWorker G.parts by }
         ensures takes { Takes self.old.state (Step.Drain ring by) (Reply.Drained result)
             self.new.state }
         ensures bound { result ≤ MAX_ENTRIES }

@@ -10,6 +10,7 @@ use iova_lock::book::Book;
 use iova_lock::crossing::books_are_send;
 use iova_lock::shared::Shared;
 use iova_range::bounds::Bounds;
+use iova_range::limits::TALLY_PARTS;
 use iova_range::refusal::Refusal;
 use std::alloc::Global;
 use std::marker::Brand;
@@ -23,6 +24,7 @@ mod act;
 mod cases;
 mod growths;
 mod random;
+mod several;
 mod threads;
 
 // What a case asks of one seat, or of two in turn. What was answered, where the case doesn't say
@@ -267,7 +269,7 @@ fn a_book_and_a_lock(rt: HostRuntime) {
                 Blank::new(16),
                 Blank::new(16),
                 Blank::new(16),
-                Blank::new(4096),
+                Blank::new(TALLY_PARTS * 16),
             );
             let of_lock = under_a_lock::<Brand, Brand, Brand, Brand, _>(
                 &rt,
@@ -278,7 +280,7 @@ fn a_book_and_a_lock(rt: HostRuntime) {
                 Blank::new(16),
                 Blank::new(16),
                 Blank::new(16),
-                Blank::new(4096),
+                Blank::new(TALLY_PARTS * 16),
             );
             if let Task::Random = case(no).0 {
                 are_alike(&rt, &of_book, &of_lock, strict);
@@ -300,7 +302,7 @@ fn threads_of_a_lock(rt: HostRuntime) {
                 Blank::new(16),
                 Blank::new(16),
                 Blank::new(16),
-                Blank::new(4096),
+                Blank::new(TALLY_PARTS * 16),
             );
         }
     }
@@ -318,7 +320,7 @@ fn refused_growths(rt: HostRuntime) {
             Blank::new(16),
             Blank::new(16),
             Blank::new(16),
-            Blank::new(4096),
+            Blank::new(TALLY_PARTS * 16),
         );
         let _said = under_a_lock::<Brand, Brand, Brand, Brand, _>(
             &rt,
@@ -329,7 +331,7 @@ fn refused_growths(rt: HostRuntime) {
             Blank::new(16),
             Blank::new(16),
             Blank::new(16),
-            Blank::new(4096),
+            Blank::new(TALLY_PARTS * 16),
         );
     }
 }

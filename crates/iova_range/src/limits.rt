@@ -98,9 +98,18 @@ pub const MAX_RUN: usize = 16;
 /// The most sessions that a daemon serves. Own.
 pub const MAX_SESSIONS: u64 = 65_536;
 
-/// The parts of a worker's new tally: with one part each, so many threads can end flushes at a
-/// time. Own.
-pub const TALLY_PARTS: u64 = 256;
+/// The parts that the tallies of all seats of one worker have: with one part each, so many threads
+/// can end flushes at a time. Own.
+pub const TALLY_PARTS: u64 = 2_048;
+
+/// The parts of a seat's tally where a domain may have more seats than workers: one of its own, and
+/// one that can be split off. Own.
+pub const SEAT_PARTS: u64 = 2;
+
+/// How many descriptors a daemon wants beside those of its sessions and of its workers' sinks:
+/// those that it begins with, its listeners, the flusher's sink, the record, the connections to the
+/// control socket, and some to spare. Own.
+pub const DAEMON_DESCRIPTORS: u64 = 32;
 
 /// The most steps that a domain may be asked to record. Own.
 pub const MAX_PAIRS: usize = 4_000_000;
@@ -131,7 +140,7 @@ pub const MAX_SINK_TIMEOUT: u64 = 3_600;
 pub const SINK_TIMEOUT: u64 = 10;
 
 /// The time between two rounds in which a daemon's clients that wait are tried again, in
-/// milliseconds: a worker that waits for a session looks about it so often. Own.
+/// milliseconds: a post that waits for a session looks about it so often. Own.
 pub const RETRY_PAUSE: u64 = 1_000;
 
 /// The longest time until a daemon sees that it is asked to stop, in milliseconds: what waits for a

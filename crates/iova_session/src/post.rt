@@ -1,4 +1,4 @@
-//! A worker's post: its seat, and the clients whose end waits.
+//! A post: a seat of a worker, and the clients whose end waits.
 ghost use Rattle.std.specs.Prelude.{◌≡◌, ◌≤◌, ◌+◌, true, [], map, vec_len, vec_capacity, IfSome};
 ghost use Rattle.iova_range.specs.declared.limits.TheConstants.{MAX_HOLDINGS};
 
@@ -9,9 +9,9 @@ use iova_range::range::Range;
 use std::alloc::Global;
 use std::sync::ledger::Ledger;
 
-/// Where a worker serves sessions. Own.
+/// Where sessions are served, one at a time; a worker has one or several. Own.
 pub struct Post<C: Ledger, F: Ledger, S: Ledger, G: Ledger> {
-    /// The worker's seat.
+    /// A seat of its worker, which nobody else has.
     pub seat: Seat<C, F, S, G>,
     /// The clients of ended sessions that are not gone yet, oldest first.
     pub waiting: Vec<ClientId>,

@@ -1,11 +1,11 @@
 use Rattle.std.specs.Prelude.{◌≡◌, ◌+◌, ◌*◌}
-use Rattle.iova_keep.specs.Views.{new_seats}
+use Rattle.iova_keep.specs.Views.{seats_in_turn}
 use Rattle.iova_keep.proofs.ledgers.Ledgers.open.Given as goal
 
-abbrev pub invariant-loop-worker : goal.invariant-loop-worker
-invariant-loop-worker g l =
-    (l.seats.items ≡ new_seats l.worker)
-    × (l.counted.parts + l.worker ≡ l.workers) × (l.counted.amount ≡ 0)
-    × (l.framed.parts + l.worker ≡ l.workers) × (l.framed.amount ≡ 0)
-    × (l.summed.parts + l.worker ≡ l.workers) × (l.summed.amount ≡ 0)
-    × (l.ended.parts + 256 * l.worker ≡ 256 * l.workers) × (l.ended.amount ≡ 0)
+abbrev pub invariant-loop-at : goal.invariant-loop-at
+invariant-loop-at g l =
+    (l.opened.items ≡ seats_in_turn l.parts l.workers l.at)
+    × (l.counted.parts + l.at ≡ l.seats) × (l.counted.amount ≡ 0)
+    × (l.framed.parts + l.at ≡ l.seats) × (l.framed.amount ≡ 0)
+    × (l.summed.parts + l.at ≡ l.seats) × (l.summed.amount ≡ 0)
+    × (l.ended.parts + l.parts * l.at ≡ 2048 * l.workers) × (l.ended.amount ≡ 0)

@@ -1,0 +1,125 @@
+//! Several seats of one worker: each has shares of its own, and all of them are gathered.
+ghost use Rattle.std.specs.Prelude.{◌≡◌, ◌*◌};
+ghost use Rattle.iova_range.specs.declared.limits.TheConstants.{TALLY_PARTS};
+
+use iova_keep::calls;
+use iova_keep::keep::Keep;
+use iova_keep::seat::Seat;
+use iova_lock::book::Book;
+use iova_lock::shared::Shared;
+use iova_model::totals::Totals;
+use iova_range::bounds::Bounds;
+use iova_range::limits::TALLY_PARTS;
+use iova_range::range::Range;
+use iova_range::refusal::Refusal;
+use iova_sink::memory::MemorySink;
+use std::alloc::Global;
+use std::marker::Brand;
+use std::process::Abort;
+use std::sync::Wait;
+use std::sync::ledger::{Blank, Ledger};
+use std::test::*;
+
+// A client is opened and given a frame at each of five seats, and gives it back at its own.
+fn ask_each<C: Ledger, F: Ledger, S: Ledger, G: Ledger, K: Keep<C, F, S, G> + Copy, R: Abort>(
+    rt: &R,
+    keeper: K,
+    seats: &mut [Seat<C, F, S, G>],
+) {
+    let mut keeper = keeper;
+    let mut sink = MemorySink::new(0);
+    let mut workers = [9; 5];
+    for (at, seat) in seats.iter_mut().enumerate() {
+        if let Some(worker) = workers.get_mut(at) {
+            *worker = seat.worker();
+        }
+        assert_eq!(rt; keeper.open(seat, false), Ok(at as u64 + 1));
+        let lo = 1023u64.saturating_sub(at as u64);
+        assert_eq!(rt;
+            keeper.alloc(seat, at as u64 + 1, 1, 1023),
+            Ok(Range::new(lo, 1))
+        );
+        assert_eq!(rt; (seat.count(), seat.frames(), seat.sum_lo()), (1, 1, lo));
+    }
+    assert_eq!(rt; workers, [0, 1, 0, 1, 0]);
+    // the first and the third are one worker's
+    if let Some(seat) = seats.get_mut(2) {
+        assert_eq!(rt;
+            calls::unmap(&mut keeper, seat, &mut sink, 3, 1021),
+            Ok(Range::new(1021, 1))
+        );
+        assert_eq!(rt; (seat.count(), seat.frames(), seat.sum_lo()), (0, 0, 0));
+        // its shares are its own
+        assert_eq!(rt;
+            calls::unmap(&mut keeper, seat, &mut sink, 1, 1023),
+            Err(Refusal::NotHeld)
+        );
+    }
+    if let Some(seat) = seats.first_mut() {
+        assert_eq!(rt;
+            calls::unmap(&mut keeper, seat, &mut sink, 1, 1023),
+            Ok(Range::new(1023, 1))
+        );
+    }
+}
+
+// They are gathered once all of them are there.
+fn gather_all<C: Ledger, F: Ledger, S: Ledger, G: Ledger, R: Abort + Wait>(
+    rt: &R,
+    shared: &Shared<&R, C, F, S, G>,
+    seats: Vec<Seat<C, F, S, G>>,
+) {
+    let mut seats = seats;
+    let last = seats.pop().expect(rt, "a seat");
+    match shared.gather(seats) {
+        Ok(_) => assert!(rt; false),
+        Err(mut few) => {
+            assert!(rt; few.push(last).is_ok());
+            let totals = Totals {
+                count: 3,
+                frames: 3,
+                sum_lo: 1022 + 1020 + 1019,
+            };
+            assert_eq!(rt; shared.gather(few).ok(), Some(totals));
+        }
+    }
+}
+
+fn at_five_seats<C: Ledger, F: Ledger, S: Ledger, G: Ledger, R: Abort + Wait>(
+    rt: &R,
+    alloc: Global,
+    bounds: Bounds,
+    count: Blank,
+    frames: Blank,
+    sum_lo: Blank,
+    good: Blank,
+)
+    requires count { (count.name ≡ C.name) × (count.parts ≡ C.parts) × (count.parts ≡ 5) }
+    requires frames { (frames.name ≡ F.name) × (frames.parts ≡ F.parts) × (frames.parts ≡ 5) }
+    requires sum_lo { (sum_lo.name ≡ S.name) × (sum_lo.parts ≡ S.parts) × (sum_lo.parts ≡ 5) }
+    requires good { (good.name ≡ G.name) × (good.parts ≡ G.parts)
+        × (good.parts ≡ TALLY_PARTS * 2) }
+{
+    match Book::<C, F, S, G>::seated(alloc, 7, bounds, 2, 5, None, count, frames, sum_lo, good) {
+        Ok((book, mut seats)) => {
+            let shared = Shared::over(rt, book);
+            ask_each(rt, &shared, &mut seats);
+            gather_all(rt, &shared, seats);
+            drop(shared);
+        }
+        Err(_) => assert!(rt; false),
+    }
+}
+
+#[test]
+fn several_seats_of_a_worker(rt: HostRuntime) {
+    at_five_seats::<Brand, Brand, Brand, Brand, _>(
+        &rt,
+        rt.alloc(),
+        Bounds::new(1, 1023).expect(&rt, "bounds"),
+        Blank::new(5),
+        Blank::new(5),
+        Blank::new(5),
+        Blank::new(TALLY_PARTS * 2),
+    );
+}
