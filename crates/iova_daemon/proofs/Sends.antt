@@ -2,8 +2,17 @@
 use denote.RattleType.{RattleType}
 use denote.Param.Send.{IsSend, IsSync, sendable}
 use Rattle.std.proofs.Crossing.{crosses}
+use Rattle.std.specs.declared.sync.ledger.Ledger.{Ghosts}
+use Rattle.iova_lock.specs.contracts.book.Book as books
+use Rattle.iova_lock.specs.contracts.shared.Shared as domains
 use Rattle.iova_daemon.specs.contracts.worker.Lent as lents
 
 -- it may be shared where all that it has may
-pub Lent-sync : (R N K A T X : RattleType) → IsSync R → IsSync N → IsSync K → IsSync A → IsSync T → IsSync X → IsSync (lents.the_row R N K A T X)
-Lent-sync R N K A T X r n k a t x = search (crosses, sendable) depth 20
+pub Lent-sync : (R N K A T H X : RattleType) → IsSync R → IsSync N → IsSync K → IsSync A
+    → IsSync T → IsSync H → IsSync X → IsSync (lents.the_row R N K A T H X)
+Lent-sync R N K A T H X r n k a t h x = search (crosses, sendable) depth 20
+
+-- a domain under its lock may be shared where its book may go to another thread
+pub Shared-sync : (Q C F S G : RattleType) (c : Ghosts C.Denot) (f : Ghosts F.Denot) (s : Ghosts S.Denot) (g : Ghosts G.Denot)
+    → IsSync Q → IsSend (books.the_row C F S G c f s g) → IsSync (domains.the_row Q C F S G c f s g)
+Shared-sync Q C F S G c f s g q book = search (crosses, sendable) depth 20

@@ -22,9 +22,11 @@ pub trait Standing {
     /// How it stands now.
     fn figures(&self) -> Figures;
 
-    /// The session that this worker serves now, if it serves one: the serial behind which its
-    /// client is, where it has opened one.
-    fn session(&self, worker: u64) -> Option<ClientId>;
+    /// How many sessions of this worker are served now.
+    fn sessions(&self, worker: u64) -> u64;
+
+    /// Whether this client's session has ended, and its end waits.
+    fn waits(&self, client: ClientId) -> bool;
 }
 
 /// A domain that is looked at beside its sessions. Own.

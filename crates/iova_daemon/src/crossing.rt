@@ -3,8 +3,10 @@
 ghost use Rattle.std.specs.Thread.{IsSend, IsSync};
 ghost use Rattle.iova_lock.specs.contracts.shared.Shared as domains;
 ghost use Rattle.iova_session.specs.contracts.post.Post as posts;
+ghost use Rattle.iova_daemon.specs.contracts.pool.Pool as pools;
 ghost use Rattle.iova_daemon.specs.contracts.turns.Turns as turns;
 
+use crate::pool::Pool;
 use crate::turns::Turns;
 use iova_lock::crossing::books_are_send;
 use iova_lock::shared::Shared;
@@ -51,4 +53,11 @@ pub(crate) fn turns_are_sync()
     ensures { IsSync turns.the_row }
 {
     is_sync::<Turns>();
+}
+
+/// Threads may share a pool, whose links go from one to another.
+pub(crate) fn pools_are_sync<L: Send>()
+    ensures { IsSync (pools.the_row L.row) }
+{
+    is_sync::<Pool<L>>();
 }

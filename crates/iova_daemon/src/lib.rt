@@ -1,4 +1,4 @@
-//! A daemon's threads: a worker for each post, and a flusher beside them.
+//! A daemon's threads: a slot for each post, and a flusher beside them.
 #![tactic(auto)]
 
 ghost use Rattle.std.specs.Prelude.{◌≡◌, ◌+◌, ◌≤◌, IfOk, IfErr, map, vec_len, slice_get};
@@ -10,8 +10,11 @@ pub mod aside;
 mod crossing;
 pub mod dial;
 mod flusher;
+mod loads;
+pub mod locked_sink;
 mod noting;
 pub mod pause;
+mod pool;
 pub mod served_link;
 pub mod signals;
 pub mod socket;
@@ -21,8 +24,9 @@ mod worker;
 
 use crate::accept::Accept;
 use crate::aside::{Aside, Look, NothingAside};
-use crate::crossing::{domains_are_sync, posts_are_send, turns_are_sync};
+use crate::crossing::{domains_are_sync, pools_are_sync, posts_are_send, turns_are_sync};
 use crate::pause::Pause;
+use crate::pool::Pool;
 use crate::turns::Turns;
 use crate::worker::Lent;
 use flusher::{Busy, Flusher};
@@ -35,6 +39,7 @@ use iova_session::session_limits::SessionLimits;
 use iova_sink::sink::Sink;
 use log::Log;
 use std::alloc::Global;
+use std::rt::Clock;
 use std::sync::Wait;
 use std::sync::ledger::Ledger;
 use std::thread::Threads;
@@ -54,6 +59,8 @@ pub struct Served<R, C: Ledger, F: Ledger, S: Ledger, G: Ledger> {
 pub struct Serving {
     /// How many sessions; none: sessions without end.
     pub sessions: Option<u64>,
+    /// How many of them at a time, at most; 0 is taken as 1.
+    pub clients: u64,
     /// How much each of them may ask for.
     pub limits: SessionLimits,
 }
@@ -71,7 +78,7 @@ pub fn serve_on<R, Q, N, C, F, S, G, L, A, D, P>(
     sessions: u64,
 ) -> Result<Served<Q, C, F, S, G>, Refusal>
 where
-    R: Threads + Wait + Sync,
+    R: Threads + Wait + Clock + Sync,
     Q: Wait + Sync + Drop,
     N: Log + Sync,
     C: Ledger + Send + Sync,
@@ -92,6 +99,7 @@ where
 {
     let serving = Serving {
         sessions: Some(sessions),
+        clients: posts.len() as u64,
         limits: SessionLimits::usual(),
     };
     serve_sessions::<R, Q, N, C, F, S, G, L, A, D, P, NothingAside>(
@@ -108,22 +116,30 @@ where
     )
 }
 
-/// Serves sessions on the domain, by a thread for each post, and flushes beside them on the calling
-/// thread. Each thread has a sink of its own, the flusher the last one; the flusher's tally is
-/// split from the first post's seat. It returns once all sessions have ended, and gives the domain
-/// back, and the posts in their order.
+/// Serves sessions on the domain, and flushes beside them on the calling thread. Each post is a
+/// slot: it has a thread and a sink, and serves one session at a time; several may be of one
+/// worker, and their sinks one sink behind a lock (`LockedSink`). The flusher has the last sink,
+/// and a tally that is split from the first post's seat. It returns once all sessions have ended,
+/// and gives the domain back, and the posts in their order.
 ///
-/// A worker repeats: it tries its waiting clients again, takes the next session number, where it
-/// has none, and, where one is left, accepts a link and serves a session over it; else it stops.
-/// While clients wait an accept takes no longer than a second, and one that had none keeps the
-/// number; an accept that fails uses it up. Once each session had its accept, no more are accepted
-/// (`close`). Once no link is to come any more (`has_ended`), a worker tries its waiting clients a
-/// last time and stops. What is to be done `aside` has a thread of its own. The flusher repeats: it
-/// pauses, and stops where the pause says so or all workers have ended; else it makes a round
-/// (`timeout`). At a busy domain it takes looks in place of the pause (`pause_shortly`), and
-/// flushes where much waits in rings. A session that ends by `LinkFault` or `NoMemory`, a sink that
-/// fails, a round or such a flush that is refused and a thread that can't be started are notices, a
-/// line each; each other end of a session is one of the level `debug`.
+/// A slot repeats: it tries its waiting clients again, unless another slot of its worker does so,
+/// waits until there is a link for it, and serves a session over that. One idle slot at a time, the
+/// leader, takes the next session number, where there is none, and accepts a link; the others
+/// sleep. The link goes to the worker that serves the fewest sessions of those with an idle slot:
+/// the leader's, where that is one of them. While as many sessions are served as there may be at a
+/// time nobody leads, so whoever connects waits.
+///
+/// While its clients wait a slot accepts, and sleeps, no longer than a second. An accept that had
+/// no link keeps the number; one that fails uses it up. Once each session had its accept, no more
+/// are accepted (`close`). Idle slots stop once no number is left, and also once no link is to come
+/// any more (`has_ended`): then each tries its waiting clients a last time. What is to be done
+/// `aside` has a thread of its own.
+///
+/// The flusher repeats: it pauses, and stops where the pause says so or all slots have ended; else
+/// it makes a round (`timeout`). At a busy domain it takes looks in place of the pause
+/// (`pause_shortly`), and flushes where much waits in rings. A session that ends by `LinkFault` or
+/// `NoMemory`, a sink that fails, a round or such a flush that is refused and a thread that can't
+/// be started are notices, a line each; each other end of a session is one of the level `debug`.
 ///
 /// Refused by `LinkFault` where a thread can't be started: then no link has been accepted, and
 /// those that were started are joined. Refused by `NoMemory` before the first one is started. Own.
@@ -140,7 +156,7 @@ pub fn serve_sessions<R, Q, N, C, F, S, G, L, A, D, P, X>(
     aside: &X,
 ) -> Result<Served<Q, C, F, S, G>, Refusal>
 where
-    R: Threads + Wait + Sync,
+    R: Threads + Wait + Clock + Sync,
     Q: Wait + Sync + Drop,
     N: Log + Sync,
     C: Ledger + Send + Sync,
@@ -188,7 +204,7 @@ fn serve_kept<R, N, C, F, S, G, K, L, A, D, P, X>(
     aside: &X,
 ) -> Result<Vec<Post<C, F, S, G>>, Refusal>
 where
-    R: Threads + Wait + Sync,
+    R: Threads + Wait + Clock + Sync,
     N: Log + Sync,
     C: Ledger + Send + Sync,
     F: Ledger + Send + Sync,
@@ -210,12 +226,14 @@ where
     // for the proof: what a worker has may go to its thread
     posts_are_send::<C, F, S, G>();
     turns_are_sync();
+    pools_are_sync::<L>();
     let mut posts = posts;
     let mut sinks = sinks;
     let Some(sink) = sinks.pop() else {
         unreachable!()
     };
-    let turns = Turns::new(serving, posts.len() as u64);
+    let turns = Turns::new(alloc, serving, posts.len() as u64);
+    let pool: Pool<L> = Pool::new(alloc);
     let mut flusher = Flusher {
         rt,
         notices,
@@ -233,11 +251,12 @@ where
         keeper,
         accept,
         turns: &turns,
+        pool: &pool,
         aside,
     };
     run_all::<
         R,
-        Lent<&R, &N, K, &A, &Turns, &X>,
+        Lent<&R, &N, K, &A, &Turns, &Pool<L>, &X>,
         Post<C, F, S, G>,
         D,
         L,

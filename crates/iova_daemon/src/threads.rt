@@ -26,6 +26,9 @@ pub(crate) trait Work<P: Place, D, L> {
     fn work(&self, place: P, sink: D) -> P
         ensures { P.worker result ≡ P.worker place };
 
+    /// Takes the room that so many places need beside their own. Whether it was had.
+    fn take_room(&self, places: usize) -> bool;
+
     /// This worker's thread can't be started.
     fn cannot_start(&self, worker: u64, error: &io::Error);
 
@@ -124,6 +127,9 @@ where
     let Ok(mut started) = Vec::with_capacity(alloc, workers) else {
         return Err(Refusal::NoMemory);
     };
+    if !lent.take_room(workers) {
+        return Err(Refusal::NoMemory);
+    }
     // started workers wait for the gate until all are started
     let mut gate = turns.gate.lock(rt);
     let all = start_all::<E, W, P, D, L>(scope, lent, places, sinks, &mut started);

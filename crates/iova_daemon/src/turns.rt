@@ -1,15 +1,16 @@
-//! What the threads of a daemon share beside its domain.
+//! What the threads of a daemon share beside its domain and the pool of its slots.
 use crate::Serving;
 use crate::aside::{Figures, Standing};
 use iova_model::step::ClientId;
 use iova_range::limits::MAX_WORKERS;
 use iova_session::session_limits::SessionLimits;
+use std::alloc::Global;
 use std::array;
-use std::sync::Mutex;
-use std::sync::atomic::{AtomicU64, Ordering};
+use std::sync::atomic::{AtomicBool, AtomicU64, Ordering};
+use std::sync::{Mutex, Wait};
 
-/// The gate that workers wait at until all are started, what is served, the next session's number,
-/// how many sessions had their accept, and how many workers have ended.
+/// The gate that slots wait at until all are started, what is served, the next session's number,
+/// how many sessions had their accept, who waits, and how many slots have ended.
 #[derive(Drop)]
 pub(crate) struct Turns {
     /// Held while threads are started; then whether all were, so that none accepts a link where one
@@ -19,17 +20,27 @@ pub(crate) struct Turns {
     next: AtomicU64,
     met: AtomicU64,
     served: AtomicU64,
-    /// By worker: 0 where it serves no session, else one more than the serial of its newest client
-    /// that waits.
+    /// By worker: how many sessions it serves.
     sessions: [AtomicU64; MAX_WORKERS as usize],
+    /// By worker: whether one of its slots tries its waiting clients.
+    trying: [AtomicBool; MAX_WORKERS as usize],
     waiting: AtomicU64,
-    workers: u64,
+    noted: Mutex<Vec<Noted>>,
+    slots: u64,
+    begun: AtomicU64,
     ended: AtomicU64,
 }
 
+/// A client that waits, and the slot that has it.
+#[derive(Clone, Copy)]
+struct Noted {
+    slot: u64,
+    client: ClientId,
+}
+
 impl Turns {
-    /// These sessions, none of which is begun, for so many workers, and a closed gate.
-    pub(crate) fn new(serving: Serving, workers: u64) -> Turns {
+    /// These sessions, none of which is begun, for so many slots, and a closed gate.
+    pub(crate) fn new(alloc: Global, serving: Serving, slots: u64) -> Turns {
         Turns {
             gate: Mutex::new(false),
             serving,
@@ -37,8 +48,11 @@ impl Turns {
             met: AtomicU64::new(0),
             served: AtomicU64::new(0),
             sessions: array::from_fn(|_worker| AtomicU64::new(0)),
+            trying: array::from_fn(|_worker| AtomicBool::new(false)),
             waiting: AtomicU64::new(0),
-            workers,
+            noted: Mutex::new(Vec::new(alloc)),
+            slots,
+            begun: AtomicU64::new(0),
             ended: AtomicU64::new(0),
         }
     }
@@ -46,6 +60,11 @@ impl Turns {
     /// How much a session may ask for.
     pub(crate) fn limits(&self) -> SessionLimits {
         self.serving.limits
+    }
+
+    /// How many sessions are served at a time, at most: 1 at least.
+    pub(crate) fn clients(&self) -> u64 {
+        self.serving.clients.max(1)
     }
 
     /// The next session's number, counted from 0; none where all were taken. It begins anew behind
@@ -67,55 +86,108 @@ impl Turns {
         }
     }
 
-    /// This worker begins a session. Its clients that wait have serials up to this one, so that of
-    /// the session has one above it.
-    pub(crate) fn begin_session(&self, worker: u64, newest: ClientId) {
-        self.mark(worker, newest.saturating_add(1));
+    /// This worker begins a session.
+    pub(crate) fn begin_session(&self, worker: u64) {
+        if let Some(sessions) = self.sessions.get(worker as usize) {
+            sessions.fetch_add(1, Ordering::SeqCst);
+        }
         self.served.fetch_add(1, Ordering::SeqCst);
     }
 
-    /// This worker's session has ended.
+    /// A session of this worker has ended.
     pub(crate) fn end_session(&self, worker: u64) {
-        self.mark(worker, 0);
+        if let Some(sessions) = self.sessions.get(worker as usize) {
+            sessions.fetch_sub(1, Ordering::SeqCst);
+        }
         self.served.fetch_sub(1, Ordering::SeqCst);
     }
 
-    fn mark(&self, worker: u64, mark: u64) {
-        if let Some(session) = self.sessions.get(worker as usize) {
-            session.store(mark, Ordering::SeqCst);
+    /// A slot of this worker is to try its waiting clients. Whether it may: it may not while
+    /// another one does.
+    pub(crate) fn begin_trying(&self, worker: u64) -> bool {
+        match self.trying.get(worker as usize) {
+            Some(trying) => !trying.swap(true, Ordering::SeqCst),
+            None => true,
         }
     }
 
-    /// So many clients of a worker wait now, and not as many as before.
-    pub(crate) fn wait_for(&self, before: u64, now: u64) {
-        self.waiting.fetch_add(now, Ordering::SeqCst);
-        self.waiting.fetch_sub(before, Ordering::SeqCst);
+    /// The slot that might try has done so.
+    pub(crate) fn end_trying(&self, worker: u64) {
+        if let Some(trying) = self.trying.get(worker as usize) {
+            trying.store(false, Ordering::SeqCst);
+        }
     }
 
-    /// A worker has ended.
+    /// A slot begins: its number.
+    pub(crate) fn begin(&self) -> u64 {
+        self.begun.fetch_add(1, Ordering::SeqCst)
+    }
+
+    /// These clients of the slot wait now, and not as many as before. Where memory is refused it
+    /// isn't noted which.
+    pub(crate) fn wait_for<R: Wait>(&self, rt: &R, slot: u64, before: u64, now: &[ClientId]) {
+        self.waiting.fetch_add(now.len() as u64, Ordering::SeqCst);
+        self.waiting.fetch_sub(before, Ordering::SeqCst);
+        let mut noted = self.noted.lock(rt);
+        note_all(&mut noted, slot, now);
+    }
+
+    /// A slot has ended.
     pub(crate) fn end(&self) {
         self.ended.fetch_add(1, Ordering::SeqCst);
     }
 
-    /// Whether all workers have ended.
+    /// Whether all slots have ended.
     pub(crate) fn have_ended(&self) -> bool {
-        self.ended.load(Ordering::SeqCst) >= self.workers
+        self.ended.load(Ordering::SeqCst) >= self.slots
     }
 }
 
-impl Standing for Turns {
+/// Puts these clients of the slot in place of those that were noted. None of them where memory is
+/// refused.
+fn note_all(noted: &mut Vec<Noted>, slot: u64, clients: &[ClientId]) {
+    noted.retain(|note| note.slot != slot);
+    if noted.try_reserve(clients.len()).is_err() {
+        return;
+    }
+    for client in clients {
+        let _ = noted.push(Noted {
+            slot,
+            client: *client,
+        });
+    }
+}
+
+/// How a daemon stands, told by its turns.
+#[derive(Drop)]
+pub(crate) struct Stands<'a, R> {
+    pub rt: &'a R,
+    pub turns: &'a Turns,
+}
+
+impl<'a, R: Wait> Standing for Stands<'a, R> {
     fn figures(&self) -> Figures {
         Figures {
-            served: self.served.load(Ordering::SeqCst),
-            accepted: self.met.load(Ordering::SeqCst),
-            waiting: self.waiting.load(Ordering::SeqCst),
+            served: self.turns.served.load(Ordering::SeqCst),
+            accepted: self.turns.met.load(Ordering::SeqCst),
+            waiting: self.turns.waiting.load(Ordering::SeqCst),
         }
     }
 
-    fn session(&self, worker: u64) -> Option<ClientId> {
-        self.sessions
-            .get(worker as usize)?
-            .load(Ordering::SeqCst)
-            .checked_sub(1)
+    fn sessions(&self, worker: u64) -> u64 {
+        match self.turns.sessions.get(worker as usize) {
+            Some(sessions) => sessions.load(Ordering::SeqCst),
+            None => 0,
+        }
+    }
+
+    fn waits(&self, client: ClientId) -> bool {
+        let noted = self.turns.noted.lock(self.rt);
+        for note in noted.iter() {
+            if note.client == client {
+                return true;
+            }
+        }
+        false
     }
 }

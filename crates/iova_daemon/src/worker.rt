@@ -1,11 +1,12 @@
-//! A worker: sessions at one post, one after another.
+//! A slot of a worker: sessions at one post, one after another.
 ghost use Rattle.std.specs.Prelude.{◌≡◌};
 
 use crate::accept::Accept;
 use crate::aside::{Aside, Look};
-use crate::noting::{NotingSink, note, note_end};
+use crate::noting::{NotingSink, note_end};
+use crate::pool::{Accepted, Pool, Turn};
 use crate::threads::{Place, Work};
-use crate::turns::Turns;
+use crate::turns::{Stands, Turns};
 use iova_keep::keep::Keep;
 use iova_model::step::ClientId;
 use iova_range::limits::RETRY_PAUSE;
@@ -17,6 +18,7 @@ use iova_sink::sink::Sink;
 use log::{Log, error};
 use std::alloc::Global;
 use std::io;
+use std::rt::Clock;
 use std::sync::Wait;
 use std::sync::ledger::Ledger;
 
@@ -28,23 +30,24 @@ impl<C: Ledger, F: Ledger, S: Ledger, G: Ledger> Place for Post<C, F, S, G> {
     }
 }
 
-/// What every worker is lent: references, and a keeper of the domain. Each is a parameter, so that
+/// What every slot is lent: references, and a keeper of the domain. Each is a parameter, so that
 /// one short law says that threads may share it where they may share each of them.
 #[derive(Drop)]
-pub(crate) struct Lent<R, N, K, A, T, X> {
+pub(crate) struct Lent<R, N, K, A, T, H, X> {
     pub rt: R,
     pub alloc: Global,
     pub notices: N,
     pub keeper: K,
     pub accept: A,
     pub turns: T,
+    pub pool: H,
     pub aside: X,
 }
 
 impl<'e, R, N, C, F, S, G, K, L, A, D, X> Work<Post<C, F, S, G>, D, L>
-    for Lent<&'e R, &'e N, K, &'e A, &'e Turns, &'e X>
+    for Lent<&'e R, &'e N, K, &'e A, &'e Turns, &'e Pool<L>, &'e X>
 where
-    R: Wait,
+    R: Wait + Clock,
     N: Log,
     C: Ledger,
     F: Ledger,
@@ -56,38 +59,29 @@ where
     D: Sink + Drop,
     X: Aside,
 {
-    /// Waits at the gate, and then serves sessions at the post until no number is left. Its waiting
-    /// clients are tried again before each accept, and no later than a second after the last try
-    /// while it waits for a link.
+    /// Waits at the gate, and then serves sessions at the post until none is to come. Its waiting
+    /// clients are tried again before each wait in the pool, and no later than a second after the
+    /// last try while it waits there.
     fn work(&self, place: Post<C, F, S, G>, sink: D) -> Post<C, F, S, G> {
         let mut post = place;
         let mut keeper = self.keeper;
         let mut sink = NotingSink::new(sink, self.notices);
         if *self.turns.gate.lock(self.rt) {
-            // the number of the session that is waited for
-            let mut number = None;
-            let mut waiting = 0;
-            'sessions: for _ in self.rt.forever() {
-                let left = retry(&mut keeper, &mut post, &mut sink);
-                self.turns.wait_for(waiting, left);
-                waiting = left;
+            let worker = post.seat.worker();
+            let slot = self.turns.begin();
+            let mut told = 0;
+            'turns: for _ in self.rt.forever() {
+                try_again(self.turns, &mut keeper, &mut post, &mut sink);
+                told = tell(self.rt, self.turns, slot, told, &post.waiting);
                 if self.accept.has_ended() {
                     self.accept.close();
-                    break 'sessions;
+                    self.pool.end(self.rt);
+                    break 'turns;
                 }
-                if number.is_none() {
-                    number = self.turns.next_session();
-                }
-                let Some(session) = number else {
-                    break 'sessions;
-                };
-                match self.accept.accept(limit_of(left)) {
-                    Ok(None) => {}
-                    Ok(Some(mut link)) => {
-                        number = None;
-                        meet::<L, A>(self.turns, self.accept);
-                        self.turns
-                            .begin_session(post.seat.worker(), newest(&post.waiting));
+                match next::<R, L, A>(self.rt, self.turns, self.pool, self.accept, worker, told) {
+                    Turn::Serve(accepted) => {
+                        let Accepted { mut link, session } = accepted;
+                        self.turns.begin_session(worker);
                         let ended = run_session_within(
                             self.alloc,
                             self.turns.limits(),
@@ -96,19 +90,24 @@ where
                             &mut post,
                             &mut sink,
                         );
-                        self.turns.end_session(post.seat.worker());
+                        // so there are never more connections than sessions
+                        drop(link);
+                        told = tell(self.rt, self.turns, slot, told, &post.waiting);
+                        self.turns.end_session(worker);
+                        self.pool.leave(self.rt, self.turns, worker);
                         note_end(self.notices, session, ended.end);
                     }
-                    // an accept that fails uses up the number
-                    Err(_) => {
-                        number = None;
-                        meet::<L, A>(self.turns, self.accept);
-                    }
+                    Turn::End => break 'turns,
+                    Turn::Lead(_) | Turn::Again => {}
                 }
             }
         }
         self.turns.end();
         post
+    }
+
+    fn take_room(&self, places: usize) -> bool {
+        self.pool.take_room(self.rt, places)
     }
 
     fn cannot_start(&self, worker: u64, error: &io::Error) {
@@ -124,7 +123,11 @@ where
             if self.turns.have_ended() {
                 return;
             }
-            self.aside.turn(&self.keeper, self.turns);
+            let standing = Stands {
+                rt: self.rt,
+                turns: self.turns,
+            };
+            self.aside.turn(&self.keeper, &standing);
         }
         unreachable!()
     }
@@ -134,10 +137,84 @@ where
     }
 }
 
-/// The serial of the newest client that waits; 0 where none does. They wait in the order in which
-/// they were opened.
-fn newest(waiting: &[ClientId]) -> ClientId {
-    waiting.last().copied().unwrap_or(0)
+/// Tries the post's waiting clients again, unless another slot of its worker does so.
+fn try_again<C: Ledger, F: Ledger, S: Ledger, G: Ledger, K: Keep<C, F, S, G>, D: Sink>(
+    turns: &Turns,
+    keeper: &mut K,
+    post: &mut Post<C, F, S, G>,
+    sink: &mut D,
+)
+    ensures { post.new.seat.worker ≡ post.old.seat.worker }
+{
+    let worker = post.seat.worker();
+    if !post.waiting.is_empty() && turns.begin_trying(worker) {
+        retry(keeper, post, sink);
+        turns.end_trying(worker);
+    }
+}
+
+/// Tells which clients of a slot wait, where they are others than so many that were told; gives how
+/// many they are. A session adds one, and a round takes some: so they are others where they are not
+/// as many.
+fn tell<R: Wait>(rt: &R, turns: &Turns, slot: u64, told: u64, waiting: &[ClientId]) -> u64 {
+    let left = waiting.len() as u64;
+    if left != told {
+        turns.wait_for(rt, slot, told, waiting);
+    }
+    left
+}
+
+/// What a slot of this worker, of which so many clients wait, does next: it waits in the pool, and
+/// accepts a link where it is to lead.
+fn next<R: Wait + Clock, L: Drop, A: Accept<L>>(
+    rt: &R,
+    turns: &Turns,
+    pool: &Pool<L>,
+    accept: &A,
+    worker: u64,
+    waiting: u64,
+) -> Turn<L> {
+    match pool.wait(rt, turns, worker, limit_of(waiting)) {
+        Turn::Lead(session) => lead(rt, turns, pool, accept, worker, session, waiting),
+        turn => turn,
+    }
+}
+
+/// Accepts a link for the session of this number, and serves it, hands it over or, where it got
+/// none, gives way.
+fn lead<R: Wait, L: Drop, A: Accept<L>>(
+    rt: &R,
+    turns: &Turns,
+    pool: &Pool<L>,
+    accept: &A,
+    worker: u64,
+    session: u64,
+    waiting: u64,
+) -> Turn<L> {
+    let is_away = waiting > 0;
+    if accept.has_ended() {
+        pool.give_way(rt, turns, worker, false, is_away);
+        return Turn::Again;
+    }
+    match accept.accept(limit_of(waiting)) {
+        Ok(Some(link)) => {
+            meet::<L, A>(turns, accept);
+            match pool.assign(rt, turns, worker, Accepted { link, session }, is_away) {
+                Some(accepted) => Turn::Serve(accepted),
+                None => Turn::Again,
+            }
+        }
+        Ok(None) => {
+            pool.give_way(rt, turns, worker, false, is_away);
+            Turn::Again
+        }
+        // an accept that fails uses up the number
+        Err(_) => {
+            meet::<L, A>(turns, accept);
+            pool.give_way(rt, turns, worker, true, is_away);
+            Turn::Again
+        }
+    }
 }
 
 /// A session had its accept: after the last one nobody is accepted any more.

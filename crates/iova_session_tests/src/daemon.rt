@@ -11,13 +11,14 @@ use crate::posts::{NOTHING, repeated};
 use doubles::{Counted, GatedSink, Rounds, Row, Rows};
 use iova_daemon::accept::Accept;
 use iova_daemon::pause::Pause;
+use iova_daemon::signals::Signals;
 use iova_daemon::{Served, serve_on};
 use iova_keep::keep::Keep;
 use iova_keep::seat::Seat;
 use iova_lock::shared::Shared;
 use iova_model::totals::Totals;
 use iova_range::bounds::Bounds;
-use iova_range::limits::MAX_WORKERS;
+use iova_range::limits::{MAX_WORKERS, TALLY_PARTS};
 use iova_range::refusal::Refusal;
 use iova_range::stat::Stat;
 use iova_session::link::Link;
@@ -30,6 +31,7 @@ use log::Log;
 use std::alloc::Global;
 use std::marker::Brand;
 use std::process::Abort;
+use std::rt::Clock;
 use std::sync::Wait;
 use std::sync::atomic::{AtomicU64, Ordering};
 use std::sync::ledger::{Blank, Ledger};
@@ -360,7 +362,7 @@ const BEFORE: &str = "refused before it";
 const AFTER: &str = "refused after it";
 
 /// Serves the case.
-fn serve_case<R: Threads + Wait + Sync>(
+fn serve_case<R: Threads + Wait + Clock + Sync>(
     rt: &R,
     alloc: Global,
     case: &Case,
@@ -420,7 +422,7 @@ fn serve_few<R, N, L, A, D, P>(
     sessions: u64,
 ) -> Result<Seen, &'static str>
 where
-    R: Threads + Wait + Sync,
+    R: Threads + Wait + Clock + Sync,
     N: Log + Sync,
     L: Link + Send + Drop,
     A: Accept<L> + Sync,
@@ -440,7 +442,7 @@ where
         Blank::new(workers),
         Blank::new(workers),
         Blank::new(workers),
-        Blank::new(256 * workers),
+        Blank::new(TALLY_PARTS * workers),
         sinks,
         accept,
         pause,
@@ -465,7 +467,7 @@ fn serve_new<R, N, C, F, S, G, L, A, D, P>(
     sessions: u64,
 ) -> Result<Seen, &'static str>
 where
-    R: Threads + Wait + Sync,
+    R: Threads + Wait + Clock + Sync,
     N: Log + Sync,
     C: Ledger + Send + Sync,
     F: Ledger + Send + Sync,
@@ -588,7 +590,7 @@ fn gathered<Q: Wait, C: Ledger, F: Ledger, S: Ledger, G: Ledger>(
 
 /// Serves the case with these sessions, and compares what it comes to; gives in which call a growth
 /// was refused, where one was. Where nothing is served nothing is accepted.
-fn check<R: Abort + Threads + Wait + Sync>(
+fn check<R: Abort + Threads + Wait + Clock + Sync>(
     rt: &R,
     alloc: Global,
     case: &Case,
@@ -753,4 +755,13 @@ fn a_refused_growth_of_serving(rt: HostRuntime) -> Result<(), Fail> {
     assert!(rt; call != "refused for another reason");
     println!(rt; "{call}")?;
     Ok(())
+}
+
+// A daemon that has counted more than 32 bits hold counts on.
+#[test]
+fn counts_above_32_bits(rt: HostRuntime) {
+    let signals = Signals::new();
+    signals.count_requests(1 << 32);
+    signals.count_requests(7);
+    assert_eq!(&rt; signals.requests(), 4_294_967_303);
 }

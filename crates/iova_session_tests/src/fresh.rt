@@ -9,7 +9,7 @@ use iova_lock::shared::Shared;
 use iova_model::place::Place;
 use iova_model::totals::Totals;
 use iova_range::bounds::Bounds;
-use iova_range::limits::{MAX_PAIRS, MAX_WORKERS};
+use iova_range::limits::{MAX_PAIRS, MAX_WORKERS, TALLY_PARTS};
 use iova_range::profile::Profile;
 use iova_range::refusal::Refusal;
 use iova_range::stat::Stat;
@@ -96,7 +96,7 @@ pub(crate) fn at_post<R: Wait, L: Link, D: Sink>(
             Blank::new(workers),
             Blank::new(workers),
             Blank::new(workers),
-            Blank::new(256 * workers),
+            Blank::new(TALLY_PARTS * workers),
             link,
             sink,
             text,
@@ -110,7 +110,7 @@ pub(crate) fn at_post<R: Wait, L: Link, D: Sink>(
             Blank::new(workers),
             Blank::new(workers),
             Blank::new(workers),
-            Blank::new(256 * workers),
+            Blank::new(TALLY_PARTS * workers),
             link,
             sink,
         )

@@ -7,6 +7,7 @@ pub run_all-requires-sync-W : goal.run_all-requires-sync-W
 run_all-requires-sync-W g c κs within =
     let keeper = c.type_bounds.sync-K in
     let turns = c.turns_are_sync.ensures in
+    let pool = c.pools_are_sync.ensures in
     let runtime = c.type_bounds.sync-R in
     let notices = c.type_bounds.sync-N in
     let accept = c.type_bounds.sync-A in

@@ -1,0 +1,40 @@
+//! How busy workers are, and which of them the next session goes to.
+ghost use Rattle.std.specs.Prelude.{◌≡◌, IfSome, IfNone, All, slice_get};
+ghost use Rattle.std.specs.Option.{ForSome};
+ghost use Rattle.iova_daemon.specs.Loads.{IsFewest};
+
+/// How many slots of a worker are idle, and how many sessions it serves.
+#[derive(Clone, Copy)]
+pub(crate) struct Load {
+    pub idle: u64,
+    pub sessions: u64,
+}
+
+/// The place of the worker that serves the fewest sessions of those with an idle slot; among
+/// several the first one, where it is one of them, else that of the lowest place. None where no
+/// slot is idle.
+pub(crate) fn fewest(loads: &[Load], first: usize) -> Option<usize>
+    ensures fewest { IfSome result (λ at. ForSome (slice_get loads.now at) (IsFewest loads.now)) }
+    ensures none { IfNone result (All (λ l. l.idle ≡ 0) loads.now) }
+{
+    let mut best = None;
+    if let Some(load) = loads.get(first)
+        && load.idle > 0
+    {
+        best = Some((first, load.sessions));
+    }
+    for at in 0..loads.len() {
+        let load = loads[at];
+        let is_fewer = match best {
+            Some((_, least)) => load.sessions < least,
+            None => true,
+        };
+        if load.idle > 0 && is_fewer {
+            best = Some((at, load.sessions));
+        }
+    }
+    match best {
+        Some((at, _)) => Some(at),
+        None => None,
+    }
+}
