@@ -5,8 +5,9 @@
                                                        iova (alloc and free in turn) or ping (redis's PING). A session of
                                                        iova takes 65,536 requests at most, so a client makes several.
                                                        Prints the requests a second of all clients together, the median
-                                                       and the 99th of 100 of a write's way there and back, and how many
-                                                       of 100 requests were refused since a ring was full.
+                                                       and the 99th of 100 of a write's way there and back, how many of
+                                                       100 requests were refused since a ring was full, and the longest
+                                                       way.
    service floor PATH CLIENTS                          a server with a thread for each of so many clients, which answers
                                                        each line by its first letter, always by the same line. */
 #define _GNU_SOURCE
@@ -153,8 +154,8 @@ static void run_load(int clients) {
     at += all[i].count;
   }
   qsort(ways, count, sizeof *ways, by_size);
-  printf("%.0f %.1f %.1f %.2f\n", done / took, ways[count / 2] * 1e6, ways[count * 99 / 100] * 1e6,
-         refused * 100.0 / done);
+  printf("%.0f %.1f %.1f %.2f %.1f\n", done / took, ways[count / 2] * 1e6, ways[count * 99 / 100] * 1e6,
+         refused * 100.0 / done, ways[count - 1] * 1e6);
 }
 
 static int listener;
@@ -207,7 +208,7 @@ int main(int argc, char **words) {
     struct sockaddr_un a = address();
     unlink(path);
     listener = socket(AF_UNIX, SOCK_STREAM, 0);
-    if (bind(listener, (void *)&a, sizeof a) || listen(listener, 64))
+    if (bind(listener, (void *)&a, sizeof a) || listen(listener, 4096))
       die("listen");
     pthread_t thread;
     for (int i = 1; i < atoi(words[3]); i++)

@@ -5,10 +5,10 @@ _iovad() {
   case $COMP_CWORD:${COMP_WORDS[1]}:$before in
     1:*) words='replay serve control ask check help --help --version' ;;
     *:replay:--log | *:serve:--socket | *:serve:--sink | *:serve:--record | *:serve:--reserved-regions | *:serve:--control | *:check:--reserved-regions) files=yes ;;
-    *:serve:--workers | *:serve:--domain | *:serve:--start | *:serve:--last | *:serve:--sessions | *:serve:--session-requests | *:serve:--idle | *:serve:--depot | *:serve:--record-steps | *:serve:--reserve | *:serve:--sink-timeout | *:check:--first | *:check:--last | *:check:--did) return ;;
+    *:serve:--workers | *:serve:--clients | *:serve:--domain | *:serve:--start | *:serve:--last | *:serve:--sessions | *:serve:--session-requests | *:serve:--idle | *:serve:--depot | *:serve:--record-steps | *:serve:--reserve | *:serve:--sink-timeout | *:check:--first | *:check:--last | *:check:--did) return ;;
     *:serve:--log-level) words='error warn info debug' ;;
     *:replay:*) words='--report --log --help' files=yes ;;
-    *:serve:*) words='--socket --workers --domain --start --last --sink --sessions --session-requests --idle --depot --strict --record --record-steps --reserve --reserved-regions --sink-timeout --log-level --control --help' ;;
+    *:serve:*) words='--socket --workers --clients --domain --start --last --sink --sessions --session-requests --idle --depot --strict --record --record-steps --reserve --reserved-regions --sink-timeout --log-level --control --help' ;;
     2:control:*) words='--help' files=yes ;;
     3:control:*) words='report sessions metrics stop' ;;
     *:ask:*) words='--help' files=yes ;;

@@ -17,7 +17,8 @@ complete -c iovad -n '__iovad_is replay' -l report -d 'the domain\'s report foll
 complete -c iovad -n '__iovad_is replay' -l log -r -F -d 'the file that the log is written to'
 complete -c iovad -n '__iovad_is replay' -F
 complete -c iovad -n '__iovad_is serve' -l socket -r -F -d 'the socket\'s path'
-complete -c iovad -n '__iovad_is serve' -l workers -x -d 'how many sessions are served at a time, 1 to 16'
+complete -c iovad -n '__iovad_is serve' -l workers -x -d 'how many workers the domain has, 1 to 16'
+complete -c iovad -n '__iovad_is serve' -l clients -x -d 'how many clients are served at a time, 1 to 1024'
 complete -c iovad -n '__iovad_is serve' -l domain -x -d 'the number of the domain, 0 to 7'
 complete -c iovad -n '__iovad_is serve' -l start -x -d 'the first frame that may be given'
 complete -c iovad -n '__iovad_is serve' -l last -x -d 'the last frame that may be given'

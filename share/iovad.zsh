@@ -26,7 +26,8 @@ _iovad() {
         serve)
           _arguments '(- *)'{-h,--help}'[prints help]' \
             '--socket[the socket'\''s path]:socket:_files' \
-            '--workers[how many sessions are served at a time, 1 to 16]:workers: ' \
+            '--workers[how many workers the domain has, 1 to 16]:workers: ' \
+            '--clients[how many clients are served at a time, 1 to 1024]:clients: ' \
             '--domain[the number of the domain, 0 to 7]:domain: ' \
             '--start[the first frame that may be given]:start: ' \
             '--last[the last frame that may be given]:last: ' \

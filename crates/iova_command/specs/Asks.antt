@@ -22,6 +22,7 @@ HasFlag rows id flag =
 pub record Plans (rows : List Row) (plan : Plan) : Type 0 where
   pub socket : first_of (codes "socket") rows ≡ Some plan.socket.now
   pub workers : HasNumberOr rows (codes "workers") DEFAULT_WORKERS plan.workers
+  pub clients : HasOptional rows (codes "clients") plan.clients
   pub domain : HasNumberOr rows (codes "domain") DEFAULT_DOMAIN plan.domain
   pub start : HasNumberOr rows (codes "start") DEFAULT_START plan.start
   pub last : HasNumberOr rows (codes "last") DEFAULT_LAST plan.last

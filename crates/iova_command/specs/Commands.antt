@@ -6,7 +6,7 @@ use Rattle.clap.specs.declared.builder.command.Command.{Command}
 use Rattle.clap.specs.declared.builder.command.Command.TheViews.{out-Command}
 use Rattle.clap.specs.declared.builder.action.ArgAction.TheVariants.{Append, Set, SetTrue}
 use Rattle.clap.specs.declared.builder.value_parser.ValueParser.TheVariants as parser
-use Rattle.iova_range.specs.declared.limits.TheConstants.{LAST_DOMAIN_ID, MAX_DEPOT, MAX_WORKERS, MAX_DOMAINS, MAX_IDLE, MAX_RECORDED_STEPS, MAX_SESSION_REQUESTS, MAX_SESSIONS, MAX_SINK_TIMEOUT, WIDE_TOP}
+use Rattle.iova_range.specs.declared.limits.TheConstants.{LAST_DOMAIN_ID, MAX_CLIENTS, MAX_DEPOT, MAX_WORKERS, MAX_DOMAINS, MAX_IDLE, MAX_RECORDED_STEPS, MAX_SESSION_REQUESTS, MAX_SESSIONS, MAX_SINK_TIMEOUT, WIDE_TOP}
 
 -- an argument that must be there, named by its place
 abbrev pub place_rule : Text → Rule
@@ -44,9 +44,10 @@ serve_app =
     with_rule (with_rule (with_rule (with_rule
     (with_rule (with_rule (with_rule (with_rule
     (with_rule (with_rule (with_rule (with_rule
-    (with_rule (with_rule (with_rule (with_rule (with_rule (with_rule (new_app (codes "serve"))
+    (with_rule (with_rule (with_rule (with_rule (with_rule (with_rule (with_rule (new_app (codes "serve"))
     (option_rule (codes "socket")))
     (optional_number_rule (codes "workers") 1 MAX_WORKERS))
+    (optional_number_rule (codes "clients") 1 MAX_CLIENTS))
     (optional_number_rule (codes "domain") 0 (MAX_DOMAINS - 1)))
     (optional_number_rule (codes "start") 1 WIDE_TOP))
     (optional_number_rule (codes "last") 1 WIDE_TOP))

@@ -6,16 +6,17 @@ ghost use Rattle.iova_command.specs.Commands.{IsCommand, place_rule, flag_rule, 
 use crate::words::VERSION;
 use clap::{Arg, ArgAction, Command, value_parser};
 use iova_range::limits::{
-    LAST_DOMAIN_ID, MAX_DEPOT, MAX_DOMAINS, MAX_IDLE, MAX_RECORDED_STEPS, MAX_SESSION_REQUESTS,
-    MAX_SESSIONS, MAX_SINK_TIMEOUT, MAX_WORKERS, WIDE_TOP,
+    LAST_DOMAIN_ID, MAX_CLIENTS, MAX_DEPOT, MAX_DOMAINS, MAX_IDLE, MAX_RECORDED_STEPS,
+    MAX_SESSION_REQUESTS, MAX_SESSIONS, MAX_SINK_TIMEOUT, MAX_WORKERS, WIDE_TOP,
 };
 use std::alloc::{AllocError, Global};
 
 /// The ways to call the program, which stand in its help and after words that aren't understood.
 const USAGE: &str = "iovad < FILE
        iovad replay [--report] [--log FILE] FILE
-       iovad serve --socket PATH --sink PATH [--workers N] [--domain N] [--start N] [--last N]
-                   [--sessions N] [--session-requests N] [--idle SECONDS] [--depot N] [--strict]
+       iovad serve --socket PATH --sink PATH [--workers N] [--clients N] [--domain N] [--start N]
+                   [--last N] [--sessions N] [--session-requests N] [--idle SECONDS] [--depot N]
+                   [--strict]
                    [--record FILE [--record-steps N]] [--reserve FIRST-LAST]..
                    [--reserved-regions FILE] [--sink-timeout SECONDS]
                    [--log-level error|warn|info|debug] [--control PATH]
@@ -143,7 +144,18 @@ fn serve_command<'a>(alloc: Global) -> Result<Command<'a>, AllocError>
             "N",
             1,
             MAX_WORKERS,
-            "How many sessions are served at a time, 1 to 16; without it 4",
+            "How many workers the domain has, 1 to 16; without it 4",
+        ),
+    );
+    let command = with_arg(
+        command,
+        optional_number(
+            alloc,
+            "clients",
+            "N",
+            1,
+            MAX_CLIENTS as u64,
+            "How many clients are served at a time, 1 to 1024; without it as many as workers",
         ),
     );
     let command = with_arg(

@@ -5,13 +5,13 @@ ghost use Rattle.clap.specs.Words.{rows_of, found_of};
 ghost use Rattle.iova_command.specs.Levels.{HasLevel, IsChoiceOf};
 ghost use Rattle.iova_command.specs.Numbers.{HasNumber, HasNumberOr, HasOptional};
 ghost use Rattle.iova_command.specs.Spans.{HasSpans, InsertsSpan, InsertsSpans};
-ghost use Rattle.iova_range.specs.declared.limits.TheConstants.{DEFAULT_DOMAIN, DEFAULT_LAST, DEFAULT_START, DEFAULT_WORKERS, MAX_DEPOT, MAX_WORKERS, MAX_DOMAINS, MAX_IDLE, MAX_RECORDED_STEPS, MAX_SESSION_REQUESTS, MAX_SESSIONS, MAX_SINK_TIMEOUT, WIDE_TOP};
+ghost use Rattle.iova_range.specs.declared.limits.TheConstants.{DEFAULT_DOMAIN, DEFAULT_LAST, DEFAULT_START, DEFAULT_WORKERS, MAX_CLIENTS, MAX_DEPOT, MAX_WORKERS, MAX_DOMAINS, MAX_IDLE, MAX_RECORDED_STEPS, MAX_SESSION_REQUESTS, MAX_SESSIONS, MAX_SINK_TIMEOUT, WIDE_TOP};
 
 use clap::ArgMatches;
 use iova_range::limits::{
-    DEFAULT_DOMAIN, DEFAULT_LAST, DEFAULT_START, DEFAULT_WORKERS, MAX_DEPOT, MAX_DOMAINS, MAX_IDLE,
-    MAX_RECORDED_STEPS, MAX_SESSION_REQUESTS, MAX_SESSIONS, MAX_SINK_TIMEOUT, MAX_WORKERS,
-    WIDE_TOP,
+    DEFAULT_DOMAIN, DEFAULT_LAST, DEFAULT_START, DEFAULT_WORKERS, MAX_CLIENTS, MAX_DEPOT,
+    MAX_DOMAINS, MAX_IDLE, MAX_RECORDED_STEPS, MAX_SESSION_REQUESTS, MAX_SESSIONS,
+    MAX_SINK_TIMEOUT, MAX_WORKERS, WIDE_TOP,
 };
 use iova_range::range::Range;
 use iova_regions::span::read_span;
@@ -24,6 +24,8 @@ pub struct Plan<'a> {
     pub socket: &'a str,
     /// How many workers there are.
     pub workers: u64,
+    /// How many clients are served at a time, where it is said; else as many as workers.
+    pub clients: Option<u64>,
     /// The number of the domain.
     pub domain: u64,
     /// The first frame that may be given.
@@ -62,6 +64,7 @@ pub struct Plan<'a> {
     /// The path of the control socket, where one is wanted.
     pub control: Option<&'a str>,
     pub ghost workers_in_range: { (1 ≤ workers) × (workers ≤ MAX_WORKERS) },
+    pub ghost clients_in_range: { ForSome clients (λ n. (1 ≤ n) × (n ≤ MAX_CLIENTS)) },
     pub ghost domain_in_range: { domain < MAX_DOMAINS },
     pub ghost start_in_range: { (1 ≤ start) × (start ≤ WIDE_TOP) },
     pub ghost last_in_range: { (1 ≤ last) × (last ≤ WIDE_TOP) },
@@ -80,6 +83,7 @@ impl<'a> Drop for Plan<'a> {
         let Plan {
             socket: _,
             workers: _,
+            clients: _,
             domain: _,
             start: _,
             last: _,
@@ -131,6 +135,7 @@ impl<'a> Plan<'a> {
             sink_timeout: optional(found, "sink-timeout", 1, MAX_SINK_TIMEOUT)?,
             log_level: level(found, "log-level")?,
             control: found.get_str("control"),
+            clients: optional(found, "clients", 1, MAX_CLIENTS as u64)?,
         };
         if plan.record_steps.is_some() && plan.record.is_none() {
             return None;

@@ -35,6 +35,7 @@ fn write_served<W: fmt::Write>(plan: &Plan<'_>, f: &mut fmt::Formatter<W>) -> fm
     let timeout = plan.sink_timeout.unwrap_or(SINK_TIMEOUT);
     write!(f, "serve --socket {} --sink {}", plan.socket, plan.sink)?;
     write!(f, " --sink-timeout {} --workers {}", timeout, plan.workers)?;
+    write!(f, " --clients {}", plan.clients.unwrap_or(plan.workers))?;
     write!(f, " --domain {} --start {}", plan.domain, plan.start)?;
     write!(f, " --last {}", plan.last)?;
     write!(f, " --log-level {}", level_name(plan.log_level))

@@ -1,15 +1,17 @@
 -- A daemon's domain. Own.
-use Rattle.std.specs.Prelude.{ℕ, ◌≡◌, ◌≢◌, ◌<◌, ◌≤◌, ◌+◌, ◌-◌, List, [], ◌∷◌, Option, Some, None, unwrap_or}
+use Rattle.std.specs.Prelude.{ℕ, ◌≡◌, ◌≢◌, ◌<◌, ◌≤◌, ◌+◌, ◌-◌, ◌*◌, max, min, List, [], ◌∷◌, map, Option, Some, None, unwrap_or}
 use Rattle.iova_range.specs.Frames.{Frames}
 use Rattle.iova_model.specs.State.{State}
 use Rattle.iova_model.specs.declared.step.Step.TheVariants as step
 use Rattle.iova_model.specs.declared.step.Reply.TheVariants as reply
 use Rattle.iova_keep.specs.Steps.{Takes}
 use Rattle.iova_range.specs.Bounds.{Capacities, Extent, first_profile, second_profile}
-use Rattle.iova_range.specs.declared.limits.TheConstants.{RECORDED_STEPS}
+use Rattle.iova_range.specs.declared.limits.TheConstants.{MAX_REQUESTS, MAX_SESSION_READS, RECORDED_STEPS, SEAT_PARTS}
 use Rattle.iova_keep.specs.StepLogs.{StepLog, new_log}
-use Rattle.iova_lock.specs.Books.{BookState, new_book}
+use Rattle.iova_keep.specs.Views.{SeatState, seats_in_turn}
+use Rattle.iova_lock.specs.Books.{BookState, SharedState, new_book}
 use Rattle.iova_command.specs.declared.plan.Plan.{Plan}
+use Rattle.iova_session.specs.declared.session_limits.SessionLimits.{SessionLimits}
 use Rattle.iovad.specs.declared.fault.Fault.{Fault}
 use Rattle.iovad.specs.declared.fault.Fault.TheVariants as fault
 
@@ -27,6 +29,13 @@ abbrev pub IsBoundsOf : Plan → Extent → Type 0
 IsBoundsOf plan bounds =
     bounds ≡ record { start = plan.start; last = plan.last; profile = profile_of plan.depot }
 
+-- How much a session may ask for, where the most requests are said: these, in 16 reads for each, as
+-- far as a number of 64 bits goes; or not, and then the usual.
+abbrev pub planned_limits : Option ℕ → SessionLimits
+planned_limits (Some requests) =
+    record { requests = requests; reads = min (requests * 16) 18446744073709551615 }
+planned_limits None = record { requests = MAX_REQUESTS; reads = MAX_SESSION_READS }
+
 -- how many steps are recorded, where that is said or not
 abbrev pub steps_of : Option ℕ → ℕ
 steps_of steps = unwrap_or steps RECORDED_STEPS
@@ -41,6 +50,22 @@ abbrev pub planned_book : Plan → Extent → BookState
 planned_book plan bounds =
     record (new_book plan.domain bounds plan.workers (planned_log plan.record plan.record_steps))
     { strict = plan.strict }
+
+-- how many seats there are: one for each client that is served at a time, and one for each worker
+abbrev pub seat_count : Plan → ℕ
+seat_count plan = max (unwrap_or plan.clients plan.workers) plan.workers
+
+-- the new seats of a domain, of its workers in turn
+pub record AreNewSeats (shared : SharedState) (seats : List SeatState) : Type 0 where
+  pub turn : seats ≡ seats_in_turn SEAT_PARTS shared.workers shared.seats
+  pub enough : shared.workers ≤ shared.seats
+  pub some : 1 ≤ shared.workers
+
+-- the workers of all seats of a domain
+pub record AreOfAllSeats (shared : SharedState) (workers : List ℕ) : Type 0 where
+  pub turn : workers ≡ map (λ s. s.worker)
+      (seats_in_turn SEAT_PARTS shared.workers shared.seats)
+  pub enough : shared.workers ≤ shared.seats
 
 -- these windows are reserved in s, one after another, and that leaves t
 abbrev pub ReservesAll : List Frames → State → State → Type 0

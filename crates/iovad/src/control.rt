@@ -29,6 +29,7 @@ pub struct Control<'a, R, N> {
     notices: &'a N,
     signals: &'a Signals,
     workers: u64,
+    clients: u64,
     is_recorded: bool,
     was_told: AtomicBool,
     desk: Mutex<Option<Desk>>,
@@ -64,13 +65,14 @@ struct Connection {
 }
 
 impl<'a, R: Wait, N> Control<'a, R, N> {
-    /// What is done beside so many workers, which are recorded or not, without a control socket
-    /// yet.
+    /// What is done beside so many workers, who serve so many clients at a time, and are recorded
+    /// or not, without a control socket yet.
     pub fn new(
         rt: &'a R,
         notices: &'a N,
         signals: &'a Signals,
         workers: u64,
+        clients: u64,
         is_recorded: bool,
     ) -> Control<'a, R, N> {
         Control {
@@ -78,6 +80,7 @@ impl<'a, R: Wait, N> Control<'a, R, N> {
             notices,
             signals,
             workers,
+            clients,
             is_recorded,
             was_told: AtomicBool::new(false),
             desk: Mutex::new(None),
@@ -228,7 +231,15 @@ impl<'a, R: AllocGlobal, N> Control<'a, R, N> {
                     && is_owed(&mut connection.owed, b"sessions", pad.text.as_bytes())
             }
             b"metrics" => {
-                put_metrics(self.workers, self.signals, standing.figures(), domain, pad).is_ok()
+                put_metrics(
+                    self.workers,
+                    self.clients,
+                    self.signals,
+                    standing.figures(),
+                    domain,
+                    pad,
+                )
+                .is_ok()
                     && is_owed(&mut connection.owed, b"metrics", pad.text.as_bytes())
             }
             b"stop" => {

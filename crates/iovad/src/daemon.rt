@@ -1,11 +1,12 @@
 //! A daemon: the sessions of a plan, served on a socket, and the report of what they leave.
-ghost use Rattle.std.specs.Prelude.{◌≡◌, ◌<◌, ◌≤◌, ◌+◌, ◌*◌, ◌↔◌, [], ◌∷◌, None, Err, IfErr, IfOk, IfSome, map, vec_len};
-ghost use Rattle.iova_range.specs.declared.limits.TheConstants.{TALLY_PARTS};
-ghost use Rattle.iova_keep.specs.Views.{new_seats};
+ghost use Rattle.std.specs.Prelude.{◌≡◌, ◌<◌, ◌≤◌, ◌+◌, ◌*◌, ◌↔◌, [], ◌∷◌, None, Err, IfErr, IfOk, IfSome, map, length, unwrap_or, vec_len};
+ghost use Rattle.iova_range.specs.declared.limits.TheConstants.{MAX_CLIENTS, SEAT_PARTS, TALLY_PARTS};
+ghost use Rattle.iova_keep.specs.Views.{IsReserveRefusal, seats_in_turn};
 ghost use Rattle.iova_command.specs.declared.plan.Plan.{Plan};
-ghost use Rattle.iovad.specs.Plans.{IsAboveProfile, IsBoundsOf, IsFaultOfServing, IsReserved, planned_book, steps_of};
+ghost use Rattle.iovad.specs.Plans.{AreNewSeats, AreOfAllSeats, IsAboveProfile, IsBoundsOf, IsFaultOfServing, IsReserved, planned_book, planned_limits, seat_count, steps_of};
 
 use crate::control::Control;
+use crate::descriptors::look_at_limit;
 use crate::fault::Fault;
 use crate::listening::{Access, is_free, listen, remove};
 use crate::notices::{CountedConsole, Notices};
@@ -19,6 +20,7 @@ use iova_command::words::VERSION;
 use iova_core::domain::Domain;
 use iova_daemon::accept::Accept;
 use iova_daemon::dial::{Dial, UnixNet};
+use iova_daemon::locked_sink::LockedSink;
 use iova_daemon::pause::Ticks;
 use iova_daemon::served_link::{Patience, ServedLink};
 use iova_daemon::signals::Signals;
@@ -38,6 +40,7 @@ use iova_regions::windows::Windows;
 use iova_session::end_post::end_post;
 use iova_session::post::{Post, posts_at, seats_of};
 use iova_session::session_limits::SessionLimits;
+use iova_sink::sink::Sink;
 use log::{Log, Logged, info};
 use std::alloc::Global;
 use std::fs::File;
@@ -45,8 +48,8 @@ use std::io;
 use std::net::Net;
 use std::os::unix::net::UnixListener;
 use std::rt::{Clock, Files, Runtime};
-use std::sync::Wait;
 use std::sync::ledger::{Blank, Ledger};
+use std::sync::{Mutex, Wait};
 use std::thread::Threads;
 use std::time::Duration;
 
@@ -90,11 +93,11 @@ where
     S: Ledger + Send + Sync,
     G: Ledger + Send + Sync,
     requires count { (count.name ≡ C.name) × (count.parts ≡ C.parts)
-        × (count.parts ≡ plan.now.workers) }
+        × (count.parts ≡ seat_count plan.now) }
     requires frames { (frames.name ≡ F.name) × (frames.parts ≡ F.parts)
-        × (frames.parts ≡ plan.now.workers) }
+        × (frames.parts ≡ seat_count plan.now) }
     requires sum_lo { (sum_lo.name ≡ S.name) × (sum_lo.parts ≡ S.parts)
-        × (sum_lo.parts ≡ plan.now.workers) }
+        × (sum_lo.parts ≡ seat_count plan.now) }
     requires good { (good.name ≡ G.name) × (good.parts ≡ G.parts)
         × (good.parts ≡ TALLY_PARTS * plan.now.workers) }
     ensures order { plan.now.last < plan.now.start → result ≡ Err Fault.StartAboveLast }
@@ -107,6 +110,7 @@ where
     let signals = Signals::new();
     let notices = Logged::new(rt, plan.log_level, CountedConsole::new(rt, &signals));
     tell_start(&notices, plan, &windows);
+    look_at_limit(rt, &notices, clients_of(plan), plan.workers);
     let made = new_domain::<R, C, F, S, G>(rt, plan, bounds, &windows, count, frames, sum_lo, good);
     match made {
         Some((shared, posts)) => serve_domain(rt, plan, &notices, &signals, shared, posts),
@@ -160,13 +164,19 @@ where
     F: Ledger + Send + Sync,
     S: Ledger + Send + Sync,
     G: Ledger + Send + Sync,
-    requires workers { shared.workers ≡ plan.now.workers }
-    requires posts { map (λ p. p.seat) posts.items ≡ new_seats plan.now.workers }
+    requires posts { AreNewSeats shared (map (λ p. p.seat) posts.items) }
     ensures { IfErr result (IsFaultOfServing plan.now) }
 {
     let net = UnixNet::new(rt);
     // its connections last until all is done: so whoever asked for a stop learns of the end
-    let control = Control::new(rt, notices, signals, plan.workers, plan.record.is_some());
+    let control = Control::new(
+        rt,
+        notices,
+        signals,
+        plan.workers,
+        clients_of(plan),
+        plan.record.is_some(),
+    );
     let run = Running {
         rt,
         notices,
@@ -198,12 +208,11 @@ where
     F: Ledger + Send + Sync,
     S: Ledger + Send + Sync,
     G: Ledger + Send + Sync,
-    requires workers { shared.workers ≡ plan.now.workers }
-    requires posts { map (λ p. p.seat) posts.items ≡ new_seats plan.now.workers }
-    ensures { IfOk result (λ r. map (λ p. p.seat.worker) r.0.posts.items
-        ≡ map (λ s. s.worker) (new_seats r.0.shared.workers)) }
+    requires posts { AreNewSeats shared (map (λ p. p.seat) posts.items) }
+    ensures { IfOk result (λ r. AreOfAllSeats r.0.shared
+        (map (λ p. p.seat.worker) r.0.posts.items)) }
 {
-    match open_all(run, plan, posts.len() + 1) {
+    match open_all(run, plan, plan.workers as usize + 1) {
         Ok((sinks, record)) => serve_recorded(run, plan, shared, posts, sinks, record),
         Err(why) => {
             drop(posts);
@@ -213,7 +222,7 @@ where
     }
 }
 
-/// The same, with a sink for each post and one more, and the record's file.
+/// The same, with a sink for each worker and one for the flusher, and the record's file.
 fn serve_recorded<'a, 'p, R, C, F, S, G>(
     run: &Running<'a, R>,
     plan: &Plan<'p>,
@@ -228,11 +237,10 @@ where
     F: Ledger + Send + Sync,
     S: Ledger + Send + Sync,
     G: Ledger + Send + Sync,
-    requires workers { shared.workers ≡ plan.now.workers }
-    requires posts { map (λ p. p.seat) posts.items ≡ new_seats plan.now.workers }
-    requires sinks { vec_len sinks ≡ vec_len posts + 1 }
-    ensures { IfOk result (λ r. map (λ p. p.seat.worker) r.0.posts.items
-        ≡ map (λ s. s.worker) (new_seats r.0.shared.workers)) }
+    requires posts { AreNewSeats shared (map (λ p. p.seat) posts.items) }
+    requires sinks { 2 ≤ vec_len sinks }
+    ensures { IfOk result (λ r. AreOfAllSeats r.0.shared
+        (map (λ p. p.seat.worker) r.0.posts.items)) }
 {
     let mut record = record;
     match begin(run, plan, &shared, &mut record) {
@@ -301,7 +309,7 @@ fn remove_control<R: Files<File = File>>(rt: &R, plan: &Plan<'_>) {
     }
 }
 
-/// Serves the plan's sessions on this socket. Its file is removed at the end.
+/// Serves the plan's sessions on this socket, with these sinks, which posts share.
 fn serve_opened<'a, R, C, F, S, G>(
     run: &Running<'a, R>,
     plan: &Plan<'_>,
@@ -316,11 +324,72 @@ where
     F: Ledger + Send + Sync,
     S: Ledger + Send + Sync,
     G: Ledger + Send + Sync,
-    requires workers { shared.workers ≡ plan.now.workers }
-    requires posts { map (λ p. p.seat) posts.items ≡ new_seats plan.now.workers }
+    requires posts { AreNewSeats shared (map (λ p. p.seat) posts.items) }
+    requires sinks { 2 ≤ vec_len sinks }
+    ensures { IfOk result (λ r. AreOfAllSeats r.shared
+        (map (λ p. p.seat.worker) r.posts.items)) }
+{
+    match under_locks(run.rt.alloc(), sinks) {
+        Some(held) => serve_held(run, plan, shared, posts, &held, listener),
+        None => {
+            drop(posts);
+            drop(shared);
+            Err(Hindrance::NoMemory)
+        }
+    }
+}
+
+/// The same with these sinks, of any kind.
+fn serve_held<'a, R, C, F, S, G, D>(
+    run: &Running<'a, R>,
+    plan: &Plan<'_>,
+    shared: Shared<&'a R, C, F, S, G>,
+    posts: Vec<Post<C, F, S, G>>,
+    held: &[Mutex<D>],
+    listener: UnixListener,
+) -> Result<Served<&'a R, C, F, S, G>, Hindrance>
+where
+    R: Runtime + AllocGlobal + Net + Dial + Threads + Wait + Sync + Files<File = File>,
+    C: Ledger + Send + Sync,
+    F: Ledger + Send + Sync,
+    S: Ledger + Send + Sync,
+    G: Ledger + Send + Sync,
+    D: Sink + Send + Drop,
+    requires posts { AreNewSeats shared (map (λ p. p.seat) posts.items) }
+    requires sinks { 2 ≤ length held.now }
+    ensures { IfOk result (λ r. AreOfAllSeats r.shared
+        (map (λ p. p.seat.worker) r.posts.items)) }
+{
+    match sinks_in_turn(run.rt, run.rt.alloc(), held, posts.len()) {
+        Some(sinks) => serve_in_turn(run, plan, shared, posts, sinks, listener),
+        None => {
+            drop(posts);
+            drop(shared);
+            Err(Hindrance::NoMemory)
+        }
+    }
+}
+
+/// The same with a sink for each post, and one more. The socket's file is removed at the end.
+fn serve_in_turn<'a, R, C, F, S, G, D>(
+    run: &Running<'a, R>,
+    plan: &Plan<'_>,
+    shared: Shared<&'a R, C, F, S, G>,
+    posts: Vec<Post<C, F, S, G>>,
+    sinks: Vec<D>,
+    listener: UnixListener,
+) -> Result<Served<&'a R, C, F, S, G>, Hindrance>
+where
+    R: Runtime + AllocGlobal + Net + Dial + Threads + Wait + Sync + Files<File = File>,
+    C: Ledger + Send + Sync,
+    F: Ledger + Send + Sync,
+    S: Ledger + Send + Sync,
+    G: Ledger + Send + Sync,
+    D: Sink + Send + Drop,
+    requires posts { AreNewSeats shared (map (λ p. p.seat) posts.items) }
     requires sinks { vec_len sinks ≡ vec_len posts + 1 }
-    ensures { IfOk result (λ r. map (λ p. p.seat.worker) r.posts.items
-        ≡ map (λ s. s.worker) (new_seats r.shared.workers)) }
+    ensures { IfOk result (λ r. AreOfAllSeats r.shared
+        (map (λ p. p.seat.worker) r.posts.items)) }
 {
     let rt = run.rt;
     let accept = SocketAccept::new(
@@ -341,7 +410,7 @@ where
         G,
         ServedLink<'_, R>,
         SocketAccept<'_, R, Notices<'_, R>>,
-        DaemonSink<'_, UnixNet<'_, R>>,
+        D,
         Ticks<'_, R>,
         Control<'_, R, Notices<'_, R>>,
     >(
@@ -367,6 +436,47 @@ where
     }
 }
 
+/// Each of these sinks under a lock. None for want of memory.
+fn under_locks<D: Drop>(alloc: Global, sinks: Vec<D>) -> Option<Vec<Mutex<D>>>
+    ensures { IfSome result (λ v. vec_len v ≡ vec_len sinks) }
+{
+    let Ok(mut held) = Vec::with_capacity(alloc, sinks.len()) else {
+        return None;
+    };
+    for sink in sinks {
+        let Ok(()) = held.push(Mutex::new(sink)) else {
+            unreachable!();
+        };
+    }
+    Some(held)
+}
+
+/// A sink for each of so many posts, and one for the flusher. The last of those that are held is
+/// the flusher's; the others are those of the workers, whose posts come in turn and share them.
+/// None for want of memory.
+fn sinks_in_turn<'a, R, D>(
+    rt: &'a R,
+    alloc: Global,
+    held: &'a [Mutex<D>],
+    posts: usize,
+) -> Option<Vec<LockedSink<'a, R, D>>>
+    requires { 2 ≤ length held.now }
+    ensures { IfSome result (λ v. vec_len v ≡ posts + 1) }
+{
+    let workers = held.len() - 1;
+    let mut sinks = Vec::new(alloc);
+    for at in 0..posts {
+        let sink = LockedSink::new(rt, &held[at % workers]);
+        if sinks.push(sink).is_err() {
+            return None;
+        }
+    }
+    if sinks.push(LockedSink::new(rt, &held[workers])).is_err() {
+        return None;
+    }
+    Some(sinks)
+}
+
 /// How long a session's peer is waited for: in short turns, where the daemon may be asked to stop
 /// or a session may be idle for so long only.
 fn patience_of(plan: &Plan<'_>) -> Patience {
@@ -383,7 +493,11 @@ fn patience_of(plan: &Plan<'_>) -> Patience {
 }
 
 /// The plan's sessions, and how much each may ask for.
-fn serving_of(plan: &Plan<'_>) -> Serving {
+fn serving_of(plan: &Plan<'_>) -> Serving
+    ensures sessions { result.sessions ≡ plan.now.sessions }
+    ensures limits { result.limits ≡ planned_limits plan.now.session_requests }
+    ensures clients { result.clients ≡ unwrap_or plan.now.clients plan.now.workers }
+{
     let limits = match plan.session_requests {
         Some(requests) => SessionLimits::of_requests(requests),
         None => SessionLimits::usual(),
@@ -391,6 +505,7 @@ fn serving_of(plan: &Plan<'_>) -> Serving {
     Serving {
         sessions: plan.sessions,
         limits,
+        clients: clients_of(plan),
     }
 }
 
@@ -402,7 +517,8 @@ fn open_all<'a, 'p, R: AllocGlobal + Clock + Eprint + Net + Dial + Files<File = 
     plan: &Plan<'p>,
     count: usize,
 ) -> Result<(Vec<DaemonSink<'a, UnixNet<'a, R>>>, Option<RecordFile<'p>>), Hindrance>
-    ensures { IfOk result (λ r. vec_len r.0 ≡ count) }
+    requires { 2 ≤ count }
+    ensures { IfOk result (λ r. 2 ≤ vec_len r.0) }
 {
     if !is_free(run.rt, run.notices, plan.socket) {
         return Err(Hindrance::SocketFault);
@@ -446,8 +562,7 @@ where
     F: Ledger,
     S: Ledger,
     G: Ledger,
-    requires posts { map (λ p. p.seat.worker) posts.items
-        ≡ map (λ s. s.worker) (new_seats shared.workers) }
+    requires posts { AreOfAllSeats shared (map (λ p. p.seat.worker) posts.items) }
     ensures { IfErr result (IsFaultOfServing plan.now) }
 {
     let recorded = gather_all(run, &shared, posts, record);
@@ -487,8 +602,7 @@ where
     F: Ledger,
     S: Ledger,
     G: Ledger,
-    requires posts { map (λ p. p.seat.worker) posts.items
-        ≡ map (λ s. s.worker) (new_seats shared.now.workers) }
+    requires posts { AreOfAllSeats shared.now (map (λ p. p.seat.worker) posts.items) }
 {
     let mut record = record;
     let mut posts = posts;
@@ -566,16 +680,16 @@ where
     S: Ledger,
     G: Ledger,
     requires count { (count.name ≡ C.name) × (count.parts ≡ C.parts)
-        × (count.parts ≡ plan.now.workers) }
+        × (count.parts ≡ seat_count plan.now) }
     requires frames { (frames.name ≡ F.name) × (frames.parts ≡ F.parts)
-        × (frames.parts ≡ plan.now.workers) }
+        × (frames.parts ≡ seat_count plan.now) }
     requires sum_lo { (sum_lo.name ≡ S.name) × (sum_lo.parts ≡ S.parts)
-        × (sum_lo.parts ≡ plan.now.workers) }
+        × (sum_lo.parts ≡ seat_count plan.now) }
     requires good { (good.name ≡ G.name) × (good.parts ≡ G.parts)
         × (good.parts ≡ TALLY_PARTS * plan.now.workers) }
     ensures number { IfSome result (λ r. r.0.number ≡ plan.now.domain) }
     ensures workers { IfSome result (λ r. r.0.workers ≡ plan.now.workers) }
-    ensures seats { IfSome result (λ r. map (λ p. p.seat) r.1.items ≡ new_seats plan.now.workers) }
+    ensures seats { IfSome result (λ r. AreNewSeats r.0 (map (λ p. p.seat) r.1.items)) }
 {
     match reserved_book(
         rt.alloc(),
@@ -605,17 +719,18 @@ fn reserved_book<C: Ledger, F: Ledger, S: Ledger, G: Ledger>(
     good: Blank,
 ) -> Option<(Book<C, F, S, G>, Vec<Seat<C, F, S, G>>)>
     requires count { (count.name ≡ C.name) × (count.parts ≡ C.parts)
-        × (count.parts ≡ plan.now.workers) }
+        × (count.parts ≡ seat_count plan.now) }
     requires frames { (frames.name ≡ F.name) × (frames.parts ≡ F.parts)
-        × (frames.parts ≡ plan.now.workers) }
+        × (frames.parts ≡ seat_count plan.now) }
     requires sum_lo { (sum_lo.name ≡ S.name) × (sum_lo.parts ≡ S.parts)
-        × (sum_lo.parts ≡ plan.now.workers) }
+        × (sum_lo.parts ≡ seat_count plan.now) }
     requires good { (good.name ≡ G.name) × (good.parts ≡ G.parts)
         × (good.parts ≡ TALLY_PARTS * plan.now.workers) }
     ensures reserved { IfSome result (λ r. IsReserved windows.now (planned_book plan.now bounds)
         r.0) }
     ensures workers { IfSome result (λ r. r.0.state.workers ≡ plan.now.workers) }
-    ensures seats { IfSome result (λ r. r.1.items ≡ new_seats plan.now.workers) }
+    ensures seats { IfSome result (λ r. r.1.items
+        ≡ seats_in_turn SEAT_PARTS plan.now.workers (seat_count plan.now)) }
 {
     let Some((mut book, seats)) = book_of(alloc, plan, bounds, count, frames, sum_lo, good) else {
         return None;
@@ -637,6 +752,7 @@ fn reserve_all<C: Ledger, F: Ledger, S: Ledger, G: Ledger>(
     windows: &[Range],
 ) -> Result<(), Refusal>
     ensures reserved { IfOk result (λ u. IsReserved windows.now book.old book.new) }
+    ensures refused { IfErr result IsReserveRefusal }
     ensures workers { book.new.state.workers ≡ book.old.state.workers }
 {
     let Some((window, more)) = windows.split_first() else {
@@ -653,6 +769,7 @@ fn reserve<C: Ledger, F: Ledger, S: Ledger, G: Ledger>(
     window: Range,
 ) -> Result<(), Refusal>
     ensures reserved { IfOk result (λ u. IsReserved (window ∷ []) book.old book.new) }
+    ensures refused { IfErr result IsReserveRefusal }
     ensures workers { book.new.state.workers ≡ book.old.state.workers }
 {
     // for the proof: a domain keeps its workers
@@ -677,40 +794,32 @@ fn book_of<C: Ledger, F: Ledger, S: Ledger, G: Ledger>(
     good: Blank,
 ) -> Option<(Book<C, F, S, G>, Vec<Seat<C, F, S, G>>)>
     requires count { (count.name ≡ C.name) × (count.parts ≡ C.parts)
-        × (count.parts ≡ plan.now.workers) }
+        × (count.parts ≡ seat_count plan.now) }
     requires frames { (frames.name ≡ F.name) × (frames.parts ≡ F.parts)
-        × (frames.parts ≡ plan.now.workers) }
+        × (frames.parts ≡ seat_count plan.now) }
     requires sum_lo { (sum_lo.name ≡ S.name) × (sum_lo.parts ≡ S.parts)
-        × (sum_lo.parts ≡ plan.now.workers) }
+        × (sum_lo.parts ≡ seat_count plan.now) }
     requires good { (good.name ≡ G.name) × (good.parts ≡ G.parts)
         × (good.parts ≡ TALLY_PARTS * plan.now.workers) }
     ensures { IfSome result (λ r. (r.0 ≡ planned_book plan.now bounds)
-        × (r.1.items ≡ new_seats plan.now.workers)) }
+        × (r.1.items ≡ seats_in_turn SEAT_PARTS plan.now.workers (seat_count plan.now))) }
 {
-    let made = if plan.record.is_some() {
-        Book::recorded(
-            alloc,
-            plan.domain,
-            bounds,
-            plan.workers,
-            most_steps(plan),
-            count,
-            frames,
-            sum_lo,
-            good,
-        )
-    } else {
-        Book::new(
-            alloc,
-            plan.domain,
-            bounds,
-            plan.workers,
-            count,
-            frames,
-            sum_lo,
-            good,
-        )
+    let pairs = match plan.record {
+        Some(_) => Some(most_steps(plan)),
+        None => None,
     };
+    let made = Book::seated(
+        alloc,
+        plan.domain,
+        bounds,
+        plan.workers,
+        seat_count(plan),
+        pairs,
+        count,
+        frames,
+        sum_lo,
+        good,
+    );
     match made {
         Ok((book, seats)) => if plan.strict {
             Some((book.strict(), seats))
@@ -719,6 +828,24 @@ fn book_of<C: Ledger, F: Ledger, S: Ledger, G: Ledger>(
         },
         Err(_) => None,
     }
+}
+
+/// How many seats there are at the plan's domain: one for each client that is served at a time, and
+/// one for each worker at least.
+pub fn seat_count(plan: &Plan<'_>) -> u64
+    ensures is { result ≡ seat_count plan.now }
+    ensures enough { plan.now.workers ≤ result }
+    ensures most { result ≤ MAX_CLIENTS }
+{
+    clients_of(plan).max(plan.workers)
+}
+
+/// How many clients are served at a time.
+fn clients_of(plan: &Plan<'_>) -> u64
+    ensures is { result ≡ unwrap_or plan.now.clients plan.now.workers }
+    ensures most { result ≤ MAX_CLIENTS }
+{
+    plan.clients.unwrap_or(plan.workers)
 }
 
 /// How many steps are recorded, where a record is wanted.
@@ -802,7 +929,8 @@ fn open_sinks<'a, R: AllocGlobal + Clock + Eprint + Net + Dial + Files<File = Fi
     Ok(sinks)
 }
 
-/// Ends the service of each of the posts.
+/// Ends the service of all posts, where a sink can be opened: tries the clients that wait once
+/// more, and at a stop flushes what is in a ring.
 fn end_posts<'a, R, C, F, S, G, K>(
     run: &Running<'a, R>,
     keeper: &mut K,
@@ -817,27 +945,8 @@ where
     K: Keep<C, F, S, G>,
     ensures { map (λ p. p.seat.worker) posts.new ≡ map (λ p. p.seat.worker) posts.old }
 {
-    let Some((post, more)) = posts.split_first_mut() else {
-        return;
-    };
-    end_at(run, keeper, post);
-    end_posts(run, keeper, more);
-}
-
-/// Tries the clients that wait at this post once more, and at a stop flushes what is in a ring,
-/// where a sink can be opened.
-fn end_at<'a, R, C, F, S, G, K>(run: &Running<'a, R>, keeper: &mut K, post: &mut Post<C, F, S, G>)
-where
-    R: Clock + Eprint + Net + Dial + Files<File = File>,
-    C: Ledger,
-    F: Ledger,
-    S: Ledger,
-    G: Ledger,
-    K: Keep<C, F, S, G>,
-    ensures { post.new.seat.worker ≡ post.old.seat.worker }
-{
     let stops = run.signals.is_stopping();
-    if post.waiting.is_empty() && !stops {
+    if !stops && !is_waited(posts) {
         return;
     }
     if let Some(mut sink) = open_sink(
@@ -848,6 +957,53 @@ where
         run.place,
         None,
     ) {
-        let _left = end_post(keeper, post, &mut sink, stops);
+        end_each(keeper, posts, &mut sink, stops);
+    }
+}
+
+/// Whether a client waits at one of the posts.
+fn is_waited<C: Ledger, F: Ledger, S: Ledger, G: Ledger>(posts: &[Post<C, F, S, G>]) -> bool {
+    let Some((post, more)) = posts.split_first() else {
+        return false;
+    };
+    !post.waiting.is_empty() || is_waited(more)
+}
+
+/// Ends the service of each of the posts.
+fn end_each<C, F, S, G, K, D>(
+    keeper: &mut K,
+    posts: &mut [Post<C, F, S, G>],
+    sink: &mut D,
+    stops: bool,
+)
+where
+    C: Ledger,
+    F: Ledger,
+    S: Ledger,
+    G: Ledger,
+    K: Keep<C, F, S, G>,
+    D: Sink,
+    ensures { map (λ p. p.seat.worker) posts.new ≡ map (λ p. p.seat.worker) posts.old }
+{
+    let Some((post, more)) = posts.split_first_mut() else {
+        return;
+    };
+    end_at(keeper, post, sink, stops);
+    end_each(keeper, more, sink, stops);
+}
+
+/// Ends the service of this post, where there is anything to do.
+fn end_at<C, F, S, G, K, D>(keeper: &mut K, post: &mut Post<C, F, S, G>, sink: &mut D, stops: bool)
+where
+    C: Ledger,
+    F: Ledger,
+    S: Ledger,
+    G: Ledger,
+    K: Keep<C, F, S, G>,
+    D: Sink,
+    ensures { post.new.seat.worker ≡ post.old.seat.worker }
+{
+    if stops || !post.waiting.is_empty() {
+        let _left = end_post(keeper, post, sink, stops);
     }
 }

@@ -8,6 +8,7 @@ mod checking;
 mod control;
 mod controlling;
 mod daemon;
+mod descriptors;
 mod fault;
 mod listening;
 mod metrics;
@@ -22,7 +23,7 @@ mod sinks;
 use cause::tell_cause;
 use checking::check_planned;
 use controlling::control;
-use daemon::serve;
+use daemon::{seat_count, serve};
 use fault::Fault;
 use iova_ask::ask_lines;
 use iova_ask::terminal::ask_by_hand;
@@ -85,12 +86,13 @@ fn serve_plan<'a, R>(rt: &R, plan: &Plan<'a>) -> Result<(), Fault<'a>>
 where
     R: Runtime + AllocGlobal + Net + Dial + Threads + Wait + Sync + Files<File = File> + Log,
 {
+    let seats = seat_count(plan);
     serve::<R, Brand, Brand, Brand, Brand>(
         rt,
         plan,
-        Blank::new(plan.workers),
-        Blank::new(plan.workers),
-        Blank::new(plan.workers),
+        Blank::new(seats),
+        Blank::new(seats),
+        Blank::new(seats),
         Blank::new(TALLY_PARTS * plan.workers),
     )
 }

@@ -8,9 +8,11 @@ use std::str;
 /// The places of frames, by their names in the report.
 const PLACES: [&str; 6] = ["free", "reserved", "client", "magazine", "depot", "ring"];
 
-/// Puts all figures into the text, each with what it is. Refused for want of memory.
+/// Puts all figures into the text, each with what it is: of so many workers, who serve so many
+/// clients at a time. Refused for want of memory.
 pub fn put_metrics<K: Look>(
     workers: u64,
+    clients: u64,
     signals: &Signals,
     figures: Figures,
     domain: &K,
@@ -23,7 +25,14 @@ pub fn put_metrics<K: Look>(
         return Err(AllocError);
     };
     put_domain(&mut pad.text, report)?;
-    put_daemon(&mut pad.text, workers, signals, figures, domain.steps())
+    put(
+        &mut pad.text,
+        "iovad_workers",
+        "gauge",
+        "Workers of the domain.",
+        workers,
+    )?;
+    put_daemon(&mut pad.text, clients, signals, figures, domain.steps())
 }
 
 /// What the report tells of the domain.
@@ -67,17 +76,17 @@ fn put_domain(text: &mut String, report: &str) -> Result<(), AllocError> {
 /// What the daemon counts itself.
 fn put_daemon(
     text: &mut String,
-    workers: u64,
+    clients: u64,
     signals: &Signals,
     figures: Figures,
     steps: u64,
 ) -> Result<(), AllocError> {
     put(
         text,
-        "iovad_workers",
+        "iovad_clients",
         "gauge",
         "The most sessions that are served at a time.",
-        workers,
+        clients,
     )?;
     put(
         text,

@@ -36,7 +36,8 @@ pub fn print_domain<W: Write>(
 /// Appends that line and the report.
 fn put_domain(number: u64, domain: &Domain, text: &mut Vec<u8>) -> Result<(), Refusal>
     requires { text.old.items ≡ [] }
-    ensures { OnOk result (text.new.items ≡ domain_text number domain.now) }
+    ensures ok { OnOk result (text.new.items ≡ domain_text number domain.now) }
+    ensures err { IfErr result (λ e. e ≡ Refusal.NoMemory) }
 {
     let mut line = LineBuffer::new();
     put_numbers(&mut line, b"domain", &[number]);

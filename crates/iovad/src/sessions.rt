@@ -1,5 +1,6 @@
 //! The sessions that a daemon serves, told a line each.
 use iova_daemon::aside::{Look, Standing};
+use iova_range::limits::MAX_CLIENTS;
 use iova_range::range::Range;
 use std::alloc::{AllocError, Global};
 
@@ -14,18 +15,45 @@ pub fn put_sessions<K: Look, T: Standing>(
 ) -> Result<(), AllocError> {
     let mut ranges = Vec::new(alloc);
     for worker in 0..workers {
-        if let Some(behind) = standing.session(worker) {
-            ranges.clear();
-            let Ok(client) = domain.client(worker, behind, &mut ranges) else {
-                return Err(AllocError);
-            };
-            let client = client.unwrap_or(0);
-            let count = ranges.len();
-            let frames = frames_of(&ranges);
-            writeln!(text, "{worker} {client} {count} {frames}")?;
+        let sessions = standing.sessions(worker);
+        let told = put_clients(worker, sessions, standing, domain, &mut ranges, text)?;
+        for _ in told..sessions {
+            writeln!(text, "{worker} 0 0 0")?;
         }
     }
     Ok(())
+}
+
+/// Puts a line for each client of the worker whose session is served now, at most so many, and
+/// gives their number: those clients that the domain has and whose end doesn't wait. Refused for
+/// want of memory.
+fn put_clients<K: Look, T: Standing>(
+    worker: u64,
+    sessions: u64,
+    standing: &T,
+    domain: &K,
+    ranges: &mut Vec<Range>,
+    text: &mut String,
+) -> Result<u64, AllocError> {
+    let mut told = 0;
+    let mut behind = 0;
+    for _ in 0..MAX_CLIENTS {
+        ranges.clear();
+        let Ok(client) = domain.client(worker, behind, ranges) else {
+            return Err(AllocError);
+        };
+        let Some(client) = client else {
+            return Ok(told);
+        };
+        behind = client;
+        if told < sessions && !standing.waits(client) {
+            let count = ranges.len();
+            let frames = frames_of(ranges);
+            writeln!(text, "{worker} {client} {count} {frames}")?;
+            told += 1;
+        }
+    }
+    Ok(told)
 }
 
 /// How many frames these ranges have.

@@ -9,5 +9,5 @@ unreachable-requires g c =
     let back = given_back (λ p. p.seat.worker) _ c.end_posts.new.posts c.deref_mut.result.now _ lent.len c.end_posts.ensures in
     let same = ap workers_of c.in-Some.ensures ∙ ap (λ ps. workers_of (map (λ p. p.seat) ps)) back
     ∙ sym (workers_at (λ p. p.seat) c.end_posts.new.posts) ∙ c.end_posts.ensures
-    ∙ ap (λ ps. map (λ p. p.seat.worker) ps) lent.value ∙ c.requires.posts in
-    not_back c.args.shared.now.workers c.in-Some.seats.items same c.in_default-gather.ensures.err.1
+    ∙ ap (λ ps. map (λ p. p.seat.worker) ps) lent.value ∙ c.requires.posts.turn in
+    not_back c.args.shared.now.workers c.args.shared.now.seats c.in-Some.seats.items c.requires.posts.enough same c.in_default-gather.ensures.err.1

@@ -6,6 +6,7 @@ pub returns : goal.returns
 returns c = record {
   socket = text_read (found_of c.args.found.now) _ c.get_str.result c.in_ok-get_str.field-0 c.get_str.ensures c.in_ok-get_str.was;
   workers = c.in_ok-number_or.ensures.read;
+  clients = c.in_ok-optional-7.ensures.read;
   domain = c.in_ok-number_or-2.ensures.read;
   start = c.in_ok-start.ensures.read;
   last = c.in_ok-last.ensures.read;
