@@ -59,7 +59,7 @@ impl<G: Ledger> Tally<G> {
         self.good
     }
 
-    /// Its parts of the ledger: as many as its seat was opened with (`Ledgers::open`).
+    /// Its parts of the ledger: those that its seat was opened with, less those that were split off.
     pub fn parts(&self) -> u64
         ensures { result ≡ self.now.parts }
     {
