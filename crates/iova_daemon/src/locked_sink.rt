@@ -1,14 +1,88 @@
-//! A sink that several threads call, one at a time.
+//! A sink that several threads share.
 use iova_range::range::Range;
 use iova_sink::calls::Calls;
 use iova_sink::sink::{Sink, SinkFault};
-use std::sync::{Mutex, Wait};
+use std::sync::{Condvar, Mutex, Wait};
 
-/// A sink behind a lock, which is taken for one call. Contracts see the calls that were made here:
-/// what others call in between, nobody knows. Own.
+/// A sink, and the queue of the threads that want it for more than one call. Own.
+pub struct SharedSink<D> {
+    sink: Mutex<D>,
+    queue: Mutex<Queue>,
+    bell: Condvar,
+}
+
+/// Who has a sink, and how many wait for it.
+#[derive(Clone, Copy)]
+struct Queue {
+    is_kept: bool,
+    /// It was kept for one of those that wait, who has not woken up yet.
+    is_handed: bool,
+    waiting: u64,
+}
+
+/// What it has is let go, which is proved here once for every crate above.
+impl<D: Drop> Drop for SharedSink<D> {
+    fn drop(self) {
+        let SharedSink {
+            sink: _,
+            queue: _,
+            bell: _,
+        } = self;
+    }
+}
+
+impl<D> SharedSink<D> {
+    /// This sink, which nobody has.
+    pub fn new(sink: D) -> SharedSink<D> {
+        SharedSink {
+            sink: Mutex::new(sink),
+            queue: Mutex::new(Queue {
+                is_kept: false,
+                is_handed: false,
+                waiting: 0,
+            }),
+            bell: Condvar::new(),
+        }
+    }
+
+    /// Waits until the sink is this thread's. Those that wait get it one after the other, and none
+    /// that comes later gets it before them.
+    fn keep<R: Wait>(&self, rt: &R) {
+        let mut queue = self.queue.lock(rt);
+        if !queue.is_kept {
+            queue.is_kept = true;
+            return;
+        }
+        queue.waiting = queue.waiting.saturating_add(1);
+        for _ in rt.forever() {
+            queue = self.bell.wait(rt, queue);
+            if queue.is_handed {
+                queue.is_handed = false;
+                queue.waiting = queue.waiting.saturating_sub(1);
+                return;
+            }
+        }
+        unreachable!()
+    }
+
+    /// Hands the sink over to one that waits, where one does.
+    fn let_go<R: Wait>(&self, rt: &R) {
+        let mut queue = self.queue.lock(rt);
+        if queue.waiting > 0 {
+            queue.is_handed = true;
+            drop(queue);
+            self.bell.notify_one();
+        } else {
+            queue.is_kept = false;
+        }
+    }
+}
+
+/// A sink that is shared, as one of the threads has it. Contracts see the calls that were made
+/// here: what others call in between, nobody knows. Own.
 pub struct LockedSink<'a, R, D> {
     rt: &'a R,
-    sink: &'a Mutex<D>,
+    sink: &'a SharedSink<D>,
     calls: Calls,
 }
 
@@ -24,8 +98,8 @@ impl<'a, R, D> Drop for LockedSink<'a, R, D> {
 }
 
 impl<'a, R, D> LockedSink<'a, R, D> {
-    /// The sink behind this lock, of which no call was made here.
-    pub fn new(rt: &'a R, sink: &'a Mutex<D>) -> LockedSink<'a, R, D> {
+    /// This sink, of which no call was made here.
+    pub fn new(rt: &'a R, sink: &'a SharedSink<D>) -> LockedSink<'a, R, D> {
         LockedSink {
             rt,
             sink,
@@ -38,14 +112,22 @@ impl<'a, R: Wait, D: Sink> Sink for LockedSink<'a, R, D> {
     ghost calls = { λ s. s.calls };
 
     fn invalidate(&mut self, domain: u64, no: u64) -> Result<(), SinkFault> {
-        let told = self.sink.lock(self.rt).invalidate(domain, no);
+        let told = self.sink.sink.lock(self.rt).invalidate(domain, no);
         self.calls.add(domain, no, told.is_ok());
         told
     }
 
     fn gone(&mut self, domain: u64, client: u64, ranges: &Vec<Range>) -> Result<(), SinkFault> {
-        let told = self.sink.lock(self.rt).gone(domain, client, ranges);
+        let told = self.sink.sink.lock(self.rt).gone(domain, client, ranges);
         self.calls.add_gone(domain, client, ranges, told);
         told
+    }
+
+    fn lock(&mut self) {
+        self.sink.keep(self.rt);
+    }
+
+    fn unlock(&mut self) {
+        self.sink.let_go(self.rt);
     }
 }

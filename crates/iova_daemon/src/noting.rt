@@ -36,6 +36,14 @@ impl<'a, D: Sink, N: Log> Sink for NotingSink<'a, D, N> {
         }
         told
     }
+
+    fn lock(&mut self) {
+        self.sink.lock();
+    }
+
+    fn unlock(&mut self) {
+        self.sink.unlock();
+    }
 }
 
 /// A notice of what happened to the flush, the client or the session of this number. Its target is

@@ -54,8 +54,64 @@ pub(crate) fn ask_first<C: Ledger, F: Ledger, S: Ledger, G: Ledger, K: Keep<C, F
 }
 
 /// What a request is answered that isn't asked together with others, of a session with a client
-/// that was told `listed` ranges in lists.
+/// that was told `listed` ranges in lists. The sink is locked before a flush can begin: so there are
+/// never more in flight than sinks.
 pub(crate) fn ask_alone<C: Ledger, F: Ledger, S: Ledger, G: Ledger, K: Keep<C, F, S, G>, D: Sink>(
+    alloc: Global,
+    keeper: &mut K,
+    seat: &mut Seat<C, F, S, G>,
+    sink: &mut D,
+    id: ClientId,
+    listed: u64,
+    request: Request,
+) -> Answer
+    requires listed { listed ≤ MAX_LISTED }
+    requires alloc { (frames : ℕ) → (limit : ℕ) → request ≢ Request.Alloc frames limit }
+    requires stat { request ≢ Request.Stat }
+    ensures number { K.domain_number keeper.new ≡ K.domain_number keeper.old }
+    ensures strict { K.strict keeper.new ≡ K.strict keeper.old }
+    ensures answer { IsClientAnswer listed request result }
+    ensures does { WhereKnown (K.domain keeper.old) (K.domain keeper.new)
+        (ClientDoes (K.strict keeper.old) (K.domain_number keeper.old) seat.old id listed request
+        result
+        (D.calls sink.old) (D.calls sink.new)) }
+    ensures shares { MovesBy (given_by result) (taken_by result) seat.old.held seat.new.held }
+    ensures worker { seat.new.worker ≡ seat.old.worker }
+    ensures tally { seat.new.tally.good + good_calls
+        (D.calls sink.old) ≤ seat.old.tally.good + good_calls
+        (D.calls sink.new) }
+    ensures parts { seat.new.tally.parts ≡ seat.old.tally.parts }
+{
+    let flushes = may_flush(request);
+    lock_where(sink, flushes);
+    let answer = ask_locked(alloc, keeper, seat, sink, id, listed, request);
+    unlock_where(sink, flushes);
+    answer
+}
+
+/// Whether a flush may come of it, which begins in the hold that unmaps.
+fn may_flush(request: Request) -> bool {
+    matches!(request, Request::Free { lo: _ } | Request::Flush)
+}
+
+fn lock_where<D: Sink>(sink: &mut D, wanted: bool)
+    ensures { D.calls sink.new ≡ D.calls sink.old }
+{
+    if wanted {
+        sink.lock();
+    }
+}
+
+fn unlock_where<D: Sink>(sink: &mut D, wanted: bool)
+    ensures { D.calls sink.new ≡ D.calls sink.old }
+{
+    if wanted {
+        sink.unlock();
+    }
+}
+
+/// The same, with the sink locked where that is needed.
+fn ask_locked<C: Ledger, F: Ledger, S: Ledger, G: Ledger, K: Keep<C, F, S, G>, D: Sink>(
     alloc: Global,
     keeper: &mut K,
     seat: &mut Seat<C, F, S, G>,

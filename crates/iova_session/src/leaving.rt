@@ -36,8 +36,32 @@ pub struct Attempt {
 
 /// Ends a client of the seat. Where it holds ranges, the sink is told first that it is gone, and of
 /// all of them; where the sink fails, none of them is queued, and the client waits with all of
-/// them. It takes no memory. Own.
+/// them. The sink is locked all the while. It takes no memory. Own.
 pub(crate) fn leave<C: Ledger, F: Ledger, S: Ledger, G: Ledger, K: Keep<C, F, S, G>, D: Sink>(
+    keeper: &mut K,
+    seat: &mut Seat<C, F, S, G>,
+    sink: &mut D,
+    ranges: &mut Vec<Range>,
+    id: ClientId,
+) -> Leaving
+    requires { MAX_HOLDINGS ≤ vec_capacity ranges.old }
+    ensures domain { WhereKnown (K.domain keeper.old) (K.domain keeper.new)
+        (Departs seat.old seat.new.held id result
+        (K.domain_number keeper.old) (D.calls sink.old) (D.calls sink.new)) }
+    ensures shares { LowersTold result.ended seat.old.held seat.new.held }
+    ensures place { KeepsPlace seat.old seat.new (D.calls sink.old) (D.calls sink.new) }
+    ensures number { K.domain_number keeper.new ≡ K.domain_number keeper.old }
+    ensures strict { K.strict keeper.new ≡ K.strict keeper.old }
+    ensures room { MAX_HOLDINGS ≤ vec_capacity ranges.new }
+{
+    sink.lock();
+    let left = leave_locked(keeper, seat, sink, ranges, id);
+    sink.unlock();
+    left
+}
+
+/// The same, with the sink locked.
+fn leave_locked<C: Ledger, F: Ledger, S: Ledger, G: Ledger, K: Keep<C, F, S, G>, D: Sink>(
     keeper: &mut K,
     seat: &mut Seat<C, F, S, G>,
     sink: &mut D,

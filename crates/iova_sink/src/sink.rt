@@ -31,4 +31,17 @@ pub trait Sink {
     fn gone(&mut self, domain: u64, client: u64, ranges: &Vec<Range>) -> Result<(), SinkFault>
         ensures { calls self.new ≡ with_gone (calls self.old) domain client ranges.now.items
             result };
+
+    /// Keeps the sink for this thread until `unlock`: where several threads share it, no other one
+    /// calls it meanwhile, and those that want it wait. A sink that isn't shared has nothing to do.
+    fn lock(&mut self)
+        ensures { calls self.new ≡ calls self.old }
+    {
+    }
+
+    /// Lets go of it after `lock`.
+    fn unlock(&mut self)
+        ensures { calls self.new ≡ calls self.old }
+    {
+    }
 }

@@ -20,7 +20,7 @@ use iova_command::words::VERSION;
 use iova_core::domain::Domain;
 use iova_daemon::accept::Accept;
 use iova_daemon::dial::{Dial, UnixNet};
-use iova_daemon::locked_sink::LockedSink;
+use iova_daemon::locked_sink::{LockedSink, SharedSink};
 use iova_daemon::pause::Ticks;
 use iova_daemon::served_link::{Patience, ServedLink};
 use iova_daemon::signals::Signals;
@@ -49,7 +49,7 @@ use std::net::Net;
 use std::os::unix::net::UnixListener;
 use std::rt::{Clock, Files, Runtime};
 use std::sync::ledger::{Blank, Ledger};
-use std::sync::{Mutex, Wait};
+use std::sync::Wait;
 use std::thread::Threads;
 use std::time::Duration;
 
@@ -329,7 +329,7 @@ where
     ensures { IfOk result (λ r. AreOfAllSeats r.shared
         (map (λ p. p.seat.worker) r.posts.items)) }
 {
-    match under_locks(run.rt.alloc(), sinks) {
+    match share_all(run.rt.alloc(), sinks) {
         Some(held) => serve_held(run, plan, shared, posts, &held, listener),
         None => {
             drop(posts);
@@ -345,7 +345,7 @@ fn serve_held<'a, R, C, F, S, G, D>(
     plan: &Plan<'_>,
     shared: Shared<&'a R, C, F, S, G>,
     posts: Vec<Post<C, F, S, G>>,
-    held: &[Mutex<D>],
+    held: &[SharedSink<D>],
     listener: UnixListener,
 ) -> Result<Served<&'a R, C, F, S, G>, Hindrance>
 where
@@ -436,15 +436,15 @@ where
     }
 }
 
-/// Each of these sinks under a lock. None for want of memory.
-fn under_locks<D: Drop>(alloc: Global, sinks: Vec<D>) -> Option<Vec<Mutex<D>>>
+/// Each of these sinks, for posts to share. None for want of memory.
+fn share_all<D: Drop>(alloc: Global, sinks: Vec<D>) -> Option<Vec<SharedSink<D>>>
     ensures { IfSome result (λ v. vec_len v ≡ vec_len sinks) }
 {
     let Ok(mut held) = Vec::with_capacity(alloc, sinks.len()) else {
         return None;
     };
     for sink in sinks {
-        let Ok(()) = held.push(Mutex::new(sink)) else {
+        let Ok(()) = held.push(SharedSink::new(sink)) else {
             unreachable!();
         };
     }
@@ -457,7 +457,7 @@ fn under_locks<D: Drop>(alloc: Global, sinks: Vec<D>) -> Option<Vec<Mutex<D>>>
 fn sinks_in_turn<'a, R, D>(
     rt: &'a R,
     alloc: Global,
-    held: &'a [Mutex<D>],
+    held: &'a [SharedSink<D>],
     posts: usize,
 ) -> Option<Vec<LockedSink<'a, R, D>>>
     requires { 2 ≤ length held.now }

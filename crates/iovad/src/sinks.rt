@@ -44,6 +44,20 @@ impl<A: Sink, B: Sink> Sink for EitherSink<A, B> {
             EitherSink::Second(sink) => sink.gone(domain, client, ranges),
         }
     }
+
+    fn lock(&mut self) {
+        match self {
+            EitherSink::First(sink) => sink.lock(),
+            EitherSink::Second(sink) => sink.lock(),
+        }
+    }
+
+    fn unlock(&mut self) {
+        match self {
+            EitherSink::First(sink) => sink.unlock(),
+            EitherSink::Second(sink) => sink.unlock(),
+        }
+    }
 }
 
 /// A daemon's sink: a file that takes records, or a peer that answers.

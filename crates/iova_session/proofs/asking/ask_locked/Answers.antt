@@ -7,7 +7,7 @@ use Rattle.iova_session.specs.Desks.{IsClientAnswer, MovesBy, given_by, taken_by
 use Rattle.iova_session.specs.Domains.{release_answer}
 use Rattle.iova_session.proofs.Alone.{free_does, flush_does, list_does, hello_does, bye_does}
 use Rattle.iova_session.proofs.ToldPairs.{released_answers, released_moves}
-use Rattle.iova_session.proofs.asking.ask_alone.Goals as goal
+use Rattle.iova_session.proofs.asking.ask_locked.Goals as goal
 
 pub returns-in-Ok-clause-answer : goal.returns-in-Ok-clause-answer
 returns-in-Ok-clause-answer g c =

@@ -1,6 +1,6 @@
 use Rattle.std.proofs.Common.{refl, arith}
 use Rattle.iova_session.proofs.Departures.{told_good}
-use Rattle.iova_session.proofs.leaving.leave.Goals as goal
+use Rattle.iova_session.proofs.leaving.leave_locked.Goals as goal
 
 pub returns-in-Ok-clause-place : goal.returns-in-Ok-clause-place
 returns-in-Ok-clause-place g c =
