@@ -9,8 +9,7 @@ ghost use Rattle.iova_session.specs.Leading.{LeadsFrom, GoesOn};
 use crate::asking::{ask_alone, ask_first};
 use crate::desk::Desk;
 use crate::session::Session;
-use crate::together::{ask_together, push};
-use iova_keep::ask::Told;
+use crate::together::{LastBatch, ask_together, push};
 use iova_keep::keep::Keep;
 use iova_keep::seat::Seat;
 use iova_proto::answer::Answer;
@@ -18,7 +17,6 @@ use iova_proto::request::Request;
 use iova_range::limits::MAX_RUN;
 use iova_range::refusal::Refusal;
 use iova_sink::sink::Sink;
-use std::alloc::Global;
 use std::marker::{Brand, PhantomData};
 use std::sync::ledger::Ledger;
 
@@ -94,12 +92,9 @@ pub(crate) struct KeeperDesk<
     D: Sink,
     O: Opening,
 > {
-    pub(crate) alloc: Global,
     pub(crate) lent: Lent<'a, C, F, S, G, K, D>,
     pub(crate) session: Session,
-    /// The last hold stopped at a free, which is to be asked alone.
-    pub(crate) stopped: bool,
-    pub(crate) told: Vec<Told>,
+    pub(crate) last: LastBatch,
     pub(crate) opening: PhantomData<O>,
     ghost names: { (lent.keeper.ghost_name ≡ O.keeper_name) × (lent.seat.ghost_name ≡ O.seat_name)
         × (lent.sink.ghost_name ≡ O.sink_name) },
@@ -127,11 +122,9 @@ impl<'a, C: Ledger, F: Ledger, S: Ledger, G: Ledger, K: Keep<C, F, S, G>, D: Sin
         answers: &mut Vec<Answer>,
     ) -> Result<usize, Refusal> {
         ask_lent(
-            self.alloc,
             &mut self.lent,
             &mut self.session,
-            &mut self.stopped,
-            &mut self.told,
+            &mut self.last,
             requests,
             answers,
         )
@@ -140,11 +133,9 @@ impl<'a, C: Ledger, F: Ledger, S: Ledger, G: Ledger, K: Keep<C, F, S, G>, D: Sin
 
 /// `ask_front` over what the session is lent.
 fn ask_lent<C: Ledger, F: Ledger, S: Ledger, G: Ledger, K: Keep<C, F, S, G>, D: Sink>(
-    alloc: Global,
     lent: &mut Lent<'_, C, F, S, G, K, D>,
     session: &mut Session,
-    stopped: &mut bool,
-    told: &mut Vec<Told>,
+    last: &mut LastBatch,
     requests: &[Request],
     answers: &mut Vec<Answer>,
 ) -> Result<usize, Refusal>
@@ -172,13 +163,11 @@ fn ask_lent<C: Ledger, F: Ledger, S: Ledger, G: Ledger, K: Keep<C, F, S, G>, D: 
         (D.calls lent.new.sink.now) }
 {
     ask_front(
-        alloc,
         lent.keeper,
         lent.seat,
         lent.sink,
         session,
-        stopped,
-        told,
+        last,
         requests,
         answers,
     )
@@ -188,13 +177,11 @@ fn ask_lent<C: Ledger, F: Ledger, S: Ledger, G: Ledger, K: Keep<C, F, S, G>, D: 
 /// hold, else the first alone, as a free that the last hold stopped at. Refused by `NoMemory` where
 /// there is no room for the answers; then nothing was asked.
 pub(crate) fn ask_front<C: Ledger, F: Ledger, S: Ledger, G: Ledger, K: Keep<C, F, S, G>, D: Sink>(
-    alloc: Global,
     keeper: &mut K,
     seat: &mut Seat<C, F, S, G>,
     sink: &mut D,
     session: &mut Session,
-    stopped: &mut bool,
-    told: &mut Vec<Told>,
+    last: &mut LastBatch,
     requests: &[Request],
     answers: &mut Vec<Answer>,
 ) -> Result<usize, Refusal>
@@ -224,10 +211,11 @@ pub(crate) fn ask_front<C: Ledger, F: Ledger, S: Ledger, G: Ledger, K: Keep<C, F
     let answer = match client {
         None => ask_first(keeper, seat, requests[0]),
         Some(id) => {
-            let count = ask_together(keeper, seat, session, id, requests, stopped, told, answers)?;
+            let count = ask_together(keeper, seat, session, id, requests, last, answers)?;
             if count > 0 {
                 return Ok(count);
             }
+            let alloc = *last.told.allocator();
             ask_alone(alloc, keeper, seat, sink, id, session.listed(), requests[0])
         }
     };

@@ -19,6 +19,7 @@ use crate::post::{Post, take_room};
 use crate::serve::serve_within;
 use crate::session::Session;
 use crate::session_limits::SessionLimits;
+use crate::together::LastBatch;
 use iova_keep::ending::Ending;
 use iova_keep::keep::Keep;
 use iova_keep::seat::Seat;
@@ -99,21 +100,20 @@ fn serve_lent<
 {
     let session = Session::new(lent.keeper.number());
     let mut desk: KeeperDesk<'a, C, F, S, G, K, D, O> = KeeperDesk {
-        alloc,
         lent,
         session,
-        stopped: false,
-        told: Vec::new(alloc),
+        last: LastBatch {
+            stopped: false,
+            told: Vec::new(alloc),
+        },
         opening: PhantomData,
     };
     let end = serve_within(alloc, limits, link, &mut desk);
     let client = desk.session.client();
     let KeeperDesk {
-        alloc: _,
         lent,
         session: _,
-        stopped: _,
-        told: _,
+        last: _,
         opening: _,
     } = desk;
     Served { end, client, lent }

@@ -17,18 +17,26 @@ use iova_range::limits::MAX_RUN;
 use iova_range::refusal::Refusal;
 use std::sync::ledger::Ledger;
 
+/// What a desk keeps of the last hold of a session.
+#[derive(Drop)]
+pub(crate) struct LastBatch {
+    /// It stopped at a free, which is to be asked alone.
+    pub(crate) stopped: bool,
+    /// What the lock told, and room for what it tells next.
+    pub(crate) told: Vec<Told>,
+}
+
 /// Asks the longest front of `alloc`, `free` and `stat` in one hold, up to the first free whose
-/// ring is full, and gives how many were asked. `stopped` keeps that such a free comes next: it
-/// isn't tried in a hold again, since it is to be asked alone. `told` is room for what the lock
-/// tells. Refused by `NoMemory` where that has to grow and can't; then nothing was asked.
+/// ring is full, and gives how many were asked. A free that the last hold stopped at isn't tried in
+/// a hold again, since it is to be asked alone. Refused by `NoMemory` where the room for what the
+/// lock tells has to grow and can't; then nothing was asked.
 pub(crate) fn ask_together<C: Ledger, F: Ledger, S: Ledger, G: Ledger, K: Keep<C, F, S, G>>(
     keeper: &mut K,
     seat: &mut Seat<C, F, S, G>,
     session: &mut Session,
     id: ClientId,
     requests: &[Request],
-    stopped: &mut bool,
-    told: &mut Vec<Told>,
+    last: &mut LastBatch,
     answers: &mut Vec<Answer>,
 ) -> Result<usize, Refusal>
     requires client { session.old.client ≡ Some id }
@@ -58,15 +66,15 @@ pub(crate) fn ask_together<C: Ledger, F: Ledger, S: Ledger, G: Ledger, K: Keep<C
     // for the proof: a free whose ring is full changes nothing
     refusals_keep_the_state();
     let mut asks = [Ask::Stat; MAX_RUN];
-    let most = asks_from(requests, *stopped, &mut asks);
-    *stopped = false;
+    let most = asks_from(requests, last.stopped, &mut asks);
+    last.stopped = false;
     if most == 0 {
         return Ok(0);
     }
-    told.clear();
-    let count = keeper.batch(seat, id, &asks[..most], told)?;
-    tell_all(session, requests, told.as_slice(), answers);
-    *stopped = stops(count, requests.len());
+    last.told.clear();
+    let count = keeper.batch(seat, id, &asks[..most], &mut last.told)?;
+    tell_all(session, requests, last.told.as_slice(), answers);
+    last.stopped = stops(count, requests.len());
     Ok(count)
 }
 
