@@ -261,5 +261,5 @@ where
         D,
         L,
         Flusher<'_, R, N, K, G, D, P>,
-    >(rt, alloc, &lent, posts, sinks, &turns, &mut flusher)
+    >(rt, &lent, posts, sinks, &turns, &mut flusher)
 }

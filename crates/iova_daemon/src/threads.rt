@@ -5,7 +5,6 @@ ghost use Rattle.iova_daemon.specs.Serving.{IsServeRefusal};
 
 use crate::turns::Turns;
 use iova_range::refusal::Refusal;
-use std::alloc::Global;
 use std::sync::Wait;
 use std::thread::{Promise, PromisedHandle, Scope, Threads};
 use std::{io, thread};
@@ -68,7 +67,6 @@ impl Promise<()> for Nothing {
 /// their order. Refused by `NoMemory` before one is started, and by `LinkFault` where one can't be.
 pub(crate) fn run_all<R, W, P, D, L, B>(
     rt: &R,
-    alloc: Global,
     lent: &W,
     places: Vec<P>,
     sinks: Vec<D>,
@@ -92,7 +90,7 @@ where
             requires { vec_len places ≤ vec_len sinks }
             ensures places { IfOk result (λ v. map P.worker v.items ≡ map P.worker places.items) }
             ensures refusal { IfErr result IsServeRefusal }
-        { run_in(scope, rt, alloc, lent, places, sinks, turns, beside) },
+        { run_in(scope, rt, lent, places, sinks, turns, beside) },
     )
 }
 
@@ -100,7 +98,6 @@ where
 fn run_in<'s, E, R, W, P, D, L, B>(
     scope: &Scope<'s, E>,
     rt: &R,
-    alloc: Global,
     lent: &'s W,
     places: Vec<P>,
     sinks: Vec<D>,
@@ -120,6 +117,7 @@ where
     ensures refusal { IfErr result IsServeRefusal }
 {
     let workers = places.len();
+    let alloc = *places.allocator();
     // so joining needs no memory
     let Ok(mut back) = Vec::with_capacity(alloc, workers) else {
         return Err(Refusal::NoMemory);
