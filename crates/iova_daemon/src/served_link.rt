@@ -143,7 +143,10 @@ fn received<R: Wait>(
         }
         let read = stream.read(buf);
         if !is_to_be_tried_again(&read, &mut left) {
-            count_lines(signals, &read, buf);
+            // without a control socket nobody can ask how many there were
+            if patience.turn.is_some() {
+                count_lines(signals, &read, buf);
+            }
             return read;
         }
     }
