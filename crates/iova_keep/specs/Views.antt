@@ -1,5 +1,7 @@
 -- What contracts see of seats and tallies, and what a keeper tells.
 use Rattle.std.specs.Prelude.{ℕ, zero, suc, ◌≡◌, ◌+◌, ◌*◌, ◌<◌, ◌≤◌, ◌%◌, ◌⊎◌, List, [], ◌∷◌, ◌++◌, length, Option, Some, None, Result, Ok, Err, MatchOption}
+use Rattle.std.specs.declared.sync.ledger.Blank.{Blank}
+use Rattle.std.specs.declared.sync.ledger.Ledger.{Ghosts as Ledger}
 use Rattle.iova_range.specs.declared.refusal.Refusal.{Refusal}
 use Rattle.iova_range.specs.declared.refusal.Refusal.TheVariants as refusal
 use Rattle.iova_range.specs.Frames.{Frames}
@@ -19,6 +21,7 @@ use Rattle.iova_keep.specs.declared.ending.Ending.{Ending}
 use Rattle.iova_keep.specs.declared.ending.Ending.TheVariants as ending
 use Rattle.iova_keep.specs.declared.unmapped.Unmapped.{Unmapped}
 use Rattle.iova_keep.specs.declared.unmapped.Unmapped.TheVariants as unmapped
+use Rattle.iova_keep.specs.declared.ledgers.Blanks.{Blanks}
 use Rattle.iova_sink.specs.Calls.{Call, good_calls}
 
 -- a tally: the flushes that it ended well, and its parts
@@ -36,6 +39,18 @@ pub record SeatState : Type 0 where
 pub record LedgersState : Type 0 where
   pub shares : Totals
   pub ended : ℕ
+
+-- a blank is that of this ledger, by its name and its parts, and the parts are so many
+abbrev pub IsBlankOf : {L : Type 0} → Blank → Ledger L → ℕ → Type 0
+IsBlankOf b ledger parts = (b.name ≡ ledger.name) × (b.parts ≡ ledger.parts) × (b.parts ≡ parts)
+
+-- Four blanks are those of these ledgers of a domain with so many seats and workers: of the first
+-- three each seat has a part, of the last each worker has all parts of a tally.
+abbrev pub AreBlanksOf : {C F S G : Type 0} → Blanks → Ledger C → Ledger F → Ledger S → Ledger G
+    → (seats workers : ℕ) → Type 0
+AreBlanksOf b count frames sum_lo good seats workers =
+    IsBlankOf b.count count seats × IsBlankOf b.frames frames seats
+    × IsBlankOf b.sum_lo sum_lo seats × IsBlankOf b.good good (TALLY_PARTS * workers)
 
 -- one of the workers of a domain, by the parts that all tallies of the domain have
 abbrev pub IsWorker : ℕ → ℕ → Type 0

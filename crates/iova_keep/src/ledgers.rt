@@ -1,18 +1,46 @@
 //! The four ledgers of a domain, whose shares its seats and tallies hold.
 ghost use Rattle.std.specs.Prelude.{◌≡◌, ◌+◌, ◌*◌, ◌≤◌, ◌∷◌, [], IfOk, IsErr, Err};
-ghost use Rattle.iova_range.specs.declared.limits.TheConstants.{TALLY_PARTS};
+ghost use Rattle.iova_range.specs.declared.limits.TheConstants.{MAX_WORKERS, TALLY_PARTS};
 ghost use Rattle.iova_model.specs.Clients.{totals_of, no_totals};
 ghost use Rattle.iova_model.specs.Laws.{add_totals};
-ghost use Rattle.iova_keep.specs.Views.{TallyState, SeatState, LedgersState, Covers, seats_in_turn};
+ghost use Rattle.iova_keep.specs.Views.{AreBlanksOf, TallyState, SeatState, LedgersState, Covers, seats_in_turn};
 
 use crate::seat::{Seat, Tally};
 use iova_model::totals::Totals;
+use iova_range::limits::TALLY_PARTS;
 use iova_range::range::Range;
 use iova_range::refusal::Refusal;
 use std::alloc::Global;
 use std::marker::Model;
 use std::sync::ledger;
 use std::sync::ledger::{Blank, Ledger, Share};
+
+/// What a domain's four ledgers are opened with: of each a blank, which no type stands for yet. It
+/// takes no memory. Own.
+#[derive(Drop)]
+pub struct Blanks {
+    pub count: Blank,
+    pub frames: Blank,
+    pub sum_lo: Blank,
+    pub good: Blank,
+}
+
+impl Blanks {
+    /// Those of a domain with so many seats and workers.
+    pub fn new(seats: u64, workers: u64) -> Blanks
+        requires { workers ≤ MAX_WORKERS }
+        ensures seats { (result.count.parts ≡ seats) × (result.frames.parts ≡ seats)
+            × (result.sum_lo.parts ≡ seats) }
+        ensures workers { result.good.parts ≡ TALLY_PARTS * workers }
+    {
+        Blanks {
+            count: Blank::new(seats),
+            frames: Blank::new(seats),
+            sum_lo: Blank::new(seats),
+            good: Blank::new(TALLY_PARTS * workers),
+        }
+    }
+}
 
 /// The totals over all holdings of a domain, and how many of its flushes ended well. It takes no
 /// memory: only proofs see it. Whoever keeps a domain has its ledgers beside it, and moves a seat's
@@ -56,28 +84,19 @@ impl<C: Ledger, F: Ledger, S: Ledger, G: Ledger> Ledgers<C, F, S, G> {
         workers: u64,
         seats: u64,
         parts: u64,
-        count: Blank,
-        frames: Blank,
-        sum_lo: Blank,
-        good: Blank,
+        blanks: Blanks,
     ) -> Result<(Ledgers<C, F, S, G>, Vec<Seat<C, F, S, G>>), Refusal>
-        requires count { (count.name ≡ C.name) × (count.parts ≡ C.parts) × (count.parts ≡ seats) }
-        requires frames { (frames.name ≡ F.name) × (frames.parts ≡ F.parts)
-            × (frames.parts ≡ seats) }
-        requires sum_lo { (sum_lo.name ≡ S.name) × (sum_lo.parts ≡ S.parts)
-            × (sum_lo.parts ≡ seats) }
-        requires good { (good.name ≡ G.name) × (good.parts ≡ G.parts)
-            × (good.parts ≡ TALLY_PARTS * workers) }
+        requires blanks { AreBlanksOf blanks C.Ledger F.Ledger S.Ledger G.Ledger seats workers }
         requires workers { 1 ≤ workers }
         requires parts { (1 ≤ parts) × (parts * seats ≤ TALLY_PARTS * workers) }
         ensures ok { IfOk result (λ r. (r.0 ≡ record { shares = no_totals; ended = 0 })
             × (r.1.items ≡ seats_in_turn parts workers seats)) }
         ensures err { IsErr result → result ≡ Err Refusal.NoMemory }
     {
-        let (count, mut counted) = count.open::<C>();
-        let (frames, mut framed) = frames.open::<F>();
-        let (sum_lo, mut summed) = sum_lo.open::<S>();
-        let (good, mut ended) = good.open::<G>();
+        let (count, mut counted) = blanks.count.open::<C>();
+        let (frames, mut framed) = blanks.frames.open::<F>();
+        let (sum_lo, mut summed) = blanks.sum_lo.open::<S>();
+        let (good, mut ended) = blanks.good.open::<G>();
         let mut opened = Vec::new(alloc);
         for at in 0..seats {
             let seat = Seat::new(

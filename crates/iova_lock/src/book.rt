@@ -12,11 +12,11 @@ ghost use Rattle.iova_keep.specs.Steps.{Takes, IsGivenWithin, IsDrainReply};
 ghost use Rattle.iova_keep.specs.StepLogs.{StepLog, IsRecorded, is_recording, new_log};
 ghost use Rattle.iova_keep.specs.Events.{Does, Unmapping, IsShort, Closing, Draining, rings_from};
 ghost use Rattle.iova_lock.specs.Books.{BookState, IsSame, ReadsNewer, by_seat, by_tally, new_book, steps_in, IsBook};
-ghost use Rattle.iova_keep.specs.Views.{TallyState, SeatState, Covers, IsWorker, new_seats, seats_in_turn, left_of, stat_of, IsLowered, IsCloseHeard, IsKept};
+ghost use Rattle.iova_keep.specs.Views.{AreBlanksOf, TallyState, SeatState, Covers, IsWorker, new_seats, seats_in_turn, left_of, stat_of, IsLowered, IsCloseHeard, IsKept};
 
 use iova_core::domain::Domain;
 use iova_core::{ClientId, Reply, Step};
-use iova_keep::ledgers::Ledgers;
+use iova_keep::ledgers::{Blanks, Ledgers};
 use iova_keep::seat::{Seat, Tally};
 use iova_model::totals::Totals;
 use iova_range::bounds::Bounds;
@@ -28,7 +28,7 @@ use iova_record::machine::{Machine, Stored};
 use iova_report::report;
 use std::alloc::Global;
 use std::marker::Model;
-use std::sync::ledger::{Blank, Ledger, Share};
+use std::sync::ledger::{Ledger, Share};
 
 /// A domain, with the ledgers of its totals and of its flushes that ended well.
 pub struct Book<C: Ledger, F: Ledger, S: Ledger, G: Ledger> {
@@ -83,21 +83,10 @@ impl<C: Ledger, F: Ledger, S: Ledger, G: Ledger> Book<C, F, S, G> {
         number: u64,
         bounds: Bounds,
         workers: u64,
-        count: Blank,
-        frames: Blank,
-        sum_lo: Blank,
-        good: Blank,
+        blanks: Blanks,
     ) -> Result<(Book<C, F, S, G>, Vec<Seat<C, F, S, G>>), Refusal>
-        requires count { 1 ≤ workers → workers ≤ MAX_WORKERS
-            → (count.name ≡ C.name) × (count.parts ≡ C.parts)
-            × (count.parts ≡ workers) }
-        requires frames { 1 ≤ workers → workers ≤ MAX_WORKERS → (frames.name ≡ F.name)
-            × (frames.parts ≡ F.parts) × (frames.parts ≡ workers) }
-        requires sum_lo { 1 ≤ workers → workers ≤ MAX_WORKERS → (sum_lo.name ≡ S.name)
-            × (sum_lo.parts ≡ S.parts) × (sum_lo.parts ≡ workers) }
-        requires good { 1 ≤ workers → workers ≤ MAX_WORKERS
-            → (good.name ≡ G.name) × (good.parts ≡ G.parts)
-            × (good.parts ≡ TALLY_PARTS * workers) }
+        requires blanks { 1 ≤ workers → workers ≤ MAX_WORKERS
+            → AreBlanksOf blanks C.Ledger F.Ledger S.Ledger G.Ledger workers workers }
         ensures ok { IfOk result (λ r. (r.0 ≡ new_book number bounds workers None)
             × (r.1.items ≡ new_seats workers)) }
         ensures workers { (result ≡ Err Refusal.NoWorker)
@@ -113,10 +102,7 @@ impl<C: Ledger, F: Ledger, S: Ledger, G: Ledger> Book<C, F, S, G> {
                 workers,
                 TALLY_PARTS,
                 machine,
-                count,
-                frames,
-                sum_lo,
-                good,
+                blanks,
             ),
             Err(refusal) => Err(refusal),
         }
@@ -130,21 +116,10 @@ impl<C: Ledger, F: Ledger, S: Ledger, G: Ledger> Book<C, F, S, G> {
         bounds: Bounds,
         workers: u64,
         pairs: usize,
-        count: Blank,
-        frames: Blank,
-        sum_lo: Blank,
-        good: Blank,
+        blanks: Blanks,
     ) -> Result<(Book<C, F, S, G>, Vec<Seat<C, F, S, G>>), Refusal>
-        requires count { 1 ≤ workers → workers ≤ MAX_WORKERS
-            → (count.name ≡ C.name) × (count.parts ≡ C.parts)
-            × (count.parts ≡ workers) }
-        requires frames { 1 ≤ workers → workers ≤ MAX_WORKERS → (frames.name ≡ F.name)
-            × (frames.parts ≡ F.parts) × (frames.parts ≡ workers) }
-        requires sum_lo { 1 ≤ workers → workers ≤ MAX_WORKERS → (sum_lo.name ≡ S.name)
-            × (sum_lo.parts ≡ S.parts) × (sum_lo.parts ≡ workers) }
-        requires good { 1 ≤ workers → workers ≤ MAX_WORKERS
-            → (good.name ≡ G.name) × (good.parts ≡ G.parts)
-            × (good.parts ≡ TALLY_PARTS * workers) }
+        requires blanks { 1 ≤ workers → workers ≤ MAX_WORKERS
+            → AreBlanksOf blanks C.Ledger F.Ledger S.Ledger G.Ledger workers workers }
         ensures ok { IfOk result (λ r. (r.0 ≡ new_book number bounds workers (Some (new_log pairs)))
             × (r.1.items ≡ new_seats workers)) }
         ensures workers { (result ≡ Err Refusal.NoWorker)
@@ -160,10 +135,7 @@ impl<C: Ledger, F: Ledger, S: Ledger, G: Ledger> Book<C, F, S, G> {
                 workers,
                 TALLY_PARTS,
                 machine,
-                count,
-                frames,
-                sum_lo,
-                good,
+                blanks,
             ),
             Err(refusal) => Err(refusal),
         }
@@ -179,20 +151,11 @@ impl<C: Ledger, F: Ledger, S: Ledger, G: Ledger> Book<C, F, S, G> {
         workers: u64,
         seats: u64,
         pairs: Option<usize>,
-        count: Blank,
-        frames: Blank,
-        sum_lo: Blank,
-        good: Blank,
+        blanks: Blanks,
     ) -> Result<(Book<C, F, S, G>, Vec<Seat<C, F, S, G>>), Refusal>
         requires workers { (1 ≤ workers) × (workers ≤ MAX_WORKERS) }
         requires seats { (workers ≤ seats) × (seats ≤ MAX_CLIENTS) }
-        requires count { (count.name ≡ C.name) × (count.parts ≡ C.parts) × (count.parts ≡ seats) }
-        requires frames { (frames.name ≡ F.name) × (frames.parts ≡ F.parts)
-            × (frames.parts ≡ seats) }
-        requires sum_lo { (sum_lo.name ≡ S.name) × (sum_lo.parts ≡ S.parts)
-            × (sum_lo.parts ≡ seats) }
-        requires good { (good.name ≡ G.name) × (good.parts ≡ G.parts)
-            × (good.parts ≡ TALLY_PARTS * workers) }
+        requires blanks { AreBlanksOf blanks C.Ledger F.Ledger S.Ledger G.Ledger seats workers }
         ensures ok { IfOk result (λ r. (r.0 ≡ new_book number bounds workers
             (option_map new_log pairs)) × (r.1.items ≡ seats_in_turn SEAT_PARTS workers seats)) }
         ensures err { IsErr result → result ≡ Err Refusal.NoMemory }
@@ -202,9 +165,7 @@ impl<C: Ledger, F: Ledger, S: Ledger, G: Ledger> Book<C, F, S, G> {
             None => Machine::new(alloc, bounds, workers),
         };
         match made {
-            Ok(machine) => Book::over(
-                alloc, number, workers, seats, SEAT_PARTS, machine, count, frames, sum_lo, good,
-            ),
+            Ok(machine) => Book::over(alloc, number, workers, seats, SEAT_PARTS, machine, blanks),
             Err(_) => Err(Refusal::NoMemory),
         }
     }
@@ -218,18 +179,9 @@ impl<C: Ledger, F: Ledger, S: Ledger, G: Ledger> Book<C, F, S, G> {
         seats: u64,
         parts: u64,
         machine: Machine,
-        count: Blank,
-        frames: Blank,
-        sum_lo: Blank,
-        good: Blank,
+        blanks: Blanks,
     ) -> Result<(Book<C, F, S, G>, Vec<Seat<C, F, S, G>>), Refusal>
-        requires count { (count.name ≡ C.name) × (count.parts ≡ C.parts) × (count.parts ≡ seats) }
-        requires frames { (frames.name ≡ F.name) × (frames.parts ≡ F.parts)
-            × (frames.parts ≡ seats) }
-        requires sum_lo { (sum_lo.name ≡ S.name) × (sum_lo.parts ≡ S.parts)
-            × (sum_lo.parts ≡ seats) }
-        requires good { (good.name ≡ G.name) × (good.parts ≡ G.parts)
-            × (good.parts ≡ TALLY_PARTS * workers) }
+        requires blanks { AreBlanksOf blanks C.Ledger F.Ledger S.Ledger G.Ledger seats workers }
         requires workers { (1 ≤ workers) × (machine.state.workers ≡ workers) }
         requires parts { (1 ≤ parts) × (parts * seats ≤ TALLY_PARTS * workers) }
         requires new { (totals machine.state.clients ≡ no_totals) × (machine.state.flushes.good ≡ 0) }
@@ -243,7 +195,7 @@ impl<C: Ledger, F: Ledger, S: Ledger, G: Ledger> Book<C, F, S, G> {
         }) × (r.1.items ≡ seats_in_turn parts workers seats)) }
         ensures err { IsErr result → result ≡ Err Refusal.NoMemory }
     {
-        match Ledgers::open(alloc, workers, seats, parts, count, frames, sum_lo, good) {
+        match Ledgers::open(alloc, workers, seats, parts, blanks) {
             Ok((ledgers, opened)) => Ok((
                 Book {
                     number,
