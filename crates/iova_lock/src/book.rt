@@ -30,8 +30,23 @@ use std::alloc::Global;
 use std::marker::Model;
 use std::sync::ledger::{Ledger, Share};
 
+/// Words that nobody reads, as long as a line of the processor's cache. Under a lock they keep what a
+/// hold reads and writes out of the line of the lock's word, which all that look for the lock take
+/// from one another.
+#[derive(Clone, Copy)]
+struct Apart {
+    _words: [u64; 8],
+}
+
+impl Apart {
+    fn new() -> Apart {
+        Apart { _words: [0; 8] }
+    }
+}
+
 /// A domain, with the ledgers of its totals and of its flushes that ended well.
 pub struct Book<C: Ledger, F: Ledger, S: Ledger, G: Ledger> {
+    _apart: Apart,
     number: u64,
     seats: u64,
     strict: bool,
@@ -43,6 +58,7 @@ pub struct Book<C: Ledger, F: Ledger, S: Ledger, G: Ledger> {
 impl<C: Ledger, F: Ledger, S: Ledger, G: Ledger> Drop for Book<C, F, S, G> {
     fn drop(self) {
         let Book {
+            _apart: _,
             number: _,
             seats: _,
             strict: _,
@@ -198,6 +214,7 @@ impl<C: Ledger, F: Ledger, S: Ledger, G: Ledger> Book<C, F, S, G> {
         match Ledgers::open(alloc, workers, seats, parts, blanks) {
             Ok((ledgers, opened)) => Ok((
                 Book {
+                    _apart: Apart::new(),
                     number,
                     seats,
                     strict: false,
@@ -388,6 +405,7 @@ impl<C: Ledger, F: Ledger, S: Ledger, G: Ledger> Book<C, F, S, G> {
         // for the proof: what the domain keeps
         self.machine.is_kept();
         let Book {
+            _apart: _,
             number: _,
             seats: _,
             strict: _,
