@@ -133,14 +133,15 @@ fn ask_of(request: Request) -> Option<Ask>
 }
 
 /// What was told as an answer.
-fn answer_of(told: Told) -> Answer
-    ensures { result ≡ the_answer_of told }
+#[inline(always)]
+fn answer_of(told: &Told) -> Answer
+    ensures { result ≡ the_answer_of told.now }
 {
     match told {
-        Told::Given(range) => Answer::Given(range),
-        Told::Queued(range) => Answer::Queued(range),
-        Told::Stat(stat) => Answer::Stat(stat),
-        Told::Refused(refusal) => Answer::Refused(refusal),
+        Told::Given(range) => Answer::Given(*range),
+        Told::Queued(range) => Answer::Queued(*range),
+        Told::Stat(stat) => Answer::Stat(*stat),
+        Told::Refused(refusal) => Answer::Refused(*refusal),
     }
 }
 
@@ -156,7 +157,7 @@ fn tell_all(session: &mut Session, requests: &[Request], told: &[Told], answers:
     ensures kept { vec_capacity answers.old ≤ vec_capacity answers.new }
 {
     for (i, told) in told.iter().enumerate() {
-        let answer = answer_of(*told);
+        let answer = answer_of(told);
         session.add(requests[i], &answer);
         push(answers, answer);
     }

@@ -43,14 +43,28 @@ pub fn put_number<const CAP: usize>(out: &mut ArrayVec<u8, CAP>, n: u64)
     }
 }
 
-/// The same for a number of any length.
+/// The same for a number of nine digits or more, of which most have twelve at most: a first frame
+/// of up to 2^36 has eleven.
 #[inline(never)]
 fn put_long<const CAP: usize>(out: &mut ArrayVec<u8, CAP>, n: u64)
-    requires { length out.old.items + 20 ≤ CAP }
+    requires long { 100000000 ≤ n }
+    requires room { length out.old.items + 20 ≤ CAP }
     ensures items { out.new.items ≡ out.old.items ++ decimal n }
     ensures longer { length out.new.items ≤ length out.old.items + 20 }
 {
-    put(out, Buffer::new().format(n).as_bytes());
+    if n >= 1_000_000_000_000 {
+        put(out, Buffer::new().format(n).as_bytes());
+        return;
+    }
+    let high = n / 100_000_000;
+    let low = n % 100_000_000;
+    let middle = low / 10_000;
+    let last = low % 10_000;
+    put_short(out, high);
+    put_pair(out, middle / 100);
+    put_pair(out, middle % 100);
+    put_pair(out, last / 100);
+    put_pair(out, last % 100);
 }
 
 /// Appends the text of a number of at most four digits.
