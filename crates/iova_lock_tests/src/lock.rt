@@ -1,22 +1,21 @@
 //! A book and the lock round one: what each call answers, what it records, what takes threads, and
 //! refused growths.
-ghost use Rattle.std.specs.Prelude.{◌≡◌, ◌*◌};
-ghost use Rattle.iova_range.specs.declared.limits.TheConstants.{TALLY_PARTS};
+ghost use Rattle.iova_keep.specs.Views.{AreBlanksOf};
 
 use crate::lock::cases::{ALL, GROWTHS, THREADS, Task, case};
 use iova_keep::keep::Keep;
+use iova_keep::ledgers::Blanks;
 use iova_keep::seat::Seat;
 use iova_lock::book::Book;
 use iova_lock::crossing::books_are_send;
 use iova_lock::shared::Shared;
 use iova_range::bounds::Bounds;
-use iova_range::limits::TALLY_PARTS;
 use iova_range::refusal::Refusal;
 use std::alloc::Global;
 use std::marker::Brand;
 use std::process::Abort;
 use std::sync::Wait;
-use std::sync::ledger::{Blank, Ledger};
+use std::sync::ledger::Ledger;
 use std::test::*;
 use std::thread::Threads;
 
@@ -93,18 +92,11 @@ fn in_a_book<C: Ledger, F: Ledger, S: Ledger, G: Ledger, R: Abort + Print>(
     bounds: Bounds,
     strict: bool,
     no: usize,
-    count: Blank,
-    frames: Blank,
-    sum_lo: Blank,
-    good: Blank,
+    blanks: Blanks,
 ) -> Vec<String>
-    requires count { (count.name ≡ C.name) × (count.parts ≡ C.parts) × (count.parts ≡ 16) }
-    requires frames { (frames.name ≡ F.name) × (frames.parts ≡ F.parts) × (frames.parts ≡ 16) }
-    requires sum_lo { (sum_lo.name ≡ S.name) × (sum_lo.parts ≡ S.parts) × (sum_lo.parts ≡ 16) }
-    requires good { (good.name ≡ G.name) × (good.parts ≡ G.parts)
-        × (good.parts ≡ TALLY_PARTS * 16) }
+    requires blanks { AreBlanksOf blanks C.Ledger F.Ledger S.Ledger G.Ledger 16 16 }
 {
-    match Book::<C, F, S, G>::new(alloc, 7, bounds, 16, count, frames, sum_lo, good) {
+    match Book::<C, F, S, G>::new(alloc, 7, bounds, 16, blanks) {
         Ok((book, mut seats)) => {
             let mut book = if strict { book.strict() } else { book };
             let said = run(rt, alloc, &mut book, &mut seats, strict, no);
@@ -126,31 +118,15 @@ fn under_a_lock<
     S: Ledger + Send + Sync,
     G: Ledger + Send + Sync,
     R: Threads + Wait + Sync + Abort + Print,
->(
-    rt: &R,
-    alloc: Global,
-    bounds: Bounds,
-    strict: bool,
-    no: usize,
-    count: Blank,
-    frames: Blank,
-    sum_lo: Blank,
-    good: Blank,
-) -> Vec<String>
-    requires count { (count.name ≡ C.name) × (count.parts ≡ C.parts) × (count.parts ≡ 16) }
-    requires frames { (frames.name ≡ F.name) × (frames.parts ≡ F.parts) × (frames.parts ≡ 16) }
-    requires sum_lo { (sum_lo.name ≡ S.name) × (sum_lo.parts ≡ S.parts) × (sum_lo.parts ≡ 16) }
-    requires good { (good.name ≡ G.name) × (good.parts ≡ G.parts)
-        × (good.parts ≡ TALLY_PARTS * 16) }
+>(rt: &R, alloc: Global, bounds: Bounds, strict: bool, no: usize, blanks: Blanks) -> Vec<String>
+    requires blanks { AreBlanksOf blanks C.Ledger F.Ledger S.Ledger G.Ledger 16 16 }
 {
     let pairs = case(no).1.pairs;
     let recorded = 0 < pairs && pairs <= 100;
     let made = if recorded {
-        Shared::<&R, C, F, S, G>::recorded(
-            rt, alloc, 7, bounds, 16, pairs, count, frames, sum_lo, good,
-        )
+        Shared::<&R, C, F, S, G>::recorded(rt, alloc, 7, bounds, 16, pairs, blanks)
     } else {
-        Shared::<&R, C, F, S, G>::new(rt, alloc, 7, bounds, 16, count, frames, sum_lo, good)
+        Shared::<&R, C, F, S, G>::new(rt, alloc, 7, bounds, 16, blanks)
     };
     match made {
         Ok((shared, seats)) => {
@@ -266,10 +242,7 @@ fn a_book_and_a_lock(rt: HostRuntime) {
                 Bounds::new(1, case(no).1.last).expect(&rt, "bounds"),
                 strict,
                 no,
-                Blank::new(16),
-                Blank::new(16),
-                Blank::new(16),
-                Blank::new(TALLY_PARTS * 16),
+                Blanks::new(16, 16),
             );
             let of_lock = under_a_lock::<Brand, Brand, Brand, Brand, _>(
                 &rt,
@@ -277,10 +250,7 @@ fn a_book_and_a_lock(rt: HostRuntime) {
                 Bounds::new(1, case(no).1.last).expect(&rt, "bounds"),
                 strict,
                 no,
-                Blank::new(16),
-                Blank::new(16),
-                Blank::new(16),
-                Blank::new(TALLY_PARTS * 16),
+                Blanks::new(16, 16),
             );
             if let Task::Random = case(no).0 {
                 are_alike(&rt, &of_book, &of_lock, strict);
@@ -299,10 +269,7 @@ fn threads_of_a_lock(rt: HostRuntime) {
                 Bounds::new(1, case(no).1.last).expect(&rt, "bounds"),
                 strict,
                 no,
-                Blank::new(16),
-                Blank::new(16),
-                Blank::new(16),
-                Blank::new(TALLY_PARTS * 16),
+                Blanks::new(16, 16),
             );
         }
     }
@@ -317,10 +284,7 @@ fn refused_growths(rt: HostRuntime) {
             Bounds::new(1, case(no).1.last).expect(&rt, "bounds"),
             false,
             no,
-            Blank::new(16),
-            Blank::new(16),
-            Blank::new(16),
-            Blank::new(TALLY_PARTS * 16),
+            Blanks::new(16, 16),
         );
         let _said = under_a_lock::<Brand, Brand, Brand, Brand, _>(
             &rt,
@@ -328,10 +292,7 @@ fn refused_growths(rt: HostRuntime) {
             Bounds::new(1, case(no).1.last).expect(&rt, "bounds"),
             false,
             no,
-            Blank::new(16),
-            Blank::new(16),
-            Blank::new(16),
-            Blank::new(TALLY_PARTS * 16),
+            Blanks::new(16, 16),
         );
     }
 }

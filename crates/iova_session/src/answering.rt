@@ -1,7 +1,8 @@
 //! Requests asked, and their answers written.
-ghost use Rattle.std.specs.Prelude.{◌≡◌, ◌≢◌, ℕ, ◌+◌, ◌≤◌, ◌++◌, List, MatchResult, OnOk, OnErr, IfErr, ◌⊎◌, length, take};
+ghost use Rattle.std.specs.Prelude.{◌≡◌, ◌≢◌, ℕ, ◌+◌, ◌≤◌, ◌++◌, List, MatchResult, OnOk, OnErr, IfErr, ◌⊎◌, [], IsTrue, length, take};
 ghost use Rattle.iova_sink.specs.Counts.{CountsFailure};
 ghost use Rattle.std.specs.Io.KnownBytes.{Appends};
+ghost use Rattle.iova_proto.specs.Answers.{answer_text, first_line};
 ghost use Rattle.iova_session.specs.Links.{AppendsFront};
 ghost use Rattle.iova_session.specs.Pairs.{Pair, answers_text};
 ghost use Rattle.iova_session.specs.Sessions.{failures_at, ends_at};
@@ -10,10 +11,14 @@ ghost use Rattle.iova_session.specs.Rounds.{AsksRun, IsCut, CountsFault};
 use crate::desk::Desk;
 use crate::end::End;
 use crate::link::{Link, LinkFault, put_all};
+use arrayvec::ArrayVec;
 use iova_proto::answer::Answer;
-use iova_proto::encode::encode;
+use iova_proto::encode::{MAX_FIRST_LINE, encode, put_first_line};
 use iova_proto::request::Request;
 use iova_range::limits::MAX_RUN;
+
+/// So many bytes the answers to a run have at most, but for the ranges of `Held`.
+const RUN_TEXT: usize = MAX_FIRST_LINE * MAX_RUN;
 
 /// Asks all of the requests, in runs as the desk takes them, and writes the answers to each run
 /// before the next.
@@ -56,15 +61,46 @@ fn tell<L: Link>(link: &mut L, answers: &[Answer], out: &mut Vec<u8>) -> Result<
     ensures err { IfErr result (λ e. IsCut e
         × AppendsFront (L.sent link.old) (L.sent link.new) (answers_text answers.now)) }
 {
-    out.clear();
-    for answer in answers {
-        if encode(answer, out).is_err() {
-            return Err(End::NoMemory);
+    let mut text: ArrayVec<u8, RUN_TEXT> = ArrayVec::new();
+    let written = if put_lines(answers, &mut text) {
+        put_all(link, text.as_slice())
+    } else {
+        out.clear();
+        for answer in answers {
+            if encode(answer, out).is_err() {
+                return Err(End::NoMemory);
+            }
         }
-    }
-    match put_all(link, out.as_slice()) {
+        put_all(link, out.as_slice())
+    };
+    match written {
         Ok(()) => Ok(()),
         Err(LinkFault) => Err(End::LinkFault),
+    }
+}
+
+/// Puts the answers' texts together where each is one line and there is room for all: whether that
+/// is so.
+fn put_lines(answers: &[Answer], text: &mut ArrayVec<u8, RUN_TEXT>) -> bool
+    requires { text.old.items ≡ [] }
+    ensures { IsTrue result → text.new.items ≡ answers_text answers.now }
+{
+    for answer in answers {
+        if text.len() + MAX_FIRST_LINE > RUN_TEXT || !is_one_line(answer) {
+            return false;
+        }
+        put_first_line(answer, text);
+    }
+    true
+}
+
+/// Whether the answer's text is one line.
+fn is_one_line(answer: &Answer) -> bool
+    ensures { IsTrue result → answer_text answer.now ≡ first_line answer.now }
+{
+    match answer {
+        Answer::Held(_) => false,
+        _ => true,
     }
 }
 

@@ -1,8 +1,9 @@
 //! Serving: a flush with another worker beside it, accepts, sinks and links that fail, clients that
 //! wait, the flusher's rounds, and growths that are refused. The built program is tried over
 //! sockets by tests/run_service.
-ghost use Rattle.std.specs.Prelude.{◌≡◌, ◌*◌, ◌≤◌};
-ghost use Rattle.iova_range.specs.declared.limits.TheConstants.{MAX_WORKERS, TALLY_PARTS};
+ghost use Rattle.std.specs.Prelude.{◌≤◌};
+ghost use Rattle.iova_range.specs.declared.limits.TheConstants.{MAX_WORKERS};
+ghost use Rattle.iova_keep.specs.Views.{AreBlanksOf};
 
 mod doubles;
 
@@ -14,11 +15,12 @@ use iova_daemon::pause::Pause;
 use iova_daemon::signals::Signals;
 use iova_daemon::{Served, serve_on};
 use iova_keep::keep::Keep;
+use iova_keep::ledgers::Blanks;
 use iova_keep::seat::Seat;
 use iova_lock::shared::Shared;
 use iova_model::totals::Totals;
 use iova_range::bounds::Bounds;
-use iova_range::limits::{MAX_WORKERS, TALLY_PARTS};
+use iova_range::limits::MAX_WORKERS;
 use iova_range::refusal::Refusal;
 use iova_range::stat::Stat;
 use iova_session::link::Link;
@@ -34,7 +36,7 @@ use std::process::Abort;
 use std::rt::Clock;
 use std::sync::Wait;
 use std::sync::atomic::{AtomicU64, Ordering};
-use std::sync::ledger::{Blank, Ledger};
+use std::sync::ledger::Ledger;
 use std::test::*;
 use std::thread::Threads;
 
@@ -439,10 +441,7 @@ where
         notices,
         kind,
         workers,
-        Blank::new(workers),
-        Blank::new(workers),
-        Blank::new(workers),
-        Blank::new(TALLY_PARTS * workers),
+        Blanks::new(workers, workers),
         sinks,
         accept,
         pause,
@@ -457,10 +456,7 @@ fn serve_new<R, N, C, F, S, G, L, A, D, P>(
     notices: &N,
     kind: (bool, usize),
     workers: u64,
-    count: Blank,
-    frames: Blank,
-    sum_lo: Blank,
-    good: Blank,
+    blanks: Blanks,
     sinks: Vec<D>,
     accept: &A,
     pause: P,
@@ -478,15 +474,10 @@ where
     D: Sink + Send + Drop,
     P: Pause + Drop,
     requires workers { (1 ≤ workers) × (workers ≤ MAX_WORKERS) }
-    requires count { (count.name ≡ C.name) × (count.parts ≡ C.parts) × (count.parts ≡ workers) }
-    requires frames { (frames.name ≡ F.name) × (frames.parts ≡ F.parts) × (frames.parts ≡ workers) }
-    requires sum_lo { (sum_lo.name ≡ S.name) × (sum_lo.parts ≡ S.parts) × (sum_lo.parts ≡ workers) }
-    requires good { (good.name ≡ G.name) × (good.parts ≡ G.parts)
-        × (good.parts ≡ TALLY_PARTS * workers) }
+    requires blanks { AreBlanksOf blanks C.Ledger F.Ledger S.Ledger G.Ledger workers workers }
 {
-    let Some((shared, mut posts)) = new_domain::<&R, C, F, S, G>(
-        rt, alloc, kind, workers, count, frames, sum_lo, good,
-    ) else {
+    let Some((shared, mut posts)) = new_domain::<&R, C, F, S, G>(rt, alloc, kind, workers, blanks)
+    else {
         return Err(BEFORE);
     };
     if posts.is_empty() || sinks.len() != posts.len() + 1 || posts[0].seat.tally().parts() < 2 {
@@ -512,10 +503,7 @@ fn new_domain<Q, C, F, S, G>(
     alloc: Global,
     kind: (bool, usize),
     workers: u64,
-    count: Blank,
-    frames: Blank,
-    sum_lo: Blank,
-    good: Blank,
+    blanks: Blanks,
 ) -> Option<(Shared<Q, C, F, S, G>, Vec<Post<C, F, S, G>>)>
 where
     Q: Drop,
@@ -523,18 +511,13 @@ where
     F: Ledger,
     S: Ledger,
     G: Ledger,
-    requires count { (count.name ≡ C.name) × (count.parts ≡ C.parts) × (count.parts ≡ workers) }
-    requires frames { (frames.name ≡ F.name) × (frames.parts ≡ F.parts) × (frames.parts ≡ workers) }
-    requires sum_lo { (sum_lo.name ≡ S.name) × (sum_lo.parts ≡ S.parts) × (sum_lo.parts ≡ workers) }
-    requires good { (good.name ≡ G.name) × (good.parts ≡ G.parts)
-        × (good.parts ≡ TALLY_PARTS * workers) }
+    requires blanks { AreBlanksOf blanks C.Ledger F.Ledger S.Ledger G.Ledger workers workers }
 {
     let Ok(bounds) = Bounds::new(1, 4095) else {
         return None;
     };
-    let Ok((shared, seats)) = new_shared::<Q, C, F, S, G>(
-        rt, alloc, kind, bounds, workers, count, frames, sum_lo, good,
-    ) else {
+    let Ok((shared, seats)) = new_shared::<Q, C, F, S, G>(rt, alloc, kind, bounds, workers, blanks)
+    else {
         return None;
     };
     match posts_at(alloc, seats) {

@@ -1,15 +1,15 @@
 //! One session at a post of a fresh domain 0, for tests: over a book, and under a lock.
-ghost use Rattle.std.specs.Prelude.{◌≡◌, ◌≤◌, ◌*◌};
-ghost use Rattle.iova_range.specs.declared.limits.TheConstants.{TALLY_PARTS};
+ghost use Rattle.iova_keep.specs.Views.{AreBlanksOf};
 
 use iova_keep::keep::Keep;
+use iova_keep::ledgers::Blanks;
 use iova_keep::seat::Seat;
 use iova_lock::book::Book;
 use iova_lock::shared::Shared;
 use iova_model::place::Place;
 use iova_model::totals::Totals;
 use iova_range::bounds::Bounds;
-use iova_range::limits::{MAX_PAIRS, MAX_WORKERS, TALLY_PARTS};
+use iova_range::limits::{MAX_PAIRS, MAX_WORKERS};
 use iova_range::profile::Profile;
 use iova_range::refusal::Refusal;
 use iova_range::stat::Stat;
@@ -22,7 +22,7 @@ use iova_sink::sink::Sink;
 use std::alloc::Global;
 use std::marker::Brand;
 use std::sync::Wait;
-use std::sync::ledger::{Blank, Ledger};
+use std::sync::ledger::Ledger;
 
 /// The domain that a session is served on, at the seat of its last worker.
 #[derive(Clone, Copy)]
@@ -93,10 +93,7 @@ pub(crate) fn at_post<R: Wait, L: Link, D: Sink>(
             setup,
             bounds,
             workers,
-            Blank::new(workers),
-            Blank::new(workers),
-            Blank::new(workers),
-            Blank::new(TALLY_PARTS * workers),
+            Blanks::new(workers, workers),
             link,
             sink,
             text,
@@ -107,10 +104,7 @@ pub(crate) fn at_post<R: Wait, L: Link, D: Sink>(
             setup,
             bounds,
             workers,
-            Blank::new(workers),
-            Blank::new(workers),
-            Blank::new(workers),
-            Blank::new(TALLY_PARTS * workers),
+            Blanks::new(workers, workers),
             link,
             sink,
         )
@@ -122,18 +116,11 @@ fn in_book<C: Ledger, F: Ledger, S: Ledger, G: Ledger, L: Link, D: Sink>(
     setup: &Setup,
     bounds: Bounds,
     workers: u64,
-    count: Blank,
-    frames: Blank,
-    sum_lo: Blank,
-    good: Blank,
+    blanks: Blanks,
     link: &mut L,
     sink: &mut D,
 ) -> Result<Seen, Refusal>
-    requires count { (count.name ≡ C.name) × (count.parts ≡ C.parts) × (count.parts ≡ workers) }
-    requires frames { (frames.name ≡ F.name) × (frames.parts ≡ F.parts) × (frames.parts ≡ workers) }
-    requires sum_lo { (sum_lo.name ≡ S.name) × (sum_lo.parts ≡ S.parts) × (sum_lo.parts ≡ workers) }
-    requires good { (good.name ≡ G.name) × (good.parts ≡ G.parts)
-        × (good.parts ≡ TALLY_PARTS * workers) }
+    requires blanks { AreBlanksOf blanks C.Ledger F.Ledger S.Ledger G.Ledger workers workers }
 {
     let (book, mut seats) = if setup.pairs > 0 {
         Book::<C, F, S, G>::recorded(
@@ -142,13 +129,10 @@ fn in_book<C: Ledger, F: Ledger, S: Ledger, G: Ledger, L: Link, D: Sink>(
             bounds,
             workers,
             setup.pairs.min(MAX_PAIRS),
-            count,
-            frames,
-            sum_lo,
-            good,
+            blanks,
         )?
     } else {
-        Book::<C, F, S, G>::new(alloc, 0, bounds, workers, count, frames, sum_lo, good)?
+        Book::<C, F, S, G>::new(alloc, 0, bounds, workers, blanks)?
     };
     let book = if setup.strict { book.strict() } else { book };
     let seen = session_at(alloc, book, &mut seats, setup.in_flight, link, sink);
@@ -163,16 +147,9 @@ pub(crate) fn new_shared<Q: Drop, C: Ledger, F: Ledger, S: Ledger, G: Ledger>(
     kind: (bool, usize),
     bounds: Bounds,
     workers: u64,
-    count: Blank,
-    frames: Blank,
-    sum_lo: Blank,
-    good: Blank,
+    blanks: Blanks,
 ) -> Result<(Shared<Q, C, F, S, G>, Vec<Seat<C, F, S, G>>), Refusal>
-    requires count { (count.name ≡ C.name) × (count.parts ≡ C.parts) × (count.parts ≡ workers) }
-    requires frames { (frames.name ≡ F.name) × (frames.parts ≡ F.parts) × (frames.parts ≡ workers) }
-    requires sum_lo { (sum_lo.name ≡ S.name) × (sum_lo.parts ≡ S.parts) × (sum_lo.parts ≡ workers) }
-    requires good { (good.name ≡ G.name) × (good.parts ≡ G.parts)
-        × (good.parts ≡ TALLY_PARTS * workers) }
+    requires blanks { AreBlanksOf blanks C.Ledger F.Ledger S.Ledger G.Ledger workers workers }
 {
     let (strict, pairs) = kind;
     let (shared, seats) = if pairs > 0 {
@@ -183,13 +160,10 @@ pub(crate) fn new_shared<Q: Drop, C: Ledger, F: Ledger, S: Ledger, G: Ledger>(
             bounds,
             workers,
             pairs.min(MAX_PAIRS),
-            count,
-            frames,
-            sum_lo,
-            good,
+            blanks,
         )?
     } else {
-        Shared::<Q, C, F, S, G>::new(rt, alloc, 0, bounds, workers, count, frames, sum_lo, good)?
+        Shared::<Q, C, F, S, G>::new(rt, alloc, 0, bounds, workers, blanks)?
     };
     let shared = if strict { shared.strict() } else { shared };
     Ok((shared, seats))
@@ -201,19 +175,12 @@ fn in_shared<R: Wait, C: Ledger, F: Ledger, S: Ledger, G: Ledger, L: Link, D: Si
     setup: &Setup,
     bounds: Bounds,
     workers: u64,
-    count: Blank,
-    frames: Blank,
-    sum_lo: Blank,
-    good: Blank,
+    blanks: Blanks,
     link: &mut L,
     sink: &mut D,
     text: &mut Vec<u8>,
 ) -> Result<Seen, Refusal>
-    requires count { (count.name ≡ C.name) × (count.parts ≡ C.parts) × (count.parts ≡ workers) }
-    requires frames { (frames.name ≡ F.name) × (frames.parts ≡ F.parts) × (frames.parts ≡ workers) }
-    requires sum_lo { (sum_lo.name ≡ S.name) × (sum_lo.parts ≡ S.parts) × (sum_lo.parts ≡ workers) }
-    requires good { (good.name ≡ G.name) × (good.parts ≡ G.parts)
-        × (good.parts ≡ TALLY_PARTS * workers) }
+    requires blanks { AreBlanksOf blanks C.Ledger F.Ledger S.Ledger G.Ledger workers workers }
 {
     let (shared, mut seats) = new_shared::<&R, C, F, S, G>(
         rt,
@@ -221,10 +188,7 @@ fn in_shared<R: Wait, C: Ledger, F: Ledger, S: Ledger, G: Ledger, L: Link, D: Si
         (setup.strict, setup.pairs),
         bounds,
         workers,
-        count,
-        frames,
-        sum_lo,
-        good,
+        blanks,
     )?;
     let seen = session_at(alloc, &shared, &mut seats, setup.in_flight, link, sink);
     let seen = after(&shared, seats, text, seen);

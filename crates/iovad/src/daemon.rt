@@ -1,7 +1,7 @@
 //! A daemon: the sessions of a plan, served on a socket, and the report of what they leave.
-ghost use Rattle.std.specs.Prelude.{◌≡◌, ◌<◌, ◌≤◌, ◌+◌, ◌*◌, ◌↔◌, [], ◌∷◌, None, Err, IfErr, IfOk, IfSome, map, length, unwrap_or, vec_len};
-ghost use Rattle.iova_range.specs.declared.limits.TheConstants.{MAX_CLIENTS, SEAT_PARTS, TALLY_PARTS};
-ghost use Rattle.iova_keep.specs.Views.{IsReserveRefusal, seats_in_turn};
+ghost use Rattle.std.specs.Prelude.{◌≡◌, ◌<◌, ◌≤◌, ◌+◌, ◌↔◌, [], ◌∷◌, None, Err, IfErr, IfOk, IfSome, map, length, unwrap_or, vec_len};
+ghost use Rattle.iova_range.specs.declared.limits.TheConstants.{MAX_CLIENTS, SEAT_PARTS};
+ghost use Rattle.iova_keep.specs.Views.{AreBlanksOf, IsReserveRefusal, seats_in_turn};
 ghost use Rattle.iova_command.specs.declared.plan.Plan.{Plan};
 ghost use Rattle.iovad.specs.Plans.{AreNewSeats, AreOfAllSeats, IsAboveProfile, IsBoundsOf, IsFaultOfServing, IsReserved, planned_book, planned_limits, seat_count, steps_of};
 
@@ -27,11 +27,12 @@ use iova_daemon::signals::Signals;
 use iova_daemon::socket::SocketAccept;
 use iova_daemon::{Served, Serving, serve_sessions};
 use iova_keep::keep::Keep;
+use iova_keep::ledgers::Blanks;
 use iova_keep::seat::Seat;
 use iova_lock::book::Book;
 use iova_lock::shared::Shared;
 use iova_range::bounds::Bounds;
-use iova_range::limits::{RECORDED_STEPS, STOP_PAUSE, TALLY_PARTS};
+use iova_range::limits::{RECORDED_STEPS, STOP_PAUSE};
 use iova_range::profile::Profile;
 use iova_range::range::Range;
 use iova_range::refusal::Refusal;
@@ -48,8 +49,8 @@ use std::io;
 use std::net::Net;
 use std::os::unix::net::UnixListener;
 use std::rt::{Clock, Files, Runtime};
-use std::sync::ledger::{Blank, Ledger};
 use std::sync::Wait;
+use std::sync::ledger::Ledger;
 use std::thread::Threads;
 use std::time::Duration;
 
@@ -78,28 +79,15 @@ struct Running<'a, R> {
 /// may not be the sink's file; `SocketFault` where the control socket, and then the socket, can't
 /// be bound, or a thread can't be started; `NoMemory` or `CannotWrite` for the record at its end;
 /// `NoMemory` for the report; `CannotWrite`. Own.
-pub fn serve<'a, R, C, F, S, G>(
-    rt: &R,
-    plan: &Plan<'a>,
-    count: Blank,
-    frames: Blank,
-    sum_lo: Blank,
-    good: Blank,
-) -> Result<(), Fault<'a>>
+pub fn serve<'a, R, C, F, S, G>(rt: &R, plan: &Plan<'a>, blanks: Blanks) -> Result<(), Fault<'a>>
 where
     R: Runtime + AllocGlobal + Net + Dial + Threads + Wait + Sync + Files<File = File> + Log,
     C: Ledger + Send + Sync,
     F: Ledger + Send + Sync,
     S: Ledger + Send + Sync,
     G: Ledger + Send + Sync,
-    requires count { (count.name ≡ C.name) × (count.parts ≡ C.parts)
-        × (count.parts ≡ seat_count plan.now) }
-    requires frames { (frames.name ≡ F.name) × (frames.parts ≡ F.parts)
-        × (frames.parts ≡ seat_count plan.now) }
-    requires sum_lo { (sum_lo.name ≡ S.name) × (sum_lo.parts ≡ S.parts)
-        × (sum_lo.parts ≡ seat_count plan.now) }
-    requires good { (good.name ≡ G.name) × (good.parts ≡ G.parts)
-        × (good.parts ≡ TALLY_PARTS * plan.now.workers) }
+    requires blanks { AreBlanksOf blanks C.Ledger F.Ledger S.Ledger G.Ledger
+        (seat_count plan.now) plan.now.workers }
     ensures order { plan.now.last < plan.now.start → result ≡ Err Fault.StartAboveLast }
     ensures profile { plan.now.start ≤ plan.now.last → IsAboveProfile plan.now
         → result ≡ Err Fault.LastAboveProfile }
@@ -111,7 +99,7 @@ where
     let notices = Logged::new(rt, plan.log_level, CountedConsole::new(rt, &signals));
     tell_start(&notices, plan, &windows);
     look_at_limit(rt, &notices, clients_of(plan), plan.workers);
-    let made = new_domain::<R, C, F, S, G>(rt, plan, bounds, &windows, count, frames, sum_lo, good);
+    let made = new_domain::<R, C, F, S, G>(rt, plan, bounds, &windows, blanks);
     match made {
         Some((shared, posts)) => serve_domain(rt, plan, &notices, &signals, shared, posts),
         None => Err(Fault::NoMemory),
@@ -668,10 +656,7 @@ fn new_domain<'a, R, C, F, S, G>(
     plan: &Plan<'_>,
     bounds: Bounds,
     windows: &Windows,
-    count: Blank,
-    frames: Blank,
-    sum_lo: Blank,
-    good: Blank,
+    blanks: Blanks,
 ) -> Option<(Shared<&'a R, C, F, S, G>, Vec<Post<C, F, S, G>>)>
 where
     R: AllocGlobal,
@@ -679,28 +664,13 @@ where
     F: Ledger,
     S: Ledger,
     G: Ledger,
-    requires count { (count.name ≡ C.name) × (count.parts ≡ C.parts)
-        × (count.parts ≡ seat_count plan.now) }
-    requires frames { (frames.name ≡ F.name) × (frames.parts ≡ F.parts)
-        × (frames.parts ≡ seat_count plan.now) }
-    requires sum_lo { (sum_lo.name ≡ S.name) × (sum_lo.parts ≡ S.parts)
-        × (sum_lo.parts ≡ seat_count plan.now) }
-    requires good { (good.name ≡ G.name) × (good.parts ≡ G.parts)
-        × (good.parts ≡ TALLY_PARTS * plan.now.workers) }
+    requires blanks { AreBlanksOf blanks C.Ledger F.Ledger S.Ledger G.Ledger
+        (seat_count plan.now) plan.now.workers }
     ensures number { IfSome result (λ r. r.0.number ≡ plan.now.domain) }
     ensures workers { IfSome result (λ r. r.0.workers ≡ plan.now.workers) }
     ensures seats { IfSome result (λ r. AreNewSeats r.0 (map (λ p. p.seat) r.1.items)) }
 {
-    match reserved_book(
-        rt.alloc(),
-        plan,
-        bounds,
-        windows,
-        count,
-        frames,
-        sum_lo,
-        good,
-    ) {
+    match reserved_book(rt.alloc(), plan, bounds, windows, blanks) {
         Some((book, seats)) => posted(rt.alloc(), Shared::over(rt, book), seats),
         None => None,
     }
@@ -713,26 +683,17 @@ fn reserved_book<C: Ledger, F: Ledger, S: Ledger, G: Ledger>(
     plan: &Plan<'_>,
     bounds: Bounds,
     windows: &Windows,
-    count: Blank,
-    frames: Blank,
-    sum_lo: Blank,
-    good: Blank,
+    blanks: Blanks,
 ) -> Option<(Book<C, F, S, G>, Vec<Seat<C, F, S, G>>)>
-    requires count { (count.name ≡ C.name) × (count.parts ≡ C.parts)
-        × (count.parts ≡ seat_count plan.now) }
-    requires frames { (frames.name ≡ F.name) × (frames.parts ≡ F.parts)
-        × (frames.parts ≡ seat_count plan.now) }
-    requires sum_lo { (sum_lo.name ≡ S.name) × (sum_lo.parts ≡ S.parts)
-        × (sum_lo.parts ≡ seat_count plan.now) }
-    requires good { (good.name ≡ G.name) × (good.parts ≡ G.parts)
-        × (good.parts ≡ TALLY_PARTS * plan.now.workers) }
+    requires blanks { AreBlanksOf blanks C.Ledger F.Ledger S.Ledger G.Ledger
+        (seat_count plan.now) plan.now.workers }
     ensures reserved { IfSome result (λ r. IsReserved windows.now (planned_book plan.now bounds)
         r.0) }
     ensures workers { IfSome result (λ r. r.0.state.workers ≡ plan.now.workers) }
     ensures seats { IfSome result (λ r. r.1.items
         ≡ seats_in_turn SEAT_PARTS plan.now.workers (seat_count plan.now)) }
 {
-    let Some((mut book, seats)) = book_of(alloc, plan, bounds, count, frames, sum_lo, good) else {
+    let Some((mut book, seats)) = book_of(alloc, plan, bounds, blanks) else {
         return None;
     };
     match reserve_all(&mut book, windows.ranges()) {
@@ -788,19 +749,10 @@ fn book_of<C: Ledger, F: Ledger, S: Ledger, G: Ledger>(
     alloc: Global,
     plan: &Plan<'_>,
     bounds: Bounds,
-    count: Blank,
-    frames: Blank,
-    sum_lo: Blank,
-    good: Blank,
+    blanks: Blanks,
 ) -> Option<(Book<C, F, S, G>, Vec<Seat<C, F, S, G>>)>
-    requires count { (count.name ≡ C.name) × (count.parts ≡ C.parts)
-        × (count.parts ≡ seat_count plan.now) }
-    requires frames { (frames.name ≡ F.name) × (frames.parts ≡ F.parts)
-        × (frames.parts ≡ seat_count plan.now) }
-    requires sum_lo { (sum_lo.name ≡ S.name) × (sum_lo.parts ≡ S.parts)
-        × (sum_lo.parts ≡ seat_count plan.now) }
-    requires good { (good.name ≡ G.name) × (good.parts ≡ G.parts)
-        × (good.parts ≡ TALLY_PARTS * plan.now.workers) }
+    requires blanks { AreBlanksOf blanks C.Ledger F.Ledger S.Ledger G.Ledger
+        (seat_count plan.now) plan.now.workers }
     ensures { IfSome result (λ r. (r.0 ≡ planned_book plan.now bounds)
         × (r.1.items ≡ seats_in_turn SEAT_PARTS plan.now.workers (seat_count plan.now))) }
 {
@@ -815,10 +767,7 @@ fn book_of<C: Ledger, F: Ledger, S: Ledger, G: Ledger>(
         plan.workers,
         seat_count(plan),
         pairs,
-        count,
-        frames,
-        sum_lo,
-        good,
+        blanks,
     );
     match made {
         Ok((book, seats)) => if plan.strict {

@@ -31,7 +31,7 @@ use iova_command::asked::Asked;
 use iova_command::plan::Plan;
 use iova_command::words::{asked, words};
 use iova_daemon::dial::Dial;
-use iova_range::limits::TALLY_PARTS;
+use iova_keep::ledgers::Blanks;
 use iova_session::socket_link::SocketLink;
 use log::Log;
 use replaying::replay;
@@ -44,7 +44,6 @@ use std::os::unix::net::UnixStream;
 use std::process::ExitCode;
 use std::rt::{Files, Runtime};
 use std::sync::Wait;
-use std::sync::ledger::Blank;
 use std::thread::Threads;
 
 fn main(rt: HostRuntime) -> ExitCode {
@@ -87,14 +86,7 @@ where
     R: Runtime + AllocGlobal + Net + Dial + Threads + Wait + Sync + Files<File = File> + Log,
 {
     let seats = seat_count(plan);
-    serve::<R, Brand, Brand, Brand, Brand>(
-        rt,
-        plan,
-        Blank::new(seats),
-        Blank::new(seats),
-        Blank::new(seats),
-        Blank::new(TALLY_PARTS * plan.workers),
-    )
+    serve::<R, Brand, Brand, Brand, Brand>(rt, plan, Blanks::new(seats, plan.workers))
 }
 
 /// Asks the lines of standard input of the socket at this path, and prints the answers: by hand

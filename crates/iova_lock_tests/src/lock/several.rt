@@ -1,15 +1,14 @@
 //! Several seats of one worker: each has shares of its own, and all of them are gathered.
-ghost use Rattle.std.specs.Prelude.{◌≡◌, ◌*◌};
-ghost use Rattle.iova_range.specs.declared.limits.TheConstants.{TALLY_PARTS};
+ghost use Rattle.iova_keep.specs.Views.{AreBlanksOf};
 
 use iova_keep::calls;
 use iova_keep::keep::Keep;
+use iova_keep::ledgers::Blanks;
 use iova_keep::seat::Seat;
 use iova_lock::book::Book;
 use iova_lock::shared::Shared;
 use iova_model::totals::Totals;
 use iova_range::bounds::Bounds;
-use iova_range::limits::TALLY_PARTS;
 use iova_range::range::Range;
 use iova_range::refusal::Refusal;
 use iova_sink::memory::MemorySink;
@@ -17,7 +16,7 @@ use std::alloc::Global;
 use std::marker::Brand;
 use std::process::Abort;
 use std::sync::Wait;
-use std::sync::ledger::{Blank, Ledger};
+use std::sync::ledger::Ledger;
 use std::test::*;
 
 // A client is opened and given a frame at each of five seats, and gives it back at its own.
@@ -89,18 +88,11 @@ fn at_five_seats<C: Ledger, F: Ledger, S: Ledger, G: Ledger, R: Abort + Wait>(
     rt: &R,
     alloc: Global,
     bounds: Bounds,
-    count: Blank,
-    frames: Blank,
-    sum_lo: Blank,
-    good: Blank,
+    blanks: Blanks,
 )
-    requires count { (count.name ≡ C.name) × (count.parts ≡ C.parts) × (count.parts ≡ 5) }
-    requires frames { (frames.name ≡ F.name) × (frames.parts ≡ F.parts) × (frames.parts ≡ 5) }
-    requires sum_lo { (sum_lo.name ≡ S.name) × (sum_lo.parts ≡ S.parts) × (sum_lo.parts ≡ 5) }
-    requires good { (good.name ≡ G.name) × (good.parts ≡ G.parts)
-        × (good.parts ≡ TALLY_PARTS * 2) }
+    requires blanks { AreBlanksOf blanks C.Ledger F.Ledger S.Ledger G.Ledger 5 2 }
 {
-    match Book::<C, F, S, G>::seated(alloc, 7, bounds, 2, 5, None, count, frames, sum_lo, good) {
+    match Book::<C, F, S, G>::seated(alloc, 7, bounds, 2, 5, None, blanks) {
         Ok((book, mut seats)) => {
             let shared = Shared::over(rt, book);
             ask_each(rt, &shared, &mut seats);
@@ -117,9 +109,6 @@ fn several_seats_of_a_worker(rt: HostRuntime) {
         &rt,
         rt.alloc(),
         Bounds::new(1, 1023).expect(&rt, "bounds"),
-        Blank::new(5),
-        Blank::new(5),
-        Blank::new(5),
-        Blank::new(TALLY_PARTS * 2),
+        Blanks::new(5, 2),
     );
 }

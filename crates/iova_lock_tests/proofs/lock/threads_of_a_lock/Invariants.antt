@@ -1,13 +1,13 @@
 use Rattle.iova_lock_tests.proofs.lock.threads_of_a_lock.Given as goal
 
 abbrev pub ghosts-under_a_lock-C-Ledger : goal.ghosts-under_a_lock-C-Ledger
-ghosts-under_a_lock-C-Ledger g a = record { name = a.count.name; parts = a.count.parts }
+ghosts-under_a_lock-C-Ledger g a = record { name = a.blanks.count.name; parts = a.blanks.count.parts }
 
 abbrev pub ghosts-under_a_lock-F-Ledger : goal.ghosts-under_a_lock-F-Ledger
-ghosts-under_a_lock-F-Ledger g a = record { name = a.frames.name; parts = a.frames.parts }
+ghosts-under_a_lock-F-Ledger g a = record { name = a.blanks.frames.name; parts = a.blanks.frames.parts }
 
 abbrev pub ghosts-under_a_lock-S-Ledger : goal.ghosts-under_a_lock-S-Ledger
-ghosts-under_a_lock-S-Ledger g a = record { name = a.sum_lo.name; parts = a.sum_lo.parts }
+ghosts-under_a_lock-S-Ledger g a = record { name = a.blanks.sum_lo.name; parts = a.blanks.sum_lo.parts }
 
 abbrev pub ghosts-under_a_lock-G-Ledger : goal.ghosts-under_a_lock-G-Ledger
-ghosts-under_a_lock-G-Ledger g a = record { name = a.good.name; parts = a.good.parts }
+ghosts-under_a_lock-G-Ledger g a = record { name = a.blanks.good.name; parts = a.blanks.good.parts }
