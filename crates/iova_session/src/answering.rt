@@ -16,9 +16,37 @@ use iova_proto::answer::Answer;
 use iova_proto::encode::{MAX_FIRST_LINE, encode, put_first_line};
 use iova_proto::request::Request;
 use iova_range::limits::MAX_RUN;
+use std::alloc::Global;
 
 /// So many bytes the answers to a run have at most, but for the ranges of `Held`.
 const RUN_TEXT: usize = MAX_FIRST_LINE * MAX_RUN;
+
+/// Room for the answers to a run, and for their text.
+#[derive(Drop)]
+pub(crate) struct AnswerRoom {
+    pub(crate) answers: Vec<Answer>,
+    /// The text of answers of which each is one line.
+    pub(crate) text: ArrayVec<u8, RUN_TEXT>,
+    /// The text of any answers.
+    pub(crate) lists: Vec<u8>,
+}
+
+impl AnswerRoom {
+    /// Room for the answers to one run, and for a text of so many bytes. None for want of memory.
+    pub(crate) fn new(alloc: Global, bytes: usize) -> Option<AnswerRoom> {
+        let Ok(answers) = Vec::with_capacity(alloc, MAX_RUN) else {
+            return None;
+        };
+        let Ok(lists) = Vec::with_capacity(alloc, bytes) else {
+            return None;
+        };
+        Some(AnswerRoom {
+            answers,
+            text: ArrayVec::new(),
+            lists,
+        })
+    }
+}
 
 /// Asks all of the requests, in runs as the desk takes them, and writes the answers to each run
 /// before the next.
@@ -26,8 +54,7 @@ pub(crate) fn ask_all<L: Link, D: Desk>(
     link: &mut L,
     desk: &mut D,
     run: &[Request],
-    answers: &mut Vec<Answer>,
-    out: &mut Vec<u8>,
+    room: &mut AnswerRoom,
 ) -> Result<(), End>
     requires { length run.now ≤ MAX_RUN }
     ensures left { L.left link.new ≡ L.left link.old }
@@ -40,18 +67,28 @@ pub(crate) fn ask_all<L: Link, D: Desk>(
 {
     let mut asked = 0;
     'asking: while asked < run.len() {
-        answers.clear();
-        match desk.ask_run(&run[asked..], answers) {
+        room.answers.clear();
+        match desk.ask_run(&run[asked..], &mut room.answers) {
             Ok(n) => asked += n,
             Err(_) => return Err(End::NoMemory),
         }
-        tell(link, answers.as_slice(), out)?;
+        tell(
+            link,
+            room.answers.as_slice(),
+            &mut room.text,
+            &mut room.lists,
+        )?;
     }
     Ok(())
 }
 
 /// Writes the answers' texts, together.
-fn tell<L: Link>(link: &mut L, answers: &[Answer], out: &mut Vec<u8>) -> Result<(), End>
+fn tell<L: Link>(
+    link: &mut L,
+    answers: &[Answer],
+    text: &mut ArrayVec<u8, RUN_TEXT>,
+    lists: &mut Vec<u8>,
+) -> Result<(), End>
     ensures left { L.left link.new ≡ L.left link.old }
     ensures reads { L.reads link.new ≡ L.reads link.old }
     ensures ends { L.ends link.new ≡ L.ends link.old }
@@ -61,19 +98,49 @@ fn tell<L: Link>(link: &mut L, answers: &[Answer], out: &mut Vec<u8>) -> Result<
     ensures err { IfErr result (λ e. IsCut e
         × AppendsFront (L.sent link.old) (L.sent link.new) (answers_text answers.now)) }
 {
-    let mut text: ArrayVec<u8, RUN_TEXT> = ArrayVec::new();
-    let written = if put_lines(answers, &mut text) {
-        put_all(link, text.as_slice())
+    text.clear();
+    if put_lines(answers, text) {
+        put_text(link, text.as_slice())
     } else {
-        out.clear();
-        for answer in answers {
-            if encode(answer, out).is_err() {
-                return Err(End::NoMemory);
-            }
+        tell_any(link, answers, lists)
+    }
+}
+
+/// The same of any answers.
+#[inline(never)]
+fn tell_any<L: Link>(link: &mut L, answers: &[Answer], out: &mut Vec<u8>) -> Result<(), End>
+    ensures left { L.left link.new ≡ L.left link.old }
+    ensures reads { L.reads link.new ≡ L.reads link.old }
+    ensures ends { L.ends link.new ≡ L.ends link.old }
+    ensures failures { CountsFault result (L.failures link.old) (L.failures link.new) }
+    ensures ok { OnOk result (Appends (L.sent link.old) (L.sent link.new)
+        (answers_text answers.now)) }
+    ensures err { IfErr result (λ e. IsCut e
+        × AppendsFront (L.sent link.old) (L.sent link.new) (answers_text answers.now)) }
+{
+    out.clear();
+    for answer in answers {
+        if encode(answer, out).is_err() {
+            return Err(End::NoMemory);
         }
-        put_all(link, out.as_slice())
-    };
-    match written {
+    }
+    match put_all(link, out.as_slice()) {
+        Ok(()) => Ok(()),
+        Err(LinkFault) => Err(End::LinkFault),
+    }
+}
+
+/// Writes this text.
+fn put_text<L: Link>(link: &mut L, text: &[u8]) -> Result<(), End>
+    ensures left { L.left link.new ≡ L.left link.old }
+    ensures reads { L.reads link.new ≡ L.reads link.old }
+    ensures ends { L.ends link.new ≡ L.ends link.old }
+    ensures failures { CountsFault result (L.failures link.old) (L.failures link.new) }
+    ensures ok { OnOk result (Appends (L.sent link.old) (L.sent link.new) text.now) }
+    ensures err { IfErr result (λ e. IsCut e
+        × AppendsFront (L.sent link.old) (L.sent link.new) text.now) }
+{
+    match put_all(link, text) {
         Ok(()) => Ok(()),
         Err(LinkFault) => Err(End::LinkFault),
     }

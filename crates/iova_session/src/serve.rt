@@ -6,14 +6,13 @@ ghost use Rattle.iova_session.specs.Pairs.{Pair};
 ghost use Rattle.iova_session.specs.Sessions.{Serves, ServesWithin, failures_at, ends_at};
 ghost use Rattle.iova_session.specs.Rounds.{TakesPiece, CountsFault};
 
-use crate::answering::{ask_all, refuse};
+use crate::answering::{AnswerRoom, ask_all, refuse};
 use crate::desk::Desk;
 use crate::end::End;
 use crate::gathering::{Stop, gather};
 use crate::link::Link;
 use crate::session_limits::SessionLimits;
 use arrayvec::ArrayVec;
-use iova_proto::answer::Answer;
 use iova_proto::lines::Lines;
 use iova_proto::request::Request;
 use iova_range::limits::MAX_RUN;
@@ -22,7 +21,7 @@ use std::alloc::Global;
 /// How many bytes one read asks for at most.
 const PIECE: usize = 4096;
 
-/// How many bytes of answers have room from the start: those of 16 answers, but for `held`.
+/// How many bytes of the text of a list have room from the start.
 const TEXT: usize = 4096;
 
 /// Serves the peer at the other end of the link until the session ends: reads lines, asks the desk
@@ -62,10 +61,7 @@ pub fn serve_within<L: Link, D: Desk>(
     ensures failures { L.failures link.new ≡ L.failures link.old + failures_at result }
     ensures ends { L.ends link.new ≡ L.ends link.old + ends_at result }
 {
-    let Ok(mut answers) = Vec::with_capacity(alloc, MAX_RUN) else {
-        return End::NoMemory;
-    };
-    let Ok(mut out) = Vec::with_capacity(alloc, TEXT) else {
+    let Some(mut room) = AnswerRoom::new(alloc, TEXT) else {
         return End::NoMemory;
     };
     let mut lines = Lines::new();
@@ -79,15 +75,7 @@ pub fn serve_within<L: Link, D: Desk>(
             return End::Closed;
         }
         let piece = &buf[..n];
-        if let Err(end) = take_piece(
-            link,
-            desk,
-            &mut lines,
-            piece,
-            &mut left,
-            &mut answers,
-            &mut out,
-        ) {
+        if let Err(end) = take_piece(link, desk, &mut lines, piece, &mut left, &mut room) {
             return end;
         }
     }
@@ -102,8 +90,7 @@ fn take_piece<L: Link, D: Desk>(
     lines: &mut Lines,
     piece: &[u8],
     left: &mut u64,
-    answers: &mut Vec<Answer>,
-    out: &mut Vec<u8>,
+    room: &mut AnswerRoom,
 ) -> Result<(), End>
     requires { IsSome lines.old }
     ensures left { L.left link.new ≡ L.left link.old }
@@ -123,7 +110,7 @@ fn take_piece<L: Link, D: Desk>(
         let (used, stop) = gather(lines, &piece[at..], *left, &mut run);
         at += used;
         *left -= run.len() as u64;
-        ask_all(link, desk, run.as_slice(), answers, out)?;
+        ask_all(link, desk, run.as_slice(), room)?;
         match stop {
             Stop::Full => {}
             Stop::More => return Ok(()),

@@ -38,19 +38,6 @@ returns-in_default-clause-session g c = (
   Serves-no_room c.args.limits.requests c.args.limits.reads,
 )
 
-pub returns-in_default-with_capacity-clause-session : goal.returns-in_default-with_capacity-clause-session
-returns-in_default-with_capacity-clause-session g c = (
-  [],
-  [],
-  [],
-  0,
-  Consumes-nil (g.L.Link.left c.args.link.now),
-  sym (append-nil (g.D.Desk.pairs c.args.desk.now)),
-  Appends-nil (g.L.Link.sent c.args.link.now),
-  omega arith,
-  Serves-no_room c.args.limits.requests c.args.limits.reads,
-)
-
 pub returns-in_default-read-clause-session : goal.returns-in_default-read-clause-session
 returns-in_default-read-clause-session g c =
     let inv = c.reading.invariant in
@@ -69,11 +56,11 @@ returns-in_default-read-clause-session g c =
 pub returns-then-n-eq0-clause-session : goal.returns-then-n-eq0-clause-session
 returns-then-n-eq0-clause-session g c =
     let inv = c.reading.invariant in
-    let n = c.in-Ok-read.n in
+    let n = c.in-Ok.n in
     let none : take n c.read.new.buf ≡ [] = ap (λ k. take k c.read.new.buf) c.if-n-eq0.true in
     let Q : List ℕ → Type 0 = λ x. Consumes (g.L.Link.left c.args.link.now) (g.L.Link.left c.read.new.self) x in
     let both = Consumes-trans (g.L.Link.left c.args.link.now) (g.L.Link.left c.reading.link) (g.L.Link.left c.read.new.self) inv.taken (take n c.read.new.buf)
-    inv.consumed c.in-Ok-read.ensures.bytes.0 in
+    inv.consumed c.in-Ok.ensures.bytes.0 in
     let P : Option (List ℕ) → Type 0 = λ x. Appends (g.L.Link.sent c.args.link.now) x inv.written in (
       inv.taken,
       inv.ps,
@@ -89,14 +76,14 @@ returns-then-n-eq0-clause-session g c =
 pub returns-in-Err-clause-session : goal.returns-in-Err-clause-session
 returns-in-Err-clause-session g c =
     let inv = c.reading.invariant in
-    let piece = take c.in-Ok-read.n c.read.new.buf in
+    let piece = take c.in-Ok.n c.read.new.buf in
     let got = c.in-Err.ensures.taken in
     let start : got.0 ≡ inv.next = let e = sym got.3 ∙ inv.now in cc in
     let P : Option (List ℕ) → Type 0 = λ x. Appends (g.L.Link.sent c.args.link.now) x inv.written in
     let sent = subst P (sym c.read.ensures.sent) inv.sent in
     let R : Option (List ℕ) → Type 0 = λ x. Consumes (g.L.Link.left c.args.link.now) x (inv.taken ++ piece) in
     let consumed = subst R (sym c.take_piece.ensures.left)
-    (Consumes-trans (g.L.Link.left c.args.link.now) (g.L.Link.left c.reading.link) (g.L.Link.left c.read.new.self) inv.taken piece inv.consumed c.in-Ok-read.ensures.bytes.0) in
+    (Consumes-trans (g.L.Link.left c.args.link.now) (g.L.Link.left c.reading.link) (g.L.Link.left c.read.new.self) inv.taken piece inv.consumed c.in-Ok.ensures.bytes.0) in
     let pairs = got.4 ∙ ap (λ x. x ++ got.1) inv.pairs ∙ append_assoc (g.D.Desk.pairs c.args.desk.now) inv.ps got.1 in
     let wrote = Appends-trans (g.L.Link.sent c.args.link.now) (g.L.Link.sent c.read.new.self) (g.L.Link.sent c.take_piece.new.link) inv.written got.2 sent got.5 in
     let T : TakesPiece c.reading.left (inv.next ++ piece) got.1 got.2 c.take_piece.new.left c.take_piece.new.lines (Err c.in-Err.end) = rw start at got.6 in (
@@ -115,14 +102,14 @@ returns-in-Err-clause-session g c =
 pub reading-preserved : goal.reading-preserved
 reading-preserved g c =
     let inv = c.reading.invariant in
-    let piece = take c.in-Ok-read.n c.read.new.buf in
+    let piece = take c.in-Ok.n c.read.new.buf in
     let got = c.in_default-take_piece.ensures.taken in
     let start : got.0 ≡ inv.next = let e = sym got.3 ∙ inv.now in cc in
     let P : Option (List ℕ) → Type 0 = λ x. Appends (g.L.Link.sent c.args.link.now) x inv.written in
     let sent = subst P (sym c.read.ensures.sent) inv.sent in
     let R : Option (List ℕ) → Type 0 = λ x. Consumes (g.L.Link.left c.args.link.now) x (inv.taken ++ piece) in
     let consumed = subst R (sym c.take_piece.ensures.left)
-    (Consumes-trans (g.L.Link.left c.args.link.now) (g.L.Link.left c.reading.link) (g.L.Link.left c.read.new.self) inv.taken piece inv.consumed c.in-Ok-read.ensures.bytes.0) in
+    (Consumes-trans (g.L.Link.left c.args.link.now) (g.L.Link.left c.reading.link) (g.L.Link.left c.read.new.self) inv.taken piece inv.consumed c.in-Ok.ensures.bytes.0) in
     let pairs = got.4 ∙ ap (λ x. x ++ got.1) inv.pairs ∙ append_assoc (g.D.Desk.pairs c.args.desk.now) inv.ps got.1 in
     let wrote = Appends-trans (g.L.Link.sent c.args.link.now) (g.L.Link.sent c.read.new.self) (g.L.Link.sent c.take_piece.new.link) inv.written got.2 sent got.5 in
     let T : TakesPiece c.reading.left (inv.next ++ piece) got.1 got.2 c.take_piece.new.left c.take_piece.new.lines (Ok c.in_default-take_piece.field-0) = rw start at got.6 in
@@ -139,8 +126,8 @@ reading-preserved g c =
       goes = AllAnswered-then inv.taken piece inv.next T.0 inv.written got.2 inv.ps got.1 inv.goes T.1;
       count = omega (arith, length-append inv.ps got.1, T.4, inv.count);
       reads = omega (arith, c.take_piece.ensures.reads, c.read.ensures.reads, inv.reads);
-      failures = c.in_default-take_piece.ensures.failures ∙ c.in-Ok-read.ensures.failures ∙ inv.failures;
-      ends = c.take_piece.ensures.ends ∙ c.in-Ok-read.ensures.ends.0 (omega arith) ∙ inv.ends;
+      failures = c.in_default-take_piece.ensures.failures ∙ c.in-Ok.ensures.failures ∙ inv.failures;
+      ends = c.take_piece.ensures.ends ∙ c.in-Ok.ensures.ends.0 (omega arith) ∙ inv.ends;
     }
 
 pub returns-clause-session : goal.returns-clause-session

@@ -3,7 +3,7 @@ use Rattle.std.specs.Result.{is_ok}
 use Rattle.iova_range.specs.declared.refusal.Refusal.{Refusal}
 use Rattle.iova_proto.specs.Answers.{answer_text}
 use Rattle.iova_session.proofs.Texts.{answers_text-nil, answers_text-more}
-use Rattle.iova_session.proofs.answering.tell.Goals as goal
+use Rattle.iova_session.proofs.answering.tell_any.Goals as goal
 
 pub loop-answer-init : goal.loop-answer-init
 loop-answer-init g c = c.clear.ensures.items ∙ sym answers_text-nil
