@@ -1,8 +1,8 @@
 //! The peer of a daemon: lines sent over a link, and their answers copied.
 #![tactic(auto)]
 
-ghost use Rattle.std.specs.Prelude.{List, ◌≡◌, ◌≢◌, ◌+◌, ◌^◌, ◌<◌, ◌≤◌, ℕ, [], IfErr, IfOk, IsErr, MatchResult, OnErr, OnOk, length, take};
-ghost use Rattle.std.specs.Io.KnownBytes.{Appends, Consumes, IsAtEnd, Keeps};
+ghost use Rattle.std.specs.Prelude.{List, ◌≢◌, ◌+◌, ◌^◌, ◌<◌, ◌≤◌, ℕ, [], IfErr, MatchResult, OnOk, length, take};
+ghost use Rattle.std.specs.Io.KnownBytes.{Appends, Consumes};
 ghost use Rattle.iova_text.specs.Lines.{IsUnended};
 ghost use Rattle.iova_ask.specs.Asking.{Breaks, Sends};
 ghost use Rattle.iova_ask.specs.Runs.{SendsRun, Copies, CopiesMore, Rests};
@@ -20,8 +20,8 @@ use crate::fault::AskFault;
 use crate::gather::gather;
 use iova_range::limits::{MAX_LINE, MAX_READS};
 use iova_session::link::{Link, LinkFault, put_all};
+use iova_text::read::{ReadFault, read_some};
 use std::alloc::Global;
-use std::io;
 use std::io::{Read, Write};
 
 /// Sends each line of the input over the link, up to the first `bye`, writes the answers as they
@@ -56,7 +56,7 @@ pub fn ask_lines<R: Read, W: Write, L: Link>(
     'reading: for _ in 0..MAX_READS {
         let len = match read_some(reader, &mut piece) {
             Ok(len) => len,
-            Err(fault) => return Err(fault),
+            Err(ReadFault) => return Err(AskFault::Read),
         };
         if len == 0 {
             return ask_rest(&mut input, writer, link, &mut answers, sent);
@@ -172,31 +172,5 @@ fn ask_rest<W: Write, L: Link>(
     match ask_some(input.as_slice(), 1, writer, link, answers) {
         Ok(()) => Ok(sent + 1),
         Err(fault) => Err(fault),
-    }
-}
-
-/// Reads once, and gives how many bytes came, none only at the end. Any error is a fault, an
-/// interruption too.
-fn read_some<R: Read>(reader: &mut R, piece: &mut [u8]) -> Result<usize, AskFault>
-    requires { 0 < length piece.old }
-    ensures ok { IfOk result (λ len. Consumes (R.remaining reader.old) (R.remaining reader.new)
-        (take len piece.new)) }
-    ensures bound { IfOk result (λ len. len ≤ length piece.new) }
-    ensures end { IfOk result (λ len. len ≡ 0 → IsAtEnd (R.remaining reader.new)) }
-    ensures err { OnErr result
-        ((result ≡ Err AskFault.Read) × Keeps (R.remaining reader.old) (R.remaining reader.new)) }
-{
-    let read = reader.read(piece);
-    bytes_read(read)
-}
-
-/// How many bytes a read gave. Any error is a fault, an interruption too.
-fn bytes_read(read: io::Result<usize>) -> Result<usize, AskFault>
-    ensures ok { IfOk result (λ len. read ≡ Ok len) }
-    ensures err { OnErr result (IsErr read × (result ≡ Err AskFault.Read)) }
-{
-    match read {
-        Ok(len) => Ok(len),
-        Err(_) => Err(AskFault::Read),
     }
 }

@@ -1,8 +1,8 @@
 //! Why a log is not checked to its end.
 ghost use Rattle.std.specs.Prelude.{◌≡◌};
-ghost use Rattle.iova_check.specs.declared.fault.CheckFault.TheVariants.{NoMemory as WantsMemory, WriteFault as CannotWrite};
+ghost use Rattle.iova_check.specs.declared.fault.CheckFault.TheVariants.{NoMemory as WantsMemory, ReadFault as CannotRead, WriteFault as CannotWrite};
 
-use iova_text::write;
+use iova_text::{read, write};
 use std::alloc::AllocError;
 use thiserror::Error;
 
@@ -28,6 +28,14 @@ impl From<AllocError> for CheckFault {
 
     fn from(_error: AllocError) -> CheckFault {
         CheckFault::NoMemory
+    }
+}
+
+impl From<read::ReadFault> for CheckFault {
+    ghost from_gives = { λ _ e. e ≡ CannotRead };
+
+    fn from(_fault: read::ReadFault) -> CheckFault {
+        CheckFault::ReadFault
     }
 }
 

@@ -1,6 +1,6 @@
 //! A log checked from a reader to a writer, one line after another.
-ghost use Rattle.std.specs.Prelude.{◌≡◌, ◌≤◌, ◌<◌, ℕ, [], ◌∷◌, Option, take, length, IfOk, IfErr, OnOk, OnErr, IsErr};
-ghost use Rattle.std.specs.Io.KnownBytes.{Appends, Consumes, Keeps, IsAtEnd};
+ghost use Rattle.std.specs.Prelude.{◌≡◌, ◌<◌, ℕ, [], ◌∷◌, Option, take, length, IfOk, IfErr, OnOk, OnErr};
+ghost use Rattle.std.specs.Io.KnownBytes.{Appends};
 ghost use Rattle.iova_check.specs.declared.source.Source.{Source};
 ghost use Rattle.iova_check.specs.Progress.{IsBegun, is_last};
 ghost use Rattle.iova_check.specs.Bounds.{bounds_asked};
@@ -18,6 +18,7 @@ use crate::trace::{read_trace_line, tells_lost};
 use arrayvec::ArrayVec;
 use iova_range::limits::{MAX_LINE, MAX_TRACE_LINE, WIDE_TOP};
 use iova_text::buffer::{put, put_number};
+use iova_text::read::read_some;
 use iova_text::write::write_all;
 use memchr::memchr;
 use std::alloc::{AllocError, Global};
@@ -486,32 +487,6 @@ fn notify<N: Write>(number: u64, line: &[u8], notices: &mut N)
     put(&mut text, line);
     put(&mut text, b"\n");
     let _told = write_all(notices, text.as_slice());
-}
-
-/// Reads once, and gives how many bytes came, none only at the end. Any error is a fault, an
-/// interruption too.
-fn read_some<R: Read>(reader: &mut R, buffer: &mut [u8]) -> Result<usize, CheckFault>
-    requires { 0 < length buffer.old }
-    ensures ok { IfOk result (λ len. Consumes (R.remaining reader.old) (R.remaining reader.new)
-        (take len buffer.new)) }
-    ensures bound { IfOk result (λ len. len ≤ length buffer.new) }
-    ensures end { IfOk result (λ len. len ≡ 0 → IsAtEnd (R.remaining reader.new)) }
-    ensures err { OnErr result ((result ≡ Err CheckFault.ReadFault)
-        × Keeps (R.remaining reader.old) (R.remaining reader.new)) }
-{
-    let read = reader.read(buffer);
-    bytes_read(read)
-}
-
-/// How many bytes a read gave. Any error is a fault, an interruption too.
-fn bytes_read(read: io::Result<usize>) -> Result<usize, CheckFault>
-    ensures ok { IfOk result (λ len. read ≡ Ok len) }
-    ensures err { OnErr result (IsErr read × (result ≡ Err CheckFault.ReadFault)) }
-{
-    match read {
-        Ok(len) => Ok(len),
-        Err(_) => Err(CheckFault::ReadFault),
-    }
 }
 
 #[cfg(test)]

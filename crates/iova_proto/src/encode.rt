@@ -1,13 +1,14 @@
 //! Answers written as their text.
 ghost use Rattle.std.specs.Prelude.{◌≡◌, ◌+◌, ◌<◌, ◌≤◌, List, ℕ, ◌++◌, [], OnOk, OnErr, length, vec_len, vec_capacity, flat_map};
-ghost use Rattle.iova_text.specs.Words.{refusal_line};
 ghost use Rattle.iova_proto.specs.Answers.{first_line, range_line, answer_text};
 
 use crate::answer::Answer;
 use arrayvec::ArrayVec;
 use iova_range::range::Range;
 use iova_range::refusal::Refusal;
-use iova_text::buffer::{LineBuffer, append, put, put_number, put_numbers, put_two_numbers};
+use iova_text::buffer::{
+    LineBuffer, append, put, put_number, put_numbers, put_refusal, put_two_numbers,
+};
 
 /// The most bytes of an answer's first line, with its LF: `stat` and eight numbers.
 pub const MAX_FIRST_LINE: usize = 173;
@@ -63,19 +64,9 @@ pub fn put_first_line<const CAP: usize>(answer: &Answer, out: &mut ArrayVec<u8, 
             ],
         ),
         Answer::Bye => put(out, b"bye"),
-        Answer::Refused(refusal) => put_refusal(*refusal, out),
+        Answer::Refused(refusal) => put_refusal(out, *refusal),
     }
     out.push(b'\n');
-}
-
-fn put_refusal<const CAP: usize>(refusal: Refusal, out: &mut ArrayVec<u8, CAP>)
-    requires { length out.old.items + MAX_FIRST_LINE ≤ CAP }
-    ensures items { out.new.items ≡ out.old.items ++ refusal_line refusal }
-    ensures short { length out.new.items + 1 ≤ length out.old.items + MAX_FIRST_LINE }
-{
-    put_numbers(out, b"no", &[u64::from(refusal.number())]);
-    put(out, b" ");
-    put(out, refusal.name().as_bytes());
 }
 
 /// Appends a line for each range. Where memory is refused, those before it are appended.

@@ -1,5 +1,5 @@
 //! The regions of a whole text, taken into windows.
-ghost use Rattle.std.specs.Prelude.{◌≡◌, ◌≢◌, ◌≤◌, ◌<◌, ◌⊎◌, ◌++◌, [], ◌∷◌, ℕ, List, OnOk, OnErr, IfOk, IfSome, IfNone, IsErr, length, take};
+ghost use Rattle.std.specs.Prelude.{◌≡◌, ◌≢◌, ◌≤◌, ◌<◌, ◌⊎◌, ◌++◌, [], ◌∷◌, ℕ, List, OnOk, OnErr, IfSome, IfNone, length, take};
 ghost use Rattle.std.specs.Io.KnownBytes.{Consumes, IsAtEnd, Keeps};
 ghost use Rattle.iova_range.specs.Frames.{Frames};
 ghost use Rattle.iova_range.specs.declared.limits.TheConstants.{MAX_WINDOWS};
@@ -17,8 +17,8 @@ use iova_range::limits::FRAME_BYTES;
 use iova_range::range::Range;
 use iova_range::refusal::Refusal;
 use iova_text::line::cut_line;
+use iova_text::read::read_some;
 use std::alloc::Global;
-use std::io;
 use std::io::Read;
 
 /// How many bytes are read at a time.
@@ -138,7 +138,7 @@ fn read_all<R: Read>(alloc: Global, reader: &mut R) -> Result<Vec<u8>, RegionsFa
     let mut text = Vec::new(alloc);
     let mut buffer = [0u8; BUFFER];
     for _ in 0..u64::MAX {
-        match bytes_read(reader.read(&mut buffer)) {
+        match read_some(reader, &mut buffer) {
             Ok(0) => return Ok(text),
             Ok(len) => {
                 if text.extend_from_slice(&buffer[..len]).is_err() {
@@ -149,17 +149,6 @@ fn read_all<R: Read>(alloc: Global, reader: &mut R) -> Result<Vec<u8>, RegionsFa
         }
     }
     Err(RegionsFault::Read)
-}
-
-/// How many bytes a read gave. Any error is a fault, an interruption too.
-fn bytes_read(read: io::Result<usize>) -> Result<usize, RegionsFault>
-    ensures ok { IfOk result (λ len. read ≡ Ok len) }
-    ensures err { OnErr result (IsErr read × (result ≡ Err RegionsFault.Read)) }
-{
-    match read {
-        Ok(len) => Ok(len),
-        Err(_) => Err(RegionsFault::Read),
-    }
 }
 
 #[cfg(test)]

@@ -1,10 +1,9 @@
 //! What a session reads from and writes to.
-ghost use Rattle.std.specs.Prelude.{◌≡◌, ◌+◌, ◌<◌, ◌≤◌, ℕ, List, Option, Ok, IfOk, IsErr, OnErr, OnOk, length};
+ghost use Rattle.std.specs.Prelude.{◌≡◌, ◌+◌, ◌<◌, ◌≤◌, ℕ, List, Option, Ok, IfOk, OnErr, OnOk, length};
 ghost use Rattle.iova_sink.specs.Counts.{CountsFailure};
 ghost use Rattle.std.specs.Io.KnownBytes.{Appends, ReadConsumes, WriteAppends};
 ghost use Rattle.iova_session.specs.Links.{AppendsFront, CountsEnds};
 
-use std::io;
 use thiserror::Error;
 
 /// The link failed. Own.
@@ -66,16 +65,4 @@ pub fn put_all<L: Link>(link: &mut L, bytes: &[u8]) -> Result<(), LinkFault>
         done += link.write(&bytes[done..])?;
     }
     Ok(())
-}
-
-/// How many bytes a read gave. Any error of the operating system is a failure, an interruption too.
-/// Nothing is tried again.
-pub(crate) fn bytes_read(read: io::Result<usize>) -> Result<usize, LinkFault>
-    ensures ok { IfOk result (λ n. read ≡ Ok n) }
-    ensures err { OnErr result (IsErr read) }
-{
-    match read {
-        Ok(n) => Ok(n),
-        Err(_) => Err(LinkFault),
-    }
 }

@@ -1,9 +1,10 @@
 //! A link over a socket.
 ghost use Rattle.std.specs.Prelude.{◌≡◌, None};
 
-use crate::link::{Link, LinkFault, bytes_read};
+use crate::link::{Link, LinkFault};
 use iova_sink::count::Count;
 use iova_sink::device::bytes_taken;
+use iova_text::read::bytes_read;
 use std::io::{Read, Write};
 use std::marker::Model;
 use std::os::unix::net::UnixStream;

@@ -1,6 +1,6 @@
 //! Lines put together in buffers of fixed room, and their way into a vector.
 ghost use Rattle.std.specs.Prelude.{◌≡◌, ◌+◌, ◌*◌, ◌/◌, ◌%◌, ◌<◌, ◌≤◌, [], ◌∷◌, ◌++◌, OnOk, OnErr, decimal, length, vec_len, vec_capacity};
-ghost use Rattle.iova_text.specs.Words.{numbers_line, spaced_words};
+ghost use Rattle.iova_text.specs.Words.{numbers_line, refusal_line, spaced_words};
 
 use arrayvec::ArrayVec;
 use iova_range::limits::MAX_LINE;
@@ -146,6 +146,17 @@ pub fn put_numbers<const CAP: usize>(out: &mut ArrayVec<u8, CAP>, word: &[u8], n
         put(out, b" ");
         put_number(out, *n);
     }
+}
+
+/// Appends the refusal's line without its LF, at most 63 bytes, for which there is room. Own.
+pub fn put_refusal<const CAP: usize>(out: &mut ArrayVec<u8, CAP>, refusal: Refusal)
+    requires { length out.old.items + 63 ≤ CAP }
+    ensures items { out.new.items ≡ out.old.items ++ refusal_line refusal }
+    ensures longer { length out.new.items ≤ length out.old.items + 63 }
+{
+    put_numbers(out, b"no", &[u64::from(refusal.number())]);
+    put(out, b" ");
+    put(out, refusal.name().as_bytes());
 }
 
 /// Appends the bytes. Refused by `NoMemory`, which appends nothing and comes only where `out` has

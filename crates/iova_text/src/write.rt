@@ -1,4 +1,4 @@
-//! All bytes written, and flushed.
+//! All bytes written, and flushed where that is wanted.
 ghost use Rattle.std.specs.Prelude.{◌≡◌, ◌<◌, ℕ, take, IfOk, OnOk, OnErr, IsOk, IsErr};
 ghost use Rattle.std.specs.Io.KnownBytes.{Appends};
 
@@ -18,11 +18,23 @@ pub fn write_all<W: Write>(writer: &mut W, bytes: &[u8]) -> Result<(), WriteFaul
     ensures err { OnErr result ((n : ℕ)
         × Appends (W.contents writer.old) (W.contents writer.new) (take n bytes.now)) }
 {
+    write_bytes(writer, bytes)?;
+    flushed(writer.flush())
+}
+
+/// Writes all bytes, and leaves it to the writer when it hands them on. A call that fails is not
+/// tried again. Refused where a write fails, an interruption too, or takes nothing; some first
+/// bytes are written then. Own.
+pub fn write_bytes<W: Write>(writer: &mut W, bytes: &[u8]) -> Result<(), WriteFault>
+    ensures ok { OnOk result (Appends (W.contents writer.old) (W.contents writer.new) bytes.now) }
+    ensures err { OnErr result ((n : ℕ)
+        × Appends (W.contents writer.old) (W.contents writer.new) (take n bytes.now)) }
+{
     let mut done = 0;
     while done < bytes.len() {
         done += bytes_written(writer.write(&bytes[done..]))?;
     }
-    flushed(writer.flush())
+    Ok(())
 }
 
 /// How many bytes a write took. Any error is a fault, an interruption too, and so is none.

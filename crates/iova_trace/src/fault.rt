@@ -1,8 +1,8 @@
 //! Why a trace is not read or replayed to its end.
 ghost use Rattle.std.specs.Prelude.{◌≡◌};
-ghost use Rattle.iova_trace.specs.declared.fault.ReplayFault.TheVariants.{NoMemory as WantsMemory, WriteFault as CannotWrite};
+ghost use Rattle.iova_trace.specs.declared.fault.ReplayFault.TheVariants.{NoMemory as WantsMemory, ReadFault as CannotRead, WriteFault as CannotWrite};
 
-use iova_text::write;
+use iova_text::{read, write};
 use std::alloc::AllocError;
 use thiserror::Error;
 
@@ -28,6 +28,14 @@ impl From<AllocError> for ReplayFault {
 
     fn from(_error: AllocError) -> ReplayFault {
         ReplayFault::NoMemory
+    }
+}
+
+impl From<read::ReadFault> for ReplayFault {
+    ghost from_gives = { λ _ e. e ≡ CannotRead };
+
+    fn from(_fault: read::ReadFault) -> ReplayFault {
+        ReplayFault::ReadFault
     }
 }
 

@@ -1,14 +1,13 @@
 //! The log of a replay: what its steps and their replies say of frames and flushes, in the form
 //! that a check of logs reads.
-ghost use Rattle.std.specs.Prelude.{◌≡◌, ◌<◌, ℕ, List, [], Option, None, take, IfOk, OnOk, OnErr};
+ghost use Rattle.std.specs.Prelude.{◌≡◌, ℕ, List, [], Option, None, take, OnOk, OnErr};
 ghost use Rattle.std.specs.Io.KnownBytes.{Appends, Keeps};
 ghost use Rattle.iova_trace.specs.Log.{log_header, log_line, end_line};
 
 use iova_model::step::{Reply, Step};
 use iova_range::bounds::Bounds;
 use iova_text::buffer::{LineBuffer, put, put_numbers};
-use iova_text::write::WriteFault;
-use std::io;
+use iova_text::write::{WriteFault, write_bytes};
 use std::io::Write;
 
 /// What a replay is logged to.
@@ -161,30 +160,5 @@ fn put_end(step: &Step, out: &mut LineBuffer)
         put_numbers(out, b"end", &[no]);
         let outcome = if ok { " ok\n" } else { " fail\n" };
         put(out, outcome.as_bytes());
-    }
-}
-
-/// Writes all bytes, and leaves it to the writer when it hands them on. A call that fails is not
-/// tried again.
-fn write_bytes<W: Write>(writer: &mut W, bytes: &[u8]) -> Result<(), WriteFault>
-    ensures ok { OnOk result (Appends (W.contents writer.old) (W.contents writer.new) bytes.now) }
-    ensures err { OnErr result ((n : ℕ)
-        × Appends (W.contents writer.old) (W.contents writer.new) (take n bytes.now)) }
-{
-    let mut done = 0;
-    while done < bytes.len() {
-        done += bytes_written(writer.write(&bytes[done..]))?;
-    }
-    Ok(())
-}
-
-/// How many bytes a write took. Any error is a fault, an interruption too, and so is none.
-fn bytes_written(written: io::Result<usize>) -> Result<usize, WriteFault>
-    ensures ok { IfOk result (λ len. (written ≡ Ok len) × (0 < len)) }
-    ensures err { OnErr result (IfOk written (λ len. len ≡ 0)) }
-{
-    match written {
-        Ok(len) if len > 0 => Ok(len),
-        _ => Err(WriteFault),
     }
 }

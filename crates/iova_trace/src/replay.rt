@@ -1,6 +1,6 @@
 //! A trace replayed from a reader to a writer, one line after another.
-ghost use Rattle.std.specs.Prelude.{◌≡◌, ◌≤◌, ◌<◌, ◌⊎◌, ℕ, take, length, IfOk, IfErr, OnOk, OnErr, IsErr};
-ghost use Rattle.std.specs.Io.KnownBytes.{Appends, Consumes, Keeps, IsAtEnd};
+ghost use Rattle.std.specs.Prelude.{◌≡◌, ◌≤◌, ◌⊎◌, ℕ, take, IfOk, IfErr, OnOk, OnErr};
+ghost use Rattle.std.specs.Io.KnownBytes.{Appends};
 ghost use Rattle.iova_range.specs.declared.limits.TheConstants.{MAX_STEPS};
 ghost use Rattle.iova_text.specs.Lines.{IsUnended};
 ghost use Rattle.iova_trace.specs.Logged.{ReplaysAndLogs};
@@ -16,10 +16,10 @@ use iova_line::line::read_header;
 use iova_line::trace::next_step;
 use iova_range::limits::{MAX_LINE, MAX_READS};
 use iova_text::buffer::LineBuffer;
+use iova_text::read::read_some;
 use iova_text::write::{WriteFault, write_all};
 use memchr::memchr;
 use std::alloc::Global;
-use std::io;
 use std::io::{Read, Write};
 
 /// How many bytes are read, or gathered before they are written.
@@ -319,31 +319,5 @@ impl Progress {
             Some(domain) => Ok((domain, steps)),
             None => Err(ReplayFault::BadTrace(number)),
         }
-    }
-}
-
-/// Reads once, and gives how many bytes came, none only at the end. Any error is a fault, an
-/// interruption too.
-fn read_some<R: Read>(reader: &mut R, buffer: &mut [u8]) -> Result<usize, ReplayFault>
-    requires { 0 < length buffer.old }
-    ensures ok { IfOk result (λ len. Consumes (R.remaining reader.old) (R.remaining reader.new)
-        (take len buffer.new)) }
-    ensures bound { IfOk result (λ len. len ≤ length buffer.new) }
-    ensures end { IfOk result (λ len. len ≡ 0 → IsAtEnd (R.remaining reader.new)) }
-    ensures err { OnErr result ((result ≡ Err ReplayFault.ReadFault)
-        × Keeps (R.remaining reader.old) (R.remaining reader.new)) }
-{
-    let read = reader.read(buffer);
-    bytes_read(read)
-}
-
-/// How many bytes a read gave. Any error is a fault, an interruption too.
-fn bytes_read(read: io::Result<usize>) -> Result<usize, ReplayFault>
-    ensures ok { IfOk result (λ len. read ≡ Ok len) }
-    ensures err { OnErr result (IsErr read × (result ≡ Err ReplayFault.ReadFault)) }
-{
-    match read {
-        Ok(len) => Ok(len),
-        Err(_) => Err(ReplayFault::ReadFault),
     }
 }

@@ -1,12 +1,11 @@
 //! A reply's line, written.
 ghost use Rattle.std.specs.Prelude.{◌≡◌, ◌+◌, ◌<◌, ◌≤◌, ◌++◌, length, OnOk, OnErr, vec_len, vec_capacity};
-ghost use Rattle.iova_text.specs.Words.{refusal_line};
 ghost use Rattle.iova_trace.specs.Replies.{reply_text};
 
 use iova_model::step::Reply;
 use iova_range::limits::MAX_LINE;
 use iova_range::refusal::Refusal;
-use iova_text::buffer::{LineBuffer, append, put, put_numbers};
+use iova_text::buffer::{LineBuffer, append, put, put_numbers, put_refusal};
 
 /// The most bytes that a reply's line has, with its LF.
 pub const MAX_REPLY: usize = 64;
@@ -28,7 +27,7 @@ pub fn put_reply(reply: &Reply, out: &mut LineBuffer)
         Reply::Ended => put(out, b"ended"),
         Reply::Drained(count) => put_numbers(out, b"drained", &[count]),
         Reply::Marked(left) => put_numbers(out, b"marked", &[left]),
-        Reply::Refused(refusal) => put_refusal(refusal, out),
+        Reply::Refused(refusal) => put_refusal(out, refusal),
     }
     put(out, b"\n");
 }
@@ -44,14 +43,4 @@ pub fn write_reply(reply: &Reply, out: &mut Vec<u8>) -> Result<(), Refusal>
     let mut text = LineBuffer::new();
     put_reply(reply, &mut text);
     append(out, &text)
-}
-
-fn put_refusal(refusal: Refusal, out: &mut LineBuffer)
-    requires { length out.old.items + MAX_REPLY ≤ MAX_LINE }
-    ensures items { out.new.items ≡ out.old.items ++ refusal_line refusal }
-    ensures short { length out.new.items + 1 ≤ length out.old.items + MAX_REPLY }
-{
-    put_numbers(out, b"no", &[u64::from(refusal.number())]);
-    put(out, b" ");
-    put(out, refusal.name().as_bytes());
 }

@@ -40,9 +40,9 @@ returns-then-len-eq0-clause-sent g c =
     let a = c.reading.invariant.asked in
     let r0 = g.R.Read.remaining c.args.reader.now in
     let r2 = g.R.Read.remaining c.read_some.new.reader in
-    let got : take c.in-Ok.len c.read_some.new.piece ≡ [] = ap (λ (n : ℕ). take n c.read_some.new.piece) c.if-len-eq0.true in
+    let got : take c.in-Ok.len c.read_some.new.buffer ≡ [] = ap (λ (n : ℕ). take n c.read_some.new.buffer) c.if-len-eq0.true in
     let consumed = subst (Consumes r0 r2) (ap (λ (t : List ℕ). a.0 ++ t) got ∙ append-nil a.0)
-    (Consumes-trans r0 (g.R.Read.remaining c.reading.reader) r2 a.0 (take c.in-Ok.len c.read_some.new.piece) a.2 c.in-Ok.ensures.ok) in (
+    (Consumes-trans r0 (g.R.Read.remaining c.reading.reader) r2 a.0 (take c.in-Ok.len c.read_some.new.buffer) a.2 c.in-Ok.ensures.ok) in (
       a.0,
       consumed,
       sends_rest a.0 c.reading.input c.reading.sent r2 (g.L.Link.sent c.args.link.now) (g.L.Link.sent c.reading.link) (g.L.Link.sent c.ask_rest.new.link)
@@ -57,7 +57,7 @@ pub returns-in-Err-add-clause-sent : goal.returns-in-Err-add-clause-sent
 returns-in-Err-add-clause-sent g c =
     let a = c.reading.invariant.asked in
     let r2 = g.R.Read.remaining c.read_some.new.reader in
-    let piece = take c.in-Ok.len c.read_some.new.piece in
+    let piece = take c.in-Ok.len c.read_some.new.buffer in
     let consumed = Consumes-trans (g.R.Read.remaining c.args.reader.now) (g.R.Read.remaining c.reading.reader) r2 a.0 piece a.2 c.in-Ok.ensures.ok in
     let is : c.in-Err-add.fault ≡ fault.NoMemory = cc (c.in-Err-add.ensures.err) in
     let lines = add_piece a.0 c.reading.input piece (c.reading.input ++ piece) a.1 a.3 refl in (
@@ -71,7 +71,7 @@ pub returns-then-is_last-clause-sent : goal.returns-then-is_last-clause-sent
 returns-then-is_last-clause-sent g c =
     let a = c.reading.invariant.asked in
     let r2 = g.R.Read.remaining c.read_some.new.reader in
-    let piece = take c.in-Ok.len c.read_some.new.piece in
+    let piece = take c.in-Ok.len c.read_some.new.buffer in
     let consumed = Consumes-trans (g.R.Read.remaining c.args.reader.now) (g.R.Read.remaining c.reading.reader) r2 a.0 piece a.2 c.in-Ok.ensures.ok in
     let lines = add_piece a.0 c.reading.input piece c.add.new.self a.1 a.3 c.in-Ok-add.ensures.ok in
     let asked = subst (λ (b : Bool). SendsRun c.add.new.self c.ask_whole.new.input c.reading.sent c.ask_whole.new.sent (g.L.Link.sent c.reading.link) (g.L.Link.sent c.ask_whole.new.link) (Ok b))
@@ -90,7 +90,7 @@ pub returns-in-Err-ask_whole-clause-sent : goal.returns-in-Err-ask_whole-clause-
 returns-in-Err-ask_whole-clause-sent g c =
     let a = c.reading.invariant.asked in
     let r2 = g.R.Read.remaining c.read_some.new.reader in
-    let piece = take c.in-Ok.len c.read_some.new.piece in
+    let piece = take c.in-Ok.len c.read_some.new.buffer in
     let consumed = Consumes-trans (g.R.Read.remaining c.args.reader.now) (g.R.Read.remaining c.reading.reader) r2 a.0 piece a.2 c.in-Ok.ensures.ok in
     let lines = add_piece a.0 c.reading.input piece c.add.new.self a.1 a.3 c.in-Ok-add.ensures.ok in (
       a.0 ++ piece,
@@ -107,7 +107,7 @@ pub reading-preserved : goal.reading-preserved
 reading-preserved g c =
     let a = c.reading.invariant.asked in
     let r2 = g.R.Read.remaining c.read_some.new.reader in
-    let piece = take c.in-Ok.len c.read_some.new.piece in
+    let piece = take c.in-Ok.len c.read_some.new.buffer in
     let consumed = Consumes-trans (g.R.Read.remaining c.args.reader.now) (g.R.Read.remaining c.reading.reader) r2 a.0 piece a.2 c.in-Ok.ensures.ok in
     let lines = add_piece a.0 c.reading.input piece c.add.new.self a.1 a.3 c.in-Ok-add.ensures.ok in
     let asked = subst (λ (b : Bool). SendsRun c.add.new.self c.ask_whole.new.input c.reading.sent c.ask_whole.new.sent (g.L.Link.sent c.reading.link) (g.L.Link.sent c.ask_whole.new.link) (Ok b))
@@ -129,7 +129,7 @@ reading-preserved g c =
         c.in-Ok-ask_whole.ensures.bound,
         ap length c.in-Ok-add.ensures.ok,
         length-append c.reading.input piece,
-        length-take c.in-Ok.len c.read_some.new.piece,
+        length-take c.in-Ok.len c.read_some.new.buffer,
         c.in-Ok.ensures.bound,
       );
     }

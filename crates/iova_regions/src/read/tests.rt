@@ -1,5 +1,6 @@
 //! Regions as kernels tell them, with windows worked out by hand.
 use super::*;
+use std::io;
 use std::test::Fail;
 
 /// A text, which regions count, the windows, and the answer.

@@ -2,7 +2,7 @@ use Rattle.std.proofs.Common.{◌∙◌, [], ap, arith, length, take, ◌≤◌,
 use Rattle.std.specs.Io.KnownBytes.{Consumes}
 use Rattle.std.proofs.lemmas.Result.{err_from_is_err_and}
 use Rattle.std.proofs.KnownBytes.{Appends-nil, Consumes-nil, Keeps-refl}
-use Rattle.iova_check.specs.declared.fault.CheckFault.TheVariants.{NoMemory, ReadFault}
+use Rattle.iova_check.specs.declared.fault.CheckFault.TheVariants.{NoMemory}
 use Rattle.iova_check.proofs.Streams.{nothing_told, read_fails, input_ends, input_stops, piece_stops, piece_goes, err_is, read_back}
 use Rattle.iova_check.proofs.run.run.Goals as goal
 
@@ -28,10 +28,9 @@ loop-init g c = record {
 pub returns-in_err-len : goal.returns-in_err-len
 returns-in_err-len g c =
     let p = err_from_is_err_and c.from_residual-in_err-len.result c.from_residual-in_err-len.ensures.1 in
-    let failed = c.in_err-len.ensures.err in
-    rw (p.1, p.2, err_is c.in_err-len.field-0.0 ReadFault failed.0)
+    rw (p.1, p.2)
     (read_fails c.args.source.now (g.R.Read.remaining c.args.reader.now) (g.R.Read.remaining c.loop.reader) (g.R.Read.remaining c.read_some.new.reader)
-    (g.W.Write.contents c.args.writer.now) (g.W.Write.contents c.loop.writer) c.loop.progress c.loop.invariant.so_far failed.1)
+    (g.W.Write.contents c.args.writer.now) (g.W.Write.contents c.loop.writer) c.loop.progress c.loop.invariant.so_far c.in_err-len.ensures.err)
 
 pub returns-in-0 : goal.returns-in-0
 returns-in-0 g c =

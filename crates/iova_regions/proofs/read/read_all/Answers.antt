@@ -4,9 +4,8 @@ use Rattle.iova_regions.proofs.read.read_all.Goals as goal
 
 pub returns-then-is_err : goal.returns-then-is_err
 returns-then-is_err g c =
-    let piece = take c.in-Ok.len c.read.new.buf in
-    let came = rw c.in-Ok.ensures.ok at c.read.ensures.bytes in (
+    let piece = take c.in-Ok.len c.read_some.new.buffer in (
       c.loop.text.items ++ piece,
-      Consumes-trans (g.R.Read.remaining c.args.reader.now) (g.R.Read.remaining c.loop.reader) (g.R.Read.remaining c.read.new.self) c.loop.text.items piece
-          c.loop.invariant came.0,
+      Consumes-trans (g.R.Read.remaining c.args.reader.now) (g.R.Read.remaining c.loop.reader) (g.R.Read.remaining c.read_some.new.reader) c.loop.text.items piece
+          c.loop.invariant c.in-Ok.ensures.ok,
     )

@@ -1,16 +1,14 @@
-use Rattle.std.proofs.Common.{◌-◌, ◌≤◌, length, length-take, length-drop, take, drop, arith}
-use Rattle.iova_text.proofs.Writes.{Appends-more}
+use Rattle.std.proofs.Common.{rules, length, take, subst, sym}
+use Rattle.std.proofs.KnownBytes.{Appends-kept}
+use Rattle.std.proofs.Math.Seq.{take-length}
+use Rattle.std.specs.Io.KnownBytes.{Appends}
 use Rattle.iova_text.proofs.write.write_all.Goals as goal
 
-pub loop-done-preserved : goal.loop-done-preserved
-loop-done-preserved g c =
-    let is = c.in_ok-done.ensures.ok.0 in
+pub returns-clause-err : goal.returns-clause-err
+returns-clause-err g c =
+    let before = g.W.Write.contents c.args.writer.now in
+    let after = g.W.Write.contents c.flush.new.self in
     let bytes = c.args.bytes.now in
-    let done = c.loop-done.done in
-    let fit : c.in_ok-done.field-0 ≤ length (take (length bytes - done) (drop done bytes)) = rw is at c.write.ensures.bound in
-    let more = rw is at c.write.ensures.bytes in
-    record {
-      within = omega (arith, length-take (length bytes - done) (drop done bytes), length-drop done bytes, fit, c.loop-done.invariant.within);
-      written = Appends-more (g.W.Write.contents c.args.writer.now) (g.W.Write.contents c.loop-done.writer) (g.W.Write.contents c.write.new.self)
-          bytes done c.in_ok-done.field-0 c.loop-done.invariant.written more;
-    }
+    let kept = Appends-kept before (g.W.Write.contents c.write_bytes.new.writer) after bytes c.in_ok-write_bytes.ensures.ok c.flush.ensures.bytes in
+    let all : Appends before after (take (length bytes) bytes) = subst (Appends before after) (sym (take-length bytes)) kept in
+    search (rules, all)

@@ -2,7 +2,7 @@ use Rattle.std.proofs.Common.{◌∙◌, [], ap, arith, length, take, ◌≤◌,
 use Rattle.std.specs.Io.KnownBytes.{Consumes}
 use Rattle.std.proofs.lemmas.Result.{err_from_is_err_and}
 use Rattle.std.proofs.KnownBytes.{Appends-nil, Consumes-nil, Keeps-refl}
-use Rattle.iova_trace.specs.declared.fault.ReplayFault.TheVariants.{NoMemory, ReadFault}
+use Rattle.iova_trace.specs.declared.fault.ReplayFault.TheVariants.{NoMemory}
 use Rattle.iova_trace.proofs.Streams.{nothing_told, read_fails, read_ends, piece_stops, piece_goes, err_is, read_back}
 use Rattle.iova_trace.proofs.replay.replay_lines.Goals as goal
 
@@ -33,10 +33,9 @@ loop-init g c = record {
 pub returns-in_err-len : goal.returns-in_err-len
 returns-in_err-len g c =
     let p = err_from_is_err_and c.from_residual-in_err-len.result c.from_residual-in_err-len.ensures.1 in
-    let failed = c.in_err-len.ensures.err in
-    rw (p.1, p.2, err_is c.in_err-len.field-0.0 ReadFault failed.0)
+    rw (p.1, p.2)
     (read_fails (g.R.Read.remaining c.args.reader.now) (g.R.Read.remaining c.loop.reader) (g.R.Read.remaining c.read_some.new.reader)
-    (g.W.Write.contents c.args.writer.now) (g.W.Write.contents c.loop.writer) (g.L.Log.contents c.args.log.now) (g.L.Log.contents c.loop.log) c.loop.progress c.loop.invariant.so_far c.loop.progress.unended failed.1)
+    (g.W.Write.contents c.args.writer.now) (g.W.Write.contents c.loop.writer) (g.L.Log.contents c.args.log.now) (g.L.Log.contents c.loop.log) c.loop.progress c.loop.invariant.so_far c.loop.progress.unended c.in_err-len.ensures.err)
 
 pub returns-in-0 : goal.returns-in-0
 returns-in-0 g c =

@@ -1,6 +1,6 @@
 use Rattle.std.proofs.Common.{◌-◌, ◌≤◌, length, length-take, length-drop, take, drop, arith}
 use Rattle.iova_text.proofs.Writes.{Appends-more}
-use Rattle.iova_trace.proofs.log.write_bytes.Goals as goal
+use Rattle.iova_text.proofs.write.write_bytes.Goals as goal
 
 pub loop-done-preserved : goal.loop-done-preserved
 loop-done-preserved g c =
