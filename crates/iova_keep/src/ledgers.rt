@@ -19,9 +19,13 @@ use std::sync::ledger::{Blank, Ledger, Share};
 /// takes no memory. Own.
 #[derive(Drop)]
 pub struct Blanks {
+    /// Of how many ranges are held.
     pub count: Blank,
+    /// Of their frames.
     pub frames: Blank,
+    /// Of the sum of their first frames.
     pub sum_lo: Blank,
+    /// Of the flushes that ended well.
     pub good: Blank,
 }
 
