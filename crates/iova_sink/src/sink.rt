@@ -36,12 +36,10 @@ pub trait Sink {
     /// calls it meanwhile, and those that want it wait. A sink that isn't shared has nothing to do.
     fn lock(&mut self)
         ensures { calls self.new ≡ calls self.old }
-    {
-    }
+    {}
 
     /// Lets go of it after `lock`.
     fn unlock(&mut self)
         ensures { calls self.new ≡ calls self.old }
-    {
-    }
+    {}
 }
