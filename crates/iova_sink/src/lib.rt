@@ -17,3 +17,4 @@ pub mod memory_device;
 pub mod record;
 pub mod sink;
 pub mod socket;
+pub mod soon;

@@ -6,19 +6,16 @@ use crate::channel::{Channel, ChannelFault, Standing};
 use crate::count::Count;
 use crate::device::bytes_taken;
 use crate::hurry::Hurry;
+use crate::soon::{Looks, read_now};
 use std::io;
-use std::io::{ErrorKind, Read, Write};
+use std::io::{ErrorKind, Write};
 use std::marker::Model;
 use std::net::Net;
 use std::os::unix::net::UnixStream;
-use std::thread::yield_now;
 use std::time::Duration;
 
 /// How many bytes are read ahead at a time: more than an answer has.
 const AHEAD: usize = 64;
-
-/// How often an answer is looked for, at most, before it is waited for.
-const LOOKS: u32 = 64;
 
 /// A Unix socket at a path, with one time limit for each read and each write. An answer is one
 /// read: what comes with it is read too, and is handed on with the next call that receives. A read
@@ -31,7 +28,7 @@ pub struct SocketChannel<'a, N: Net> {
     limit: Duration,
     hurry: Option<&'a Hurry>,
     stream: Option<UnixStream>,
-    pace: Pace,
+    looks: Looks,
     ahead: Ahead,
     failed: Count,
     strays: Count,
@@ -46,79 +43,11 @@ impl<'a, N: Net> Drop for SocketChannel<'a, N> {
             limit: _,
             hurry: _,
             stream: _,
-            pace: _,
+            looks: _,
             ahead: _,
             failed: _,
             strays: _,
         } = self;
-    }
-}
-
-/// Whether calls of the connection block, and how often an answer is looked for.
-#[derive(Clone, Copy)]
-struct Pace {
-    is_blocking: bool,
-    looks: u32,
-}
-
-impl Pace {
-    /// That of a connection that was just made, whose calls block.
-    fn new() -> Pace {
-        Pace {
-            is_blocking: true,
-            looks: LOOKS,
-        }
-    }
-
-    /// Has the connection's calls block, or not.
-    fn set_blocking(&mut self, stream: &UnixStream, is_blocking: bool) -> io::Result<()> {
-        if self.is_blocking != is_blocking {
-            stream.set_nonblocking(!is_blocking)?;
-            self.is_blocking = is_blocking;
-        }
-        Ok(())
-    }
-
-    /// Reads what comes next: looks for it, and then waits. What was looked for in vain is looked
-    /// for half as often the next time, and what was found twice as often.
-    fn read(&mut self, stream: &UnixStream, buffer: &mut [u8]) -> io::Result<usize>
-        ensures { IfOk result (λ n. n ≤ length buffer.new) }
-    {
-        if self.looks > 0 {
-            self.set_blocking(stream, false)?;
-            for _ in 0..self.looks {
-                let read = read_from(stream, buffer);
-                if !is_awaited(&read) {
-                    self.looks = self.looks.saturating_mul(2).min(LOOKS);
-                    return read;
-                }
-                yield_now();
-            }
-        }
-        self.set_blocking(stream, true)?;
-        let read = read_from(stream, buffer);
-        self.looks = (self.looks / 2).max(1);
-        read
-    }
-
-    /// Writes these bytes, a front of them at least. It waits only where the connection takes none.
-    fn write(&mut self, stream: &UnixStream, bytes: &[u8]) -> io::Result<usize>
-        ensures { IfOk result (λ n. n ≤ length bytes.now) }
-    {
-        let written = write_to(stream, bytes);
-        if self.is_blocking || !is_awaited(&written) {
-            return written;
-        }
-        self.set_blocking(stream, true)?;
-        write_to(stream, bytes)
-    }
-}
-
-/// Whether a call that doesn't block would have to wait.
-fn is_awaited(done: &io::Result<usize>) -> bool {
-    match done {
-        Ok(_) => false,
-        Err(error) => error.kind() == ErrorKind::WouldBlock,
     }
 }
 
@@ -150,9 +79,9 @@ impl Ahead {
     }
 
     /// Reads the next bytes, where there are none: none at the end of the stream.
-    fn fill(&mut self, stream: &UnixStream, pace: &mut Pace) -> io::Result<()> {
+    fn fill(&mut self, stream: &UnixStream, looks: &mut Looks) -> io::Result<()> {
         if self.is_empty() {
-            let n = pace.read(stream, &mut self.bytes)?;
+            let n = looks.read(stream, &mut self.bytes)?;
             self.from = 0;
             self.to = n;
         }
@@ -206,7 +135,7 @@ impl<'a, N: Net> SocketChannel<'a, N> {
             limit: Duration::from_secs(seconds),
             hurry: None,
             stream: None,
-            pace: Pace::new(),
+            looks: Looks::new(),
             ahead: Ahead::new(),
             failed: Count::new(),
             strays: Count::new(),
@@ -263,7 +192,7 @@ impl<'a, N: Net> Channel for SocketChannel<'a, N> {
         let Some(stream) = &self.stream else {
             return Err(self.fault());
         };
-        let written = self.pace.write(stream, bytes);
+        let written = write_to(stream, bytes);
         if let Err(error) = &written {
             return Err(self.fault_of(error));
         }
@@ -280,7 +209,7 @@ impl<'a, N: Net> Channel for SocketChannel<'a, N> {
         let Some(stream) = &self.stream else {
             return Err(self.fault());
         };
-        match self.ahead.fill(stream, &mut self.pace) {
+        match self.ahead.fill(stream, &mut self.looks) {
             Ok(()) => Ok(self.ahead.take(buffer)),
             Err(error) => Err(self.fault_of(&error)),
         }
@@ -296,7 +225,7 @@ impl<'a, N: Net> Channel for SocketChannel<'a, N> {
             self.strays.up();
             return Ok(Standing::Bytes);
         }
-        match stands_in(stream, &mut self.pace) {
+        match stands_in(stream) {
             Ok(Standing::Bytes) => {
                 self.strays.up();
                 Ok(Standing::Bytes)
@@ -315,7 +244,6 @@ impl<'a, N: Net> Channel for SocketChannel<'a, N> {
         match connected(self.net, self.path, self.limit) {
             Ok(stream) => {
                 self.stream = Some(stream);
-                self.pace.is_blocking = true;
                 Ok(())
             }
             Err(error) => Err(self.fault_of(&error)),
@@ -339,12 +267,6 @@ fn write_to(mut stream: &UnixStream, bytes: &[u8]) -> io::Result<usize>
     stream.write(bytes)
 }
 
-fn read_from(mut stream: &UnixStream, buffer: &mut [u8]) -> io::Result<usize>
-    ensures { IfOk result (λ n. n ≤ length buffer.new) }
-{
-    stream.read(buffer)
-}
-
 /// A connection with these limits.
 fn connected<N: Net>(net: &N, path: &str, limit: Duration) -> io::Result<UnixStream> {
     let stream = UnixStream::connect(net, path)?;
@@ -354,10 +276,9 @@ fn connected<N: Net>(net: &N, path: &str, limit: Duration) -> io::Result<UnixStr
 }
 
 /// What stands in the connection.
-fn stands_in(stream: &UnixStream, pace: &mut Pace) -> io::Result<Standing> {
+fn stands_in(stream: &UnixStream) -> io::Result<Standing> {
     let mut byte = [0u8];
-    pace.set_blocking(stream, false)?;
-    match read_from(stream, &mut byte) {
+    match read_now(stream, &mut byte) {
         Ok(0) => Ok(Standing::End),
         Ok(_) => Ok(Standing::Bytes),
         Err(error) => {
