@@ -91,7 +91,7 @@ client_pairs_keep law strict number id listed (p ∷ ps) a b h k =
     (subst (λ (c : Option ℕ). PairsLead strict number c more ps k.0 b) stays k.3))
 
 -- pairs of any client
-pairs_keep : OthersKeepTheirHoldings → (strict : Bool) (number : ℕ) (client : Option ℕ) (listed : ℕ) (ps : List Pair) (a b : Standing)
+pub pairs_keep : OthersKeepTheirHoldings → (strict : Bool) (number : ℕ) (client : Option ℕ) (listed : ℕ) (ps : List Pair) (a b : Standing)
     → AreAnswers number client listed ps → PairsLead strict number client listed ps a b → KeepsOthers (client_after client ps) a.domain b.domain
 unfolding AreAnswers PairsLead client_after
 pairs_keep law strict number (Some id) listed ps a b h k =

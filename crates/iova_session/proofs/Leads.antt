@@ -48,7 +48,7 @@ pub leads_once : (strict : Bool) (number : ℕ) (client : Option ℕ) (listed : 
 unfolding PairsLead
 leads_once strict number client listed p a b does moves = (b, does, moves, refl)
 
-leads_join : (strict : Bool) (number : ℕ) (client : Option ℕ) (listed : ℕ) (ps qs : List Pair) (a b c : Standing)
+pub leads_join : (strict : Bool) (number : ℕ) (client : Option ℕ) (listed : ℕ) (ps qs : List Pair) (a b c : Standing)
     → PairsLead strict number client listed ps a b → PairsLead strict number (client_after client ps) (listed_after listed ps) qs b c
     → PairsLead strict number client listed (ps ++ qs) a c
 unfolding PairsLead client_after listed_after

@@ -18,6 +18,8 @@ mod Others
 mod Alone
 mod Leads
 mod Kept
+mod Turns
+mod TurnsTaken
 mod Each
 mod Histories
 mod ExamplesGone

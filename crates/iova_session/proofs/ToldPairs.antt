@@ -24,7 +24,7 @@ use Rattle.iova_proto.specs.declared.request.Request.TheVariants as request
 use Rattle.iova_session.specs.Pairs.{Pair, asked, told}
 use Rattle.iova_session.specs.Desks.{IsClientAnswer, released, given_by, taken_by, given_in, taken_in, MovesBy, asks_in, ask_of, ask_then, answer_of, told_pairs, IsToldTo, AreTold, IsFirstAlone, IsAnswer, SessionState, AnswersRun}
 
-same_totals : (a b : Totals) → a.count ≡ b.count → a.frames ≡ b.frames → a.sum_lo ≡ b.sum_lo → a ≡ b
+pub same_totals : (a b : Totals) → a.count ≡ b.count → a.frames ≡ b.frames → a.sum_lo ≡ b.sum_lo → a ≡ b
 same_totals a b count frames sum_lo = λ i. record { count = count i; frames = frames i; sum_lo = sum_lo i }
 
 -- moves, one after another

@@ -31,6 +31,9 @@ pub(crate) trait Opening {
     /// Whether it is strict, where the keeper tells it.
     ghost strict: { Bool };
 
+    /// The session.
+    ghost session: { SessionState };
+
     /// The seat.
     ghost seat: { SeatState };
 
@@ -51,6 +54,8 @@ impl Opening for Brand {
     ghost domain = { None };
 
     ghost strict = { false };
+
+    ghost session = { record { number = 0; client = None; listed = 0; pairs = [] } };
 
     ghost seat = { new_seat 0 };
 
@@ -132,7 +137,7 @@ impl<'a, C: Ledger, F: Ledger, S: Ledger, G: Ledger, K: Keep<C, F, S, G>, D: Sin
 }
 
 /// `ask_front` over what the session is lent.
-fn ask_lent<C: Ledger, F: Ledger, S: Ledger, G: Ledger, K: Keep<C, F, S, G>, D: Sink>(
+pub(crate) fn ask_lent<C: Ledger, F: Ledger, S: Ledger, G: Ledger, K: Keep<C, F, S, G>, D: Sink>(
     lent: &mut Lent<'_, C, F, S, G, K, D>,
     session: &mut Session,
     last: &mut LastBatch,

@@ -93,6 +93,18 @@ pub fn seats_of<C: Ledger, F: Ledger, S: Ledger, G: Ledger>(
     Some(seats)
 }
 
+/// Takes room for so many clients more that wait at the post, and for the ranges of one that leaves.
+/// Whether it was had.
+pub fn make_room<C: Ledger, F: Ledger, S: Ledger, G: Ledger>(
+    post: &mut Post<C, F, S, G>,
+    clients: usize,
+) -> bool
+    ensures seat { post.new.seat ≡ post.old.seat }
+    ensures waiting { post.new.waiting.items ≡ post.old.waiting.items }
+{
+    post.waiting.try_reserve(clients).is_ok() && has_ranges(&mut post.ranges)
+}
+
 /// Takes room for one client more that waits, and for the ranges of one that leaves. Whether it was
 /// had.
 pub(crate) fn take_room(waiting: &mut Vec<ClientId>, ranges: &mut Vec<Range>) -> bool

@@ -102,10 +102,7 @@ fn serve_lent<
     let mut desk: KeeperDesk<'a, C, F, S, G, K, D, O> = KeeperDesk {
         lent,
         session,
-        last: LastBatch {
-            stopped: false,
-            told: Vec::new(alloc),
-        },
+        last: LastBatch::new(alloc),
         opening: PhantomData,
     };
     let end = serve_within(alloc, limits, link, &mut desk);
@@ -258,7 +255,7 @@ pub fn run_session_within<
 
 /// Ends the client that a session opened, and puts it on the list where it waits. `before` are the
 /// shares of before the session: none where those of after it aren't as they have to be.
-fn end_opened<C: Ledger, F: Ledger, S: Ledger, G: Ledger, K: Keep<C, F, S, G>, D: Sink>(
+pub(crate) fn end_opened<C: Ledger, F: Ledger, S: Ledger, G: Ledger, K: Keep<C, F, S, G>, D: Sink>(
     keeper: &mut K,
     post: &mut Post<C, F, S, G>,
     sink: &mut D,
@@ -308,14 +305,16 @@ fn end_opened<C: Ledger, F: Ledger, S: Ledger, G: Ledger, K: Keep<C, F, S, G>, D
 }
 
 /// How the end of a client that left went.
-fn ended_of(left: Leaving) -> Result<Ending, Refusal>
+pub(crate) fn ended_of(left: Leaving) -> Result<Ending, Refusal>
     ensures { result ≡ left.ended }
 {
     left.ended
 }
 
 /// The seat's three shares.
-fn shares_of<C: Ledger, F: Ledger, S: Ledger, G: Ledger>(seat: &Seat<C, F, S, G>) -> Totals
+pub(crate) fn shares_of<C: Ledger, F: Ledger, S: Ledger, G: Ledger>(
+    seat: &Seat<C, F, S, G>,
+) -> Totals
     ensures { result ≡ seat.now.held }
 {
     Totals {

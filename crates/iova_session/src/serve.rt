@@ -84,7 +84,7 @@ pub fn serve_within<L: Link, D: Desk>(
 
 /// Takes the next piece of the stream: gathers, asks and answers until it is used or the session
 /// ends.
-fn take_piece<L: Link, D: Desk>(
+pub(crate) fn take_piece<L: Link, D: Desk>(
     link: &mut L,
     desk: &mut D,
     lines: &mut Lines,

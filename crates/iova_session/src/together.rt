@@ -15,6 +15,7 @@ use iova_proto::answer::Answer;
 use iova_proto::request::Request;
 use iova_range::limits::MAX_RUN;
 use iova_range::refusal::Refusal;
+use std::alloc::Global;
 use std::sync::ledger::Ledger;
 
 /// What a desk keeps of the last hold of a session.
@@ -24,6 +25,16 @@ pub(crate) struct LastBatch {
     pub(crate) stopped: bool,
     /// What the lock told, and room for what it tells next.
     pub(crate) told: Vec<Told>,
+}
+
+impl LastBatch {
+    /// As before the first hold.
+    pub(crate) fn new(alloc: Global) -> LastBatch {
+        LastBatch {
+            stopped: false,
+            told: Vec::new(alloc),
+        }
+    }
 }
 
 /// Asks the longest front of `alloc`, `free` and `stat` in one hold, up to the first free whose

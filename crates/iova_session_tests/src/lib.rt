@@ -17,3 +17,5 @@ mod links;
 mod posts;
 #[cfg(test)]
 mod session_files;
+#[cfg(test)]
+mod turns;

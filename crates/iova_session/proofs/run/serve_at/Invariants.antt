@@ -1,3 +1,4 @@
+use Rattle.std.proofs.Common.{[], None}
 use Rattle.iova_session.proofs.run.serve_at.Given as goal
 
 abbrev pub ghosts-serve_lent : goal.ghosts-serve_lent
@@ -5,6 +6,7 @@ ghosts-serve_lent g a = record {
   number = g.K.Keep.domain_number a.lent.keeper.now;
   strict = g.K.Keep.strict a.lent.keeper.now;
   domain = g.K.Keep.domain a.lent.keeper.now;
+  session = record { number = g.K.Keep.domain_number a.lent.keeper.now; client = None; listed = 0; pairs = [] };
   seat = a.lent.seat.now;
   calls = g.D.Sink.calls a.lent.sink.now;
   keeper_name = a.lent.keeper.ghost_name;

@@ -1,0 +1,72 @@
+//! The desk of one turn of a session, over any keeper.
+ghost use Rattle.std.specs.Prelude.{◌≡◌, ◌+◌, ◌≤◌, None};
+ghost use Rattle.iova_sink.specs.Calls.{good_calls};
+ghost use Rattle.iova_keep.specs.Views.{WhereKnown};
+ghost use Rattle.iova_session.specs.Desks.{client_after, listed_after};
+ghost use Rattle.iova_session.specs.Leading.{GoesOn};
+ghost use Rattle.iova_session.specs.Turns.{MovesOn};
+
+use crate::desk::Desk;
+use crate::keeper_desk::{Lent, Opening, ask_lent};
+use crate::session::Session;
+use crate::together::LastBatch;
+use iova_keep::keep::Keep;
+use iova_proto::answer::Answer;
+use iova_proto::request::Request;
+use iova_range::refusal::Refusal;
+use iova_sink::sink::Sink;
+use std::marker::PhantomData;
+use std::sync::ledger::Ledger;
+
+/// The desk of a turn that began so: of a session that has taken turns before. What it was asked in
+/// this turn has moved the seat's shares, and nothing else of it but its tally, and has led the
+/// domain from where it was to where it is.
+#[derive(Drop)]
+pub(crate) struct TurnDesk<
+    'a,
+    C: Ledger,
+    F: Ledger,
+    S: Ledger,
+    G: Ledger,
+    K: Keep<C, F, S, G>,
+    D: Sink,
+    O: Opening,
+> {
+    pub(crate) lent: Lent<'a, C, F, S, G, K, D>,
+    pub(crate) session: Session,
+    pub(crate) last: LastBatch,
+    pub(crate) opening: PhantomData<O>,
+    ghost names: { (lent.keeper.ghost_name ≡ O.keeper_name) × (lent.seat.ghost_name ≡ O.seat_name)
+        × (lent.sink.ghost_name ≡ O.sink_name) },
+    ghost number: { (session.number ≡ O.number) × (K.domain_number lent.keeper.now ≡ O.number) },
+    ghost strict: { K.strict lent.keeper.now ≡ O.strict },
+    ghost opened: { (O.session.number ≡ O.number)
+        × (O.session.client ≡ client_after None O.session.pairs)
+        × (O.session.listed ≡ listed_after 0 O.session.pairs) },
+    ghost leads: { ∥ WhereKnown O.domain (K.domain lent.keeper.now)
+        (GoesOn O.strict O.session session O.seat lent.seat.now O.calls (D.calls lent.sink.now)) ∥₁ },
+    ghost shares: { ∥ MovesOn O.session session O.seat.held lent.seat.now.held ∥₁ },
+    ghost worker: { lent.seat.now.worker ≡ O.seat.worker },
+    ghost parts: { lent.seat.now.tally.parts ≡ O.seat.tally.parts },
+    ghost tally: { lent.seat.now.tally.good + good_calls O.calls ≤ O.seat.tally.good + good_calls
+        (D.calls lent.sink.now) },
+}
+
+impl<'a, C: Ledger, F: Ledger, S: Ledger, G: Ledger, K: Keep<C, F, S, G>, D: Sink, O: Opening> Desk
+    for TurnDesk<'a, C, F, S, G, K, D, O> {
+    ghost pairs = { λ d. d.session.pairs };
+
+    fn ask_run(
+        &mut self,
+        requests: &[Request],
+        answers: &mut Vec<Answer>,
+    ) -> Result<usize, Refusal> {
+        ask_lent(
+            &mut self.lent,
+            &mut self.session,
+            &mut self.last,
+            requests,
+            answers,
+        )
+    }
+}

@@ -1,0 +1,172 @@
+//! Sessions that take turns at one post, over a book: each is answered its own requests, wherever
+//! its bytes are cut, and nobody holds anything once both have departed.
+ghost use Rattle.iova_keep.specs.Views.{AreBlanksOf};
+
+use iova_keep::ending::Ending;
+use iova_keep::keep::Keep;
+use iova_keep::ledgers::Blanks;
+use iova_keep::seat::Seat;
+use iova_lock::book::Book;
+use iova_model::totals::Totals;
+use iova_range::bounds::Bounds;
+use iova_range::profile::Profile;
+use iova_range::refusal::Refusal;
+use iova_session::end::End;
+use iova_session::link::Link;
+use iova_session::memory_link::MemoryLink;
+use iova_session::paused::{PausedSession, RunRoom, depart, resume};
+use iova_session::post::Post;
+use iova_session::session_limits::SessionLimits;
+use iova_sink::memory::MemorySink;
+use iova_sink::sink::Sink;
+use std::alloc::Global;
+use std::marker::Brand;
+use std::sync::ledger::Ledger;
+use std::test::*;
+
+/// The turns: whether it is the second session's, and its piece of the stream.
+const TURNS: [(bool, &[u8]); 8] = [
+    (false, b"hello iova1 0 dac\nal"),
+    (true, b"hello iova1 0 dac\nalloc 1 9\nalloc 2 10"),
+    (false, b"loc 1 100\nfr"),
+    (true, b"23\n"),
+    (false, b"ee 100\nfree 9"),
+    (true, b"free 100\nst"),
+    (false, b"\nbye\n"),
+    (false, b"alloc 1 100\n"),
+];
+
+/// What the first session is answered; `free 9` would be of the other one's range.
+const FIRST: &[u8] = b"opened 1\ngiven 100 1\nqueued 100 1\nno 8 NotHeld\nbye\n";
+
+/// And the second, whose stream ends in a line.
+const SECOND: &[u8] = b"opened 2\ngiven 9 1\ngiven 1022 2\nno 8 NotHeld\n";
+
+const NOTHING: Totals = Totals {
+    count: 0,
+    frames: 0,
+    sum_lo: 0,
+};
+
+/// What the two sessions came to: their ends, whether they were answered so, what the seat holds
+/// before they depart, what the end of each client came to, and what the seat and the domain hold
+/// then, and how many clients wait.
+#[derive(Clone, Copy)]
+struct Came {
+    ends: [Option<End>; 2],
+    answered: [bool; 2],
+    held: Totals,
+    departed: [Option<Option<Ending>>; 2],
+    left: Totals,
+    gathered: Totals,
+    waiting: usize,
+}
+
+/// A turn of a session. Whether it is one of the keeper's domain.
+fn turn<C: Ledger, F: Ledger, S: Ledger, G: Ledger, L: Link, K: Keep<C, F, S, G>, D: Sink>(
+    paused: &mut PausedSession,
+    piece: &[u8],
+    link: &mut L,
+    keeper: &mut K,
+    post: &mut Post<C, F, S, G>,
+    sink: &mut D,
+    room: &mut RunRoom,
+) -> bool {
+    if paused.number() != keeper.number() {
+        return false;
+    }
+    resume(paused, piece, link, keeper, post, sink, room);
+    true
+}
+
+/// Both sessions, at the post of this seat.
+fn both_at<C: Ledger, F: Ledger, S: Ledger, G: Ledger, K: Keep<C, F, S, G> + Drop>(
+    alloc: Global,
+    mut keeper: K,
+    seat: Seat<C, F, S, G>,
+) -> Option<Came> {
+    let mut post = Post::new(alloc, seat);
+    let mut room = RunRoom::new(alloc)?;
+    let mut sink = MemorySink::new(0);
+    let number = keeper.number();
+    let mut first = PausedSession::new(number, SessionLimits::usual());
+    let mut second = PausedSession::new(number, SessionLimits::usual());
+    let mut first_link = MemoryLink::new(alloc, b"", 4096, 0);
+    let mut second_link = MemoryLink::new(alloc, b"", 5, 0);
+    for (is_second, piece) in TURNS {
+        let taken = if is_second {
+            turn(
+                &mut second,
+                piece,
+                &mut second_link,
+                &mut keeper,
+                &mut post,
+                &mut sink,
+                &mut room,
+            )
+        } else {
+            turn(
+                &mut first,
+                piece,
+                &mut first_link,
+                &mut keeper,
+                &mut post,
+                &mut sink,
+                &mut room,
+            )
+        };
+        if !taken {
+            return None;
+        }
+    }
+    let held = post.seat.held();
+    let departed = [
+        depart(&first, &mut keeper, &mut post, &mut sink),
+        depart(&second, &mut keeper, &mut post, &mut sink),
+    ];
+    Some(Came {
+        ends: [first.end(), second.end()],
+        answered: [first_link.sent() == FIRST, second_link.sent() == SECOND],
+        held,
+        departed,
+        left: post.seat.held(),
+        gathered: keeper.totals(),
+        waiting: post.waiting.len(),
+    })
+}
+
+/// The same over a book of a fresh domain 0 with frames 1 to 1023 and one worker.
+fn in_book<C: Ledger, F: Ledger, S: Ledger, G: Ledger>(
+    alloc: Global,
+    blanks: Blanks,
+) -> Result<Option<Came>, Refusal>
+    requires blanks { AreBlanksOf blanks C.Ledger F.Ledger S.Ledger G.Ledger 1 1 }
+{
+    let bounds = Bounds::new_in(Profile::one(), 1, 1023)?;
+    let (book, mut seats) = Book::<C, F, S, G>::new(alloc, 0, bounds, 1, blanks)?;
+    let Some(seat) = seats.pop() else {
+        return Err(Refusal::NoWorker);
+    };
+    Ok(both_at(alloc, book, seat))
+}
+
+fn in_new_book(alloc: Global) -> Result<Option<Came>, Refusal> {
+    in_book::<Brand, Brand, Brand, Brand>(alloc, Blanks::new(1, 1))
+}
+
+#[test]
+fn two_sessions_take_turns(rt: HostRuntime) {
+    let Ok(Some(came)) = in_new_book(rt.alloc()) else {
+        panic!(rt; "no memory");
+    };
+    assert_eq!(rt; came.ends, [Some(End::Bye), None]);
+    assert_eq!(rt; came.answered, [true, true]);
+    assert_eq!(rt; came.held.count, 2);
+    assert_eq!(rt; came.held.frames, 3);
+    assert_eq!(rt;
+        came.departed,
+        [Some(Some(Ending::Ended(0))), Some(Some(Ending::Ended(2)))]
+    );
+    assert!(rt; came.left == NOTHING && came.gathered == NOTHING);
+    assert_eq!(rt; came.waiting, 0);
+}
