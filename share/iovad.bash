@@ -8,7 +8,7 @@ _iovad() {
     *:serve:--workers | *:serve:--clients | *:serve:--domain | *:serve:--start | *:serve:--last | *:serve:--sessions | *:serve:--session-requests | *:serve:--idle | *:serve:--depot | *:serve:--record-steps | *:serve:--reserve | *:serve:--sink-timeout | *:check:--first | *:check:--last | *:check:--did) return ;;
     *:serve:--log-level) words='error warn info debug' ;;
     *:replay:*) words='--report --log --help' files=yes ;;
-    *:serve:*) words='--socket --workers --clients --domain --start --last --sink --sessions --session-requests --idle --depot --strict --record --record-steps --reserve --reserved-regions --sink-timeout --log-level --control --help' ;;
+    *:serve:*) words='--socket --workers --clients --domain --start --last --sink --sessions --session-requests --idle --depot --strict --record --record-steps --reserve --reserved-regions --sink-timeout --log-level --control --turns --help' ;;
     2:control:*) words='--help' files=yes ;;
     3:control:*) words='report sessions metrics stop' ;;
     *:ask:*) words='--help' files=yes ;;

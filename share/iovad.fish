@@ -35,6 +35,7 @@ complete -c iovad -n '__iovad_is serve' -l reserved-regions -r -F -d 'the reserv
 complete -c iovad -n '__iovad_is serve' -l sink-timeout -x -d 'the seconds that a peer has to answer'
 complete -c iovad -n '__iovad_is serve' -l log-level -x -a 'error warn info debug' -d 'which notices are told'
 complete -c iovad -n '__iovad_is serve' -l control -r -F -d 'the path of the control socket'
+complete -c iovad -n '__iovad_is serve' -l turns -d 'has the clients of a worker take turns on one thread'
 complete -c iovad -n '__iovad_is control 2' -F
 complete -c iovad -n '__iovad_is control 3' -a 'report sessions metrics stop'
 complete -c iovad -n '__iovad_is ask' -F

@@ -43,7 +43,8 @@ _iovad() {
             '--reserved-regions[the reserved_regions of a group]:reserved-regions:_files' \
             '--sink-timeout[the seconds that a peer has to answer]:sink-timeout: ' \
             '--log-level[which notices are told]:log-level:(error warn info debug)' \
-            '--control[the path of the control socket]:control:_files'
+            '--control[the path of the control socket]:control:_files' \
+            '--turns[has the clients of a worker take turns on one thread]'
           ;;
         control)
           _arguments '(- *)'{-h,--help}'[prints help]' \

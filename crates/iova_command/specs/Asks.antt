@@ -40,6 +40,7 @@ pub record Plans (rows : List Row) (plan : Plan) : Type 0 where
   pub sink_timeout : HasOptional rows (codes "sink-timeout") plan.sink_timeout
   pub log_level : HasLevel rows (codes "log-level") plan.log_level
   pub control : first_of (codes "control") rows ≡ option_map (λ path. path.now) plan.control
+  pub turns : HasFlag rows (codes "turns") plan.turns
 
 -- each part of a check is the option of its name
 pub record PlansCheck (rows : List Row) (plan : CheckPlan) : Type 0 where

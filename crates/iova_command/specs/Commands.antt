@@ -44,7 +44,8 @@ serve_app =
     with_rule (with_rule (with_rule (with_rule
     (with_rule (with_rule (with_rule (with_rule
     (with_rule (with_rule (with_rule (with_rule
-    (with_rule (with_rule (with_rule (with_rule (with_rule (with_rule (with_rule (new_app (codes "serve"))
+    (with_rule (with_rule (with_rule (with_rule
+    (with_rule (with_rule (with_rule (with_rule (new_app (codes "serve"))
     (option_rule (codes "socket")))
     (optional_number_rule (codes "workers") 1 MAX_WORKERS))
     (optional_number_rule (codes "clients") 1 MAX_CLIENTS))
@@ -63,7 +64,8 @@ serve_app =
     (optional_rule (codes "reserved-regions")))
     (optional_number_rule (codes "sink-timeout") 1 MAX_SINK_TIMEOUT))
     (optional_rule (codes "log-level")))
-    (optional_rule (codes "control"))
+    (optional_rule (codes "control")))
+    (flag_rule (codes "turns"))
 
 abbrev pub ask_app : App
 ask_app = with_rule (new_app (codes "ask")) (place_rule (codes "path"))

@@ -16,7 +16,7 @@ const USAGE: &str = "iovad < FILE
        iovad replay [--report] [--log FILE] FILE
        iovad serve --socket PATH --sink PATH [--workers N] [--clients N] [--domain N] [--start N]
                    [--last N] [--sessions N] [--session-requests N] [--idle SECONDS] [--depot N]
-                   [--strict]
+                   [--strict] [--turns]
                    [--record FILE [--record-steps N]] [--reserve FIRST-LAST]..
                    [--reserved-regions FILE] [--sink-timeout SECONDS]
                    [--log-level error|warn|info|debug] [--control PATH]
@@ -310,13 +310,21 @@ fn serve_command<'a>(alloc: Global) -> Result<Command<'a>, AllocError>
             "The least grave notices that are told, error, warn, info or debug; without it warn",
         ),
     );
-    with_arg(
+    let command = with_arg(
         command,
         optional_path(
             alloc,
             "control",
             "PATH",
             "The path of a socket for iovad control, at most 107 bytes; without it there is none",
+        ),
+    );
+    with_arg(
+        command,
+        flag(
+            alloc,
+            "turns",
+            "The clients of a worker take turns on one thread; without it each has a thread",
         ),
     )
 }

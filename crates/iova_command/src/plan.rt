@@ -63,6 +63,8 @@ pub struct Plan<'a> {
     pub log_level: LevelFilter,
     /// The path of the control socket, where one is wanted.
     pub control: Option<&'a str>,
+    /// Whether the clients of a worker take turns on one thread.
+    pub turns: bool,
     pub ghost workers_in_range: { (1 ≤ workers) × (workers ≤ MAX_WORKERS) },
     pub ghost clients_in_range: { ForSome clients (λ n. (1 ≤ n) × (n ≤ MAX_CLIENTS)) },
     pub ghost domain_in_range: { domain < MAX_DOMAINS },
@@ -100,6 +102,7 @@ impl<'a> Drop for Plan<'a> {
             sink_timeout: _,
             log_level: _,
             control: _,
+            turns: _,
         } = self;
     }
 }
@@ -136,6 +139,7 @@ impl<'a> Plan<'a> {
             log_level: level(found, "log-level")?,
             control: found.get_str("control"),
             clients: optional(found, "clients", 1, MAX_CLIENTS as u64)?,
+            turns: found.get_flag("turns"),
         };
         if plan.record_steps.is_some() && plan.record.is_none() {
             return None;

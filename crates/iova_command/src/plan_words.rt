@@ -47,6 +47,9 @@ fn write_sessions<W: fmt::Write>(plan: &Plan<'_>, f: &mut fmt::Formatter<W>) -> 
     write!(f, " --session-requests {}", requests)?;
     write_number("sessions", plan.sessions, f)?;
     write_number("idle", plan.idle, f)?;
+    if plan.turns {
+        f.write_str(" --turns")?;
+    }
     write_text("control", plan.control, f)
 }
 

@@ -6,15 +6,20 @@ ghost use Rattle.std.specs.Option.{ForSome};
 ghost use Rattle.iova_daemon.specs.Serving.{IsServeRefusal};
 
 pub mod accept;
+mod admission;
 pub mod aside;
 mod crossing;
 pub mod dial;
+pub mod door;
+mod event_loop;
 mod flusher;
+mod guests;
 mod loads;
 pub mod locked_sink;
 mod noting;
 pub mod pause;
 mod pool;
+mod queued_link;
 pub mod served_link;
 pub mod signals;
 pub mod socket;
@@ -23,8 +28,16 @@ mod turns;
 mod worker;
 
 use crate::accept::Accept;
+use crate::admission::Admission;
 use crate::aside::{Aside, Look, NothingAside};
-use crate::crossing::{domains_are_sync, pools_are_sync, posts_are_send, turns_are_sync};
+use crate::crossing::{
+    admissions_are_sync, domains_are_sync, gears_are_send, pools_are_sync, posts_are_send,
+    turns_are_sync,
+};
+use crate::dial::{Dial, UnixNet};
+use crate::door::Door;
+use crate::event_loop::Gear;
+use crate::guests::{EVENTS, LISTENER, WAKE};
 use crate::pause::Pause;
 use crate::pool::Pool;
 use crate::turns::Turns;
@@ -34,11 +47,15 @@ use iova_keep::keep::Keep;
 use iova_lock::shared::Shared;
 use iova_range::refusal::Refusal;
 use iova_session::link::Link;
+use iova_session::paused::RunRoom;
 use iova_session::post::Post;
 use iova_session::session_limits::SessionLimits;
 use iova_sink::sink::Sink;
 use log::Log;
+use mio::unix::SourceFd;
+use mio::{Events, Interest, Poll, Waker};
 use std::alloc::Global;
+use std::io;
 use std::rt::Clock;
 use std::sync::Wait;
 use std::sync::ledger::Ledger;
@@ -251,7 +268,7 @@ where
         keeper,
         accept,
         turns: &turns,
-        pool: &pool,
+        admission: &pool,
         aside,
     };
     run_all::<
@@ -262,4 +279,211 @@ where
         L,
         Flusher<'_, R, N, K, G, D, P>,
     >(rt, &lent, posts, sinks, &turns, &mut flusher)
+}
+
+/// What a service is lent, and what it serves. Own.
+#[derive(Drop)]
+pub struct Service<'a, R, N, X> {
+    /// The runtime.
+    pub rt: &'a R,
+    /// Where memory comes from.
+    pub alloc: Global,
+    /// Where notices go.
+    pub notices: &'a N,
+    /// What is served.
+    pub serving: Serving,
+    /// What is done aside.
+    pub aside: &'a X,
+}
+
+/// Serves sessions on the domain as `serve_sessions` does, but more of them than there are posts:
+/// the sessions of a worker take turns on its thread, at its one post. Post `i` is that of worker
+/// `i`.
+///
+/// A thread waits for the links of all its sessions at once, and for the listener. Each session
+/// that has something gets one turn, in which it takes a piece of its stream, asks the whole
+/// requests in it, and writes their answers; then the others that have something get theirs. What a
+/// link doesn't take is kept, and its session takes nothing more until it is sent. A connection is
+/// accepted by a worker that serves the fewest sessions, as long as fewer are served than there may
+/// be at a time. A thread that calls its sink does nothing else until the sink answers: the other
+/// sessions of its worker wait.
+///
+/// Once no number is left, or the door is shut, a thread ends when its sessions have ended.
+///
+/// Refused by `LinkFault` where the system has no descriptors for what is waited by, or a thread
+/// can't be started, and by `NoMemory`; then no link has been accepted. Own.
+pub fn serve_in_turns<R, Q, N, C, F, S, G, O, D, P, X>(
+    service: &Service<'_, R, N, X>,
+    shared: Shared<Q, C, F, S, G>,
+    posts: Vec<Post<C, F, S, G>>,
+    sinks: Vec<D>,
+    door: &O,
+    pause: P,
+) -> Result<Served<Q, C, F, S, G>, Refusal>
+where
+    R: Threads + Wait + Clock + Dial + Sync,
+    Q: Wait + Sync + Drop,
+    N: Log + Sync,
+    C: Ledger + Send + Sync,
+    F: Ledger + Send + Sync,
+    S: Ledger + Send + Sync,
+    G: Ledger + Send + Sync,
+    O: Door + Sync,
+    D: Sink + Send + Drop,
+    P: Pause + Drop,
+    X: Aside + Sync,
+    requires some { 1 ≤ vec_len posts }
+    requires sinks { vec_len sinks ≡ vec_len posts + 1 }
+    requires parts { ForSome (slice_get posts.items 0) (λ p. 2 ≤ p.seat.tally.parts) }
+    ensures posts { IfOk result (λ s. map (λ p. p.seat.worker) s.posts.items
+        ≡ map (λ p. p.seat.worker) posts.items) }
+    ensures shared { IfOk result (λ s. s.shared ≡ shared) }
+    ensures refusal { IfErr result IsServeRefusal }
+{
+    // for the proof: that threads may share the domain
+    domains_are_sync::<Q, C, F, S, G>();
+    let served = serve_kept_in_turns::<R, N, C, F, S, G, &Shared<Q, C, F, S, G>, O, D, P, X>(
+        service, &shared, posts, sinks, door, pause,
+    );
+    match served {
+        Ok(posts) => Ok(Served { shared, posts }),
+        Err(refusal) => {
+            drop(shared);
+            Err(refusal)
+        }
+    }
+}
+
+/// The same on a domain that is kept elsewhere: gives the posts back.
+fn serve_kept_in_turns<R, N, C, F, S, G, K, O, D, P, X>(
+    service: &Service<'_, R, N, X>,
+    keeper: K,
+    posts: Vec<Post<C, F, S, G>>,
+    sinks: Vec<D>,
+    door: &O,
+    pause: P,
+) -> Result<Vec<Post<C, F, S, G>>, Refusal>
+where
+    R: Threads + Wait + Clock + Dial + Sync,
+    N: Log + Sync,
+    C: Ledger + Send + Sync,
+    F: Ledger + Send + Sync,
+    S: Ledger + Send + Sync,
+    G: Ledger + Send + Sync,
+    K: Keep<C, F, S, G> + Look + Copy + Sync + Drop,
+    O: Door + Sync,
+    D: Sink + Send + Drop,
+    P: Pause + Drop,
+    X: Aside + Sync,
+    requires some { 1 ≤ vec_len posts }
+    requires sinks { vec_len sinks ≡ vec_len posts + 1 }
+    requires parts { ForSome (slice_get posts.items 0) (λ p. 2 ≤ p.seat.tally.parts) }
+    ensures posts { IfOk result (λ v. map (λ p. p.seat.worker) v.items
+        ≡ map (λ p. p.seat.worker) posts.items) }
+    ensures refusal { IfErr result IsServeRefusal }
+{
+    // for the proof: what a worker has may go to its thread
+    posts_are_send::<C, F, S, G>();
+    gears_are_send::<D, Poll, Events, RunRoom>();
+    turns_are_sync();
+    admissions_are_sync();
+    let rt = service.rt;
+    let mut posts = posts;
+    let mut sinks = sinks;
+    let Some(sink) = sinks.pop() else {
+        unreachable!()
+    };
+    let (gears, wakers) = match gears_of(rt, service.alloc, door, sinks) {
+        Ok(made) => made,
+        Err(refusal) => {
+            drop(posts);
+            drop(sink);
+            drop(pause);
+            return Err(refusal);
+        }
+    };
+    let turns = Turns::new(service.alloc, service.serving, posts.len() as u64);
+    let admission = Admission::new(wakers);
+    let mut flusher = Flusher {
+        rt,
+        notices: service.notices,
+        keeper,
+        tally: posts[0].seat.tally().split(),
+        sink,
+        pause,
+        turns: &turns,
+        busy: Busy::new(),
+    };
+    let lent = Lent {
+        rt,
+        alloc: service.alloc,
+        notices: service.notices,
+        keeper,
+        accept: door,
+        turns: &turns,
+        admission: &admission,
+        aside: service.aside,
+    };
+    run_all::<
+        R,
+        Lent<&R, &N, K, &O, &Turns, &Admission, &X>,
+        Post<C, F, S, G>,
+        Gear<D, Poll, Events, RunRoom>,
+        (),
+        Flusher<'_, R, N, K, G, D, P>,
+    >(rt, &lent, posts, gears, &turns, &mut flusher)
+}
+
+/// What each worker's thread has beside its post, and what wakes it. Refused by `NoMemory`, and by
+/// `LinkFault` where the system has no descriptors.
+fn gears_of<R: Dial, O: Door, D: Drop>(
+    rt: &R,
+    alloc: Global,
+    door: &O,
+    sinks: Vec<D>,
+) -> Result<(Vec<Gear<D, Poll, Events, RunRoom>>, Vec<Waker>), Refusal>
+    ensures gears { IfOk result (λ r. vec_len r.0 ≡ vec_len sinks) }
+    ensures refusal { IfErr result IsServeRefusal }
+{
+    let Ok(mut gears) = Vec::with_capacity(alloc, sinks.len()) else {
+        return Err(Refusal::NoMemory);
+    };
+    let Ok(mut wakers) = Vec::with_capacity(alloc, sinks.len()) else {
+        return Err(Refusal::NoMemory);
+    };
+    for sink in sinks {
+        let Some(room) = RunRoom::new(alloc) else {
+            return Err(Refusal::NoMemory);
+        };
+        let Ok(events) = Events::with_capacity(alloc, EVENTS) else {
+            return Err(Refusal::NoMemory);
+        };
+        let Ok((poll, waker)) = poll_of(rt, door) else {
+            return Err(Refusal::LinkFault);
+        };
+        let gear = Gear {
+            sink,
+            poll,
+            events,
+            room,
+        };
+        let Ok(()) = gears.push(gear) else {
+            unreachable!()
+        };
+        let Ok(()) = wakers.push(waker) else {
+            unreachable!()
+        };
+    }
+    Ok((gears, wakers))
+}
+
+/// What a thread waits by, for the door at first, and what wakes it.
+fn poll_of<R: Dial, O: Door>(rt: &R, door: &O) -> io::Result<(Poll, Waker)> {
+    let poll = Poll::new(&UnixNet::new(rt))?;
+    let waker = Waker::new(poll.registry(), WAKE)?;
+    if let Some(descriptor) = door.descriptor() {
+        poll.registry()
+            .register(&mut SourceFd(&descriptor), LISTENER, Interest::READABLE)?;
+    }
+    Ok((poll, waker))
 }

@@ -5,9 +5,10 @@ use crate::signals::Signals;
 use iova_session::link::{Link, LinkFault};
 use iova_sink::count::Count;
 use iova_sink::device::bytes_taken;
+use iova_sink::soon::{Looks, read_from};
 use memchr::memchr_iter;
 use std::io;
-use std::io::{ErrorKind, Read, Write};
+use std::io::{ErrorKind, Write};
 use std::marker::Model;
 use std::os::unix::net::UnixStream;
 use std::sync::Wait;
@@ -26,13 +27,15 @@ pub struct Patience {
 /// A connected Unix socket that a daemon serves. A read that finds no byte, and a write that finds
 /// no room, are made again turn after turn, until there were as many as its patience has. One that
 /// is interrupted is made again too, and takes no turn: an interruption is no failure of this link.
-/// A read of a daemon that stops finds the end. Contracts see the numbers of its reads, its
+/// A read of a daemon that stops finds the end. Where it is the only link, it looks a while for what
+/// comes before it sleeps. Contracts see the numbers of its reads, its
 /// failures and the reads that found the end; what bytes come and go, no contract can say. Own.
 pub struct ServedLink<'a, R> {
     rt: &'a R,
     signals: &'a Signals,
     patience: Patience,
     stream: UnixStream,
+    looks: Looks,
     reads: Count,
     failed: Count,
     ended: Count,
@@ -43,13 +46,15 @@ impl<'a, R> Drop for ServedLink<'a, R> {
     fn drop(self) {
         let ServedLink {
             rt: _,
-            signals: _,
+            signals,
             patience: _,
             stream: _,
+            looks: _,
             reads: _,
             failed: _,
             ended: _,
         } = self;
+        signals.end_link();
     }
 }
 
@@ -76,11 +81,13 @@ impl<'a, R> ServedLink<'a, R> {
             stream.set_read_timeout(patience.turn)?;
             stream.set_write_timeout(patience.turn)?;
         }
+        signals.begin_link();
         Ok(ServedLink {
             rt,
             signals,
             patience,
             stream,
+            looks: Looks::new(),
             reads: Count::new(),
             failed: Count::new(),
             ended: Count::new(),
@@ -103,7 +110,14 @@ impl<'a, R: Wait> Link for ServedLink<'a, R> {
 
     fn read(&mut self, buf: &mut [u8]) -> Result<usize, LinkFault> {
         self.reads.up();
-        let read = received(self.rt, self.signals, self.patience, &self.stream, buf);
+        let read = received(
+            self.rt,
+            self.signals,
+            self.patience,
+            &self.stream,
+            &mut self.looks,
+            buf,
+        );
         let Ok(n) = read else {
             self.failed.up();
             return Err(LinkFault);
@@ -131,7 +145,8 @@ fn received<R: Wait>(
     rt: &R,
     signals: &Signals,
     patience: Patience,
-    mut stream: &UnixStream,
+    stream: &UnixStream,
+    looks: &mut Looks,
     buf: &mut [u8],
 ) -> io::Result<usize>
     ensures { IfOk result (λ n. n ≤ length buf.old) }
@@ -141,11 +156,15 @@ fn received<R: Wait>(
         if signals.is_stopping() {
             return Ok(0);
         }
-        let read = stream.read(buf);
+        let read = if signals.is_alone() {
+            looks.read(stream, buf)
+        } else {
+            read_from(stream, buf)
+        };
         if !is_to_be_tried_again(&read, &mut left) {
             // without a control socket nobody can ask how many there were
             if patience.turn.is_some() {
-                count_lines(signals, &read, buf);
+                count_read(signals, &read, buf);
             }
             return read;
         }
@@ -187,11 +206,16 @@ fn is_to_be_tried_again(called: &io::Result<usize>, left: &mut u64) -> bool {
     }
 }
 
-/// Counts the lines that came.
-fn count_lines(signals: &Signals, read: &io::Result<usize>, buf: &[u8]) {
+/// Counts the lines that were read.
+fn count_read(signals: &Signals, read: &io::Result<usize>, buf: &[u8]) {
     if let Ok(n) = read {
         if let Some(piece) = buf.get(..*n) {
-            signals.count_requests(memchr_iter(b'\n', piece).count() as u64);
+            count_lines(signals, piece);
         }
     }
+}
+
+/// Counts the lines that came.
+pub(crate) fn count_lines(signals: &Signals, piece: &[u8]) {
+    signals.count_requests(memchr_iter(b'\n', piece).count() as u64);
 }

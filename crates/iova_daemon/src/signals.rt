@@ -8,6 +8,7 @@ pub struct Signals {
     hurry: Hurry,
     requests: AtomicU64,
     notices: AtomicU64,
+    links: AtomicU64,
 }
 
 /// What it has is let go, which is proved here once for every crate above.
@@ -17,6 +18,7 @@ impl Drop for Signals {
             hurry: _,
             requests: _,
             notices: _,
+            links: _,
         } = self;
     }
 }
@@ -28,6 +30,7 @@ impl Signals {
             hurry: Hurry::new(),
             requests: AtomicU64::new(0),
             notices: AtomicU64::new(0),
+            links: AtomicU64::new(0),
         }
     }
 
@@ -44,6 +47,21 @@ impl Signals {
     /// What the stop hurries.
     pub fn hurry(&self) -> &Hurry {
         &self.hurry
+    }
+
+    /// A link more is served.
+    pub(crate) fn begin_link(&self) {
+        self.links.fetch_add(1, Ordering::SeqCst);
+    }
+
+    /// A link that was served is let go.
+    pub(crate) fn end_link(&self) {
+        self.links.fetch_sub(1, Ordering::SeqCst);
+    }
+
+    /// Whether there is one link alone.
+    pub(crate) fn is_alone(&self) -> bool {
+        self.links.load(Ordering::Relaxed) == 1
     }
 
     /// So many requests came.

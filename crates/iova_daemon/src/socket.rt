@@ -1,7 +1,8 @@
 //! Links over the connections to a Unix socket.
 use crate::accept::Accept;
 use crate::dial::{Dial, UnixNet};
-use crate::served_link::{Patience, ServedLink};
+use crate::door::Door;
+use crate::served_link::{Patience, ServedLink, count_lines};
 use crate::signals::Signals;
 use iova_range::limits::{ACCEPT_PAUSE, MAX_ACCEPT_PAUSE, MAX_WAITING};
 use iova_session::link::LinkFault;
@@ -121,7 +122,7 @@ impl<'a, R: AllocGlobal + Dial + Wait, N: Log> SocketAccept<'a, R, N> {
     fn wait(&self, limit: Option<Duration>) -> io::Result<()> {
         let mut poll = Poll::new(&UnixNet::new(self.rt))?;
         let mut events = Events::with_capacity(self.rt.alloc(), 1)?;
-        let Some(descriptor) = self.descriptor() else {
+        let Some(descriptor) = self.listening() else {
             return Ok(());
         };
         poll.registry()
@@ -129,8 +130,19 @@ impl<'a, R: AllocGlobal + Dial + Wait, N: Log> SocketAccept<'a, R, N> {
         poll.poll(&mut events, limit)
     }
 
+    /// Removes the listener's file, has whoever waits there hung up on, and closes it: whoever
+    /// connects is refused. The file goes first, while somebody still listens there, so that no
+    /// other daemon has put one of its own in its place.
+    fn stop_listening(&self) {
+        let mut held = self.listener.lock(self.rt);
+        if let Some(listener) = held.take() {
+            self.rt.unlink(self.path);
+            hang_up(&listener);
+        }
+    }
+
     /// The listener's descriptor, as long as it isn't closed.
-    fn descriptor(&self) -> Option<RawFd> {
+    fn listening(&self) -> Option<RawFd> {
         match &*self.listener.lock(self.rt) {
             Some(listener) => Some(listener.as_raw_fd()),
             None => None,
@@ -147,32 +159,62 @@ impl<'a, R: AllocGlobal + Dial + Clock + Wait, N: Log> Accept<ServedLink<'a, R>>
                 Ok(link)
             }
             Err(error) => {
-                let pause = self.pause.load(Ordering::SeqCst);
-                warn!(self.notices; target: "accept", "accept: {error}");
-                thread::sleep(self.rt, Duration::from_millis(pause));
-                self.pause.store(
-                    pause.saturating_mul(2).min(MAX_ACCEPT_PAUSE),
-                    Ordering::SeqCst,
-                );
+                thread::sleep(self.rt, self.note_failed(&error));
                 Ok(None)
             }
         }
     }
 
-    /// Removes the listener's file, has whoever waits there hung up on, and closes it: whoever
-    /// connects is refused. The file goes first, while somebody still listens there, so that no
-    /// other daemon has put one of its own in its place.
     fn close(&self) {
-        let mut held = self.listener.lock(self.rt);
-        if let Some(listener) = held.take() {
-            self.rt.unlink(self.path);
-            hang_up(&listener);
-        }
+        self.stop_listening();
     }
 
     /// Once the daemon is asked to stop.
     fn has_ended(&self) -> bool {
         self.signals.is_stopping()
+    }
+}
+
+impl<'a, R: AllocGlobal + Dial + Wait, N: Log> Door for SocketAccept<'a, R, N> {
+    fn enter(&self) -> io::Result<Option<UnixStream>> {
+        let entered = self.accepted();
+        if entered.is_ok() {
+            self.pause.store(ACCEPT_PAUSE, Ordering::SeqCst);
+        }
+        entered
+    }
+
+    fn descriptor(&self) -> Option<RawFd> {
+        self.listening()
+    }
+
+    fn shut(&self) {
+        self.stop_listening();
+    }
+
+    fn is_shut(&self) -> bool {
+        self.signals.is_stopping()
+    }
+
+    fn patience(&self) -> Patience {
+        self.patience
+    }
+
+    fn count(&self, piece: &[u8]) {
+        // without a control socket nobody can ask how many there were
+        if self.patience.turn.is_some() {
+            count_lines(self.signals, piece);
+        }
+    }
+
+    fn note_failed(&self, error: &io::Error) -> Duration {
+        let pause = self.pause.load(Ordering::SeqCst);
+        warn!(self.notices; target: "accept", "accept: {error}");
+        self.pause.store(
+            pause.saturating_mul(2).min(MAX_ACCEPT_PAUSE),
+            Ordering::SeqCst,
+        );
+        Duration::from_millis(pause)
     }
 }
 

@@ -40,7 +40,7 @@ pub(crate) struct Lent<R, N, K, A, T, H, X> {
     pub keeper: K,
     pub accept: A,
     pub turns: T,
-    pub pool: H,
+    pub admission: H,
     pub aside: X,
 }
 
@@ -75,10 +75,17 @@ where
                 told = tell(self.rt, self.turns, slot, told, &post.waiting);
                 if self.accept.has_ended() {
                     self.accept.close();
-                    self.pool.end(self.rt);
+                    self.admission.end(self.rt);
                     break 'turns;
                 }
-                match next::<R, L, A>(self.rt, self.turns, self.pool, self.accept, worker, told) {
+                match next::<R, L, A>(
+                    self.rt,
+                    self.turns,
+                    self.admission,
+                    self.accept,
+                    worker,
+                    told,
+                ) {
                     Turn::Serve(accepted) => {
                         let Accepted { mut link, session } = accepted;
                         self.turns.begin_session(worker);
@@ -94,7 +101,7 @@ where
                         drop(link);
                         told = tell(self.rt, self.turns, slot, told, &post.waiting);
                         self.turns.end_session(worker);
-                        self.pool.leave(self.rt, self.turns, worker);
+                        self.admission.leave(self.rt, self.turns, worker);
                         note_end(self.notices, session, ended.end);
                     }
                     Turn::End => break 'turns,
@@ -107,7 +114,7 @@ where
     }
 
     fn take_room(&self, places: usize) -> bool {
-        self.pool.take_room(self.rt, places)
+        self.admission.take_room(self.rt, places)
     }
 
     fn cannot_start(&self, worker: u64, error: &io::Error) {
@@ -119,17 +126,7 @@ where
     }
 
     fn go_aside(&self) {
-        for _ in self.rt.forever() {
-            if self.turns.have_ended() {
-                return;
-            }
-            let standing = Stands {
-                rt: self.rt,
-                turns: self.turns,
-            };
-            self.aside.turn(&self.keeper, &standing);
-        }
-        unreachable!()
+        go_aside(self.rt, self.turns, self.aside, &self.keeper);
     }
 
     fn cannot_go_aside(&self, error: &io::Error) {
@@ -137,8 +134,20 @@ where
     }
 }
 
+/// Does what there is to do aside, until all workers have ended.
+pub(crate) fn go_aside<R: Wait, X: Aside, K: Look>(rt: &R, turns: &Turns, aside: &X, keeper: &K) {
+    for _ in rt.forever() {
+        if turns.have_ended() {
+            return;
+        }
+        let standing = Stands { rt, turns };
+        aside.turn(keeper, &standing);
+    }
+    unreachable!()
+}
+
 /// Tries the post's waiting clients again, unless another slot of its worker does so.
-fn try_again<C: Ledger, F: Ledger, S: Ledger, G: Ledger, K: Keep<C, F, S, G>, D: Sink>(
+pub(crate) fn try_again<C: Ledger, F: Ledger, S: Ledger, G: Ledger, K: Keep<C, F, S, G>, D: Sink>(
     turns: &Turns,
     keeper: &mut K,
     post: &mut Post<C, F, S, G>,
@@ -156,7 +165,13 @@ fn try_again<C: Ledger, F: Ledger, S: Ledger, G: Ledger, K: Keep<C, F, S, G>, D:
 /// Tells which clients of a slot wait, where they are others than so many that were told; gives how
 /// many they are. A session adds one, and a round takes some: so they are others where they are not
 /// as many.
-fn tell<R: Wait>(rt: &R, turns: &Turns, slot: u64, told: u64, waiting: &[ClientId]) -> u64 {
+pub(crate) fn tell<R: Wait>(
+    rt: &R,
+    turns: &Turns,
+    slot: u64,
+    told: u64,
+    waiting: &[ClientId],
+) -> u64 {
     let left = waiting.len() as u64;
     if left != told {
         turns.wait_for(rt, slot, told, waiting);

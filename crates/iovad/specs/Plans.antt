@@ -1,5 +1,5 @@
 -- A daemon's domain. Own.
-use Rattle.std.specs.Prelude.{ℕ, ◌≡◌, ◌≢◌, ◌<◌, ◌≤◌, ◌+◌, ◌-◌, ◌*◌, max, min, List, [], ◌∷◌, map, Option, Some, None, unwrap_or}
+use Rattle.std.specs.Prelude.{ℕ, ◌≡◌, ◌≢◌, ◌<◌, ◌≤◌, ◌+◌, ◌-◌, ◌*◌, max, min, if◌then◌else◌, List, [], ◌∷◌, map, Option, Some, None, unwrap_or}
 use Rattle.iova_range.specs.Frames.{Frames}
 use Rattle.iova_model.specs.State.{State}
 use Rattle.iova_model.specs.declared.step.Step.TheVariants as step
@@ -51,9 +51,11 @@ planned_book plan bounds =
     record (new_book plan.domain bounds plan.workers (planned_log plan.record plan.record_steps))
     { strict = plan.strict }
 
--- how many seats there are: one for each client that is served at a time, and one for each worker
+-- how many seats there are: one for each worker, and where clients don't take turns one for each
+-- client that is served at a time
 abbrev pub seat_count : Plan → ℕ
-seat_count plan = max (unwrap_or plan.clients plan.workers) plan.workers
+seat_count plan =
+    if plan.turns then plan.workers else max (unwrap_or plan.clients plan.workers) plan.workers
 
 -- the new seats of a domain, of its workers in turn
 pub record AreNewSeats (shared : SharedState) (seats : List SeatState) : Type 0 where

@@ -25,7 +25,7 @@ use iova_daemon::pause::Ticks;
 use iova_daemon::served_link::{Patience, ServedLink};
 use iova_daemon::signals::Signals;
 use iova_daemon::socket::SocketAccept;
-use iova_daemon::{Served, Serving, serve_sessions};
+use iova_daemon::{Served, Service, Serving, serve_in_turns, serve_sessions};
 use iova_keep::keep::Keep;
 use iova_keep::ledgers::Blanks;
 use iova_keep::seat::Seat;
@@ -388,6 +388,44 @@ where
         run.signals,
         patience_of(plan),
     );
+    let served = if plan.turns {
+        serve_turns(run, plan, shared, posts, sinks, &accept)
+    } else {
+        serve_threads(run, plan, shared, posts, sinks, &accept)
+    };
+    // removes the socket's file, where the last session's accept has not
+    accept.close();
+    drop(accept);
+    remove_control(rt, plan);
+    match served {
+        Ok(served) => Ok(served),
+        Err(Refusal::NoMemory) => Err(Hindrance::NoMemory),
+        Err(_) => Err(Hindrance::SocketFault),
+    }
+}
+
+/// The same, where each session has a thread to itself.
+fn serve_threads<'a, R, C, F, S, G, D>(
+    run: &Running<'a, R>,
+    plan: &Plan<'_>,
+    shared: Shared<&'a R, C, F, S, G>,
+    posts: Vec<Post<C, F, S, G>>,
+    sinks: Vec<D>,
+    accept: &SocketAccept<'_, R, Notices<'_, R>>,
+) -> Result<Served<&'a R, C, F, S, G>, Refusal>
+where
+    R: Runtime + AllocGlobal + Net + Dial + Threads + Wait + Sync + Files<File = File>,
+    C: Ledger + Send + Sync,
+    F: Ledger + Send + Sync,
+    S: Ledger + Send + Sync,
+    G: Ledger + Send + Sync,
+    D: Sink + Send + Drop,
+    requires posts { AreNewSeats shared (map (λ p. p.seat) posts.items) }
+    requires sinks { vec_len sinks ≡ vec_len posts + 1 }
+    ensures { IfOk result (λ r. AreOfAllSeats r.shared
+        (map (λ p. p.seat.worker) r.posts.items)) }
+{
+    let rt = run.rt;
     let served = serve_sessions::<
         R,
         &R,
@@ -408,19 +446,62 @@ where
         shared,
         posts,
         sinks,
-        &accept,
+        accept,
         Ticks::new(rt),
         serving_of(plan),
         run.control,
     );
-    // removes the socket's file, where the last session's accept has not
-    accept.close();
-    drop(accept);
-    remove_control(rt, plan);
     match served {
         Ok(served) => Ok(served),
-        Err(Refusal::NoMemory) => Err(Hindrance::NoMemory),
-        Err(_) => Err(Hindrance::SocketFault),
+        Err(refusal) => Err(refusal),
+    }
+}
+
+/// The same, where the sessions of a worker take turns on its thread.
+fn serve_turns<'a, R, C, F, S, G, D>(
+    run: &Running<'a, R>,
+    plan: &Plan<'_>,
+    shared: Shared<&'a R, C, F, S, G>,
+    posts: Vec<Post<C, F, S, G>>,
+    sinks: Vec<D>,
+    accept: &SocketAccept<'_, R, Notices<'_, R>>,
+) -> Result<Served<&'a R, C, F, S, G>, Refusal>
+where
+    R: Runtime + AllocGlobal + Net + Dial + Threads + Wait + Sync + Files<File = File>,
+    C: Ledger + Send + Sync,
+    F: Ledger + Send + Sync,
+    S: Ledger + Send + Sync,
+    G: Ledger + Send + Sync,
+    D: Sink + Send + Drop,
+    requires posts { AreNewSeats shared (map (λ p. p.seat) posts.items) }
+    requires sinks { vec_len sinks ≡ vec_len posts + 1 }
+    ensures { IfOk result (λ r. AreOfAllSeats r.shared
+        (map (λ p. p.seat.worker) r.posts.items)) }
+{
+    let rt = run.rt;
+    let service = Service {
+        rt,
+        alloc: rt.alloc(),
+        notices: run.notices,
+        serving: serving_of(plan),
+        aside: run.control,
+    };
+    let served = serve_in_turns::<
+        R,
+        &R,
+        Notices<'_, R>,
+        C,
+        F,
+        S,
+        G,
+        SocketAccept<'_, R, Notices<'_, R>>,
+        D,
+        Ticks<'_, R>,
+        Control<'_, R, Notices<'_, R>>,
+    >(&service, shared, posts, sinks, accept, Ticks::new(rt));
+    match served {
+        Ok(served) => Ok(served),
+        Err(refusal) => Err(refusal),
     }
 }
 
@@ -779,14 +860,18 @@ fn book_of<C: Ledger, F: Ledger, S: Ledger, G: Ledger>(
     }
 }
 
-/// How many seats there are at the plan's domain: one for each client that is served at a time, and
-/// one for each worker at least.
+/// How many seats there are at the plan's domain: one for each worker, and where clients don't take
+/// turns one for each client that is served at a time.
 pub fn seat_count(plan: &Plan<'_>) -> u64
     ensures is { result ≡ seat_count plan.now }
     ensures enough { plan.now.workers ≤ result }
     ensures most { result ≤ MAX_CLIENTS }
 {
-    clients_of(plan).max(plan.workers)
+    if plan.turns {
+        plan.workers
+    } else {
+        clients_of(plan).max(plan.workers)
+    }
 }
 
 /// How many clients are served at a time.

@@ -11,8 +11,11 @@ const LIMITS: &str = "/proc/self/limits";
 /// What the limit of descriptors is called there.
 const DESCRIPTORS: &str = "Max open files";
 
-/// Tells where fewer descriptors are allowed than so many sessions at a time want, with a sink for
-/// each of so many workers.
+/// How many descriptors a worker has: its sink, what its thread waits by, and what wakes it.
+const OF_A_WORKER: u64 = 3;
+
+/// Tells where fewer descriptors are allowed than so many sessions at a time want, served by so
+/// many workers.
 pub fn look_at_limit<R: AllocGlobal + Files<File = File>, N: Log>(
     rt: &R,
     notices: &N,
@@ -20,7 +23,7 @@ pub fn look_at_limit<R: AllocGlobal + Files<File = File>, N: Log>(
     workers: u64,
 ) {
     let wanted = clients
-        .saturating_add(workers)
+        .saturating_add(workers.saturating_mul(OF_A_WORKER))
         .saturating_add(DAEMON_DESCRIPTORS);
     if let Some(allowed) = allowed(rt)
         && allowed < wanted

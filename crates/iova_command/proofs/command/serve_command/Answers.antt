@@ -25,4 +25,5 @@ returns c =
     let regions = with_one _ _ _ c.with_arg-command-16.result c.optional_path-2.result reserved c.optional_path-2.ensures.rule c.optional_path-2.ensures.local c.with_arg-command-16.ensures in
     let timeout = with_one _ _ _ c.with_arg-command-17.result c.optional_number-11.result regions c.optional_number-11.ensures.rule c.optional_number-11.ensures.local c.with_arg-command-17.ensures in
     let level = with_one _ _ _ c.with_arg-command-18.result c.optional_path-3.result timeout c.optional_path-3.ensures.rule c.optional_path-3.ensures.local c.with_arg-command-18.ensures in
-    with_one _ _ _ c.with_arg.result c.optional_path-4.result level c.optional_path-4.ensures.rule c.optional_path-4.ensures.local c.with_arg.ensures
+    let control = with_one _ _ _ c.with_arg-command-19.result c.optional_path-4.result level c.optional_path-4.ensures.rule c.optional_path-4.ensures.local c.with_arg-command-19.ensures in
+    with_one _ _ _ c.with_arg.result c.flag-2.result control c.flag-2.ensures.rule c.flag-2.ensures.local c.with_arg.ensures

@@ -23,4 +23,5 @@ returns c = record {
   sink_timeout = c.in_ok-optional-6.ensures.read;
   log_level = c.in_ok-level.ensures;
   control = optional_text_read (found_of c.args.found.now) _ c.get_str-5.result c.get_str-5.ensures;
+  turns = flag_read (found_of c.args.found.now) _ c.get_flag-2.result c.get_flag-2.ensures.value c.get_flag-2.ensures.other;
 }

@@ -1,0 +1,5 @@
+use Rattle.std.proofs.Common.{◌≡◌}
+use Rattle.iova_daemon.proofs.event_loop.end_all.Given as goal
+
+abbrev pub invariant-ending : goal.invariant-ending
+invariant-ending g l = l.bench.post.seat.worker ≡ l.initial.bench.post.seat.worker

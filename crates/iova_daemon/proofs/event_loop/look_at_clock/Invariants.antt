@@ -1,0 +1,5 @@
+use Rattle.std.proofs.Common.{◌≡◌}
+use Rattle.iova_daemon.proofs.event_loop.look_at_clock.Given as goal
+
+abbrev pub invariant-looking : goal.invariant-looking
+invariant-looking g l = l.bench.post.seat.worker ≡ l.initial.bench.post.seat.worker

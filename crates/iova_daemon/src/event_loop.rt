@@ -1,0 +1,506 @@
+//! A worker's thread that serves many sessions, which take turns: it waits for all of them at once.
+ghost use Rattle.std.specs.Prelude.{◌≡◌};
+
+use crate::admission::{Admission, Admitted};
+use crate::aside::{Aside, Look};
+use crate::door::Door;
+use crate::guests::{Came, Guest, Hall, PIECE};
+use crate::noting::{NotingSink, note_end};
+use crate::queued_link::{Found, QueuedLink};
+use crate::threads::Work;
+use crate::turns::Turns;
+use crate::worker::{Lent, go_aside, tell, try_again};
+use iova_keep::keep::Keep;
+use iova_range::limits::{MAX_WAITING, RETRY_PAUSE};
+use iova_session::end::End;
+use iova_session::paused::{PausedSession, RunRoom, depart, resume};
+use iova_session::post::{Post, make_room};
+use iova_sink::sink::Sink;
+use log::{Log, error};
+use mio::{Events, Poll};
+use std::alloc::Global;
+use std::io;
+use std::os::unix::net::UnixStream;
+use std::rt::Clock;
+use std::sync::Wait;
+use std::sync::ledger::Ledger;
+use std::time::Duration;
+
+/// What a worker's thread has beside its post: its sink, what it waits by, and room for a run. Each
+/// is a parameter, so that one short law says that all of it may go to the thread where each may.
+#[derive(Drop)]
+pub(crate) struct Gear<D, W, E, M> {
+    pub sink: D,
+    pub poll: W,
+    pub events: E,
+    pub room: M,
+}
+
+/// Where the sessions of a worker take turns.
+#[derive(Drop)]
+struct Bench<C: Ledger, F: Ledger, S: Ledger, G: Ledger, K, D> {
+    keeper: K,
+    post: Post<C, F, S, G>,
+    sink: D,
+    room: RunRoom,
+}
+
+impl<'e, R, N, C, F, S, G, K, O, D, X> Work<Post<C, F, S, G>, Gear<D, Poll, Events, RunRoom>, ()>
+    for Lent<&'e R, &'e N, K, &'e O, &'e Turns, &'e Admission, &'e X>
+where
+    R: Wait + Clock,
+    N: Log,
+    C: Ledger,
+    F: Ledger,
+    S: Ledger,
+    G: Ledger,
+    K: Keep<C, F, S, G> + Look + Copy,
+    O: Door,
+    D: Sink + Drop,
+    X: Aside,
+{
+    /// Waits at the gate, and then serves sessions in turns until none is to come.
+    fn work(
+        &self,
+        place: Post<C, F, S, G>,
+        sink: Gear<D, Poll, Events, RunRoom>,
+    ) -> Post<C, F, S, G> {
+        let Gear {
+            sink,
+            poll,
+            events,
+            room,
+        } = sink;
+        let mut bench = Bench {
+            keeper: self.keeper,
+            post: place,
+            sink: NotingSink::new(sink, self.notices),
+            room,
+        };
+        let mut hall = Hall::new(self.alloc, poll, events, bench.post.seat.worker());
+        if *self.turns.gate.lock(self.rt) {
+            let slot = self.turns.begin();
+            let mut told = 0;
+            let mut piece = [0; PIECE];
+            'turns: for _ in self.rt.forever() {
+                let is_over = go_round(self, &mut hall, &mut bench, &mut piece);
+                told = tell(self.rt, self.turns, slot, told, &bench.post.waiting);
+                if is_over {
+                    break 'turns;
+                }
+            }
+        }
+        drop(hall);
+        self.turns.end();
+        let Bench {
+            keeper: _,
+            post,
+            sink: _,
+            room: _,
+        } = bench;
+        post
+    }
+
+    fn take_room(&self, _places: usize) -> bool {
+        true
+    }
+
+    fn cannot_start(&self, worker: u64, error: &io::Error) {
+        error!(self.notices; target: "", "thread {worker}: {error}");
+    }
+
+    fn is_wanted_aside(&self) -> bool {
+        self.aside.is_wanted()
+    }
+
+    fn go_aside(&self) {
+        go_aside(self.rt, self.turns, self.aside, &self.keeper);
+    }
+
+    fn cannot_go_aside(&self, error: &io::Error) {
+        error!(self.notices; target: "", "thread aside: {error}");
+    }
+}
+
+/// Waits for events, gives each session that has something to do one turn, and does what is due by
+/// the clock. Whether all is over.
+fn go_round<R, N, C, F, S, G, K, O, D, X>(
+    lent: &Lent<&R, &N, K, &O, &Turns, &Admission, &X>,
+    hall: &mut Hall,
+    bench: &mut Bench<C, F, S, G, K, D>,
+    piece: &mut [u8],
+) -> bool
+where
+    R: Wait + Clock,
+    N: Log,
+    C: Ledger,
+    F: Ledger,
+    S: Ledger,
+    G: Ledger,
+    K: Keep<C, F, S, G>,
+    O: Door,
+    D: Sink,
+    ensures { bench.new.post.seat.worker ≡ bench.old.post.seat.worker }
+{
+    hall.wait(lent.accept.patience().turn, !bench.post.waiting.is_empty());
+    if lent.accept.is_shut() {
+        end_all(lent, hall, bench);
+    }
+    admit_all(lent, hall, bench);
+    'serving: for at in 0..hall.ready_count() {
+        turn(lent, hall, bench, at, piece);
+    }
+    hall.end_round();
+    look_at_clock(lent, hall, bench);
+    let is_over = hall.is_over();
+    if is_over {
+        try_again(
+            lent.turns,
+            &mut bench.keeper,
+            &mut bench.post,
+            &mut bench.sink,
+        );
+    }
+    is_over
+}
+
+/// Accepts links for the worker, as long as it is the one that is to have the next.
+fn admit_all<R, N, C, F, S, G, K, O, D, X>(
+    lent: &Lent<&R, &N, K, &O, &Turns, &Admission, &X>,
+    hall: &mut Hall,
+    bench: &mut Bench<C, F, S, G, K, D>,
+)
+where
+    R: Wait + Clock,
+    N: Log,
+    C: Ledger,
+    F: Ledger,
+    S: Ledger,
+    G: Ledger,
+    K: Keep<C, F, S, G>,
+    O: Door,
+    ensures { bench.new.post.seat.worker ≡ bench.old.post.seat.worker }
+{
+    if !hall.is_called || hall.is_closed {
+        return;
+    }
+    hall.is_called = false;
+    let (rt, turns, admission) = (lent.rt, lent.turns, lent.admission);
+    'admitting: for _ in 0..MAX_WAITING {
+        match admission.admit(rt, turns, lent.accept, hall.worker) {
+            Admitted::Stream(stream, session) => {
+                turns.begin_session(hall.worker);
+                if let Err(end) = seat(lent.alloc, turns, hall, bench, stream, session) {
+                    leave(lent, hall, session, end);
+                }
+            }
+            Admitted::Nothing => return,
+            Admitted::Failed(error) => {
+                let pause = lent.accept.note_failed(&error);
+                if let Ok(now) = rt.monotonic() {
+                    hall.failed = Some((now, pause));
+                }
+                return;
+            }
+            Admitted::End => {
+                hall.is_closed = true;
+                return;
+            }
+        }
+    }
+    hall.is_called = true;
+}
+
+/// Begins a session of this number over a connection. Refused by the end that it has come to.
+fn seat<C: Ledger, F: Ledger, S: Ledger, G: Ledger, K: Keep<C, F, S, G>, D>(
+    alloc: Global,
+    turns: &Turns,
+    hall: &mut Hall,
+    bench: &mut Bench<C, F, S, G, K, D>,
+    stream: UnixStream,
+    session: u64,
+) -> Result<(), End>
+    ensures { bench.new.post.seat.worker ≡ bench.old.post.seat.worker }
+{
+    if !make_room(&mut bench.post, hall.guests.len().saturating_add(1)) {
+        return Err(End::NoMemory);
+    }
+    let Ok(link) = QueuedLink::new(alloc, stream) else {
+        return Err(End::LinkFault);
+    };
+    let paused = PausedSession::new(bench.keeper.number(), turns.limits());
+    if hall.seat(link, paused, session) {
+        Ok(())
+    } else {
+        Err(End::NoMemory)
+    }
+}
+
+/// A session of this number has ended, and its link is closed.
+fn leave<R: Wait, N: Log, K, O, X>(
+    lent: &Lent<&R, &N, K, &O, &Turns, &Admission, &X>,
+    hall: &mut Hall,
+    session: u64,
+    end: End,
+) {
+    lent.turns.end_session(hall.worker);
+    if lent.admission.leave(lent.rt, lent.turns, hall.worker) {
+        hall.is_called = true;
+    }
+    note_end(lent.notices, session, end);
+}
+
+/// Gives the session that is ready at this place its turn.
+fn turn<R, N, C, F, S, G, K, O, D, X>(
+    lent: &Lent<&R, &N, K, &O, &Turns, &Admission, &X>,
+    hall: &mut Hall,
+    bench: &mut Bench<C, F, S, G, K, D>,
+    at: usize,
+    piece: &mut [u8],
+)
+where
+    R: Wait,
+    N: Log,
+    C: Ledger,
+    F: Ledger,
+    S: Ledger,
+    G: Ledger,
+    K: Keep<C, F, S, G>,
+    O: Door,
+    D: Sink,
+    ensures { bench.new.post.seat.worker ≡ bench.old.post.seat.worker }
+{
+    let Some(key) = hall.ready_at(at) else {
+        return;
+    };
+    let Some(guest) = hall.guest(key) else {
+        return;
+    };
+    match go_on(lent.accept, guest, piece, bench) {
+        Came::Nothing => hall.go_on(key, false),
+        Came::More => hall.go_on(key, true),
+        Came::End(end) => end_session(lent, hall, bench, key, end),
+    }
+}
+
+/// Sends what waits to be sent, and takes the next piece of the session's stream.
+fn go_on<C: Ledger, F: Ledger, S: Ledger, G: Ledger, K: Keep<C, F, S, G>, O: Door, D: Sink>(
+    door: &O,
+    guest: &mut Guest,
+    room: &mut [u8],
+    bench: &mut Bench<C, F, S, G, K, D>,
+) -> Came
+    ensures { bench.new.post.seat.worker ≡ bench.old.post.seat.worker }
+{
+    if guest.link.is_behind() {
+        if !guest.link.send_on() {
+            return Came::End(End::LinkFault);
+        }
+        guest.idle = 0;
+        if guest.link.is_behind() {
+            return Came::Nothing;
+        }
+    }
+    if let Some(end) = guest.end {
+        return Came::End(end);
+    }
+    match guest.link.look(room) {
+        Found::Nothing => Came::Nothing,
+        Found::End => Came::End(End::Closed),
+        Found::Fault => Came::End(End::LinkFault),
+        Found::Bytes(n) => {
+            guest.idle = 0;
+            match room.get(..n) {
+                Some(piece) => take(door, guest, piece, bench, n == room.len()),
+                None => Came::End(End::LinkFault),
+            }
+        }
+    }
+}
+
+/// Takes a piece of the session's stream, behind which there may be more.
+fn take<C: Ledger, F: Ledger, S: Ledger, G: Ledger, K: Keep<C, F, S, G>, O: Door, D: Sink>(
+    door: &O,
+    guest: &mut Guest,
+    piece: &[u8],
+    bench: &mut Bench<C, F, S, G, K, D>,
+    has_more: bool,
+) -> Came
+    ensures { bench.new.post.seat.worker ≡ bench.old.post.seat.worker }
+{
+    door.count(piece);
+    // every session here was begun with the number of the one domain that is served
+    if guest.paused.number() != bench.keeper.number() {
+        return Came::End(End::LinkFault);
+    }
+    let end = resume(
+        &mut guest.paused,
+        piece,
+        &mut guest.link,
+        &mut bench.keeper,
+        &mut bench.post,
+        &mut bench.sink,
+        &mut bench.room,
+    );
+    match end {
+        Some(end) => Came::End(end),
+        None if (has_more || guest.is_closing) && !guest.link.is_behind() => Came::More,
+        None => Came::Nothing,
+    }
+}
+
+/// Ends the client of the session at this key, and then the session, once what its link has to send
+/// is sent. What can't be done yet is tried again.
+fn end_session<R, N, C, F, S, G, K, O, D, X>(
+    lent: &Lent<&R, &N, K, &O, &Turns, &Admission, &X>,
+    hall: &mut Hall,
+    bench: &mut Bench<C, F, S, G, K, D>,
+    key: usize,
+    end: End,
+)
+where
+    R: Wait,
+    N: Log,
+    C: Ledger,
+    F: Ledger,
+    S: Ledger,
+    G: Ledger,
+    K: Keep<C, F, S, G>,
+    O: Door,
+    D: Sink,
+    ensures { bench.new.post.seat.worker ≡ bench.old.post.seat.worker }
+{
+    let Some(guest) = hall.guests.get_mut(key) else {
+        return;
+    };
+    guest.end = Some(end);
+    if !guest.is_gone {
+        let gone = depart(
+            &guest.paused,
+            &mut bench.keeper,
+            &mut bench.post,
+            &mut bench.sink,
+        );
+        guest.is_gone = gone.is_some();
+    }
+    if !guest.is_gone {
+        hall.is_owed = true;
+        return;
+    }
+    let lingers = guest.link.is_behind() && end != End::LinkFault && !lent.accept.is_shut();
+    if lingers {
+        hall.go_on(key, false);
+    } else if let Some(guest) = hall.guests.try_remove(key) {
+        let session = guest.session;
+        // so there are never more connections than sessions
+        drop(guest);
+        leave(lent, hall, session, end);
+    }
+}
+
+/// Ends all sessions: the daemon stops.
+fn end_all<R, N, C, F, S, G, K, O, D, X>(
+    lent: &Lent<&R, &N, K, &O, &Turns, &Admission, &X>,
+    hall: &mut Hall,
+    bench: &mut Bench<C, F, S, G, K, D>,
+)
+where
+    R: Wait,
+    N: Log,
+    C: Ledger,
+    F: Ledger,
+    S: Ledger,
+    G: Ledger,
+    K: Keep<C, F, S, G>,
+    O: Door,
+    D: Sink,
+    ensures { bench.new.post.seat.worker ≡ bench.old.post.seat.worker }
+{
+    lent.accept.shut();
+    lent.admission.end(lent.rt);
+    hall.is_closed = true;
+    'ending: for key in 0..hall.guests.capacity() {
+        end_session(lent, hall, bench, key, End::Closed);
+    }
+}
+
+/// Does what is due by the clock: looks for sessions that are idle, tries waiting clients again,
+/// and accepts again after a failure.
+fn look_at_clock<R, N, C, F, S, G, K, O, D, X>(
+    lent: &Lent<&R, &N, K, &O, &Turns, &Admission, &X>,
+    hall: &mut Hall,
+    bench: &mut Bench<C, F, S, G, K, D>,
+)
+where
+    R: Wait + Clock,
+    N: Log,
+    C: Ledger,
+    F: Ledger,
+    S: Ledger,
+    G: Ledger,
+    K: Keep<C, F, S, G>,
+    O: Door,
+    D: Sink,
+    ensures { bench.new.post.seat.worker ≡ bench.old.post.seat.worker }
+{
+    let patience = lent.accept.patience();
+    let is_waited = !bench.post.waiting.is_empty() || hall.is_owed;
+    if patience.turn.is_none() && !is_waited && hall.failed.is_none() {
+        return;
+    }
+    let Ok(now) = lent.rt.monotonic() else {
+        return;
+    };
+    if let Some((since, pause)) = hall.failed
+        && now.saturating_sub(since) >= pause
+    {
+        hall.failed = None;
+        hall.is_called = true;
+    }
+    if is_waited && now.saturating_sub(hall.tried) >= Duration::from_millis(RETRY_PAUSE) {
+        hall.tried = now;
+        try_again(
+            lent.turns,
+            &mut bench.keeper,
+            &mut bench.post,
+            &mut bench.sink,
+        );
+        end_owed(lent, hall, bench);
+    }
+    if let Some(turn) = patience.turn
+        && now.saturating_sub(hall.looked) >= turn
+    {
+        hall.looked = now;
+        'looking: for key in 0..hall.guests.capacity() {
+            if hall.is_idle(key, patience.turns) {
+                end_session(lent, hall, bench, key, End::LinkFault);
+            }
+        }
+    }
+}
+
+/// Tries the clients again whose end couldn't be tried.
+fn end_owed<R, N, C, F, S, G, K, O, D, X>(
+    lent: &Lent<&R, &N, K, &O, &Turns, &Admission, &X>,
+    hall: &mut Hall,
+    bench: &mut Bench<C, F, S, G, K, D>,
+)
+where
+    R: Wait,
+    N: Log,
+    C: Ledger,
+    F: Ledger,
+    S: Ledger,
+    G: Ledger,
+    K: Keep<C, F, S, G>,
+    O: Door,
+    D: Sink,
+    ensures { bench.new.post.seat.worker ≡ bench.old.post.seat.worker }
+{
+    hall.is_owed = false;
+    'owing: for key in 0..hall.guests.capacity() {
+        if let Some(end) = hall.owed_at(key) {
+            end_session(lent, hall, bench, key, end);
+        }
+    }
+}

@@ -1,0 +1,272 @@
+//! The sessions that take turns on a worker's thread, and what it waits for them by.
+use crate::queued_link::QueuedLink;
+use iova_range::limits::RETRY_PAUSE;
+use iova_session::end::End;
+use iova_session::paused::PausedSession;
+use mio::unix::SourceFd;
+use mio::{Events, Interest, Poll, Registry, Token};
+use slab::Slab;
+use std::alloc::Global;
+use std::mem;
+use std::time::Duration;
+
+/// How many events one wait gives at most.
+pub(crate) const EVENTS: usize = 128;
+
+/// How many bytes a turn takes at most, some 20 requests: a session that always has more doesn't
+/// hold the others up for long.
+pub(crate) const PIECE: usize = 512;
+
+/// What the listener is called among the events.
+pub(crate) const LISTENER: Token = Token(0);
+
+/// What a wake is called among the events.
+pub(crate) const WAKE: Token = Token(1);
+
+/// A session is called by its key, and so much more.
+const FIRST: usize = 2;
+
+/// What a turn came to.
+#[derive(Clone, Copy)]
+pub(crate) enum Came {
+    /// The session waits.
+    Nothing,
+    /// There may be more.
+    More,
+    /// The session has ended.
+    End(End),
+}
+
+/// A session that takes turns with others.
+#[derive(Drop)]
+pub(crate) struct Guest {
+    pub link: QueuedLink,
+    pub paused: PausedSession,
+    /// Its number.
+    pub session: u64,
+    /// Why it has ended, once it has.
+    pub end: Option<End>,
+    /// Whether its client's end was tried since.
+    pub is_gone: bool,
+    /// For so many turns of patience nothing came and nothing was sent.
+    pub idle: u64,
+    /// Whether its peer sends no more: what has come is to be read up to the end.
+    pub is_closing: bool,
+    /// Whether it is on the list of those that are ready.
+    is_ready: bool,
+    /// Whether its link is watched for room in place of bytes.
+    is_watched_for_room: bool,
+}
+
+/// The sessions of a worker, which of them are ready for a turn, and the times of what is due.
+#[derive(Drop)]
+pub(crate) struct Hall {
+    pub guests: Slab<Guest>,
+    pub worker: u64,
+    /// Somebody may stand at the listener, or no session is to come.
+    pub is_called: bool,
+    /// No session is to come.
+    pub is_closed: bool,
+    /// The client of a session that has ended is still to be ended.
+    pub is_owed: bool,
+    /// When an accept failed, and how long the next one is put off.
+    pub failed: Option<(Duration, Duration)>,
+    /// When idle sessions were looked at, and when waiting clients were tried.
+    pub looked: Duration,
+    pub tried: Duration,
+    poll: Poll,
+    events: Events,
+    ready: Vec<usize>,
+    later: Vec<usize>,
+}
+
+impl Hall {
+    /// No session. The listener is looked at first.
+    pub(crate) fn new(alloc: Global, poll: Poll, events: Events, worker: u64) -> Hall {
+        Hall {
+            guests: Slab::new(alloc),
+            worker,
+            is_called: true,
+            is_closed: false,
+            is_owed: false,
+            failed: None,
+            looked: Duration::ZERO,
+            tried: Duration::ZERO,
+            poll,
+            events,
+            ready: Vec::new(alloc),
+            later: Vec::new(alloc),
+        }
+    }
+
+    /// Whether no session is served, and none is to come.
+    pub(crate) fn is_over(&self) -> bool {
+        self.is_closed && self.guests.is_empty()
+    }
+
+    /// Waits until a session or the listener has something, no longer than this; not at all while a
+    /// session is ready for a turn.
+    pub(crate) fn wait(&mut self, turn: Option<Duration>, is_waited: bool) {
+        let limit = self.limit(turn, is_waited);
+        // a wait that fails has found nothing
+        let _ = self.poll.poll(&mut self.events, limit);
+        if mark(&self.events, &mut self.guests, &mut self.ready) {
+            self.is_called = true;
+        }
+    }
+
+    /// How long may be waited.
+    fn limit(&self, turn: Option<Duration>, is_waited: bool) -> Option<Duration> {
+        if !self.ready.is_empty() || self.is_called {
+            return Some(Duration::ZERO);
+        }
+        let mut limit = turn;
+        if is_waited || self.is_owed {
+            limit = shorter(limit, Duration::from_millis(RETRY_PAUSE));
+        }
+        if let Some((_, pause)) = self.failed {
+            limit = shorter(limit, pause);
+        }
+        limit
+    }
+
+    /// How many sessions are ready.
+    pub(crate) fn ready_count(&self) -> usize {
+        self.ready.len()
+    }
+
+    /// The key of the session that is ready at this place.
+    pub(crate) fn ready_at(&self, at: usize) -> Option<usize> {
+        self.ready.get(at).copied()
+    }
+
+    /// The session at this key, which takes its turn.
+    pub(crate) fn guest(&mut self, key: usize) -> Option<&mut Guest> {
+        let guest = self.guests.get_mut(key)?;
+        guest.is_ready = false;
+        Some(guest)
+    }
+
+    /// All that were ready had their turns.
+    pub(crate) fn end_round(&mut self) {
+        self.ready.clear();
+        mem::swap(&mut self.ready, &mut self.later);
+    }
+
+    /// The session at this key had its turn. Whether it is ready for another one.
+    pub(crate) fn go_on(&mut self, key: usize, has_more: bool) {
+        if let Some(guest) = self.guests.get_mut(key) {
+            watch(self.poll.registry(), guest, key);
+            if has_more {
+                call(guest, key, &mut self.later);
+            }
+        }
+    }
+
+    /// A turn of patience more has gone by without anything of the session at this key. Whether there
+    /// were so many of them.
+    pub(crate) fn is_idle(&mut self, key: usize, most: u64) -> bool {
+        match self.guests.get_mut(key) {
+            Some(guest) => {
+                guest.idle = guest.idle.saturating_add(1);
+                guest.idle >= most
+            }
+            None => false,
+        }
+    }
+
+    /// The end of the session at this key, whose client's end is to be tried still.
+    pub(crate) fn owed_at(&self, key: usize) -> Option<End> {
+        match self.guests.get(key) {
+            Some(guest) if !guest.is_gone => guest.end,
+            _ => None,
+        }
+    }
+
+    /// A session more, of this number. False where memory or the system refuses it.
+    pub(crate) fn seat(&mut self, link: QueuedLink, paused: PausedSession, session: u64) -> bool {
+        let most = self.guests.len().saturating_add(1);
+        if self.ready.try_reserve(most).is_err() || self.later.try_reserve(most).is_err() {
+            return false;
+        }
+        let descriptor = link.descriptor();
+        let guest = Guest {
+            link,
+            paused,
+            session,
+            end: None,
+            is_gone: false,
+            idle: 0,
+            is_closing: false,
+            is_ready: false,
+            is_watched_for_room: false,
+        };
+        let Ok(key) = self.guests.insert(guest) else {
+            return false;
+        };
+        let token = Token(key.saturating_add(FIRST));
+        let registered = self
+            .poll
+            .registry()
+            .register(&mut SourceFd(&descriptor), token, Interest::READABLE);
+        if registered.is_err() {
+            let _ = self.guests.try_remove(key);
+        }
+        registered.is_ok()
+    }
+}
+
+/// Puts the sessions that something came for on the list of those that are ready. Whether there was
+/// anything else.
+fn mark(events: &Events, guests: &mut Slab<Guest>, ready: &mut Vec<usize>) -> bool {
+    let mut is_called = false;
+    for event in events.iter() {
+        match event.token().0.checked_sub(FIRST) {
+            Some(key) => if let Some(guest) = guests.get_mut(key) {
+                // told once, with what came before it
+                if event.is_read_closed() {
+                    guest.is_closing = true;
+                }
+                call(guest, key, ready);
+            },
+            None => is_called = true,
+        }
+    }
+    is_called
+}
+
+/// Puts the session at this key on the list, which has room for it, where it isn't there.
+fn call(guest: &mut Guest, key: usize, list: &mut Vec<usize>) {
+    if !guest.is_ready && list.push(key).is_ok() {
+        guest.is_ready = true;
+    }
+}
+
+/// Watches the session's link for what it needs next: room while bytes wait to be sent, else bytes.
+fn watch(registry: &Registry, guest: &mut Guest, key: usize) {
+    let is_behind = guest.link.is_behind();
+    if is_behind == guest.is_watched_for_room {
+        return;
+    }
+    let interest = if is_behind {
+        Interest::WRITABLE
+    } else {
+        Interest::READABLE
+    };
+    let token = Token(key.saturating_add(FIRST));
+    let descriptor = guest.link.descriptor();
+    if registry
+        .reregister(&mut SourceFd(&descriptor), token, interest)
+        .is_ok()
+    {
+        guest.is_watched_for_room = is_behind;
+    }
+}
+
+/// The shorter of two times; none is without an end.
+fn shorter(limit: Option<Duration>, time: Duration) -> Option<Duration> {
+    match limit {
+        Some(limit) => Some(limit.min(time)),
+        None => Some(time),
+    }
+}
