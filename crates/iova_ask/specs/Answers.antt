@@ -1,4 +1,4 @@
--- The answers to lines, and how many lines each has. Own.
+-- The answers to lines, and how many lines each has.
 use Rattle.std.specs.Prelude.{ℕ, ◌≡◌, ◌≢◌, ◌<◌, ◌^◌, ◌⊎◌, List, ◌∷◌, ◌++◌, length, flat_map, decimal, codes}
 use Rattle.std.specs.List.{AllByRecursion}
 use Rattle.iova_ask.specs.Asking.{AreLines, lines_text}

@@ -1,4 +1,4 @@
--- Lines that are sent together. Own.
+-- Lines that are sent together.
 use Rattle.std.specs.Prelude.{ℕ, ◌≡◌, ◌≤◌, ◌+◌, ◌⊎◌, Bool, true, false, List, [], ◌++◌, length, take, Option, Result, Ok, Err, MatchBool}
 use Rattle.std.specs.Io.KnownBytes.{Appends}
 use Rattle.iova_range.specs.declared.limits.TheConstants.{MAX_RUN}

@@ -1,7 +1,7 @@
 //! Why asking ends early.
 use thiserror::Error;
 
-/// Why asking ended early. Own.
+/// Why asking ended early.
 #[derive(Clone, Copy, Debug, PartialEq, Eq, Error)]
 pub enum AskFault {
     /// The input can't be read, has a line of more than 128 bytes, or takes more than 134,217,728

@@ -32,7 +32,7 @@ use std::io::{Read, Write};
 /// Refused by `Read` where a read of the input fails, an interruption too, after 134,217,728 reads,
 /// and for a line of more than 128 bytes with its LF, which isn't sent; by `Write` where a write or
 /// a flush of the answers fails; by `Link` where the link fails, has a line of an answer of more
-/// than 128 bytes, or ends before an answer is whole; by `NoMemory`. Own.
+/// than 128 bytes, or ends before an answer is whole; by `NoMemory`.
 pub fn ask_lines<R: Read, W: Write, L: Link>(
     alloc: Global,
     reader: &mut R,

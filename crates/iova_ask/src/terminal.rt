@@ -19,7 +19,7 @@ const PROMPT: &[u8] = b"> ";
 /// Asks the lines that are typed on standard input over the link, and shows their answers, as
 /// `ask_lines` does; with a prompt before each line, and behind a refusal what it means. Gives the
 /// number of lines sent. Refused as `ask_lines` is; a prompt that can't be written counts as a read
-/// that fails. Own.
+/// that fails.
 pub fn ask_by_hand<R: Runtime + AllocGlobal, L: Link>(rt: &R, link: &mut L) -> Result<u64, AskFault>
     ensures { (typed : List ℕ) × (left : Option (List ℕ))
         × Sends typed left (L.sent link.old) (L.sent link.new) result }

@@ -12,7 +12,8 @@ use Rattle.iova_model.specs.Clients.{Client, client_with, client_of, if_owned, h
 use Rattle.iova_model.specs.State.{State}
 use Rattle.iova_model.specs.Next.{next, no_worker}
 use Rattle.iova_model.specs.Valid.{IsValid, IsClient, IsRequestSized}
-use Rattle.iova_model.specs.Laws.{QueuedWereHeld, StepsAreAnsweredInKind, IsReplyTo, unmapped_of}
+use Rattle.iova_model.specs.Effects.{IsReplyTo, unmapped_of}
+use Rattle.iova_model.specs.Laws.{QueuedWereHeld, StepsAreAnsweredInKind}
 use Rattle.iova_c.specs.Answers.{HasAddresses}
 
 -- what is found in a list is as all of the list is

@@ -348,7 +348,7 @@ bad_line source p line number log one empty bad is taken written st =
         more = [];
         whole = ap (λ (x : List ℕ). x ++ whole_line line) nothing ∙ sym (append-nil (whole_line line));
         one = one;
-        bad = bad st.lines st.text st.checked;
+        odd = bad st.lines st.text st.checked;
       });
     }
 

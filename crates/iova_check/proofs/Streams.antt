@@ -1,9 +1,8 @@
 -- One piece of a log after another.
-use Rattle.std.proofs.Common.{ℕ, ◌≡◌, ◌≤◌, inl, inr, true, false, List, [], ◌∷◌, ◌++◌, Option, None, Result, Ok, Err, length, take, drop, refl, sym, ap, ◌∙◌, subst, arith, append_assoc, append-nil, take-append-drop, length-append}
+use Rattle.std.proofs.Common.{ℕ, ◌≡◌, inl, inr, true, false, List, [], ◌∷◌, ◌++◌, Option, None, Result, Ok, Err, length, take, drop, refl, sym, ap, ◌∙◌, subst, append_assoc, append-nil, take-append-drop}
 use Rattle.std.specs.Prelude.{OnErr, OnOk}
 use Rattle.std.proofs.lemmas.Bool.{cases_Bool}
-use Rattle.std.specs.List.{list_all}
-use Rattle.std.proofs.lemmas.List.{take-append-le, take_at}
+use Rattle.std.proofs.lemmas.List.{take_at}
 use Rattle.std.proofs.KnownBytes.{Appends-trans, Appends-nil, Consumes-trans, Consumes-nil, Consumes-kept}
 use Rattle.std.specs.Io.KnownBytes.{Appends, Consumes, Keeps, IsAtEnd}
 use Rattle.iova_check.specs.declared.source.Form.{Form}
@@ -14,10 +13,11 @@ use Rattle.iova_check.specs.Logs.{Lines}
 use Rattle.iova_check.specs.declared.fault.CheckFault.{CheckFault}
 use Rattle.iova_check.specs.declared.fault.CheckFault.TheVariants as fault
 use Rattle.iova_check.specs.declared.run.Progress.{Progress}
-use Rattle.iova_text.specs.Lines.{is_not_lf, HasNoLf, whole_line, IsUnended}
+use Rattle.iova_text.specs.Lines.{HasNoLf, whole_line, IsUnended}
+use Rattle.iova_text.proofs.LineEnds.{odd_more, overlong_more}
 use Rattle.iova_text.proofs.LineEnds.{no_line}
 use Rattle.iova_check.proofs.LineSteps.{rest_one, rest_kept, no_rest}
-use Rattle.iova_check.specs.Logs.{BeginsWithLines, IsBad, first_lines_text}
+use Rattle.iova_check.specs.Logs.{BeginsWithLines, IsBad, MayFollow, first_lines_text}
 use Rattle.iova_check.specs.Runs.{IsUnendedIn, AreRead, BreaksOff, IsChecked, StopsInLine, TellsOfCheck, Checks}
 use Rattle.iova_check.specs.Progress.{IsKeptOf, IsRestOf, IsOpen, is_last, Stands, Goes, EndsCheck, Stops, Outcome, TakesBytes, Closes}
 
@@ -42,21 +42,9 @@ BeginsWithLines-more source taken more rest lines b = record {
   whole = ap (λ (x : List ℕ). x ++ more) b.whole ∙ append_assoc (first_lines_text lines) rest more;
 }
 
-take_front : (n : ℕ) (rest more : List ℕ) → n ≤ length rest → take n (rest ++ more) ≡ take n rest
-take_front n rest more le = take-append-le n rest more le
-
 IsBad-more : (lines : Option Lines) (rest more : List ℕ) → IsBad lines rest → IsBad lines (rest ++ more)
-IsBad-more lines rest more (inl b) = inl (record {
-  line = b.line;
-  more = b.more ++ more;
-  whole = ap (λ (x : List ℕ). x ++ more) b.whole ∙ append_assoc (b.line ++ 10 ∷ []) b.more more;
-  one = b.one;
-  bad = b.bad;
-})
-IsBad-more lines rest more (inr b) = inr (record {
-  one = ap (list_all is_not_lf) (take_front 128 rest more b.long) ∙ b.one;
-  long = omega (arith, length-append rest more, b.long);
-})
+IsBad-more lines rest more (inl other) = inl (odd_more (λ line. ¬ MayFollow lines line) rest more other)
+IsBad-more lines rest more (inr long) = inr (overlong_more rest more long)
 
 -- what is not read any more changes nothing
 EndsCheck-more : (source : Source) → (taken more written : List ℕ) (e : CheckFault) → EndsCheck source taken written e → EndsCheck source (taken ++ more) written e

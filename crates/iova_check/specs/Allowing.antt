@@ -1,4 +1,4 @@
--- What is known of the frames that may be mapped. Own.
+-- What is known of the frames that may be mapped.
 use Rattle.std.specs.Prelude.{ℕ, ◌≡◌, ◌-◌, ◌<◌, ◌^◌, [], ◌∷◌, ◌++◌}
 use Rattle.iova_range.specs.Frames.{Frames}
 use Rattle.iova_check.specs.declared.allowed.Allowed.{Allowed}

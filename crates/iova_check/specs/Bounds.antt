@@ -1,4 +1,4 @@
--- The frames that may be mapped. Own.
+-- The frames that may be mapped.
 use Rattle.std.specs.Prelude.{ℕ, List, unwrap_or}
 use Rattle.iova_range.specs.Frames.{Frames}
 use Rattle.iova_check.specs.declared.allowed.Asked.{Asked}

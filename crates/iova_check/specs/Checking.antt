@@ -1,4 +1,4 @@
--- What a checker knows, and what it has told. Own.
+-- What a checker knows, and what it has told.
 use Rattle.std.specs.Prelude.{ℕ, ◌≡◌, List, ◌∷◌, ◌++◌}
 use Rattle.iova_check.specs.declared.event.Event.{Event}
 use Rattle.iova_check.specs.Bounds.{Bounds}

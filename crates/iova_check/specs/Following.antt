@@ -1,4 +1,4 @@
--- What a tracker knows after some lines. Own.
+-- What a tracker knows after some lines.
 use Rattle.std.specs.Prelude.{ℕ, ◌≡◌, ◌-◌, ◌≤◌, ◌^◌, List}
 use Rattle.std.specs.Ordering.{nat_cmp}
 use Rattle.std.specs.BTreeMap.{get}

@@ -1,8 +1,8 @@
 -- What stands in the bytes of a log or of a kernel's trace: their lines, and of a log the first bad
--- one. Own.
+-- one.
 use Rattle.std.specs.Prelude.{ℕ, ◌≡◌, ◌≢◌, ◌⊎◌, List, [], ◌∷◌, ◌++◌, Option, Some, None}
 use Rattle.std.specs.List.{AllByRecursion}
-use Rattle.iova_text.specs.Lines.{HasNoLf, whole_line, IsOverlong}
+use Rattle.iova_text.specs.Lines.{HasNoLf, whole_line, IsOverlong, BeginsOdd}
 use Rattle.iova_check.specs.declared.event.Event.{Event}
 use Rattle.iova_check.specs.declared.event.Event.TheVariants.{Other}
 use Rattle.iova_check.specs.declared.allowed.Asked.{Asked}
@@ -92,12 +92,8 @@ pub record BeginsWithLines (source : Source) (bytes : List ℕ) (lines : Option 
 -- The first bad line
 
 -- the rest begins with a line that may not stand there
-pub record IsOther (lines : Option Lines) (rest : List ℕ) : Type 0 where
-  pub line : List ℕ
-  pub more : List ℕ
-  pub whole : rest ≡ whole_line line ++ more
-  pub one : HasNoLf line
-  pub bad : ¬ MayFollow lines line
+abbrev pub IsOther : Option Lines → List ℕ → Type 0
+IsOther lines rest = BeginsOdd (λ line. ¬ MayFollow lines line) rest
 
 -- such a line, or one that is too long
 abbrev pub IsBad : Option Lines → List ℕ → Type 0

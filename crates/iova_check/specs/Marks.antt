@@ -1,4 +1,4 @@
--- Marks, and the stages that they show. Own.
+-- Marks, and the stages that they show.
 use Rattle.std.specs.Prelude.{ℕ, ◌≡◌, ◌<◌, zero, suc, Option, None, unwrap_or}
 use Rattle.std.specs.Ordering.{nat_cmp}
 use Rattle.std.specs.BTreeMap.{get}

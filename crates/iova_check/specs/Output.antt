@@ -1,4 +1,4 @@
--- The text of findings: a line for each. Own.
+-- The text of findings: a line for each.
 use Rattle.std.specs.Prelude.{ℕ, ◌≡◌, ◌+◌, List, [], ◌∷◌, ◌++◌, Option, Some, None, flat_map, codes, decimal}
 use Rattle.iova_check.specs.declared.event.Event.{Event}
 use Rattle.iova_check.specs.declared.finding.Kind.{Kind}

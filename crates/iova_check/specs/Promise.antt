@@ -1,5 +1,5 @@
 -- The promise of a log in words that need no state: lines, their order, and the frames that they
--- name. Own.
+-- name.
 use Rattle.std.specs.Prelude.{ℕ, ◌≡◌, ◌<◌, ◌↔◌, ◌⊎◌, ◌==◌, ◌&&◌, Bool, true, false, List, [], ◌∷◌, if◌then◌else◌}
 use Rattle.iova_range.specs.Frames.{covers}
 use Rattle.iova_check.specs.declared.event.Event.{Event}

@@ -1,4 +1,4 @@
--- What a check tells: of the bytes that it took, what it wrote, and what it answers. Own.
+-- What a check tells: of the bytes that it took, what it wrote, and what it answers.
 use Rattle.std.specs.Prelude.{ℕ, ◌≡◌, ◌≢◌, ◌⊎◌, Bool, nat_lt, List, [], ◌++◌, take, Option, Some, None, Result, Ok, Err}
 use Rattle.std.specs.Io.KnownBytes.{Consumes, Appends, IsAtEnd}
 use Rattle.iova_text.specs.Lines.{HasNoLf, whole_line, IsUnended}

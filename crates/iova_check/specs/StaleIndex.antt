@@ -1,4 +1,4 @@
--- Which marks tell stale. Own.
+-- Which marks tell stale.
 use Rattle.std.specs.Prelude.{ℕ, ◌≡◌, Bool, true, false, Some}
 use Rattle.std.specs.Ordering.{nat_cmp}
 use Rattle.std.specs.BTreeMap.{BTreeMap, get}

@@ -1,4 +1,4 @@
--- The text of the counts: eight lines of a name and a number. Own.
+-- The text of the counts: eight lines of a name and a number.
 use Rattle.std.specs.Prelude.{ℕ, ◌-◌, List, [], ◌∷◌, ◌++◌, length, replicate, codes, decimal}
 use Rattle.iova_check.specs.declared.checker.Checker.{Checker}
 use Rattle.iova_check.specs.declared.finding.Kind.TheVariants as kind

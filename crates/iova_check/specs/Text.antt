@@ -1,5 +1,5 @@
 -- The text of a log: a line for its header, and one for each event. All of it is ASCII, a line ends
--- by LF, and the words of a line have one space between them. Own.
+-- by LF, and the words of a line have one space between them.
 use Rattle.std.specs.Prelude.{ℕ, ◌<◌, ◌≤◌, ◌^◌, Bool, true, false, List, [], ◌∷◌, Option, Some, None, decimal, codes}
 use Rattle.iova_range.specs.Frames.{Frames}
 use Rattle.iova_range.specs.declared.limits.TheConstants.{WIDE_TOP}

@@ -11,7 +11,7 @@ use crate::stages::Stages;
 use iova_range::range::Range;
 use std::alloc::{AllocError, Global};
 
-/// What is asked of the frames that may be mapped. Our own.
+/// What is asked of the frames that may be mapped.
 #[derive(Clone, Copy)]
 pub struct Asked<'a> {
     /// The first frame that may be mapped. None: the one that the log says.

@@ -1,8 +1,7 @@
 //! What a line of a log says.
 use iova_range::range::Range;
 
-/// What a line says. Its ranges end below frame 2^64 - 1; the number of a flush is any number. Our
-/// own.
+/// What a line says. Its ranges end below frame 2^64 - 1; the number of a flush is any number.
 #[derive(Clone, Copy, Debug, PartialEq, Eq)]
 pub enum Event {
     /// The frames were mapped for a device.

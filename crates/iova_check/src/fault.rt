@@ -6,7 +6,7 @@ use iova_text::{read, write};
 use std::alloc::AllocError;
 use thiserror::Error;
 
-/// Why the bytes of a log are not checked to their end. Our own.
+/// Why the bytes of a log are not checked to their end.
 #[derive(Clone, Copy, Debug, PartialEq, Eq, Error)]
 pub enum CheckFault {
     /// The line with this number, counted from 1, is no line of a log.

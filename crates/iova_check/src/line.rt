@@ -12,7 +12,7 @@ use iova_range::limits::WIDE_TOP;
 use iova_range::range::Range;
 use iova_text::words::{first_word, next_number, three_numbers, two_numbers};
 
-/// The first word of a line that is not the header. Our own.
+/// The first word of a line that is not the header.
 #[derive(Clone, Copy, Debug, PartialEq, Eq)]
 pub enum Verb {
     /// `map <lo> <len>`.
@@ -37,7 +37,7 @@ pub struct Header {
 }
 
 /// What this line, which is without its LF, says. None exactly where it is no line of a log, or its
-/// header. Our own.
+/// header.
 pub fn read_event(line: &[u8]) -> Option<Event>
     ensures spelled { IfSome result (λ e. IsEvent e × (line.now ≡ event_text e)) }
     ensures read { (e : Event) → IsEvent e → line.now ≡ event_text e → result ≡ Some e }
@@ -51,7 +51,7 @@ pub fn read_event(line: &[u8]) -> Option<Event>
 }
 
 /// The header of this line, which is without its LF: `iovalog 1 <first> <last>`. None exactly where
-/// the line is no header's, also where the bounds are not in order, or not 1 to 2^40 - 1. Our own.
+/// the line is no header's, also where the bounds are not in order, or not 1 to 2^40 - 1.
 pub fn read_header(line: &[u8]) -> Option<Header>
     ensures spelled { IfSome result (λ h. IsHeader h.first h.last
         × (line.now ≡ header_text h.first h.last)) }

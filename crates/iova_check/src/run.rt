@@ -18,9 +18,9 @@ use crate::trace::{read_trace_line, tells_lost};
 use arrayvec::ArrayVec;
 use iova_range::limits::{MAX_LINE, MAX_TRACE_LINE, WIDE_TOP};
 use iova_text::buffer::{put, put_number};
+use iova_text::line::cut_line;
 use iova_text::read::read_some;
 use iova_text::write::write_all;
-use memchr::memchr;
 use std::alloc::{AllocError, Global};
 use std::io;
 use std::io::{Read, Write};
@@ -40,7 +40,7 @@ const NOTICE: usize = 1_051;
 /// the input ends in a line without LF or has no line; the findings of the lines before it are
 /// written. `ReadFault` where a read fails, an interruption too; the findings of all whole lines
 /// are written. `WriteFault` where a write fails or takes nothing, and `NoMemory`: some first bytes
-/// of the findings are written. Our own.
+/// of the findings are written.
 pub fn check<R: Read, W: Write>(
     alloc: Global,
     asked: &Asked<'_>,
@@ -64,7 +64,7 @@ pub fn check<R: Read, W: Write>(
 /// 1,024 bytes with its LF, and a last line needs no LF. A line that says that events were lost is
 /// told to `notices` with its number before the next one is taken; what fails there is passed over.
 ///
-/// Refused as a log is, without `BadLog`. Our own.
+/// Refused as a log is, without `BadLog`.
 pub fn check_trace<R: Read, W: Write, N: Write>(
     alloc: Global,
     asked: &Asked<'_>,
@@ -202,10 +202,9 @@ impl Progress {
         ensures written { OnOk result (self.new.findings.items ≡ []) }
     {
         let mut rest = piece;
-        while let Some(end) = memchr(b'\n', rest) {
-            let line = &rest[..end];
-            rest = &rest[end + 1..];
-            self.tell_line(line, source, writer, notices)?;
+        while let Some((end, behind)) = cut_line(rest) {
+            rest = behind;
+            self.tell_line(end, source, writer, notices)?;
         }
         let kept = self.keep_part(rest, source);
         self.write_findings(writer)?;

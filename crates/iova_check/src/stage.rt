@@ -5,7 +5,6 @@ ghost use Rattle.iova_check.specs.History.{changed};
 use iova_range::range::Range;
 
 /// Where a frame stands after some lines of a log. Lines are told by their number, counted from 1.
-/// Our own.
 #[derive(Clone, Copy, Debug, PartialEq, Eq)]
 pub enum Stage {
     /// No device can reach it.

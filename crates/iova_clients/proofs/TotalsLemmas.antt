@@ -171,6 +171,13 @@ passing_taken p m g id f c cs q after before less =
     let e' : sum_by (passing p m) (changed id f cs) + m c ≡ sum_by (passing p m) cs + m (f c) = rw (after, before) at e in
     omega arith
 
+-- one holding more, number by number
+numbers_with_one : (r : Frames) (t : Totals) → ◌≡◌ {A = Totals} (record { count = t.count + 1; frames = t.frames + r.len; sum_lo = t.sum_lo + r.lo }) (with_one r t)
+numbers_with_one r t =
+    let len : r.len ≡ sum_by (λ (x : Frames). x.len) (r ∷ []) = omega (arith, sum_by-cons (λ (x : Frames). x.len) r []) in
+    let lo : r.lo ≡ sum_by (λ (x : Frames). x.lo) (r ∷ []) = omega (arith, sum_by-cons (λ (x : Frames). x.lo) r []) in
+    same_totals _ _ _ _ _ _ refl (ap (λ n. t.frames + n) len) (ap (λ n. t.sum_lo + n) lo)
+
 pub totals_given : (p : Client → Bool) (id : ℕ) (r : Frames) (c : Client) (cs : List Client) → client_with id cs ≡ Some c
     → p (with_holding r c) ≡ true → p c ≡ true → totals_by p (changed id (with_holding r) cs) ≡ with_one r (totals_by p cs)
 totals_given p id r c cs q after before =
@@ -178,6 +185,7 @@ totals_given p id r c cs q after before =
     (passing_given p count_of 1 id (with_holding r) c cs q after before (length-insert_rising r c.holdings))
     (passing_given p frames_of r.len id (with_holding r) c cs q after before (sum_inserted (λ x. x.len) r c.holdings))
     (passing_given p sum_lo_of r.lo id (with_holding r) c cs q after before (sum_inserted (λ x. x.lo) r c.holdings))
+    ∙ numbers_with_one r (totals_by p cs)
 
 -- each of three sums has the holding that leaves
 pub record Leaves (r : Frames) (old new : Totals) : Type 0 where

@@ -10,7 +10,7 @@ use Rattle.iova_model.specs.Fit.{is_covered}
 use Rattle.iova_model.specs.Clients.{Client, begins_at}
 use Rattle.iova_model.specs.Next.{first_refusal}
 use Rattle.iova_model.specs.Valid.{AreClients}
-use Rattle.iova_clients.specs.declared.marks.Marks.{Marks}
+use Rattle.iova_clients.specs.declared.flags.ClientFlags.{ClientFlags}
 
 -- The clients, rising by serial; the last serial given; and by the serial of each client how many
 -- more holdings it can be given without memory
@@ -84,8 +84,8 @@ pub record IsPlaceOf (lo : ℕ) (holdings : List Frames) (place : ℕ) : Type 0 
   pub begins : (d : Frames) → (slice_index_or holdings place d).lo ≡ lo
 
 -- what a step asks of a client before it looks at a holding
-abbrev pub marks_of : Client → Marks
-marks_of c = record { sac = c.sac; closing = c.closing }
+abbrev pub flags_of : Client → ClientFlags
+flags_of c = record { sac = c.sac; closing = c.closing }
 
 -- the lowest holding
 abbrev pub lowest : Client → Option Frames

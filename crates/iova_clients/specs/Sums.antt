@@ -1,12 +1,13 @@
 -- Totals, kept as numbers.
-use Rattle.std.specs.Prelude.{ℕ, ◌+◌, ◌-◌, ◌^◌, ◌≤◌, List, slice_index_or, slice_set}
+use Rattle.std.specs.Prelude.{ℕ, ◌-◌, ◌^◌, ◌≤◌, List, [], ◌∷◌, slice_index_or, slice_set}
 use Rattle.iova_range.specs.Frames.{Frames}
 use Rattle.iova_model.specs.declared.totals.Totals.{Totals}
-use Rattle.iova_model.specs.Clients.{no_totals}
+use Rattle.iova_model.specs.Clients.{totals_of, no_totals}
+use Rattle.iova_model.specs.Effects.{add_totals}
 
 -- with one holding more, and with one less
 abbrev pub with_one : Frames → Totals → Totals
-with_one r t = record { count = t.count + 1; frames = t.frames + r.len; sum_lo = t.sum_lo + r.lo }
+with_one r t = add_totals t (totals_of (r ∷ []))
 
 abbrev pub without_one : Frames → Totals → Totals
 without_one r t =

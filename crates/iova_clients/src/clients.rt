@@ -2,11 +2,11 @@
 ghost use Rattle.std.specs.Prelude.{◌≡◌, ◌≢◌, ◌+◌, ◌-◌, ◌^◌, ◌<◌, ◌≤◌, ℕ, [], ◌∷◌, ◌++◌, find, length, option_map, option_copied, option_and_then, IfOk, OnOk, OnErr, Ok, Err, IsOkUnless, IfSome, IfNone, IsSomeAnd, All, IsTrue, ◌↔◌, false};
 ghost use Rattle.iova_model.specs.Fit.{is_covered};
 ghost use Rattle.iova_model.specs.Clients.{new_client, client_with, client_of, begins_at, changed, forgotten, with_holding, without_holding, marked, newer_client, totals, share_of};
-ghost use Rattle.iova_clients.specs.Registry.{empty_registry, spare_of, IsRegistry, open_refusal, room_refusal, CanBeGiven, held_at, lowest, count_held, marks_of, CanBeForgotten, IsHolder};
+ghost use Rattle.iova_clients.specs.Registry.{empty_registry, spare_of, IsRegistry, open_refusal, room_refusal, CanBeGiven, held_at, lowest, count_held, flags_of, CanBeForgotten, IsHolder};
 
+use crate::flags::ClientFlags;
 use crate::ledger::Ledger;
 use crate::ledgers::Ledgers;
-use crate::marks::Marks;
 use crate::sums::Sums;
 use iova_model::step::ClientId;
 use iova_model::totals::Totals;
@@ -131,15 +131,15 @@ impl Clients {
     /// The marks of the client, where it is one of this worker. Its ledger is found by what follows
     /// with no other look-up, until another client is looked up or one comes or goes.
     #[inline(always)]
-    pub fn look_up(&mut self, worker: u64, id: ClientId) -> Option<Marks>
-        ensures is { result ≡ option_map marks_of (client_of worker id self.old.clients) }
+    pub fn look_up(&mut self, worker: u64, id: ClientId) -> Option<ClientFlags>
+        ensures is { result ≡ option_map flags_of (client_of worker id self.old.clients) }
         ensures unchanged { self.new ≡ self.old }
     {
         let ledger = self.ledgers.get_mut(id)?;
         if ledger.worker() != worker {
             return None;
         }
-        Some(Marks {
+        Some(ClientFlags {
             sac: ledger.is_sac(),
             closing: ledger.is_closing(),
         })

@@ -2,10 +2,10 @@
 #![tactic(auto)]
 
 pub mod clients;
+pub mod flags;
 mod holdings;
 mod ledger;
 mod ledgers;
-pub mod marks;
 mod shifts;
 mod sums;
 

@@ -1,5 +1,4 @@
 -- The commands of the program, as `clap` reads them: names, options and what each option takes.
--- Own.
 use Rattle.std.specs.Prelude.{ℕ, ◌≡◌, ◌-◌, true, false, Some, codes}
 use Rattle.clap.specs.Words.{App, app_of, Rule, Text, new_app, new_rule, with_rule, with_subcommand}
 use Rattle.clap.specs.declared.builder.command.Command.{Command}

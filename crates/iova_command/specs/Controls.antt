@@ -1,4 +1,4 @@
--- The words of a control socket. Own.
+-- The words of a control socket.
 use Rattle.std.specs.Prelude.{◌≡◌, ◌≢◌, List, Option, Some, None, codes}
 use Rattle.clap.specs.Words.{Row, Text, first_of}
 use Rattle.iova_command.specs.declared.control_word.ControlWord.{ControlWord}

@@ -1,4 +1,4 @@
--- The level of an option. Own.
+-- The level of an option.
 use Rattle.std.specs.Prelude.{◌≡◌, ◌≢◌, Bool, true, false, List, Option, Some, None, codes}
 use Rattle.clap.specs.Words.{Row, Text, first_of}
 use Rattle.log.specs.declared.level.LevelFilter.{LevelFilter}

@@ -1,4 +1,4 @@
--- The windows that an option names. Own.
+-- The windows that an option names.
 use Rattle.std.specs.Prelude.{ℕ, ◌≡◌, ◌+◌, ◌-◌, List, [], ◌∷◌, Option, Some, None}
 use Rattle.clap.specs.Words.{Row, Text, all_of}
 use Rattle.iova_range.specs.Frames.{Frames}

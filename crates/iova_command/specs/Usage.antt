@@ -1,4 +1,4 @@
--- How words that ask for nothing end the process. Own.
+-- How words that ask for nothing end the process.
 use Rattle.std.specs.Prelude.{ℕ}
 use Rattle.clap.specs.declared.error.kind.ErrorKind.{ErrorKind}
 use Rattle.clap.specs.declared.error.kind.ErrorKind.TheVariants as kind

@@ -3,7 +3,7 @@ use crate::check_plan::CheckPlan;
 use crate::control_word::ControlWord;
 use crate::plan::Plan;
 
-/// What the words ask for. Own.
+/// What the words ask for.
 #[derive(Drop)]
 pub enum Asked<'a> {
     /// The replay of a trace.

@@ -8,7 +8,7 @@ use crate::plan::optional;
 use clap::ArgMatches;
 use iova_range::limits::{LAST_DOMAIN_ID, WIDE_TOP};
 
-/// The options of `check`, each in its range. Own.
+/// The options of `check`, each in its range.
 #[derive(Drop)]
 pub struct CheckPlan<'a> {
     /// The log's file, or `-` for standard input.

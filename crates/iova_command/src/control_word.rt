@@ -2,7 +2,7 @@
 ghost use Rattle.std.specs.Prelude.{◌≡◌, codes};
 ghost use Rattle.iova_command.specs.Controls.{IsControlOf, control_name};
 
-/// A word of a control socket. Own.
+/// A word of a control socket.
 #[derive(Clone, Copy, Debug, PartialEq, Eq)]
 pub enum ControlWord {
     /// The domain's report.

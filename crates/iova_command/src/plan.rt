@@ -18,7 +18,7 @@ use iova_regions::span::read_span;
 use iova_regions::windows::Windows;
 use log::LevelFilter;
 
-/// The options of `serve`, each in its range. Own.
+/// The options of `serve`, each in its range.
 pub struct Plan<'a> {
     /// The path of the socket.
     pub socket: &'a str,

@@ -7,7 +7,7 @@ use log::LevelFilter;
 use std::fmt;
 
 /// The words by which a plan with these windows is asked for: each number stands there that is used
-/// where it was left out, and each window is an option of its own. Own.
+/// where it was left out, and each window is an option of its own.
 #[derive(Clone, Copy)]
 pub struct PlanWords<'p, 'a> {
     plan: &'p Plan<'a>,

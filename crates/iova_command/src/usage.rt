@@ -8,7 +8,7 @@ use std::marker::Model;
 use std::{fmt, io};
 
 /// The text for whoever wrote the words: what is wrong with them and the usage, or the help that
-/// they ask for. A contract sees the status that the process ends with. Own.
+/// they ask for. A contract sees the status that the process ends with.
 #[derive(Drop)]
 pub struct Usage {
     error: Error,
@@ -45,7 +45,7 @@ impl fmt::Display for Usage {
     }
 }
 
-/// Why words ask for nothing that can be done. Own.
+/// Why words ask for nothing that can be done.
 #[derive(Drop)]
 pub enum WordsFault {
     /// They are not understood, or ask for help.

@@ -6,8 +6,8 @@ use Rattle.std.proofs.Common.{arith}
 use Rattle.iova_range.specs.declared.refusal.Refusal.{Refusal}
 use Rattle.iova_range.specs.declared.refusal.Refusal.TheVariants as refusal
 use Rattle.iova_model.specs.Clients.{Client, if_owned}
-use Rattle.iova_clients.specs.declared.marks.Marks.{Marks}
-use Rattle.iova_clients.specs.Registry.{marks_of}
+use Rattle.iova_clients.specs.declared.flags.ClientFlags.{ClientFlags}
+use Rattle.iova_clients.specs.Registry.{flags_of}
 
 -- A call that is refused where a test says so, and else only for want of memory.
 pub record Refuses {A : Type 0} (tested : Option Refusal) (result : Result A Refusal) : Type 0 where
@@ -38,14 +38,14 @@ owner_is w None e = absurd cc
 owner_is w (Some c) e = (c, record { found = refl; owned = owned_step w c (c.worker == w) refl e })
 
 -- a client that was looked up for its worker
-marks_step : (w : ℕ) (m : Marks) (c : Client) (b : Bool) → (c.worker == w) ≡ b → Some m ≡ option_map marks_of (if c.worker == w then Some c else None) → (c.worker ≡ w) × (m ≡ marks_of c)
-marks_step w m c true is e = (grind (arith, nat_tests), let f : Some m ≡ Some (marks_of c) = rw is at e in cc)
+marks_step : (w : ℕ) (m : ClientFlags) (c : Client) (b : Bool) → (c.worker == w) ≡ b → Some m ≡ option_map flags_of (if c.worker == w then Some c else None) → (c.worker ≡ w) × (m ≡ flags_of c)
+marks_step w m c true is e = (grind (arith, nat_tests), let f : Some m ≡ Some (flags_of c) = rw is at e in cc)
 marks_step w m c false is e = absurd (let f : Some m ≡ None = rw is at e in cc)
 
-pub looked_up : (w : ℕ) (o : Option Client) (m : Marks) → Some m ≡ option_map marks_of (option_and_then (if_owned w) o) → option_map (λ c. c.worker) o ≡ Some w
+pub looked_up : (w : ℕ) (o : Option Client) (m : ClientFlags) → Some m ≡ option_map flags_of (option_and_then (if_owned w) o) → option_map (λ c. c.worker) o ≡ Some w
 looked_up w None m e = absurd (let f : Some m ≡ None = e in cc)
 looked_up w (Some c) m e = ap (λ n. Some n) (marks_step w m c (c.worker == w) refl e).0
 
-pub looked_up_sac : (w : ℕ) (o : Option Client) (m : Marks) (c : Client) → Some m ≡ option_map marks_of (option_and_then (if_owned w) o) → o ≡ Some c → m.sac ≡ c.sac
+pub looked_up_sac : (w : ℕ) (o : Option Client) (m : ClientFlags) (c : Client) → Some m ≡ option_map flags_of (option_and_then (if_owned w) o) → o ≡ Some c → m.sac ≡ c.sac
 looked_up_sac w None m c e is = absurd cc
-looked_up_sac w (Some x) m c e is = let same : x ≡ c = cc in ap (λ (n : Marks). n.sac) (marks_step w m x (x.worker == w) refl e).1 ∙ ap (λ (y : Client). y.sac) same
+looked_up_sac w (Some x) m c e is = let same : x ≡ c = cc in ap (λ (n : ClientFlags). n.sac) (marks_step w m x (x.worker == w) refl e).1 ∙ ap (λ (y : Client). y.sac) same

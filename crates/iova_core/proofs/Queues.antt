@@ -10,7 +10,7 @@ use Rattle.iova_model.specs.declared.entry.Entry.{Entry}
 use Rattle.iova_model.specs.Caches.{Caches, put_all}
 use Rattle.iova_model.specs.Flushes.{entry_range, flushed, unflushed}
 use Rattle.iova_model.specs.Clients.{Client, client_with, begins_at, remove_at, changed, with_holding, without_holding}
-use Rattle.iova_model.specs.Laws.{freed_by_drain, cached_ranges}
+use Rattle.iova_model.specs.Effects.{freed_by_drain, cached_ranges}
 use Rattle.iova_model.specs.State.{State}
 use Rattle.iova_model.specs.Valid.{IsValid, IsRing, IsRequestSized, is_inside}
 use Rattle.iova_model.specs.Next.{Next, refused, ring_at, drained, queued, queue, unmap_held}

@@ -15,7 +15,8 @@ use Rattle.iova_model.specs.Flushes.{Flushes, entry_range, flushes_from}
 use Rattle.iova_model.specs.Clients.{Client, totals}
 use Rattle.iova_model.specs.State.{State, new_domain, counts, magazine_holders, depot_holders, Holder, at_place, window_holders, client_holders, cached_holders, ring_holders, owners, holders, place_in, place_of, held_ranges}
 use Rattle.iova_model.specs.Valid.{IsValid}
-use Rattle.iova_model.specs.Laws.{frames_of, PlacesAddUp}
+use Rattle.iova_model.specs.Effects.{frames_of}
+use Rattle.iova_model.specs.Laws.{PlacesAddUp}
 use Rattle.iova_model.specs.declared.place.Counts.{Counts}
 use Rattle.iova_tree.specs.Space.{Space, ranges_of}
 use Rattle.iova_flush.specs.Rings.{frame_count}

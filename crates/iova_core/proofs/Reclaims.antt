@@ -6,7 +6,7 @@ use Rattle.iova_range.specs.Frames.{Frames}
 use Rattle.iova_range.specs.Sizes.{order_of}
 use Rattle.iova_range.specs.Bounds.{Capacities, IsProfile}
 use Rattle.iova_model.specs.Caches.{Caches, of_order, put_range, freed_by_put}
-use Rattle.iova_model.specs.Laws.{cached_ranges}
+use Rattle.iova_model.specs.Effects.{cached_ranges}
 use Rattle.iova_depot.specs.Cached.{Cached, IsCached}
 use Rattle.iova_model.specs.Clients.{begins_at, remove_at}
 use Rattle.iova_tree.specs.Space.{Space, IsSpace, RiseApart}

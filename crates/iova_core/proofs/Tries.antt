@@ -6,7 +6,7 @@ use Rattle.iova_model.specs.declared.step.Point.{Point}
 use Rattle.iova_model.specs.declared.step.Point.TheVariants as point
 use Rattle.iova_model.specs.Caches.{Caches, Shelf, shelf_at, with_shelf, get, emptied}
 use Rattle.iova_model.specs.Fit.{best}
-use Rattle.iova_model.specs.Laws.{cached_ranges}
+use Rattle.iova_model.specs.Effects.{cached_ranges}
 use Rattle.iova_model.specs.Clients.{insert_rising}
 use Rattle.iova_model.specs.State.{State, held_ranges}
 use Rattle.iova_model.specs.Next as next

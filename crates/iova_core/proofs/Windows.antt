@@ -15,9 +15,9 @@ use Rattle.iova_model.specs.declared.step.Reply.{Reply}
 use Rattle.iova_model.specs.declared.step.Reply.TheVariants as reply
 use Rattle.iova_model.specs.State.{State, Holder, owners}
 use Rattle.iova_model.specs.Laws.{StepsKeepValidity}
-use Rattle.iova_model.specs.Next.{Next, refused, unless, is_at, is_taken, from_to, union, windows_with, reserve_tests, reserved, reserve}
+use Rattle.iova_model.specs.Next.{Next, refused, unless, is_at, is_taken, from_to, union, windows_with, window_tests, reserve_tests, reserved, reserve}
 use Rattle.iova_model.proofs.Unless.{unless_refused, unless_taken, unless-append}
-use Rattle.iova_tree.specs.Space.{Space, IsSpace, RiseApart, ranges_of, window_tests, reserve_refusal}
+use Rattle.iova_tree.specs.Space.{Space, IsSpace, RiseApart, ranges_of, reserve_refusal}
 use Rattle.iova_depot.specs.Cached.{Cached}
 use Rattle.iova_core.specs.Tied.{IsTied}
 use Rattle.iova_core.specs.Domain.{Parts, state_of, IsDomain}
@@ -54,26 +54,29 @@ taken_alike s inserted r tied =
 
 -- The refusals of the step are those of the tree, and memory.
 
+abbrev tree_tests : Space → ℕ → ℕ → List (Bool × Refusal)
+tree_tests t lo hi = window_tests t.bounds t.windows (list_any (meets (from_to lo hi)) t.inserted) lo hi
+
 module _ (p : Parts) (h : IsDomain p) (lo hi : ℕ) where
-  reserve_asks : (m : Point) → reserve_tests (state_of p) lo hi m ≡ window_tests p.tree lo hi ++ (is_at point.Once m, refusal.NoMemory) ∷ []
+  reserve_asks : (m : Point) → reserve_tests (state_of p) lo hi m ≡ tree_tests p.tree lo hi ++ (is_at point.Once m, refusal.NoMemory) ∷ []
   reserve_asks m =
-      ap (λ taken. (nat_lt hi lo || nat_lt lo p.tree.bounds.start || nat_lt p.tree.bounds.last hi, refusal.BadWindow) ∷ (taken, refusal.Taken) ∷ (nat_lt 64 (length (windows_with (from_to lo hi) p.tree.windows)), refusal.WindowsFull) ∷ (is_at point.Once m, refusal.NoMemory) ∷ [])
+      ap (λ taken. window_tests p.tree.bounds p.tree.windows taken lo hi ++ (is_at point.Once m, refusal.NoMemory) ∷ [])
       (taken_alike (state_of p) p.tree.inserted (from_to lo hi) h.tied)
 
-  reserve_is : (m : Point) → reserve (state_of p) lo hi m ≡ unless (window_tests p.tree lo hi) (state_of p) (unless ((is_at point.Once m, refusal.NoMemory) ∷ []) (state_of p) (reserved (state_of p) (from_to lo hi)))
+  reserve_is : (m : Point) → reserve (state_of p) lo hi m ≡ unless (tree_tests p.tree lo hi) (state_of p) (unless ((is_at point.Once m, refusal.NoMemory) ∷ []) (state_of p) (reserved (state_of p) (from_to lo hi)))
   reserve_is m =
       let n = reserved (state_of p) (from_to lo hi) in
       ap (λ tests. unless tests (state_of p) n) (reserve_asks m)
-      ∙ unless-append (window_tests p.tree lo hi) ((is_at point.Once m, refusal.NoMemory) ∷ []) (state_of p) n
+      ∙ unless-append (tree_tests p.tree lo hi) ((is_at point.Once m, refusal.NoMemory) ∷ []) (state_of p) n
 
   reserve_refused : (m : Point) (r : Refusal) → reserve_refusal p.tree lo hi ≡ Some r → reserve (state_of p) lo hi m ≡ refused r (state_of p)
-  reserve_refused m r is = reserve_is m ∙ unless_refused (window_tests p.tree lo hi) r (state_of p) _ is
+  reserve_refused m r is = reserve_is m ∙ unless_refused (tree_tests p.tree lo hi) r (state_of p) _ is
 
   reserve_no_memory : reserve_refusal p.tree lo hi ≡ None → reserve (state_of p) lo hi point.Once ≡ refused refusal.NoMemory (state_of p)
-  reserve_no_memory is = reserve_is point.Once ∙ unless_taken (window_tests p.tree lo hi) (state_of p) _ is
+  reserve_no_memory is = reserve_is point.Once ∙ unless_taken (tree_tests p.tree lo hi) (state_of p) _ is
 
   reserve_taken : reserve_refusal p.tree lo hi ≡ None → reserve (state_of p) lo hi point.Never ≡ reserved (state_of p) (from_to lo hi)
-  reserve_taken is = reserve_is point.Never ∙ unless_taken (window_tests p.tree lo hi) (state_of p) _ is
+  reserve_taken is = reserve_is point.Never ∙ unless_taken (tree_tests p.tree lo hi) (state_of p) _ is
 
   -- either refusal
   reserve_refuses : (m : Point) (r : Refusal) → (r ≡ refusal.NoMemory → m ≡ point.Once) → ((r ≡ refusal.NoMemory) × (reserve_refusal p.tree lo hi ≡ None)) ⊎ (reserve_refusal p.tree lo hi ≡ Some r) → reserve (state_of p) lo hi m ≡ refused r (state_of p)

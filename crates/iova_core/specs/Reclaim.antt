@@ -3,7 +3,7 @@ use Rattle.std.specs.Prelude.{ℕ, ◌≡◌, ◌+◌, ◌≤◌, List, sum_by}
 use Rattle.iova_range.specs.Frames.{Frames}
 use Rattle.iova_range.specs.Sizes.{order_of}
 use Rattle.iova_model.specs.Caches.{put_range, put_all}
-use Rattle.iova_model.specs.Laws.{cached_ranges}
+use Rattle.iova_model.specs.Effects.{cached_ranges}
 use Rattle.iova_tree.specs.Space.{Space, IsSpace}
 use Rattle.iova_depot.specs.Cached.{Cached, IsCached, with_contents}
 

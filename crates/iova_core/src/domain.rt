@@ -7,7 +7,7 @@ ghost use Rattle.iova_range.specs.Sizes.{need};
 ghost use Rattle.iova_model.specs.State.{new_domain, counts, ring_holders, place_in};
 ghost use Rattle.iova_model.specs.Valid.{IsValid};
 ghost use Rattle.iova_model.specs.Promises.{Runs};
-ghost use Rattle.iova_model.specs.Laws.{to_queue};
+ghost use Rattle.iova_model.specs.Effects.{to_queue};
 ghost use Rattle.iova_model.specs.Next.{next, reserve, open_client, alloc, unmap, unmap_held, begin, end, drain, close, close_one};
 ghost use Rattle.iova_core.specs.Domain.{IsStepOf, place_inside, frames_in_rings};
 
@@ -303,7 +303,7 @@ impl Domain {
         ensures state { self.new ≡ (alloc self.old worker client frames limit result.1).state }
         ensures point { result.1 ≢ Point.Never → result.0 ≡ Reply.Refused Refusal.NoMemory }
     {
-        let Some(marks) = self.clients.look_up(worker, client) else {
+        let Some(flags) = self.clients.look_up(worker, client) else {
             return refused(Refusal::NoClient);
         };
         match self.clients.room(client) {
@@ -316,7 +316,7 @@ impl Domain {
             &mut self.tree,
             &mut self.caches,
             worker as usize,
-            marks.sac,
+            flags.sac,
             size,
             limit,
         ) {
@@ -369,10 +369,10 @@ impl Domain {
         if worker >= self.workers() {
             return refused(Refusal::NoWorker);
         }
-        let Some(marks) = self.clients.look_up(worker, client) else {
+        let Some(flags) = self.clients.look_up(worker, client) else {
             return refused(Refusal::NoClient);
         };
-        if marks.closing {
+        if flags.closing {
             return refused(Refusal::Closing);
         }
         self.queue(worker, client, lo)

@@ -6,12 +6,12 @@ use Rattle.std.specs.declared.sync.ledger.Ledger.{Ghosts}
 use Rattle.iova_lock.specs.contracts.book.Book as books
 use Rattle.iova_lock.specs.contracts.shared.Shared as domains
 use Rattle.iova_daemon.specs.contracts.event_loop.Gear as gears
-use Rattle.iova_daemon.specs.contracts.worker.Lent as lents
+use Rattle.iova_daemon.specs.contracts.worker.WorkerContext as contexts
 
 -- it may be shared where all that it has may
-pub Lent-sync : (R N K A T H X : RattleType) → IsSync R → IsSync N → IsSync K → IsSync A
-    → IsSync T → IsSync H → IsSync X → IsSync (lents.the_row R N K A T H X)
-Lent-sync R N K A T H X r n k a t h x = search (crosses, sendable) depth 20
+pub WorkerContext-sync : (R N K A T H X : RattleType) → IsSync R → IsSync N → IsSync K → IsSync A
+    → IsSync T → IsSync H → IsSync X → IsSync (contexts.the_row R N K A T H X)
+WorkerContext-sync R N K A T H X r n k a t h x = search (crosses, sendable) depth 20
 
 -- a domain under its lock may be shared where its book may go to another thread
 pub Shared-sync : (Q C F S G : RattleType) (c : Ghosts C.Denot) (f : Ghosts F.Denot) (s : Ghosts S.Denot) (g : Ghosts G.Denot)

@@ -1,4 +1,4 @@
--- Which worker the next session goes to. Own.
+-- Which worker the next session goes to.
 use Rattle.std.specs.Prelude.{◌≤◌, List, All}
 use Rattle.iova_daemon.specs.declared.loads.Load.{Load}
 

@@ -1,7 +1,7 @@
 //! Where a daemon's links come from.
 use iova_session::link::LinkFault;
 
-/// Gives links, one a call, to several threads at a time. Own.
+/// Gives links, one a call, to several threads at a time.
 pub trait Accept<L> {
     /// Waits for the next link, where a limit is given no longer than so many milliseconds. None
     /// where none came, or another thread had it. One that can't be had is a fault, and the next

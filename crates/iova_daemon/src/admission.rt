@@ -1,10 +1,8 @@
 //! Which worker of an event loop accepts the next link: one that serves the fewest sessions.
-ghost use Rattle.std.specs.Prelude.{◌<◌};
-ghost use Rattle.iova_range.specs.declared.limits.TheConstants.{MAX_WORKERS};
 
 use crate::door::Door;
-use crate::loads::{Load, fewest};
-use crate::turns::Turns;
+use crate::loads::{Load, fewest, place_of};
+use crate::roster::Roster;
 use iova_range::limits::MAX_WORKERS;
 use mio::Waker;
 use std::io;
@@ -65,12 +63,12 @@ impl Admission {
         }
     }
 
-    /// Accepts a connection for this worker, where it is to have the next one: else it wakes the one
-    /// that is.
+    /// Accepts a connection for this worker, where it is to have the next one: else it wakes the
+    /// one that is.
     pub(crate) fn admit<R: Wait, O: Door>(
         &self,
         rt: &R,
-        turns: &Turns,
+        roster: &Roster,
         door: &O,
         worker: u64,
     ) -> Admitted {
@@ -79,7 +77,7 @@ impl Admission {
         if state.has_ended {
             return Admitted::End;
         }
-        if state.served >= turns.clients() {
+        if state.served >= roster.clients() {
             return Admitted::Nothing;
         }
         if let Some(next) = fewest(&state.loads, at)
@@ -90,7 +88,7 @@ impl Admission {
             return Admitted::Nothing;
         }
         if state.number.is_none() {
-            state.number = turns.next_session();
+            state.number = roster.next_session();
         }
         let Some(session) = state.number else {
             state.has_ended = true;
@@ -103,7 +101,7 @@ impl Admission {
                 state.number = None;
                 state.begin(at);
                 drop(state);
-                if turns.meet() {
+                if roster.meet() {
                     door.shut();
                 }
                 Admitted::Stream(stream, session)
@@ -115,9 +113,9 @@ impl Admission {
 
     /// A session of this worker has ended. Whether as many were served as there may be: then
     /// somebody may wait to be accepted.
-    pub(crate) fn leave<R: Wait>(&self, rt: &R, turns: &Turns, worker: u64) -> bool {
+    pub(crate) fn leave<R: Wait>(&self, rt: &R, roster: &Roster, worker: u64) -> bool {
         let mut state = self.state.lock(rt);
-        let was_full = state.served >= turns.clients();
+        let was_full = state.served >= roster.clients();
         state.end(place_of(worker));
         was_full
     }
@@ -158,11 +156,4 @@ impl State {
             load.sessions = load.sessions.saturating_sub(1);
         }
     }
-}
-
-/// The place of a worker.
-fn place_of(worker: u64) -> usize
-    ensures { result < MAX_WORKERS }
-{
-    (worker % MAX_WORKERS) as usize
 }

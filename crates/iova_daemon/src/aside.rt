@@ -6,7 +6,7 @@ use iova_range::refusal::Refusal;
 use std::sync::Wait;
 use std::sync::ledger::Ledger;
 
-/// How a daemon stands, but for its domain. Own.
+/// How a daemon stands, but for its domain.
 #[derive(Clone, Copy, Debug, PartialEq, Eq)]
 pub struct Figures {
     /// How many sessions are served now.
@@ -17,7 +17,7 @@ pub struct Figures {
     pub waiting: u64,
 }
 
-/// What tells how a daemon stands. Own.
+/// What tells how a daemon stands.
 pub trait Standing {
     /// How it stands now.
     fn figures(&self) -> Figures;
@@ -29,7 +29,7 @@ pub trait Standing {
     fn waits(&self, client: ClientId) -> bool;
 }
 
-/// A domain that is looked at beside its sessions. Own.
+/// A domain that is looked at beside its sessions.
 pub trait Look {
     /// Appends the domain's report, as it is in one hold of the lock. Refused by `NoMemory`.
     fn look(&self, out: &mut Vec<u8>) -> Result<(), Refusal>;
@@ -74,7 +74,7 @@ impl<Q: Wait, C: Ledger, F: Ledger, S: Ledger, G: Ledger> Look for &Shared<Q, C,
 }
 
 /// What is done on a thread of its own, from the start of the first session to the end of the last
-/// one. Own.
+/// one.
 pub trait Aside {
     /// Whether there is anything to do: else no thread is started.
     fn is_wanted(&self) -> bool;
@@ -83,7 +83,7 @@ pub trait Aside {
     fn turn<K: Look, T: Standing>(&self, domain: &K, standing: &T);
 }
 
-/// Nothing. Own.
+/// Nothing.
 #[derive(Clone, Copy, Debug)]
 pub struct NothingAside;
 

@@ -4,14 +4,14 @@ ghost use Rattle.std.specs.Thread.{IsSend, IsSync};
 ghost use Rattle.iova_lock.specs.contracts.shared.Shared as domains;
 ghost use Rattle.iova_session.specs.contracts.post.Post as posts;
 ghost use Rattle.iova_daemon.specs.contracts.pool.Pool as pools;
-ghost use Rattle.iova_daemon.specs.contracts.turns.Turns as turns;
+ghost use Rattle.iova_daemon.specs.contracts.roster.Roster as roster;
 ghost use Rattle.iova_daemon.specs.contracts.event_loop.Gear as gears;
 ghost use Rattle.iova_daemon.specs.contracts.admission.Admission as admissions;
 
 use crate::admission::Admission;
 use crate::event_loop::Gear;
 use crate::pool::Pool;
-use crate::turns::Turns;
+use crate::roster::Roster;
 use iova_lock::crossing::books_are_send;
 use iova_lock::shared::Shared;
 use iova_session::post::Post;
@@ -54,9 +54,9 @@ where
 
 /// Threads may share their turns.
 pub(crate) fn turns_are_sync()
-    ensures { IsSync turns.the_row }
+    ensures { IsSync roster.the_row }
 {
-    is_sync::<Turns>();
+    is_sync::<Roster>();
 }
 
 /// Threads may share a pool, whose links go from one to another.

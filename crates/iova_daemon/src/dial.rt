@@ -7,7 +7,7 @@ use std::rt::Files;
 use std::{fs, io};
 
 /// What a thread needs of `Net` and of `Files`. A bound by `Net` is assumed of one thread alone, so
-/// what goes to others has this one: a program has it of its runtime. Own.
+/// what goes to others has this one: a program has it of its runtime.
 pub trait Dial {
     /// Connects to the Unix socket at this address.
     fn dial(&self, address: &unix::SocketAddr) -> io::Result<UnixStream>;
@@ -26,7 +26,7 @@ impl<R: Net + Files> Dial for R {
     }
 }
 
-/// A network of Unix sockets alone, which are reached by a dialer. Own.
+/// A network of Unix sockets alone, which are reached by a dialer.
 #[derive(Drop)]
 pub struct UnixNet<'a, R> {
     dialer: &'a R,

@@ -5,7 +5,7 @@ use std::os::fd::RawFd;
 use std::os::unix::net::UnixStream;
 use std::time::Duration;
 
-/// A listener that doesn't block, for several threads at a time. Own.
+/// A listener that doesn't block, for several threads at a time.
 pub trait Door {
     /// The connection that stands there, if one does.
     fn enter(&self) -> io::Result<Option<UnixStream>>;

@@ -7,9 +7,9 @@ use crate::door::Door;
 use crate::guests::{Came, Guest, Hall, PIECE};
 use crate::noting::{NotingSink, note_end};
 use crate::queued_link::{Found, QueuedLink};
+use crate::roster::Roster;
 use crate::threads::Work;
-use crate::turns::Turns;
-use crate::worker::{Lent, go_aside, tell, try_again};
+use crate::worker::{WorkerContext, go_aside, tell, try_again};
 use iova_keep::keep::Keep;
 use iova_range::limits::{MAX_WAITING, RETRY_PAUSE};
 use iova_session::end::End;
@@ -46,7 +46,7 @@ struct Bench<C: Ledger, F: Ledger, S: Ledger, G: Ledger, K, D> {
 }
 
 impl<'e, R, N, C, F, S, G, K, O, D, X> Work<Post<C, F, S, G>, Gear<D, Poll, Events, RunRoom>, ()>
-    for Lent<&'e R, &'e N, K, &'e O, &'e Turns, &'e Admission, &'e X>
+    for WorkerContext<&'e R, &'e N, K, &'e O, &'e Roster, &'e Admission, &'e X>
 where
     R: Wait + Clock,
     N: Log,
@@ -78,20 +78,20 @@ where
             room,
         };
         let mut hall = Hall::new(self.alloc, poll, events, bench.post.seat.worker());
-        if *self.turns.gate.lock(self.rt) {
-            let slot = self.turns.begin();
+        if *self.roster.gate.lock(self.rt) {
+            let slot = self.roster.begin();
             let mut told = 0;
             let mut piece = [0; PIECE];
             'turns: for _ in self.rt.forever() {
                 let is_over = go_round(self, &mut hall, &mut bench, &mut piece);
-                told = tell(self.rt, self.turns, slot, told, &bench.post.waiting);
+                told = tell(self.rt, self.roster, slot, told, &bench.post.waiting);
                 if is_over {
                     break 'turns;
                 }
             }
         }
         drop(hall);
-        self.turns.end();
+        self.roster.end();
         let Bench {
             keeper: _,
             post,
@@ -114,7 +114,7 @@ where
     }
 
     fn go_aside(&self) {
-        go_aside(self.rt, self.turns, self.aside, &self.keeper);
+        go_aside(self.rt, self.roster, self.aside, &self.keeper);
     }
 
     fn cannot_go_aside(&self, error: &io::Error) {
@@ -125,7 +125,7 @@ where
 /// Waits for events, gives each session that has something to do one turn, and does what is due by
 /// the clock. Whether all is over.
 fn go_round<R, N, C, F, S, G, K, O, D, X>(
-    lent: &Lent<&R, &N, K, &O, &Turns, &Admission, &X>,
+    lent: &WorkerContext<&R, &N, K, &O, &Roster, &Admission, &X>,
     hall: &mut Hall,
     bench: &mut Bench<C, F, S, G, K, D>,
     piece: &mut [u8],
@@ -155,7 +155,7 @@ where
     let is_over = hall.is_over();
     if is_over {
         try_again(
-            lent.turns,
+            lent.roster,
             &mut bench.keeper,
             &mut bench.post,
             &mut bench.sink,
@@ -166,7 +166,7 @@ where
 
 /// Accepts links for the worker, as long as it is the one that is to have the next.
 fn admit_all<R, N, C, F, S, G, K, O, D, X>(
-    lent: &Lent<&R, &N, K, &O, &Turns, &Admission, &X>,
+    lent: &WorkerContext<&R, &N, K, &O, &Roster, &Admission, &X>,
     hall: &mut Hall,
     bench: &mut Bench<C, F, S, G, K, D>,
 )
@@ -185,12 +185,12 @@ where
         return;
     }
     hall.is_called = false;
-    let (rt, turns, admission) = (lent.rt, lent.turns, lent.admission);
+    let (rt, roster, admission) = (lent.rt, lent.roster, lent.admission);
     'admitting: for _ in 0..MAX_WAITING {
-        match admission.admit(rt, turns, lent.accept, hall.worker) {
+        match admission.admit(rt, roster, lent.accept, hall.worker) {
             Admitted::Stream(stream, session) => {
-                turns.begin_session(hall.worker);
-                if let Err(end) = seat(lent.alloc, turns, hall, bench, stream, session) {
+                roster.begin_session(hall.worker);
+                if let Err(end) = seat(lent.alloc, roster, hall, bench, stream, session) {
                     leave(lent, hall, session, end);
                 }
             }
@@ -214,7 +214,7 @@ where
 /// Begins a session of this number over a connection. Refused by the end that it has come to.
 fn seat<C: Ledger, F: Ledger, S: Ledger, G: Ledger, K: Keep<C, F, S, G>, D>(
     alloc: Global,
-    turns: &Turns,
+    roster: &Roster,
     hall: &mut Hall,
     bench: &mut Bench<C, F, S, G, K, D>,
     stream: UnixStream,
@@ -228,7 +228,7 @@ fn seat<C: Ledger, F: Ledger, S: Ledger, G: Ledger, K: Keep<C, F, S, G>, D>(
     let Ok(link) = QueuedLink::new(alloc, stream) else {
         return Err(End::LinkFault);
     };
-    let paused = PausedSession::new(bench.keeper.number(), turns.limits());
+    let paused = PausedSession::new(bench.keeper.number(), roster.limits());
     if hall.seat(link, paused, session) {
         Ok(())
     } else {
@@ -238,13 +238,13 @@ fn seat<C: Ledger, F: Ledger, S: Ledger, G: Ledger, K: Keep<C, F, S, G>, D>(
 
 /// A session of this number has ended, and its link is closed.
 fn leave<R: Wait, N: Log, K, O, X>(
-    lent: &Lent<&R, &N, K, &O, &Turns, &Admission, &X>,
+    lent: &WorkerContext<&R, &N, K, &O, &Roster, &Admission, &X>,
     hall: &mut Hall,
     session: u64,
     end: End,
 ) {
-    lent.turns.end_session(hall.worker);
-    if lent.admission.leave(lent.rt, lent.turns, hall.worker) {
+    lent.roster.end_session(hall.worker);
+    if lent.admission.leave(lent.rt, lent.roster, hall.worker) {
         hall.is_called = true;
     }
     note_end(lent.notices, session, end);
@@ -252,7 +252,7 @@ fn leave<R: Wait, N: Log, K, O, X>(
 
 /// Gives the session that is ready at this place its turn.
 fn turn<R, N, C, F, S, G, K, O, D, X>(
-    lent: &Lent<&R, &N, K, &O, &Turns, &Admission, &X>,
+    lent: &WorkerContext<&R, &N, K, &O, &Roster, &Admission, &X>,
     hall: &mut Hall,
     bench: &mut Bench<C, F, S, G, K, D>,
     at: usize,
@@ -306,6 +306,7 @@ fn go_on<C: Ledger, F: Ledger, S: Ledger, G: Ledger, K: Keep<C, F, S, G>, O: Doo
     }
     match guest.link.look(room) {
         Found::Nothing => Came::Nothing,
+        Found::Interrupted => Came::More,
         Found::End => Came::End(End::Closed),
         Found::Fault => Came::End(End::LinkFault),
         Found::Bytes(n) => {
@@ -352,7 +353,7 @@ fn take<C: Ledger, F: Ledger, S: Ledger, G: Ledger, K: Keep<C, F, S, G>, O: Door
 /// Ends the client of the session at this key, and then the session, once what its link has to send
 /// is sent. What can't be done yet is tried again.
 fn end_session<R, N, C, F, S, G, K, O, D, X>(
-    lent: &Lent<&R, &N, K, &O, &Turns, &Admission, &X>,
+    lent: &WorkerContext<&R, &N, K, &O, &Roster, &Admission, &X>,
     hall: &mut Hall,
     bench: &mut Bench<C, F, S, G, K, D>,
     key: usize,
@@ -400,7 +401,7 @@ where
 
 /// Ends all sessions: the daemon stops.
 fn end_all<R, N, C, F, S, G, K, O, D, X>(
-    lent: &Lent<&R, &N, K, &O, &Turns, &Admission, &X>,
+    lent: &WorkerContext<&R, &N, K, &O, &Roster, &Admission, &X>,
     hall: &mut Hall,
     bench: &mut Bench<C, F, S, G, K, D>,
 )
@@ -427,7 +428,7 @@ where
 /// Does what is due by the clock: looks for sessions that are idle, tries waiting clients again,
 /// and accepts again after a failure.
 fn look_at_clock<R, N, C, F, S, G, K, O, D, X>(
-    lent: &Lent<&R, &N, K, &O, &Turns, &Admission, &X>,
+    lent: &WorkerContext<&R, &N, K, &O, &Roster, &Admission, &X>,
     hall: &mut Hall,
     bench: &mut Bench<C, F, S, G, K, D>,
 )
@@ -460,7 +461,7 @@ where
     if is_waited && now.saturating_sub(hall.tried) >= Duration::from_millis(RETRY_PAUSE) {
         hall.tried = now;
         try_again(
-            lent.turns,
+            lent.roster,
             &mut bench.keeper,
             &mut bench.post,
             &mut bench.sink,
@@ -481,7 +482,7 @@ where
 
 /// Tries the clients again whose end couldn't be tried.
 fn end_owed<R, N, C, F, S, G, K, O, D, X>(
-    lent: &Lent<&R, &N, K, &O, &Turns, &Admission, &X>,
+    lent: &WorkerContext<&R, &N, K, &O, &Roster, &Admission, &X>,
     hall: &mut Hall,
     bench: &mut Bench<C, F, S, G, K, D>,
 )

@@ -1,7 +1,7 @@
 //! The flusher: rounds beside the workers, and flushes ahead of them.
 use crate::pause::Pause;
-use crate::threads::Beside;
-use crate::turns::Turns;
+use crate::roster::Roster;
+use crate::threads::SideTask;
 use iova_keep::calls::{flush, timeout};
 use iova_keep::keep::Keep;
 use iova_keep::seat::Tally;
@@ -12,10 +12,14 @@ use log::{Log, warn};
 use std::sync::Wait;
 use std::sync::ledger::Ledger;
 
-/// So many frames in rings, at least, let the flusher think that a ring may soon be full. Own.
+/// So many frames in rings, at least, let the flusher think that a ring may soon be full.
 const FLUSH_AHEAD: u64 = 128;
 
-/// How many looks the flusher takes at a busy domain between two rounds. Own.
+/// Where a worker finds its ring full, later flushes ahead wait for fewer frames, by one part of so
+/// many. Half as many would have a third more flushes made.
+const FALL: u64 = 32;
+
+/// How many looks the flusher takes at a busy domain between two rounds.
 const LOOKS: u64 = 64;
 
 /// What the flusher has: a keeper of the domain, a tally and a sink of its own, and its pauses.
@@ -27,7 +31,7 @@ pub(crate) struct Flusher<'e, R, N, K, G: Ledger, D, P> {
     pub tally: Tally<G>,
     pub sink: D,
     pub pause: P,
-    pub turns: &'e Turns,
+    pub roster: &'e Roster,
     pub busy: Busy,
 }
 
@@ -49,7 +53,7 @@ impl Busy {
     }
 }
 
-impl<'e, R, N, C, F, S, G, K, D, P> Beside<Post<C, F, S, G>> for Flusher<'e, R, N, K, G, D, P>
+impl<'e, R, N, C, F, S, G, K, D, P> SideTask<Post<C, F, S, G>> for Flusher<'e, R, N, K, G, D, P>
 where
     R: Wait,
     N: Log,
@@ -73,10 +77,10 @@ where
                     &mut self.tally,
                     &mut self.sink,
                     &mut self.pause,
-                    self.turns,
+                    self.roster,
                     &mut self.busy,
                 );
-            if (!looked && !self.pause.pause()) || self.turns.have_ended() {
+            if (!looked && !self.pause.pause()) || self.roster.have_ended() {
                 return;
             }
             let round = timeout(&mut self.keeper, &mut self.tally, &mut self.sink);
@@ -102,7 +106,7 @@ fn go_ahead<N, C, F, S, G, K, D, P>(
     tally: &mut Tally<G>,
     sink: &mut D,
     pause: &mut P,
-    turns: &Turns,
+    roster: &Roster,
     busy: &mut Busy,
 ) -> bool
 where
@@ -119,14 +123,15 @@ where
     let mut start = keeper.stat().start;
     let mut flushed = 0;
     for _ in 0..LOOKS {
-        if turns.have_ended() || !pause.pause_shortly() {
+        if roster.have_ended() || !pause.pause_shortly() {
             return false;
         }
         let stat = keeper.stat();
         if stat.start != start {
             // a worker found its ring full
             start = stat.start;
-            busy.mark = (busy.mark / 2).max(FLUSH_AHEAD / 2);
+            let less = busy.mark.saturating_sub(busy.mark / FALL);
+            busy.mark = less.max(FLUSH_AHEAD / 2);
         }
         if stat.ring >= busy.mark && stat.ring != flushed {
             flushed = stat.ring;

@@ -1,4 +1,5 @@
 //! The sessions that take turns on a worker's thread, and what it waits for them by.
+use crate::pause::shorter;
 use crate::queued_link::QueuedLink;
 use iova_range::limits::RETRY_PAUSE;
 use iova_session::end::End;
@@ -122,10 +123,10 @@ impl Hall {
         }
         let mut limit = turn;
         if is_waited || self.is_owed {
-            limit = shorter(limit, Duration::from_millis(RETRY_PAUSE));
+            limit = Some(shorter(limit, Duration::from_millis(RETRY_PAUSE)));
         }
         if let Some((_, pause)) = self.failed {
-            limit = shorter(limit, pause);
+            limit = Some(shorter(limit, pause));
         }
         limit
     }
@@ -163,8 +164,8 @@ impl Hall {
         }
     }
 
-    /// A turn of patience more has gone by without anything of the session at this key. Whether there
-    /// were so many of them.
+    /// A turn of patience more has gone by without anything of the session at this key. Whether
+    /// there were so many of them.
     pub(crate) fn is_idle(&mut self, key: usize, most: u64) -> bool {
         match self.guests.get_mut(key) {
             Some(guest) => {
@@ -260,13 +261,5 @@ fn watch(registry: &Registry, guest: &mut Guest, key: usize) {
         .is_ok()
     {
         guest.is_watched_for_room = is_behind;
-    }
-}
-
-/// The shorter of two times; none is without an end.
-fn shorter(limit: Option<Duration>, time: Duration) -> Option<Duration> {
-    match limit {
-        Some(limit) => Some(limit.min(time)),
-        None => Some(time),
     }
 }

@@ -20,11 +20,11 @@ mod noting;
 pub mod pause;
 mod pool;
 mod queued_link;
+mod roster;
 pub mod served_link;
 pub mod signals;
 pub mod socket;
 mod threads;
-mod turns;
 mod worker;
 
 use crate::accept::Accept;
@@ -40,8 +40,8 @@ use crate::event_loop::Gear;
 use crate::guests::{EVENTS, LISTENER, WAKE};
 use crate::pause::Pause;
 use crate::pool::Pool;
-use crate::turns::Turns;
-use crate::worker::Lent;
+use crate::roster::Roster;
+use crate::worker::WorkerContext;
 use flusher::{Busy, Flusher};
 use iova_keep::keep::Keep;
 use iova_lock::shared::Shared;
@@ -62,7 +62,7 @@ use std::sync::ledger::Ledger;
 use std::thread::Threads;
 use threads::run_all;
 
-/// What serving leaves. Own.
+/// What serving leaves.
 #[derive(Drop)]
 pub struct Served<R, C: Ledger, F: Ledger, S: Ledger, G: Ledger> {
     /// The domain under its lock.
@@ -71,7 +71,7 @@ pub struct Served<R, C: Ledger, F: Ledger, S: Ledger, G: Ledger> {
     pub posts: Vec<Post<C, F, S, G>>,
 }
 
-/// What is served. Own.
+/// What is served.
 #[derive(Clone, Copy, Debug, PartialEq, Eq)]
 pub struct Serving {
     /// How many sessions; none: sessions without end.
@@ -82,7 +82,7 @@ pub struct Serving {
     pub limits: SessionLimits,
 }
 
-/// Serves so many sessions on the domain, each within the usual limits: see `serve_sessions`. Own.
+/// Serves so many sessions on the domain, each within the usual limits: see `serve_sessions`.
 pub fn serve_on<R, Q, N, C, F, S, G, L, A, D, P>(
     rt: &R,
     alloc: Global,
@@ -159,7 +159,7 @@ where
 /// be started are notices, a line each; each other end of a session is one of the level `debug`.
 ///
 /// Refused by `LinkFault` where a thread can't be started: then no link has been accepted, and
-/// those that were started are joined. Refused by `NoMemory` before the first one is started. Own.
+/// those that were started are joined. Refused by `NoMemory` before the first one is started.
 pub fn serve_sessions<R, Q, N, C, F, S, G, L, A, D, P, X>(
     rt: &R,
     alloc: Global,
@@ -249,7 +249,7 @@ where
     let Some(sink) = sinks.pop() else {
         unreachable!()
     };
-    let turns = Turns::new(alloc, serving, posts.len() as u64);
+    let roster = Roster::new(alloc, serving, posts.len() as u64);
     let pool: Pool<L> = Pool::new(alloc);
     let mut flusher = Flusher {
         rt,
@@ -258,30 +258,30 @@ where
         tally: posts[0].seat.tally().split(),
         sink,
         pause,
-        turns: &turns,
+        roster: &roster,
         busy: Busy::new(),
     };
-    let lent = Lent {
+    let lent = WorkerContext {
         rt,
         alloc,
         notices,
         keeper,
         accept,
-        turns: &turns,
+        roster: &roster,
         admission: &pool,
         aside,
     };
     run_all::<
         R,
-        Lent<&R, &N, K, &A, &Turns, &Pool<L>, &X>,
+        WorkerContext<&R, &N, K, &A, &Roster, &Pool<L>, &X>,
         Post<C, F, S, G>,
         D,
         L,
         Flusher<'_, R, N, K, G, D, P>,
-    >(rt, &lent, posts, sinks, &turns, &mut flusher)
+    >(rt, &lent, posts, sinks, &roster, &mut flusher)
 }
 
-/// What a service is lent, and what it serves. Own.
+/// What a service is lent, and what it serves.
 #[derive(Drop)]
 pub struct Service<'a, R, N, X> {
     /// The runtime.
@@ -311,7 +311,7 @@ pub struct Service<'a, R, N, X> {
 /// Once no number is left, or the door is shut, a thread ends when its sessions have ended.
 ///
 /// Refused by `LinkFault` where the system has no descriptors for what is waited by, or a thread
-/// can't be started, and by `NoMemory`; then no link has been accepted. Own.
+/// can't be started, and by `NoMemory`; then no link has been accepted.
 pub fn serve_in_turns<R, Q, N, C, F, S, G, O, D, P, X>(
     service: &Service<'_, R, N, X>,
     shared: Shared<Q, C, F, S, G>,
@@ -402,7 +402,7 @@ where
             return Err(refusal);
         }
     };
-    let turns = Turns::new(service.alloc, service.serving, posts.len() as u64);
+    let roster = Roster::new(service.alloc, service.serving, posts.len() as u64);
     let admission = Admission::new(wakers);
     let mut flusher = Flusher {
         rt,
@@ -411,27 +411,27 @@ where
         tally: posts[0].seat.tally().split(),
         sink,
         pause,
-        turns: &turns,
+        roster: &roster,
         busy: Busy::new(),
     };
-    let lent = Lent {
+    let lent = WorkerContext {
         rt,
         alloc: service.alloc,
         notices: service.notices,
         keeper,
         accept: door,
-        turns: &turns,
+        roster: &roster,
         admission: &admission,
         aside: service.aside,
     };
     run_all::<
         R,
-        Lent<&R, &N, K, &O, &Turns, &Admission, &X>,
+        WorkerContext<&R, &N, K, &O, &Roster, &Admission, &X>,
         Post<C, F, S, G>,
         Gear<D, Poll, Events, RunRoom>,
         (),
         Flusher<'_, R, N, K, G, D, P>,
-    >(rt, &lent, posts, gears, &turns, &mut flusher)
+    >(rt, &lent, posts, gears, &roster, &mut flusher)
 }
 
 /// What each worker's thread has beside its post, and what wakes it. Refused by `NoMemory`, and by

@@ -1,13 +1,23 @@
 //! How busy workers are, and which of them the next session goes to.
-ghost use Rattle.std.specs.Prelude.{◌≡◌, IfSome, IfNone, All, slice_get};
+ghost use Rattle.std.specs.Prelude.{◌≡◌, ◌<◌, IfSome, IfNone, All, slice_get};
 ghost use Rattle.std.specs.Option.{ForSome};
 ghost use Rattle.iova_daemon.specs.Loads.{IsFewest};
+ghost use Rattle.iova_range.specs.declared.limits.TheConstants.{MAX_WORKERS};
+
+use iova_range::limits::MAX_WORKERS;
 
 /// How many slots of a worker are idle, and how many sessions it serves.
 #[derive(Clone, Copy)]
 pub(crate) struct Load {
     pub idle: u64,
     pub sessions: u64,
+}
+
+/// The place of a worker.
+pub(crate) fn place_of(worker: u64) -> usize
+    ensures { result < MAX_WORKERS }
+{
+    (worker % MAX_WORKERS) as usize
 }
 
 /// The place of the worker that serves the fewest sessions of those with an idle slot; among

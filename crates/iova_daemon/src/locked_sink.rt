@@ -4,7 +4,7 @@ use iova_sink::calls::Calls;
 use iova_sink::sink::{Sink, SinkFault};
 use std::sync::{Condvar, Mutex, Wait};
 
-/// A sink, and the queue of the threads that want it for more than one call. Own.
+/// A sink, and the queue of the threads that want it for more than one call.
 pub struct SharedSink<D> {
     sink: Mutex<D>,
     queue: Mutex<Queue>,
@@ -45,8 +45,8 @@ impl<D> SharedSink<D> {
         }
     }
 
-    /// Waits until the sink is this thread's. Those that wait get it one after the other, and none
-    /// that comes later gets it before them.
+    /// Waits until the sink is this thread's. It is handed over to one of those that wait, which one
+    /// is the system's choice; nobody who comes later gets it before.
     fn keep<R: Wait>(&self, rt: &R) {
         let mut queue = self.queue.lock(rt);
         if !queue.is_kept {
@@ -79,7 +79,7 @@ impl<D> SharedSink<D> {
 }
 
 /// A sink that is shared, as one of the threads has it. Contracts see the calls that were made
-/// here: what others call in between, nobody knows. Own.
+/// here: what others call in between, nobody knows.
 pub struct LockedSink<'a, R, D> {
     rt: &'a R,
     sink: &'a SharedSink<D>,

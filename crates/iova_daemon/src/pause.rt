@@ -4,10 +4,18 @@ use std::rt::Clock;
 use std::thread;
 use std::time::Duration;
 
-/// The time between two looks at a busy domain, in microseconds. Own.
+/// The time between two looks at a busy domain, in microseconds.
 const LOOK_PAUSE: u64 = 100;
 
-/// What a flusher waits for before each round, and between its looks at a busy domain. Own.
+/// The shorter of two times; none is without an end.
+pub(crate) fn shorter(limit: Option<Duration>, time: Duration) -> Duration {
+    match limit {
+        Some(limit) => limit.min(time),
+        None => time,
+    }
+}
+
+/// What a flusher waits for before each round, and between its looks at a busy domain.
 pub trait Pause {
     /// Waits for the next round. False: there is none, the flusher stops.
     fn pause(&mut self) -> bool;
@@ -19,7 +27,7 @@ pub trait Pause {
 }
 
 /// A round each 10 milliseconds, and the time that it takes itself; of a busy domain a look each
-/// 100 microseconds between them. It never stops. Own.
+/// 100 microseconds between them. It never stops.
 #[derive(Drop)]
 pub struct Ticks<'a, C> {
     clock: &'a C,

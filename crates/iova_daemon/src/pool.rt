@@ -3,8 +3,8 @@
 ghost use Rattle.std.specs.Prelude.{◌<◌};
 ghost use Rattle.iova_range.specs.declared.limits.TheConstants.{MAX_WORKERS};
 
-use crate::loads::{Load, fewest};
-use crate::turns::Turns;
+use crate::loads::{Load, fewest, place_of};
+use crate::roster::Roster;
 use iova_range::limits::MAX_WORKERS;
 use std::alloc::Global;
 use std::array;
@@ -60,14 +60,14 @@ impl<L: Drop> Pool<L> {
     pub(crate) fn wait<R: Wait + Clock>(
         &self,
         rt: &R,
-        turns: &Turns,
+        roster: &Roster,
         worker: u64,
         limit: Option<u64>,
     ) -> Turn<L> {
         let at = place_of(worker);
-        let turn = self.turn(rt, turns, at, limit);
+        let turn = self.turn(rt, roster, at, limit);
         match turn {
-            Turn::Serve(_) => self.wake(rt, turns, at),
+            Turn::Serve(_) => self.wake(rt, roster, at),
             Turn::End => self.wake_all(),
             Turn::Lead(_) | Turn::Again => {}
         }
@@ -75,12 +75,18 @@ impl<L: Drop> Pool<L> {
     }
 
     /// The same, where nobody else is told of it.
-    fn turn<R: Wait + Clock>(&self, rt: &R, turns: &Turns, at: usize, limit: Option<u64>) -> Turn<L>
+    fn turn<R: Wait + Clock>(
+        &self,
+        rt: &R,
+        roster: &Roster,
+        at: usize,
+        limit: Option<u64>,
+    ) -> Turn<L>
         requires { at < MAX_WORKERS }
     {
         let mut state = self.state.lock(rt);
         state.come(at);
-        if let Some(turn) = state.turn(turns, at) {
+        if let Some(turn) = state.turn(roster, at) {
             return turn;
         }
         let bell = &self.bells[at];
@@ -88,7 +94,7 @@ impl<L: Drop> Pool<L> {
             Some(limit) => bell.wait_timeout(rt, state, Duration::from_millis(limit)).0,
             None => bell.wait(rt, state),
         };
-        match state.turn(turns, at) {
+        match state.turn(roster, at) {
             // those that have slept try their waiting clients a last time, each at once
             Some(Turn::End) => {
                 drop(state);
@@ -108,7 +114,7 @@ impl<L: Drop> Pool<L> {
     pub(crate) fn assign<R: Wait>(
         &self,
         rt: &R,
-        turns: &Turns,
+        roster: &Roster,
         worker: u64,
         accepted: Accepted<L>,
         is_away: bool,
@@ -121,12 +127,12 @@ impl<L: Drop> Pool<L> {
                     bell.notify_one();
                 }
                 if is_away {
-                    self.wake(rt, turns, at);
+                    self.wake(rt, roster, at);
                 }
                 None
             }
             Err(accepted) => {
-                self.wake(rt, turns, at);
+                self.wake(rt, roster, at);
                 Some(accepted)
             }
         }
@@ -137,7 +143,7 @@ impl<L: Drop> Pool<L> {
     pub(crate) fn give_way<R: Wait>(
         &self,
         rt: &R,
-        turns: &Turns,
+        roster: &Roster,
         worker: u64,
         is_used_up: bool,
         is_away: bool,
@@ -145,15 +151,15 @@ impl<L: Drop> Pool<L> {
         let at = place_of(worker);
         self.state.lock(rt).give_way(at, is_used_up);
         if is_away {
-            self.wake(rt, turns, at);
+            self.wake(rt, roster, at);
         }
     }
 
     /// A session of this worker has ended.
-    pub(crate) fn leave<R: Wait>(&self, rt: &R, turns: &Turns, worker: u64) {
+    pub(crate) fn leave<R: Wait>(&self, rt: &R, roster: &Roster, worker: u64) {
         let at = place_of(worker);
         self.state.lock(rt).leave(at);
-        self.wake(rt, turns, at);
+        self.wake(rt, roster, at);
     }
 
     /// No session is to come.
@@ -164,8 +170,8 @@ impl<L: Drop> Pool<L> {
 
     /// Wakes an idle slot that is to lead, where nobody does: one of the worker that the next link
     /// would go to.
-    fn wake<R: Wait>(&self, rt: &R, turns: &Turns, at: usize) {
-        let next = self.state.lock(rt).next_leader(turns, at);
+    fn wake<R: Wait>(&self, rt: &R, roster: &Roster, at: usize) {
+        let next = self.state.lock(rt).next_leader(roster, at);
         if let Some(next) = next
             && let Some(bell) = self.bells.get(next)
         {
@@ -232,7 +238,7 @@ impl<L: Drop> State<L> {
     }
 
     /// What an idle slot is to do now, where there is anything.
-    fn turn(&mut self, turns: &Turns, at: usize) -> Option<Turn<L>> {
+    fn turn(&mut self, roster: &Roster, at: usize) -> Option<Turn<L>> {
         if let Some(accepted) = self.take(at) {
             return Some(Turn::Serve(accepted));
         }
@@ -240,11 +246,11 @@ impl<L: Drop> State<L> {
             self.go(at);
             return Some(Turn::End);
         }
-        if !self.is_wanted(turns) {
+        if !self.is_wanted(roster) {
             return None;
         }
         if self.number.is_none() {
-            self.number = turns.next_session();
+            self.number = roster.next_session();
         }
         match self.number {
             Some(session) => {
@@ -260,8 +266,8 @@ impl<L: Drop> State<L> {
     }
 
     /// Whether a leader is wanted.
-    fn is_wanted(&self, turns: &Turns) -> bool {
-        !self.is_led && !self.has_ended && self.served < turns.clients()
+    fn is_wanted(&self, roster: &Roster) -> bool {
+        !self.is_led && !self.has_ended && self.served < roster.clients()
     }
 
     /// The oldest link that was handed over to the worker at this place.
@@ -325,18 +331,11 @@ impl<L: Drop> State<L> {
     }
 
     /// The place of the worker that is to lead next, where nobody does and a slot is idle.
-    fn next_leader(&self, turns: &Turns, at: usize) -> Option<usize> {
-        if self.is_wanted(turns) {
+    fn next_leader(&self, roster: &Roster, at: usize) -> Option<usize> {
+        if self.is_wanted(roster) {
             fewest(&self.loads, at)
         } else {
             None
         }
     }
-}
-
-/// The place of a worker.
-fn place_of(worker: u64) -> usize
-    ensures { result < MAX_WORKERS }
-{
-    (worker % MAX_WORKERS) as usize
 }

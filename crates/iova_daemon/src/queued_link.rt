@@ -10,9 +10,9 @@ use std::marker::Model;
 use std::os::fd::{AsRawFd, RawFd};
 use std::os::unix::net::UnixStream;
 
-/// A connected Unix socket that doesn't block, and what it couldn't take yet. A write takes all: what
-/// finds no room in the socket is kept. Contracts see the numbers of its reads, its failures and the
-/// reads that found the end; what bytes come and go, no contract can say. Own.
+/// A connected Unix socket that doesn't block, and what it couldn't take yet. A write takes all:
+/// what finds no room in the socket is kept. Contracts see the numbers of its reads, its failures
+/// and the reads that found the end; what bytes come and go, no contract can say.
 pub(crate) struct QueuedLink {
     stream: UnixStream,
     unsent: Vec<u8>,
@@ -52,6 +52,8 @@ pub(crate) enum Found {
     Bytes(usize),
     /// None yet.
     Nothing,
+    /// The system interrupted the look: another one is to be made, without a wait.
+    Interrupted,
     /// The end.
     End,
     /// The link failed.
@@ -82,8 +84,11 @@ impl QueuedLink {
         match (&self.stream).read(buf) {
             Ok(0) => Found::End,
             Ok(n) => Found::Bytes(n),
-            Err(error) if is_for_later(&error) => Found::Nothing,
-            Err(_) => Found::Fault,
+            Err(error) => match error.kind() {
+                ErrorKind::WouldBlock => Found::Nothing,
+                ErrorKind::Interrupted => Found::Interrupted,
+                _ => Found::Fault,
+            },
         }
     }
 

@@ -15,7 +15,7 @@ use std::sync::Wait;
 use std::time::Duration;
 
 /// How long a session's peer is waited for, in turns after each of which it is seen whether the
-/// daemon stops. Own.
+/// daemon stops.
 #[derive(Clone, Copy, Debug)]
 pub struct Patience {
     /// The time of a turn; none: one turn without an end.
@@ -27,9 +27,9 @@ pub struct Patience {
 /// A connected Unix socket that a daemon serves. A read that finds no byte, and a write that finds
 /// no room, are made again turn after turn, until there were as many as its patience has. One that
 /// is interrupted is made again too, and takes no turn: an interruption is no failure of this link.
-/// A read of a daemon that stops finds the end. Where it is the only link, it looks a while for what
-/// comes before it sleeps. Contracts see the numbers of its reads, its
-/// failures and the reads that found the end; what bytes come and go, no contract can say. Own.
+/// A read of a daemon that stops finds the end. Where it is the only link, it looks a while for
+/// what comes before it sleeps. Contracts see the numbers of its reads, its failures and the reads
+/// that found the end; what bytes come and go, no contract can say.
 pub struct ServedLink<'a, R> {
     rt: &'a R,
     signals: &'a Signals,

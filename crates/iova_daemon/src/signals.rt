@@ -3,7 +3,7 @@ use iova_sink::hurry::Hurry;
 use std::sync::atomic::{AtomicU64, Ordering};
 
 /// Whether the daemon is asked to stop, and what was counted so far. Threads share it. A count
-/// begins anew behind 2^64 - 1. Own.
+/// begins anew behind 2^64 - 1.
 pub struct Signals {
     hurry: Hurry,
     requests: AtomicU64,

@@ -2,6 +2,7 @@
 use crate::accept::Accept;
 use crate::dial::{Dial, UnixNet};
 use crate::door::Door;
+use crate::pause::shorter;
 use crate::served_link::{Patience, ServedLink, count_lines};
 use crate::signals::Signals;
 use iova_range::limits::{ACCEPT_PAUSE, MAX_ACCEPT_PAUSE, MAX_WAITING};
@@ -21,7 +22,7 @@ use std::{io, thread};
 /// Accepts the connections of a listener, each one a link, until it is closed or the daemon is
 /// asked to stop. An accept that fails is a notice, and a pause follows, which doubles with each
 /// failure after another; none was had then, and the next call tries again. While it waits it has
-/// one descriptor of its own. Own.
+/// one descriptor of its own.
 pub struct SocketAccept<'a, R, N> {
     rt: &'a R,
     notices: &'a N,
@@ -229,13 +230,5 @@ fn hang_up(listener: &UnixListener) {
         if stream.set_nonblocking(true).is_ok() {
             let _ = stream.read(&mut lost);
         }
-    }
-}
-
-/// The shorter of two times; none is without an end.
-fn shorter(limit: Option<Duration>, turn: Duration) -> Duration {
-    match limit {
-        Some(limit) => limit.min(turn),
-        None => turn,
     }
 }

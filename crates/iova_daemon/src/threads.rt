@@ -3,7 +3,7 @@
 ghost use Rattle.std.specs.Prelude.{◌≡◌, ◌≤◌, ℕ, [], IfOk, IfErr, map, vec_len, vec_capacity, true};
 ghost use Rattle.iova_daemon.specs.Serving.{IsServeRefusal};
 
-use crate::turns::Turns;
+use crate::roster::Roster;
 use iova_range::refusal::Refusal;
 use std::sync::Wait;
 use std::thread::{Promise, PromisedHandle, Scope, Threads};
@@ -42,7 +42,7 @@ pub(crate) trait Work<P: Place, D, L> {
 }
 
 /// What is done beside the workers, on the thread that started them.
-pub(crate) trait Beside<P> {
+pub(crate) trait SideTask<P> {
     /// Does it until all workers have ended, or before.
     fn go_on(&mut self);
 }
@@ -70,7 +70,7 @@ pub(crate) fn run_all<R, W, P, D, L, B>(
     lent: &W,
     places: Vec<P>,
     sinks: Vec<D>,
-    turns: &Turns,
+    roster: &Roster,
     beside: &mut B,
 ) -> Result<Vec<P>, Refusal>
 where
@@ -78,7 +78,7 @@ where
     W: Work<P, D, L> + Sync,
     P: Place + Send + Drop,
     D: Send + Drop,
-    B: Beside<P>,
+    B: SideTask<P>,
     requires { vec_len places ≤ vec_len sinks }
     ensures places { IfOk result (λ v. map P.worker v.items ≡ map P.worker places.items) }
     ensures refusal { IfErr result IsServeRefusal }
@@ -90,7 +90,7 @@ where
             requires { vec_len places ≤ vec_len sinks }
             ensures places { IfOk result (λ v. map P.worker v.items ≡ map P.worker places.items) }
             ensures refusal { IfErr result IsServeRefusal }
-        { run_in(scope, rt, lent, places, sinks, turns, beside) },
+        { run_in(scope, rt, lent, places, sinks, roster, beside) },
     )
 }
 
@@ -101,7 +101,7 @@ fn run_in<'s, E, R, W, P, D, L, B>(
     lent: &'s W,
     places: Vec<P>,
     sinks: Vec<D>,
-    turns: &Turns,
+    roster: &Roster,
     beside: &mut B,
 ) -> Result<Vec<P>, Refusal>
 where
@@ -111,7 +111,7 @@ where
     P: Place + Send + Drop + 's,
     D: Send + Drop + 's,
     L: 's,
-    B: Beside<P>,
+    B: SideTask<P>,
     requires { vec_len places ≤ vec_len sinks }
     ensures places { IfOk result (λ v. map P.worker v.items ≡ map P.worker places.items) }
     ensures refusal { IfErr result IsServeRefusal }
@@ -129,7 +129,7 @@ where
         return Err(Refusal::NoMemory);
     }
     // started workers wait for the gate until all are started
-    let mut gate = turns.gate.lock(rt);
+    let mut gate = roster.gate.lock(rt);
     let all = start_all::<E, W, P, D, L>(scope, lent, places, sinks, &mut started);
     let aside = if all {
         start_aside::<E, W, P, D, L>(scope, lent)

@@ -5,8 +5,8 @@ use crate::accept::Accept;
 use crate::aside::{Aside, Look};
 use crate::noting::{NotingSink, note_end};
 use crate::pool::{Accepted, Pool, Turn};
+use crate::roster::{Roster, Stands};
 use crate::threads::{Place, Work};
-use crate::turns::{Stands, Turns};
 use iova_keep::keep::Keep;
 use iova_model::step::ClientId;
 use iova_range::limits::RETRY_PAUSE;
@@ -33,19 +33,19 @@ impl<C: Ledger, F: Ledger, S: Ledger, G: Ledger> Place for Post<C, F, S, G> {
 /// What every slot is lent: references, and a keeper of the domain. Each is a parameter, so that
 /// one short law says that threads may share it where they may share each of them.
 #[derive(Drop)]
-pub(crate) struct Lent<R, N, K, A, T, H, X> {
+pub(crate) struct WorkerContext<R, N, K, A, T, H, X> {
     pub rt: R,
     pub alloc: Global,
     pub notices: N,
     pub keeper: K,
     pub accept: A,
-    pub turns: T,
+    pub roster: T,
     pub admission: H,
     pub aside: X,
 }
 
 impl<'e, R, N, C, F, S, G, K, L, A, D, X> Work<Post<C, F, S, G>, D, L>
-    for Lent<&'e R, &'e N, K, &'e A, &'e Turns, &'e Pool<L>, &'e X>
+    for WorkerContext<&'e R, &'e N, K, &'e A, &'e Roster, &'e Pool<L>, &'e X>
 where
     R: Wait + Clock,
     N: Log,
@@ -66,13 +66,13 @@ where
         let mut post = place;
         let mut keeper = self.keeper;
         let mut sink = NotingSink::new(sink, self.notices);
-        if *self.turns.gate.lock(self.rt) {
+        if *self.roster.gate.lock(self.rt) {
             let worker = post.seat.worker();
-            let slot = self.turns.begin();
+            let slot = self.roster.begin();
             let mut told = 0;
             'turns: for _ in self.rt.forever() {
-                try_again(self.turns, &mut keeper, &mut post, &mut sink);
-                told = tell(self.rt, self.turns, slot, told, &post.waiting);
+                try_again(self.roster, &mut keeper, &mut post, &mut sink);
+                told = tell(self.rt, self.roster, slot, told, &post.waiting);
                 if self.accept.has_ended() {
                     self.accept.close();
                     self.admission.end(self.rt);
@@ -80,7 +80,7 @@ where
                 }
                 match next::<R, L, A>(
                     self.rt,
-                    self.turns,
+                    self.roster,
                     self.admission,
                     self.accept,
                     worker,
@@ -88,10 +88,10 @@ where
                 ) {
                     Turn::Serve(accepted) => {
                         let Accepted { mut link, session } = accepted;
-                        self.turns.begin_session(worker);
+                        self.roster.begin_session(worker);
                         let ended = run_session_within(
                             self.alloc,
-                            self.turns.limits(),
+                            self.roster.limits(),
                             &mut link,
                             &mut keeper,
                             &mut post,
@@ -99,9 +99,9 @@ where
                         );
                         // so there are never more connections than sessions
                         drop(link);
-                        told = tell(self.rt, self.turns, slot, told, &post.waiting);
-                        self.turns.end_session(worker);
-                        self.admission.leave(self.rt, self.turns, worker);
+                        told = tell(self.rt, self.roster, slot, told, &post.waiting);
+                        self.roster.end_session(worker);
+                        self.admission.leave(self.rt, self.roster, worker);
                         note_end(self.notices, session, ended.end);
                     }
                     Turn::End => break 'turns,
@@ -109,7 +109,7 @@ where
                 }
             }
         }
-        self.turns.end();
+        self.roster.end();
         post
     }
 
@@ -126,7 +126,7 @@ where
     }
 
     fn go_aside(&self) {
-        go_aside(self.rt, self.turns, self.aside, &self.keeper);
+        go_aside(self.rt, self.roster, self.aside, &self.keeper);
     }
 
     fn cannot_go_aside(&self, error: &io::Error) {
@@ -135,12 +135,12 @@ where
 }
 
 /// Does what there is to do aside, until all workers have ended.
-pub(crate) fn go_aside<R: Wait, X: Aside, K: Look>(rt: &R, turns: &Turns, aside: &X, keeper: &K) {
+pub(crate) fn go_aside<R: Wait, X: Aside, K: Look>(rt: &R, roster: &Roster, aside: &X, keeper: &K) {
     for _ in rt.forever() {
-        if turns.have_ended() {
+        if roster.have_ended() {
             return;
         }
-        let standing = Stands { rt, turns };
+        let standing = Stands { rt, roster };
         aside.turn(keeper, &standing);
     }
     unreachable!()
@@ -148,7 +148,7 @@ pub(crate) fn go_aside<R: Wait, X: Aside, K: Look>(rt: &R, turns: &Turns, aside:
 
 /// Tries the post's waiting clients again, unless another slot of its worker does so.
 pub(crate) fn try_again<C: Ledger, F: Ledger, S: Ledger, G: Ledger, K: Keep<C, F, S, G>, D: Sink>(
-    turns: &Turns,
+    roster: &Roster,
     keeper: &mut K,
     post: &mut Post<C, F, S, G>,
     sink: &mut D,
@@ -156,9 +156,9 @@ pub(crate) fn try_again<C: Ledger, F: Ledger, S: Ledger, G: Ledger, K: Keep<C, F
     ensures { post.new.seat.worker ≡ post.old.seat.worker }
 {
     let worker = post.seat.worker();
-    if !post.waiting.is_empty() && turns.begin_trying(worker) {
+    if !post.waiting.is_empty() && roster.begin_trying(worker) {
         retry(keeper, post, sink);
-        turns.end_trying(worker);
+        roster.end_trying(worker);
     }
 }
 
@@ -167,14 +167,14 @@ pub(crate) fn try_again<C: Ledger, F: Ledger, S: Ledger, G: Ledger, K: Keep<C, F
 /// as many.
 pub(crate) fn tell<R: Wait>(
     rt: &R,
-    turns: &Turns,
+    roster: &Roster,
     slot: u64,
     told: u64,
     waiting: &[ClientId],
 ) -> u64 {
     let left = waiting.len() as u64;
     if left != told {
-        turns.wait_for(rt, slot, told, waiting);
+        roster.wait_for(rt, slot, told, waiting);
     }
     left
 }
@@ -183,14 +183,14 @@ pub(crate) fn tell<R: Wait>(
 /// accepts a link where it is to lead.
 fn next<R: Wait + Clock, L: Drop, A: Accept<L>>(
     rt: &R,
-    turns: &Turns,
+    roster: &Roster,
     pool: &Pool<L>,
     accept: &A,
     worker: u64,
     waiting: u64,
 ) -> Turn<L> {
-    match pool.wait(rt, turns, worker, limit_of(waiting)) {
-        Turn::Lead(session) => lead(rt, turns, pool, accept, worker, session, waiting),
+    match pool.wait(rt, roster, worker, limit_of(waiting)) {
+        Turn::Lead(session) => lead(rt, roster, pool, accept, worker, session, waiting),
         turn => turn,
     }
 }
@@ -199,7 +199,7 @@ fn next<R: Wait + Clock, L: Drop, A: Accept<L>>(
 /// none, gives way.
 fn lead<R: Wait, L: Drop, A: Accept<L>>(
     rt: &R,
-    turns: &Turns,
+    roster: &Roster,
     pool: &Pool<L>,
     accept: &A,
     worker: u64,
@@ -208,33 +208,33 @@ fn lead<R: Wait, L: Drop, A: Accept<L>>(
 ) -> Turn<L> {
     let is_away = waiting > 0;
     if accept.has_ended() {
-        pool.give_way(rt, turns, worker, false, is_away);
+        pool.give_way(rt, roster, worker, false, is_away);
         return Turn::Again;
     }
     match accept.accept(limit_of(waiting)) {
         Ok(Some(link)) => {
-            meet::<L, A>(turns, accept);
-            match pool.assign(rt, turns, worker, Accepted { link, session }, is_away) {
+            meet::<L, A>(roster, accept);
+            match pool.assign(rt, roster, worker, Accepted { link, session }, is_away) {
                 Some(accepted) => Turn::Serve(accepted),
                 None => Turn::Again,
             }
         }
         Ok(None) => {
-            pool.give_way(rt, turns, worker, false, is_away);
+            pool.give_way(rt, roster, worker, false, is_away);
             Turn::Again
         }
         // an accept that fails uses up the number
         Err(_) => {
-            meet::<L, A>(turns, accept);
-            pool.give_way(rt, turns, worker, true, is_away);
+            meet::<L, A>(roster, accept);
+            pool.give_way(rt, roster, worker, true, is_away);
             Turn::Again
         }
     }
 }
 
 /// A session had its accept: after the last one nobody is accepted any more.
-fn meet<L, A: Accept<L>>(turns: &Turns, accept: &A) {
-    if turns.meet() {
+fn meet<L, A: Accept<L>>(roster: &Roster, accept: &A) {
+    if roster.meet() {
         accept.close();
     }
 }

@@ -12,7 +12,7 @@ use Rattle.iova_model.specs.declared.place.Place.TheVariants as place
 use Rattle.iova_model.specs.Caches.{Cache, Caches, no_magazines, cache_at, of_order}
 use Rattle.iova_model.specs.State.{Holder, at_place, cache_holders, magazine_holders, list_holders, depot_holders}
 use Rattle.iova_model.specs.Valid.{IsCache, AreWorkerCaches, IsDepotList, IsDepot, AreCaches}
-use Rattle.iova_model.specs.Laws.{frames_of}
+use Rattle.iova_model.specs.Effects.{frames_of}
 use Rattle.iova_depot.specs.Cached.{with_worker_cache, with_depot}
 
 -- what the ranges of holders weigh

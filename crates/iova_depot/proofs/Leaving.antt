@@ -10,7 +10,7 @@ use Rattle.iova_model.specs.declared.place.Place.{Place}
 use Rattle.iova_model.specs.declared.place.Place.TheVariants as place
 use Rattle.iova_model.specs.Caches.{Cache, Caches, Shelf, no_magazines, cache_at, shelf_at, with_shelf, of_order, without_list, TakesOut, TakesOutOfDepot, TakesOffShelf, TakesEntry}
 use Rattle.iova_model.specs.State.{Holder, at_place, cache_holders, magazine_holders, list_holders, depot_holders, cached_holders}
-use Rattle.iova_model.specs.Laws.{frames_of}
+use Rattle.iova_model.specs.Effects.{frames_of}
 use Rattle.iova_mag.specs.Workers.{WorkerCache, pair_of}
 use Rattle.iova_depot.specs.Stored.{Stored}
 use Rattle.iova_depot.specs.Cached.{Cached, LosesOnly}

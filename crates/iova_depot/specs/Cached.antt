@@ -8,7 +8,7 @@ use Rattle.iova_model.specs.declared.place.Place.TheVariants as place
 use Rattle.iova_model.specs.Caches.{Cache, Caches, new_caches, cache_at, shelf_at, with_shelf, get, put, sent_out, last_or, front}
 use Rattle.iova_model.specs.State.{cached_holders}
 use Rattle.iova_model.specs.Valid.{AreCaches}
-use Rattle.iova_model.specs.Laws.{cached_ranges, frames_of}
+use Rattle.iova_model.specs.Effects.{cached_ranges, frames_of}
 use Rattle.iova_mag.specs.Workers as worker
 use Rattle.iova_mag.specs.Workers.{AreFull}
 use Rattle.iova_depot.specs.declared.spot.Spot.{Spot}

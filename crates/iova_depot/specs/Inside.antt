@@ -7,7 +7,7 @@ use Rattle.iova_model.specs.State.{magazine_holders, depot_holders}
 use Rattle.iova_model.specs.Valid.{AreCaches}
 use Rattle.iova_mag.specs.Workers.{WorkerCache, AreEmpty}
 use Rattle.iova_depot.specs.Stored.{Stored}
-use Rattle.iova_model.specs.Laws.{frames_of}
+use Rattle.iova_model.specs.Effects.{frames_of}
 
 -- The entries stand in slots: six for each worker, one for each order, and then one for each depot.
 -- The slots below this one are empty.

@@ -4,7 +4,7 @@ ghost use Rattle.std.specs.Bool.{OnTrue, OnFalse};
 ghost use Rattle.iova_range.specs.Bounds.{first_profile};
 ghost use Rattle.iova_model.specs.Caches.{TakesAny, TakesEntry, emptied, cache_at, shelf_at, get, put};
 ghost use Rattle.iova_model.specs.State.{magazine_holders, depot_holders};
-ghost use Rattle.iova_model.specs.Laws.{frames_of};
+ghost use Rattle.iova_model.specs.Effects.{frames_of};
 ghost use Rattle.iova_mag.specs.Magazines.{magazine_of};
 ghost use Rattle.iova_mag.specs.Workers.{AreEmpty, HasRoom, GivesNewest, got, new_worker};
 ghost use Rattle.iova_depot.specs.Cached.{Cached, IsCached, IsDepotFull, AreFullAt, LosesOnly, new_cached, place_at, cached_place, cached_frames, depot_at, range_of_entry, after_get, after_put, sent_by_put, after_own_get, after_own_put, after_reload, after_renewal, after_store};
@@ -136,7 +136,7 @@ impl Caches {
     }
 
     /// Whether worker `w`'s loaded magazine of this order, 0 to 5, has a newest entry, whose range
-    /// has no frame above `limit`: `get` then gives it. Our own.
+    /// has no frame above `limit`: `get` then gives it.
     #[inline(always)]
     pub fn gives_newest(&self, w: usize, order: u8, limit: u64) -> bool
         requires worker { w < self.now.workers }
@@ -147,7 +147,6 @@ impl Caches {
     }
 
     /// Gets as `get` does, where loaded's newest entry is given. Else None, and nothing changes.
-    /// Our own.
     #[inline(always)]
     pub fn get_newest(&mut self, w: usize, order: u8, limit: u64) -> Option<u64>
         requires worker { w < self.old.workers }
@@ -232,7 +231,7 @@ impl Caches {
     }
 
     /// How many frames are in magazines of the workers, and how many in the depot, together fewer
-    /// than 2^21. Both are kept, and nothing is counted. Our own.
+    /// than 2^21. Both are kept, and nothing is counted.
     #[inline]
     pub fn frames(&self) -> (u64, u64)
         ensures magazines { result.0 ≡ frames_of (magazine_holders 0 self.now.caches.workers) }
@@ -243,7 +242,7 @@ impl Caches {
     }
 
     /// Where a cached range has the frame: the first such place, the magazines by worker and then
-    /// the depot. None exactly where no cached range has it. All entries may be looked at. Our own.
+    /// the depot. None exactly where no cached range has it. All entries may be looked at.
     pub fn find(&self, frame: u64) -> Option<Spot>
         ensures { option_map place_at result ≡ cached_place frame self.now.caches }
     {

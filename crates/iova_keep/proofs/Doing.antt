@@ -10,7 +10,7 @@ use Rattle.iova_model.specs.declared.step.Reply.TheVariants as reply
 use Rattle.iova_model.specs.declared.totals.Totals.{Totals}
 use Rattle.iova_model.specs.State.{State}
 use Rattle.iova_sink.specs.Calls.{Invalidation, Call, good_in, good_calls}
-use Rattle.iova_model.specs.Laws.{ended_well}
+use Rattle.iova_model.specs.Effects.{ended_well}
 use Rattle.iova_keep.specs.Steps.{Takes}
 use Rattle.iova_keep.specs.Views.{WhereKnown, IsBeginHeard}
 use Rattle.iova_keep.specs.Events.{Event, Ran, Invalidated, Leads, sink_calls, Does, Unmapping, run, not_run, UnmapFirst, tried, full, UnmapAgain, again, Unmap, once, not_begun, flushed, refused, done, failed}

@@ -9,7 +9,7 @@ use Rattle.iova_model.specs.declared.step.Reply.{Reply}
 use Rattle.iova_model.specs.declared.totals.Totals.{Totals}
 use Rattle.iova_model.specs.Clients.{client_of}
 use Rattle.iova_model.specs.State.{State, counts}
-use Rattle.iova_model.specs.Laws.{ended_well}
+use Rattle.iova_model.specs.Effects.{ended_well}
 use Rattle.iova_sink.specs.Calls.{Call}
 use Rattle.iova_keep.specs.declared.ending.Ending.{Ending}
 use Rattle.iova_keep.specs.Steps.{Takes}

@@ -7,13 +7,13 @@ use Rattle.iova_model.specs.declared.step.Reply.{Reply}
 use Rattle.iova_model.specs.declared.step.Reply.TheVariants as reply
 use Rattle.iova_model.specs.declared.totals.Totals.{Totals}
 use Rattle.iova_model.specs.State.{State}
-use Rattle.iova_model.specs.Laws.{MovesTotals}
+use Rattle.iova_model.specs.Effects.{MovesTotals, IsGivenTo}
 use Rattle.iova_keep.specs.declared.ask.Ask.{Ask}
 use Rattle.iova_keep.specs.declared.ask.Ask.TheVariants as ask
 use Rattle.iova_keep.specs.declared.ask.Told.{Told}
 use Rattle.iova_keep.specs.declared.ask.Told.TheVariants as told
 use Rattle.iova_keep.specs.Steps.{Takes}
-use Rattle.iova_keep.specs.Views.{SeatState, IsAllocRefusal, IsUnmapRefusal, IsGivenTo, stat_of}
+use Rattle.iova_keep.specs.Views.{SeatState, IsAllocRefusal, IsUnmapRefusal, stat_of}
 use Rattle.iova_keep.specs.Events.{Does, Unmapping}
 
 -- what may be told of an ask: a request is given a range of its own, or refused; what is freed

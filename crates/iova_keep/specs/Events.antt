@@ -10,7 +10,7 @@ use Rattle.iova_model.specs.declared.step.Reply.TheVariants as reply
 use Rattle.iova_model.specs.declared.totals.Totals.{Totals}
 use Rattle.iova_model.specs.Clients.{totals_of}
 use Rattle.iova_model.specs.State.{State}
-use Rattle.iova_model.specs.Laws.{add_totals, to_queue}
+use Rattle.iova_model.specs.Effects.{add_totals, to_queue}
 use Rattle.iova_sink.specs.Calls.{Invalidation, Call}
 use Rattle.iova_keep.specs.Steps.{Takes}
 use Rattle.iova_keep.specs.declared.ending.Ending.{Ending}

@@ -1,8 +1,6 @@
 -- A step of a domain as a keeper sees it.
-use Rattle.std.specs.Prelude.{ℕ, ◌≡◌, ◌+◌, ◌<◌, ◌≤◌, ◌%◌, ◌⊎◌}
-use Rattle.iova_keep.specs.Views.{IsGivenTo}
+use Rattle.std.specs.Prelude.{ℕ, ◌≡◌, ◌<◌, ◌≤◌, ◌⊎◌}
 use Rattle.iova_range.specs.declared.refusal.Refusal.TheVariants as refusal
-use Rattle.iova_range.specs.Sizes.{need, align_of}
 use Rattle.iova_range.specs.declared.limits.TheConstants.{MAX_ENTRIES}
 use Rattle.iova_model.specs.declared.step.Step.{Step}
 use Rattle.iova_model.specs.declared.step.Step.TheVariants as step
@@ -11,6 +9,7 @@ use Rattle.iova_model.specs.declared.step.Reply.TheVariants as reply
 use Rattle.iova_model.specs.declared.step.Point.{Point}
 use Rattle.iova_model.specs.State.{State}
 use Rattle.iova_model.specs.Next.{next}
+use Rattle.iova_model.specs.Effects.{IsGivenTo}
 
 -- The step is answered so and leaves this state, at some memory point. It stays folded above this
 -- crate's one door to the domain: what is known of a step there are the laws.

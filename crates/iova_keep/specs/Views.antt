@@ -5,7 +5,6 @@ use Rattle.std.specs.declared.sync.ledger.Ledger.{Ghosts as Ledger}
 use Rattle.iova_range.specs.declared.refusal.Refusal.{Refusal}
 use Rattle.iova_range.specs.declared.refusal.Refusal.TheVariants as refusal
 use Rattle.iova_range.specs.Frames.{Frames}
-use Rattle.iova_range.specs.Sizes.{need, align_of}
 use Rattle.iova_range.specs.declared.limits.TheConstants.{TALLY_PARTS}
 use Rattle.iova_range.specs.declared.stat.Stat.{Stat}
 use Rattle.iova_model.specs.declared.step.Step.TheVariants as step
@@ -16,7 +15,7 @@ use Rattle.iova_model.specs.Clients.{Client, client_with, totals_of, totals, no_
 use Rattle.iova_model.specs.Valid.{IsValid}
 use Rattle.iova_model.specs.Promises.{OnePlace, HoldersAreWithin, OwnersAreAligned}
 use Rattle.iova_model.specs.State.{State, counts}
-use Rattle.iova_model.specs.Laws.{MovesTotals, IsAmong, IsReplyTo, add_totals, CountsAddUp, shares_below}
+use Rattle.iova_model.specs.Effects.{MovesTotals, IsAmong, IsReplyTo, add_totals, CountsAddUp, shares_below}
 use Rattle.iova_keep.specs.declared.ending.Ending.{Ending}
 use Rattle.iova_keep.specs.declared.ending.Ending.TheVariants as ending
 use Rattle.iova_keep.specs.declared.unmapped.Unmapped.{Unmapped}
@@ -187,12 +186,6 @@ IsUnknown e = e ≡ refusal.NoClient
 -- what a hold of a client's end is refused by
 abbrev pub IsCloseRefusal : Refusal → Type 0
 IsCloseRefusal e = IsUnknown e ⊎ (e ≡ refusal.NotHeld) ⊎ (e ≡ refusal.RingFull)
-
--- what is given to a request of so many frames with this limit: as many as it needs, aligned to
--- their size, and none above
-abbrev pub IsGivenTo : ℕ → ℕ → Frames → Type 0
-IsGivenTo frames limit r =
-    (r.len ≡ need frames) × (r.lo % align_of r.len ≡ 0) × (r.lo + r.len ≤ limit + 1)
 
 -- What a hold may be heard to answer.
 

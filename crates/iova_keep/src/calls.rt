@@ -1,6 +1,6 @@
 //! Calls of several holds, over any keeper. The sink runs between two holds, never in one.
 ghost use Rattle.std.specs.Prelude.{◌≡◌, ℕ, ◌+◌, ◌<◌, ◌≤◌, ◌++◌, List, [], ◌∷◌, Some, Err, true, false, IfOk, IfErr, MatchResult};
-ghost use Rattle.iova_model.specs.Laws.{MovesTotals, IsReplyTo};
+ghost use Rattle.iova_model.specs.Effects.{MovesTotals, IsReplyTo};
 ghost use Rattle.iova_sink.specs.Calls.{Invalidation, failed_calls};
 ghost use Rattle.iova_keep.specs.Views.{TallyState, SeatState, WhereKnown, RisesWithin, queued_or, begun_or, IsUnmapRefusal, IsBeginRefusal, IsFlushRefusal, IsUnmapHeard};
 ghost use Rattle.iova_keep.specs.Answers.{DoesUnmap, DoesFlush, DoesTimeout};
@@ -58,7 +58,7 @@ pub fn flush<C: Ledger, F: Ledger, S: Ledger, G: Ledger, K: Keep<C, F, S, G>, D:
 /// Unmaps the client's range that begins at `lo`: it leaves the client, and waits in the worker's
 /// ring for a flush. Where the ring is full, it flushes and tries once more. Refused by `NoClient`,
 /// `Closing` and `NotHeld`, and by `RingFull` where the ring stays full or no flush begins; then
-/// the range is still the client's. Own.
+/// the range is still the client's.
 pub fn unmap<C: Ledger, F: Ledger, S: Ledger, G: Ledger, K: Keep<C, F, S, G>, D: Sink>(
     keeper: &mut K,
     seat: &mut Seat<C, F, S, G>,

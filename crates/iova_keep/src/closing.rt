@@ -1,7 +1,7 @@
 //! The end of a client, over any keeper. The sink runs between two holds, never in one.
 ghost use Rattle.std.specs.Prelude.{◌≡◌, ◌≢◌, ◌==◌, ℕ, ◌+◌, ◌<◌, ◌≤◌, ◌⊎◌, Some, None, Ok, Err, List, true, false, IfSome, IfNone, MatchBool};
 ghost use Rattle.iova_range.specs.Frames.{Frames};
-ghost use Rattle.iova_model.specs.Laws.{IsReplyTo};
+ghost use Rattle.iova_model.specs.Effects.{IsReplyTo};
 ghost use Rattle.iova_sink.specs.Calls.{failed_calls};
 ghost use Rattle.iova_keep.specs.Views.{TallyState, SeatState, WhereKnown, RisesWithin, IsCloseHeard, IsCloseRefusal, IsBeginHeard, LowersTold, IsLowered, begun_of};
 ghost use Rattle.iova_keep.specs.Events.{Answered};
@@ -20,7 +20,7 @@ use std::sync::ledger::Ledger;
 /// gone. Where the worker's ring is full it flushes and goes on. `Waiting` where the ring stays
 /// full right after a flush, where none can begin, or where a share would fall below 0; the client
 /// stays closing then, keeps what is left, and may be ended again. Refused by `NoClient`; then
-/// nothing has changed. Own.
+/// nothing has changed.
 pub fn end_client<C: Ledger, F: Ledger, S: Ledger, G: Ledger, K: Keep<C, F, S, G>, D: Sink>(
     keeper: &mut K,
     seat: &mut Seat<C, F, S, G>,

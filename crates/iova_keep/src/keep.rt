@@ -5,8 +5,8 @@ ghost use Rattle.iova_range.specs.Frames.{Frames};
 ghost use Rattle.iova_model.specs.Clients.{totals, no_totals};
 ghost use Rattle.iova_model.specs.State.{State};
 ghost use Rattle.iova_model.specs.Valid.{Rises};
-ghost use Rattle.iova_model.specs.Laws.{MovesTotals, IsReplyTo, ended_well};
-ghost use Rattle.iova_keep.specs.Views.{TallyState, SeatState, WhereKnown, IsReserveRefusal, IsOpenRefusal, IsAllocRefusal, IsGivenTo, IsUnmapHeard, IsBeginHeard, IsReleaseBegin, IsSecondBegin, IsCloseHeard, MovesHeard, Lowers, queued_by, given_or, stat_of, IsKept, IsWorker};
+ghost use Rattle.iova_model.specs.Effects.{MovesTotals, IsReplyTo, IsGivenTo, ended_well};
+ghost use Rattle.iova_keep.specs.Views.{TallyState, SeatState, WhereKnown, IsReserveRefusal, IsOpenRefusal, IsAllocRefusal, IsUnmapHeard, IsBeginHeard, IsReleaseBegin, IsSecondBegin, IsCloseHeard, MovesHeard, Lowers, queued_by, given_or, stat_of, IsKept, IsWorker};
 ghost use Rattle.iova_keep.specs.Batches.{DoesBatch, TellsAsks};
 ghost use Rattle.iova_keep.specs.Releases.{ReleasesFirst, ReleasesAgain, ReleasesLast};
 ghost use Rattle.iova_keep.specs.StepLogs.{StepLog, GoesOn};
@@ -36,7 +36,7 @@ pub struct Heard {
 }
 
 /// A keeper of a domain. Each call but `number` is one hold of it: its steps are run together, and
-/// nothing else runs between them. Own.
+/// nothing else runs between them.
 ///
 /// Where the domain is known, a call says what it leaves. Of every keeper a call says what it
 /// answers and how it moves the seat's shares and tally.

@@ -2,7 +2,7 @@
 ghost use Rattle.std.specs.Prelude.{◌≡◌, ◌+◌, ◌*◌, ◌≤◌, ◌∷◌, [], IfOk, IsErr, Err};
 ghost use Rattle.iova_range.specs.declared.limits.TheConstants.{MAX_WORKERS, TALLY_PARTS};
 ghost use Rattle.iova_model.specs.Clients.{totals_of, no_totals};
-ghost use Rattle.iova_model.specs.Laws.{add_totals};
+ghost use Rattle.iova_model.specs.Effects.{add_totals};
 ghost use Rattle.iova_keep.specs.Views.{AreBlanksOf, TallyState, SeatState, LedgersState, Covers, seats_in_turn};
 
 use crate::seat::{Seat, Tally};
@@ -16,7 +16,7 @@ use std::sync::ledger;
 use std::sync::ledger::{Blank, Ledger, Share};
 
 /// What a domain's four ledgers are opened with: of each a blank, which no type stands for yet. It
-/// takes no memory. Own.
+/// takes no memory.
 #[derive(Drop)]
 pub struct Blanks {
     /// Of how many ranges are held.
@@ -48,7 +48,7 @@ impl Blanks {
 
 /// The totals over all holdings of a domain, and how many of its flushes ended well. It takes no
 /// memory: only proofs see it. Whoever keeps a domain has its ledgers beside it, and moves a seat's
-/// shares with them. Own.
+/// shares with them.
 pub struct Ledgers<C: Ledger, F: Ledger, S: Ledger, G: Ledger> {
     count: ledger::Book<C>,
     frames: ledger::Book<F>,

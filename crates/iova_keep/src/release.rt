@@ -1,7 +1,7 @@
 //! An unmap that in a strict domain waits for a flush of its own, over any keeper. The sink runs
 //! between two holds, never in one.
 ghost use Rattle.std.specs.Prelude.{◌≡◌, ◌+◌, ◌≤◌, ◌++◌, ◌∷◌, [], MatchResult};
-ghost use Rattle.iova_model.specs.Laws.{MovesTotals};
+ghost use Rattle.iova_model.specs.Effects.{MovesTotals};
 ghost use Rattle.iova_keep.specs.Views.{TallyState, SeatState, WhereKnown, RisesWithin, IsUnmapRefusal, unmapped_or, range_of};
 ghost use Rattle.iova_keep.specs.Releases.{DoesRelease, DoesReleaseRest, DoesFollow};
 
@@ -23,7 +23,7 @@ use std::sync::ledger::Ledger;
 /// well and none is in flight that began before it; with an older one in flight, or where the flush
 /// itself failed, only if enough later ones have ended well. Where the ring is full it flushes
 /// first, and tries once more. Refused by `NoClient`, `Closing` and `NotHeld`, and by `RingFull`
-/// where the ring stays full or no flush begins; then the range is still the client's. Own.
+/// where the ring stays full or no flush begins; then the range is still the client's.
 pub fn release<C: Ledger, F: Ledger, S: Ledger, G: Ledger, K: Keep<C, F, S, G>, D: Sink>(
     keeper: &mut K,
     seat: &mut Seat<C, F, S, G>,

@@ -9,7 +9,7 @@ use std::marker::Model;
 use std::sync::ledger::{Ledger, Share};
 
 /// How many flushes its holder ended well, a share of all that ended well in the domain. Its parts
-/// can be split off, so that several threads of one worker end flushes. Own.
+/// can be split off, so that several threads of one worker end flushes.
 pub struct Tally<G: Ledger> {
     pub(crate) good: u64,
     pub(crate) parts: u64,
@@ -85,7 +85,7 @@ impl<G: Ledger> Tally<G> {
 /// A place at the domain, of one of its workers: its shares of the count, the frames and the sum of
 /// first frames of all holdings, which each call moves by what it answers, and its tally. A worker
 /// may have several seats, and each has the shares of what was given to it alone. A seat of another
-/// domain has another type, and its worker is one of the domain's. Own.
+/// domain has another type, and its worker is one of the domain's.
 pub struct Seat<C: Ledger, F: Ledger, S: Ledger, G: Ledger> {
     pub(crate) worker: u64,
     pub(crate) held: Totals,

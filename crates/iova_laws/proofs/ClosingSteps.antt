@@ -11,7 +11,7 @@ use Rattle.iova_model.specs.declared.step.Reply.TheVariants as reply
 use Rattle.iova_model.specs.Clients.{Client, client_with, changed, forgotten, remove_at, with_holding, without_holding, marked}
 use Rattle.iova_model.specs.State.{State}
 use Rattle.iova_model.specs.Valid.{SerialsRise}
-use Rattle.iova_model.specs.Laws.{queued_in, Marks, Empties}
+use Rattle.iova_model.specs.Effects.{queued_in, Marks, Empties}
 use Rattle.iova_laws.proofs.ClosingSerials.{found-push, found-changed_other, found-forgotten_other}
 use Rattle.iova_laws.proofs.Serials.{KeepsSerial, forgotten_is_gone}
 use Rattle.iova_laws.proofs.ValidFound.{changed_found}

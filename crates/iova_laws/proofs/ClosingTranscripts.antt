@@ -13,7 +13,8 @@ use Rattle.iova_model.specs.State.{State}
 use Rattle.iova_model.specs.Valid.{IsValid}
 use Rattle.iova_model.specs.Next.{next}
 use Rattle.iova_model.specs.Transcript.{Pair, IsTranscript, after}
-use Rattle.iova_model.specs.Laws.{queued_in, queued_by_closing, Marks, Empties, IsEmptiedAt, IsClosing, IsGone, ClientsCloseInOrder, client_named, unknown_refusal, GoneClientsStayGone}
+use Rattle.iova_model.specs.Effects.{queued_in, queued_by_closing, Marks, Empties, IsEmptiedAt, IsClosing, IsGone, client_named, unknown_refusal}
+use Rattle.iova_model.specs.Laws.{ClientsCloseInOrder, GoneClientsStayGone}
 use Rattle.iova_laws.proofs.ClosingSerials.{serial_grows, gone-next}
 use Rattle.iova_laws.proofs.Serials.{serial_given}
 use Rattle.iova_laws.proofs.Valid.{steps_keep_validity}

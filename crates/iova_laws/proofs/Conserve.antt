@@ -13,7 +13,8 @@ use Rattle.iova_model.specs.Flushes.{begun, ended, unflushed}
 use Rattle.iova_model.specs.State.{State}
 use Rattle.iova_model.specs.Valid.{IsValid}
 use Rattle.iova_model.specs.Next.{Next, refused, Found, At, Nowhere, OutOfMemory, with_caches, from_to, union, reserved, given, given_from, ring_at, drained, queued}
-use Rattle.iova_model.specs.Laws.{Moves, MovesInAlloc, Conserves, StepsConserve, freed_by_drain, cached_ranges}
+use Rattle.iova_model.specs.Effects.{Moves, MovesInAlloc, Conserves, freed_by_drain, cached_ranges}
+use Rattle.iova_model.specs.Laws.{StepsConserve}
 use Rattle.iova_laws.proofs.Weight as weight
 use Rattle.iova_laws.proofs.WeightHolders.{held_weigh}
 use Rattle.iova_laws.proofs.ValidCases.{is_no_space, AreThere, with_marked, Cases, next_cases}

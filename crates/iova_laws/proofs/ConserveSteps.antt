@@ -8,7 +8,7 @@ use Rattle.iova_model.specs.Clients.{Client, new_client, client_with, changed, f
 use Rattle.iova_model.specs.State.{State}
 use Rattle.iova_model.specs.Valid.{AreCaches, IsValid}
 use Rattle.iova_model.specs.Next.{with_clients, with_caches, with_flushes, opened, ring_at, drained, queued}
-use Rattle.iova_model.specs.Laws.{freed_by_drain, cached_ranges, FreesCaches}
+use Rattle.iova_model.specs.Effects.{freed_by_drain, cached_ranges, FreesCaches}
 use Rattle.iova_laws.proofs.Weight as weight
 use Rattle.iova_laws.proofs.WeightCaches.{cached-put_all}
 use Rattle.iova_laws.proofs.WeightHolders.{load, cached_weigh}

@@ -12,7 +12,8 @@ use Rattle.iova_range.specs.Bounds.{Extent}
 use Rattle.iova_model.specs.Clients.{Client, all_holdings, totals}
 use Rattle.iova_model.specs.State.{State, Holder, window_holders, client_holders, magazine_holders, depot_holders, ring_holders, cached_holders, owners, holders, place_in, place_of, times_held, is_free, is_reserved, is_client, is_magazine, is_depot, is_ring, count_below, frames_at}
 use Rattle.iova_model.specs.Valid.{is_inside, IsValid}
-use Rattle.iova_model.specs.Laws.{frames_of, PlacesAddUp}
+use Rattle.iova_model.specs.Effects.{frames_of}
+use Rattle.iova_model.specs.Laws.{PlacesAddUp}
 use Rattle.iova_laws.proofs.Weight as weight
 use Rattle.iova_laws.proofs.WeightHolders.{holder_ranges, clients_hold}
 use Rattle.iova_laws.proofs.PlaceOnce.{has}

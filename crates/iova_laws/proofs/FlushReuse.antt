@@ -9,7 +9,8 @@ use Rattle.iova_model.specs.State.{State}
 use Rattle.iova_model.specs.Valid.{IsValid}
 use Rattle.iova_model.specs.Next.{next}
 use Rattle.iova_model.specs.Transcript.{after, is_ringed}
-use Rattle.iova_model.specs.Laws.{Gives, ReuseIsFlushed}
+use Rattle.iova_model.specs.Effects.{Gives}
+use Rattle.iova_model.specs.Laws.{ReuseIsFlushed}
 use Rattle.iova_laws.proofs.FlushTranscripts.{step_at, transcripts_are_flushed}
 use Rattle.iova_laws.proofs.PlaceGiven.{given_not_ringed}
 use Rattle.iova_laws.proofs.Valid.{transcripts_keep_validity}

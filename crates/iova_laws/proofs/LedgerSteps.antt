@@ -9,7 +9,8 @@ use Rattle.iova_model.specs.declared.step.Reply.{Reply}
 use Rattle.iova_model.specs.Clients.{Client, client_with, changed, forgotten, begins_at, remove_at, with_holding, without_holding, marked, totals_of, all_holdings, totals, share_of}
 use Rattle.iova_model.specs.State.{State}
 use Rattle.iova_model.specs.Next.{next}
-use Rattle.iova_model.specs.Laws.{MovesTotals, MovesShare, worker_of, StepsMoveLedgers}
+use Rattle.iova_model.specs.Effects.{MovesTotals, MovesShare, worker_of}
+use Rattle.iova_model.specs.Laws.{StepsMoveLedgers}
 use Rattle.iova_laws.proofs.LedgerClients.{stands}
 use Rattle.iova_laws.proofs.ValidFound.{held_at, first_held, changed_found}
 use Rattle.iova_laws.proofs.LedgerTotals.{HasMore, totals_more, more-insert, more-remove, more_alike, more_within}

@@ -9,7 +9,8 @@ use Rattle.iova_range.specs.Frames.{Frames}
 use Rattle.iova_model.specs.declared.totals.Totals.{Totals}
 use Rattle.iova_model.specs.Clients.{Client, begins_at, insert_rising, remove_at, totals_of, all_holdings, totals, share_of}
 use Rattle.iova_model.specs.Valid.{IsClient}
-use Rattle.iova_model.specs.Laws.{add_totals, shares_below, TotalsAreShares}
+use Rattle.iova_model.specs.Effects.{add_totals, shares_below}
+use Rattle.iova_model.specs.Laws.{TotalsAreShares}
 
 -- totals are equal by their parts
 totals_same : (a b : Totals) → a.count ≡ b.count → a.frames ≡ b.frames → a.sum_lo ≡ b.sum_lo → a ≡ b

@@ -18,7 +18,7 @@ use Rattle.iova_model.specs.Flushes.{is_in_flight, begun, ended, flushed}
 use Rattle.iova_model.specs.Clients.{Client, client_with, client_of, if_owned, changed, forgotten, begins_at, with_holding, marked}
 use Rattle.iova_model.specs.State.{State}
 use Rattle.iova_model.specs.Next
-use Rattle.iova_model.specs.Laws.{Marks, client_named, unknown_refusal, RefusalLeaves}
+use Rattle.iova_model.specs.Effects.{Marks, client_named, unknown_refusal, RefusalLeaves}
 use Rattle.iova_model.proofs.Unless.{AllFail, unless_cases}
 use Rattle.iova_laws.proofs.Tests.{unless_each}
 use Rattle.iova_laws.proofs.Walks.{walk_walked}

@@ -10,7 +10,8 @@ use Rattle.iova_model.specs.Flushes.{entry_range}
 use Rattle.iova_model.specs.Clients.{Client}
 use Rattle.iova_model.specs.State.{State, Holder, at_place, window_holders, client_holders, cache_holders, magazine_holders, list_holders, depot_holders, ring_holders, cached_holders, owners, holders, place_in, times_held}
 use Rattle.iova_model.specs.Valid.{IsValid}
-use Rattle.iova_model.specs.Laws.{IsOnlyAt, EachFrameIsInOnePlace}
+use Rattle.iova_model.specs.Effects.{IsOnlyAt}
+use Rattle.iova_model.specs.Laws.{EachFrameIsInOnePlace}
 use Rattle.iova_laws.proofs.ValidLists.{all_found}
 
 -- something holds of the place of each holder

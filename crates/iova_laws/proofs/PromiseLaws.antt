@@ -8,7 +8,7 @@ use Rattle.iova_model.specs.State.{State, Holder, holders, owners}
 use Rattle.iova_model.specs.Valid.{IsValid, is_inside, is_aligned}
 use Rattle.iova_model.specs.Next.{next}
 use Rattle.iova_model.specs.Transcript.{Pair, IsTranscript, after}
-use Rattle.iova_model.specs.Laws.{IsClosing, IsGone}
+use Rattle.iova_model.specs.Effects.{IsClosing, IsGone}
 use Rattle.iova_model.specs.Promises.{ClosingLaw, GoneLaw, HoldersAreWithin, OwnersAreAligned, PromisesAreKept}
 use Rattle.iova_laws.proofs.Valid.{transcripts_keep_validity}
 use Rattle.iova_laws.proofs.PlaceKinds.{each_frame_is_in_one_place}

@@ -8,7 +8,8 @@ use Rattle.iova_model.specs.declared.step.Reply.{Reply}
 use Rattle.iova_model.specs.declared.step.Reply.TheVariants as reply
 use Rattle.iova_model.specs.State.{State}
 use Rattle.iova_model.specs.Next.{with_caches}
-use Rattle.iova_model.specs.Laws.{RefusalLeaves, RefusalsKeepTheState, StepsKeepTheDomain}
+use Rattle.iova_model.specs.Effects.{RefusalLeaves}
+use Rattle.iova_model.specs.Laws.{RefusalsKeepTheState, StepsKeepTheDomain}
 use Rattle.iova_laws.proofs.Outcomes.{Outcome, turned_down, gives_nothing, only_marks, outcome}
 
 -- the refusals of two equal replies are equal

@@ -14,7 +14,8 @@ use Rattle.iova_model.specs.declared.step.Point.{Point}
 use Rattle.iova_model.specs.Clients.{Client, client_of, begins_at, changed, marked, new_client, with_holding, without_holding}
 use Rattle.iova_model.specs.State.{State}
 use Rattle.iova_model.specs.Next
-use Rattle.iova_model.specs.Laws.{IsReplyTo, StepsAreAnsweredInKind, ended_well, StepsMoveGood, to_queue, QueuedWereHeld, client_named, held_in, held_by, OthersKeepTheirHoldings}
+use Rattle.iova_model.specs.Effects.{IsReplyTo, ended_well, to_queue, client_named, held_in, held_by}
+use Rattle.iova_model.specs.Laws.{StepsAreAnsweredInKind, StepsMoveGood, QueuedWereHeld, OthersKeepTheirHoldings}
 use Rattle.iova_laws.proofs.ClosingSerials.{found-changed_other, found-forgotten_other}
 use Rattle.iova_laws.proofs.Tests.{unless_each}
 use Rattle.iova_laws.proofs.ValidFound.{found_at}

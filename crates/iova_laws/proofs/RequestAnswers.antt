@@ -17,7 +17,8 @@ use Rattle.iova_model.specs.Clients.{Client}
 use Rattle.iova_model.specs.State.{State, Holder, holders, held_ranges}
 use Rattle.iova_model.specs.Valid.{is_inside, is_aligned, IsValid}
 use Rattle.iova_model.specs.Next.{Next, refused, Found, At, Nowhere, OutOfMemory, with_caches, best_place, given, given_from}
-use Rattle.iova_model.specs.Laws.{IsAnswerTo, AnswersRequest, RequestsAreAnswered}
+use Rattle.iova_model.specs.Effects.{IsAnswerTo, AnswersRequest}
+use Rattle.iova_model.specs.Laws.{RequestsAreAnswered}
 use Rattle.iova_model.proofs.Placing.{AreSome, fits-Fits, best-is_best}
 use Rattle.iova_laws.proofs.Walks.{walk_walked}
 use Rattle.iova_laws.proofs.ValidCases.{is_no_space, AreThere, MayAlloc, Cases, next_cases}
@@ -30,8 +31,7 @@ use Rattle.iova_laws.proofs.PlaceOnce.{lacks, none_lacks, in_order}
 suits : (s : State) (frames limit lo : ℕ) → is_inside s.bounds (record { lo = lo; len = need frames }) ≡ true → is_aligned (record { lo = lo; len = need frames }) ≡ true → lo + need frames ≤ limit + 1
     → IsAnswerTo s frames limit (record { lo = lo; len = need frames })
 suits s frames limit lo inside aligned within = record {
-  size = refl;
-  aligned = grind (arith, nat_tests);
+  given = (refl, grind (arith, nat_tests), within);
   start = grind (arith, nat_tests);
   last = grind (arith, nat_tests);
 }
@@ -48,7 +48,7 @@ cached_suits s c frames limit lo valid was =
 free_suits : (s : State) (c : Caches) (frames limit lo : ℕ) → IsFree s c (need frames) limit lo → IsAnswerTo s frames limit (record { lo = lo; len = need frames })
 free_suits s c frames limit lo free =
     let fit = fits-Fits s.bounds (held_ranges (with_caches s c)) (need frames) free.used lo free.fits in
-    record { size = refl; aligned = fit.aligned; start = fit.start; last = omega (arith, fit.last, free.within) }
+    record { given = (refl, fit.aligned, omega (arith, fit.last, free.within)); start = fit.start; last = omega (arith, fit.last) }
 
 -- what is inside has a frame
 inside_some : (b : Extent) (hs : List Holder) → list_all (λ h. is_inside b h.range) hs ≡ true → AreSome (map (λ h. h.range) hs)

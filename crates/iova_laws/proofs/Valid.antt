@@ -13,7 +13,8 @@ use Rattle.iova_model.specs.State.{State, new_domain}
 use Rattle.iova_model.specs.Valid.{is_inside, IsRequestSized, AreClients, IsRing, IsValid}
 use Rattle.iova_model.specs.Next.{Found, At, Nowhere, OutOfMemory, next, with_clients, with_caches, with_flushes, with_windows, opened, union, windows_with, from_to, given, given_from, ring_at, drained, queued}
 use Rattle.iova_model.specs.Transcript.{Pair, after}
-use Rattle.iova_model.specs.Laws.{NewDomainsAreValid, StepsKeepValidity, TranscriptsKeepValidity, freed_by_drain, cached_ranges}
+use Rattle.iova_model.specs.Effects.{freed_by_drain, cached_ranges}
+use Rattle.iova_model.specs.Laws.{NewDomainsAreValid, StepsKeepValidity, TranscriptsKeepValidity}
 use Rattle.iova_laws.proofs.Weight as weight
 use Rattle.iova_laws.proofs.ValidLists.{all-at, all-set, all-replicate, all-weaker, all_found}
 use Rattle.iova_laws.proofs.ValidCases.{MayReserve, MayOpen, MayBegin, HasRingRoom, with_marked, Cases, next_cases}

@@ -8,7 +8,7 @@ use Rattle.iova_model.specs.Caches.{Cache, Caches, of_order}
 use Rattle.iova_model.specs.Flushes.{entry_range}
 use Rattle.iova_model.specs.Clients.{Client}
 use Rattle.iova_model.specs.State.{State, Holder, at_place, window_holders, client_holders, cache_holders, magazine_holders, list_holders, depot_holders, ring_holders, cached_holders, owners, holders, held_ranges}
-use Rattle.iova_model.specs.Laws.{cached_ranges}
+use Rattle.iova_model.specs.Effects.{cached_ranges}
 use Rattle.iova_laws.proofs.Weight as weight
 
 -- what all but the windows weigh

@@ -1,4 +1,4 @@
--- What was recorded, written as a trace. Own.
+-- What was recorded, written as a trace.
 use Rattle.std.specs.Prelude.{ℕ, ◌≡◌, ◌≤◌, List, ◌++◌, length, map, flat_map}
 use Rattle.std.specs.List.{AllByRecursion}
 use Rattle.iova_range.specs.Bounds.{Extent}

@@ -1,5 +1,5 @@
 -- The text of a trace: a line for its header, and one for each step. All of it is ASCII, a line
--- ends by LF, and the words of a line have one space between them. Own.
+-- ends by LF, and the words of a line have one space between them.
 use Rattle.std.specs.Prelude.{ℕ, ◌<◌, ◌≤◌, ◌^◌, ◌==◌, Bool, true, false, List, [], ◌∷◌, codes, decimal, if◌then◌else◌}
 use Rattle.iova_range.specs.Bounds.{Extent, IsExtent, first_profile}
 use Rattle.iova_text.specs.Words.{line_text, numbers_line, kind_text}

@@ -1,4 +1,4 @@
--- A trace, and its text. Own.
+-- A trace, and its text.
 use Rattle.std.specs.Prelude.{ℕ, ◌+◌, ◌≤◌, List, ◌++◌, length, flat_map}
 use Rattle.std.specs.List.{AllByRecursion}
 use Rattle.iova_range.specs.declared.limits.TheConstants.{MAX_STEPS}

@@ -15,7 +15,7 @@ use iova_range::refusal::Refusal;
 use iova_text::buffer::{LineBuffer, append, put, put_numbers};
 use iova_text::words::{first_word, kind_of, next_number, three_numbers, two_numbers};
 
-/// The first word of a step's line. Our own.
+/// The first word of a step's line.
 #[derive(Clone, Copy, Debug, PartialEq, Eq)]
 pub enum Verb {
     /// `reserve <lo> <hi>`.
@@ -47,8 +47,7 @@ pub struct Header {
     pub workers: u64,
 }
 
-/// The step of this line, which is without its LF. None exactly where the line is no step's. Our
-/// own.
+/// The step of this line, which is without its LF. None exactly where the line is no step's.
 pub fn read_step(line: &[u8]) -> Option<Step>
     ensures spelled { IfSome result (λ s. line.now ≡ step_text s) }
     ensures read { (s : Step) → NumbersFit s → line.now ≡ step_text s → result ≡ Some s }
@@ -62,7 +61,7 @@ pub fn read_step(line: &[u8]) -> Option<Step>
 /// The header of this line, which is without its LF: `iovatrace 1 <start> <last> <workers>` in the
 /// first profile, `iovatrace 2 <start> <last> <workers> <depot>` in the second. None exactly where
 /// the line is no header's, also where the depot is above 32, the bounds are none of the profile,
-/// or there are not 1 to 16 workers. Our own.
+/// or there are not 1 to 16 workers.
 pub fn read_header(line: &[u8]) -> Option<Header>
     ensures spelled { IfSome result (λ h. line.now ≡ header_text h.bounds h.workers) }
     ensures good { IfSome result (λ h. IsHeader h.bounds h.workers) }

@@ -10,7 +10,7 @@ use iova_range::bounds::Bounds;
 use iova_range::limits::MAX_STEPS;
 use std::marker::Model;
 
-/// What a trace says: the domain of its header, and its steps. Our own.
+/// What a trace says: the domain of its header, and its steps.
 #[derive(Drop)]
 pub struct Trace {
     /// The bounds and the profile.

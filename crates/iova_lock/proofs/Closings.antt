@@ -11,7 +11,7 @@ use Rattle.iova_model.specs.declared.step.Reply.TheVariants as reply
 use Rattle.iova_model.specs.declared.totals.Totals.{Totals}
 use Rattle.iova_model.specs.Clients.{totals_of}
 use Rattle.iova_model.specs.State.{State}
-use Rattle.iova_model.specs.Laws.{add_totals, MovesTotals, IsReplyTo}
+use Rattle.iova_model.specs.Effects.{add_totals, MovesTotals, IsReplyTo}
 use Rattle.iova_keep.specs.Steps.{Takes}
 use Rattle.iova_keep.specs.Views.{IsLowered, IsCloseHeard}
 use Rattle.iova_keep.specs.Events.{Event, Ran, Leads, Does, Unmapping, run, not_run, Closing, stops, queues}

@@ -6,7 +6,7 @@ use Rattle.iova_model.specs.declared.step.Reply.{Reply}
 use Rattle.iova_model.specs.declared.step.Reply.TheVariants as reply
 use Rattle.iova_model.specs.declared.totals.Totals.{Totals}
 use Rattle.iova_model.specs.State.{State}
-use Rattle.iova_model.specs.Laws.{IsReplyTo}
+use Rattle.iova_model.specs.Effects.{IsReplyTo}
 use Rattle.iova_keep.specs.Steps.{Takes}
 use Rattle.iova_keep.specs.Views.{SeatState, IsReleaseBegin, IsSecondBegin}
 use Rattle.iova_keep.specs.Events.{Ran, Does, Unmapping}

@@ -7,7 +7,7 @@ use Rattle.iova_model.specs.declared.step.Reply.{Reply}
 use Rattle.iova_model.specs.declared.step.Reply.TheVariants as reply
 use Rattle.iova_model.specs.declared.totals.Totals.{Totals}
 use Rattle.iova_model.specs.State.{State}
-use Rattle.iova_model.specs.Laws.{to_queue}
+use Rattle.iova_model.specs.Effects.{to_queue}
 use Rattle.iova_keep.specs.Steps.{Takes}
 use Rattle.iova_keep.specs.Events.{Event, Ran, NotRun, IsShort, Leads, Does, Unmapping, run, not_run, UnmapFirst, tried, full, UnmapAgain, again}
 

@@ -7,7 +7,7 @@ ghost use Rattle.iova_range.specs.Frames.{Frames};
 ghost use Rattle.iova_model.specs.Clients.{totals, client_of, no_totals};
 ghost use Rattle.iova_model.specs.State.{State, new_domain};
 ghost use Rattle.iova_model.specs.Valid.{Rises};
-ghost use Rattle.iova_model.specs.Laws.{MovesTotals, IsReplyTo, ended_well, to_queue, worker_of};
+ghost use Rattle.iova_model.specs.Effects.{MovesTotals, IsReplyTo, ended_well, to_queue, worker_of};
 ghost use Rattle.iova_keep.specs.Steps.{Takes, IsGivenWithin, IsDrainReply};
 ghost use Rattle.iova_keep.specs.StepLogs.{StepLog, IsRecorded, is_recording, new_log};
 ghost use Rattle.iova_keep.specs.Events.{Does, Unmapping, IsShort, Closing, Draining, rings_from};
@@ -24,7 +24,7 @@ use iova_range::limits::{MAX_ENTRIES, MAX_WORKERS, SEAT_PARTS, TALLY_PARTS};
 use iova_range::range::Range;
 use iova_range::refusal::Refusal;
 use iova_range::stat::Stat;
-use iova_record::machine::{Machine, Stored};
+use iova_record::recorded_domain::{RecordedDomain, Stored};
 use iova_report::report;
 use std::alloc::Global;
 use std::marker::Model;
@@ -50,7 +50,7 @@ pub struct Book<C: Ledger, F: Ledger, S: Ledger, G: Ledger> {
     number: u64,
     seats: u64,
     strict: bool,
-    machine: Machine,
+    recorded: RecordedDomain,
     ledgers: Ledgers<C, F, S, G>,
 }
 
@@ -62,7 +62,7 @@ impl<C: Ledger, F: Ledger, S: Ledger, G: Ledger> Drop for Book<C, F, S, G> {
             number: _,
             seats: _,
             strict: _,
-            machine: _,
+            recorded: _,
             ledgers: _,
         } = self;
     }
@@ -79,15 +79,15 @@ impl<C: Ledger, F: Ledger, S: Ledger, G: Ledger> Model for Book<C, F, S, G> {
     ghost view = { λ b. record {
       number = b.number;
       strict = b.strict;
-      state = b.machine.state;
-      log = b.machine.log;
+      state = b.recorded.state;
+      log = b.recorded.log;
       shares = b.ledgers.shares;
       ended = b.ledgers.ended;
     } };
 
-    ghost invariant = { λ b. (b.ledgers.shares ≡ totals b.machine.state.clients)
-        × (b.ledgers.ended ≡ b.machine.state.flushes.good)
-        × (G.parts ≡ TALLY_PARTS * b.machine.state.workers) × (C.parts ≡ b.seats)
+    ghost invariant = { λ b. (b.ledgers.shares ≡ totals b.recorded.state.clients)
+        × (b.ledgers.ended ≡ b.recorded.state.flushes.good)
+        × (G.parts ≡ TALLY_PARTS * b.recorded.state.workers) × (C.parts ≡ b.seats)
         × (F.parts ≡ b.seats) × (S.parts ≡ b.seats) };
 }
 
@@ -110,14 +110,14 @@ impl<C: Ledger, F: Ledger, S: Ledger, G: Ledger> Book<C, F, S, G> {
         ensures memory { IsErr result → (result ≡ Err Refusal.NoWorker)
             ⊎ (result ≡ Err Refusal.NoMemory) }
     {
-        match Machine::new(alloc, bounds, workers) {
-            Ok(machine) => Book::over(
+        match RecordedDomain::new(alloc, bounds, workers) {
+            Ok(recorded) => Book::over(
                 alloc,
                 number,
                 workers,
                 workers,
                 TALLY_PARTS,
-                machine,
+                recorded,
                 blanks,
             ),
             Err(refusal) => Err(refusal),
@@ -143,14 +143,14 @@ impl<C: Ledger, F: Ledger, S: Ledger, G: Ledger> Book<C, F, S, G> {
         ensures memory { IsErr result → (result ≡ Err Refusal.NoWorker)
             ⊎ (result ≡ Err Refusal.NoMemory) }
     {
-        match Machine::recorded(alloc, bounds, workers, pairs) {
-            Ok(machine) => Book::over(
+        match RecordedDomain::recorded(alloc, bounds, workers, pairs) {
+            Ok(recorded) => Book::over(
                 alloc,
                 number,
                 workers,
                 workers,
                 TALLY_PARTS,
-                machine,
+                recorded,
                 blanks,
             ),
             Err(refusal) => Err(refusal),
@@ -177,35 +177,36 @@ impl<C: Ledger, F: Ledger, S: Ledger, G: Ledger> Book<C, F, S, G> {
         ensures err { IsErr result → result ≡ Err Refusal.NoMemory }
     {
         let made = match pairs {
-            Some(pairs) => Machine::recorded(alloc, bounds, workers, pairs),
-            None => Machine::new(alloc, bounds, workers),
+            Some(pairs) => RecordedDomain::recorded(alloc, bounds, workers, pairs),
+            None => RecordedDomain::new(alloc, bounds, workers),
         };
         match made {
-            Ok(machine) => Book::over(alloc, number, workers, seats, SEAT_PARTS, machine, blanks),
+            Ok(recorded) => Book::over(alloc, number, workers, seats, SEAT_PARTS, recorded, blanks),
             Err(_) => Err(Refusal::NoMemory),
         }
     }
 
-    /// A book over this new machine, and so many seats, of its workers in turn, each with so many
-    /// parts for its tally. Refused by `NoMemory`.
+    /// A book over this new recorded domain, and so many seats, of its workers in turn, each with
+    /// so many parts for its tally. Refused by `NoMemory`.
     fn over(
         alloc: Global,
         number: u64,
         workers: u64,
         seats: u64,
         parts: u64,
-        machine: Machine,
+        recorded: RecordedDomain,
         blanks: Blanks,
     ) -> Result<(Book<C, F, S, G>, Vec<Seat<C, F, S, G>>), Refusal>
         requires blanks { AreBlanksOf blanks C.Ledger F.Ledger S.Ledger G.Ledger seats workers }
-        requires workers { (1 ≤ workers) × (machine.state.workers ≡ workers) }
+        requires workers { (1 ≤ workers) × (recorded.state.workers ≡ workers) }
         requires parts { (1 ≤ parts) × (parts * seats ≤ TALLY_PARTS * workers) }
-        requires new { (totals machine.state.clients ≡ no_totals) × (machine.state.flushes.good ≡ 0) }
+        requires new { (totals recorded.state.clients ≡ no_totals)
+            × (recorded.state.flushes.good ≡ 0) }
         ensures ok { IfOk result (λ r. (r.0 ≡ record {
           number = number;
           strict = false;
-          state = machine.state;
-          log = machine.log;
+          state = recorded.state;
+          log = recorded.log;
           shares = no_totals;
           ended = 0;
         }) × (r.1.items ≡ seats_in_turn parts workers seats)) }
@@ -218,13 +219,13 @@ impl<C: Ledger, F: Ledger, S: Ledger, G: Ledger> Book<C, F, S, G> {
                     number,
                     seats,
                     strict: false,
-                    machine,
+                    recorded,
                     ledgers,
                 },
                 opened,
             )),
             Err(refusal) => {
-                drop(machine);
+                drop(recorded);
                 Err(refusal)
             }
         }
@@ -247,8 +248,8 @@ impl<C: Ledger, F: Ledger, S: Ledger, G: Ledger> Book<C, F, S, G> {
         ensures workers { G.parts ≡ TALLY_PARTS * self.now.state.workers }
     {
         // for the proof: what the domain keeps, and that its log is a transcript
-        self.machine.is_kept();
-        let _pairs = self.machine.pairs();
+        self.recorded.is_kept();
+        let _pairs = self.recorded.pairs();
     }
 
     /// Whether steps are still recorded. While they are, the recorded pairs are a transcript from
@@ -256,7 +257,7 @@ impl<C: Ledger, F: Ledger, S: Ledger, G: Ledger> Book<C, F, S, G> {
     pub fn recording(&self) -> bool
         ensures { result ≡ is_recording self.now.log }
     {
-        self.machine.recording()
+        self.recorded.recording()
     }
 
     /// The pairs that were recorded.
@@ -264,7 +265,7 @@ impl<C: Ledger, F: Ledger, S: Ledger, G: Ledger> Book<C, F, S, G> {
         ensures is { option_copied result ≡ option_map (λ t. t.pairs) self.now.log }
         ensures recorded { IsRecorded self.now.log self.now.state }
     {
-        self.machine.pairs()
+        self.recorded.pairs()
     }
 
     /// Appends what was recorded, as a trace: the header's line and a line for each step; of a
@@ -278,14 +279,14 @@ impl<C: Ledger, F: Ledger, S: Ledger, G: Ledger> Book<C, F, S, G> {
         ensures err { OnErr result ((result ≡ Err Refusal.NoMemory)
             × (out.new.items ≡ out.old.items)) }
     {
-        self.machine.transcript(out)
+        self.recorded.transcript(out)
     }
 
     /// How many steps are recorded.
     pub fn steps(&self) -> u64
         ensures { result ≡ steps_in self.now.log }
     {
-        match self.machine.pairs() {
+        match self.recorded.pairs() {
             Some(pairs) => pairs.len() as u64,
             None => 0,
         }
@@ -297,7 +298,7 @@ impl<C: Ledger, F: Ledger, S: Ledger, G: Ledger> Book<C, F, S, G> {
         ensures err { OnErr result ((result ≡ Err Refusal.NoMemory)
             × (out.new.items ≡ out.old.items)) }
     {
-        report(self.machine.domain(), out)
+        report(self.recorded.domain(), out)
     }
 
     /// The first client that the worker opened behind this serial, and its ranges, at most 4,096,
@@ -313,7 +314,7 @@ impl<C: Ledger, F: Ledger, S: Ledger, G: Ledger> Book<C, F, S, G> {
         ensures err { OnErr result ((result ≡ Err Refusal.NoMemory)
             × (ranges.new.items ≡ ranges.old.items)) }
     {
-        let domain = self.machine.domain();
+        let domain = self.recorded.domain();
         let Some(id) = domain.newer(worker, than) else {
             return Ok(None);
         };
@@ -335,14 +336,14 @@ impl<C: Ledger, F: Ledger, S: Ledger, G: Ledger> Book<C, F, S, G> {
     pub(crate) fn totals_of(&self) -> Totals
         ensures { result ≡ totals self.now.state.clients }
     {
-        self.machine.totals()
+        self.recorded.totals()
     }
 
     /// How many holdings the client has left, 0 where there is no such client.
     pub(crate) fn left(&self, id: u64) -> u64
         ensures { result ≡ left_of id self.now.state }
     {
-        self.machine.left(id)
+        self.recorded.left(id)
     }
 
     /// How many seats there are at the domain.
@@ -360,8 +361,8 @@ impl<C: Ledger, F: Ledger, S: Ledger, G: Ledger> Book<C, F, S, G> {
         ensures few { result ≤ MAX_WORKERS }
     {
         // for the proof: what the domain keeps
-        self.machine.is_kept();
-        self.machine.workers()
+        self.recorded.is_kept();
+        self.recorded.workers()
     }
 
     /// Whether the domain is strict.
@@ -375,14 +376,14 @@ impl<C: Ledger, F: Ledger, S: Ledger, G: Ledger> Book<C, F, S, G> {
     pub(crate) fn finish(&self) -> u64
         ensures { result ≡ self.now.state.flushes.finish }
     {
-        self.machine.finish()
+        self.recorded.finish()
     }
 
     /// How the domain stands, in numbers.
     pub(crate) fn stat_of(&self) -> Stat
         ensures { result ≡ stat_of self.now.state }
     {
-        self.machine.stat()
+        self.recorded.stat()
     }
 
     /// The holdings of the worker's client, rising by first frame.
@@ -393,8 +394,8 @@ impl<C: Ledger, F: Ledger, S: Ledger, G: Ledger> Book<C, F, S, G> {
             (λ held. (length held ≤ MAX_HOLDINGS) × Rises 0 held) }
     {
         // for the proof: what the domain keeps
-        self.machine.is_kept();
-        self.machine.holdings(worker, id)
+        self.recorded.is_kept();
+        self.recorded.holdings(worker, id)
     }
 
     pub(crate) fn into_domain(self) -> Domain
@@ -403,16 +404,16 @@ impl<C: Ledger, F: Ledger, S: Ledger, G: Ledger> Book<C, F, S, G> {
         ensures workers { G.parts ≡ TALLY_PARTS * result.workers }
     {
         // for the proof: what the domain keeps
-        self.machine.is_kept();
+        self.recorded.is_kept();
         let Book {
             _apart: _,
             number: _,
             seats: _,
             strict: _,
-            machine,
+            recorded,
             ledgers: _,
         } = self;
-        machine.into_domain()
+        recorded.into_domain()
     }
 
     /// The totals, which whole shares have for their amounts.
@@ -431,7 +432,7 @@ impl<C: Ledger, F: Ledger, S: Ledger, G: Ledger> Book<C, F, S, G> {
             × (result.sum_lo ≡ summed.old.amount) }
     {
         self.ledgers.audit(counted, framed, summed);
-        self.machine.totals()
+        self.recorded.totals()
     }
 
     /// Runs a seat's step that may queue a range, unless one of the seat's shares is less than the
@@ -463,7 +464,7 @@ impl<C: Ledger, F: Ledger, S: Ledger, G: Ledger> Book<C, F, S, G> {
             → Covers seat.now.held r }
         ensures none { result ≡ false → IsShort seat.now.held (to_queue self.now.state step) }
     {
-        if self.machine.share_is_within(seat.worker(), seat.held()) {
+        if self.recorded.share_is_within(seat.worker(), seat.held()) {
             return true;
         }
         self.covers_range(seat, step)
@@ -476,7 +477,7 @@ impl<C: Ledger, F: Ledger, S: Ledger, G: Ledger> Book<C, F, S, G> {
             → Covers seat.now.held r }
         ensures none { result ≡ false → IsShort seat.now.held (to_queue self.now.state step) }
     {
-        covers(seat.held(), self.machine.to_queue(step))
+        covers(seat.held(), self.recorded.to_queue(step))
     }
 
     /// Closes the client, range by range, until a step queues none, and answers that step's reply.
@@ -525,7 +526,7 @@ impl<C: Ledger, F: Ledger, S: Ledger, G: Ledger> Book<C, F, S, G> {
         ensures bound { result ≤ MAX_ENTRIES }
         ensures same { IsSame self.old self.new }
     {
-        match self.machine.step(Step::Drain { ring, by }) {
+        match self.recorded.step(Step::Drain { ring, by }) {
             Reply::Drained(n) => n,
             _ => unreachable!(),
         }
@@ -537,7 +538,7 @@ impl<C: Ledger, F: Ledger, S: Ledger, G: Ledger> Book<C, F, S, G> {
         ensures drained { IsDrainReply self.old.state.workers (Step.Drain ring by) result }
         ensures same { IsSame self.old self.new }
     {
-        self.machine.step(Step::Drain { ring, by })
+        self.recorded.step(Step::Drain { ring, by })
     }
 
     /// Makes a window. No share and no tally moves.
@@ -546,11 +547,11 @@ impl<C: Ledger, F: Ledger, S: Ledger, G: Ledger> Book<C, F, S, G> {
         ensures kind { IsReplyTo (Step.Reserve lo hi) result }
         ensures same { IsSame self.old self.new }
     {
-        self.machine.step(Step::Reserve { lo, hi })
+        self.recorded.step(Step::Reserve { lo, hi })
     }
 
     /// Runs a seat's step, and moves the seat's shares by what was answered.
-    #[inline]
+    #[inline(always)]
     pub(crate) fn run(&mut self, seat: &mut Seat<C, F, S, G>, step: Step) -> Reply
         requires by_seat { by_seat step ≡ true }
         requires worker { worker_of step ≡ Some seat.old.worker }
@@ -566,9 +567,9 @@ impl<C: Ledger, F: Ledger, S: Ledger, G: Ledger> Book<C, F, S, G> {
     {
         // for the proof: it is one of the domain's
         let _worker = seat.worker();
-        let reply = self.machine.step(step);
+        let reply = self.recorded.step(step);
         match reply {
-            Reply::Given(range) => self.ledgers.give(seat, range, self.machine.totals()),
+            Reply::Given(range) => self.ledgers.give(seat, range, self.recorded.totals()),
             Reply::Queued(range) => self.ledgers.take(seat, range),
             _ => {}
         }
@@ -584,9 +585,9 @@ impl<C: Ledger, F: Ledger, S: Ledger, G: Ledger> Book<C, F, S, G> {
         ensures good { tally.new.good ≡ tally.old.good + ended_well step result }
         ensures parts { tally.new.parts ≡ tally.old.parts }
     {
-        let reply = self.machine.step(step);
+        let reply = self.recorded.step(step);
         if ends_well(step, &reply) {
-            self.ledgers.raise(tally, self.machine.good());
+            self.ledgers.raise(tally, self.recorded.good());
         }
         reply
     }

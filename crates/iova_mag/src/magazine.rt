@@ -130,7 +130,7 @@ impl Magazine {
     }
 
     /// Whether there is a newest entry, and its range of `size` frames, 1 to 1,048,576, has none
-    /// above `limit`: `pop` then gives it. Our own.
+    /// above `limit`: `pop` then gives it.
     #[inline(always)]
     pub fn gives_newest(&self, limit: u64, size: u64) -> bool
         requires some { 1 ≤ size }
@@ -142,7 +142,7 @@ impl Magazine {
         newest_fits(self.entries.as_slice(), limit, size)
     }
 
-    /// Gives the newest entry, whatever its place. None where the magazine is empty. Our own.
+    /// Gives the newest entry, whatever its place. None where the magazine is empty.
     #[inline]
     pub fn take_newest(&mut self) -> Option<u64>
         ensures value { result ≡ slice_get self.old.entries (length self.old.entries - 1) }
@@ -152,8 +152,7 @@ impl Magazine {
         self.entries.pop()
     }
 
-    /// Whether a range of this order, which is below 6, that an entry begins has the frame. Our
-    /// own.
+    /// Whether a range of this order, which is below 6, that an entry begins has the frame.
     pub fn has_frame(&self, frame: u64, order: u8) -> bool
         requires { order < 6 }
         ensures { result ≡ list_any (covers frame) (of_order order self.now.entries) }

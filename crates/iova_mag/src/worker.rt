@@ -243,7 +243,7 @@ impl WorkerCache {
     }
 
     /// Whether loaded of this order, 0 to 5, has a newest entry, whose range has no frame above
-    /// `limit`: `try_get` then gives it. Our own.
+    /// `limit`: `try_get` then gives it.
     #[inline(always)]
     pub fn gives_newest(&self, order: u8, limit: u64) -> bool
         requires { order < ORDERS }
@@ -301,7 +301,7 @@ impl WorkerCache {
     }
 
     /// Takes the newest entry of this order, 0 to 5, out of loaded, or out of previous where loaded
-    /// is empty; they don't change places. None where both are empty. Our own.
+    /// is empty; they don't change places. None where both are empty.
     #[inline]
     pub fn take_newest(&mut self, order: u8) -> Option<u64>
         requires { order < ORDERS }
@@ -314,7 +314,7 @@ impl WorkerCache {
         pair.take_newest()
     }
 
-    /// Whether a range that an entry begins has the frame. Our own.
+    /// Whether a range that an entry begins has the frame.
     pub fn has_frame(&self, frame: u64) -> bool
         ensures { (worker : ℕ) → result
             ≡ list_any (λ h. covers frame h.range) (cache_holders worker 0 self.now.caches) }

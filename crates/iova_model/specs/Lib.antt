@@ -10,5 +10,6 @@ pub mod State
 pub mod Valid
 pub mod Next
 pub mod Transcript
+pub mod Effects
 pub mod Laws
 pub mod Promises

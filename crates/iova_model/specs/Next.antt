@@ -6,6 +6,7 @@ use Rattle.iova_range.specs.declared.refusal.Refusal.{Refusal}
 use Rattle.iova_range.specs.declared.refusal.Refusal.TheVariants as refusal
 use Rattle.iova_range.specs.Frames.{Frames, meets, join}
 use Rattle.iova_range.specs.Sizes.{need, order_of}
+use Rattle.iova_range.specs.Bounds.{Extent}
 use Rattle.iova_model.specs.declared.step.Step.{Step}
 use Rattle.iova_model.specs.declared.step.Step.TheVariants as step
 use Rattle.iova_model.specs.declared.step.Reply.{Reply}
@@ -87,13 +88,20 @@ is_taken s r = list_any (λ h. meets r h.range) (owners s)
 abbrev pub from_to : ℕ → ℕ → Frames
 from_to lo hi = record { lo = lo; len = hi + 1 - lo }
 
+-- what the window of the frames lo to hi may be refused for in these bounds and beside these
+-- windows, in this order, where somebody has a frame of it or not
+abbrev pub window_tests : Extent → List Frames → Bool → ℕ → ℕ → List (Bool × Refusal)
+window_tests bounds windows taken lo hi =
+    (nat_lt hi lo || nat_lt lo bounds.start || nat_lt bounds.last hi, refusal.BadWindow)
+    ∷ (taken, refusal.Taken)
+    ∷ (nat_lt MAX_WINDOWS (length (windows_with (from_to lo hi) windows)), refusal.WindowsFull)
+    ∷ []
+
+-- and at last for memory
 abbrev pub reserve_tests : State → ℕ → ℕ → Point → List (Bool × Refusal)
 reserve_tests s lo hi m =
-    (nat_lt hi lo || nat_lt lo s.bounds.start || nat_lt s.bounds.last hi, refusal.BadWindow)
-    ∷ (is_taken s (from_to lo hi), refusal.Taken)
-    ∷ (nat_lt MAX_WINDOWS (length (windows_with (from_to lo hi) s.windows)), refusal.WindowsFull)
-    ∷ (is_at point.Once m, refusal.NoMemory)
-    ∷ []
+    window_tests s.bounds s.windows (is_taken s (from_to lo hi)) lo hi
+    ++ (is_at point.Once m, refusal.NoMemory) ∷ []
 
 abbrev pub reserved : State → Frames → Next
 reserved s r =

@@ -11,7 +11,7 @@ use Rattle.iova_model.specs.State.{State, Holder, holders, owners, place_of}
 use Rattle.iova_model.specs.Valid.{IsValid}
 use Rattle.iova_model.specs.Next.{next}
 use Rattle.iova_model.specs.Transcript.{Pair, IsTranscript, after, IsRun, IsUnmappedAt, IsFlushedBetween, FlushLaw}
-use Rattle.iova_model.specs.Laws.{IsOnlyAt, CountsAddUp, shares_below, Conserves, IsGivenAt, Marks, IsClosing, IsGone, client_named, unknown_refusal}
+use Rattle.iova_model.specs.Effects.{IsOnlyAt, CountsAddUp, shares_below, Conserves, IsGivenAt, Marks, IsClosing, IsGone, client_named, unknown_refusal}
 
 -- An unmapped frame is given again only after a flush that began after its unmap has ended well.
 abbrev pub ReuseLaw : List Pair → Type 0

@@ -1,10 +1,7 @@
 -- What a piece gives is one thing.
-use Rattle.std.proofs.Common.{ℕ, ◌≡◌, ◌+◌, ◌-◌, ◌<◌, ◌≤◌, inl, inr, List, [], ◌∷◌, ◌++◌, Option, Some, length, length-append, length-take, take, drop, refl, sym, ap, ◌∙◌, arith, append_assoc, take-append-drop}
-use Rattle.std.specs.List.{list_all}
-use Rattle.std.proofs.Math.Seq.{take-append-add, take-append_seam}
-use Rattle.iova_range.specs.declared.limits.TheConstants.{MAX_LINE}
-use Rattle.iova_text.specs.Lines.{is_not_lf, HasNoLf, whole_line, IsUnended, IsOverlong}
-use Rattle.iova_text.proofs.Cuts.{list_all-append}
+use Rattle.std.proofs.Common.{ℕ, ◌≡◌, ◌+◌, ◌-◌, ◌≤◌, inl, inr, List, [], ◌∷◌, ◌++◌, Option, Some, length, length-append, length-take, take, drop, refl, sym, ap, ◌∙◌, arith, append_assoc, take-append-drop}
+use Rattle.std.proofs.Math.Seq.{take-append_seam}
+use Rattle.iova_text.specs.Lines.{HasNoLf, whole_line, IsUnended}
 use Rattle.iova_text.proofs.LineEnds.{cut_once, no_line, lf_within}
 use Rattle.iova_proto.specs.declared.request.Request.{Request}
 use Rattle.iova_proto.specs.declared.fed.Fed.{Fed}
@@ -21,7 +18,7 @@ unended_no_request bytes r more is whole = no_line bytes (request_line r) more i
 pub bad_no_request : (bytes : List ℕ) (r : Request) (more : List ℕ) → BeginsBad bytes → IsRequest r → bytes ≡ request_text r ++ more → ⊥
 bad_no_request bytes r more (inl odd) good whole =
     let same = cut_once odd.line odd.more (request_line r) more odd.one (no_lf_request r good) (sym odd.whole ∙ whole) in
-    odd.none r (record { good = good; text = ap whole_line same.0 })
+    odd.odd r (record { good = good; text = ap whole_line same.0 })
 bad_no_request bytes r more (inr long) good whole = lf_within bytes (request_line r) more (short_request r good) whole long.one
 
 pub bad_not_unended : (bytes : List ℕ) → BeginsBad bytes → IsUnended bytes → ⊥
@@ -87,15 +84,3 @@ front_feeds piece r behind good e =
       };
       next_is = refl;
     }
-
--- as many bytes as the longest line has, without LF
-pub overlong : (kept piece : List ℕ) → HasNoLf kept → length kept < MAX_LINE → HasNoLf (take (MAX_LINE - length kept) piece)
-    → MAX_LINE ≤ length kept + length piece → IsOverlong (kept ++ piece)
-overlong kept piece one short none long = record {
-  one =
-      (let n = MAX_LINE - length kept in
-      let all : length kept + n ≡ MAX_LINE = omega (arith, short) in
-      ap (λ (k : ℕ). list_all is_not_lf (take k (kept ++ piece))) (sym all)
-      ∙ (ap (list_all is_not_lf) (take-append-add kept piece n) ∙ list_all-append is_not_lf kept (take n piece) one none));
-  long = omega (arith, length-append kept piece, long);
-}

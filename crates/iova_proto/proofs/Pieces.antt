@@ -1,15 +1,12 @@
 -- Pieces of a stream, one after another.
-use Rattle.std.proofs.Common.{ℕ, ◌≡◌, inl, inr, List, [], ◌∷◌, ◌++◌, Option, Some, None, length-append, drop, refl, sym, ap, ◌∙◌, subst, arith, append_assoc, append-nil}
+use Rattle.std.proofs.Common.{ℕ, ◌≡◌, inl, inr, List, [], ◌∷◌, ◌++◌, Option, Some, None, drop, refl, sym, ap, ◌∙◌, subst, arith, append_assoc, append-nil}
 use Rattle.std.specs.Prelude.{flat_map}
-use Rattle.std.specs.List.{list_all, AllByRecursion}
-use Rattle.std.proofs.lemmas.List.{take-append-le}
+use Rattle.std.specs.List.{AllByRecursion}
 use Rattle.std.proofs.lemmas.List.Concat.{flat_map-append}
-use Rattle.iova_range.specs.declared.limits.TheConstants.{MAX_LINE}
-use Rattle.iova_text.specs.Lines.{is_not_lf, whole_line}
-use Rattle.iova_text.proofs.LineEnds.{cut_once}
+use Rattle.iova_text.proofs.LineEnds.{cut_once, odd_more, overlong_more}
 use Rattle.iova_proto.specs.declared.request.Request.{Request}
 use Rattle.iova_proto.specs.Requests.{request_line, request_text, IsRequest}
-use Rattle.iova_proto.specs.Feeds.{BeginsBad}
+use Rattle.iova_proto.specs.Feeds.{IsNoRequest, BeginsBad}
 use Rattle.iova_proto.specs.Streams.{FeedsPiece, FeedsPieces, StandsAt, Reads, joined}
 use Rattle.iova_proto.proofs.Spellings.{no_lf_request, same_request}
 use Rattle.iova_proto.proofs.Feeding.{unended_no_request, bad_no_request, bad_not_unended, rest_behind}
@@ -20,17 +17,8 @@ all_append (r ∷ rs) ss a b = (a.0, all_append rs ss a.1 b)
 
 -- a bad line stays bad, whatever comes after it
 bad_more : (bytes more : List ℕ) → BeginsBad bytes → BeginsBad (bytes ++ more)
-bad_more bytes more (inl odd) = inl (record {
-  line = odd.line;
-  more = odd.more ++ more;
-  whole = ap (λ (x : List ℕ). x ++ more) odd.whole ∙ append_assoc (whole_line odd.line) odd.more more;
-  one = odd.one;
-  none = odd.none;
-})
-bad_more bytes more (inr long) = inr (record {
-  one = ap (list_all is_not_lf) (take-append-le MAX_LINE bytes more long.long) ∙ long.one;
-  long = omega (arith, length-append bytes more, long.long);
-})
+bad_more bytes more (inl odd) = inl (odd_more IsNoRequest bytes more odd)
+bad_more bytes more (inr long) = inr (overlong_more bytes more long)
 
 -- One piece
 

@@ -1,4 +1,4 @@
--- The text of answers. Own.
+-- The text of answers.
 use Rattle.std.specs.Prelude.{ℕ, List, [], ◌∷◌, ◌++◌, length, codes, decimal, flat_map}
 use Rattle.iova_range.specs.Frames.{Frames}
 use Rattle.iova_range.specs.declared.stat.Stat.{Stat}

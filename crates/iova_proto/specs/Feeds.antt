@@ -1,22 +1,19 @@
--- What one piece of a stream gives after what was kept. Own.
+-- What one piece of a stream gives after what was kept.
 use Rattle.std.specs.Prelude.{ℕ, ◌≡◌, ◌≤◌, ◌⊎◌, if◌then◌else◌, Bool, true, false, List, [], ◌++◌, length, take, Option, Some, None}
-use Rattle.iova_text.specs.Lines.{HasNoLf, whole_line, IsUnended, IsOverlong}
+use Rattle.iova_text.specs.Lines.{whole_line, IsUnended, IsOverlong, BeginsOdd}
 use Rattle.iova_proto.specs.declared.request.Request.{Request}
 use Rattle.iova_proto.specs.declared.fed.Fed.{Fed}
 use Rattle.iova_proto.specs.declared.fed.Fed.TheVariants as fed
 use Rattle.iova_proto.specs.Requests.{Spells}
 
--- the bytes begin with a whole line that is no request's
-pub record BeginsOdd (bytes : List ℕ) : Type 0 where
-  pub line : List ℕ
-  pub more : List ℕ
-  pub whole : bytes ≡ whole_line line ++ more
-  pub one : HasNoLf line
-  pub none : (r : Request) → Spells (whole_line line) r → ⊥
+-- this line, which is without its LF, is no request's
+abbrev pub IsNoRequest : List ℕ → Type 0
+IsNoRequest line = (r : Request) → Spells (whole_line line) r → ⊥
 
--- or with as many bytes as the longest line has, and no LF among them
+-- the bytes begin with a whole line that is no request's, or with as many bytes as the longest line
+-- has, and no LF among them
 abbrev pub BeginsBad : List ℕ → Type 0
-BeginsBad bytes = BeginsOdd bytes ⊎ IsOverlong bytes
+BeginsBad bytes = BeginsOdd IsNoRequest bytes ⊎ IsOverlong bytes
 
 -- the bytes that are kept and so many of the piece, one at least, are the line of this request, and
 -- nothing is kept after it

@@ -1,4 +1,4 @@
--- The lines of requests: one spelling for each. Own.
+-- The lines of requests: one spelling for each.
 use Rattle.std.specs.Prelude.{ℕ, ◌≡◌, ◌<◌, ◌^◌, List, [], ◌∷◌, codes, decimal}
 use Rattle.iova_text.specs.Lines.{whole_line}
 use Rattle.iova_text.specs.Words.{line_text, spaced_words, kind_text}

@@ -1,4 +1,4 @@
--- A stream of lines, whole and in pieces. Own.
+-- A stream of lines, whole and in pieces.
 use Rattle.std.specs.Prelude.{ℕ, ◌≡◌, ◌⊎◌, List, [], ◌∷◌, ◌++◌, drop, flat_map, Option, Some, None}
 use Rattle.std.specs.List.{AllByRecursion}
 use Rattle.iova_text.specs.Lines.{IsUnended}

@@ -4,7 +4,7 @@ use iova_range::range::Range;
 use iova_range::refusal::Refusal;
 use iova_range::stat::Stat;
 
-/// What a request is answered. Own.
+/// What a request is answered.
 #[derive(Debug, Drop)]
 pub enum Answer {
     /// `opened <serial>`: the client that was opened.

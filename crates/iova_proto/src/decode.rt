@@ -10,13 +10,13 @@ use iova_text::words::{
 };
 use thiserror::Error;
 
-/// The line is no request's. Own.
+/// The line is no request's.
 #[derive(Clone, Copy, Debug, PartialEq, Eq, Error)]
 #[error("not a line of the protocol")]
 pub struct BadLine;
 
 /// The request of this line, which ends with its LF. Refused exactly where no request has that
-/// spelling: each request has one. Takes no memory. Own.
+/// spelling: each request has one. Takes no memory.
 pub fn decode(line: &[u8]) -> Result<Request, BadLine>
     ensures spelled { IfOk result (Spells line.now) }
     ensures read { (r : R) → Spells line.now r → result ≡ Ok r }

@@ -14,7 +14,7 @@ use iova_text::buffer::{
 pub const MAX_FIRST_LINE: usize = 173;
 
 /// Appends the answer's text. Refused by `NoMemory`, which appends nothing and comes only where
-/// `out` has to grow. Own.
+/// `out` has to grow.
 pub fn encode(answer: &Answer, out: &mut Vec<u8>) -> Result<(), Refusal>
     ensures ok { OnOk result (out.new.items ≡ out.old.items ++ answer_text answer.now) }
     ensures err { OnErr result ((result ≡ Err Refusal.NoMemory) × (out.new.items ≡ out.old.items)) }
@@ -36,7 +36,7 @@ pub fn encode(answer: &Answer, out: &mut Vec<u8>) -> Result<(), Refusal>
 }
 
 /// Appends the first line of the answer's text, with its LF, for which there is room: at most 173
-/// bytes. It is all of the text, but for the ranges of `Held`. Takes no memory. Own.
+/// bytes. It is all of the text, but for the ranges of `Held`. Takes no memory.
 pub fn put_first_line<const CAP: usize>(answer: &Answer, out: &mut ArrayVec<u8, CAP>)
     requires { length out.old.items + MAX_FIRST_LINE ≤ CAP }
     ensures items { out.new.items ≡ out.old.items ++ first_line answer.now }

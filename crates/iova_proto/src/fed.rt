@@ -1,7 +1,7 @@
 //! What a piece of a stream gives.
 use crate::request::Request;
 
-/// What a piece of a stream gives. Own.
+/// What a piece of a stream gives.
 #[derive(Clone, Copy, Debug, PartialEq, Eq)]
 pub enum Fed {
     /// The first line is this request's. It ends after so many bytes of the piece; the others were

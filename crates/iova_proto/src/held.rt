@@ -3,7 +3,7 @@ use iova_range::range::Range;
 use std::marker::Model;
 
 /// The ranges that a client holds, in the order of the list that they are made of: rising by their
-/// first frame. Own.
+/// first frame.
 #[derive(Debug, Drop)]
 pub struct HeldRanges {
     ranges: Vec<Range>,

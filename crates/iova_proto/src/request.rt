@@ -1,6 +1,6 @@
 //! What a line asks.
 
-/// What a line asks of a session. Frames and domains are numbers of 64 bits. Own.
+/// What a line asks of a session. Frames and domains are numbers of 64 bits.
 #[derive(Clone, Copy, Debug, Default, PartialEq, Eq)]
 pub enum Request {
     /// `hello iova1 <domain> sac` or `hello iova1 <domain> dac`: opens a client in the domain,

@@ -1,22 +1,22 @@
 //! Every limit of the repository, each with its unit and where it comes from. Code and definitions
 //! cite these names.
 
-/// The most workers of a domain, 1 at least. Own.
+/// The most workers of a domain, 1 at least.
 pub const MAX_WORKERS: u64 = 16;
 
-/// The most clients of a domain, closing ones too. Own.
+/// The most clients of a domain, closing ones too.
 pub const MAX_CLIENTS: usize = 1024;
 
-/// The most holdings of a client, in ranges. Own.
+/// The most holdings of a client, in ranges.
 pub const MAX_HOLDINGS: usize = 4096;
 
-/// The most windows of a domain. Own.
+/// The most windows of a domain.
 pub const MAX_WINDOWS: usize = 64;
 
 /// The bytes of a page frame (`PAGE_SIZE` of Linux 5.15 on x86_64).
 pub const FRAME_BYTES: u64 = 4_096;
 
-/// The most frames of one request. Own.
+/// The most frames of one request.
 pub const MAX_FRAMES: u64 = 1_048_576;
 
 /// How many orders have magazines: sizes 1, 2, 4, 8, 16 and 32
@@ -30,95 +30,93 @@ pub const RING_SLOTS: usize = 256;
 /// `fq_full`).
 pub const MAX_ENTRIES: usize = 255;
 
-/// The most flushes in flight at a time. Own.
+/// The most flushes in flight at a time.
 pub const MAX_FLIGHTS: usize = 32;
 
 /// The last serial of a client, and the last start count: after it a step is refused by `Worn`.
-/// Own.
 pub const MAX_SERIAL: u64 = 9_223_372_036_854_775_807;
 
 /// The entries of a magazine in the first profile (`IOVA_MAG_SIZE` of Linux 5.15
 /// `drivers/iommu/iova.c`).
 pub const MAGAZINE: usize = 128;
 
-/// The entries of a magazine in the second profile. Own.
+/// The entries of a magazine in the second profile.
 pub const SMALL_MAGAZINE: usize = 127;
 
 /// The most magazines of an order in the depot (`MAX_GLOBAL_MAGS` of Linux 5.15
 /// `include/linux/iova.h`).
 pub const MAX_DEPOT: u64 = 32;
 
-/// The last frame that bounds of the first profile may have: 2^36 - 1. Own.
+/// The last frame that bounds of the first profile may have: 2^36 - 1.
 pub const TOP: u64 = 0xf_ffff_ffff;
 
-/// The last frame that bounds of the second profile may have: 2^40 - 1. Own.
+/// The last frame that bounds of the second profile may have: 2^40 - 1.
 pub const WIDE_TOP: u64 = 0xff_ffff_ffff;
 
 /// The last frame below 4 GiB: a client that is `sac` is first sought a place up to it
 /// (Linux 5.15 `drivers/iommu/dma-iommu.c`: `iommu_dma_alloc_iova`, `DMA_BIT_MASK(32)`).
 pub const SAC_LIMIT: u64 = 1_048_575;
 
-/// The most bytes of a line of the protocol or of a trace, its LF among them. Own.
+/// The most bytes of a line of the protocol or of a trace, its LF among them.
 pub const MAX_LINE: usize = 128;
 
-/// The most bytes of a line of a kernel's trace of which something is read, its LF among them. Own.
+/// The most bytes of a line of a kernel's trace of which something is read, its LF among them.
 pub const MAX_TRACE_LINE: usize = 1_024;
 
 /// The last number that an IOMMU may give a domain, as a kernel's trace tells it: 16 bits (VT-d,
 /// "Domain-ID").
 pub const LAST_DOMAIN_ID: u64 = 65_535;
 
-/// The most steps of one trace. Own.
+/// The most steps of one trace.
 pub const MAX_STEPS: u64 = 1_000_000;
 
-/// The most reads of one trace, or of one input of `ask`. Own.
+/// The most reads of one trace, or of one input of `ask`.
 pub const MAX_READS: u64 = 134_217_728;
 
-/// The most domain numbers: a daemon's domain is 0 to 7. Own.
+/// The most domain numbers: a daemon's domain is 0 to 7.
 pub const MAX_DOMAINS: u64 = 8;
 
-/// The most requests of one session where nobody says another bound. Own.
+/// The most requests of one session where nobody says another bound.
 pub const MAX_REQUESTS: u64 = 65_536;
 
-/// The most reads of one session where nobody says another bound. Own.
+/// The most reads of one session where nobody says another bound.
 pub const MAX_SESSION_READS: u64 = 1_048_576;
 
-/// The greatest bound of requests that a session may be given: 2^63 - 1. Own.
+/// The greatest bound of requests that a session may be given: 2^63 - 1.
 pub const MAX_SESSION_REQUESTS: u64 = 9_223_372_036_854_775_807;
 
-/// The longest time that a session may be allowed to be idle, in seconds: a day. Own.
+/// The longest time that a session may be allowed to be idle, in seconds: a day.
 pub const MAX_IDLE: u64 = 86_400;
 
-/// The most ranges that one session is told in answers to `list`. Own.
+/// The most ranges that one session is told in answers to `list`.
 pub const MAX_LISTED: u64 = 1_048_576;
 
-/// The most requests that are run in one hold of the lock. Own.
+/// The most requests that are run in one hold of the lock.
 pub const MAX_RUN: usize = 16;
 
-/// The most sessions that a daemon serves. Own.
+/// The most sessions that a daemon serves.
 pub const MAX_SESSIONS: u64 = 65_536;
 
 /// The parts that the tallies of all seats of one worker have: with one part each, so many threads
-/// can end flushes at a time. Own.
+/// can end flushes at a time.
 pub const TALLY_PARTS: u64 = 2_048;
 
 /// The parts of a seat's tally where a domain may have more seats than workers: one of its own, and
-/// one that can be split off. Own.
+/// one that can be split off.
 pub const SEAT_PARTS: u64 = 2;
 
 /// How many descriptors a daemon wants beside those of its sessions and of its workers' sinks:
 /// those that it begins with, its listeners, the flusher's sink, the record, the connections to the
-/// control socket, and some to spare. Own.
+/// control socket, and some to spare.
 pub const DAEMON_DESCRIPTORS: u64 = 32;
 
-/// The most steps that a domain may be asked to record. Own.
+/// The most steps that a domain may be asked to record.
 pub const MAX_PAIRS: usize = 4_000_000;
 
 /// How many steps a daemon records where nobody says another count: the first ones of its domain.
-/// Own.
 pub const RECORDED_STEPS: u64 = 100_000;
 
-/// The most steps that a daemon may be told to record. Own.
+/// The most steps that a daemon may be told to record.
 pub const MAX_RECORDED_STEPS: u64 = 1_000_000;
 
 /// The time between two rounds of a daemon's flusher, in milliseconds: what is unmapped is free
@@ -127,65 +125,63 @@ pub const MAX_RECORDED_STEPS: u64 = 1_000_000;
 pub const FLUSH_PAUSE: u64 = 10;
 
 /// The time after an accept that failed, in milliseconds. It doubles with each failure after
-/// another. Own.
+/// another.
 pub const ACCEPT_PAUSE: u64 = 10;
 
-/// The longest time after an accept that failed, in milliseconds. Own.
+/// The longest time after an accept that failed, in milliseconds.
 pub const MAX_ACCEPT_PAUSE: u64 = 1_000;
 
-/// The greatest time that a daemon's sink may be given to answer, in seconds. Own.
+/// The greatest time that a daemon's sink may be given to answer, in seconds.
 pub const MAX_SINK_TIMEOUT: u64 = 3_600;
 
-/// The time that a daemon's sink is given to answer where none is asked for, in seconds. Own.
+/// The time that a daemon's sink is given to answer where none is asked for, in seconds.
 pub const SINK_TIMEOUT: u64 = 10;
 
 /// The time between two rounds in which a daemon's clients that wait are tried again, in
-/// milliseconds: a post that waits for a session looks about it so often. Own.
+/// milliseconds: a post that waits for a session looks about it so often.
 pub const RETRY_PAUSE: u64 = 1_000;
 
 /// The longest time until a daemon sees that it is asked to stop, in milliseconds: what waits for a
-/// peer waits no longer at a time. Own.
+/// peer waits no longer at a time.
 pub const STOP_PAUSE: u64 = 250;
 
 /// The most connections that are hung up on when a listener is closed: as many as the system lets
 /// wait there (`net.core.somaxconn` of Linux 5.15).
 pub const MAX_WAITING: u64 = 4_096;
 
-/// The most connections that a control socket serves at a time; another one waits. Own.
+/// The most connections that a control socket serves at a time; another one waits.
 pub const MAX_CONTROLS: usize = 8;
 
-/// The time between two looks at a control socket's connections, in milliseconds. Own.
+/// The time between two looks at a control socket's connections, in milliseconds.
 pub const CONTROL_PAUSE: u64 = 20;
 
 /// How many looks a control socket's connection may be silent where another one waits: 2 seconds.
-/// Own.
 pub const MAX_CONTROL_SILENCE: u64 = 100;
 
-/// How often a control socket's connection is read at one look. Own.
+/// How often a control socket's connection is read at one look.
 pub const CONTROL_READS: u64 = 16;
 
-/// The time that a daemon's control socket is given to answer, in seconds. Own.
+/// The time that a daemon's control socket is given to answer, in seconds.
 pub const CONTROL_TIMEOUT: u64 = 30;
 
-/// How often a folder's lock is tried, with a pause after each time: a second in all. Own.
+/// How often a folder's lock is tried, with a pause after each time: a second in all.
 pub const FOLDER_LOOKS: u64 = 100;
 
-/// The pause after a folder's lock was tried, in milliseconds. Own.
+/// The pause after a folder's lock was tried, in milliseconds.
 pub const FOLDER_PAUSE: u64 = 10;
 
-/// The workers of a daemon where nobody says how many. Own.
+/// The workers of a daemon where nobody says how many.
 pub const DEFAULT_WORKERS: u64 = 4;
 
-/// The number of a daemon's domain where nobody says another. Own.
+/// The number of a daemon's domain where nobody says another.
 pub const DEFAULT_DOMAIN: u64 = 0;
 
 /// The first frame of a daemon's domain where nobody says another: frame 0 is never handed out.
-/// Own.
 pub const DEFAULT_START: u64 = 1;
 
 /// The last frame of a daemon's domain where nobody says another: the last one below the interrupt
 /// window of x86, which begins at the byte 0xfee0_0000 (Intel's and AMD's manuals).
 pub const DEFAULT_LAST: u64 = 1_043_967;
 
-/// The least time between two notices of one kind, in milliseconds. Own.
+/// The least time between two notices of one kind, in milliseconds.
 pub const NOTICE_PAUSE: u64 = 1_000;

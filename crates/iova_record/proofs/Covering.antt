@@ -9,7 +9,7 @@ use Rattle.iova_model.specs.declared.totals.Totals.{Totals}
 use Rattle.iova_model.specs.Clients.{Client, has_id, client_with, client_of, if_owned, begins_at, totals_of, all_holdings, share_of}
 use Rattle.iova_model.specs.State.{State}
 use Rattle.iova_model.specs.Next.{no_worker}
-use Rattle.iova_model.specs.Laws.{to_queue, unmapped_of, worker_of}
+use Rattle.iova_model.specs.Effects.{to_queue, unmapped_of, worker_of}
 use Rattle.iova_keep.specs.Views.{Covers}
 
 -- a range is within the totals of a list that has it in front, or after

@@ -15,7 +15,7 @@ use Rattle.iova_model.specs.declared.step.Point.{Point}
 use Rattle.iova_model.specs.declared.step.Point.TheVariants as point
 use Rattle.iova_model.specs.Clients.{Client, client_of, begins_at, changed, marked}
 use Rattle.iova_model.specs.State.{State}
-use Rattle.iova_model.specs.Laws.{worker_of}
+use Rattle.iova_model.specs.Effects.{worker_of}
 use Rattle.iova_model.specs.Next
 
 abbrev IsKnown : Next.Next → Type 0

@@ -1,4 +1,4 @@
--- What is recorded of a domain, as a text. Own.
+-- What is recorded of a domain, as a text.
 use Rattle.std.specs.Prelude.{ℕ, List, [], Option, Some, None, Result, IfOk}
 use Rattle.iova_range.specs.declared.refusal.Refusal.{Refusal}
 use Rattle.iova_model.specs.State.{State}
@@ -21,6 +21,6 @@ abbrev pub WritesLog : State → Option StepLog → List ℕ → List ℕ → Re
 WritesLog s log old new result = IfOk result (HasRecorded s.bounds s.workers (pairs_in log) old new)
 
 -- a domain, and where it is recorded its log
-pub record MachineState : Type 0 where
+pub record RecordedState : Type 0 where
   pub state : State
   pub log : Option StepLog

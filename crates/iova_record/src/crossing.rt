@@ -1,8 +1,8 @@
 //! That a recorded domain may go to another thread.
 ghost use Rattle.std.specs.Thread.{IsSend};
-ghost use Rattle.iova_record.specs.contracts.machine.Machine as machines;
+ghost use Rattle.iova_record.specs.contracts.recorded_domain.RecordedDomain as recorded_domains;
 
-use crate::machine::Machine;
+use crate::recorded_domain::RecordedDomain;
 use iova_core::crossing::domains_are_send;
 
 fn is_send<T: Send>()
@@ -10,9 +10,9 @@ fn is_send<T: Send>()
 {}
 
 /// A recorded domain may go to another thread.
-pub fn machines_are_send()
-    ensures { IsSend machines.the_row }
+pub fn recorded_domains_are_send()
+    ensures { IsSend recorded_domains.the_row }
 {
     domains_are_send();
-    is_send::<Machine>();
+    is_send::<RecordedDomain>();
 }

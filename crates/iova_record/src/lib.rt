@@ -2,5 +2,5 @@
 #![tactic(auto)]
 
 pub mod crossing;
-pub mod machine;
 pub mod record;
+pub mod recorded_domain;

@@ -3,11 +3,11 @@ ghost use Rattle.std.specs.Prelude.{◌≡◌, ℕ, List, ◌++◌, Err, IfOk, O
 ghost use Rattle.iova_line.specs.Recorded.{steps_text, AreSteps};
 ghost use Rattle.iova_record.specs.Records.{WritesLog, WritesText};
 
-use crate::machine::{Machine, Stored};
+use crate::recorded_domain::{RecordedDomain, Stored};
 use iova_line::line::{write_header, write_step};
 use iova_range::refusal::Refusal;
 
-impl Machine {
+impl RecordedDomain {
     /// Appends what was recorded, as a trace: the header's line and a line for each step; of a
     /// domain that isn't recorded the header alone. Gives the number of steps. What is recorded is
     /// a transcript from the new domain, so the promises hold of it; and of at most 1,000,000 steps

@@ -1,4 +1,4 @@
--- Two numbers with a `-` between them. Own.
+-- Two numbers with a `-` between them.
 use Rattle.std.specs.Prelude.{ℕ, ◌≤◌, ◌<◌, ◌^◌, List, ◌∷◌, ◌++◌, decimal}
 
 abbrev pub span_text : ℕ → ℕ → List ℕ

@@ -1,4 +1,4 @@
--- Windows of frames: ranges that rise and have no frame in common. Own.
+-- Windows of frames: ranges that rise and have no frame in common.
 use Rattle.std.specs.Prelude.{ℕ, ◌+◌, ◌-◌, ◌≤◌, ◌&&◌, Bool, nat_lt, nat_le, List, [], ◌∷◌, ◌++◌, Option, Some, None, filter, fold, length, max, min, if◌then◌else◌}
 use Rattle.std.specs.List.{list_any}
 use Rattle.iova_range.specs.Frames.{Frames, covers, meets, join}

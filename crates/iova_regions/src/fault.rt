@@ -1,7 +1,7 @@
 //! Why regions are not read.
 use thiserror::Error;
 
-/// Why the regions of a text are not read to its end. Own.
+/// Why the regions of a text are not read to its end.
 #[derive(Clone, Copy, Debug, PartialEq, Eq, Error)]
 pub enum RegionsFault {
     /// The line with this number, counted from 1, is none of a region, or its region would make a

@@ -28,7 +28,7 @@ const BUFFER: usize = 4096;
 /// as far as they are within the bounds, in the order of the lines. A text of no bytes has no
 /// region. Refused by `Line`, with the number of the first bad line, exactly where a line is none
 /// of a region (one without its LF too), or where its region would make a 65th window; the regions
-/// of the lines before it are inserted then. Own.
+/// of the lines before it are inserted then.
 pub fn read_regions(
     bytes: &[u8],
     which: Counted,
@@ -54,7 +54,7 @@ pub fn read_regions(
 
 /// Reads all bytes, and then their regions. All bytes are kept until then. Refused as that is; by
 /// `Read`, where a read fails, an interruption too, and by `NoMemory`: then the windows are as they
-/// were. Own.
+/// were.
 pub fn read_all_regions<R: Read>(
     alloc: Global,
     reader: &mut R,

@@ -25,7 +25,7 @@ pub struct Region {
     pub kind: RegionKind,
 }
 
-/// Which regions count. Own.
+/// Which regions count.
 #[derive(Clone, Copy, Debug, PartialEq, Eq)]
 pub enum Counted {
     /// All of them: nothing may be handed out there.

@@ -6,7 +6,7 @@ use iova_text::number::{leading_number, number};
 
 /// The first and the last number of `FIRST-LAST`: two decimal numbers of 64 bits with one `-`
 /// between them, each in its one spelling, the first at most the last. None exactly where the text
-/// has another form. Own.
+/// has another form.
 pub fn read_span(text: &[u8]) -> Option<(u64, u64)>
     ensures spelled { IfSome result (λ p. IsSpan p.0 p.1 × (text.now ≡ span_text p.0 p.1)) }
     ensures read { (first last : ℕ) → IsSpan first last → text.now ≡ span_text first last

@@ -9,7 +9,7 @@ use iova_range::range::Range;
 use iova_range::refusal::Refusal;
 use std::marker::Model;
 
-/// Ranges of frames, at most 64, which rise and have no frame in common; none has frame 0. Own.
+/// Ranges of frames, at most 64, which rise and have no frame in common; none has frame 0.
 pub struct Windows {
     ranges: Ranges,
 }

@@ -1,5 +1,5 @@
 -- The text of a domain's report: twelve lines of a name and a number, then a line for each window.
--- All of it is ASCII, and each line ends by LF. Own.
+-- All of it is ASCII, and each line ends by LF.
 use Rattle.std.specs.Prelude.{ℕ, ◌+◌, ◌-◌, List, [], ◌∷◌, ◌++◌, length, replicate, codes, decimal}
 use Rattle.std.specs.List.{flat_map}
 use Rattle.iova_range.specs.Frames.{Frames}

@@ -5,7 +5,8 @@ use Rattle.std.specs.Prelude.{Result, Ok, Err, Bool}
 use Rattle.iova_range.specs.declared.refusal.Refusal.{Refusal}
 use Rattle.iova_model.specs.declared.step.Step.TheVariants as step
 use Rattle.iova_model.specs.State.{State}
-use Rattle.iova_model.specs.Laws.{held_by, OthersKeepTheirHoldings}
+use Rattle.iova_model.specs.Effects.{held_by}
+use Rattle.iova_model.specs.Laws.{OthersKeepTheirHoldings}
 use Rattle.iova_sink.specs.Calls.{Call}
 use Rattle.iova_keep.specs.Views.{WhereKnown, SeatState, opened_or, given_or}
 use Rattle.iova_keep.specs.Answers.{DoesFlush, DrainsAll}

@@ -16,7 +16,8 @@ use Rattle.iova_model.specs.Clients.{Client, client_with, client_of, has_id, for
 use Rattle.iova_model.specs.State.{State}
 use Rattle.iova_model.specs.Valid.{IsValid, IsClient}
 use Rattle.iova_model.specs.Next
-use Rattle.iova_model.specs.Laws.{StepsKeepValidity, to_queue}
+use Rattle.iova_model.specs.Effects.{to_queue}
+use Rattle.iova_model.specs.Laws.{StepsKeepValidity}
 use Rattle.iova_laws.proofs.Finds.{owned}
 use Rattle.iova_sink.specs.Calls.{Call, Invalidation, failed_calls}
 use Rattle.iova_keep.specs.declared.ending.Ending.{Ending}

@@ -19,7 +19,7 @@ use Rattle.iova_model.specs.Flushes.{Flushes, AreSound, CountsRise, begun, ended
 use Rattle.iova_model.specs.State.{State}
 use Rattle.iova_model.specs.Valid.{IsValid, IsRing}
 use Rattle.iova_model.specs.Next
-use Rattle.iova_model.specs.Laws.{add_totals, to_queue}
+use Rattle.iova_model.specs.Effects.{add_totals, to_queue}
 use Rattle.iova_model.proofs.Unless.{unless_taken}
 use Rattle.iova_laws.proofs.Finds.{changed_found}
 use Rattle.iova_keep.specs.Steps.{Takes}

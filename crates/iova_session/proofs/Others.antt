@@ -10,7 +10,8 @@ use Rattle.iova_model.specs.declared.totals.Totals.{Totals}
 use Rattle.std.specs.Prelude.{length}
 use Rattle.iova_model.specs.Clients.{client_of, holdings_in}
 use Rattle.iova_model.specs.State.{State}
-use Rattle.iova_model.specs.Laws.{held_by, client_named, OthersKeepTheirHoldings, StepsKeepValidity}
+use Rattle.iova_model.specs.Effects.{held_by, client_named}
+use Rattle.iova_model.specs.Laws.{OthersKeepTheirHoldings, StepsKeepValidity}
 use Rattle.iova_sink.specs.declared.sink.SinkFault.{SinkFault}
 use Rattle.iova_sink.specs.Calls.{Call}
 use Rattle.iova_keep.specs.declared.ending.Ending.{Ending}

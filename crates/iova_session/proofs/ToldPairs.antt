@@ -13,7 +13,7 @@ use Rattle.std.proofs.lemmas.List.Sums.{sum_by-append}
 use Rattle.iova_range.specs.Frames.{Frames}
 use Rattle.iova_model.specs.declared.totals.Totals.{Totals}
 use Rattle.iova_model.specs.Clients.{totals_of}
-use Rattle.iova_model.specs.Laws.{add_totals, MovesTotals}
+use Rattle.iova_model.specs.Effects.{add_totals, MovesTotals}
 use Rattle.iova_keep.specs.declared.ask.Ask.{Ask}
 use Rattle.iova_keep.specs.declared.ask.Told.{Told}
 use Rattle.iova_keep.specs.declared.ask.Told.TheVariants as lock_told

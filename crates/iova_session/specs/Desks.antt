@@ -1,4 +1,4 @@
--- What a session may be answered, and what its answers say of it. Own.
+-- What a session may be answered, and what its answers say of it.
 use Rattle.std.specs.Prelude.{ℕ, ◌≡◌, ◌≢◌, ◌+◌, ◌<◌, ◌≤◌, ◌⊎◌, List, [], ◌∷◌, ◌++◌, length, take, flat_map, Option, Some, None, refl}
 use Rattle.std.specs.Coded.{Coded, Coded-set, code_by, coded×, coded_ℕ}
 use Rattle.iova_range.specs.declared.limits.TheConstants.{MAX_LISTED, MAX_HOLDINGS}
@@ -8,14 +8,14 @@ use Rattle.iova_range.specs.Frames.{Frames}
 use Rattle.iova_model.specs.declared.totals.Totals.{Totals}
 use Rattle.iova_model.specs.Clients.{totals_of}
 use Rattle.iova_model.specs.Valid.{Rises}
-use Rattle.iova_model.specs.Laws.{add_totals}
+use Rattle.iova_model.specs.Effects.{add_totals, IsGivenTo}
 use Rattle.iova_keep.specs.declared.ask.Ask.{Ask}
 use Rattle.iova_keep.specs.declared.ask.Ask.TheVariants as ask
 use Rattle.iova_keep.specs.declared.ask.Told.{Told}
 use Rattle.iova_keep.specs.declared.ask.Told.TheVariants as lock_told
 use Rattle.iova_keep.specs.declared.unmapped.Unmapped.{Unmapped}
 use Rattle.iova_keep.specs.declared.unmapped.Unmapped.TheVariants as unmapped
-use Rattle.iova_keep.specs.Views.{IsOpenRefusal, IsAllocRefusal, IsUnmapRefusal, IsFlushRefusal, IsGivenTo, SeatState}
+use Rattle.iova_keep.specs.Views.{IsOpenRefusal, IsAllocRefusal, IsUnmapRefusal, IsFlushRefusal, SeatState}
 use Rattle.iova_proto.specs.declared.answer.Answer.{Answer}
 use Rattle.iova_proto.specs.declared.answer.Answer.TheVariants as answer
 use Rattle.iova_proto.specs.declared.request.Request.{Request}

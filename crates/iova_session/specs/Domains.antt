@@ -1,4 +1,4 @@
--- What a session leaves of a domain that is known. Own.
+-- What a session leaves of a domain that is known.
 use Rattle.std.specs.Prelude.{ℕ, ◌≡◌, ◌≢◌, ◌+◌, ◌<◌, ◌≤◌, ◌⊎◌, Bool, List, length, Option, Some, None, Result, Ok, Err, MatchOption, refl}
 use Rattle.std.specs.Coded.{Coded, Coded-set, code_by, coded×, coded_ℕ, coded_list, Π_prop, →_prop, Unit-prop}
 use Rattle.iova_range.specs.declared.limits.TheConstants.{MAX_LISTED}
@@ -7,7 +7,7 @@ use Rattle.iova_range.specs.declared.refusal.Refusal.TheVariants as refusal
 use Rattle.iova_range.specs.Frames.{Frames}
 use Rattle.iova_model.specs.Clients.{client_with, client_of}
 use Rattle.iova_model.specs.State.{State}
-use Rattle.iova_model.specs.Laws.{held_by}
+use Rattle.iova_model.specs.Effects.{held_by}
 use Rattle.iova_proto.specs.declared.answer.Answer.{Answer}
 use Rattle.iova_proto.specs.declared.answer.Answer.TheVariants as answer
 use Rattle.iova_keep.specs.declared.ending.Ending.{Ending}

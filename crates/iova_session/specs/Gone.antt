@@ -1,5 +1,5 @@
 -- What a round of tries comes to where nobody else holds a range of the domain, and the sink
--- answers well. Own.
+-- answers well.
 use Rattle.std.specs.Prelude.{ℕ, ◌≡◌, ◌≢◌, ◌+◌, ◌≤◌, List, [], length, None, Contains}
 use Rattle.std.specs.List.{AllByRecursion}
 use Rattle.iova_range.specs.declared.limits.TheConstants.{MAX_HOLDINGS, MAX_SERIAL}

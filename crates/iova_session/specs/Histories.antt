@@ -1,4 +1,4 @@
--- What the steps of sessions keep, one after another. Own.
+-- What the steps of sessions keep, one after another.
 use Rattle.std.specs.Prelude.{◌≡◌, List}
 use Rattle.iova_model.specs.State.{State}
 use Rattle.iova_model.specs.Transcript.{Pair, IsTranscript, after}

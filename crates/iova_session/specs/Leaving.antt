@@ -1,4 +1,4 @@
--- How a client leaves whose session is over. Own.
+-- How a client leaves whose session is over.
 use Rattle.std.specs.Prelude.{ℕ, ◌≡◌, Bool, true, false, List, [], ◌∷◌, length, Option, Some, None, Result, Ok, Err}
 use Rattle.iova_range.specs.declared.refusal.Refusal.{Refusal}
 use Rattle.iova_range.specs.Frames.{Frames}

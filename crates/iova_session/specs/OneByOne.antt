@@ -1,4 +1,4 @@
--- Sessions at a post, one after another. Own.
+-- Sessions at a post, one after another.
 use Rattle.std.specs.Prelude.{ℕ, ◌≡◌, ◌+◌, Bool, List, [], ◌∷◌, Option, None}
 use Rattle.std.specs.Io.KnownBytes.{Appends, Consumes}
 use Rattle.iova_range.specs.declared.limits.TheConstants.{MAX_REQUESTS}

@@ -1,4 +1,4 @@
--- Requests and their answers. Own.
+-- Requests and their answers.
 use Rattle.std.specs.Prelude.{ℕ, ◌≡◌, List, [], ◌∷◌, ◌++◌, Option, Some, None, map, flat_map, take}
 use Rattle.std.specs.declared.snapshot.Snapshot.{Snapshot}
 use Rattle.iova_proto.specs.declared.answer.Answer.{Answer}

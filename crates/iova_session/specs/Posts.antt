@@ -1,4 +1,4 @@
--- How a session ends at a post. Own.
+-- How a session ends at a post.
 use Rattle.std.specs.Prelude.{ℕ, Result, ◌≡◌, ◌+◌, ◌<◌, ◌⊎◌, List, [], ◌∷◌, ◌++◌, length, Option, Some, None, Bool, true, false}
 use Rattle.iova_model.specs.declared.totals.Totals.{Totals}
 use Rattle.iova_range.specs.declared.refusal.Refusal.{Refusal}

@@ -1,4 +1,4 @@
--- How a session goes on, from piece to piece of what it takes. Own.
+-- How a session goes on, from piece to piece of what it takes.
 use Rattle.std.specs.Prelude.{ℕ, ◌≡◌, ◌+◌, List, [], ◌++◌, take, Option, Some, Result, Ok, Err, length, ◌⊎◌}
 use Rattle.std.specs.List.{AllByRecursion}
 use Rattle.iova_text.specs.Lines.{IsUnended}

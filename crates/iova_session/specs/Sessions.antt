@@ -1,4 +1,4 @@
--- What a session takes, asks, writes and ends by. Own.
+-- What a session takes, asks, writes and ends by.
 use Rattle.std.specs.Prelude.{ℕ, ◌≡◌, ◌≢◌, ◌≤◌, ◌⊎◌, List, [], ◌∷◌, ◌++◌, length, take, codes}
 use Rattle.std.specs.List.{AllByRecursion}
 use Rattle.iova_range.specs.declared.limits.TheConstants.{MAX_SESSION_READS}

@@ -1,9 +1,9 @@
--- How sessions take turns at a post, each a piece of its stream at a time, and how one departs. Own.
+-- How sessions take turns at a post, each a piece of its stream at a time, and how one departs.
 use Rattle.std.specs.Prelude.{ℕ, ◌≡◌, ◌+◌, ◌<◌, ◌≤◌, ◌⊎◌, List, [], ◌∷◌, ◌++◌, length, Option, Some, None, Result, Ok, Err}
 use Rattle.iova_text.specs.Lines.{IsUnended}
 use Rattle.iova_model.specs.declared.totals.Totals.{Totals}
 use Rattle.iova_model.specs.Clients.{no_totals}
-use Rattle.iova_model.specs.Laws.{add_totals}
+use Rattle.iova_model.specs.Effects.{add_totals}
 use Rattle.iova_keep.specs.declared.ending.Ending.{Ending}
 use Rattle.iova_keep.specs.declared.ending.Ending.TheVariants as ending
 use Rattle.iova_session.specs.Pairs.{Pair, asked, told, requests_text, answers_text}
@@ -150,9 +150,9 @@ IsWithout None all (Some rest) = ⊥
 IsWithout (Some held) all (Some rest) = all ≡ add_totals rest held
 
 -- What is told of the end of a session's client, by what the client holds, the shares of the seat
--- before its end and after it, and the clients that wait. Where it ended, the seat has lost what the
--- client held, and what its end queued is what was given to it and not taken back. Where it waits,
--- the seat's count has lost all but what it has left, and it is the last of those that wait.
+-- before its end and after it, and the clients that wait. Where it ended, the seat has lost what
+-- the client held, and what its end queued is what was given to it and not taken back. Where it
+-- waits, the seat's count has lost all but what it has left, and it is the last of those that wait.
 abbrev pub DepartsFrom : Option ℕ → List Pair → Option Totals → Option Ending → Totals → Totals
     → List ℕ → List ℕ
     → Type 0

@@ -1,6 +1,6 @@
 //! How a session ends.
 
-/// Why a session ended. Own.
+/// Why a session ended.
 #[derive(Clone, Copy, Debug, PartialEq, Eq)]
 pub enum End {
     /// The peer asked `bye`.

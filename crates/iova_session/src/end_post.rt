@@ -14,7 +14,7 @@ use std::sync::ledger::Ledger;
 
 /// Ends the service of a post: the clients that wait are tried once more (`retry`), and where a
 /// flush is wanted, what is in a ring is flushed and drained (`timeout`). Gives how many clients
-/// are left. Own.
+/// are left.
 pub fn end_post<C: Ledger, F: Ledger, S: Ledger, G: Ledger, K: Keep<C, F, S, G>, D: Sink>(
     keeper: &mut K,
     post: &mut Post<C, F, S, G>,

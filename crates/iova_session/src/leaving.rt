@@ -16,7 +16,7 @@ use iova_range::refusal::Refusal;
 use iova_sink::sink::{Sink, SinkFault};
 use std::sync::ledger::Ledger;
 
-/// What the end of a client that leaves came to. Own.
+/// What the end of a client that leaves came to.
 #[derive(Clone, Copy)]
 pub struct Leaving {
     /// How its end went; an error where it isn't known.
@@ -25,7 +25,7 @@ pub struct Leaving {
     pub silent: bool,
 }
 
-/// What became of a client that waits, in a round of tries. Own.
+/// What became of a client that waits, in a round of tries.
 #[derive(Clone, Copy)]
 pub struct Attempt {
     /// Whether it waits still.
@@ -36,7 +36,7 @@ pub struct Attempt {
 
 /// Ends a client of the seat. Where it holds ranges, the sink is told first that it is gone, and of
 /// all of them; where the sink fails, none of them is queued, and the client waits with all of
-/// them. The sink is locked all the while. It takes no memory. Own.
+/// them. The sink is locked all the while. It takes no memory.
 pub(crate) fn leave<C: Ledger, F: Ledger, S: Ledger, G: Ledger, K: Keep<C, F, S, G>, D: Sink>(
     keeper: &mut K,
     seat: &mut Seat<C, F, S, G>,

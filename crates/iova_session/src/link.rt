@@ -6,13 +6,13 @@ ghost use Rattle.iova_session.specs.Links.{AppendsFront, CountsEnds};
 
 use thiserror::Error;
 
-/// The link failed. Own.
+/// The link failed.
 #[derive(Clone, Copy, Debug, PartialEq, Eq, Error)]
 #[error("the link failed")]
 pub struct LinkFault;
 
 /// A stream of bytes in each direction. Any error of the operating system is a failure, an
-/// interruption too, and so is a write that takes none of a nonempty slice. Own.
+/// interruption too, and so is a write that takes none of a nonempty slice.
 pub trait Link {
     /// The bytes that are still to be read, where they are known.
     ghost left: { Self → Option (List ℕ) };
@@ -51,7 +51,7 @@ pub trait Link {
         ensures ends { ends self.new ≡ ends self.old };
 }
 
-/// Writes all of the bytes, going on after short counts. Own.
+/// Writes all of the bytes, going on after short counts.
 pub fn put_all<L: Link>(link: &mut L, bytes: &[u8]) -> Result<(), LinkFault>
     ensures left { L.left link.new ≡ L.left link.old }
     ensures reads { L.reads link.new ≡ L.reads link.old }

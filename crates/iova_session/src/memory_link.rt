@@ -11,7 +11,7 @@ use std::marker::Model;
 
 /// Gives bytes from a slice, and keeps in memory those that are written to it, for tests. It moves
 /// at most `most` bytes in a call, and fails at its `fail_at`-th call (0: at none), and where a
-/// growth is refused. Own.
+/// growth is refused.
 #[derive(Drop)]
 pub struct MemoryLink<'a> {
     input: &'a [u8],

@@ -17,7 +17,7 @@ use std::sync::ledger::Ledger;
 
 /// Serves a session over each of the links in turn, all at one post, and appends how each of them
 /// ended. Over a keeper that tells its domain, each leads it on from where the one before it left
-/// it; so all of them run one transcript of steps, which keeps the promises. Own.
+/// it; so all of them run one transcript of steps, which keeps the promises.
 pub fn serve_one_by_one<
     C: Ledger,
     F: Ledger,

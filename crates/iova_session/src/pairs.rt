@@ -7,7 +7,7 @@ use std::marker::Model;
 use std::snapshot::Snapshot;
 
 /// What a desk was asked, oldest first, each with its answer. Contracts see it as a list. It takes
-/// no memory: each pair keeps what was before it as a snapshot, which no code reads. Own.
+/// no memory: each pair keeps what was before it as a snapshot, which no code reads.
 #[derive(Drop)]
 pub struct Pairs {
     before: Option<Snapshot<Pairs>>,

@@ -12,12 +12,12 @@ ghost use Rattle.iova_session.specs.Turns.{TakesTurn, CannotMove, DepartsFrom, I
 
 use crate::answering::{AnswerRoom, refuse};
 use crate::end::End;
-use crate::keeper_desk::{Lent, Opening};
 use crate::link::Link;
 use crate::post::{Post, take_room};
 use crate::run::{end_opened, shares_of};
 use crate::serve::take_piece;
 use crate::session::Session;
+use crate::session_desk::{DomainAccess, SessionStart};
 use crate::session_limits::SessionLimits;
 use crate::together::LastBatch;
 use crate::turn_desk::TurnDesk;
@@ -46,7 +46,7 @@ struct Progress {
     left: u64,
 }
 
-/// A session between two of its turns. Own.
+/// A session between two of its turns.
 #[derive(Drop)]
 pub struct PausedSession {
     progress: Progress,
@@ -75,7 +75,7 @@ impl Model for PausedSession {
 #[derive(Drop)]
 struct Turned<'a, C: Ledger, F: Ledger, S: Ledger, G: Ledger, K: Keep<C, F, S, G>, D: Sink> {
     taken: Result<(), End>,
-    lent: Lent<'a, C, F, S, G, K, D>,
+    lent: DomainAccess<'a, C, F, S, G, K, D>,
 }
 
 /// Room for a run of requests, which sessions that take turns are lent.
@@ -151,7 +151,7 @@ impl PausedSession {
 }
 
 /// Takes the next piece of the session's stream: asks all whole requests that have come, and writes
-/// their answers. None where the session goes on; else its end, after which it takes nothing. Own.
+/// their answers. None where the session goes on; else its end, after which it takes nothing.
 pub fn resume<C: Ledger, F: Ledger, S: Ledger, G: Ledger, L: Link, K: Keep<C, F, S, G>, D: Sink>(
     paused: &mut PausedSession,
     piece: &[u8],
@@ -285,10 +285,10 @@ fn turn_at<C: Ledger, F: Ledger, S: Ledger, G: Ledger, L: Link, K: Keep<C, F, S,
     ensures strict { K.strict keeper.new ≡ K.strict keeper.old }
     ensures place { KeepsPlace seat.old seat.new (D.calls sink.old) (D.calls sink.new) }
 {
-    let lent = Lent { keeper, seat, sink };
+    let lent = DomainAccess { keeper, seat, sink };
     let Turned {
         taken,
-        lent: Lent {
+        lent: DomainAccess {
             keeper: _,
             seat: _,
             sink: _,
@@ -307,12 +307,12 @@ fn turn_lent<
     L: Link,
     K: Keep<C, F, S, G>,
     D: Sink,
-    O: Opening,
+    O: SessionStart,
 >(
     progress: &mut Progress,
     piece: &[u8],
     link: &mut L,
-    lent: Lent<'a, C, F, S, G, K, D>,
+    lent: DomainAccess<'a, C, F, S, G, K, D>,
     room: &mut RunRoom,
 ) -> Turned<'a, C, F, S, G, K, D>
     requires lines { IsSome progress.old.lines }
@@ -393,7 +393,7 @@ fn turn_lent<
 /// Ends the client that the session opened, whatever ended the session. None where there is no room
 /// for one client more that waits: then nothing was done. A client that waits is put on the post's
 /// list, last. Where no client was opened, there is nothing to tell of its end; nor is there where
-/// the seat's shares aren't as they have to be, but no run comes to that. Own.
+/// the seat's shares aren't as they have to be, but no run comes to that.
 pub fn depart<C: Ledger, F: Ledger, S: Ledger, G: Ledger, K: Keep<C, F, S, G>, D: Sink>(
     paused: &PausedSession,
     keeper: &mut K,

@@ -18,7 +18,7 @@ use std::sync::ledger::Ledger;
 /// queued. One that is gone leaves the list, and so does one that isn't known any more. A sink that
 /// gives no answer to that ends the round: those behind the client wait on. Where nobody else holds
 /// a range of the domain and no call of the sink fails, all of them end, and nobody holds anything.
-/// Takes no memory where a session was served at the post. Own.
+/// Takes no memory where a session was served at the post.
 pub fn retry<C: Ledger, F: Ledger, S: Ledger, G: Ledger, K: Keep<C, F, S, G>, D: Sink>(
     keeper: &mut K,
     post: &mut Post<C, F, S, G>,

@@ -12,12 +12,12 @@ ghost use Rattle.iova_session.specs.Desks.{AreAnswers, KeepsPlace, MovesBy, give
 ghost use Rattle.iova_session.specs.Posts.{EndsClient, EndsFrom};
 
 use crate::end::End;
-use crate::keeper_desk::{KeeperDesk, Lent, Opening};
 use crate::leaving::{Leaving, leave};
 use crate::link::Link;
 use crate::post::{Post, take_room};
 use crate::serve::serve_within;
 use crate::session::Session;
+use crate::session_desk::{DomainAccess, SessionDesk, SessionStart};
 use crate::session_limits::SessionLimits;
 use crate::together::LastBatch;
 use iova_keep::ending::Ending;
@@ -33,7 +33,7 @@ use std::alloc::Global;
 use std::marker::{Brand, PhantomData};
 use std::sync::ledger::Ledger;
 
-/// How a session ended, and its client. Own.
+/// How a session ended, and its client.
 #[derive(Clone, Copy, Debug, PartialEq, Eq)]
 pub struct SessionEnd {
     /// Why the session ended.
@@ -47,7 +47,7 @@ pub struct SessionEnd {
 struct Served<'a, C: Ledger, F: Ledger, S: Ledger, G: Ledger, K: Keep<C, F, S, G>, D: Sink> {
     end: End,
     client: Option<ClientId>,
-    lent: Lent<'a, C, F, S, G, K, D>,
+    lent: DomainAccess<'a, C, F, S, G, K, D>,
 }
 
 /// Serves a session, and gives back what it was lent.
@@ -60,12 +60,12 @@ fn serve_lent<
     K: Keep<C, F, S, G>,
     D: Sink,
     L: Link,
-    O: Opening,
+    O: SessionStart,
 >(
     alloc: Global,
     limits: SessionLimits,
     link: &mut L,
-    lent: Lent<'a, C, F, S, G, K, D>,
+    lent: DomainAccess<'a, C, F, S, G, K, D>,
 ) -> Served<'a, C, F, S, G, K, D>
     requires names { (lent.keeper.ghost_name ≡ O.keeper_name) × (lent.seat.ghost_name ≡ O.seat_name)
         × (lent.sink.ghost_name ≡ O.sink_name) }
@@ -99,7 +99,7 @@ fn serve_lent<
         (D.calls result.lent.sink.now) }
 {
     let session = Session::new(lent.keeper.number());
-    let mut desk: KeeperDesk<'a, C, F, S, G, K, D, O> = KeeperDesk {
+    let mut desk: SessionDesk<'a, C, F, S, G, K, D, O> = SessionDesk {
         lent,
         session,
         last: LastBatch::new(alloc),
@@ -107,7 +107,7 @@ fn serve_lent<
     };
     let end = serve_within(alloc, limits, link, &mut desk);
     let client = desk.session.client();
-    let KeeperDesk {
+    let SessionDesk {
         lent,
         session: _,
         last: _,
@@ -145,12 +145,17 @@ fn serve_at<C: Ledger, F: Ledger, S: Ledger, G: Ledger, K: Keep<C, F, S, G>, D: 
     let Served {
         end,
         client,
-        lent: Lent {
+        lent: DomainAccess {
             keeper: _,
             seat: _,
             sink: _,
         },
-    } = serve_lent::<C, F, S, G, K, D, L, Brand>(alloc, limits, link, Lent { keeper, seat, sink });
+    } = serve_lent::<C, F, S, G, K, D, L, Brand>(
+        alloc,
+        limits,
+        link,
+        DomainAccess { keeper, seat, sink },
+    );
     (end, client)
 }
 
@@ -160,7 +165,7 @@ fn serve_at<C: Ledger, F: Ledger, S: Ledger, G: Ledger, K: Keep<C, F, S, G>, D: 
 /// gone, and of all of them, before the first is queued; where the sink fails, none is. `client` is
 /// none where no client was opened; so it would be where the seat's shares weren't as they have to
 /// be, but no run comes to that. Over a keeper that tells its domain, each request does there what
-/// its call of the lock does, and is answered by what that call answers. Own.
+/// its call of the lock does, and is answered by what that call answers.
 pub fn run_session<
     C: Ledger,
     F: Ledger,
@@ -199,7 +204,7 @@ pub fn run_session<
     run_session_within(alloc, SessionLimits::usual(), link, keeper, post, sink)
 }
 
-/// The same within these limits. Own.
+/// The same within these limits.
 pub fn run_session_within<
     C: Ledger,
     F: Ledger,

@@ -30,7 +30,7 @@ const TEXT: usize = 4096;
 /// BadLine`, the 65,537th request and the read after 1,048,576 ones `no 21 TooMany`, and each of
 /// them ends the session; what stands at the end of the link without an LF is dropped. `NoMemory`
 /// comes where a growth was refused, the desk's too: the requests of that run are not asked, or not
-/// answered. Own.
+/// answered.
 pub fn serve<L: Link, D: Desk>(alloc: Global, link: &mut L, desk: &mut D) -> End
     ensures session { (taken : List ℕ) × (ps : List Pair) × (written : List ℕ) × (reads : ℕ)
         × Consumes (L.left link.old) (L.left link.new) taken
@@ -45,7 +45,7 @@ pub fn serve<L: Link, D: Desk>(alloc: Global, link: &mut L, desk: &mut D) -> End
 }
 
 /// The same within these limits: the request behind the last one, and the read behind the last one,
-/// are answered `no 21 TooMany`. Own.
+/// are answered `no 21 TooMany`.
 pub fn serve_within<L: Link, D: Desk>(
     alloc: Global,
     limits: SessionLimits,

@@ -7,7 +7,7 @@ use iova_range::limits::MAX_REQUESTS;
 /// How many reads a session may take for each request that it may ask.
 const READS_OF_A_REQUEST: u64 = 16;
 
-/// How much a session may ask for: it ends with the request, or the read, behind the last one. Own.
+/// How much a session may ask for: it ends with the request, or the read, behind the last one.
 #[derive(Clone, Copy, Debug, PartialEq, Eq)]
 pub struct SessionLimits {
     /// The most requests.

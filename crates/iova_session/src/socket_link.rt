@@ -11,7 +11,7 @@ use std::os::unix::net::UnixStream;
 
 /// A connected Unix socket. Each call is one call of the operating system, which may wait for the
 /// peer, and none is made again. Contracts see the numbers of its reads, its failures and the reads
-/// that found the end; what bytes come and go, no contract can say. Own.
+/// that found the end; what bytes come and go, no contract can say.
 #[derive(Drop)]
 pub struct SocketLink {
     stream: UnixStream,

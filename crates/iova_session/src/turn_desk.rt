@@ -7,8 +7,8 @@ ghost use Rattle.iova_session.specs.Leading.{GoesOn};
 ghost use Rattle.iova_session.specs.Turns.{MovesOn};
 
 use crate::desk::Desk;
-use crate::keeper_desk::{Lent, Opening, ask_lent};
 use crate::session::Session;
+use crate::session_desk::{DomainAccess, SessionStart, ask_lent};
 use crate::together::LastBatch;
 use iova_keep::keep::Keep;
 use iova_proto::answer::Answer;
@@ -30,9 +30,9 @@ pub(crate) struct TurnDesk<
     G: Ledger,
     K: Keep<C, F, S, G>,
     D: Sink,
-    O: Opening,
+    O: SessionStart,
 > {
-    pub(crate) lent: Lent<'a, C, F, S, G, K, D>,
+    pub(crate) lent: DomainAccess<'a, C, F, S, G, K, D>,
     pub(crate) session: Session,
     pub(crate) last: LastBatch,
     pub(crate) opening: PhantomData<O>,
@@ -44,7 +44,8 @@ pub(crate) struct TurnDesk<
         × (O.session.client ≡ client_after None O.session.pairs)
         × (O.session.listed ≡ listed_after 0 O.session.pairs) },
     ghost leads: { ∥ WhereKnown O.domain (K.domain lent.keeper.now)
-        (GoesOn O.strict O.session session O.seat lent.seat.now O.calls (D.calls lent.sink.now)) ∥₁ },
+        (GoesOn O.strict O.session session O.seat lent.seat.now O.calls (D.calls lent.sink.now))
+        ∥₁ },
     ghost shares: { ∥ MovesOn O.session session O.seat.held lent.seat.now.held ∥₁ },
     ghost worker: { lent.seat.now.worker ≡ O.seat.worker },
     ghost parts: { lent.seat.now.tally.parts ≡ O.seat.tally.parts },
@@ -52,8 +53,16 @@ pub(crate) struct TurnDesk<
         (D.calls lent.sink.now) },
 }
 
-impl<'a, C: Ledger, F: Ledger, S: Ledger, G: Ledger, K: Keep<C, F, S, G>, D: Sink, O: Opening> Desk
-    for TurnDesk<'a, C, F, S, G, K, D, O> {
+impl<
+    'a,
+    C: Ledger,
+    F: Ledger,
+    S: Ledger,
+    G: Ledger,
+    K: Keep<C, F, S, G>,
+    D: Sink,
+    O: SessionStart,
+> Desk for TurnDesk<'a, C, F, S, G, K, D, O> {
     ghost pairs = { λ d. d.session.pairs };
 
     fn ask_run(

@@ -1,4 +1,4 @@
--- What contracts see of a connection to a peer that answers, and of the calls over it. Own.
+-- What contracts see of a connection to a peer that answers, and of the calls over it.
 use Rattle.std.specs.Prelude.{ℕ, ◌≡◌, ◌≢◌, ◌+◌, ◌<◌, ◌≤◌, ◌⊎◌, Bool, true, false, List, ◌++◌, Option, Result, Ok, Err, take, length, slice_index}
 use Rattle.std.specs.Io.KnownBytes.{append_known}
 use Rattle.iova_sink.specs.Calls.{Call}

@@ -1,4 +1,4 @@
--- The record of one invalidation, and what is asked of a peer that answers. Own.
+-- The record of one invalidation, and what is asked of a peer that answers.
 use Rattle.std.specs.Prelude.{ℕ, Bool, true, false, List, [], ◌∷◌, ◌++◌, length, codes, decimal}
 use Rattle.iova_range.specs.Frames.{Frames}
 

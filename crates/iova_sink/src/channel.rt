@@ -19,7 +19,7 @@ pub enum Standing {
 
 /// A stream of bytes to a peer and one back, over one connection at a time. Any error of the
 /// operating system is a failure, an interruption and a time-out too; nothing is tried again.
-/// Without a connection all calls but `connect` and `close` fail. Own.
+/// Without a connection all calls but `connect` and `close` fail.
 pub trait Channel {
     ghost use Rattle.iova_sink.specs.Channels.{Talk};
 

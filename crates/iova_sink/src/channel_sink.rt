@@ -19,7 +19,7 @@ const BLOCK: usize = 4_096;
 /// A sink over a channel. It sends a request for each call, one at a time, and takes the answer:
 /// `done` or `fail`, the request's word and its number, and a line feed. Any other bytes, the end
 /// of the stream and a failure of the channel, a time-out too, close the connection, and the next
-/// call connects anew. Own.
+/// call connects anew.
 pub struct ChannelSink<C: Channel> {
     channel: C,
     calls: Calls,

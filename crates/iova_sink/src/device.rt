@@ -10,7 +10,7 @@ use std::io;
 pub struct DeviceFault;
 
 /// Takes bytes. Any error of the operating system is a failure, an interruption too, and so is a
-/// call that takes none of a nonempty slice. Own.
+/// call that takes none of a nonempty slice.
 pub trait Device {
     /// The bytes that it took, where they are known.
     ghost taken: { Self → Option (List ℕ) };

@@ -47,7 +47,7 @@ impl Flag {
 }
 
 /// An invalidation raises `inside`, and then waits until `open` is raised; it fails where that
-/// doesn't come in 1,000,000 turns. Contracts see the list of its calls. Own.
+/// doesn't come in 1,000,000 turns. Contracts see the list of its calls.
 #[derive(Drop)]
 pub struct GateSink<'a> {
     inside: &'a Flag,

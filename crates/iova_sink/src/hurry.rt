@@ -3,7 +3,7 @@ use std::sync::atomic::{AtomicBool, Ordering};
 
 /// What the channels to one peer share. Once the end has begun, the first call that the peer leaves
 /// without an answer in time has all later ones of each channel fail at once: so an end takes no
-/// more than two time limits, however many calls are left. Threads share it. Own.
+/// more than two time limits, however many calls are left. Threads share it.
 #[derive(Drop)]
 pub struct Hurry {
     is_ending: AtomicBool,

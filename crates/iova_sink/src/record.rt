@@ -19,7 +19,7 @@ pub(crate) const MAX_RECORD: usize = 72;
 
 /// Writes `inval <domain> <number>` and a line feed for each invalidation. The first record after
 /// one that failed begins with a line feed of its own, so that what was written of the failed one
-/// stays a line by itself. Own.
+/// stays a line by itself.
 pub struct RecordSink<D: Device> {
     device: D,
     calls: Calls,

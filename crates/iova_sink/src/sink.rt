@@ -15,7 +15,7 @@ pub enum SinkFault {
 
 /// A sink of invalidations, which is also told which clients are gone. It tells the list of its
 /// calls; how many invalidations were good, how many calls failed, and which invalidation was the
-/// last good one are functions of that list. Own.
+/// last good one are functions of that list.
 pub trait Sink {
     /// The calls that it was made, oldest first, with their answers.
     ghost calls: { Self → List Call };

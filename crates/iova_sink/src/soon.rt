@@ -22,7 +22,7 @@ const VAIN: u32 = 4;
 const SELDOM: u32 = 16;
 
 /// How often a thread looks for what comes before it sleeps, as long as that pays. It pays where a
-/// peer that is at hand answers at once, since to sleep and to be woken takes as long as that. Own.
+/// peer that is at hand answers at once, since to sleep and to be woken takes as long as that.
 #[derive(Clone, Copy, Debug)]
 pub struct Looks {
     /// How many waits in a row had no success.

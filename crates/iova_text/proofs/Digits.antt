@@ -96,3 +96,15 @@ pub decimal-read_on : (text : List ℕ) (len : ℕ) → list_all is_ascii_digit 
     → get_or text 0 0 ≢ 48 → read_on 0 (take len text) < 2 ^ 64 → decimal (read_on 0 (take len text)) ≡ take len text
 decimal-read_on text len digits some within zero fits =
     decimal-digits_value own (take len text) digits (omega (arith, length-take len text)) (λ e. absurd (zero (sym (get_or-take len text 0 0 some) ∙ e))) fits
+
+-- a digit at the front spells its number
+pub one_digit : (text : List ℕ) (n : ℕ) → 0 < length text → get_or text 0 0 ≡ 48 + n → n < 10 → take 1 text ≡ decimal n
+one_digit text n some byte few = take_more text 0 0 some ∙ (ap (λ (x : ℕ). x ∷ []) byte ∙ sym (decimal_digit n few))
+
+-- the digit behind a number's text spells with it the number that has it as its last digit
+pub digit_more : (text : List ℕ) (n digit len : ℕ) → len < length text → get_or text len 0 ≡ 48 + digit → digit < 10 → 0 < n → n < 10 ^ len → len < 19
+    → take len text ≡ decimal n → take (len + 1) text ≡ decimal (n * 10 + digit)
+digit_more text n digit len lt byte few some fits sure spelled =
+    take_more text len 0 lt
+    ∙ (ap (λ (x : List ℕ). x ++ get_or text len 0 ∷ []) spelled
+    ∙ (ap (λ (x : ℕ). decimal n ++ x ∷ []) byte ∙ decimal_more n digit some few (digit_fits n digit len fits few sure).1))

@@ -1,5 +1,6 @@
 pub mod Cuts
 pub mod Digits
+mod EightDigits
 pub mod LineEnds
 mod Pairs
 pub mod WordTexts

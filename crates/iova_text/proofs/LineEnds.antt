@@ -1,12 +1,12 @@
 -- The first LF of some bytes.
-use Rattle.std.proofs.Common.{ℕ, zero, suc, ◌≡◌, ◌+◌, ◌-◌, ◌<◌, ◌≤◌, ◌==◌, ◌⊎◌, inl, inr, List, [], ◌∷◌, ◌++◌, length, take, drop, get_or, refl, sym, ap, ◌∙◌, arith, true, add-one, append_assoc}
+use Rattle.std.proofs.Common.{ℕ, zero, suc, ◌≡◌, ◌+◌, ◌-◌, ◌<◌, ◌≤◌, ◌==◌, ◌⊎◌, inl, inr, List, [], ◌∷◌, ◌++◌, length, take, drop, get_or, refl, sym, ap, ◌∙◌, arith, true, add-one, append_assoc, length-append}
 use Rattle.std.specs.List.{list_all}
 use Rattle.std.proofs.Math.Seq.{take-append-add}
 use Rattle.std.proofs.lemmas.Bool.{and_from, cases_eq, eqb-true, false≢true, ne_eqb, not_from_false, false_from_ne_true}
-use Rattle.std.proofs.lemmas.List.{take_more}
+use Rattle.std.proofs.lemmas.List.{take_more, take-append-le}
 use Rattle.iova_range.specs.declared.limits.TheConstants.{MAX_LINE}
-use Rattle.iova_text.specs.Lines.{is_not_lf, HasNoLf, whole_line}
-use Rattle.iova_text.proofs.Cuts.{cut_at, list_all-more, list_all-right, run_once}
+use Rattle.iova_text.specs.Lines.{is_not_lf, HasNoLf, whole_line, IsUnended, IsOverlong, BeginsOdd}
+use Rattle.iova_text.proofs.Cuts.{cut_at, list_all-append, list_all-more, list_all-right, run_once}
 
 pub no_lf_before : (bytes : List ℕ) (n : ℕ) → n ≤ length bytes → ((k : ℕ) → 0 ≤ k → k < n → (get_or bytes k 0 == 10) ≡ true → ⊥) → HasNoLf (take n bytes)
 no_lf_before bytes zero within none = refl
@@ -46,6 +46,34 @@ lf_within bytes line more lt e none =
     ap (λ (x : List ℕ). take 128 x) (e ∙ append_assoc line (10 ∷ []) more)
     ∙ (ap (λ (n : ℕ). take n (line ++ 10 ∷ more)) (sym all) ∙ (at ∙ ap (λ (x : List ℕ). line ++ x) front)) in
     false≢true (list_all-right is_not_lf line (10 ∷ take left more) (ap (list_all is_not_lf) (sym cut) ∙ none))
+
+-- as many bytes as the longest line has, without LF
+pub overlong : (kept piece : List ℕ) → IsUnended kept → HasNoLf (take (MAX_LINE - length kept) piece)
+    → MAX_LINE ≤ length kept + length piece → IsOverlong (kept ++ piece)
+overlong kept piece is none long = record {
+  one =
+      (let n = MAX_LINE - length kept in
+      let all : length kept + n ≡ MAX_LINE = omega (arith, is.short) in
+      ap (λ (k : ℕ). list_all is_not_lf (take k (kept ++ piece))) (sym all)
+      ∙ (ap (list_all is_not_lf) (take-append-add kept piece n) ∙ list_all-append is_not_lf kept (take n piece) is.one none));
+  long = omega (arith, length-append kept piece, long);
+}
+
+-- Whatever comes after them, a first line that is odd stays so, and one that is too long.
+pub odd_more : (IsOdd : List ℕ → Type 0) (bytes more : List ℕ) → BeginsOdd IsOdd bytes → BeginsOdd IsOdd (bytes ++ more)
+odd_more IsOdd bytes more b = record {
+  line = b.line;
+  more = b.more ++ more;
+  whole = ap (λ (x : List ℕ). x ++ more) b.whole ∙ append_assoc (whole_line b.line) b.more more;
+  one = b.one;
+  odd = b.odd;
+}
+
+pub overlong_more : (bytes more : List ℕ) → IsOverlong bytes → IsOverlong (bytes ++ more)
+overlong_more bytes more b = record {
+  one = ap (list_all is_not_lf) (take-append-le MAX_LINE bytes more b.long) ∙ b.one;
+  long = omega (arith, length-append bytes more, b.long);
+}
 
 -- bytes have no LF, or a first one
 pub first_lf : (bytes : List ℕ) → HasNoLf bytes ⊎ ((line : List ℕ) × (more : List ℕ) × (bytes ≡ whole_line line ++ more) × HasNoLf line)

@@ -1,4 +1,4 @@
--- Lines in bytes: one ends by LF, and has at most 128 bytes with it. Own.
+-- Lines in bytes: one ends by LF, and has at most 128 bytes with it.
 use Rattle.std.specs.Prelude.{ℕ, ◌≡◌, ◌<◌, ◌≤◌, ◌==◌, Bool, true, not, List, [], ◌∷◌, ◌++◌, length, take}
 use Rattle.std.specs.List.{list_all}
 use Rattle.iova_range.specs.declared.limits.TheConstants.{MAX_LINE}
@@ -23,3 +23,11 @@ pub record IsUnended (bytes : List ℕ) : Type 0 where
 pub record IsOverlong (bytes : List ℕ) : Type 0 where
   pub one : HasNoLf (take MAX_LINE bytes)
   pub long : MAX_LINE ≤ length bytes
+
+-- the bytes begin with a whole line that is odd
+pub record BeginsOdd (IsOdd : List ℕ → Type 0) (bytes : List ℕ) : Type 0 where
+  pub line : List ℕ
+  pub more : List ℕ
+  pub whole : bytes ≡ whole_line line ++ more
+  pub one : HasNoLf line
+  pub odd : IsOdd line

@@ -1,4 +1,4 @@
--- A line of words: one space stands before each but the first. Own.
+-- A line of words: one space stands before each but the first.
 use Rattle.std.specs.Prelude.{ℕ, Bool, true, false, List, [], ◌∷◌, ◌++◌, map, decimal, codes}
 use Rattle.iova_range.specs.declared.refusal.Refusal.{Refusal}
 use Rattle.iova_range.specs.Refusals.{refusal_number, refusal_name}

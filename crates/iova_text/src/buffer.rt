@@ -15,7 +15,7 @@ static PAIRS: [u8; 200] = *b"\
 /// The bytes of a line, with its LF at most 128 of them.
 pub type LineBuffer = ArrayVec<u8, MAX_LINE>;
 
-/// Appends the bytes, for which there is room. Own.
+/// Appends the bytes, for which there is room.
 #[inline]
 pub fn put<const CAP: usize>(out: &mut ArrayVec<u8, CAP>, bytes: &[u8])
     requires { length out.old.items + length bytes.now ≤ CAP }
@@ -24,7 +24,7 @@ pub fn put<const CAP: usize>(out: &mut ArrayVec<u8, CAP>, bytes: &[u8])
     let _fits = out.try_extend_from_slice(bytes);
 }
 
-/// Appends the number's text, at most 20 bytes, for which there is room. Own.
+/// Appends the number's text, at most 20 bytes, for which there is room.
 #[inline(always)]
 pub fn put_number<const CAP: usize>(out: &mut ArrayVec<u8, CAP>, n: u64)
     requires { length out.old.items + 20 ≤ CAP }
@@ -43,8 +43,7 @@ pub fn put_number<const CAP: usize>(out: &mut ArrayVec<u8, CAP>, n: u64)
     }
 }
 
-/// The same for a number of nine digits or more, of which most have twelve at most: a first frame
-/// of up to 2^36 has eleven.
+/// The same for a number of nine digits or more, as a call.
 #[inline(never)]
 fn put_long<const CAP: usize>(out: &mut ArrayVec<u8, CAP>, n: u64)
     requires long { 100000000 ≤ n }
@@ -52,10 +51,23 @@ fn put_long<const CAP: usize>(out: &mut ArrayVec<u8, CAP>, n: u64)
     ensures items { out.new.items ≡ out.old.items ++ decimal n }
     ensures longer { length out.new.items ≤ length out.old.items + 20 }
 {
-    if n >= 1_000_000_000_000 {
+    if n < 1_000_000_000_000 {
+        put_usual(out, n);
+    } else {
         put(out, Buffer::new().format(n).as_bytes());
-        return;
     }
+}
+
+/// The same for a number of nine to twelve digits, as most long ones are: a first frame of up to
+/// 2^36 has eleven.
+#[inline(always)]
+fn put_usual<const CAP: usize>(out: &mut ArrayVec<u8, CAP>, n: u64)
+    requires long { 100000000 ≤ n }
+    requires short { n < 1000000000000 }
+    requires room { length out.old.items + 20 ≤ CAP }
+    ensures items { out.new.items ≡ out.old.items ++ decimal n }
+    ensures longer { length out.new.items ≤ length out.old.items + 20 }
+{
     let high = n / 100_000_000;
     let low = n % 100_000_000;
     let middle = low / 10_000;
@@ -110,7 +122,7 @@ fn put_pair<const CAP: usize>(out: &mut ArrayVec<u8, CAP>, n: u64)
     out.push(PAIRS[at + 1]);
 }
 
-/// Appends the word, and two numbers with a space before each, for which there is room. Own.
+/// Appends the word, and two numbers with a space before each, for which there is room.
 #[inline(always)]
 pub fn put_two_numbers<const CAP: usize>(out: &mut ArrayVec<u8, CAP>, word: &[u8], a: u64, b: u64)
     requires { length out.old.items + length word.now + 42 ≤ CAP }
@@ -121,9 +133,27 @@ pub fn put_two_numbers<const CAP: usize>(out: &mut ArrayVec<u8, CAP>, word: &[u8
     put_spaced(out, a, b);
 }
 
-/// Appends the two numbers, with a space before each.
+/// Appends the two numbers, with a space before each. The first one is mostly a frame, and is then
+/// written with no call, around which registers would be saved.
 #[inline(never)]
 fn put_spaced<const CAP: usize>(out: &mut ArrayVec<u8, CAP>, a: u64, b: u64)
+    requires { length out.old.items + 42 ≤ CAP }
+    ensures items { out.new.items ≡ out.old.items ++ spaced_words (decimal a ∷ decimal b ∷ []) }
+    ensures longer { length out.new.items ≤ length out.old.items + 42 }
+{
+    if a < 100_000_000 || a >= 1_000_000_000_000 {
+        put_any_spaced(out, a, b);
+        return;
+    }
+    out.push(b' ');
+    put_usual(out, a);
+    out.push(b' ');
+    put_number(out, b);
+}
+
+/// The same for any two numbers.
+#[inline(never)]
+fn put_any_spaced<const CAP: usize>(out: &mut ArrayVec<u8, CAP>, a: u64, b: u64)
     requires { length out.old.items + 42 ≤ CAP }
     ensures items { out.new.items ≡ out.old.items ++ spaced_words (decimal a ∷ decimal b ∷ []) }
     ensures longer { length out.new.items ≤ length out.old.items + 42 }
@@ -134,7 +164,7 @@ fn put_spaced<const CAP: usize>(out: &mut ArrayVec<u8, CAP>, a: u64, b: u64)
     put_number(out, b);
 }
 
-/// Appends the word, and each number with a space before it, for which there is room. Own.
+/// Appends the word, and each number with a space before it, for which there is room.
 pub fn put_numbers<const CAP: usize>(out: &mut ArrayVec<u8, CAP>, word: &[u8], ns: &[u64])
     requires { length out.old.items + length word.now + 21 * length ns.now ≤ CAP }
     ensures items { out.new.items ≡ out.old.items ++ numbers_line word.now ns.now }
@@ -148,7 +178,7 @@ pub fn put_numbers<const CAP: usize>(out: &mut ArrayVec<u8, CAP>, word: &[u8], n
     }
 }
 
-/// Appends the refusal's line without its LF, at most 63 bytes, for which there is room. Own.
+/// Appends the refusal's line without its LF, at most 63 bytes, for which there is room.
 pub fn put_refusal<const CAP: usize>(out: &mut ArrayVec<u8, CAP>, refusal: Refusal)
     requires { length out.old.items + 63 ≤ CAP }
     ensures items { out.new.items ≡ out.old.items ++ refusal_line refusal }
@@ -160,7 +190,7 @@ pub fn put_refusal<const CAP: usize>(out: &mut ArrayVec<u8, CAP>, refusal: Refus
 }
 
 /// Appends the bytes. Refused by `NoMemory`, which appends nothing and comes only where `out` has
-/// to grow. Own.
+/// to grow.
 pub fn append<const CAP: usize>(out: &mut Vec<u8>, bytes: &ArrayVec<u8, CAP>) -> Result<(), Refusal>
     ensures ok { OnOk result (out.new.items ≡ out.old.items ++ bytes.now.items) }
     ensures err { OnErr result ((result ≡ Err Refusal.NoMemory) × (out.new.items ≡ out.old.items)) }

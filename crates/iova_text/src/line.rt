@@ -4,7 +4,8 @@ ghost use Rattle.iova_text.specs.Lines.{HasNoLf, whole_line};
 
 use memchr::memchr;
 
-/// The bytes before the first LF, and those after it. None where there is no LF. Own.
+/// The bytes before the first LF, and those after it. None where there is no LF.
+#[inline]
 pub fn cut_line(text: &[u8]) -> Option<(&[u8], &[u8])>
     ensures cut { IfSome result (λ p. text.now ≡ whole_line p.0.now ++ p.1.now) }
     ensures one { IfSome result (λ p. HasNoLf p.0.now) }

@@ -5,7 +5,7 @@ ghost use Rattle.iova_text.specs.Reading.{stops};
 
 /// The number of 64 bits that this text spells: `0`, or a digit 1 to 9 and further digits. None
 /// where the text is not the one spelling of a number below 2^64: with a sign, a leading zero,
-/// another byte, or no byte at all. Own.
+/// another byte, or no byte at all.
 pub fn number(text: &[u8]) -> Option<u64>
     ensures spelled { IfSome result (λ n. text.now ≡ decimal n) }
     ensures read { (n : ℕ) → n < 2 ^ 64 → text.now ≡ decimal n → result ≡ Some n }
@@ -17,7 +17,7 @@ pub fn number(text: &[u8]) -> Option<u64>
 
 /// The number that the digits at the front spell, and the text after them; after a `0` no further
 /// digit is looked at. None where no digit is at the front, or where the digits spell no number
-/// below 2^64. Own.
+/// below 2^64.
 #[inline]
 pub fn leading_number(text: &[u8]) -> Option<(u64, &[u8])>
     ensures spelled { IfSome result (λ p. text.now ≡ decimal p.0 ++ p.1.now) }
@@ -33,9 +33,21 @@ pub fn leading_number(text: &[u8]) -> Option<(u64, &[u8])>
 /// Whichever digits they are, so many spell a number of 64 bits.
 const SURE_DIGITS: usize = 19;
 
-/// So many digits are read without a test for the end of the text at each of them, where the text
-/// is as long.
+/// So many digits are read at once, where the text is as long.
 const FIRST_DIGITS: usize = 8;
+
+/// A number has fewer digits mostly, and is then read without a test for the end of the text at
+/// each, where the text is as long: a first frame of up to 2^36 has eleven.
+const USUAL_DIGITS: usize = 12;
+
+/// The digit `0` in each byte.
+const ZEROS: u64 = 0x3030_3030_3030_3030;
+
+/// 6 in each byte, which carries 10 and more into the high half of its byte.
+const SIXES: u64 = 0x0606_0606_0606_0606;
+
+/// The high half of each byte.
+const HIGH_HALVES: u64 = 0xf0f0_f0f0_f0f0_f0f0;
 
 /// The number of 1 to 18 digits at the front, of which the first is not `0`, and the text after it.
 /// None where no such number is there, and where more digits are.
@@ -52,20 +64,53 @@ pub fn short_number(text: &[u8]) -> Option<(u64, &[u8])>
         return None;
     }
     let first = u64::from(text[0]) - 48;
-    let (front, start) = if text.len() < FIRST_DIGITS {
-        digits(text, first, 1, text.len())
-    } else {
-        digits(text, first, 1, FIRST_DIGITS)
-    };
-    if start < FIRST_DIGITS {
-        return Some((front, &text[start..]));
+    if text.len() < FIRST_DIGITS {
+        let (n, len) = digits(text, first, 1, text.len());
+        return Some((n, &text[len..]));
     }
-    let (n, len) = digits(text, front, start, text.len().min(SURE_DIGITS));
+    let Some(eight) = eight_digits(text) else {
+        let (n, len) = digits(text, first, 1, FIRST_DIGITS);
+        return if len < FIRST_DIGITS {
+            Some((n, &text[len..]))
+        } else {
+            None
+        };
+    };
+    if text.len() >= USUAL_DIGITS {
+        let (n, len) = digits(text, eight, FIRST_DIGITS, USUAL_DIGITS);
+        if len < USUAL_DIGITS {
+            return Some((n, &text[len..]));
+        }
+    }
+    let (n, len) = digits(text, eight, FIRST_DIGITS, text.len().min(SURE_DIGITS));
     if len < SURE_DIGITS {
         Some((n, &text[len..]))
     } else {
         None
     }
+}
+
+/// The number of the eight digits at the front, of which the first is not `0`. None where one of
+/// these bytes is no digit.
+#[inline(always)]
+fn eight_digits(text: &[u8]) -> Option<u64>
+    requires within { FIRST_DIGITS ≤ length text.now }
+    requires first { slice_index text.now 0 ≢ 48 }
+    ensures spelled { IfSome result (λ n. take FIRST_DIGITS text.now ≡ decimal n) }
+    ensures some { IfSome result (λ n. 0 < n) }
+    ensures fits { IfSome result (λ n. n < 10 ^ FIRST_DIGITS) }
+{
+    let bytes = text.first_chunk::<FIRST_DIGITS>()?;
+    // A digit in each byte, the first one in the lowest.
+    let digits = u64::from_le_bytes(*bytes).wrapping_sub(ZEROS);
+    if digits & HIGH_HALVES != 0 || digits.wrapping_add(SIXES) & HIGH_HALVES != 0 {
+        return None;
+    }
+    // Each joins two neighbours, of which the one before is in the lower bits.
+    let pairs = (digits * 10 + (digits >> 8)) & 0x00ff_00ff_00ff_00ff;
+    let fours = (pairs * 100 + (pairs >> 16)) & 0x0000_ffff_0000_ffff;
+    let eight = (fours * 10_000 + (fours >> 32)) & 0xffff_ffff;
+    Some(eight)
 }
 
 /// The number `front`, whose text ends at `start`, with the digits after it, up to `end` at most;

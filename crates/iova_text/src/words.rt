@@ -22,7 +22,7 @@ pub fn first_word(line: &[u8]) -> (&[u8], &[u8])
 }
 
 /// A space and the word after it, which may be empty, and the text from the next space on. None
-/// where no space is at the front. Own.
+/// where no space is at the front.
 pub fn next_word(text: &[u8]) -> Option<(&[u8], &[u8])>
     ensures spelled { IfSome result (λ p. text.now ≡ 32 ∷ (p.0.now ++ p.1.now)) }
     ensures read { (word rest : List ℕ) → IsTrue (list_all is_not_space word)
@@ -103,7 +103,7 @@ pub fn three_numbers(text: &[u8]) -> Option<(u64, u64, u64)>
     Some((a, b, c))
 }
 
-/// A space and the kind of a client, and nothing after it: true for `sac`, false for `dac`. Own.
+/// A space and the kind of a client, and nothing after it: true for `sac`, false for `dac`.
 pub fn kind_of(text: &[u8]) -> Option<bool>
     ensures spelled { IfSome result (λ sac. text.now ≡ spaced_words (kind_text sac ∷ [])) }
     ensures read { (sac : Bool) → text.now ≡ spaced_words (kind_text sac ∷ []) → result ≡ Some sac }

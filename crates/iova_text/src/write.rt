@@ -6,13 +6,13 @@ use std::io;
 use std::io::Write;
 use thiserror::Error;
 
-/// A write failed, an interruption too, or took nothing; or the flush failed. Own.
+/// A write failed, an interruption too, or took nothing; or the flush failed.
 #[derive(Clone, Copy, Debug, PartialEq, Eq, Error)]
 #[error("the output cannot be written")]
 pub struct WriteFault;
 
 /// Writes all bytes and flushes. A call that fails is not tried again. Refused where a call fails,
-/// an interruption too, or a write takes nothing; some first bytes are written then. Own.
+/// an interruption too, or a write takes nothing; some first bytes are written then.
 pub fn write_all<W: Write>(writer: &mut W, bytes: &[u8]) -> Result<(), WriteFault>
     ensures ok { OnOk result (Appends (W.contents writer.old) (W.contents writer.new) bytes.now) }
     ensures err { OnErr result ((n : ℕ)
@@ -24,7 +24,7 @@ pub fn write_all<W: Write>(writer: &mut W, bytes: &[u8]) -> Result<(), WriteFaul
 
 /// Writes all bytes, and leaves it to the writer when it hands them on. A call that fails is not
 /// tried again. Refused where a write fails, an interruption too, or takes nothing; some first
-/// bytes are written then. Own.
+/// bytes are written then.
 pub fn write_bytes<W: Write>(writer: &mut W, bytes: &[u8]) -> Result<(), WriteFault>
     ensures ok { OnOk result (Appends (W.contents writer.old) (W.contents writer.new) bytes.now) }
     ensures err { OnErr result ((n : ℕ)

@@ -1,9 +1,8 @@
 -- The first bad line of a text has one number, and what comes after it does not change it.
-use Rattle.std.proofs.Common.{ℕ, suc, ◌≡◌, ◌+◌, ◌<◌, ◌≤◌, ◌^◌, ◌==◌, ◌⊎◌, inl, inr, Bool, true, false, List, [], ◌∷◌, ◌++◌, Option, Some, None, length, length-append, take, map, decimal, codes, refl, sym, ap, ◌∙◌, subst, arith, append_assoc, append-nil}
+use Rattle.std.proofs.Common.{ℕ, suc, ◌≡◌, ◌+◌, ◌<◌, ◌≤◌, ◌^◌, ◌==◌, ◌⊎◌, inl, inr, Bool, true, false, List, [], ◌∷◌, ◌++◌, Option, Some, None, length, length-append, map, decimal, codes, refl, sym, ap, ◌∙◌, subst, arith, append_assoc, append-nil}
 use Rattle.std.specs.Prelude.{flat_map}
-use Rattle.std.specs.List.{list_all, AllByRecursion}
+use Rattle.std.specs.List.{AllByRecursion}
 use Rattle.std.proofs.lemmas.Bool.{cond_both}
-use Rattle.std.proofs.lemmas.List.{take-append-le}
 use Rattle.iova_range.specs.Bounds.{Extent, first_profile}
 use Rattle.iova_model.specs.declared.step.Step.{Step}
 use Rattle.iova_model.specs.declared.step.Step.TheVariants as step
@@ -13,11 +12,11 @@ use Rattle.iova_line.specs.declared.trace.Trace.{Trace}
 use Rattle.iova_text.specs.Words.{spaced_words, kind_text}
 use Rattle.iova_line.specs.Text.{verb_text, verb_of, outcome_text, arguments_of, step_text, NumbersFit, header_numbers, header_text, IsHeader}
 use Rattle.iova_line.specs.LineSteps.{IsStep}
-use Rattle.iova_text.specs.Lines.{is_not_lf, HasNoLf, whole_line, IsOverlong}
+use Rattle.iova_text.specs.Lines.{HasNoLf, whole_line, IsOverlong}
 use Rattle.iova_line.specs.Traces.{step_line, trace_text, IsTrace}
 use Rattle.iova_trace.specs.Lines.{first_lines_text, BeginsWithLines, IsOther, IsBad, IsCutOff, MayFollow, IsRefused, next_line_number}
 use Rattle.iova_trace.specs.Replay.{StopsAtBad}
-use Rattle.iova_text.proofs.LineEnds.{cut_once, no_line, lf_within, first_lf}
+use Rattle.iova_text.proofs.LineEnds.{cut_once, no_line, lf_within, odd_more, overlong_more, first_lf}
 use Rattle.iova_text.proofs.WordTexts.{IsShort, short_decimal, short_kind, short_words}
 use Rattle.iova_trace.proofs.Readings.{IsEnd, end_at, no_lf_step, no_lf_header, header_fits}
 
@@ -151,9 +150,6 @@ short_line (Some t) line may = omega (arith, short_step may.1 may.2.fits, ap len
 overlong_is_bad : (lines : Option Trace) (rest more : List ℕ) → IsOverlong rest → IsOther lines (rest ++ more) ⊎ IsCutOff lines (rest ++ more)
 overlong_is_bad lines rest more long = go lines (first_lf (rest ++ more))
   where
-    start : HasNoLf (take 128 (rest ++ more))
-    start = ap (list_all is_not_lf) (take-append-le 128 rest more long.long) ∙ long.one
-
     go : (lines : Option Trace) → HasNoLf (rest ++ more) ⊎ ((line : List ℕ) × (left : List ℕ) × ((rest ++ more) ≡ whole_line line ++ left) × HasNoLf line)
         → IsOther lines (rest ++ more) ⊎ IsCutOff lines (rest ++ more)
     go None (inl none) = inr none
@@ -163,7 +159,7 @@ overlong_is_bad lines rest more long = go lines (first_lf (rest ++ more))
       more = left;
       whole = e;
       one = one;
-      bad = λ may. lf_within (rest ++ more) line left (short_line lines line may) e start;
+      odd = λ may. lf_within (rest ++ more) line left (short_line lines line may) e (overlong_more rest more long).one;
     })
 
 -- Where a replay stops at a bad line, the whole input is refused with that number, whatever comes after.
@@ -177,11 +173,5 @@ stops_refused taken written more n s = record {
 }
   where
     go : IsBad s.lines s.rest → IsOther s.lines (s.rest ++ more) ⊎ IsCutOff s.lines (s.rest ++ more)
-    go (inl other) = inl (record {
-      line = other.line;
-      more = other.more ++ more;
-      whole = ap (λ (x : List ℕ). x ++ more) other.whole ∙ append_assoc (whole_line other.line) other.more more;
-      one = other.one;
-      bad = other.bad;
-    })
+    go (inl other) = inl (odd_more (λ line. ¬ MayFollow s.lines line) s.rest more other)
     go (inr long) = overlong_is_bad s.lines s.rest more long

@@ -1,12 +1,11 @@
 -- What one line more does to what stands in a trace.
-use Rattle.std.proofs.Common.{ℕ, suc, ◌≡◌, ◌+◌, ◌<◌, ◌≤◌, inl, inr, List, [], ◌∷◌, ◌++◌, Option, Some, None, length, take, refl, sym, ap, ◌∙◌, subst, arith, true, append_assoc, append-nil, length-append}
+use Rattle.std.proofs.Common.{ℕ, suc, ◌≡◌, ◌+◌, ◌<◌, inr, List, [], ◌∷◌, ◌++◌, Option, Some, None, length, take, refl, sym, ap, ◌∙◌, subst, arith, append_assoc, append-nil}
 use Rattle.std.specs.Prelude.{flat_map, map}
 use Rattle.std.specs.Io.KnownBytes.{Appends}
-use Rattle.std.specs.List.{list_all, AllByRecursion}
-use Rattle.std.proofs.lemmas.List.{length_push, take-append-drop, take_all}
+use Rattle.std.specs.List.{AllByRecursion}
+use Rattle.std.proofs.lemmas.List.{length_push, take_all}
 use Rattle.std.proofs.KnownBytes.{Appends-trans}
 use Rattle.std.proofs.lemmas.List.Concat.{flat_map-append}
-use Rattle.std.proofs.lemmas.Bool.{and_parts, and_from}
 use Rattle.iova_model.specs.declared.step.Step.{Step}
 use Rattle.iova_model.specs.declared.step.Reply.{Reply}
 use Rattle.iova_model.specs.declared.step.Point.{Point}
@@ -24,14 +23,13 @@ use Rattle.iova_trace.specs.declared.replay.Progress.{Progress}
 use Rattle.iova_line.specs.Text.{IsHeader, header_text, step_text}
 use Rattle.iova_trace.specs.Replies.{reply_text}
 use Rattle.iova_line.specs.LineSteps.{IsStep}
-use Rattle.iova_text.specs.Lines.{is_not_lf, HasNoLf, whole_line}
+use Rattle.iova_text.specs.Lines.{whole_line, IsOverlong}
 use Rattle.iova_line.specs.Traces.{IsTrace, step_line, trace_text}
 use Rattle.iova_trace.specs.Lines.{first_lines_text, count_steps, next_line_number, BeginsWithLines, AreFirstLines}
 use Rattle.iova_trace.specs.Log.{log_header, log_line, pair_line}
 use Rattle.iova_trace.specs.Replay.{IsReplayed, BreaksOff}
 use Rattle.iova_trace.specs.Logged.{IsLogged}
 use Rattle.iova_trace.specs.Progress.{Stands, number_at, Goes, Stops}
-use Rattle.iova_text.proofs.Cuts.{list_all-append}
 
 pub All-push : (P : Step → Type 0) (xs : List Step) (x : Step) → AllByRecursion P xs → P x → AllByRecursion P (xs ++ x ∷ [])
 All-push P [] x a p = (p, tt)
@@ -107,22 +105,22 @@ header_logged lines h text log is logged =
     ([], refl, none.0, ap (λ (x : List ℕ). x ++ log_header h.bounds) none.1 ∙ sym (append-nil (log_header h.bounds)))
 
 -- the header's line has been taken
-header_begins : (p : Progress) (taken written line kept : List ℕ) (x y : Option (List ℕ)) (h : Header) (st : Stands taken written x y p) → p.line.items ≡ []
+header_begins : (p : Progress) (taken written line kept : List ℕ) (x y : Option (List ℕ)) (h : Header) (st : Stands taken written x y p) → p.line ≡ []
     → p.domain ≡ None → IsHeader h.bounds h.workers → line ≡ header_text h.bounds h.workers → kept ≡ []
     → BeginsWithLines (taken ++ whole_line line) (Some (header_trace h)) kept
 header_begins p taken written line kept x y h st empty none good is nothing =
     let first = no_lines st.lines p.domain st.text none st.replayed in
     let t = header_trace h in
-    let whole : taken ≡ [] = st.begins.whole ∙ (ap (λ (l : Option Trace). first_lines_text l ++ p.line.items) first.0 ∙ empty) in
+    let whole : taken ≡ [] = st.begins.whole ∙ (ap (λ (l : Option Trace). first_lines_text l ++ p.line) first.0 ∙ empty) in
     let text : whole_line line ≡ trace_text t = ap whole_line is ∙ sym (append-nil (whole_line (header_text h.bounds h.workers))) in
     record {
       good = record { header = good; steps = tt; few = omega arith };
       whole = ap (λ (l : List ℕ). l ++ whole_line line) whole ∙ (text ∙ (sym (append-nil (trace_text t)) ∙ ap (λ (l : List ℕ). trace_text t ++ l) (sym nothing)));
     }
 
-pub header_taken : PromisesAreKept → NewDomainsAreValid → (p q : Progress) (x y : Option (List ℕ)) (line : List ℕ) (h : Header) → p.line.items ≡ [] → p.domain ≡ None
+pub header_taken : PromisesAreKept → NewDomainsAreValid → (p q : Progress) (x y : Option (List ℕ)) (line : List ℕ) (h : Header) → p.line ≡ [] → p.domain ≡ None
     → IsHeader h.bounds h.workers → line ≡ header_text h.bounds h.workers
-    → q.line.items ≡ p.line.items → q.steps ≡ p.steps → q.replies.items ≡ p.replies.items → q.domain ≡ Some (new_domain h.bounds h.workers)
+    → q.line ≡ p.line → q.steps ≡ p.steps → q.replies.items ≡ p.replies.items → q.domain ≡ Some (new_domain h.bounds h.workers)
     → Appends x y (log_header h.bounds) → Goes p x (whole_line line) [] q y
 header_taken law valid p q x y line h empty none good is kept steps replies domain told taken written before st =
     let first = no_lines st.lines p.domain st.text none st.replayed in
@@ -130,7 +128,7 @@ header_taken law valid p q x y line h empty none good is kept steps replies doma
     record {
       lines = Some t;
       text = st.text;
-      begins = header_begins p taken written line q.line.items before x h st empty none good is (kept ∙ empty);
+      begins = header_begins p taken written line q.line before x h st empty none good is (kept ∙ empty);
       log = st.log ++ log_header h.bounds;
       logged = header_logged st.lines h st.text st.log first.0 st.logged;
       grown = Appends-trans before x y st.log (log_header h.bounds) st.grown told;
@@ -198,9 +196,9 @@ step_logged lines t text log s r is logged =
           ∙ ap (λ (l : List ℕ). log_header t.bounds ++ l) (sym (flat_map_push pair_line all.0 p))),
     )
 
-pub step_taken : PromisesAreKept → NewDomainsAreValid → (p q : Progress) (x y : Option (List ℕ)) (line : List ℕ) (d : State) (s : Step) (m : Point) → p.line.items ≡ [] → p.domain ≡ Some d
+pub step_taken : PromisesAreKept → NewDomainsAreValid → (p q : Progress) (x y : Option (List ℕ)) (line : List ℕ) (d : State) (s : Step) (m : Point) → p.line ≡ [] → p.domain ≡ Some d
     → p.steps < 1000000 → IsStep s → line ≡ step_text s
-    → q.line.items ≡ p.line.items → q.steps ≡ p.steps + 1 → q.domain ≡ Some (next d s m).state
+    → q.line ≡ p.line → q.steps ≡ p.steps + 1 → q.domain ≡ Some (next d s m).state
     → q.replies.items ≡ p.replies.items ++ reply_text (next d s m).reply
     → Appends x y (log_line s (next d s m).reply) → Goes p x (whole_line line) [] q y
 step_taken law valid p q x y line d s m empty domain lt step spelled kept steps after replies told taken written before st =
@@ -208,7 +206,7 @@ step_taken law valid p q x y line d s m empty domain lt step spelled kept steps 
     let t = more.trace in
     let count : p.steps ≡ length t.steps = st.steps ∙ ap count_steps more.is in
     let reply = reply_text (next d s m).reply in
-    let begins = begins_one_more taken line st.lines t p.line.items s st.begins more.is empty (omega (arith, count, lt)) step spelled in
+    let begins = begins_one_more taken line st.lines t p.line s st.begins more.is empty (omega (arith, count, lt)) step spelled in
     record {
       lines = Some (with_step t s);
       text = st.text ++ reply;
@@ -222,16 +220,6 @@ step_taken law valid p q x y line d s m empty domain lt step spelled kept steps 
           ∙ (ap (λ (x : List ℕ). written ++ x) (sym replies) ∙ ap (λ (x : List ℕ). x ++ q.replies.items) (sym (append-nil written))));
     }
 
--- too many bytes that end no line
-HasNoLf-take : (n : ℕ) (bytes : List ℕ) → HasNoLf bytes → HasNoLf (take n bytes)
-HasNoLf-take n bytes all =
-    let both = take-append-drop n bytes in
-    left (take n bytes) (Rattle.std.proofs.Common.drop n bytes) (ap (list_all is_not_lf) both ∙ all)
-  where
-    left : (xs ys : List ℕ) → list_all is_not_lf (xs ++ ys) ≡ true → list_all is_not_lf xs ≡ true
-    left [] ys a = refl
-    left (x ∷ xs) ys a = let parts = and_parts (is_not_lf x) (list_all is_not_lf (xs ++ ys)) a in and_from (is_not_lf x) (list_all is_not_lf xs) parts.0 (left xs ys parts.1)
-
 -- A log at a line that is not taken
 
 -- what was kept is not written, and the line is none that was replied to
@@ -239,17 +227,17 @@ stays_broken : (p : Progress) (taken written bytes : List ℕ) (x y : Option (Li
     → BreaksOff (taken ++ bytes) (written ++ p.replies.items)
 stays_broken p taken written bytes x y st = record {
   lines = st.lines;
-  rest = p.line.items ++ bytes;
+  rest = p.line ++ bytes;
   state = p.domain;
   text = st.text;
-  begins = record { good = st.begins.good; whole = ap (λ (l : List ℕ). l ++ bytes) st.begins.whole ∙ append_assoc (first_lines_text st.lines) p.line.items bytes };
+  begins = record { good = st.begins.good; whole = ap (λ (l : List ℕ). l ++ bytes) st.begins.whole ∙ append_assoc (first_lines_text st.lines) p.line bytes };
   replayed = st.replayed;
   unwritten = [];
   begun = st.gathered ∙ sym (append-nil (written ++ p.replies.items));
 }
 
 -- the header's line of the log is not all written
-pub header_cut : (p : Progress) (x y : Option (List ℕ)) (line : List ℕ) (h : Header) (n : ℕ) → p.line.items ≡ [] → p.domain ≡ None
+pub header_cut : (p : Progress) (x y : Option (List ℕ)) (line : List ℕ) (h : Header) (n : ℕ) → p.line ≡ [] → p.domain ≡ None
     → IsHeader h.bounds h.workers → line ≡ header_text h.bounds h.workers → Appends x y (take n (log_header h.bounds))
     → Stops p x (whole_line line) p.replies.items y fault.WriteFault
 header_cut p x y line h n empty none good is told taken written before st =
@@ -272,7 +260,7 @@ header_cut p x y line h n empty none good is told taken written before st =
 
 -- a step was run, and its line of the log or its reply is not kept
 pub step_cut : PromisesAreKept → NewDomainsAreValid → (p : Progress) (x y : Option (List ℕ)) (line : List ℕ) (d : State) (s : Step) (m : Point) (n : ℕ)
-    → p.line.items ≡ [] → p.domain ≡ Some d → p.steps < 1000000 → IsStep s → line ≡ step_text s → Appends x y (take n (log_line s (next d s m).reply))
+    → p.line ≡ [] → p.domain ≡ Some d → p.steps < 1000000 → IsStep s → line ≡ step_text s → Appends x y (take n (log_line s (next d s m).reply))
     → Stops p x (whole_line line) p.replies.items y fault.WriteFault
 step_cut law valid p x y line d s m n empty domain lt step spelled told taken written before st =
     let more = one_more law valid st.lines p.domain d st.text s m domain st.begins.good st.replayed in
@@ -287,7 +275,7 @@ step_cut law valid p x y line d s m n empty domain lt step spelled told taken wr
         unwritten = reply_text r;
         log = st.log ++ log_line s r;
         count = length st.log + n;
-        begins = begins_one_more taken line st.lines t p.line.items s st.begins more.is empty (omega (arith, count, lt)) step spelled;
+        begins = begins_one_more taken line st.lines t p.line s st.begins more.is empty (omega (arith, count, lt)) step spelled;
         logged = step_logged st.lines t st.text st.log s r more.is st.logged;
         begun = ap (λ (l : List ℕ). l ++ reply_text r) st.gathered;
         grown = Appends-front before x y st.log (log_line s r) n st.grown told;
@@ -295,20 +283,20 @@ step_cut law valid p x y line d s m n empty domain lt step spelled told taken wr
     )
 
 pub step_lost : PromisesAreKept → NewDomainsAreValid → (p : Progress) (x y : Option (List ℕ)) (line : List ℕ) (d : State) (s : Step) (m : Point)
-    → p.line.items ≡ [] → p.domain ≡ Some d → p.steps < 1000000 → IsStep s → line ≡ step_text s → Appends x y (log_line s (next d s m).reply)
+    → p.line ≡ [] → p.domain ≡ Some d → p.steps < 1000000 → IsStep s → line ≡ step_text s → Appends x y (log_line s (next d s m).reply)
     → Stops p x (whole_line line) p.replies.items y fault.NoMemory
 step_lost law valid p x y line d s m empty domain lt step spelled told =
     step_cut law valid p x y line d s m (length (log_line s (next d s m).reply)) empty domain lt step spelled (Appends-whole x y (log_line s (next d s m).reply) told)
 
-pub overlong : (p : Progress) (x : Option (List ℕ)) (bytes : List ℕ) (number : ℕ) → HasNoLf p.line.items → HasNoLf bytes → 128 ≤ length p.line.items + length bytes
-    → number ≡ number_at p.domain p.steps → Stops p x bytes p.replies.items x (fault.BadTrace number)
-overlong p x bytes number one more long is taken written before st =
-    let rest = p.line.items ++ bytes in
-    let whole : HasNoLf rest = list_all-append is_not_lf p.line.items bytes one more in
+-- a line that is too long
+pub overlong : (p : Progress) (x : Option (List ℕ)) (bytes : List ℕ) (number : ℕ) → IsOverlong (p.line ++ bytes) → number ≡ number_at p.domain p.steps
+    → Stops p x bytes p.replies.items x (fault.BadTrace number)
+overlong p x bytes number long is taken written before st =
+    let rest = p.line ++ bytes in
     let P : List ℕ → Type 0 = IsReplayed st.lines p.domain in
     let Q : List ℕ → Type 0 = λ l. IsLogged st.lines l st.log in
     let begins : BeginsWithLines (taken ++ bytes) st.lines rest =
-    record { good = st.begins.good; whole = ap (λ (l : List ℕ). l ++ bytes) st.begins.whole ∙ append_assoc (first_lines_text st.lines) p.line.items bytes } in (
+    record { good = st.begins.good; whole = ap (λ (l : List ℕ). l ++ bytes) st.begins.whole ∙ append_assoc (first_lines_text st.lines) p.line bytes } in (
       record {
         lines = st.lines;
         rest = rest;
@@ -316,7 +304,7 @@ overlong p x bytes number one more long is taken written before st =
         begins = begins;
         replayed = subst P st.gathered st.replayed;
         number_is = is ∙ number_at-is st.lines p.domain p.steps st.text st.replayed st.steps;
-        bad = inr (record { one = HasNoLf-take 128 rest whole; long = omega (arith, length-append p.line.items bytes, long) });
+        bad = inr long;
       },
       record { lines = st.lines; rest = rest; log = st.log; begins = begins; logged = subst Q st.gathered st.logged; grown = st.grown },
     )

@@ -90,7 +90,7 @@ pub end_at : (lines : Option Trace) (line more : List ℕ) → HasNoLf line → 
 end_at lines line more one may (inl (inl other)) =
     let same = cut_once line more other.line other.more one other.one other.whole in
     let P : List ℕ → Type 0 = MayFollow lines in
-    other.bad (subst P same.0 may)
+    other.odd (subst P same.0 may)
 end_at None line more one may (inl (inr cut)) = no_line (whole_line line ++ more) line more cut refl
 end_at (Some t) line more one may (inl (inr cut)) = no_line (whole_line line ++ more) line more cut.0 refl
 end_at lines line more one may (inr end) = no_line [] line more refl (sym end.0)

@@ -1,7 +1,6 @@
 -- One piece of a trace after another.
-use Rattle.std.proofs.Common.{ℕ, ◌≡◌, ◌≤◌, ◌⊎◌, inl, inr, List, [], ◌∷◌, ◌++◌, Option, Some, None, Result, Ok, Err, length, take, drop, refl, sym, ap, ◌∙◌, subst, arith, append_assoc, append-nil, take-append-drop, length-append}
-use Rattle.std.specs.List.{list_all}
-use Rattle.std.proofs.lemmas.List.{take-append-le, take_at, take_all}
+use Rattle.std.proofs.Common.{ℕ, ◌≡◌, ◌⊎◌, inl, inr, List, [], ◌∷◌, ◌++◌, Option, Some, None, Result, Ok, Err, length, take, drop, refl, sym, ap, ◌∙◌, subst, arith, append_assoc, append-nil, take-append-drop}
+use Rattle.std.proofs.lemmas.List.{take_at, take_all}
 use Rattle.std.proofs.KnownBytes.{Appends-trans, Appends-nil, Consumes-trans, Consumes-nil, Consumes-kept}
 use Rattle.std.specs.Io.KnownBytes.{Appends, Consumes, Keeps, IsAtEnd}
 use Rattle.iova_model.specs.State.{State}
@@ -9,8 +8,9 @@ use Rattle.iova_line.specs.declared.trace.Trace.{Trace}
 use Rattle.iova_trace.specs.declared.fault.ReplayFault.{ReplayFault}
 use Rattle.iova_trace.specs.declared.fault.ReplayFault.TheVariants as fault
 use Rattle.iova_trace.specs.declared.replay.Progress.{Progress}
-use Rattle.iova_text.specs.Lines.{is_not_lf, whole_line, IsUnended}
-use Rattle.iova_trace.specs.Lines.{BeginsWithLines, IsBad, first_lines_text}
+use Rattle.iova_text.specs.Lines.{whole_line, IsUnended}
+use Rattle.iova_text.proofs.LineEnds.{odd_more, overlong_more}
+use Rattle.iova_trace.specs.Lines.{BeginsWithLines, IsBad, MayFollow, first_lines_text}
 use Rattle.iova_trace.specs.Replay.{BreaksOff, IsReplayed, StopsInLine, TellsOfReplay, Replays}
 use Rattle.iova_trace.specs.Logged.{IsLogged, LogsAll, LogsFront, TellsOfLog, ReplaysAndLogs}
 use Rattle.iova_trace.specs.Progress.{Stands, Goes, EndsReplay, EndsLog, Stops, Outcome, TakesBytes, Closes}
@@ -40,21 +40,9 @@ BeginsWithLines-more taken more rest lines b = record {
   whole = ap (λ (x : List ℕ). x ++ more) b.whole ∙ append_assoc (first_lines_text lines) rest more;
 }
 
-take_front : (n : ℕ) (rest more : List ℕ) → n ≤ length rest → take n (rest ++ more) ≡ take n rest
-take_front n rest more le = take-append-le n rest more le
-
 IsBad-more : (lines : Option Trace) (rest more : List ℕ) → IsBad lines rest → IsBad lines (rest ++ more)
-IsBad-more lines rest more (inl b) = inl (record {
-  line = b.line;
-  more = b.more ++ more;
-  whole = ap (λ (x : List ℕ). x ++ more) b.whole ∙ append_assoc (b.line ++ 10 ∷ []) b.more more;
-  one = b.one;
-  bad = b.bad;
-})
-IsBad-more lines rest more (inr b) = inr (record {
-  one = ap (list_all is_not_lf) (take_front 128 rest more b.long) ∙ b.one;
-  long = omega (arith, length-append rest more, b.long);
-})
+IsBad-more lines rest more (inl odd) = inl (odd_more (λ line. ¬ MayFollow lines line) rest more odd)
+IsBad-more lines rest more (inr long) = inr (overlong_more rest more long)
 
 -- what is not read any more changes nothing
 EndsReplay-more : (taken more written : List ℕ) (e : ReplayFault) → EndsReplay taken written e → EndsReplay (taken ++ more) written e
@@ -223,10 +211,10 @@ Goes-broken p q x y bytes n goes taken before log st =
     let begun : at.text ≡ (before ++ take n q.replies.items) ++ cut =
     at.gathered ∙ (ap (λ (l : List ℕ). l ++ q.replies.items) (append-nil before)
     ∙ (ap (λ (l : List ℕ). before ++ l) (sym (take-append-drop n q.replies.items)) ∙ sym (append_assoc before (take n q.replies.items) cut))) in (
-      record { lines = at.lines; rest = q.line.items; state = q.domain; text = at.text; begins = at.begins; replayed = at.replayed; unwritten = cut; begun = begun },
+      record { lines = at.lines; rest = q.line; state = q.domain; text = at.text; begins = at.begins; replayed = at.replayed; unwritten = cut; begun = begun },
       record {
         lines = at.lines;
-        rest = q.line.items;
+        rest = q.line;
         text = at.text;
         unwritten = cut;
         log = at.log;
@@ -239,7 +227,7 @@ Goes-broken p q x y bytes n goes taken before log st =
     )
 
 -- after bytes that were taken the kept replies are written
-pub Goes-written : (p q r : Progress) (x y : Option (List ℕ)) (bytes : List ℕ) → Goes p x bytes [] q y → r.line.items ≡ q.line.items → r.domain ≡ q.domain
+pub Goes-written : (p q r : Progress) (x y : Option (List ℕ)) (bytes : List ℕ) → Goes p x bytes [] q y → r.line ≡ q.line → r.domain ≡ q.domain
     → r.steps ≡ q.steps → r.replies.items ≡ [] → Goes p x bytes q.replies.items r y
 Goes-written p q r x y bytes goes line domain steps none taken before log st =
     let at = goes taken before log st in
@@ -266,7 +254,7 @@ TakesBytes-broken p q x y bytes n (Err e) t =
 pub TakesBytes-written : (p q r : Progress) (x y : Option (List ℕ)) (bytes : List ℕ) (result : Result Unit ReplayFault) → TakesBytes p x bytes q y result
     → r ≡ record q { replies = r.replies } → r.replies.items ≡ [] → Outcome p x bytes q.replies.items r y result
 TakesBytes-written p q r x y bytes (Ok u) t same none =
-    Goes-written p q r x y bytes t (ap (λ (l : Progress). l.line.items) same) (ap (λ (l : Progress). l.domain) same) (ap (λ (l : Progress). l.steps) same) none
+    Goes-written p q r x y bytes t (ap (λ (l : Progress). l.line) same) (ap (λ (l : Progress). l.domain) same) (ap (λ (l : Progress). l.steps) same) none
 TakesBytes-written p q r x y bytes (Err e) t same none =
     let P : List ℕ → Type 0 = λ l. Stops p x bytes l y e in
     subst P (sym t.1) t.0
@@ -278,7 +266,7 @@ Outcome-then a b c x y z p q v w (Err e) first second = Stops-then a b x y z p q
 
 -- The line that was kept is whole once its last bytes have come.
 
-fresh_line : (taken written : List ℕ) (x y : Option (List ℕ)) (q mid : Progress) (st : Stands taken written x y q) → mid.line.items ≡ [] → mid.domain ≡ q.domain → mid.steps ≡ q.steps
+fresh_line : (taken written : List ℕ) (x y : Option (List ℕ)) (q mid : Progress) (st : Stands taken written x y q) → mid.line ≡ [] → mid.domain ≡ q.domain → mid.steps ≡ q.steps
     → mid.replies.items ≡ q.replies.items → Stands (first_lines_text st.lines) written x y mid
 fresh_line taken written x y q mid st empty domain steps replies = record {
   lines = st.lines;
@@ -295,35 +283,29 @@ fresh_line taken written x y q mid st empty domain steps replies = record {
   grown = st.grown;
 }
 
--- the lines, and then the kept line with its LF
-line_whole : (taken bytes kept : List ℕ) (lines : Option Trace) → taken ++ bytes ≡ first_lines_text lines ++ kept
-    → first_lines_text lines ++ whole_line kept ≡ taken ++ whole_line bytes
-line_whole taken bytes kept lines e =
-    sym (append_assoc (first_lines_text lines) kept (10 ∷ [])) ∙ (ap (λ (x : List ℕ). x ++ 10 ∷ []) (sym e) ∙ append_assoc taken bytes (10 ∷ []))
-
-ended_text : (taken bytes line kept : List ℕ) (lines : Option Trace) → line ≡ kept → taken ++ bytes ≡ first_lines_text lines ++ kept
+-- the lines, and then the kept line with its end
+ended_text : (taken bytes line kept : List ℕ) (lines : Option Trace) → line ≡ kept ++ bytes → taken ≡ first_lines_text lines ++ kept
     → first_lines_text lines ++ whole_line line ≡ taken ++ whole_line bytes
-ended_text taken bytes line kept lines is e = ap (λ (x : List ℕ). first_lines_text lines ++ whole_line x) is ∙ line_whole taken bytes kept lines e
+ended_text taken bytes line kept lines is e =
+    let first = first_lines_text lines in
+    ap (λ (x : List ℕ). first ++ whole_line x) is
+    ∙ (ap (λ (x : List ℕ). first ++ x) (append_assoc kept bytes (10 ∷ []))
+    ∙ (sym (append_assoc first kept (whole_line bytes)) ∙ ap (λ (x : List ℕ). x ++ whole_line bytes) (sym e)))
 
-pub TakesBytes-ended : (p q mid new : Progress) (x z : Option (List ℕ)) (bytes line : List ℕ) (r : Result Unit ReplayFault) → Goes p x bytes [] q x
-    → q.replies.items ≡ p.replies.items → mid.line.items ≡ [] → mid.domain ≡ q.domain → mid.steps ≡ q.steps → mid.replies.items ≡ q.replies.items
-    → line ≡ q.line.items → TakesBytes mid x (whole_line line) new z r → TakesBytes p x (whole_line bytes) new z r
-TakesBytes-ended p q mid new x z bytes line (Ok u) goes same empty domain steps replies kept t = λ taken written log st.
-    let at = goes taken written log st in
-    let after = t (first_lines_text at.lines) (written ++ []) log (fresh_line (taken ++ bytes) (written ++ []) log x q mid at empty domain steps replies) in
-    let P : List ℕ → Type 0 = λ l. Stands l ((written ++ []) ++ []) log z new in
-    let Q : List ℕ → Type 0 = λ l. Stands (taken ++ whole_line bytes) l log z new in
-    subst Q (append-nil (written ++ [])) (subst P (ended_text taken bytes line q.line.items at.lines kept at.begins.whole) after)
-TakesBytes-ended p q mid new x z bytes line (Err e) goes same empty domain steps replies kept t = (
+pub TakesBytes-ended : (p mid new : Progress) (x z : Option (List ℕ)) (bytes line : List ℕ) (r : Result Unit ReplayFault) → mid.line ≡ []
+    → mid.domain ≡ p.domain → mid.steps ≡ p.steps → mid.replies.items ≡ p.replies.items → line ≡ p.line ++ bytes
+    → TakesBytes mid x (whole_line line) new z r → TakesBytes p x (whole_line bytes) new z r
+TakesBytes-ended p mid new x z bytes line (Ok u) empty domain steps replies is t = λ taken written log st.
+    let after = t (first_lines_text st.lines) written log (fresh_line taken written log x p mid st empty domain steps replies) in
+    let P : List ℕ → Type 0 = λ l. Stands l (written ++ []) log z new in
+    subst P (ended_text taken bytes line p.line st.lines is st.begins.whole) after
+TakesBytes-ended p mid new x z bytes line (Err e) empty domain steps replies is t = (
   (λ taken written log st.
-      let at = goes taken written log st in
-      let after = t.0 (first_lines_text at.lines) (written ++ []) log (fresh_line (taken ++ bytes) (written ++ []) log x q mid at empty domain steps replies) in
-      let P : List ℕ → Type 0 = λ l. Ends l ((written ++ []) ++ mid.replies.items) log z e in
-      let Q : List ℕ → Type 0 = λ l. Ends (taken ++ whole_line bytes) l log z e in
-      let text : (written ++ []) ++ mid.replies.items ≡ written ++ p.replies.items =
-      ap (λ (l : List ℕ). l ++ mid.replies.items) (append-nil written) ∙ ap (λ (l : List ℕ). written ++ l) (replies ∙ same) in
-      subst Q text (subst P (ended_text taken bytes line q.line.items at.lines kept at.begins.whole) after)),
-  t.1 ∙ (replies ∙ same),
+      let after = t.0 (first_lines_text st.lines) written log (fresh_line taken written log x p mid st empty domain steps replies) in
+      let P : List ℕ → Type 0 = λ l. Ends l (written ++ mid.replies.items) log z e in
+      let Q : List ℕ → Type 0 = λ l. Ends (taken ++ whole_line bytes) (written ++ l) log z e in
+      subst Q replies (subst P (ended_text taken bytes line p.line st.lines is st.begins.whole) after)),
+  t.1 ∙ replies,
 )
 
 -- Whole replays
@@ -355,11 +337,11 @@ nothing_told input output log = record {
 all_written : (taken written : List ℕ) (x y : Option (List ℕ)) (p : Progress) (st : Stands taken written x y p) → p.replies.items ≡ [] → st.text ≡ written
 all_written taken written x y p st none = st.gathered ∙ (ap (λ (l : List ℕ). written ++ l) none ∙ append-nil written)
 
-pub Stands-stops : (taken written : List ℕ) (x y : Option (List ℕ)) (p : Progress) → Stands taken written x y p → p.replies.items ≡ [] → IsUnended p.line.items
+pub Stands-stops : (taken written : List ℕ) (x y : Option (List ℕ)) (p : Progress) → Stands taken written x y p → p.replies.items ≡ [] → IsUnended p.line
     → StopsInLine taken written
 Stands-stops taken written x y p st none unended = record {
   lines = st.lines;
-  rest = p.line.items;
+  rest = p.line;
   state = p.domain;
   begins = st.begins;
   replayed = (let P : List ℕ → Type 0 = IsReplayed st.lines p.domain in subst P (all_written taken written x y p st none) st.replayed);
@@ -369,7 +351,7 @@ Stands-stops taken written x y p st none unended = record {
 pub Stands-logs : (taken written : List ℕ) (x y : Option (List ℕ)) (p : Progress) → Stands taken written x y p → p.replies.items ≡ [] → LogsAll taken written x y
 Stands-logs taken written x y p st none = record {
   lines = st.lines;
-  rest = p.line.items;
+  rest = p.line;
   log = st.log;
   begins = st.begins;
   logged = (let P : List ℕ → Type 0 = λ l. IsLogged st.lines l st.log in subst P (all_written taken written x y p st none) st.logged);
@@ -412,7 +394,7 @@ pub record SoFar (input left output filled before now : Option (List ℕ)) (p : 
   pub stands : Stands taken written before now p
   pub none : p.replies.items ≡ []
 
-pub read_fails : (input mid left output filled x y : Option (List ℕ)) (p : Progress) → SoFar input mid output filled x y p → IsUnended p.line.items → Keeps mid left
+pub read_fails : (input mid left output filled x y : Option (List ℕ)) (p : Progress) → SoFar input mid output filled x y p → IsUnended p.line → Keeps mid left
     → ReplaysAndLogs input left output filled x y (Err fault.ReadFault)
 read_fails input mid left output filled x y p s unended keeps = record {
   replays = record {

@@ -1,8 +1,8 @@
--- What stands in the bytes of a trace: its lines, the header first, and the first bad one. Own.
+-- What stands in the bytes of a trace: its lines, the header first, and the first bad one.
 use Rattle.std.specs.Prelude.{ℕ, ◌≡◌, ◌≢◌, ◌+◌, ◌<◌, ◌⊎◌, List, [], ◌++◌, length, Option, Some, None}
 use Rattle.iova_range.specs.Bounds.{Extent}
 use Rattle.iova_range.specs.declared.limits.TheConstants.{MAX_STEPS}
-use Rattle.iova_text.specs.Lines.{HasNoLf, whole_line, IsOverlong}
+use Rattle.iova_text.specs.Lines.{HasNoLf, IsOverlong, BeginsOdd}
 use Rattle.iova_model.specs.declared.step.Step.{Step}
 use Rattle.iova_line.specs.declared.trace.Trace.{Trace}
 use Rattle.iova_line.specs.Text.{header_text, step_text, IsHeader}
@@ -51,12 +51,8 @@ pub record BeginsWithLines (bytes : List ℕ) (lines : Option Trace) (rest : Lis
 -- The first bad line
 
 -- the rest begins with a line that may not stand there
-pub record IsOther (lines : Option Trace) (rest : List ℕ) : Type 0 where
-  pub line : List ℕ
-  pub more : List ℕ
-  pub whole : rest ≡ whole_line line ++ more
-  pub one : HasNoLf line
-  pub bad : ¬ MayFollow lines line
+abbrev pub IsOther : Option Trace → List ℕ → Type 0
+IsOther lines rest = BeginsOdd (λ line. ¬ MayFollow lines line) rest
 
 -- such a line, or one that is too long
 abbrev pub IsBad : Option Trace → List ℕ → Type 0

@@ -1,5 +1,5 @@
 -- The log of a replay: what its steps and their replies say of frames and flushes, in the form that
--- a check of logs reads. Own.
+-- a check of logs reads.
 use Rattle.std.specs.Prelude.{ℕ, List, [], ◌∷◌, ◌++◌, flat_map, decimal, codes}
 use Rattle.iova_range.specs.Bounds.{Extent}
 use Rattle.iova_text.specs.Words.{line_text, numbers_line}

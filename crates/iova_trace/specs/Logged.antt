@@ -1,4 +1,4 @@
--- What a replay that is logged tells of its log. Own.
+-- What a replay that is logged tells of its log.
 use Rattle.std.specs.Prelude.{ℕ, ◌≡◌, List, [], ◌++◌, map, flat_map, take, Option, Some, None, Result, Ok, Err}
 use Rattle.std.specs.Io.KnownBytes.{Appends}
 use Rattle.iova_model.specs.State.{State}

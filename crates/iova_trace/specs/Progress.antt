@@ -16,7 +16,7 @@ pub record Stands (taken written : List ℕ) (before now : Option (List ℕ))
     (p : Progress) : Type 0 where
   pub lines : Option Trace
   pub text : List ℕ
-  pub begins : BeginsWithLines taken lines p.line.items
+  pub begins : BeginsWithLines taken lines p.line
   pub replayed : IsReplayed lines p.domain text
   pub steps : p.steps ≡ count_steps lines
   pub gathered : text ≡ written ++ p.replies.items

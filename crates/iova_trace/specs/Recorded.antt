@@ -1,4 +1,4 @@
--- What was recorded, as a trace, and what its replay writes. Own.
+-- What was recorded, as a trace, and what its replay writes.
 use Rattle.std.specs.Prelude.{ℕ, ◌≡◌, ◌≢◌, List, map, flat_map, ◌≤◌, ◌++◌}
 use Rattle.std.specs.List.{AllByRecursion}
 use Rattle.iova_range.specs.Bounds.{Extent}

@@ -1,4 +1,4 @@
--- What a replay tells: of the bytes that it took, what it wrote, and what it answers. Own.
+-- What a replay tells: of the bytes that it took, what it wrote, and what it answers.
 use Rattle.std.specs.Prelude.{ℕ, ◌≡◌, ◌⊎◌, List, [], ◌++◌, length, flat_map, Option, Some, None, Result, Ok, Err}
 use Rattle.std.specs.Io.KnownBytes.{Consumes, Appends, IsAtEnd}
 use Rattle.iova_model.specs.declared.step.Reply.{Reply}

@@ -1,5 +1,4 @@
 -- The text of a reply: a line of ASCII that ends by LF, whose words have one space between them.
--- Own.
 use Rattle.std.specs.Prelude.{ℕ, ◌+◌, ◌-◌, List, [], ◌∷◌, ◌++◌, codes}
 use Rattle.iova_text.specs.Words.{numbers_line, refusal_line}
 use Rattle.iova_model.specs.declared.step.Reply.{Reply}

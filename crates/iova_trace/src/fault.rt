@@ -6,7 +6,7 @@ use iova_text::{read, write};
 use std::alloc::AllocError;
 use thiserror::Error;
 
-/// Why the bytes of a trace are not read or replayed to their end. Our own.
+/// Why the bytes of a trace are not read or replayed to their end.
 #[derive(Clone, Copy, Debug, PartialEq, Eq, Error)]
 pub enum ReplayFault {
     /// The line with this number, counted from 1, is no line of a trace, or one too many.

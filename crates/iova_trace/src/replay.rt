@@ -1,7 +1,7 @@
 //! A trace replayed from a reader to a writer, one line after another.
-ghost use Rattle.std.specs.Prelude.{◌≡◌, ◌≤◌, ◌⊎◌, ℕ, take, IfOk, IfErr, OnOk, OnErr};
+ghost use Rattle.std.specs.Prelude.{◌≡◌, ◌+◌, ◌-◌, ◌<◌, ◌≤◌, ◌⊎◌, ℕ, length, take, IfOk, IfErr, OnOk, OnErr};
 ghost use Rattle.std.specs.Io.KnownBytes.{Appends};
-ghost use Rattle.iova_range.specs.declared.limits.TheConstants.{MAX_STEPS};
+ghost use Rattle.iova_range.specs.declared.limits.TheConstants.{MAX_LINE, MAX_STEPS};
 ghost use Rattle.iova_text.specs.Lines.{IsUnended};
 ghost use Rattle.iova_trace.specs.Logged.{ReplaysAndLogs};
 ghost use Rattle.iova_trace.specs.Replay.{Replays};
@@ -15,10 +15,9 @@ use iova_laws::validity::new_domains_are_valid;
 use iova_line::line::read_header;
 use iova_line::trace::next_step;
 use iova_range::limits::{MAX_LINE, MAX_READS};
-use iova_text::buffer::LineBuffer;
+use iova_text::cutter::LineCutter;
 use iova_text::read::read_some;
 use iova_text::write::{WriteFault, write_all};
-use memchr::memchr;
 use std::alloc::Global;
 use std::io::{Read, Write};
 
@@ -34,8 +33,7 @@ const BUFFER: usize = 65_536;
 /// where it is the line of step 1,000,001, or where the input ends in a line without LF; the
 /// replies to the lines before it are written. `ReadFault` where a read fails, an interruption too,
 /// or after 134,217,728 reads; the replies to all whole lines are written. `WriteFault` where a
-/// write fails or takes nothing, and `NoMemory`: some first bytes of the replies are written. Our
-/// own.
+/// write fails or takes nothing, and `NoMemory`: some first bytes of the replies are written.
 pub fn replay<R: Read, W: Write>(
     alloc: Global,
     reader: &mut R,
@@ -50,7 +48,7 @@ pub fn replay<R: Read, W: Write>(
 /// Replays a trace as `replay` does, and writes its log: the header, and the line of each step that
 /// has one, as it is run. `WriteFault` also where the log can't be written or handed on. The log
 /// has what was said by the lines whose replies are written; at `WriteFault` and `NoMemory` some
-/// first bytes of that. Our own.
+/// first bytes of that.
 pub fn replay_and_log<R: Read, W: Write, L: Log>(
     alloc: Global,
     reader: &mut R,
@@ -113,11 +111,11 @@ struct Progress {
     /// How many steps have been run.
     steps: u64,
     /// What has come of a line that has not ended.
-    line: LineBuffer,
+    line: LineCutter,
     /// Replies that have not been written.
     replies: Vec<u8>,
     ghost few: { steps ≤ MAX_STEPS },
-    ghost unended: { IsUnended line.items },
+    ghost unended: { IsUnended line },
 }
 
 impl Progress {
@@ -134,7 +132,7 @@ impl Progress {
             alloc,
             domain: None,
             steps: 0,
-            line: LineBuffer::new(),
+            line: LineCutter::new(),
             replies: Vec::with_capacity(alloc, BUFFER)?,
         })
     }
@@ -164,17 +162,16 @@ impl Progress {
         ensures written { OnOk result (self.new.replies.items ≡ []) }
     {
         let mut rest = piece;
-        while let Some(end) = memchr(b'\n', rest) {
-            let line = &rest[..end];
-            rest = &rest[end + 1..];
-            self.reply_to_line(line, writer, log)?;
+        while let Some((end, behind)) = self.line.cut(rest) {
+            rest = behind;
+            self.reply_to_line(end, writer, log)?;
         }
         let kept = self.keep_part(rest);
         self.write_replies(writer)?;
         kept
     }
 
-    /// Takes the rest of a line, without its LF, and writes the replies where they are many. Where
+    /// Takes the end of a line, without its LF, and writes the replies where they are many. Where
     /// the line is refused, the replies to those before it are written first.
     fn reply_to_line<W: Write, L: Log>(
         &mut self,
@@ -182,7 +179,8 @@ impl Progress {
         writer: &mut W,
         log: &mut L,
     ) -> Result<(), ReplayFault>
-        requires { HasNoLf end.now }
+        requires one { HasNoLf end.now }
+        requires short { length self.old.line + length end.now < MAX_LINE }
         ensures { (more : List ℕ) × Appends (W.contents writer.old) (W.contents writer.new) more
             × Outcome self.old (L.contents log.old) (whole_line end.now) more self.new
             (L.contents log.new) result }
@@ -194,38 +192,38 @@ impl Progress {
         ended
     }
 
-    /// Takes the rest of a line, without its LF.
+    /// Takes the end of a line, without its LF.
     fn complete_line<L: Log>(&mut self, end: &[u8], log: &mut L) -> Result<(), ReplayFault>
-        requires { HasNoLf end.now }
+        requires one { HasNoLf end.now }
+        requires short { length self.old.line + length end.now < MAX_LINE }
         ensures { TakesBytes self.old (L.contents log.old) (whole_line end.now) self.new
             (L.contents log.new) result }
     {
         if self.line.is_empty() {
             return self.run_line(end, log);
         }
-        self.keep_part(end)?;
-        let line = std::mem::take(&mut self.line);
+        let line = self.line.end(end);
         self.run_line(line.as_slice(), log)
     }
 
-    /// Keeps what has come of a line. One of 128 bytes without an LF is refused.
+    /// Keeps what has come of a line. One that is too long is refused.
     fn keep_part(&mut self, bytes: &[u8]) -> Result<(), ReplayFault>
-        requires { HasNoLf bytes.now }
+        requires { HasNoLf (take (MAX_LINE - length self.old.line) bytes.now) }
         ensures takes { (log : Option (List ℕ))
             → TakesBytes self.old log bytes.now self.new log result }
         ensures replies { self.new.replies.items ≡ self.old.replies.items }
     {
-        if self.line.len() + bytes.len() >= MAX_LINE {
-            return Err(ReplayFault::BadTrace(self.number()));
+        if self.line.keep(bytes) {
+            Ok(())
+        } else {
+            Err(ReplayFault::BadTrace(self.number()))
         }
-        let _fits = self.line.try_extend_from_slice(bytes);
-        Ok(())
     }
 
     /// Takes a whole line, the header first.
     fn run_line<L: Log>(&mut self, line: &[u8], log: &mut L) -> Result<(), ReplayFault>
         requires one { HasNoLf line.now }
-        requires fresh { self.old.line.items ≡ [] }
+        requires fresh { self.old.line ≡ [] }
         ensures { TakesBytes self.old (L.contents log.old) (whole_line line.now) self.new
             (L.contents log.new) result }
     {
@@ -256,7 +254,7 @@ impl Progress {
 
     fn run_header<L: Log>(&mut self, line: &[u8], log: &mut L) -> Result<(), ReplayFault>
         requires one { HasNoLf line.now }
-        requires fresh { self.old.line.items ≡ [] }
+        requires fresh { self.old.line ≡ [] }
         requires first { self.old.domain ≡ None }
         ensures { TakesBytes self.old (L.contents log.old) (whole_line line.now) self.new
             (L.contents log.new) result }

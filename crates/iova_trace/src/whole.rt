@@ -21,7 +21,7 @@ use std::alloc::Global;
 /// most 1,000,000, each line with its LF.
 ///
 /// Refused by `BadTrace` with the number of the first line that is another one, the header being
-/// line 1, or in which the text ends; and by `NoMemory`. Our own.
+/// line 1, or in which the text ends; and by `NoMemory`.
 pub fn read_trace(alloc: Global, text: &[u8]) -> Result<Trace, ReplayFault>
     ensures ok { IfOk result (λ trace. IsTrace trace × (text.now ≡ trace_text trace)) }
     ensures err { IfErr result (IsFaultOf text.now) }

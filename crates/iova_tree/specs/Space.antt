@@ -1,13 +1,12 @@
 -- The ranges of a tree.
-use Rattle.std.specs.Prelude.{ℕ, ◌≡◌, ◌+◌, ◌≤◌, Bool, true, false, not, ◌||◌, nat_lt, List, [], ◌∷◌, ◌++◌, length, filter, Option}
+use Rattle.std.specs.Prelude.{ℕ, ◌≡◌, ◌+◌, ◌≤◌, Bool, true, false, not, List, [], ◌∷◌, ◌++◌, length, filter, Option}
 use Rattle.std.specs.List.{AllByRecursion, list_any}
 use Rattle.iova_range.specs.declared.limits.TheConstants.{MAX_WINDOWS}
 use Rattle.iova_range.specs.declared.refusal.Refusal.{Refusal}
-use Rattle.iova_range.specs.declared.refusal.Refusal.TheVariants as refusal
 use Rattle.iova_range.specs.Frames.{Frames, meets}
 use Rattle.iova_range.specs.Bounds.{Extent, IsExtent}
 use Rattle.iova_model.specs.Fit.{is_clear, is_covered}
-use Rattle.iova_model.specs.Next.{first_refusal, from_to, windows_with}
+use Rattle.iova_model.specs.Next.{first_refusal, from_to, windows_with, window_tests}
 use Rattle.iova_tree.specs.Spans.{Span, IsRisingFrom, end_after, inserted_of, windows_of}
 
 -- What a `Tree` is seen as: the bounds; the ranges that were inserted; the windows. Both rise by
@@ -64,21 +63,15 @@ space_of bounds spans windows =
 
 -- Windows.
 
--- what the window of the frames lo to hi may be refused for, in this order
-abbrev pub window_tests : Space → ℕ → ℕ → List (Bool × Refusal)
-window_tests s lo hi =
-    (nat_lt hi lo || nat_lt lo s.bounds.start || nat_lt s.bounds.last hi, refusal.BadWindow)
-    ∷ (list_any (meets (from_to lo hi)) s.inserted, refusal.Taken)
-    ∷ (nat_lt MAX_WINDOWS (length (windows_with (from_to lo hi) s.windows)), refusal.WindowsFull)
-    ∷ []
-
 -- the same ranges and bounds, with a window of these frames
 abbrev pub with_window : Space → Frames → Space
 with_window s r = record s { windows = windows_with r s.windows }
 
--- what it is refused for with ample memory, if it is
+-- what the window of the frames lo to hi is refused for with ample memory, if it is
 abbrev pub reserve_refusal : Space → ℕ → ℕ → Option Refusal
-reserve_refusal s lo hi = first_refusal (window_tests s lo hi)
+reserve_refusal s lo hi =
+    first_refusal (window_tests s.bounds s.windows (list_any (meets (from_to lo hi)) s.inserted)
+    lo hi)
 
 -- the ranges that have no frame in common with r
 abbrev pub clear_of : Frames → List Frames → List Frames

@@ -2,7 +2,6 @@
 //! fits between them.
 #![tactic(auto)]
 
-mod beside;
 mod position;
 mod ranges;
 mod room;
@@ -10,3 +9,4 @@ mod search;
 mod subtree;
 pub mod tree;
 mod window;
+mod with_newest;

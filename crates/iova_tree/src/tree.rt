@@ -7,11 +7,11 @@ ghost use Rattle.iova_model.specs.Clients.{insert_rising, remove_at, begins_at};
 ghost use Rattle.iova_model.specs.Next.{from_to, union, windows_with};
 ghost use Rattle.iova_tree.specs.Space.{Space, ranges_of, IsInside, IsFree, IsSpace, with_window, reserve_refusal, clear_of};
 
-use crate::beside::{Allocated, Beside};
 use crate::ranges::Ranges;
 use crate::search::Wanted;
 use crate::subtree::{Node, Subtree, stretch};
 use crate::window::{absorb, count_clear, insert_window};
+use crate::with_newest::{Allocated, WithNewest};
 use iova_range::bounds::Bounds;
 use iova_range::limits::{MAX_FRAMES, MAX_WINDOWS};
 use iova_range::range::Range;
@@ -63,7 +63,7 @@ impl Tree {
         Ok(Tree {
             alloc,
             bounds,
-            ranges: Beside::new(Beside::new(Subtree::new())),
+            ranges: WithNewest::new(WithNewest::new(Subtree::new())),
             windows: Vec::new(alloc),
         })
     }

@@ -7,10 +7,10 @@ ghost use Rattle.iova_tree.specs.Spans.{windows_of, inserted_of};
 ghost use Rattle.iova_tree.specs.Space.{RiseApart, LieWithin, clear_of};
 ghost use Rattle.iova_tree.specs.Node.{IsSingle};
 
-use crate::beside::Allocated;
 use crate::position::position_of;
 use crate::ranges::Ranges;
 use crate::subtree::Node;
+use crate::with_newest::Allocated;
 use iova_range::range::Range;
 
 /// How many of the ranges have no frame in common with `range`.

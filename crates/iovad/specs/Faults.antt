@@ -1,4 +1,4 @@
--- What a fault of the program says on standard error, and the status that it ends with. Own.
+-- What a fault of the program says on standard error, and the status that it ends with.
 use Rattle.std.specs.Prelude.{ℕ, ◌≡◌, List, ◌++◌, Option, Some, None, decimal, codes}
 use Rattle.std.specs.Borrow.{Bor}
 use Rattle.iova_command.specs.declared.usage.WordsFault.{WordsFault}

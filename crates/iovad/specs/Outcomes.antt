@@ -1,4 +1,4 @@
--- What a daemon prints at its end. Own.
+-- What a daemon prints at its end.
 use Rattle.std.specs.Prelude.{ℕ, ◌≡◌, List, [], ◌∷◌, ◌++◌, take, codes, Option, Result, Ok, Err, ⊤}
 use Rattle.std.specs.Io.KnownBytes.{Appends}
 use Rattle.iova_model.specs.State.{State}

@@ -1,4 +1,4 @@
--- A daemon's domain. Own.
+-- A daemon's domain.
 use Rattle.std.specs.Prelude.{ℕ, ◌≡◌, ◌≢◌, ◌<◌, ◌≤◌, ◌+◌, ◌-◌, ◌*◌, max, min, if◌then◌else◌, List, [], ◌∷◌, map, Option, Some, None, unwrap_or}
 use Rattle.iova_range.specs.Frames.{Frames}
 use Rattle.iova_model.specs.State.{State}

@@ -1,4 +1,4 @@
--- A sink of one of two kinds. Own.
+-- A sink of one of two kinds.
 use Rattle.std.specs.Prelude.{List}
 use Rattle.iova_sink.specs.Calls.{Call}
 use Rattle.iovad.specs.declared.sinks.EitherSink.{EitherSink}

@@ -22,7 +22,7 @@ use std::thread;
 use std::time::Duration;
 
 /// What is done beside the sessions of a daemon: its control socket, where it has one, and that a
-/// full record is told. Own.
+/// full record is told.
 #[derive(Drop)]
 pub struct Control<'a, R, N> {
     rt: &'a R,

@@ -78,7 +78,7 @@ struct Running<'a, R> {
 /// `NoMemory` or `CannotOpenSink` for the sinks; `CannotWrite` or `NoMemory` for the record, which
 /// may not be the sink's file; `SocketFault` where the control socket, and then the socket, can't
 /// be bound, or a thread can't be started; `NoMemory` or `CannotWrite` for the record at its end;
-/// `NoMemory` for the report; `CannotWrite`. Own.
+/// `NoMemory` for the report; `CannotWrite`.
 pub fn serve<'a, R, C, F, S, G>(rt: &R, plan: &Plan<'a>, blanks: Blanks) -> Result<(), Fault<'a>>
 where
     R: Runtime + AllocGlobal + Net + Dial + Threads + Wait + Sync + Files<File = File> + Log,

@@ -1,5 +1,5 @@
 use denote.Param.Send.{shr_sync, sendable}
-use Rattle.iova_daemon.proofs.Sends.{Lent-sync}
+use Rattle.iova_daemon.proofs.Sends.{WorkerContext-sync}
 use Rattle.iova_daemon.proofs.serve_kept.Goals as goal
 
 -- threads may share what they are lent
@@ -12,4 +12,4 @@ run_all-requires-sync-W g c κs within =
     let notices = c.type_bounds.sync-N in
     let accept = c.type_bounds.sync-A in
     let aside = c.type_bounds.sync-X in
-    search (Lent-sync, shr_sync, sendable) depth 20
+    search (WorkerContext-sync, shr_sync, sendable) depth 20

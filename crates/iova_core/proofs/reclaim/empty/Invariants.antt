@@ -1,4 +1,4 @@
-use Rattle.iova_model.specs.Laws.{frames_of}
+use Rattle.iova_model.specs.Effects.{frames_of}
 use Rattle.iova_model.specs.State.{cached_holders}
 use Rattle.iova_core.proofs.Drains.{IsEmptying}
 use Rattle.iova_core.proofs.reclaim.empty.Given as goal

@@ -12,15 +12,15 @@ nothing_before : (kept line : List ℕ) → length kept ≡ 0 → line ≡ kept 
 nothing_before [] line none = refl
 nothing_before (b ∷ kept) line none = absurd (omega (arith, none))
 
-pub returns-in-None-clause-fed : goal.returns-in-None-clause-fed
-returns-in-None-clause-fed c more =
-    let kept = c.args.kept.now.items in
-    let line = c.args.line.now in
-    let one : HasNoLf (kept ++ line) = list_all-append is_not_lf kept line c.requires.unended.one c.requires.one in
-    let refused : (r : Request) → IsRequest r → kept ++ line ≡ request_line r → ⊥ = λ r good e.
+pub returns-in-None : goal.returns-in-None
+returns-in-None c more =
+    let kept = c.args.cutter.now in
+    let end = c.args.end.now in
+    let one : HasNoLf (kept ++ end) = list_all-append is_not_lf kept end c.is_empty.ensures.unended.one c.requires.one in
+    let refused : (r : Request) → IsRequest r → kept ++ end ≡ request_line r → ⊥ = λ r good e.
     elim c.if-is_empty.branch [
       | then-is_empty w ↦
-          let is = w.request_of-request.ensures.read r good (nothing_before kept line (eqb-true (length kept) 0 (sym w.if-is_empty.ensures)) ∙ e) in
+          let is = w.request_of-request.ensures.read r good (nothing_before kept end (eqb-true (length kept) 0 (sym w.if-is_empty.ensures.value)) ∙ e) in
           let none = sym c.in-None.is ∙ (w.request-is ∙ is) in
           cc
       | else-is_empty w ↦
@@ -29,11 +29,11 @@ returns-in-None-clause-fed c more =
           cc
     ] in (
       inl (record {
-        line = kept ++ line;
+        line = kept ++ end;
         more = more;
-        whole = sym (append_assoc kept (whole_line line) more) ∙ ap (λ (x : List ℕ). x ++ more) (sym (append_assoc kept line (10 ∷ [])));
+        whole = sym (append_assoc kept (whole_line end) more) ∙ ap (λ (x : List ℕ). x ++ more) (sym (append_assoc kept end (10 ∷ [])));
         one = one;
-        none = λ r spells. refused r spells.good (line_of (kept ++ line) r one spells);
+        odd = λ r spells. refused r spells.good (line_of (kept ++ end) r one spells);
       }),
       refl,
     )

@@ -6,13 +6,13 @@ use Rattle.iova_session.proofs.paused.turn_lent.Goals as goal
 
 pub invariant_of-desk-clause-shares : goal.invariant_of-desk-clause-shares
 invariant_of-desk-clause-shares g c =
-    moves_yet g.O.Opening.session c.replace.result g.O.Opening.seat.held c.args.lent.seat.now.held (c.replace.ensures.value ∙ c.requires.session)
+    moves_yet g.O.SessionStart.session c.replace.result g.O.SessionStart.seat.held c.args.lent.seat.now.held (c.replace.ensures.value ∙ c.requires.session)
     (ap (λ (s : SeatState). s.held) c.requires.seat)
 
 pub invariant_of-desk-clause-leads : goal.invariant_of-desk-clause-leads
 invariant_of-desk-clause-leads g c =
-    goes_yet g.O.Opening.strict g.O.Opening.session c.replace.result g.O.Opening.seat c.args.lent.seat.now g.O.Opening.calls (g.D.Sink.calls c.args.lent.sink.now)
-    g.O.Opening.domain (g.K.Keep.domain c.args.lent.keeper.now) (c.replace.ensures.value ∙ c.requires.session) c.requires.seat c.requires.calls c.requires.domain
+    goes_yet g.O.SessionStart.strict g.O.SessionStart.session c.replace.result g.O.SessionStart.seat c.args.lent.seat.now g.O.SessionStart.calls (g.D.Sink.calls c.args.lent.sink.now)
+    g.O.SessionStart.domain (g.K.Keep.domain c.args.lent.keeper.now) (c.replace.ensures.value ∙ c.requires.session) c.requires.seat c.requires.calls c.requires.domain
 
 pub returns-clause-turn : goal.returns-clause-turn
 returns-clause-turn g c =
@@ -20,7 +20,7 @@ returns-clause-turn g c =
     let now = c.take_piece-taken.new.desk in
     let added : now.session.pairs ≡ c.args.progress.now.session.pairs ++ got.1 =
     got.4 ∙ ap (λ (s : SessionState). s.pairs ++ got.1) c.replace.ensures.value in
-    let moved = moves_exactly g.O.Opening.session now.session got.1 g.O.Opening.seat.held now.lent.seat.now.held
+    let moved = moves_exactly g.O.SessionStart.session now.session got.1 g.O.SessionStart.seat.held now.lent.seat.now.held
     (added ∙ ap (λ (s : SessionState). s.pairs ++ got.1) c.requires.session) now.shares in (
       got.0,
       got.1,

@@ -1,6 +1,5 @@
-use Rattle.std.proofs.Common.{◌≡◌, ◌∙◌, ◌+◌, ◌-◌, ◌%◌, ◌<◌, ◌≤◌, ◌^◌, [], ◌∷◌, ◌++◌, ℕ, List, get_or, decimal, ap, arith}
-use Rattle.std.proofs.lemmas.List.{take_more}
-use Rattle.iova_text.proofs.Digits.{digit_fits, decimal_more}
+use Rattle.std.proofs.Common.{◌≡◌, ◌+◌, ◌-◌, ◌%◌, ◌<◌, ◌≤◌, ◌^◌, ℕ, get_or, arith}
+use Rattle.iova_text.proofs.Digits.{digit_fits, digit_more}
 use Rattle.iova_text.proofs.number.digits.Goals as goal
 
 -- a byte less 48, without a borrow
@@ -35,7 +34,6 @@ loop-len-preserved c =
       to = omega (arith, c.loop-len-test.true);
       some = omega (arith, c.loop-len.invariant.some);
       fits = fits.0;
-      spelled = take_more text len 0 (omega (arith, c.loop-len-test.true, c.requires.within))
-          ∙ (ap (λ (x : List ℕ). x ++ get_or text len 0 ∷ []) c.loop-len.invariant.spelled
-          ∙ (ap (λ (x : ℕ). decimal n ++ x ∷ []) byte ∙ decimal_more n digit c.loop-len.invariant.some few fits.1));
+      spelled = digit_more text n digit len (omega (arith, c.loop-len-test.true, c.requires.within)) byte few c.loop-len.invariant.some c.loop-len.invariant.fits
+          (omega (arith, c.loop-len-test.true, c.requires.within)) c.loop-len.invariant.spelled;
     }

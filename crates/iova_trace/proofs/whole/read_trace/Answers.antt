@@ -84,7 +84,7 @@ returns-in_default-next_step-clause-err c =
         more = c.in-Some-cut_line.more.now;
         whole = c.in-Some-cut_line.ensures.cut;
         one = c.in-Some-cut_line.ensures.one;
-        bad = λ may. c.in_default-next_step.ensures.all refl may.1 (omega (arith, count, may.0)) may.2 may.3;
+        odd = λ may. c.in_default-next_step.ensures.all refl may.1 (omega (arith, count, may.0)) may.2 may.3;
       });
     }
 

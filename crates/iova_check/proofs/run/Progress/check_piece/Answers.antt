@@ -1,27 +1,18 @@
-use Rattle.std.proofs.Common.{ℕ, ◌≡◌, ◌+◌, ◌-◌, List, ◌++◌, length, take, drop, sym, ap, ◌∙◌, subst, arith, append_assoc}
-use Rattle.std.proofs.lemmas.List.{take_all}
+use Rattle.std.proofs.Common.{ℕ, ◌≡◌, List, ◌++◌, take, sym, ap, ◌∙◌, subst, append_assoc}
 use Rattle.std.proofs.lemmas.Result.{err_from_is_err_and}
 use Rattle.std.proofs.KnownBytes.{Appends-trans}
-use Rattle.iova_text.specs.Lines.{HasNoLf, whole_line}
+use Rattle.iova_text.specs.Lines.{whole_line}
 use Rattle.iova_check.specs.declared.fault.CheckFault.TheVariants.{WriteFault}
 use Rattle.iova_check.specs.Progress.{Stops, Outcome}
-use Rattle.iova_text.proofs.LineEnds.{no_lf_before, cut_at_lf}
 use Rattle.iova_check.proofs.Streams.{Goes-then, Stops-then, Stops-more, TakesBytes-broken, TakesBytes-written, Outcome-then}
 use Rattle.iova_check.proofs.run.Progress.check_piece.Goals as goal
-
-pub tell_line-requires : goal.tell_line-requires
-tell_line-requires g c =
-    let first = c.in-Some.ensures.0 in
-    no_lf_before c.loop-end.rest.now c.in-Some.end (omega (arith, first.high)) first.before
 
 pub loop-end-preserved : goal.loop-end-preserved
 loop-end-preserved g c =
     let so_far = c.loop-end.invariant in
-    let rest = c.loop-end.rest.now in
-    let end = c.in-Some.end in
-    let line = whole_line (take end rest) in
-    let left = take (length rest - (end + 1)) (drop (end + 1) rest) in
-    let cut : rest ≡ line ++ left = cut_at_lf rest end c.in-Some.ensures.0.high c.in-Some.ensures.1 in
+    let line = whole_line c.in-Some.end.now in
+    let left = c.in-Some.behind.now in
+    let cut = c.in-Some.ensures.cut in
     let answered = c.in_ok-tell_line.ensures in (
       so_far.0 ++ line,
       so_far.1 ++ answered.0,
@@ -34,11 +25,9 @@ loop-end-preserved g c =
 pub returns-in_err-tell_line-clause-outcome : goal.returns-in_err-tell_line-clause-outcome
 returns-in_err-tell_line-clause-outcome g c =
     let so_far = c.loop-end.invariant in
-    let rest = c.loop-end.rest.now in
-    let end = c.in-Some.end in
-    let line = whole_line (take end rest) in
-    let left = take (length rest - (end + 1)) (drop (end + 1) rest) in
-    let cut : rest ≡ line ++ left = cut_at_lf rest end c.in-Some.ensures.0.high c.in-Some.ensures.1 in
+    let line = whole_line c.in-Some.end.now in
+    let left = c.in-Some.behind.now in
+    let cut = c.in-Some.ensures.cut in
     let answered = c.in_err-tell_line.ensures in
     let fault = c.in_err-tell_line.field-0.0 in
     let p = err_from_is_err_and c.from_residual.result c.from_residual.ensures.1 in
@@ -53,13 +42,6 @@ returns-in_err-tell_line-clause-outcome g c =
           so_far.1 answered.0 so_far.3 answered.1,
       subst P whole more,
     )
-
-pub keep_part-kept-requires : goal.keep_part-kept-requires
-keep_part-kept-requires g c =
-    let rest = c.loop-end.rest.now in
-    let none = no_lf_before rest (length rest) (omega arith) c.in_default.ensures in
-    let P : List ℕ → Type 0 = HasNoLf in
-    subst P (take_all (length rest) rest (omega arith)) none
 
 pub returns-in_err-write_findings-clause-outcome : goal.returns-in_err-write_findings-clause-outcome
 returns-in_err-write_findings-clause-outcome g c =

@@ -1,17 +1,17 @@
 use Rattle.std.proofs.Common.{◌≡◌, ◌≢◌, ◌==◌, ℕ, true, false, Option, Some, None, option_map, option_and_then, refl, sym, ◌∙◌, arith}
 use Rattle.std.proofs.lemmas.Bool.Decides.{nat_tests}
 use Rattle.iova_model.specs.Clients.{Client, if_owned}
-use Rattle.iova_clients.specs.Registry.{marks_of}
+use Rattle.iova_clients.specs.Registry.{flags_of}
 use Rattle.iova_clients.proofs.Changed.{client_some, client_none, set_value_same, found_mut, none_mut}
 use Rattle.iova_clients.proofs.clients.Clients.look_up.Goals as goal
 
-none_of : (w : ℕ) (o : Option Client) → o ≡ None → None ≡ option_map marks_of (option_and_then (if_owned w) o)
+none_of : (w : ℕ) (o : Option Client) → o ≡ None → None ≡ option_map flags_of (option_and_then (if_owned w) o)
 none_of w o is = rw is refl
 
-another : (w : ℕ) (c : Client) (o : Option Client) → o ≡ Some c → c.worker ≢ w → None ≡ option_map marks_of (option_and_then (if_owned w) o)
+another : (w : ℕ) (c : Client) (o : Option Client) → o ≡ Some c → c.worker ≢ w → None ≡ option_map flags_of (option_and_then (if_owned w) o)
 another w c o is ne = let test : (c.worker == w) ≡ false = grind (arith, nat_tests) in rw (is, test) refl
 
-own : (w : ℕ) (c : Client) (o : Option Client) → o ≡ Some c → c.worker ≡ w → Some (marks_of c) ≡ option_map marks_of (option_and_then (if_owned w) o)
+own : (w : ℕ) (c : Client) (o : Option Client) → o ≡ Some c → c.worker ≡ w → Some (flags_of c) ≡ option_map flags_of (option_and_then (if_owned w) o)
 own w c o is same = let test : (c.worker == w) ≡ true = grind (arith, nat_tests) in rw (is, test) refl
 
 pub returns-in_err-ledger-clause-is : goal.returns-in_err-ledger-clause-is

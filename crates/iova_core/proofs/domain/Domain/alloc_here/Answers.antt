@@ -18,12 +18,12 @@ add-requires-clause-client c =
     let s = state_of p in
     let known : c.args.worker < p.cached.workers = rw (← c.self.view_is) at c.requires.worker in
     let same = c.in-Some.ensures.unchanged in
-    let owner = looked_up c.args.worker _ c.in-Some.marks c.in-Some.ensures.is in
+    let owner = looked_up c.args.worker _ c.in-Some.flags c.in-Some.ensures.is in
     let room = rw same at (refuses_ok _ c.room.result c.in-Ok.field-0 (record { refused = c.room.ensures.refused; accepted = c.room.ensures.accepted }) c.in-Ok.is) in
     let listed = rw same at c.room.ensures.clients in
     let kept = rw same at c.room.ensures.serial in
     let asked = asked_from s c.args.worker c.args.client c.args.frames known c.requires.some c.requires.bounded owner room in
-    let mark : c.in-Some.marks.sac ≡ asked.0.sac = looked_up_sac c.args.worker _ c.in-Some.marks asked.0 c.in-Some.ensures.is asked.1.found in
+    let mark : c.in-Some.flags.sac ≡ asked.0.sac = looked_up_sac c.args.worker _ c.in-Some.flags asked.0 c.in-Some.ensures.is asked.1.found in
     let comes = rw (mark, c.requires.size) at c.in-Placed.ensures.comes in
     let size = rw c.requires.size at c.in-Placed.ensures.size in
     found_new p c.self.invariant c.args.worker c.args.client c.args.frames c.args.limit asked.0 asked.1 c.walk.new.tree c.walk.new.caches (found.Placed c.in-Placed.range) comes c.in-Placed.ensures.point c.in-Placed.ensures.backed c.in-Placed.range refl c.room.new.self listed
@@ -34,12 +34,12 @@ add-requires-clause-low c =
     let s = state_of p in
     let known : c.args.worker < p.cached.workers = rw (← c.self.view_is) at c.requires.worker in
     let same = c.in-Some.ensures.unchanged in
-    let owner = looked_up c.args.worker _ c.in-Some.marks c.in-Some.ensures.is in
+    let owner = looked_up c.args.worker _ c.in-Some.flags c.in-Some.ensures.is in
     let room = rw same at (refuses_ok _ c.room.result c.in-Ok.field-0 (record { refused = c.room.ensures.refused; accepted = c.room.ensures.accepted }) c.in-Ok.is) in
     let listed = rw same at c.room.ensures.clients in
     let kept = rw same at c.room.ensures.serial in
     let asked = asked_from s c.args.worker c.args.client c.args.frames known c.requires.some c.requires.bounded owner room in
-    let mark : c.in-Some.marks.sac ≡ asked.0.sac = looked_up_sac c.args.worker _ c.in-Some.marks asked.0 c.in-Some.ensures.is asked.1.found in
+    let mark : c.in-Some.flags.sac ≡ asked.0.sac = looked_up_sac c.args.worker _ c.in-Some.flags asked.0 c.in-Some.ensures.is asked.1.found in
     let comes = rw (mark, c.requires.size) at c.in-Placed.ensures.comes in
     let size = rw c.requires.size at c.in-Placed.ensures.size in
     found_low p c.self.invariant c.args.worker c.args.client c.args.frames c.args.limit asked.0 asked.1 c.walk.new.tree c.walk.new.caches (found.Placed c.in-Placed.range) comes c.in-Placed.ensures.point c.in-Placed.ensures.backed c.in-Placed.range refl
@@ -50,12 +50,12 @@ invariant_of-self-in-Placed c =
     let s = state_of p in
     let known : c.args.worker < p.cached.workers = rw (← c.self.view_is) at c.requires.worker in
     let same = c.in-Some.ensures.unchanged in
-    let owner = looked_up c.args.worker _ c.in-Some.marks c.in-Some.ensures.is in
+    let owner = looked_up c.args.worker _ c.in-Some.flags c.in-Some.ensures.is in
     let room = rw same at (refuses_ok _ c.room.result c.in-Ok.field-0 (record { refused = c.room.ensures.refused; accepted = c.room.ensures.accepted }) c.in-Ok.is) in
     let listed = rw same at c.room.ensures.clients in
     let kept = rw same at c.room.ensures.serial in
     let asked = asked_from s c.args.worker c.args.client c.args.frames known c.requires.some c.requires.bounded owner room in
-    let mark : c.in-Some.marks.sac ≡ asked.0.sac = looked_up_sac c.args.worker _ c.in-Some.marks asked.0 c.in-Some.ensures.is asked.1.found in
+    let mark : c.in-Some.flags.sac ≡ asked.0.sac = looked_up_sac c.args.worker _ c.in-Some.flags asked.0 c.in-Some.ensures.is asked.1.found in
     let comes = rw (mark, c.requires.size) at c.in-Placed.ensures.comes in
     let size = rw c.requires.size at c.in-Placed.ensures.size in
     let clients = rw listed at c.add.ensures.clients in
@@ -68,12 +68,12 @@ invariant_of-self-in-Nowhere c =
     let s = state_of p in
     let known : c.args.worker < p.cached.workers = rw (← c.self.view_is) at c.requires.worker in
     let same = c.in-Some.ensures.unchanged in
-    let owner = looked_up c.args.worker _ c.in-Some.marks c.in-Some.ensures.is in
+    let owner = looked_up c.args.worker _ c.in-Some.flags c.in-Some.ensures.is in
     let room = rw same at (refuses_ok _ c.room.result c.in-Ok.field-0 (record { refused = c.room.ensures.refused; accepted = c.room.ensures.accepted }) c.in-Ok.is) in
     let listed = rw same at c.room.ensures.clients in
     let kept = rw same at c.room.ensures.serial in
     let asked = asked_from s c.args.worker c.args.client c.args.frames known c.requires.some c.requires.bounded owner room in
-    let mark : c.in-Some.marks.sac ≡ asked.0.sac = looked_up_sac c.args.worker _ c.in-Some.marks asked.0 c.in-Some.ensures.is asked.1.found in
+    let mark : c.in-Some.flags.sac ≡ asked.0.sac = looked_up_sac c.args.worker _ c.in-Some.flags asked.0 c.in-Some.ensures.is asked.1.found in
     let comes = rw (mark, c.requires.size) at c.in-Nowhere.ensures.comes in
     domain_walked p c.self.invariant c.args.worker c.args.client c.args.frames c.args.limit asked.0 asked.1 c.walk.new.tree c.walk.new.caches found.Nowhere comes c.in-Nowhere.ensures.point c.in-Nowhere.ensures.backed c.steps_keep_validity.ensures c.room.new.self listed kept refl (ap (λ (n : Next). n.state) (alloc_is p c.self.invariant c.args.worker c.args.client c.args.frames c.args.limit asked.0 asked.1 c.walk.new.tree c.walk.new.caches found.Nowhere comes c.in-Nowhere.ensures.point c.in-Nowhere.ensures.backed) ∙ walked_state p c.self.invariant c.args.worker c.args.client c.args.frames c.args.limit asked.0 asked.1 c.walk.new.tree c.walk.new.caches found.Nowhere comes c.in-Nowhere.ensures.point c.in-Nowhere.ensures.backed c.room.new.self listed kept)
 
@@ -83,12 +83,12 @@ invariant_of-self-in-OutOfMemory c =
     let s = state_of p in
     let known : c.args.worker < p.cached.workers = rw (← c.self.view_is) at c.requires.worker in
     let same = c.in-Some.ensures.unchanged in
-    let owner = looked_up c.args.worker _ c.in-Some.marks c.in-Some.ensures.is in
+    let owner = looked_up c.args.worker _ c.in-Some.flags c.in-Some.ensures.is in
     let room = rw same at (refuses_ok _ c.room.result c.in-Ok.field-0 (record { refused = c.room.ensures.refused; accepted = c.room.ensures.accepted }) c.in-Ok.is) in
     let listed = rw same at c.room.ensures.clients in
     let kept = rw same at c.room.ensures.serial in
     let asked = asked_from s c.args.worker c.args.client c.args.frames known c.requires.some c.requires.bounded owner room in
-    let mark : c.in-Some.marks.sac ≡ asked.0.sac = looked_up_sac c.args.worker _ c.in-Some.marks asked.0 c.in-Some.ensures.is asked.1.found in
+    let mark : c.in-Some.flags.sac ≡ asked.0.sac = looked_up_sac c.args.worker _ c.in-Some.flags asked.0 c.in-Some.ensures.is asked.1.found in
     let comes = rw (mark, c.requires.size) at c.in-OutOfMemory.ensures.comes in
     domain_walked p c.self.invariant c.args.worker c.args.client c.args.frames c.args.limit asked.0 asked.1 c.walk.new.tree c.walk.new.caches (found.OutOfMemory c.in-OutOfMemory.point) comes c.in-OutOfMemory.ensures.point c.in-OutOfMemory.ensures.backed c.steps_keep_validity.ensures c.room.new.self listed kept refl (ap (λ (n : Next). n.state) (alloc_is p c.self.invariant c.args.worker c.args.client c.args.frames c.args.limit asked.0 asked.1 c.walk.new.tree c.walk.new.caches (found.OutOfMemory c.in-OutOfMemory.point) comes c.in-OutOfMemory.ensures.point c.in-OutOfMemory.ensures.backed) ∙ walked_state p c.self.invariant c.args.worker c.args.client c.args.frames c.args.limit asked.0 asked.1 c.walk.new.tree c.walk.new.caches (found.OutOfMemory c.in-OutOfMemory.point) comes c.in-OutOfMemory.ensures.point c.in-OutOfMemory.ensures.backed c.room.new.self listed kept)
 
@@ -98,12 +98,12 @@ returns-in-Placed-clause-state c =
     let s = state_of p in
     let known : c.args.worker < p.cached.workers = rw (← c.self.view_is) at c.requires.worker in
     let same = c.in-Some.ensures.unchanged in
-    let owner = looked_up c.args.worker _ c.in-Some.marks c.in-Some.ensures.is in
+    let owner = looked_up c.args.worker _ c.in-Some.flags c.in-Some.ensures.is in
     let room = rw same at (refuses_ok _ c.room.result c.in-Ok.field-0 (record { refused = c.room.ensures.refused; accepted = c.room.ensures.accepted }) c.in-Ok.is) in
     let listed = rw same at c.room.ensures.clients in
     let kept = rw same at c.room.ensures.serial in
     let asked = asked_from s c.args.worker c.args.client c.args.frames known c.requires.some c.requires.bounded owner room in
-    let mark : c.in-Some.marks.sac ≡ asked.0.sac = looked_up_sac c.args.worker _ c.in-Some.marks asked.0 c.in-Some.ensures.is asked.1.found in
+    let mark : c.in-Some.flags.sac ≡ asked.0.sac = looked_up_sac c.args.worker _ c.in-Some.flags asked.0 c.in-Some.ensures.is asked.1.found in
     let comes = rw (mark, c.requires.size) at c.in-Placed.ensures.comes in
     let size = rw c.requires.size at c.in-Placed.ensures.size in
     let clients = rw listed at c.add.ensures.clients in
@@ -116,12 +116,12 @@ returns-in-Nowhere-clause-state c =
     let s = state_of p in
     let known : c.args.worker < p.cached.workers = rw (← c.self.view_is) at c.requires.worker in
     let same = c.in-Some.ensures.unchanged in
-    let owner = looked_up c.args.worker _ c.in-Some.marks c.in-Some.ensures.is in
+    let owner = looked_up c.args.worker _ c.in-Some.flags c.in-Some.ensures.is in
     let room = rw same at (refuses_ok _ c.room.result c.in-Ok.field-0 (record { refused = c.room.ensures.refused; accepted = c.room.ensures.accepted }) c.in-Ok.is) in
     let listed = rw same at c.room.ensures.clients in
     let kept = rw same at c.room.ensures.serial in
     let asked = asked_from s c.args.worker c.args.client c.args.frames known c.requires.some c.requires.bounded owner room in
-    let mark : c.in-Some.marks.sac ≡ asked.0.sac = looked_up_sac c.args.worker _ c.in-Some.marks asked.0 c.in-Some.ensures.is asked.1.found in
+    let mark : c.in-Some.flags.sac ≡ asked.0.sac = looked_up_sac c.args.worker _ c.in-Some.flags asked.0 c.in-Some.ensures.is asked.1.found in
     let comes = rw (mark, c.requires.size) at c.in-Nowhere.ensures.comes in
     rw (← c.self.view_is, c.refused-in-Nowhere.ensures.point) (sym (ap (λ (n : Next). n.state) (alloc_is p c.self.invariant c.args.worker c.args.client c.args.frames c.args.limit asked.0 asked.1 c.walk.new.tree c.walk.new.caches found.Nowhere comes c.in-Nowhere.ensures.point c.in-Nowhere.ensures.backed) ∙ walked_state p c.self.invariant c.args.worker c.args.client c.args.frames c.args.limit asked.0 asked.1 c.walk.new.tree c.walk.new.caches found.Nowhere comes c.in-Nowhere.ensures.point c.in-Nowhere.ensures.backed c.room.new.self listed kept))
 
@@ -131,11 +131,11 @@ returns-in-OutOfMemory-clause-state c =
     let s = state_of p in
     let known : c.args.worker < p.cached.workers = rw (← c.self.view_is) at c.requires.worker in
     let same = c.in-Some.ensures.unchanged in
-    let owner = looked_up c.args.worker _ c.in-Some.marks c.in-Some.ensures.is in
+    let owner = looked_up c.args.worker _ c.in-Some.flags c.in-Some.ensures.is in
     let room = rw same at (refuses_ok _ c.room.result c.in-Ok.field-0 (record { refused = c.room.ensures.refused; accepted = c.room.ensures.accepted }) c.in-Ok.is) in
     let listed = rw same at c.room.ensures.clients in
     let kept = rw same at c.room.ensures.serial in
     let asked = asked_from s c.args.worker c.args.client c.args.frames known c.requires.some c.requires.bounded owner room in
-    let mark : c.in-Some.marks.sac ≡ asked.0.sac = looked_up_sac c.args.worker _ c.in-Some.marks asked.0 c.in-Some.ensures.is asked.1.found in
+    let mark : c.in-Some.flags.sac ≡ asked.0.sac = looked_up_sac c.args.worker _ c.in-Some.flags asked.0 c.in-Some.ensures.is asked.1.found in
     let comes = rw (mark, c.requires.size) at c.in-OutOfMemory.ensures.comes in
     rw (← c.self.view_is) (sym (ap (λ (n : Next). n.state) (alloc_is p c.self.invariant c.args.worker c.args.client c.args.frames c.args.limit asked.0 asked.1 c.walk.new.tree c.walk.new.caches (found.OutOfMemory c.in-OutOfMemory.point) comes c.in-OutOfMemory.ensures.point c.in-OutOfMemory.ensures.backed) ∙ walked_state p c.self.invariant c.args.worker c.args.client c.args.frames c.args.limit asked.0 asked.1 c.walk.new.tree c.walk.new.caches (found.OutOfMemory c.in-OutOfMemory.point) comes c.in-OutOfMemory.ensures.point c.in-OutOfMemory.ensures.backed c.room.new.self listed kept))

@@ -20,6 +20,6 @@ are_held workers w id (x ∷ cs) all =
 
 pub returns-clause-kept : goal.returns-clause-kept
 returns-clause-kept g c =
-    let s = c.self.inside.machine.state in
+    let s = c.self.inside.recorded.state in
     let held = are_held s.workers c.args.worker c.args.id s.clients c.is_kept.ensures.valid.clients.each in
     rw c.holdings.ensures held

@@ -15,11 +15,11 @@ seen false (b ∷ bytes) kept good none is = absurd (omega (arith, none))
 
 pub returns-in-Some-clause-only : goal.returns-in-Some-clause-only
 returns-in-Some-clause-only c kept other next is e =
-    let own = c.self.inside.kept.items in
+    let own = c.self.inside.cutter in
     let piece = c.args.piece.now in
     let used = length piece - length c.in-Some.behind.now in
     let fed : Fed = fed.Request c.in-Some.request used in
-    let none : kept ≡ [] = seen c.self.inside.is_bad own kept c.if-not-self.true (eqb-true (length own) 0 (sym c.if-is_empty.ensures)) (c.self.view_is ∙ is) in
+    let none : kept ≡ [] = seen c.self.inside.is_bad own kept c.if-not-self.true (eqb-true (length own) 0 (sym c.if-is_empty.ensures.value)) (c.self.view_is ∙ is) in
     let P : List ℕ → Type 0 = λ k. Feeds k piece other next in
     let mine = front_feeds piece c.in-Some.request c.in-Some.behind.now c.in-Some.ensures.0 c.in-Some.ensures.1 in
     let once = Feeds-once [] piece other fed next (Some []) (subst P none e) mine in

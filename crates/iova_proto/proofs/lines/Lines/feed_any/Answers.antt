@@ -11,10 +11,10 @@ seen false bytes kept good is = cc
 
 pub returns-clause-only : goal.returns-clause-only
 returns-clause-only c kept other next is e =
-    let own = c.self.inside.kept.items in
-    let new = c.feed_behind-fed.new.kept.items in
+    let own = c.self.inside.cutter in
+    let new = c.feed_behind-fed.new.cutter in
     let fed = c.feed_behind-fed.result in
     let same : kept ≡ own = seen c.self.inside.is_bad own kept c.if-self.false (c.self.view_is ∙ is) in
     let P : List ℕ → Type 0 = λ k. Feeds k c.args.piece.now other next in
-    let once = Feeds-once own c.args.piece.now other fed next (state_behind fed new) (subst P same e) c.feed_behind-fed.ensures.fed in
+    let once = Feeds-once own c.args.piece.now other fed next (state_behind fed new) (subst P same e) c.feed_behind-fed.ensures in
     (once.0, once.1 ∙ ap (λ (b : Bool). if b then None else Some new) (sym c.is_bad-self-inside.ensures))

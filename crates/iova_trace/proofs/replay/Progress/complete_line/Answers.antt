@@ -1,18 +1,8 @@
-use Rattle.std.proofs.Common.{refl, ap, ◌∙◌, [], ◌∷◌}
-use Rattle.std.proofs.lemmas.Result.{err_from_is_err_and}
-use Rattle.iova_trace.proofs.Streams.{Stops-more, TakesBytes-ended}
+use Rattle.std.proofs.Common.{refl, ◌∙◌}
+use Rattle.iova_trace.proofs.Streams.{TakesBytes-ended}
 use Rattle.iova_trace.proofs.replay.Progress.complete_line.Goals as goal
-
-pub returns-in_err-keep_part : goal.returns-in_err-keep_part
-returns-in_err-keep_part g c =
-    let p = err_from_is_err_and c.from_residual.result c.from_residual.ensures.1 in
-    let log = g.L.Log.contents c.args.log.now in
-    let stops = c.in_err-keep_part.ensures.takes log in
-    rw (p.1, p.2) (Stops-more c.args.self.now log log c.args.end.now (10 ∷ []) c.args.self.now.replies.items c.in_err-keep_part.field-0.0 stops.0, stops.1)
 
 pub returns : goal.returns
 returns g c =
-    let log = g.L.Log.contents c.args.log.now in
-    TakesBytes-ended c.args.self.now c.keep_part.new.self _ c.run_line-2.new.self log (g.L.Log.contents c.run_line-2.new.log) c.args.end.now c.as_slice.result.now c.run_line-2.result
-    (c.in_ok-keep_part.ensures.takes log) c.in_ok-keep_part.ensures.replies c.take-line.ensures.after refl refl refl
-    (c.as_slice.ensures.value ∙ ap (λ l. l.items) c.take-line.ensures.value) c.run_line-2.ensures
+    TakesBytes-ended c.args.self.now _ c.run_line-2.new.self (g.L.Log.contents c.args.log.now) (g.L.Log.contents c.run_line-2.new.log) c.args.end.now c.as_slice.result.now c.run_line-2.result
+    c.end-line.ensures.empty refl refl refl (c.as_slice.ensures.value ∙ c.end-line.ensures.line) c.run_line-2.ensures

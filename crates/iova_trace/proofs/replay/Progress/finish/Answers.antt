@@ -25,10 +25,10 @@ returns-then-not-is_empty c taken written before now st =
     let text : st.text ≡ written = st.gathered ∙ (ap (λ l. written ++ l) c.requires ∙ append-nil written) in
     record {
       lines = st.lines;
-      rest = c.args.self.line.items;
+      rest = c.args.self.line;
       state = c.args.self.domain;
       begins = st.begins;
       replayed = subst (IsReplayed st.lines c.args.self.domain) text st.replayed;
       number_is = c.number-number.ensures ∙ next_is st.lines c.args.self.domain st.text c.args.self.steps st.replayed st.steps;
-      cut = begun_cut st.lines c.args.self.line.items (search (rules, c.if-not-is_empty.ensures)) c.args.self.unended.one;
+      cut = begun_cut st.lines c.args.self.line (search (rules, c.if-not-is_empty.ensures.value)) c.args.self.unended.one;
     }

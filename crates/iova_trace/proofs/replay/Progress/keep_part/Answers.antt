@@ -1,10 +1,9 @@
-use Rattle.std.proofs.Common.{refl, arith}
+use Rattle.std.proofs.Common.{refl}
 use Rattle.iova_trace.proofs.LineSteps.{overlong}
 use Rattle.iova_trace.proofs.replay.Progress.keep_part.Goals as goal
 
-pub returns-then-len-bytes-ge-MAX_LINE-clause-takes : goal.returns-then-len-bytes-ge-MAX_LINE-clause-takes
-returns-then-len-bytes-ge-MAX_LINE-clause-takes c log = (
-  overlong c.args.self.now log c.args.bytes.now c.number.result c.args.self.now.unended.one c.requires
-      (omega (arith, c.len.ensures.value, c.if-len-bytes-ge-MAX_LINE.true)) c.number.ensures,
+pub returns-else-keep-clause-takes : goal.returns-else-keep-clause-takes
+returns-else-keep-clause-takes c log = (
+  overlong c.args.self.now log c.args.bytes.now c.number.result (c.if-keep.ensures.long refl).0 c.number.ensures,
   refl,
 )

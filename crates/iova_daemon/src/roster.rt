@@ -1,0 +1,193 @@
+//! What the threads of a daemon share beside its domain and the pool of its slots.
+use crate::Serving;
+use crate::aside::{Figures, Standing};
+use iova_model::step::ClientId;
+use iova_range::limits::MAX_WORKERS;
+use iova_session::session_limits::SessionLimits;
+use std::alloc::Global;
+use std::array;
+use std::sync::atomic::{AtomicBool, AtomicU64, Ordering};
+use std::sync::{Mutex, Wait};
+
+/// The gate that slots wait at until all are started, what is served, the next session's number,
+/// how many sessions had their accept, who waits, and how many slots have ended.
+#[derive(Drop)]
+pub(crate) struct Roster {
+    /// Held while threads are started; then whether all were, so that none accepts a link where one
+    /// couldn't be.
+    pub gate: Mutex<bool>,
+    serving: Serving,
+    next: AtomicU64,
+    met: AtomicU64,
+    served: AtomicU64,
+    /// By worker: how many sessions it serves.
+    sessions: [AtomicU64; MAX_WORKERS as usize],
+    /// By worker: whether one of its slots tries its waiting clients.
+    trying: [AtomicBool; MAX_WORKERS as usize],
+    waiting: AtomicU64,
+    noted: Mutex<Vec<Noted>>,
+    slots: u64,
+    begun: AtomicU64,
+    ended: AtomicU64,
+}
+
+/// A client that waits, and the slot that has it.
+#[derive(Clone, Copy)]
+struct Noted {
+    slot: u64,
+    client: ClientId,
+}
+
+impl Roster {
+    /// These sessions, none of which is begun, for so many slots, and a closed gate.
+    pub(crate) fn new(alloc: Global, serving: Serving, slots: u64) -> Roster {
+        Roster {
+            gate: Mutex::new(false),
+            serving,
+            next: AtomicU64::new(0),
+            met: AtomicU64::new(0),
+            served: AtomicU64::new(0),
+            sessions: array::from_fn(|_worker| AtomicU64::new(0)),
+            trying: array::from_fn(|_worker| AtomicBool::new(false)),
+            waiting: AtomicU64::new(0),
+            noted: Mutex::new(Vec::new(alloc)),
+            slots,
+            begun: AtomicU64::new(0),
+            ended: AtomicU64::new(0),
+        }
+    }
+
+    /// How much a session may ask for.
+    pub(crate) fn limits(&self) -> SessionLimits {
+        self.serving.limits
+    }
+
+    /// How many sessions are served at a time, at most: 1 at least.
+    pub(crate) fn clients(&self) -> u64 {
+        self.serving.clients.max(1)
+    }
+
+    /// The next session's number, counted from 0; none where all were taken. It begins anew behind
+    /// 2^64 - 1.
+    pub(crate) fn next_session(&self) -> Option<u64> {
+        let session = self.next.fetch_add(1, Ordering::SeqCst);
+        match self.serving.sessions {
+            Some(sessions) if session >= sessions => None,
+            _ => Some(session),
+        }
+    }
+
+    /// A session had its accept. Whether it was the last one.
+    pub(crate) fn meet(&self) -> bool {
+        let before = self.met.fetch_add(1, Ordering::SeqCst);
+        match self.serving.sessions {
+            Some(sessions) => before.checked_add(1) == Some(sessions),
+            None => false,
+        }
+    }
+
+    /// This worker begins a session.
+    pub(crate) fn begin_session(&self, worker: u64) {
+        if let Some(sessions) = self.sessions.get(worker as usize) {
+            sessions.fetch_add(1, Ordering::SeqCst);
+        }
+        self.served.fetch_add(1, Ordering::SeqCst);
+    }
+
+    /// A session of this worker has ended.
+    pub(crate) fn end_session(&self, worker: u64) {
+        if let Some(sessions) = self.sessions.get(worker as usize) {
+            sessions.fetch_sub(1, Ordering::SeqCst);
+        }
+        self.served.fetch_sub(1, Ordering::SeqCst);
+    }
+
+    /// A slot of this worker is to try its waiting clients. Whether it may: it may not while
+    /// another one does.
+    pub(crate) fn begin_trying(&self, worker: u64) -> bool {
+        match self.trying.get(worker as usize) {
+            Some(trying) => !trying.swap(true, Ordering::SeqCst),
+            None => true,
+        }
+    }
+
+    /// The slot that might try has done so.
+    pub(crate) fn end_trying(&self, worker: u64) {
+        if let Some(trying) = self.trying.get(worker as usize) {
+            trying.store(false, Ordering::SeqCst);
+        }
+    }
+
+    /// A slot begins: its number.
+    pub(crate) fn begin(&self) -> u64 {
+        self.begun.fetch_add(1, Ordering::SeqCst)
+    }
+
+    /// These clients of the slot wait now, and not as many as before. Where memory is refused it
+    /// isn't noted which.
+    pub(crate) fn wait_for<R: Wait>(&self, rt: &R, slot: u64, before: u64, now: &[ClientId]) {
+        self.waiting.fetch_add(now.len() as u64, Ordering::SeqCst);
+        self.waiting.fetch_sub(before, Ordering::SeqCst);
+        let mut noted = self.noted.lock(rt);
+        note_all(&mut noted, slot, now);
+    }
+
+    /// A slot has ended.
+    pub(crate) fn end(&self) {
+        self.ended.fetch_add(1, Ordering::SeqCst);
+    }
+
+    /// Whether all slots have ended.
+    pub(crate) fn have_ended(&self) -> bool {
+        self.ended.load(Ordering::SeqCst) >= self.slots
+    }
+}
+
+/// Puts these clients of the slot in place of those that were noted. None of them where memory is
+/// refused.
+fn note_all(noted: &mut Vec<Noted>, slot: u64, clients: &[ClientId]) {
+    noted.retain(|note| note.slot != slot);
+    if noted.try_reserve(clients.len()).is_err() {
+        return;
+    }
+    for client in clients {
+        let _ = noted.push(Noted {
+            slot,
+            client: *client,
+        });
+    }
+}
+
+/// How a daemon stands, told by its turns.
+#[derive(Drop)]
+pub(crate) struct Stands<'a, R> {
+    pub rt: &'a R,
+    pub roster: &'a Roster,
+}
+
+impl<'a, R: Wait> Standing for Stands<'a, R> {
+    fn figures(&self) -> Figures {
+        Figures {
+            served: self.roster.served.load(Ordering::SeqCst),
+            accepted: self.roster.met.load(Ordering::SeqCst),
+            waiting: self.roster.waiting.load(Ordering::SeqCst),
+        }
+    }
+
+    fn sessions(&self, worker: u64) -> u64 {
+        match self.roster.sessions.get(worker as usize) {
+            Some(sessions) => sessions.load(Ordering::SeqCst),
+            None => 0,
+        }
+    }
+
+    fn waits(&self, client: ClientId) -> bool {
+        let noted = self.roster.noted.lock(self.rt);
+        for note in noted.iter() {
+            if note.client == client {
+                return true;
+            }
+        }
+        false
+    }
+}

@@ -1,0 +1,15 @@
+use Rattle.iova_session.proofs.ToldPairs.{moved_either}
+use Rattle.iova_session.proofs.Leads.{leads_on}
+use Rattle.iova_session.proofs.session_desk.SessionDeskDesk.ask_run.Goals as goal
+
+pub invariant_of-self-clause-shares : goal.invariant_of-self-clause-shares
+invariant_of-self-clause-shares g c =
+    moved_either c.ask_lent.result _ _ _ _ _ _ c.args.self.now.lent.seat.now c.ask_lent.new.lent.seat.now c.args.self.now.shares c.ask_lent.ensures.ok c.ask_lent.ensures.err
+
+pub invariant_of-self-clause-leads : goal.invariant_of-self-clause-leads
+invariant_of-self-clause-leads g c =
+    leads_on g.O.SessionStart.strict (g.K.Keep.strict c.args.self.now.lent.keeper.now) g.O.SessionStart.number c.args.self.now.session c.ask_lent.new.session
+    g.O.SessionStart.seat c.args.self.now.lent.seat.now c.ask_lent.new.lent.seat.now
+    g.O.SessionStart.calls (g.D.Sink.calls c.args.self.now.lent.sink.now) (g.D.Sink.calls c.ask_lent.new.lent.sink.now)
+    g.O.SessionStart.domain (g.K.Keep.domain c.args.self.now.lent.keeper.now) (g.K.Keep.domain c.ask_lent.new.lent.keeper.now)
+    c.args.self.now.strict c.args.self.now.number.0 c.ask_lent.ensures.after c.args.self.now.leads c.ask_lent.ensures.leads

@@ -1,0 +1,238 @@
+//! The session's own desk, over any keeper.
+ghost use Rattle.std.specs.Prelude.{◌≡◌, ◌+◌, ◌≤◌, ℕ, Bool, false, IfOk, IfErr, List, [], Option, None, length};
+ghost use Rattle.iova_sink.specs.Calls.{Call, good_calls};
+ghost use Rattle.iova_model.specs.State.{State};
+ghost use Rattle.iova_keep.specs.Views.{SeatState, WhereKnown, new_seat};
+ghost use Rattle.iova_session.specs.Desks.{SessionState, AnswersRun, KeepsPlace, MovesBy, MovesBy-prop, given_in, taken_in, client_after, listed_after};
+ghost use Rattle.iova_session.specs.Leading.{LeadsFrom, GoesOn};
+
+use crate::asking::{ask_alone, ask_first};
+use crate::desk::Desk;
+use crate::session::Session;
+use crate::together::{LastBatch, ask_together, push};
+use iova_keep::keep::Keep;
+use iova_keep::seat::Seat;
+use iova_proto::answer::Answer;
+use iova_proto::request::Request;
+use iova_range::limits::MAX_RUN;
+use iova_range::refusal::Refusal;
+use iova_sink::sink::Sink;
+use std::marker::{Brand, PhantomData};
+use std::sync::ledger::Ledger;
+
+/// What a session begins with, as the type of its desk knows it.
+pub(crate) trait SessionStart {
+    /// The number of the domain.
+    ghost number: { ℕ };
+
+    /// The domain, where the keeper tells it.
+    ghost domain: { Option State };
+
+    /// Whether it is strict, where the keeper tells it.
+    ghost strict: { Bool };
+
+    /// The session.
+    ghost session: { SessionState };
+
+    /// The seat.
+    ghost seat: { SeatState };
+
+    /// The calls of the sink.
+    ghost calls: { List Call };
+
+    /// Which references the desk has: to the keeper, to the seat and to the sink.
+    ghost keeper_name: { ℕ };
+
+    ghost seat_name: { ℕ };
+
+    ghost sink_name: { ℕ };
+}
+
+impl SessionStart for Brand {
+    ghost number = { 0 };
+
+    ghost domain = { None };
+
+    ghost strict = { false };
+
+    ghost session = { record { number = 0; client = None; listed = 0; pairs = [] } };
+
+    ghost seat = { new_seat 0 };
+
+    ghost calls = { [] };
+
+    ghost keeper_name = { 0 };
+
+    ghost seat_name = { 0 };
+
+    ghost sink_name = { 0 };
+}
+
+/// What a session is lent.
+#[derive(Drop)]
+pub(crate) struct DomainAccess<
+    'a,
+    C: Ledger,
+    F: Ledger,
+    S: Ledger,
+    G: Ledger,
+    K: Keep<C, F, S, G>,
+    D: Sink,
+> {
+    pub(crate) keeper: &'a mut K,
+    pub(crate) seat: &'a mut Seat<C, F, S, G>,
+    pub(crate) sink: &'a mut D,
+}
+
+/// The desk of a session that began so. What it was asked has moved the seat's shares, and nothing
+/// else of it but its tally, and has led the domain from where it was to where it is.
+#[derive(Drop)]
+pub(crate) struct SessionDesk<
+    'a,
+    C: Ledger,
+    F: Ledger,
+    S: Ledger,
+    G: Ledger,
+    K: Keep<C, F, S, G>,
+    D: Sink,
+    O: SessionStart,
+> {
+    pub(crate) lent: DomainAccess<'a, C, F, S, G, K, D>,
+    pub(crate) session: Session,
+    pub(crate) last: LastBatch,
+    pub(crate) opening: PhantomData<O>,
+    ghost names: { (lent.keeper.ghost_name ≡ O.keeper_name) × (lent.seat.ghost_name ≡ O.seat_name)
+        × (lent.sink.ghost_name ≡ O.sink_name) },
+    ghost number: { (session.number ≡ O.number) × (K.domain_number lent.keeper.now ≡ O.number) },
+    ghost strict: { K.strict lent.keeper.now ≡ O.strict },
+    ghost leads: { ∥ WhereKnown O.domain (K.domain lent.keeper.now)
+        (LeadsFrom O.strict O.number session.pairs
+        O.seat lent.seat.now O.calls (D.calls lent.sink.now)) ∥₁ },
+    ghost shares: { MovesBy (given_in session.pairs) (taken_in session.pairs) O.seat.held
+        lent.seat.now.held } by { MovesBy-prop (given_in session.pairs) (taken_in session.pairs)
+            O.seat.held lent.seat.now.held },
+    ghost worker: { lent.seat.now.worker ≡ O.seat.worker },
+    ghost parts: { lent.seat.now.tally.parts ≡ O.seat.tally.parts },
+    ghost tally: { lent.seat.now.tally.good + good_calls O.calls ≤ O.seat.tally.good + good_calls
+        (D.calls lent.sink.now) },
+}
+
+impl<
+    'a,
+    C: Ledger,
+    F: Ledger,
+    S: Ledger,
+    G: Ledger,
+    K: Keep<C, F, S, G>,
+    D: Sink,
+    O: SessionStart,
+> Desk for SessionDesk<'a, C, F, S, G, K, D, O> {
+    ghost pairs = { λ d. d.session.pairs };
+
+    fn ask_run(
+        &mut self,
+        requests: &[Request],
+        answers: &mut Vec<Answer>,
+    ) -> Result<usize, Refusal> {
+        ask_lent(
+            &mut self.lent,
+            &mut self.session,
+            &mut self.last,
+            requests,
+            answers,
+        )
+    }
+}
+
+/// `ask_front` over what the session is lent.
+pub(crate) fn ask_lent<C: Ledger, F: Ledger, S: Ledger, G: Ledger, K: Keep<C, F, S, G>, D: Sink>(
+    lent: &mut DomainAccess<'_, C, F, S, G, K, D>,
+    session: &mut Session,
+    last: &mut LastBatch,
+    requests: &[Request],
+    answers: &mut Vec<Answer>,
+) -> Result<usize, Refusal>
+    requires some { 1 ≤ length requests.now }
+    requires most { length requests.now ≤ MAX_RUN }
+    requires number { session.old.number ≡ K.domain_number lent.old.keeper.now }
+    ensures names { (lent.new.keeper.ghost_name ≡ lent.old.keeper.ghost_name)
+        × (lent.new.seat.ghost_name ≡ lent.old.seat.ghost_name)
+        × (lent.new.sink.ghost_name ≡ lent.old.sink.ghost_name) }
+    ensures number { K.domain_number lent.new.keeper.now ≡ K.domain_number lent.old.keeper.now }
+    ensures strict { K.strict lent.new.keeper.now ≡ K.strict lent.old.keeper.now }
+    ensures after { (session.old.client ≡ client_after None session.old.pairs)
+        × (session.old.listed ≡ listed_after 0 session.old.pairs) }
+    ensures leads { WhereKnown (K.domain lent.old.keeper.now) (K.domain lent.new.keeper.now)
+        (GoesOn (K.strict lent.old.keeper.now) session.old session.new lent.old.seat.now
+        lent.new.seat.now
+        (D.calls lent.old.sink.now) (D.calls lent.new.sink.now)) }
+    ensures count { IfOk result (λ n. (1 ≤ n) × (n ≤ length requests.now)) }
+    ensures ok { IfOk result
+        (λ n. AnswersRun requests.now n session.old session.new answers.old.items answers.new.items
+        lent.old.seat.now.held lent.new.seat.now.held) }
+    ensures err { IfErr result (λ e. (e ≡ Refusal.NoMemory) × (session.new ≡ session.old)
+        × (answers.new.items ≡ answers.old.items) × (lent.new.seat.now ≡ lent.old.seat.now)) }
+    ensures place { KeepsPlace lent.old.seat.now lent.new.seat.now (D.calls lent.old.sink.now)
+        (D.calls lent.new.sink.now) }
+{
+    ask_front(
+        lent.keeper,
+        lent.seat,
+        lent.sink,
+        session,
+        last,
+        requests,
+        answers,
+    )
+}
+
+/// Asks a front of the requests, at least one of them: with a client those that can be asked in one
+/// hold, else the first alone, as a free that the last hold stopped at. Refused by `NoMemory` where
+/// there is no room for the answers; then nothing was asked.
+pub(crate) fn ask_front<C: Ledger, F: Ledger, S: Ledger, G: Ledger, K: Keep<C, F, S, G>, D: Sink>(
+    keeper: &mut K,
+    seat: &mut Seat<C, F, S, G>,
+    sink: &mut D,
+    session: &mut Session,
+    last: &mut LastBatch,
+    requests: &[Request],
+    answers: &mut Vec<Answer>,
+) -> Result<usize, Refusal>
+    requires some { 1 ≤ length requests.now }
+    requires most { length requests.now ≤ MAX_RUN }
+    requires number { session.old.number ≡ K.domain_number keeper.old }
+    ensures number { K.domain_number keeper.new ≡ K.domain_number keeper.old }
+    ensures strict { K.strict keeper.new ≡ K.strict keeper.old }
+    ensures after { (session.old.client ≡ client_after None session.old.pairs)
+        × (session.old.listed ≡ listed_after 0 session.old.pairs) }
+    ensures leads { WhereKnown (K.domain keeper.old) (K.domain keeper.new)
+        (GoesOn (K.strict keeper.old) session.old session.new seat.old seat.new (D.calls sink.old)
+        (D.calls sink.new)) }
+    ensures count { IfOk result (λ n. (1 ≤ n) × (n ≤ length requests.now)) }
+    ensures ok { IfOk result
+        (λ n. AnswersRun requests.now n session.old session.new answers.old.items answers.new.items
+        seat.old.held
+        seat.new.held) }
+    ensures err { IfErr result (λ e. (e ≡ Refusal.NoMemory) × (session.new ≡ session.old)
+        × (answers.new.items ≡ answers.old.items) × (seat.new ≡ seat.old)) }
+    ensures place { KeepsPlace seat.old seat.new (D.calls sink.old) (D.calls sink.new) }
+{
+    let client = session.client();
+    if answers.try_reserve(requests.len()).is_err() {
+        return Err(Refusal::NoMemory);
+    }
+    let answer = match client {
+        None => ask_first(keeper, seat, requests[0]),
+        Some(id) => {
+            let count = ask_together(keeper, seat, session, id, requests, last, answers)?;
+            if count > 0 {
+                return Ok(count);
+            }
+            let alloc = *last.told.allocator();
+            ask_alone(alloc, keeper, seat, sink, id, session.listed(), requests[0])
+        }
+    };
+    session.add(requests[0], &answer);
+    push(answers, answer);
+    Ok(1)
+}
