@@ -487,6 +487,3 @@ fn notify<N: Write>(number: u64, line: &[u8], notices: &mut N)
     put(&mut text, b"\n");
     let _told = write_all(notices, text.as_slice());
 }
-
-#[cfg(test)]
-mod tests;

@@ -150,6 +150,3 @@ fn read_all<R: Read>(alloc: Global, reader: &mut R) -> Result<Vec<u8>, RegionsFa
     }
     Err(RegionsFault::Read)
 }
-
-#[cfg(test)]
-mod tests;

@@ -25,6 +25,3 @@ pub fn read_span(text: &[u8]) -> Option<(u64, u64)>
     }
     Some((first, last))
 }
-
-#[cfg(test)]
-mod tests;

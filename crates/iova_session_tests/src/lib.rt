@@ -1,6 +1,6 @@
 //! Tests of the lines of the service, of sessions, over desks of their own and over books and
-//! locks, of the threads that serve them and of the peer that asks. They stand apart from the
-//! crates that they test, which would be proved once more with them.
+//! locks, of the threads that serve them, of the peer that asks and of the peer that invalidates.
+//! They stand apart from the crates that they test, which would be proved once more with them.
 #![tactic(auto)]
 
 #[cfg(test)]
@@ -13,6 +13,8 @@ mod fresh;
 mod lines;
 #[cfg(test)]
 mod links;
+#[cfg(test)]
+mod peers;
 #[cfg(test)]
 mod posts;
 #[cfg(test)]

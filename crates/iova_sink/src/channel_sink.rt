@@ -208,6 +208,3 @@ fn line_of(range: Range) -> ArrayVec<u8, MAX_RECORD>
     put(&mut line, b"\n");
     line
 }
-
-#[cfg(test)]
-mod tests;

@@ -1,8 +1,10 @@
 //! Peers of every kind, with what goes to them and comes from them.
-use super::*;
-use crate::channel::Standing;
-use crate::memory_channel::{MemoryChannel, Peer};
-use crate::socket::SocketChannel;
+use iova_range::range::Range;
+use iova_sink::channel::{Channel, ChannelFault, Standing};
+use iova_sink::channel_sink::ChannelSink;
+use iova_sink::memory_channel::{MemoryChannel, Peer};
+use iova_sink::sink::Sink;
+use iova_sink::socket::SocketChannel;
 use std::fs;
 use std::io::{Read, Write};
 use std::os::unix::net::UnixListener;
