@@ -13,7 +13,7 @@ use Rattle.iova_range.specs.declared.limits.TheConstants.{MAX_RUN, MAX_LINE}
 use Rattle.iova_text.specs.Lines.{HasNoLf, is_not_lf, IsOverlong, IsUnended, whole_line}
 use Rattle.iova_ask.specs.Asking.{AreLines, AreLinesAnd, AreOpen, EndByBye, IsLine, bye, lines_text}
 use Rattle.iova_ask.specs.Runs.{IsRunOfLines, IsStuck}
-use Rattle.iova_ask.specs.declared.gather.Run.{Run}
+use Rattle.iova_ask.specs.declared.front.Run.{Run}
 
 pub take_front : (xs ys : List ℕ) → take (length xs) (xs ++ ys) ≡ xs
 take_front [] ys = refl

@@ -5,7 +5,7 @@ use Rattle.iova_range.specs.declared.limits.TheConstants.{MAX_RUN}
 use Rattle.iova_text.specs.Lines.{IsUnended, IsOverlong, whole_line}
 use Rattle.iova_ask.specs.Asking.{AreLines, AreLinesAnd, AreOpen, EndByBye, BeginWith, IsLine, Passes, lines_text}
 use Rattle.iova_ask.specs.Answers.{AreWholeAnswers}
-use Rattle.iova_ask.specs.declared.gather.Run.{Run}
+use Rattle.iova_ask.specs.declared.front.Run.{Run}
 use Rattle.iova_ask.specs.declared.fault.AskFault.{AskFault}
 use Rattle.iova_ask.specs.declared.fault.AskFault.TheVariants as fault
 

@@ -10,14 +10,14 @@ ghost use Rattle.iova_ask.specs.Runs.{SendsRun, Copies, CopiesMore, Rests};
 mod answers;
 mod buffer;
 pub mod fault;
-mod gather;
+mod front;
 mod meaning;
 pub mod terminal;
 
 use crate::answers::copy_answers;
 use crate::buffer::{Buffer, PIECE};
 use crate::fault::AskFault;
-use crate::gather::gather;
+use crate::front::run_in_front;
 use iova_range::limits::{MAX_LINE, MAX_READS};
 use iova_session::link::{Link, LinkFault, put_all};
 use iova_text::read::{ReadFault, read_some};
@@ -97,7 +97,7 @@ fn ask_whole<W: Write, L: Link>(
     ensures bound { sent.new + length input.new ≤ sent.old + length input.old }
 {
     'asking: loop {
-        let run = gather(input.as_slice());
+        let run = run_in_front(input.as_slice());
         if run.lines == 0 {
             if input.as_slice().len() >= MAX_LINE {
                 return Err(AskFault::Read);

@@ -82,6 +82,21 @@ pub struct Serving {
     pub limits: SessionLimits,
 }
 
+/// What a service is lent, and what it serves.
+#[derive(Drop)]
+pub struct Service<'a, R, N, X> {
+    /// The runtime.
+    pub rt: &'a R,
+    /// Where memory comes from.
+    pub alloc: Global,
+    /// Where notices go.
+    pub notices: &'a N,
+    /// What is served.
+    pub serving: Serving,
+    /// What is done aside.
+    pub aside: &'a X,
+}
+
 /// Serves so many sessions on the domain, each within the usual limits: see `serve_sessions`.
 pub fn serve_on<R, Q, N, C, F, S, G, L, A, D, P>(
     rt: &R,
@@ -114,22 +129,19 @@ where
     ensures shared { IfOk result (λ s. s.shared ≡ shared) }
     ensures refusal { IfErr result IsServeRefusal }
 {
-    let serving = Serving {
-        sessions: Some(sessions),
-        clients: posts.len() as u64,
-        limits: SessionLimits::usual(),
-    };
-    serve_sessions::<R, Q, N, C, F, S, G, L, A, D, P, NothingAside>(
+    let service = Service {
         rt,
         alloc,
         notices,
-        shared,
-        posts,
-        sinks,
-        accept,
-        pause,
-        serving,
-        &NothingAside,
+        serving: Serving {
+            sessions: Some(sessions),
+            clients: posts.len() as u64,
+            limits: SessionLimits::usual(),
+        },
+        aside: &NothingAside,
+    };
+    serve_sessions::<R, Q, N, C, F, S, G, L, A, D, P, NothingAside>(
+        &service, shared, posts, sinks, accept, pause,
     )
 }
 
@@ -161,16 +173,12 @@ where
 /// Refused by `LinkFault` where a thread can't be started: then no link has been accepted, and
 /// those that were started are joined. Refused by `NoMemory` before the first one is started.
 pub fn serve_sessions<R, Q, N, C, F, S, G, L, A, D, P, X>(
-    rt: &R,
-    alloc: Global,
-    notices: &N,
+    service: &Service<'_, R, N, X>,
     shared: Shared<Q, C, F, S, G>,
     posts: Vec<Post<C, F, S, G>>,
     sinks: Vec<D>,
     accept: &A,
     pause: P,
-    serving: Serving,
-    aside: &X,
 ) -> Result<Served<Q, C, F, S, G>, Refusal>
 where
     R: Threads + Wait + Clock + Sync,
@@ -196,7 +204,7 @@ where
     // for the proof: that threads may share the domain
     domains_are_sync::<Q, C, F, S, G>();
     let served = serve_kept::<R, N, C, F, S, G, &Shared<Q, C, F, S, G>, L, A, D, P, X>(
-        rt, alloc, notices, &shared, posts, sinks, accept, pause, serving, aside,
+        service, &shared, posts, sinks, accept, pause,
     );
     match served {
         Ok(posts) => Ok(Served { shared, posts }),
@@ -209,16 +217,12 @@ where
 
 /// The same on a domain that is kept elsewhere: gives the posts back.
 fn serve_kept<R, N, C, F, S, G, K, L, A, D, P, X>(
-    rt: &R,
-    alloc: Global,
-    notices: &N,
+    service: &Service<'_, R, N, X>,
     keeper: K,
     posts: Vec<Post<C, F, S, G>>,
     sinks: Vec<D>,
     accept: &A,
     pause: P,
-    serving: Serving,
-    aside: &X,
 ) -> Result<Vec<Post<C, F, S, G>>, Refusal>
 where
     R: Threads + Wait + Clock + Sync,
@@ -244,16 +248,17 @@ where
     posts_are_send::<C, F, S, G>();
     turns_are_sync();
     pools_are_sync::<L>();
+    let rt = service.rt;
     let mut posts = posts;
     let mut sinks = sinks;
     let Some(sink) = sinks.pop() else {
         unreachable!()
     };
-    let roster = Roster::new(alloc, serving, posts.len() as u64);
-    let pool: Pool<L> = Pool::new(alloc);
+    let roster = Roster::new(service.alloc, service.serving, posts.len() as u64);
+    let pool: Pool<L> = Pool::new(service.alloc);
     let mut flusher = Flusher {
         rt,
-        notices,
+        notices: service.notices,
         keeper,
         tally: posts[0].seat.tally().split(),
         sink,
@@ -263,13 +268,13 @@ where
     };
     let lent = WorkerContext {
         rt,
-        alloc,
-        notices,
+        alloc: service.alloc,
+        notices: service.notices,
         keeper,
         accept,
         roster: &roster,
         admission: &pool,
-        aside,
+        aside: service.aside,
     };
     run_all::<
         R,
@@ -279,21 +284,6 @@ where
         L,
         Flusher<'_, R, N, K, G, D, P>,
     >(rt, &lent, posts, sinks, &roster, &mut flusher)
-}
-
-/// What a service is lent, and what it serves.
-#[derive(Drop)]
-pub struct Service<'a, R, N, X> {
-    /// The runtime.
-    pub rt: &'a R,
-    /// Where memory comes from.
-    pub alloc: Global,
-    /// Where notices go.
-    pub notices: &'a N,
-    /// What is served.
-    pub serving: Serving,
-    /// What is done aside.
-    pub aside: &'a X,
 }
 
 /// Serves sessions on the domain as `serve_sessions` does, but more of them than there are posts:

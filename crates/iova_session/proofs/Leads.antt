@@ -30,7 +30,7 @@ use Rattle.iova_proto.specs.declared.request.Request.{Request}
 use Rattle.iova_proto.specs.declared.request.Request.TheVariants as request
 use Rattle.iova_session.specs.Pairs.{Pair}
 use Rattle.iova_session.specs.Desks.{SessionState, next_client, count_listed, client_after, listed_after, asks_in, answer_of, told_pairs, AreTold}
-use Rattle.iova_session.specs.Domains.{Frees}
+use Rattle.iova_session.specs.Domains.{FreesRange}
 use Rattle.iova_session.specs.declared.leaving.Leaving.{Leaving}
 use Rattle.iova_session.specs.Leaving.{Departs}
 use Rattle.iova_session.specs.Leading.{Standing, standing, IsSame, alloc_answer, FirstDoes, ClientDoes, PairDoes, MovesSeat, PairsLead, LeadsFrom, GoesOn, TellsAtMost, EndDoes, SessionLeads}
@@ -215,7 +215,7 @@ refused_release number seat id lo e calls s t full d = record {
 
 free_told : (number : ℕ) (seat : SeatState) (id lo : ℕ) (x : Told) (r : Reply) (calls : List Call) (s t : State) → IsToldOf (ask.Free lo) x → IsReplyTold r x
     → (r ≡ reply.Refused refusal.RingFull → ⊥) → Does (Unmapping (step.Unmap seat.worker id lo) seat.held r) s t
-    → Frees false seat id lo (answer_of x) number calls calls s t
+    → FreesRange false seat id lo (answer_of x) number calls calls s t
 free_told number seat id lo (lock_told.Queued q) (reply.Queued r) calls s t of e full d =
     (Ok (unmapped.Queued q), queued_release number seat id lo q calls s t (subst (λ (f : Frames). Does (Unmapping (step.Unmap seat.worker id lo) seat.held (reply.Queued f)) s t) (sym e) d), refl)
 free_told number seat id lo (lock_told.Queued q) r calls s t of e full d = absurd e

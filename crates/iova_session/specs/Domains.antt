@@ -55,9 +55,9 @@ release_answer (Err e) = answer.Refused e
 
 -- A free is a release of the client's range, which leads the domain from s to t, between these
 -- calls of the sink.
-abbrev pub Frees : Bool → SeatState → ℕ → ℕ → Answer → ℕ → List Call → List Call → State → State
+abbrev pub FreesRange : Bool → SeatState → ℕ → ℕ → Answer → ℕ → List Call → List Call → State → State
     → Type 0
-Frees strict seat id lo a number before now s t =
+FreesRange strict seat id lo a number before now s t =
     (result : Result Unmapped Refusal) × DoesRelease strict seat id lo result number before now s t
     × (a ≡ release_answer result)
 

@@ -16,7 +16,7 @@ use Rattle.iova_session.specs.declared.leaving.Leaving.{Leaving}
 use Rattle.iova_session.specs.Leaving.{Departs}
 use Rattle.iova_session.specs.Pairs.{Pair}
 use Rattle.iova_session.specs.Desks.{MovesBy, SessionState, given_by, taken_by, next_client, count_listed, client_after}
-use Rattle.iova_session.specs.Domains.{Lists, Frees, FlushesAndDrains}
+use Rattle.iova_session.specs.Domains.{Lists, FreesRange, FlushesAndDrains}
 
 -- how things stand at one moment of a session: its seat, the calls of its sink, and the domain
 pub record Standing : Type 0 where
@@ -68,7 +68,7 @@ ClientDoes strict number seat id listed (request.Alloc frames limit) a before no
     × (a ≡ alloc_answer result)
     × (now ≡ before)
 ClientDoes strict number seat id listed (request.Free lo) a before now s t =
-    Frees strict seat id lo a number before now s t
+    FreesRange strict seat id lo a number before now s t
 ClientDoes strict number seat id listed request.List a before now s t =
     Lists seat.worker id listed a s × (now ≡ before) × (t ≡ s)
 ClientDoes strict number seat id listed request.Flush a before now s t =

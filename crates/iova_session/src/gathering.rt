@@ -26,7 +26,7 @@ pub(crate) enum Stop {
 /// The requests whose lines stand at the front of the piece, at most 16 and at most `left`. Gives
 /// how many bytes of the piece they take, and why there are no more. Copies no line that lies whole
 /// in the piece.
-pub(crate) fn gather(
+pub(crate) fn take_requests(
     lines: &mut Lines,
     piece: &[u8],
     left: u64,

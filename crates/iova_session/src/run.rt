@@ -44,7 +44,7 @@ pub struct SessionEnd {
 
 /// What serving came to, and what it was lent.
 #[derive(Drop)]
-struct Served<'a, C: Ledger, F: Ledger, S: Ledger, G: Ledger, K: Keep<C, F, S, G>, D: Sink> {
+struct ServedSession<'a, C: Ledger, F: Ledger, S: Ledger, G: Ledger, K: Keep<C, F, S, G>, D: Sink> {
     end: End,
     client: Option<ClientId>,
     lent: DomainAccess<'a, C, F, S, G, K, D>,
@@ -66,7 +66,7 @@ fn serve_lent<
     limits: SessionLimits,
     link: &mut L,
     lent: DomainAccess<'a, C, F, S, G, K, D>,
-) -> Served<'a, C, F, S, G, K, D>
+) -> ServedSession<'a, C, F, S, G, K, D>
     requires names { (lent.keeper.ghost_name ≡ O.keeper_name) × (lent.seat.ghost_name ≡ O.seat_name)
         × (lent.sink.ghost_name ≡ O.sink_name) }
     requires number { K.domain_number lent.keeper.now ≡ O.number }
@@ -113,7 +113,7 @@ fn serve_lent<
         last: _,
         opening: _,
     } = desk;
-    Served { end, client, lent }
+    ServedSession { end, client, lent }
 }
 
 /// Serves a session of the seat's worker, and gives how it ended and the client that it opened.
@@ -142,7 +142,7 @@ fn serve_at<C: Ledger, F: Ledger, S: Ledger, G: Ledger, K: Keep<C, F, S, G>, D: 
     ensures ends { L.ends link.new ≡ L.ends link.old + ends_at result.0 }
     ensures place { KeepsPlace seat.old seat.new (D.calls sink.old) (D.calls sink.new) }
 {
-    let Served {
+    let ServedSession {
         end,
         client,
         lent: DomainAccess {

@@ -9,7 +9,7 @@ ghost use Rattle.iova_session.specs.Rounds.{TakesPiece, CountsFault};
 use crate::answering::{AnswerRoom, ask_all, refuse};
 use crate::desk::Desk;
 use crate::end::End;
-use crate::gathering::{Stop, gather};
+use crate::gathering::{Stop, take_requests};
 use crate::link::Link;
 use crate::session_limits::SessionLimits;
 use arrayvec::ArrayVec;
@@ -107,7 +107,7 @@ pub(crate) fn take_piece<L: Link, D: Desk>(
     let mut at = 0;
     'rounds: loop {
         let mut run: ArrayVec<Request, MAX_RUN> = ArrayVec::new();
-        let (used, stop) = gather(lines, &piece[at..], *left, &mut run);
+        let (used, stop) = take_requests(lines, &piece[at..], *left, &mut run);
         at += used;
         *left -= run.len() as u64;
         ask_all(link, desk, run.as_slice(), room)?;

@@ -232,7 +232,14 @@ pub(crate) fn ask_front<C: Ledger, F: Ledger, S: Ledger, G: Ledger, K: Keep<C, F
             ask_alone(alloc, keeper, seat, sink, id, session.listed(), requests[0])
         }
     };
+    last.stopped = is_freed(&answer);
     session.add(requests[0], &answer);
     push(answers, answer);
     Ok(1)
+}
+
+/// Whether a range was freed at once, as in a strict domain: then the next free is asked alone too,
+/// with no hold that would stop at it.
+fn is_freed(answer: &Answer) -> bool {
+    matches!(answer, Answer::Freed(_))
 }

@@ -21,7 +21,7 @@ use std::sync::ledger::Ledger;
 /// What a desk keeps of the last hold of a session.
 #[derive(Drop)]
 pub(crate) struct LastBatch {
-    /// It stopped at a free, which is to be asked alone.
+    /// It stopped at a free, or the domain is strict: a free is to be asked alone.
     pub(crate) stopped: bool,
     /// What the lock told, and room for what it tells next.
     pub(crate) told: Vec<Told>,
@@ -39,7 +39,7 @@ impl LastBatch {
 
 /// Asks the longest front of `alloc`, `free` and `stat` in one hold, up to the first free whose
 /// ring is full, and gives how many were asked. A free that the last hold stopped at isn't tried in
-/// a hold again, since it is to be asked alone. Refused by `NoMemory` where the room for what the
+/// a hold again, nor one behind a free in a strict domain: these are asked alone. Refused by `NoMemory` where the room for what the
 /// lock tells has to grow and can't; then nothing was asked.
 pub(crate) fn ask_together<C: Ledger, F: Ledger, S: Ledger, G: Ledger, K: Keep<C, F, S, G>>(
     keeper: &mut K,
@@ -90,7 +90,7 @@ pub(crate) fn ask_together<C: Ledger, F: Ledger, S: Ledger, G: Ledger, K: Keep<C
 }
 
 /// Writes the asks at the front of the requests, and gives how many they are: none where the first
-/// is a free that the last hold stopped at.
+/// is a free that a hold would stop at.
 fn asks_from(requests: &[Request], stopped: bool, asks: &mut [Ask]) -> usize
     requires { length requests.now ≤ length asks.old }
     ensures asks { 1 ≤ result → take result asks.new ≡ asks_in requests.now }
@@ -104,7 +104,7 @@ fn asks_from(requests: &[Request], stopped: bool, asks: &mut [Ask]) -> usize
     }
 }
 
-/// Whether the first request is a free that the last hold stopped at.
+/// Whether the first request is a free that a hold would stop at.
 fn is_stopped_at(stopped: bool, requests: &[Request]) -> bool
     ensures { IsTrue result → IsFirstAlone requests.now }
 {

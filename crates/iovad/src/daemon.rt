@@ -425,7 +425,7 @@ where
     ensures { IfOk result (λ r. AreOfAllSeats r.shared
         (map (λ p. p.seat.worker) r.posts.items)) }
 {
-    let rt = run.rt;
+    let service = service_of(run, plan);
     let served = serve_sessions::<
         R,
         &R,
@@ -439,18 +439,7 @@ where
         D,
         Ticks<'_, R>,
         Control<'_, R, Notices<'_, R>>,
-    >(
-        rt,
-        rt.alloc(),
-        run.notices,
-        shared,
-        posts,
-        sinks,
-        accept,
-        Ticks::new(rt),
-        serving_of(plan),
-        run.control,
-    );
+    >(&service, shared, posts, sinks, accept, Ticks::new(run.rt));
     match served {
         Ok(served) => Ok(served),
         Err(refusal) => Err(refusal),
@@ -478,14 +467,7 @@ where
     ensures { IfOk result (λ r. AreOfAllSeats r.shared
         (map (λ p. p.seat.worker) r.posts.items)) }
 {
-    let rt = run.rt;
-    let service = Service {
-        rt,
-        alloc: rt.alloc(),
-        notices: run.notices,
-        serving: serving_of(plan),
-        aside: run.control,
-    };
+    let service = service_of(run, plan);
     let served = serve_in_turns::<
         R,
         &R,
@@ -498,7 +480,7 @@ where
         D,
         Ticks<'_, R>,
         Control<'_, R, Notices<'_, R>>,
-    >(&service, shared, posts, sinks, accept, Ticks::new(rt));
+    >(&service, shared, posts, sinks, accept, Ticks::new(run.rt));
     match served {
         Ok(served) => Ok(served),
         Err(refusal) => Err(refusal),
@@ -559,6 +541,24 @@ fn patience_of(plan: &Plan<'_>) -> Patience {
         None
     };
     Patience { turn, turns }
+}
+
+/// What the plan's service is lent, and what it serves.
+fn service_of<'a, R: AllocGlobal>(
+    run: &Running<'a, R>,
+    plan: &Plan<'_>,
+) -> Service<'a, R, Notices<'a, R>, Control<'a, R, Notices<'a, R>>>
+    ensures sessions { result.serving.sessions ≡ plan.now.sessions }
+    ensures limits { result.serving.limits ≡ planned_limits plan.now.session_requests }
+    ensures clients { result.serving.clients ≡ unwrap_or plan.now.clients plan.now.workers }
+{
+    Service {
+        rt: run.rt,
+        alloc: run.rt.alloc(),
+        notices: run.notices,
+        serving: serving_of(plan),
+        aside: run.control,
+    }
 }
 
 /// The plan's sessions, and how much each may ask for.

@@ -38,17 +38,17 @@ rounds-init g c =
 pub returns-in_err-ask_all-clause-taken : goal.returns-in_err-ask_all-clause-taken
 returns-in_err-ask_all-clause-taken g c =
     let inv = c.rounds.invariant in
-    let run = c.gather-used.new.run.items in
-    let used = c.gather-used.result.0 in
+    let run = c.take_requests-used.new.run.items in
+    let used = c.take_requests-used.result.0 in
     let rest = take (length c.args.piece.now - c.rounds.at) (drop c.rounds.at c.args.piece.now) in
-    let new = c.gather-used.new.lines in
+    let new = c.take_requests-used.new.lines in
     let got = c.in_err-ask_all.ensures.asked in
     let pairs = got.2 ∙ ap (λ x. x ++ got.0) inv.pairs ∙ append_assoc (g.D.Desk.pairs c.args.desk.now) inv.ps got.0 in
     let sent = Appends-trans (g.L.Link.sent c.args.link.now) (g.L.Link.sent c.rounds.link) (g.L.Link.sent c.ask_all.new.link) inv.written got.1 inv.sent got.3 in
-    let G : Gathers c.rounds.left inv.next rest run used c.gather-used.result.1 new = rw inv.now at c.gather-used.ensures.gathered in
+    let G : Gathers c.rounds.left inv.next rest run used c.take_requests-used.result.1 new = rw inv.now at c.take_requests-used.ensures.gathered in
     let end = c.in_err-ask_all.field-0.0 in
     let A : AsksRun run got.0 got.1 (Err end) = rw c.as_slice.ensures.value at got.4 in
-    let E = Serves-cut c.rounds.left used inv.next rest got.1 run c.gather-used.result.1 new got.0 end c.gather-used.ensures.within G A in
+    let E = Serves-cut c.rounds.left used inv.next rest got.1 run c.take_requests-used.result.1 new got.0 end c.take_requests-used.ensures.within G A in
     let P : Result Unit End → Type 0 = λ x. TakesPiece c.args.left.now (inv.kept ++ c.args.piece.now) (inv.ps ++ got.0) (inv.written ++ got.1) (c.rounds.left - c.len.result) new x in (
       inv.kept,
       inv.ps ++ got.0,
@@ -63,18 +63,18 @@ returns-in_err-ask_all-clause-taken g c =
 pub rounds-preserved : goal.rounds-preserved
 rounds-preserved g c =
     let inv = c.rounds.invariant in
-    let run = c.gather-used.new.run.items in
-    let used = c.gather-used.result.0 in
+    let run = c.take_requests-used.new.run.items in
+    let used = c.take_requests-used.result.0 in
     let rest = take (length c.args.piece.now - c.rounds.at) (drop c.rounds.at c.args.piece.now) in
-    let new = c.gather-used.new.lines in
+    let new = c.take_requests-used.new.lines in
     let got = c.in_ok-ask_all.ensures.asked in
     let pairs = got.2 ∙ ap (λ x. x ++ got.0) inv.pairs ∙ append_assoc (g.D.Desk.pairs c.args.desk.now) inv.ps got.0 in
     let sent = Appends-trans (g.L.Link.sent c.args.link.now) (g.L.Link.sent c.rounds.link) (g.L.Link.sent c.ask_all.new.link) inv.written got.1 inv.sent got.3 in
-    let G : Gathers c.rounds.left inv.next rest run used stops.Full new = rw (inv.now, c.in-Full.is) at c.gather-used.ensures.gathered in
+    let G : Gathers c.rounds.left inv.next rest run used stops.Full new = rw (inv.now, c.in-Full.is) at c.take_requests-used.ensures.gathered in
     let A : AsksRun run got.0 got.1 (Ok c.in_ok-ask_all.field-0) = rw c.as_slice.ensures.value at got.4 in
     let F = AllAnswered-full c.rounds.left used inv.next rest got.1 run new got.0 G A.0 A.1 in
-    let within : length run ≤ c.rounds.left = c.gather-used.ensures.within in
-    let fits : used ≤ length rest = c.gather-used.ensures.used in
+    let within : length run ≤ c.rounds.left = c.take_requests-used.ensures.within in
+    let fits : used ≤ length rest = c.take_requests-used.ensures.used in
     record {
       fits = omega (arith, length-take {A = ℕ}, length-drop {A = ℕ}, fits, inv.fits);
       left = c.ask_all.ensures.left ∙ inv.left;
@@ -96,17 +96,17 @@ rounds-preserved g c =
 pub returns-in-More-clause-taken : goal.returns-in-More-clause-taken
 returns-in-More-clause-taken g c =
     let inv = c.rounds.invariant in
-    let run = c.gather-used.new.run.items in
-    let used = c.gather-used.result.0 in
+    let run = c.take_requests-used.new.run.items in
+    let used = c.take_requests-used.result.0 in
     let rest = take (length c.args.piece.now - c.rounds.at) (drop c.rounds.at c.args.piece.now) in
-    let new = c.gather-used.new.lines in
+    let new = c.take_requests-used.new.lines in
     let got = c.in_ok-ask_all.ensures.asked in
     let pairs = got.2 ∙ ap (λ x. x ++ got.0) inv.pairs ∙ append_assoc (g.D.Desk.pairs c.args.desk.now) inv.ps got.0 in
     let sent = Appends-trans (g.L.Link.sent c.args.link.now) (g.L.Link.sent c.rounds.link) (g.L.Link.sent c.ask_all.new.link) inv.written got.1 inv.sent got.3 in
-    let G : Gathers c.rounds.left inv.next rest run used stops.More new = rw (inv.now, c.in-More.is) at c.gather-used.ensures.gathered in
+    let G : Gathers c.rounds.left inv.next rest run used stops.More new = rw (inv.now, c.in-More.is) at c.take_requests-used.ensures.gathered in
     let A : AsksRun run got.0 got.1 (Ok c.in_ok-ask_all.field-0) = rw c.as_slice.ensures.value at got.4 in
     let M = AllAnswered-more c.rounds.left used inv.next rest got.1 run new got.0 G A.0 A.1 in
-    let within : length run ≤ c.rounds.left = c.gather-used.ensures.within in (
+    let within : length run ≤ c.rounds.left = c.take_requests-used.ensures.within in (
       inv.kept,
       inv.ps ++ got.0,
       inv.written ++ got.1,
@@ -125,16 +125,16 @@ returns-in-More-clause-taken g c =
 pub returns-in-Bye-clause-taken : goal.returns-in-Bye-clause-taken
 returns-in-Bye-clause-taken g c =
     let inv = c.rounds.invariant in
-    let run = c.gather-used.new.run.items in
-    let used = c.gather-used.result.0 in
+    let run = c.take_requests-used.new.run.items in
+    let used = c.take_requests-used.result.0 in
     let rest = take (length c.args.piece.now - c.rounds.at) (drop c.rounds.at c.args.piece.now) in
-    let new = c.gather-used.new.lines in
+    let new = c.take_requests-used.new.lines in
     let got = c.in_ok-ask_all.ensures.asked in
     let pairs = got.2 ∙ ap (λ x. x ++ got.0) inv.pairs ∙ append_assoc (g.D.Desk.pairs c.args.desk.now) inv.ps got.0 in
     let sent = Appends-trans (g.L.Link.sent c.args.link.now) (g.L.Link.sent c.rounds.link) (g.L.Link.sent c.ask_all.new.link) inv.written got.1 inv.sent got.3 in
-    let G : Gathers c.rounds.left inv.next rest run used stops.Bye new = rw (inv.now, c.in-Bye.is) at c.gather-used.ensures.gathered in
+    let G : Gathers c.rounds.left inv.next rest run used stops.Bye new = rw (inv.now, c.in-Bye.is) at c.take_requests-used.ensures.gathered in
     let A : AsksRun run got.0 got.1 (Ok c.in_ok-ask_all.field-0) = rw c.as_slice.ensures.value at got.4 in
-    let E = Serves-bye c.rounds.left used inv.next rest got.1 run new got.0 c.gather-used.ensures.within G A.0 A.1 in (
+    let E = Serves-bye c.rounds.left used inv.next rest got.1 run new got.0 c.take_requests-used.ensures.within G A.0 A.1 in (
       inv.kept,
       inv.ps ++ got.0,
       inv.written ++ got.1,
@@ -147,17 +147,17 @@ returns-in-Bye-clause-taken g c =
 pub returns-in-Bad-clause-taken : goal.returns-in-Bad-clause-taken
 returns-in-Bad-clause-taken g c =
     let inv = c.rounds.invariant in
-    let run = c.gather-used.new.run.items in
-    let used = c.gather-used.result.0 in
+    let run = c.take_requests-used.new.run.items in
+    let used = c.take_requests-used.result.0 in
     let rest = take (length c.args.piece.now - c.rounds.at) (drop c.rounds.at c.args.piece.now) in
-    let new = c.gather-used.new.lines in
+    let new = c.take_requests-used.new.lines in
     let got = c.in_ok-ask_all.ensures.asked in
     let pairs = got.2 ∙ ap (λ x. x ++ got.0) inv.pairs ∙ append_assoc (g.D.Desk.pairs c.args.desk.now) inv.ps got.0 in
     let sent = Appends-trans (g.L.Link.sent c.args.link.now) (g.L.Link.sent c.rounds.link) (g.L.Link.sent c.ask_all.new.link) inv.written got.1 inv.sent got.3 in
-    let G : Gathers c.rounds.left inv.next rest run used stops.Bad new = rw (inv.now, c.in-Bad.is) at c.gather-used.ensures.gathered in
+    let G : Gathers c.rounds.left inv.next rest run used stops.Bad new = rw (inv.now, c.in-Bad.is) at c.take_requests-used.ensures.gathered in
     let A : AsksRun run got.0 got.1 (Ok c.in_ok-ask_all.field-0) = rw c.as_slice.ensures.value at got.4 in
     let R = Serves-bad c.rounds.left used inv.next rest got.1 run new got.0 (g.L.Link.sent c.ask_all.new.link) (g.L.Link.sent c.refuse.new.link) c.refuse.result
-    c.gather-used.ensures.within G A.0 A.1 c.refuse.ensures.told in (
+    c.take_requests-used.ensures.within G A.0 A.1 c.refuse.ensures.told in (
       inv.kept,
       inv.ps ++ got.0,
       inv.written ++ (got.1 ++ R.0),
@@ -171,17 +171,17 @@ returns-in-Bad-clause-taken g c =
 pub returns-in-Limit-clause-taken : goal.returns-in-Limit-clause-taken
 returns-in-Limit-clause-taken g c =
     let inv = c.rounds.invariant in
-    let run = c.gather-used.new.run.items in
-    let used = c.gather-used.result.0 in
+    let run = c.take_requests-used.new.run.items in
+    let used = c.take_requests-used.result.0 in
     let rest = take (length c.args.piece.now - c.rounds.at) (drop c.rounds.at c.args.piece.now) in
-    let new = c.gather-used.new.lines in
+    let new = c.take_requests-used.new.lines in
     let got = c.in_ok-ask_all.ensures.asked in
     let pairs = got.2 ∙ ap (λ x. x ++ got.0) inv.pairs ∙ append_assoc (g.D.Desk.pairs c.args.desk.now) inv.ps got.0 in
     let sent = Appends-trans (g.L.Link.sent c.args.link.now) (g.L.Link.sent c.rounds.link) (g.L.Link.sent c.ask_all.new.link) inv.written got.1 inv.sent got.3 in
-    let G : Gathers c.rounds.left inv.next rest run used stops.Limit new = rw (inv.now, c.in-Limit.is) at c.gather-used.ensures.gathered in
+    let G : Gathers c.rounds.left inv.next rest run used stops.Limit new = rw (inv.now, c.in-Limit.is) at c.take_requests-used.ensures.gathered in
     let A : AsksRun run got.0 got.1 (Ok c.in_ok-ask_all.field-0) = rw c.as_slice.ensures.value at got.4 in
     let R = Serves-limit c.rounds.left used inv.next rest got.1 run new got.0 (g.L.Link.sent c.ask_all.new.link) (g.L.Link.sent c.refuse-in-Limit.new.link) c.refuse-in-Limit.result
-    c.gather-used.ensures.within G A.0 A.1 c.refuse-in-Limit.ensures.told in (
+    c.take_requests-used.ensures.within G A.0 A.1 c.refuse-in-Limit.ensures.told in (
       inv.kept,
       inv.ps ++ got.0,
       inv.written ++ (got.1 ++ R.0),

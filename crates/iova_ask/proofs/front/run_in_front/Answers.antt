@@ -1,7 +1,7 @@
 use Rattle.std.proofs.Common.{rules, ◌≡◌, arith}
 use Rattle.iova_ask.specs.Asking.{bye}
 use Rattle.iova_ask.proofs.Lined.{gathered_none, gathered_push, run_of, run_by_bye, stuck_without, stuck_at_long}
-use Rattle.iova_ask.proofs.gather.gather.Goals as goal
+use Rattle.iova_ask.proofs.front.run_in_front.Goals as goal
 
 pub loop-lines-init : goal.loop-lines-init
 loop-lines-init c = (gathered_none c.args.bytes.now, omega arith)

@@ -1,7 +1,7 @@
 use Rattle.std.proofs.Common.{◌≡◌, length, ◌-◌, ◌≤◌, ◌<◌, ◌++◌, take, Some, List, ℕ}
 use Rattle.iova_session.specs.Sessions.{HasNoBye}
 use Rattle.iova_session.specs.Rounds.{IsLines}
-use Rattle.iova_session.proofs.gathering.gather.Given as goal
+use Rattle.iova_session.proofs.gathering.take_requests.Given as goal
 
 abbrev pub invariant-gathering : goal.invariant-gathering
 invariant-gathering l = record {

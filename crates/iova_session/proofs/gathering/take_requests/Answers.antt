@@ -6,7 +6,7 @@ use Rattle.iova_session.specs.Rounds.{Gathers}
 use Rattle.iova_session.specs.declared.gathering.Stop.TheVariants as stops
 use Rattle.iova_session.proofs.Byes.{HasNoBye-nil, EndsInBye-one}
 use Rattle.iova_session.proofs.Gathered.{IsLines-none, IsLines-rest, IsLines-one, begins_request, no_bye_more}
-use Rattle.iova_session.proofs.gathering.gather.Goals as goal
+use Rattle.iova_session.proofs.gathering.take_requests.Goals as goal
 
 some_kept : (o : Option (List ℕ)) → IsSome o → (k : List ℕ) × (o ≡ Some k)
 some_kept None h = absurd (cc)

@@ -17,7 +17,7 @@ pub(crate) struct Run {
 
 /// The whole lines at the front of the bytes, at most 16, up to the first `bye`, and before a line
 /// of more than 128 bytes.
-pub(crate) fn gather(bytes: &[u8]) -> Run
+pub(crate) fn run_in_front(bytes: &[u8]) -> Run
     ensures { IsRunOfLines bytes.now result }
 {
     let mut rest = bytes;
