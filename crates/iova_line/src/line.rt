@@ -1,5 +1,5 @@
 //! A step's line and a header's, read and written.
-ghost use Rattle.std.specs.Prelude.{◌≡◌, ◌≢◌, ℕ, ◌+◌, ◌<◌, ◌≤◌, ◌↔◌, Bool, [], ◌∷◌, ◌++◌, Some, IsSome, IfSome, IsNone, OnOk, OnErr, length, vec_len, vec_capacity};
+ghost use Rattle.std.specs.Prelude.{◌≡◌, ◌≢◌, ℕ, ◌+◌, ◌<◌, ◌≤◌, ◌↔◌, Bool, [], ◌∷◌, ◌++◌, Some, IsSome, IfSome, IsNone, OnOk, OnErr, length, vec_len, vec_capacity, decimal, codes};
 ghost use Rattle.iova_range.specs.Bounds.{Extent, AreBounds, first_profile, second_profile};
 ghost use Rattle.iova_model.specs.declared.step.Step.{Step};
 ghost use Rattle.iova_text.specs.Words.{spaced_words};
@@ -13,7 +13,8 @@ use iova_range::limits::MAX_WORKERS;
 use iova_range::profile::Profile;
 use iova_range::refusal::Refusal;
 use iova_text::buffer::{LineBuffer, append, put, put_numbers};
-use iova_text::words::{first_word, kind_of, next_number, three_numbers, two_numbers};
+use iova_text::number::short_number;
+use iova_text::words::{first_word, kind_of, next_number, next_short, three_numbers, two_numbers};
 
 /// The first word of a step's line.
 #[derive(Clone, Copy, Debug, PartialEq, Eq)]
@@ -47,12 +48,16 @@ pub struct Header {
     pub workers: u64,
 }
 
-/// The step of this line, which is without its LF. None exactly where the line is no step's.
+/// The step of this line, which is without its LF. None exactly where the line is no step's. A line
+/// of `alloc` or `unmap`, of which there are many, is mostly read in one pass.
 pub fn read_step(line: &[u8]) -> Option<Step>
     ensures spelled { IfSome result (λ s. line.now ≡ step_text s) }
     ensures read { (s : Step) → NumbersFit s → line.now ≡ step_text s → result ≡ Some s }
     ensures all { IsNone result → (s : Step) → NumbersFit s → line.now ≢ step_text s }
 {
+    if let Some(step) = usual_step(line) {
+        return Some(step);
+    }
     let (word, arguments) = first_word(line);
     let verb = verb_named(word)?;
     step_of(verb, arguments)
@@ -111,6 +116,96 @@ pub fn write_header(bounds: &Bounds, workers: u64, out: &mut Vec<u8>) -> Result<
     let mut text = LineBuffer::new();
     put_header(*bounds, workers, &mut text);
     append(out, &text)
+}
+
+/// `allo` as a number whose lowest byte is its first letter.
+const ALLO: u32 = 0x6f6c_6c61;
+
+/// The same of `unma`.
+const UNMA: u32 = 0x616d_6e75;
+
+/// No line of these two words has fewer bytes: `unmap 0 1 1`.
+const SHORTEST: usize = 11;
+
+/// The step of this line, read in one pass. It knows the two steps of which there are many, `alloc`
+/// and `unmap`, with numbers of 1 to 18 digits of which the worker's alone may be `0`. None where
+/// the line is no such step's.
+#[inline(always)]
+fn usual_step(line: &[u8]) -> Option<Step>
+    ensures { IfSome result (λ s. NumbersFit s × (line.now ≡ step_text s)) }
+{
+    if line.len() < SHORTEST {
+        return None;
+    }
+    let word = u32::from_le_bytes([line[0], line[1], line[2], line[3]]);
+    if word == ALLO && line[4] == b'c' {
+        usual_alloc(&line[5..])
+    } else if word == UNMA && line[4] == b'p' {
+        usual_unmap(&line[5..])
+    } else {
+        None
+    }
+}
+
+/// ` <worker> <client> <frames> <limit>`.
+#[inline(always)]
+fn usual_alloc(arguments: &[u8]) -> Option<Step>
+    ensures { IfSome result (λ s. NumbersFit s × (codes "alloc" ++ arguments.now ≡ step_text s)) }
+{
+    let (worker, more) = next_worker(arguments)?;
+    let (client, more) = next_short(more)?;
+    let (frames, more) = next_short(more)?;
+    let (limit, end) = next_short(more)?;
+    if end.is_empty() {
+        Some(Step::Alloc {
+            worker,
+            client,
+            frames,
+            limit,
+        })
+    } else {
+        None
+    }
+}
+
+/// ` <worker> <client> <lo>`.
+#[inline(always)]
+fn usual_unmap(arguments: &[u8]) -> Option<Step>
+    ensures { IfSome result (λ s. NumbersFit s × (codes "unmap" ++ arguments.now ≡ step_text s)) }
+{
+    let (worker, more) = next_worker(arguments)?;
+    let (client, more) = next_short(more)?;
+    let (lo, end) = next_short(more)?;
+    if end.is_empty() {
+        Some(Step::Unmap { worker, client, lo })
+    } else {
+        None
+    }
+}
+
+/// A space and a worker, `0` or a number that `next_short` knows, and the text after it.
+#[inline(always)]
+fn next_worker(text: &[u8]) -> Option<(u64, &[u8])>
+    ensures { IfSome result (λ p. text.now ≡ 32 ∷ (decimal p.0 ++ p.1.now)) }
+{
+    match text {
+        [b' ', digits @ ..] => zero_or_short(digits),
+        _ => None,
+    }
+}
+
+/// `0` or a number that `short_number` knows, and the text after it.
+#[inline(always)]
+fn zero_or_short(text: &[u8]) -> Option<(u64, &[u8])>
+    ensures { IfSome result (λ p. text.now ≡ decimal p.0 ++ p.1.now) }
+{
+    if text.is_empty() {
+        return None;
+    }
+    if text[0] == b'0' {
+        return Some((0, &text[1..]));
+    }
+    short_number(text)
 }
 
 fn verb_named(word: &[u8]) -> Option<Verb>

@@ -9,7 +9,7 @@ use Rattle.iova_model.specs.declared.step.Step.TheVariants as step
 use Rattle.iova_line.specs.declared.line.Verb.{Verb}
 use Rattle.iova_line.specs.declared.line.Verb.TheVariants as verb
 use Rattle.iova_line.specs.declared.trace.Trace.{Trace}
-use Rattle.iova_text.specs.Words.{spaced_words, kind_text}
+use Rattle.iova_text.specs.Words.{spaced_words}
 use Rattle.iova_line.specs.Text.{verb_text, verb_of, outcome_text, arguments_of, step_text, NumbersFit, header_numbers, header_text, IsHeader}
 use Rattle.iova_line.specs.LineSteps.{IsStep}
 use Rattle.iova_text.specs.Lines.{HasNoLf, whole_line, IsOverlong}

@@ -11,7 +11,7 @@ use Rattle.iova_trace.specs.declared.replay.Progress.{Progress}
 use Rattle.iova_text.specs.Lines.{whole_line, IsUnended}
 use Rattle.iova_text.proofs.LineEnds.{odd_more, overlong_more}
 use Rattle.iova_trace.specs.Lines.{BeginsWithLines, IsBad, MayFollow, first_lines_text}
-use Rattle.iova_trace.specs.Replay.{BreaksOff, IsReplayed, StopsInLine, TellsOfReplay, Replays}
+use Rattle.iova_trace.specs.Replay.{BreaksOff, IsReplayed, StopsInLine, TellsOfReplay}
 use Rattle.iova_trace.specs.Logged.{IsLogged, LogsAll, LogsFront, TellsOfLog, ReplaysAndLogs}
 use Rattle.iova_trace.specs.Progress.{Stands, Goes, EndsReplay, EndsLog, Stops, Outcome, TakesBytes, Closes}
 

@@ -1,4 +1,4 @@
-use Rattle.std.proofs.Common.{◌≡◌, ℕ, refl, ap, subst, ◌∙◌, ◌++◌, take, Some}
+use Rattle.std.proofs.Common.{refl, ap, subst, ◌∙◌, ◌++◌, take, Some}
 use Rattle.std.specs.Io.KnownBytes.{Appends}
 use Rattle.iova_model.specs.State.{State}
 use Rattle.iova_model.specs.declared.step.Reply.{Reply}
