@@ -5,7 +5,7 @@ ghost use Rattle.iova_trace.specs.Replies.{reply_text};
 use iova_model::step::Reply;
 use iova_range::limits::MAX_LINE;
 use iova_range::refusal::Refusal;
-use iova_text::buffer::{LineBuffer, append, put, put_numbers, put_refusal};
+use iova_text::buffer::{LineBuffer, append, put, put_numbers, put_refusal, put_two_numbers};
 
 /// The most bytes that a reply's line has, with its LF.
 pub const MAX_REPLY: usize = 64;
@@ -20,8 +20,8 @@ pub fn put_reply(reply: &Reply, out: &mut LineBuffer)
     match *reply {
         Reply::Reserved(range) => put_numbers(out, b"reserved", &[range.lo(), range.hi()]),
         Reply::Opened(serial) => put_numbers(out, b"opened", &[serial]),
-        Reply::Given(range) => put_numbers(out, b"given", &[range.lo(), range.len()]),
-        Reply::Queued(range) => put_numbers(out, b"queued", &[range.lo(), range.len()]),
+        Reply::Given(range) => put_two_numbers(out, b"given", range.lo(), range.len()),
+        Reply::Queued(range) => put_two_numbers(out, b"queued", range.lo(), range.len()),
         Reply::Empty => put(out, b"empty"),
         Reply::Begun(number) => put_numbers(out, b"begun", &[number]),
         Reply::Ended => put(out, b"ended"),
