@@ -1,11 +1,14 @@
 -- The end of a session's client.
-use Rattle.std.proofs.Common.{ℕ, ◌≡◌, ◌+◌, List, [], ◌∷◌, Option, Some, None, refl, sym, ap, ◌∙◌, arith, subst}
+use Rattle.std.proofs.Common.{ℕ, ◌≡◌, ◌+◌, List, [], ◌∷◌, ◌++◌, Option, Some, None, refl, sym, ap, ◌∙◌, arith, subst}
 use Rattle.std.proofs.Common.{append-nil}
 use Rattle.std.specs.Io.KnownBytes.{Consumes, Appends}
-use Rattle.std.specs.Prelude.{IsSome}
+use Rattle.std.specs.Prelude.{Result, Ok, IsSome}
+use Rattle.iova_range.specs.declared.refusal.Refusal.{Refusal}
+use Rattle.iova_keep.specs.Views.{LowersTold}
 use Rattle.iova_model.specs.declared.totals.Totals.{Totals}
 use Rattle.iova_keep.specs.declared.ending.Ending.{Ending}
 use Rattle.iova_keep.specs.declared.ending.Ending.TheVariants as ending
+use Rattle.iova_keep.specs.declared.ending.Why.{Why}
 use Rattle.iova_proto.specs.declared.answer.Answer.{Answer}
 use Rattle.iova_proto.specs.declared.answer.Answer.TheVariants as answer
 use Rattle.iova_proto.specs.declared.request.Request.{Request}
@@ -14,18 +17,36 @@ use Rattle.iova_session.specs.declared.end.End.TheVariants as ends
 use Rattle.iova_session.specs.Sessions.{ServesWithin, StopsAtBye}
 use Rattle.iova_session.specs.Pairs.{Pair, asked, told, requests_text, answers_text}
 use Rattle.iova_session.specs.Desks.{client_after, given_in, taken_in, given_by, taken_by, MovesBy, AreAnswers, IsFirstAnswer, next_client, count_listed}
-use Rattle.iova_session.specs.Posts.{EndsClientOf, EndsClient, EndsFrom}
+use Rattle.iova_session.specs.Leaving.{still_waits}
+use Rattle.iova_session.specs.Posts.{EndsClientOf, EndsClient, EndsFrom, kept_if}
 
-ended : (id : ℕ) (ps : List Pair) (told : Option Ending) (old held new : Totals) (was now : List ℕ) → MovesBy (given_in ps) (taken_in ps) old held → EndsFrom id told old held new was now
+-- one that has ended isn't on the list
+not_listed : (id : ℕ) (r : Result Ending Refusal) (queued : ℕ) (was now : List ℕ) → r ≡ Ok (ending.Ended queued) → now ≡ was ++ kept_if (still_waits r) id → now ≡ was
+not_listed id r queued was now is h = subst (λ (x : Result Ending Refusal). now ≡ was ++ kept_if (still_waits x) id) is h ∙ append-nil was
+
+-- and one that waits is its last
+listed : (id : ℕ) (r : Result Ending Refusal) (left : ℕ) (why : Why) (was now : List ℕ) → r ≡ Ok (ending.Waiting left why) → now ≡ was ++ kept_if (still_waits r) id → now ≡ was ++ id ∷ []
+listed id r left why was now is h = subst (λ (x : Result Ending Refusal). now ≡ was ++ kept_if (still_waits x) id) is h
+
+-- it queued as many ranges as it told
+queued_count : (r : Result Ending Refusal) (queued : ℕ) (old new : Totals) → r ≡ Ok (ending.Ended queued) → LowersTold r old new → old.count ≡ new.count + queued
+queued_count r queued old new is h =
+    let l : LowersTold (Ok (ending.Ended queued)) old new = subst (λ (x : Result Ending Refusal). LowersTold x old new) is h in
+    let k = ap (λ (t : Totals). t.count) l.1 in omega (arith, k, l.2)
+
+ended : (id : ℕ) (ps : List Pair) (told : Option Ending) (old held new : Totals) (was now : List ℕ) → MovesBy (given_in ps) (taken_in ps) old held → EndsFrom id told (Some old) held new was now
     → EndsClientOf (Some id) ps told old new was now
-ended id ps (Some (ending.Ended queued)) old held new was now moved ends =
-    (ends.0, (let m = ap (λ (t : Totals). t.count) moved in let n = ap (λ (t : Totals). t.count) ends.0 in omega (arith, m, n, ends.1)), ends.2)
-ended id ps (Some (ending.Waiting left why)) old held new was now moved ends = ends
-ended id ps None old held new was now moved ends = ends
+ended id ps (Some (ending.Ended queued)) old held new was now moved ends = (
+  ends.2.1,
+  (let m = ap (λ (t : Totals). t.count) moved in let n = ap (λ (t : Totals). t.count) ends.2.1 in let q = queued_count ends.0 queued held new ends.2.0 ends.1 in omega (arith, m, n, q)),
+  not_listed id ends.0 queued was now ends.2.0 ends.3,
+)
+ended id ps (Some (ending.Waiting left why)) old held new was now moved ends = (ends.2.1, listed id ends.0 left why was now ends.2.0 ends.3)
+ended id ps None old held new was now moved ends = (held, moved, ends)
 
 -- what its end says, with the pairs before it
 pub ended_opened : (id : ℕ) (ps : List Pair) (opened : Option ℕ) (told : Option Ending) (old held new : Totals) (was now : List ℕ) → opened ≡ client_after None ps → opened ≡ Some id
-    → MovesBy (given_in ps) (taken_in ps) old held → EndsFrom id told old held new was now → EndsClient ps told old new was now
+    → MovesBy (given_in ps) (taken_in ps) old held → EndsFrom id told (Some old) held new was now → EndsClient ps told old new was now
 ended_opened id ps opened told old held new was now e some moved ends =
     subst (λ (o : Option ℕ). EndsClientOf o ps told old new was now) (sym some ∙ e) (ended id ps told old held new was now moved ends)
 

@@ -111,15 +111,15 @@ departs_reach : (answer : Result Unit SinkFault) (seat : SeatState) (left : Tota
 departs_reach (Ok u) seat left id held l number before now s t h = reaches_all h.1.events s t h.1.leads
 departs_reach (Err e) seat left id held l number before now s t h = reaches_same s t h.4
 
-end_reaches : (number : ℕ) (client : Option ℕ) (told : Option Ending) (a b : Standing) → EndDoes number client told a b → Reaches a.domain b.domain
-end_reaches number None told a b h = reaches_same a.domain b.domain (ap (λ (x : Standing). x.domain) h.1)
-end_reaches number (Some id) told a b h = departs_reach h.2.answer a.seat b.seat.held id _ h.0 number h.2.calls b.calls a.domain b.domain h.2.ended
+end_reaches : (number : ℕ) (client : Option ℕ) (told : Option Ending) (back : Option Totals) (was waiting : List ℕ) (a b : Standing) → EndDoes number client told back was waiting a b → Reaches a.domain b.domain
+end_reaches number None told back was waiting a b h = reaches_same a.domain b.domain (ap (λ (x : Standing). x.domain) h.2)
+end_reaches number (Some id) told back was waiting a b h = departs_reach h.3.answer a.seat b.seat.held id _ h.0 number h.3.calls b.calls a.domain b.domain h.3.ended
 
-session_reaches : (strict : Bool) (number : ℕ) (ps : List Pair) (told : Option Ending) (old new : SeatState) (before now : List Call) (s t : State)
-    → SessionLeads strict number ps told old new before now s t → Reaches s t
-session_reaches strict number ps told old new before now s t h =
+session_reaches : (strict : Bool) (number : ℕ) (ps : List Pair) (told : Option Ending) (old new : SeatState) (was waiting : List ℕ) (before now : List Call) (s t : State)
+    → SessionLeads strict number ps told old new was waiting before now s t → Reaches s t
+session_reaches strict number ps told old new was waiting before now s t h =
     reaches_then s h.here.domain t (pairs_reach strict number None 0 ps (standing old before s) h.here h.asked)
-    (end_reaches number (client_after None ps) told h.here (standing new now t) h.ended)
+    (end_reaches number (client_after None ps) told (Some old.held) was waiting h.here (standing new now t) h.ended)
 
 abbrev Known : Between → Between → Type 0
 Known a b = WhereKnown a.domain b.domain Reaches
@@ -127,8 +127,8 @@ Known a b = WhereKnown a.domain b.domain Reaches
 one_reaches : (strict : Bool) (number : ℕ) (left left' sent sent' : Option (List ℕ)) (reads reads' : ℕ) (told : SessionEnd) (a b : Between)
     → ServesOne strict number left left' sent sent' reads reads' told a b → ∥ Known a b ∥₁
 one_reaches strict number left left' sent sent' reads reads' told a b h =
-    let leads = SessionLeads strict number h.pairs told.client a.seat b.seat a.calls b.calls in
-    ∥∥₁_map h.leads (λ g. known_one a.domain b.domain leads Reaches g (session_reaches strict number h.pairs told.client a.seat b.seat a.calls b.calls))
+    let leads = SessionLeads strict number h.pairs told.client a.seat b.seat a.waiting b.waiting a.calls b.calls in
+    ∥∥₁_map h.leads (λ g. known_one a.domain b.domain leads Reaches g (session_reaches strict number h.pairs told.client a.seat b.seat a.waiting b.waiting a.calls b.calls))
 
 same_known : (o a : Option State) → a ≡ o → WhereKnown o a Reaches
 same_known None a e = tt

@@ -33,7 +33,9 @@ use Rattle.iova_session.specs.Desks.{SessionState, next_client, count_listed, cl
 use Rattle.iova_session.specs.Domains.{FreesRange}
 use Rattle.iova_session.specs.declared.leaving.Leaving.{Leaving}
 use Rattle.iova_session.specs.Leaving.{Departs}
-use Rattle.iova_session.specs.Leading.{Standing, standing, IsSame, alloc_answer, FirstDoes, ClientDoes, PairDoes, MovesSeat, PairsLead, LeadsFrom, GoesOn, TellsAtMost, EndDoes, SessionLeads}
+use Rattle.iova_session.specs.Leading.{Standing, standing, IsSame, alloc_answer, FirstDoes, ClientDoes, PairDoes, MovesSeat, PairsLead, LeadsFrom, GoesOn, EndDoes, SessionLeads}
+use Rattle.iova_session.specs.Leaving.{still_waits}
+use Rattle.iova_session.specs.Posts.{TellsFitting, kept_if}
 use Rattle.iova_session.proofs.Others.{known_both, known_one}
 use Rattle.iova_session.proofs.ToldPairs.{told_moves, length0}
 
@@ -332,42 +334,42 @@ batch_goes law strict id rs asks before told count was now old new calls a b is 
 
 -- Whole sessions.
 
-pub end_does : (number : ℕ) (id : ℕ) (told : Option Ending) (l : Leaving) (old new : SeatState) (before now : List Call) (a b : Option State)
-    → TellsAtMost told l.ended → WhereKnown a b (Departs old new.held id l number before now)
-    → WhereKnown a b (λ s t. EndDoes number (Some id) told (standing old before s) (standing new now t))
-end_does number id told l old new before now a b tells h =
-    known_one a b (Departs old new.held id l number before now) (λ s t. EndDoes number (Some id) told (standing old before s) (standing new now t)) h
-    (λ s t d. (l, tells, d))
+pub end_does : (number : ℕ) (id : ℕ) (told : Option Ending) (l : Leaving) (back : Option Totals) (was waiting : List ℕ) (old new : SeatState) (before now : List Call) (a b : Option State)
+    → TellsFitting told l.ended back new.held → waiting ≡ was ++ kept_if (still_waits l.ended) id → WhereKnown a b (Departs old new.held id l number before now)
+    → WhereKnown a b (λ s t. EndDoes number (Some id) told back was waiting (standing old before s) (standing new now t))
+end_does number id told l back was waiting old new before now a b tells listed h =
+    known_one a b (Departs old new.held id l number before now) (λ s t. EndDoes number (Some id) told back was waiting (standing old before s) (standing new now t)) h
+    (λ s t d. (l, tells, listed, d))
 
-pub session_leads : (strict : Bool) (number there id : ℕ) (ps : List Pair) (told : Option Ending) (old mid new : SeatState) (before calls now : List Call) (o a b : Option State)
+pub session_leads : (strict : Bool) (number there id : ℕ) (ps : List Pair) (told : Option Ending) (was waiting : List ℕ) (old mid new : SeatState) (before calls now : List Call) (o a b : Option State)
     → client_after None ps ≡ Some id → there ≡ number → ∥ WhereKnown o a (LeadsFrom strict number ps old mid before calls) ∥₁
-    → WhereKnown a b (λ s t. EndDoes there (Some id) told (standing mid calls s) (standing new now t))
-    → ∥ WhereKnown o b (SessionLeads strict number ps told old new before now) ∥₁
-session_leads strict number there id ps told old mid new before calls now o a b is same h k =
+    → WhereKnown a b (λ s t. EndDoes there (Some id) told (Some old.held) was waiting (standing mid calls s) (standing new now t))
+    → ∥ WhereKnown o b (SessionLeads strict number ps told old new was waiting before now) ∥₁
+session_leads strict number there id ps told was waiting old mid new before calls now o a b is same h k =
     ∥∥₁_map h (λ g.
-    known_both o a b (LeadsFrom strict number ps old mid before calls) (λ s t. EndDoes there (Some id) told (standing mid calls s) (standing new now t))
-    (SessionLeads strict number ps told old new before now) g k
+    known_both o a b (LeadsFrom strict number ps old mid before calls) (λ s t. EndDoes there (Some id) told (Some old.held) was waiting (standing mid calls s) (standing new now t))
+    (SessionLeads strict number ps told old new was waiting before now) g k
     (λ s m t x y. record {
       here = standing mid calls m;
       asked = x;
-      ended = subst (λ (c : Option ℕ). EndDoes number c told (standing mid calls m) (standing new now t)) (sym is)
-          (subst (λ (n : ℕ). EndDoes n (Some id) told (standing mid calls m) (standing new now t)) same y);
+      ended = subst (λ (c : Option ℕ). EndDoes number c told (Some old.held) was waiting (standing mid calls m) (standing new now t)) (sym is)
+          (subst (λ (n : ℕ). EndDoes n (Some id) told (Some old.held) was waiting (standing mid calls m) (standing new now t)) same y);
     }))
 
-pub unopened_leads : (strict : Bool) (number : ℕ) (ps : List Pair) (old new : SeatState) (before now : List Call) (o a : Option State)
+pub unopened_leads : (strict : Bool) (number : ℕ) (ps : List Pair) (waiting : List ℕ) (old new : SeatState) (before now : List Call) (o a : Option State)
     → client_after None ps ≡ None → ∥ WhereKnown o a (LeadsFrom strict number ps old new before now) ∥₁
-    → ∥ WhereKnown o a (SessionLeads strict number ps None old new before now) ∥₁
-unopened_leads strict number ps old new before now o a none h =
+    → ∥ WhereKnown o a (SessionLeads strict number ps None old new waiting waiting before now) ∥₁
+unopened_leads strict number ps waiting old new before now o a none h =
     ∥∥₁_map h (λ g.
-    known_one o a (LeadsFrom strict number ps old new before now) (SessionLeads strict number ps None old new before now) g
+    known_one o a (LeadsFrom strict number ps old new before now) (SessionLeads strict number ps None old new waiting waiting before now) g
     (λ s t x. record {
       here = standing new now t;
       asked = x;
-      ended = subst (λ (c : Option ℕ). EndDoes number c None (standing new now t) (standing new now t)) (sym none) (refl, refl);
+      ended = subst (λ (c : Option ℕ). EndDoes number c None (Some old.held) waiting waiting (standing new now t) (standing new now t)) (sym none) (refl, refl, refl);
     }))
 
-pub nothing_leads : (strict : Bool) (number : ℕ) (seat : SeatState) (calls : List Call) (o : Option State)
-    → ∥ WhereKnown o o (SessionLeads strict number [] None seat seat calls calls) ∥₁
+pub nothing_leads : (strict : Bool) (number : ℕ) (waiting : List ℕ) (seat : SeatState) (calls : List Call) (o : Option State)
+    → ∥ WhereKnown o o (SessionLeads strict number [] None seat seat waiting waiting calls calls) ∥₁
 unfolding client_after
-nothing_leads strict number seat calls o =
-    unopened_leads strict number [] seat seat calls calls o o refl (leads_yet strict number [] seat seat calls calls o o refl refl refl refl)
+nothing_leads strict number waiting seat calls o =
+    unopened_leads strict number [] waiting seat seat calls calls o o refl (leads_yet strict number [] seat seat calls calls o o refl refl refl refl)

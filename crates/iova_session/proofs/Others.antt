@@ -32,7 +32,7 @@ use Rattle.iova_session.specs.declared.leaving.Leaving.{Leaving}
 use Rattle.iova_session.specs.Leaving.{IsTold, EndsAfter, Departs}
 use Rattle.iova_session.proofs.Departures.{left_ill}
 use Rattle.iova_session.specs.Domains.{KeepsOthers, IsLeft, LeavesOthers}
-use Rattle.iova_session.specs.Leading.{TellsAtMost}
+use Rattle.iova_session.specs.Posts.{TellsFitting}
 use Rattle.iova_session.proofs.Gone.{ended_is_gone}
 
 abbrev left_in_or : ℕ → Result Ending Refusal → ℕ
@@ -185,6 +185,15 @@ pub leads_keep_all : OthersKeepTheirHoldings → (es : List Event) (s t : State)
 leads_keep_all law es s t n l = λ other ne.
     leads_keep law (other + 1) es s t (n (other + 1)) l other (λ e. absurd (let same : other ≡ other + 1 = some_same e in omega (arith, same)))
 
+-- what is told of a client's end is what it came to, or nothing
+abbrev TellsAtMost : Option Ending → Result Ending Refusal → Type 0
+TellsAtMost None result = Unit {0}
+TellsAtMost (Some told) result = result ≡ Ok told
+
+at_most : (told : Option Ending) (result : Result Ending Refusal) (back : Option Totals) (now : Totals) → TellsFitting told result back now → TellsAtMost told result
+at_most None result back now h = tt
+at_most (Some told) result back now h = h.0
+
 -- what is left of a client whose end was tried
 left_told : StepsKeepValidity → (id : ℕ) (seat : SeatState) (left : Totals) (told : Option Ending) (result : Result Ending Refusal) (number : ℕ) (before now : List Call) (s t : State) → IsKept s → TellsAtMost told result
     → DoesEndClient seat left id result number before now s t → IsLeft (Some id) told t
@@ -216,9 +225,10 @@ departed law valid seat left id told l number (Err e) before calls now s t k m i
     waits_on (Some (ending.Waiting n why)) m =
         (let told = sym m ∙ x.1 in let same : n ≡ length (holdings_in (client_of seat.worker id s.clients)) = cc in same) ∙ left_ill seat.worker id number s e before calls is ∙ ap (λ (u : State). left_of id u) (sym x.4)
 
-pub end_keeps : OthersKeepTheirHoldings → StepsKeepValidity → (seat : SeatState) (left : Totals) (id : ℕ) (told : Option Ending) (l : Leaving) (number : ℕ) (before now : List Call) (a b : Option State)
-    → IfSome a IsKept → TellsAtMost told l.ended → WhereKnown a b (Departs seat left id l number before now) → WhereKnown a b (LeavesOthers (Some id) told)
-end_keeps law valid seat left id told l number before now a b kept m h =
+pub end_keeps : OthersKeepTheirHoldings → StepsKeepValidity → (seat : SeatState) (left : Totals) (id : ℕ) (told : Option Ending) (l : Leaving) (back : Option Totals) (shares : Totals) (number : ℕ) (before now : List Call) (a b : Option State)
+    → IfSome a IsKept → TellsFitting told l.ended back shares → WhereKnown a b (Departs seat left id l number before now) → WhereKnown a b (LeavesOthers (Some id) told)
+end_keeps law valid seat left id told l back shares number before now a b kept fits h =
+    let m = at_most told l.ended back shares fits in
     known_first a b IsKept (Departs seat left id l number before now) (LeavesOthers (Some id) told) kept h
     (λ s t k d. departed law valid seat left id told l number d.answer before d.calls now s t k m d.told d.ended)
 

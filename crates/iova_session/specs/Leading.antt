@@ -3,6 +3,7 @@ use Rattle.std.specs.Prelude.{ℕ, ◌≡◌, ◌≢◌, ◌+◌, ◌⊎◌, Boo
 use Rattle.iova_range.specs.declared.refusal.Refusal.{Refusal}
 use Rattle.iova_range.specs.declared.refusal.Refusal.TheVariants as refusal
 use Rattle.iova_range.specs.Frames.{Frames}
+use Rattle.iova_model.specs.declared.totals.Totals.{Totals}
 use Rattle.iova_model.specs.State.{State}
 use Rattle.iova_sink.specs.Calls.{Call}
 use Rattle.iova_keep.specs.declared.ending.Ending.{Ending}
@@ -13,7 +14,8 @@ use Rattle.iova_proto.specs.declared.answer.Answer.TheVariants as answer
 use Rattle.iova_proto.specs.declared.request.Request.{Request}
 use Rattle.iova_proto.specs.declared.request.Request.TheVariants as request
 use Rattle.iova_session.specs.declared.leaving.Leaving.{Leaving}
-use Rattle.iova_session.specs.Leaving.{Departs}
+use Rattle.iova_session.specs.Leaving.{Departs, still_waits}
+use Rattle.iova_session.specs.Posts.{TellsFitting, kept_if}
 use Rattle.iova_session.specs.Pairs.{Pair}
 use Rattle.iova_session.specs.Desks.{MovesBy, SessionState, given_by, taken_by, next_client, count_listed, client_after}
 use Rattle.iova_session.specs.Domains.{Lists, FreesRange, FlushesAndDrains}
@@ -117,24 +119,23 @@ GoesOn strict was now old new before calls s t =
     × PairsLead strict was.number was.client was.listed ps (standing old before s)
     (standing new calls t)
 
--- what is told of a client's end is what it came to, or nothing
-abbrev pub TellsAtMost : Option Ending → Result Ending Refusal → Type 0
-TellsAtMost None result = Unit {0}
-TellsAtMost (Some told) result = result ≡ Ok told
-
--- The client that a session opened leaves, of whose end this is told; where none was opened,
--- nothing is done.
-abbrev pub EndDoes : ℕ → Option ℕ → Option Ending → Standing → Standing → Type 0
-EndDoes number None told a b = (told ≡ None) × (b ≡ a)
-EndDoes number (Some id) told a b =
-    (l : Leaving) × TellsAtMost told l.ended
+-- The client that a session opened leaves, of whose end this is told, by what the seat's shares are
+-- to come back to: it is told where they fit it, and the client is the last of those that wait
+-- exactly where it waits. Where none was opened, nothing is done.
+abbrev pub EndDoes : ℕ → Option ℕ → Option Ending → Option Totals → List ℕ → List ℕ → Standing
+    → Standing → Type 0
+EndDoes number None told back was now a b = (told ≡ None) × (now ≡ was) × (b ≡ a)
+EndDoes number (Some id) told back was now a b =
+    (l : Leaving) × TellsFitting told l.ended back b.seat.held
+    × (now ≡ was ++ kept_if (still_waits l.ended) id)
     × Departs a.seat b.seat.held id l number a.calls b.calls a.domain b.domain
 
 -- A whole session: its pairs lead from where it began to where its client is ended, and that end
--- leads on.
+-- leads on, with the clients that wait before it and after it.
 pub record SessionLeads (strict : Bool) (number : ℕ) (ps : List Pair) (told : Option Ending)
-    (old new : SeatState)
+    (old new : SeatState) (was waiting : List ℕ)
     (before now : List Call) (s t : State) : Type 0 where
   pub here : Standing
   pub asked : PairsLead strict number None 0 ps (standing old before s) here
-  pub ended : EndDoes number (client_after None ps) told here (standing new now t)
+  pub ended : EndDoes number (client_after None ps) told (Some old.held) was waiting here
+      (standing new now t)

@@ -1,9 +1,9 @@
 -- How a client leaves whose session is over.
-use Rattle.std.specs.Prelude.{ℕ, ◌≡◌, Bool, true, false, List, [], ◌∷◌, length, Option, Some, None, Result, Ok, Err}
+use Rattle.std.specs.Prelude.{ℕ, ◌≡◌, Bool, true, false, List, [], ◌∷◌, length, Result, Ok, Err}
 use Rattle.iova_range.specs.declared.refusal.Refusal.{Refusal}
 use Rattle.iova_range.specs.Frames.{Frames}
 use Rattle.iova_model.specs.declared.totals.Totals.{Totals}
-use Rattle.iova_model.specs.Clients.{Client, client_of, holdings_in}
+use Rattle.iova_model.specs.Clients.{client_of, holdings_in}
 use Rattle.iova_model.specs.State.{State}
 use Rattle.iova_sink.specs.declared.sink.SinkFault.{SinkFault}
 use Rattle.iova_sink.specs.declared.sink.SinkFault.TheVariants as fault

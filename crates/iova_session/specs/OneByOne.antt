@@ -42,7 +42,8 @@ pub record ServesOne (strict : Bool) (number : ℕ) (left left' sent sent' : Opt
   pub ended : EndsClient pairs told.client a.seat.held b.seat.held a.waiting b.waiting
   pub others : WhereKnown a.domain b.domain (LeavesOthers (client_after None pairs) told.client)
   pub leads : ∥ WhereKnown a.domain b.domain
-      (SessionLeads strict number pairs told.client a.seat b.seat a.calls b.calls) ∥₁
+      (SessionLeads strict number pairs told.client a.seat b.seat a.waiting b.waiting a.calls
+      b.calls) ∥₁
   pub place : KeepsPlace a.seat b.seat a.calls b.calls
 
 -- A session over each of these links, which were the first ones and are the second, in turn, each

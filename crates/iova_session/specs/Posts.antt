@@ -1,23 +1,52 @@
 -- How a session ends at a post.
-use Rattle.std.specs.Prelude.{ℕ, Result, ◌≡◌, ◌+◌, ◌<◌, ◌⊎◌, List, [], ◌∷◌, ◌++◌, length, Option, Some, None, Bool, true, false}
+use Rattle.std.specs.Prelude.{ℕ, Result, Ok, Err, ◌≡◌, ◌+◌, ◌<◌, ◌⊎◌, List, [], ◌∷◌, ◌++◌, length, Option, Some, None, Bool, true, false}
 use Rattle.iova_model.specs.declared.totals.Totals.{Totals}
 use Rattle.iova_range.specs.declared.refusal.Refusal.{Refusal}
 use Rattle.iova_model.specs.State.{State}
 use Rattle.iova_sink.specs.Calls.{Call}
-use Rattle.iova_keep.specs.Views.{SeatState}
+use Rattle.iova_keep.specs.Views.{SeatState, LowersTold}
 use Rattle.iova_keep.specs.Answers.{DoesTimeout}
 use Rattle.iova_keep.specs.declared.ending.Ending.{Ending}
 use Rattle.iova_keep.specs.declared.ending.Ending.TheVariants as ending
 use Rattle.iova_range.specs.declared.limits.TheConstants.{MAX_HOLDINGS}
 use Rattle.iova_session.specs.declared.leaving.Attempt.{Attempt}
-use Rattle.iova_session.specs.Leaving.{Attempts}
+use Rattle.iova_session.specs.Leaving.{Attempts, still_waits}
 use Rattle.iova_session.specs.Pairs.{Pair}
-use Rattle.iova_session.specs.Desks.{client_after, given_in, taken_in}
+use Rattle.iova_session.specs.Desks.{MovesBy, client_after, given_in, taken_in}
+
+-- a client that is left is kept
+abbrev pub kept_if : Bool → ℕ → List ℕ
+kept_if true id = id ∷ []
+kept_if false id = []
+
+-- The shares of a seat fit the end of a client, where it is known what they are to come back to:
+-- where it has ended they are that, and where it waits their count is greater by what it has left.
+abbrev pub Fits : Option Totals → Totals → Ending → Type 0
+Fits None now e = ⊥
+Fits (Some back) now (ending.Ended queued) = now ≡ back
+Fits (Some back) now (ending.Waiting left why) = now.count ≡ back.count + left
+
+-- What is told of a client's end that came to this: that, where the shares fit it. Nothing where
+-- they don't, or where there was no such client.
+abbrev pub TellsFitting : Option Ending → Result Ending Refusal → Option Totals → Totals → Type 0
+TellsFitting (Some told) ended back now = (ended ≡ Ok told) × Fits back now told
+TellsFitting None (Ok e) back now = Fits back now e → ⊥
+TellsFitting None (Err e) back now = Unit {0}
+
+-- What is told of the end of a client, by what the shares are to come back to, what they were
+-- before that end and are after it, and the clients that wait. Its end came to something, which
+-- lowered the shares; it is the last of those that wait exactly where it waits, whatever is told.
+abbrev pub EndsFrom : ℕ → Option Ending → Option Totals → Totals → Totals → List ℕ → List ℕ → Type 0
+EndsFrom id told back old new was now =
+    (ended : Result Ending Refusal) × LowersTold ended old new × TellsFitting told ended back new
+    × (now ≡ was ++ kept_if (still_waits ended) id)
 
 -- What is told of the end of a session's client, by the shares of the seat before the session and
 -- after it, and the clients that wait. Where it ended, the shares are as before, and what its end
 -- queued is what was given to it and not taken back. Where it waits, the count is greater by what
--- it has left, and it is the last of those that wait.
+-- it has left, and it is the last of those that wait. Nothing is told of a client that was opened
+-- only where the shares, which its requests had moved, don't fit its end, or where there was no
+-- such client.
 abbrev pub EndsClientOf : Option ℕ → List Pair → Option Ending → Totals → Totals → List ℕ → List ℕ
     → Type 0
 EndsClientOf None ps told old new was now = (told ≡ None) × (new ≡ old) × (now ≡ was)
@@ -25,31 +54,19 @@ EndsClientOf (Some id) ps (Some (ending.Ended queued)) old new was now =
     (new ≡ old) × (queued + length (taken_in ps) ≡ length (given_in ps)) × (now ≡ was)
 EndsClientOf (Some id) ps (Some (ending.Waiting left why)) old new was now =
     (new.count ≡ old.count + left) × (now ≡ was ++ id ∷ [])
-EndsClientOf (Some id) ps None old new was now = (now ≡ was) ⊎ (now ≡ was ++ id ∷ [])
+EndsClientOf (Some id) ps None old new was now =
+    (held : Totals) × MovesBy (given_in ps) (taken_in ps) old held
+    × EndsFrom id None (Some old) held new was now
 
 -- the client is the one that a hello among the pairs opened
 abbrev pub EndsClient : List Pair → Option Ending → Totals → Totals → List ℕ → List ℕ → Type 0
 EndsClient ps told old new was now = EndsClientOf (client_after None ps) ps told old new was now
-
--- The same of the end of that client alone, which had these shares of before the session to come
--- back to: it began at `held`.
-abbrev pub EndsFrom : ℕ → Option Ending → Totals → Totals → Totals → List ℕ → List ℕ → Type 0
-EndsFrom id (Some (ending.Ended queued)) old held new was now =
-    (new ≡ old) × (held.count ≡ new.count + queued) × (now ≡ was)
-EndsFrom id (Some (ending.Waiting left why)) old held new was now =
-    (new.count ≡ old.count + left) × (now ≡ was ++ id ∷ [])
-EndsFrom id None old held new was now = (now ≡ was) ⊎ (now ≡ was ++ id ∷ [])
 
 -- some of a list, in its order
 abbrev pub IsSublist : List ℕ → List ℕ → Type 0
 IsSublist [] ys = Unit {0}
 IsSublist (x ∷ xs) [] = ⊥
 IsSublist (x ∷ xs) (y ∷ ys) = ((x ≡ y) × IsSublist xs ys) ⊎ IsSublist (x ∷ xs) ys
-
--- a client that is left is kept
-abbrev pub kept_if : Bool → ℕ → List ℕ
-kept_if true id = id ∷ []
-kept_if false id = []
 
 -- Each of the clients is tried once, in their order, until the round is over, and those that wait
 -- still are kept: in a domain of this number, from s to t.

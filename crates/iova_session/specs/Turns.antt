@@ -10,6 +10,8 @@ use Rattle.iova_session.specs.Pairs.{Pair, asked, told, requests_text, answers_t
 use Rattle.iova_session.specs.Desks.{SessionState, MovesBy, given_in, taken_in}
 use Rattle.iova_session.specs.Sessions.{ServesWithin, failures_at}
 use Rattle.iova_session.specs.Rounds.{AllAnswered}
+use Rattle.iova_session.specs.Leading.{Standing, EndDoes}
+use Rattle.iova_session.specs.Posts.{EndsFrom}
 use Rattle.iova_session.specs.declared.session_limits.SessionLimits.{SessionLimits}
 use Rattle.iova_session.specs.declared.end.End.{End}
 use Rattle.iova_session.specs.declared.end.End.TheVariants as ends
@@ -143,9 +145,12 @@ MovesAlong None (Some now) old new = ⊥
 MovesAlong (Some held) None old new = CannotMoveAlong held old new
 MovesAlong (Some held) (Some now) old new = add_totals now old ≡ add_totals held new
 
--- the shares of a seat without those of a client, where that is known
+-- the shares of a seat without those of a client: none where these aren't known, or one of them is
+-- more than the seat's
 abbrev pub IsWithout : Option Totals → Totals → Option Totals → Type 0
-IsWithout held all None = Unit {0}
+IsWithout None all None = Unit {0}
+IsWithout (Some held) all None =
+    (all.count < held.count) ⊎ (all.frames < held.frames) ⊎ (all.sum_lo < held.sum_lo)
 IsWithout None all (Some rest) = ⊥
 IsWithout (Some held) all (Some rest) = all ≡ add_totals rest held
 
@@ -153,6 +158,8 @@ IsWithout (Some held) all (Some rest) = all ≡ add_totals rest held
 -- before its end and after it, and the clients that wait. Where it ended, the seat has lost what
 -- the client held, and what its end queued is what was given to it and not taken back. Where it
 -- waits, the seat's count has lost all but what it has left, and it is the last of those that wait.
+-- Nothing is told of a client that was opened only where the shares don't fit its end, where it
+-- isn't known what they are to come back to, or where there was no such client.
 abbrev pub DepartsFrom : Option ℕ → List Pair → Option Totals → Option Ending → Totals → Totals
     → List ℕ → List ℕ
     → Type 0
@@ -163,4 +170,14 @@ DepartsFrom (Some id) ps (Some held) (Some (ending.Ended queued)) old new was no
 DepartsFrom (Some id) ps (Some held) (Some (ending.Waiting left why)) old new was now =
     (new.count + held.count ≡ old.count + left) × (now ≡ was ++ id ∷ [])
 DepartsFrom (Some id) ps None (Some told) old new was now = ⊥
-DepartsFrom (Some id) ps held None old new was now = (now ≡ was) ⊎ (now ≡ was ++ id ∷ [])
+DepartsFrom (Some id) ps held None old new was now =
+    (rest : Option Totals) × IsWithout held old rest × EndsFrom id None rest old new was now
+
+-- What the end of a session's client does, by what it holds: the seat's shares are to come back to
+-- those without the client's.
+abbrev pub DepartureDoes : ℕ → Option ℕ → Option Ending → Option Totals → List ℕ → List ℕ
+    → Standing → Standing → Type 0
+DepartureDoes number None told held was now a b = EndDoes number None told held was now a b
+DepartureDoes number (Some id) told held was now a b =
+    (rest : Option Totals) × IsWithout held a.seat.held rest
+    × EndDoes number (Some id) told rest was now a b

@@ -146,7 +146,7 @@ pub(crate) fn try_to_end<C: Ledger, F: Ledger, S: Ledger, G: Ledger, K: Keep<C, 
 }
 
 /// Whether a client is left after its end was tried.
-fn waits(ended: Result<Ending, Refusal>) -> bool
+pub(crate) fn waits(ended: Result<Ending, Refusal>) -> bool
     ensures { result ≡ still_waits ended }
 {
     match ended {

@@ -7,8 +7,8 @@ ghost use Rattle.iova_session.specs.Desks.{AreAnswers, KeepsPlace, MovesBy, give
 ghost use Rattle.iova_session.specs.Rounds.{TakesPiece, CountsFault};
 ghost use Rattle.iova_session.specs.Sessions.{ServesWithin};
 ghost use Rattle.iova_session.specs.Domains.{KeepsOthers, LeavesOthers};
-ghost use Rattle.iova_session.specs.Leading.{EndDoes, GoesOn, standing};
-ghost use Rattle.iova_session.specs.Turns.{TakesTurn, CannotMove, DepartsFrom, IsHeldBy, IsWithout, MovesAlong, bytes_taken, bytes_written, end_in, failures_of, new_paused};
+ghost use Rattle.iova_session.specs.Leading.{GoesOn, standing};
+ghost use Rattle.iova_session.specs.Turns.{TakesTurn, CannotMove, DepartsFrom, DepartureDoes, IsHeldBy, IsWithout, MovesAlong, bytes_taken, bytes_written, end_in, failures_of, new_paused};
 
 use crate::answering::{AnswerRoom, refuse};
 use crate::end::End;
@@ -408,8 +408,9 @@ pub fn depart<C: Ledger, F: Ledger, S: Ledger, G: Ledger, K: Keep<C, F, S, G>, D
         paused.now.session.pairs paused.now.held told
         post.old.seat.held post.new.seat.held post.old.waiting.items post.new.waiting.items) }
     ensures does { IfSome result (λ told. WhereKnown (K.domain keeper.old) (K.domain keeper.new)
-        (λ s t. EndDoes (K.domain_number keeper.old)
-        (client_after None paused.now.session.pairs) told
+        (λ s t. DepartureDoes (K.domain_number keeper.old)
+        (client_after None paused.now.session.pairs) told paused.now.held post.old.waiting.items
+        post.new.waiting.items
         (standing post.old.seat (D.calls sink.old) s)
         (standing post.new.seat (D.calls sink.new) t))) }
     ensures others { IfSome result (λ told. WhereKnown (K.domain keeper.old) (K.domain keeper.new)
@@ -424,17 +425,12 @@ pub fn depart<C: Ledger, F: Ledger, S: Ledger, G: Ledger, K: Keep<C, F, S, G>, D
     let Some(id) = paused.client() else {
         return Some(None);
     };
-    match without(paused.held, shares_of(&post.seat)) {
-        Some(rest) => Some(end_opened(keeper, post, sink, id, rest)),
-        None => {
-            let all = shares_of(&post.seat);
-            end_opened(keeper, post, sink, id, all);
-            Some(None)
-        }
-    }
+    let back = without(paused.held, shares_of(&post.seat));
+    Some(end_opened(keeper, post, sink, id, back))
 }
 
-/// What is left of all shares without those of a client. None where that isn't known.
+/// What is left of all shares without those of a client. None where these aren't known, or one of
+/// them is more.
 fn without(held: Option<Totals>, all: Totals) -> Option<Totals>
     ensures { IsWithout held all result }
 {

@@ -1,5 +1,5 @@
 //! A session at a post, from its first byte to the end of its client.
-ghost use Rattle.std.specs.Prelude.{◌≡◌, ℕ, ◌+◌, ◌++◌, ◌≤◌, List, None, Some, vec_len, vec_capacity};
+ghost use Rattle.std.specs.Prelude.{◌≡◌, ℕ, ◌+◌, ◌++◌, ◌≤◌, List, None, Some, true, false, vec_len, vec_capacity};
 ghost use Rattle.std.specs.Io.KnownBytes.{Appends, Consumes};
 ghost use Rattle.iova_range.specs.declared.limits.TheConstants.{MAX_HOLDINGS, MAX_REQUESTS};
 ghost use Rattle.iova_sink.specs.Calls.{Call};
@@ -9,10 +9,11 @@ ghost use Rattle.iova_session.specs.Leading.{EndDoes, LeadsFrom, SessionLeads, s
 ghost use Rattle.iova_session.specs.Pairs.{Pair};
 ghost use Rattle.iova_session.specs.Sessions.{Serves, ServesWithin, failures_at, ends_at};
 ghost use Rattle.iova_session.specs.Desks.{AreAnswers, KeepsPlace, MovesBy, given_in, taken_in, client_after};
-ghost use Rattle.iova_session.specs.Posts.{EndsClient, EndsFrom};
+ghost use Rattle.iova_session.specs.Leaving.{still_waits};
+ghost use Rattle.iova_session.specs.Posts.{EndsClient, EndsFrom, Fits, TellsFitting, kept_if};
 
 use crate::end::End;
-use crate::leaving::{Leaving, leave};
+use crate::leaving::{Leaving, leave, waits};
 use crate::link::Link;
 use crate::post::{Post, take_room};
 use crate::serve::serve_within;
@@ -195,8 +196,8 @@ pub fn run_session<
         (LeavesOthers (client_after None ps) result.client)
         × ∥ WhereKnown (K.domain keeper.old) (K.domain keeper.new)
         (SessionLeads (K.strict keeper.old)
-        (K.domain_number keeper.old) ps result.client post.old.seat post.new.seat (D.calls sink.old)
-        (D.calls sink.new)) ∥₁ }
+        (K.domain_number keeper.old) ps result.client post.old.seat post.new.seat
+        post.old.waiting.items post.new.waiting.items (D.calls sink.old) (D.calls sink.new)) ∥₁ }
     ensures failures { L.failures link.new ≡ L.failures link.old + failures_at result.end }
     ensures ends { L.ends link.new ≡ L.ends link.old + ends_at result.end }
     ensures place { KeepsPlace post.old.seat post.new.seat (D.calls sink.old) (D.calls sink.new) }
@@ -235,8 +236,8 @@ pub fn run_session_within<
         (LeavesOthers (client_after None ps) result.client)
         × ∥ WhereKnown (K.domain keeper.old) (K.domain keeper.new)
         (SessionLeads (K.strict keeper.old)
-        (K.domain_number keeper.old) ps result.client post.old.seat post.new.seat (D.calls sink.old)
-        (D.calls sink.new)) ∥₁ }
+        (K.domain_number keeper.old) ps result.client post.old.seat post.new.seat
+        post.old.waiting.items post.new.waiting.items (D.calls sink.old) (D.calls sink.new)) ∥₁ }
     ensures failures { L.failures link.new ≡ L.failures link.old + failures_at result.end }
     ensures ends { L.ends link.new ≡ L.ends link.old + ends_at result.end }
     ensures place { KeepsPlace post.old.seat post.new.seat (D.calls sink.old) (D.calls sink.new) }
@@ -253,19 +254,19 @@ pub fn run_session_within<
     let (end, opened) = serve_at(alloc, limits, link, keeper, &mut post.seat, sink);
     let client = match opened {
         None => None,
-        Some(id) => end_opened(keeper, post, sink, id, before),
+        Some(id) => end_opened(keeper, post, sink, id, Some(before)),
     };
     SessionEnd { end, client }
 }
 
-/// Ends the client that a session opened, and puts it on the list where it waits. `before` are the
-/// shares of before the session: none where those of after it aren't as they have to be.
+/// Ends the client that a session opened, and puts it on the list where it waits. The seat's shares
+/// are to come back to `back`, where that is known: none where they don't fit the client's end.
 pub(crate) fn end_opened<C: Ledger, F: Ledger, S: Ledger, G: Ledger, K: Keep<C, F, S, G>, D: Sink>(
     keeper: &mut K,
     post: &mut Post<C, F, S, G>,
     sink: &mut D,
     id: ClientId,
-    before: Totals,
+    back: Option<Totals>,
 ) -> Option<Ending>
     requires room { vec_len post.old.waiting + 1 ≤ vec_capacity post.old.waiting }
     requires ranges { MAX_HOLDINGS ≤ vec_capacity post.old.ranges }
@@ -275,9 +276,10 @@ pub(crate) fn end_opened<C: Ledger, F: Ledger, S: Ledger, G: Ledger, K: Keep<C, 
         (LeavesOthers (Some id) result) }
     ensures does { WhereKnown (K.domain keeper.old) (K.domain keeper.new)
         (λ s t. EndDoes (K.domain_number keeper.old)
-        (Some id) result (standing post.old.seat (D.calls sink.old) s)
+        (Some id) result back post.old.waiting.items post.new.waiting.items
+        (standing post.old.seat (D.calls sink.old) s)
         (standing post.new.seat (D.calls sink.new) t)) }
-    ensures ended { EndsFrom id result before post.old.seat.held post.new.seat.held
+    ensures ended { EndsFrom id result back post.old.seat.held post.new.seat.held
         post.old.waiting.items
         post.new.waiting.items }
     ensures place { KeepsPlace post.old.seat post.new.seat (D.calls sink.old) (D.calls sink.new) }
@@ -287,25 +289,48 @@ pub(crate) fn end_opened<C: Ledger, F: Ledger, S: Ledger, G: Ledger, K: Keep<C, 
     steps_keep_validity();
     keeper.domain_is_kept();
     let left = leave(keeper, &mut post.seat, sink, &mut post.ranges, id);
-    match ended_of(left) {
-        Err(_) => None,
-        Ok(Ending::Ended(queued)) => {
-            if shares_of(&post.seat) == before {
-                Some(Ending::Ended(queued))
-            } else {
-                None
-            }
-        }
-        Ok(Ending::Waiting(left, why)) => {
-            let Ok(()) = post.waiting.push(id) else {
-                unreachable!();
-            };
-            if post.seat.count().checked_sub(before.count) == Some(left) {
-                Some(Ending::Waiting(left, why))
-            } else {
-                None
-            }
-        }
+    let ended = ended_of(left);
+    list_waiting(&mut post.waiting, id, ended);
+    told_of(ended, back, shares_of(&post.seat))
+}
+
+/// Puts the client on the list, last, where it waits.
+fn list_waiting(waiting: &mut Vec<ClientId>, id: ClientId, ended: Result<Ending, Refusal>)
+    requires { vec_len waiting.old + 1 ≤ vec_capacity waiting.old }
+    ensures { waiting.new.items ≡ waiting.old.items ++ kept_if (still_waits ended) id }
+{
+    if waits(ended) {
+        let Ok(()) = waiting.push(id) else {
+            unreachable!();
+        };
+    }
+}
+
+/// What is told of a client's end that came to this, where the seat's shares are these now.
+fn told_of(ended: Result<Ending, Refusal>, back: Option<Totals>, now: Totals) -> Option<Ending>
+    ensures { TellsFitting result ended back now }
+{
+    let Ok(ending) = ended else {
+        return None;
+    };
+    if fits(back, now, ending) {
+        Some(ending)
+    } else {
+        None
+    }
+}
+
+/// Whether the seat's shares fit this end of a client.
+fn fits(back: Option<Totals>, now: Totals, ending: Ending) -> bool
+    ensures yes { result ≡ true → Fits back now ending }
+    ensures no { result ≡ false → Fits back now ending → ⊥ }
+{
+    let Some(back) = back else {
+        return false;
+    };
+    match ending {
+        Ending::Ended(_) => now == back,
+        Ending::Waiting(left, _) => now.count.checked_sub(back.count) == Some(left),
     }
 }
 

@@ -14,6 +14,8 @@ mod lines;
 #[cfg(test)]
 mod links;
 #[cfg(test)]
+mod one_by_one;
+#[cfg(test)]
 mod peers;
 #[cfg(test)]
 mod posts;

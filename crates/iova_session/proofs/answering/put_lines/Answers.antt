@@ -1,4 +1,4 @@
-use Rattle.std.proofs.Common.{◌≡◌, ◌∙◌, ◌++◌, sym, ap}
+use Rattle.std.proofs.Common.{◌∙◌, ◌++◌, sym, ap}
 use Rattle.iova_proto.specs.Answers.{answer_text}
 use Rattle.iova_session.proofs.Texts.{answers_text-nil, answers_text-more}
 use Rattle.iova_session.proofs.answering.put_lines.Goals as goal

@@ -1,4 +1,4 @@
-use Rattle.std.proofs.Common.{◌≡◌, refl}
+use Rattle.std.proofs.Common.{refl}
 use Rattle.iova_session.proofs.EndedPosts.{ended_with_round}
 use Rattle.iova_session.proofs.end_post.end_post.Goals as goal
 

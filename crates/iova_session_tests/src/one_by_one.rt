@@ -1,0 +1,161 @@
+//! The sessions of tests/sessions at one post, one after another, over a book: how each of them
+//! ends, and that the client that waits meanwhile is ended by the round after them.
+ghost use Rattle.iova_keep.specs.Views.{AreBlanksOf};
+
+use crate::session_files::SESSIONS;
+use iova_keep::ending::{Ending, Why};
+use iova_keep::keep::Keep;
+use iova_keep::ledgers::Blanks;
+use iova_keep::seat::Seat;
+use iova_lock::book::Book;
+use iova_model::totals::Totals;
+use iova_range::bounds::Bounds;
+use iova_range::profile::Profile;
+use iova_range::refusal::Refusal;
+use iova_session::memory_link::MemoryLink;
+use iova_session::one_by_one::serve_one_by_one;
+use iova_session::post::Post;
+use iova_session::retry::retry;
+use iova_session::run::SessionEnd;
+use iova_sink::memory::MemorySink;
+use std::alloc::Global;
+use std::marker::Brand;
+use std::sync::ledger::Ledger;
+use std::test::*;
+
+const NONE_HELD: Option<Ending> = Some(Ending::Ended(0));
+
+/// What the end of each session's client comes to. The first client that holds a range is that of
+/// `ends_without_newline`, with frame 9: the sink refuses that it is gone. So `in_one_hold`, which
+/// asks for frames up to 9, is given 8 and 7.
+const CLIENTS: [Option<Ending>; 12] = [
+    NONE_HELD,
+    NONE_HELD,
+    None,
+    None,
+    Some(Ending::Waiting(1, Why::SinkFailed)),
+    None,
+    NONE_HELD,
+    Some(Ending::Ended(2)),
+    None,
+    NONE_HELD,
+    None,
+    NONE_HELD,
+];
+
+const NOTHING: Totals = Totals {
+    count: 0,
+    frames: 0,
+    sum_lo: 0,
+};
+
+/// What the sessions came to: how many of them ended as they should, and how many ended; how many
+/// clients wait then, and what the domain's clients hold; and the same after a round of tries.
+#[derive(Clone, Copy)]
+struct Came {
+    as_expected: usize,
+    sessions: usize,
+    waiting: u64,
+    held: Totals,
+    left: u64,
+    left_held: Totals,
+}
+
+/// A link for each of the sessions.
+fn links_of(alloc: Global) -> Result<Vec<MemoryLink<'static>>, Refusal> {
+    let mut links = Vec::new(alloc);
+    for session in &SESSIONS {
+        let pushed = links.push(MemoryLink::new(alloc, session.input, 7, 0));
+        if pushed.is_err() {
+            break;
+        }
+    }
+    Ok(links)
+}
+
+/// How many of the sessions ended as they should.
+fn count_expected(ends: &[SessionEnd]) -> usize {
+    let mut count = 0usize;
+    for (at, end) in ends.iter().enumerate() {
+        if at < 12 && end.end == SESSIONS[at].end && end.client == CLIENTS[at] {
+            count = count.saturating_add(1);
+        }
+    }
+    count
+}
+
+/// All sessions at this post, over these links, and then a round of tries with a sink that doesn't
+/// fail.
+fn serve_all<C: Ledger, F: Ledger, S: Ledger, G: Ledger, K: Keep<C, F, S, G>>(
+    alloc: Global,
+    keeper: &mut K,
+    post: &mut Post<C, F, S, G>,
+    links: &mut [MemoryLink<'static>],
+    ends: &mut Vec<SessionEnd>,
+) -> Option<Came> {
+    if ends.try_reserve(links.len()).is_err() {
+        return None;
+    }
+    let mut sink = MemorySink::new(1);
+    serve_one_by_one(alloc, links, keeper, post, &mut sink, ends);
+    let waiting = post.waiting.len() as u64;
+    let held = keeper.totals();
+    let left = retry(keeper, post, &mut MemorySink::new(0));
+    Some(Came {
+        as_expected: count_expected(ends.as_slice()),
+        sessions: ends.len(),
+        waiting,
+        held,
+        left,
+        left_held: keeper.totals(),
+    })
+}
+
+/// The same at the post of this seat.
+fn all_at<C: Ledger, F: Ledger, S: Ledger, G: Ledger, K: Keep<C, F, S, G> + Drop>(
+    alloc: Global,
+    mut keeper: K,
+    seat: Seat<C, F, S, G>,
+    links: &mut [MemoryLink<'static>],
+) -> Option<Came> {
+    let mut post = Post::new(alloc, seat);
+    let mut ends = Vec::new(alloc);
+    serve_all(alloc, &mut keeper, &mut post, links, &mut ends)
+}
+
+/// The same over a book of a fresh domain 0 with frames 1 to 1023 and one worker.
+fn in_book<C: Ledger, F: Ledger, S: Ledger, G: Ledger>(
+    alloc: Global,
+    blanks: Blanks,
+    links: &mut [MemoryLink<'static>],
+) -> Result<Option<Came>, Refusal>
+    requires blanks { AreBlanksOf blanks C.Ledger F.Ledger S.Ledger G.Ledger 1 1 }
+{
+    let bounds = Bounds::new_in(Profile::one(), 1, 1023)?;
+    let (book, mut seats) = Book::<C, F, S, G>::new(alloc, 0, bounds, 1, blanks)?;
+    let Some(seat) = seats.pop() else {
+        return Err(Refusal::NoWorker);
+    };
+    Ok(all_at(alloc, book, seat, links))
+}
+
+fn in_new_book(alloc: Global) -> Result<Option<Came>, Refusal> {
+    let mut links = links_of(alloc)?;
+    in_book::<Brand, Brand, Brand, Brand>(alloc, Blanks::new(1, 1), &mut links)
+}
+
+#[test]
+fn sessions_one_after_another(rt: HostRuntime) {
+    let Ok(Some(came)) = in_new_book(rt.alloc()) else {
+        panic!(rt; "no memory");
+    };
+    assert_eq!(rt; came.sessions, 12);
+    assert_eq!(rt; came.as_expected, 12);
+    assert_eq!(rt; came.waiting, 1);
+    assert_eq!(rt;
+        (came.held.count, came.held.frames, came.held.sum_lo),
+        (1, 1, 9)
+    );
+    assert_eq!(rt; came.left, 0);
+    assert!(rt; came.left_held == NOTHING);
+}
