@@ -16,6 +16,7 @@ mod flusher;
 mod guests;
 mod loads;
 pub mod locked_sink;
+mod meanwhile;
 mod noting;
 pub mod pause;
 mod pool;
@@ -158,11 +159,12 @@ where
 /// the leader's, where that is one of them. While as many sessions are served as there may be at a
 /// time nobody leads, so whoever connects waits.
 ///
-/// While its clients wait a slot accepts, and sleeps, no longer than a second. An accept that had
-/// no link keeps the number; one that fails uses it up. Once each session had its accept, no more
-/// are accepted (`close`). Idle slots stop once no number is left, and also once no link is to come
-/// any more (`has_ended`): then each tries its waiting clients a last time. What is to be done
-/// `aside` has a thread of its own.
+/// While its clients wait a slot accepts, and sleeps, no longer than a second. A session that
+/// begins at a slot where some wait is served in pieces, between which they are tried again about
+/// once a second. An accept that had no link keeps the number; one that fails uses it up. Once each
+/// session had its accept, no more are accepted (`close`). Idle slots stop once no number is left,
+/// and also once no link is to come any more (`has_ended`): then each tries its waiting clients a
+/// last time. What is to be done `aside` has a thread of its own.
 ///
 /// The flusher repeats: it pauses, and stops where the pause says so or all slots have ended; else
 /// it makes a round (`timeout`). At a busy domain it takes looks in place of the pause

@@ -1,7 +1,8 @@
 //! A link over a socket, which a daemon's stop ends.
-ghost use Rattle.std.specs.Prelude.{◌≡◌, ◌≤◌, ◌<◌, IfOk, length};
+ghost use Rattle.std.specs.Prelude.{◌≡◌, ◌≤◌, ◌<◌, IfOk, IfSome, length};
 
 use crate::signals::Signals;
+use iova_range::limits::STOP_PAUSE;
 use iova_session::link::{Link, LinkFault};
 use iova_sink::count::Count;
 use iova_sink::device::bytes_taken;
@@ -27,15 +28,18 @@ pub struct Patience {
 /// A connected Unix socket that a daemon serves. A read that finds no byte, and a write that finds
 /// no room, are made again turn after turn, until there were as many as its patience has. One that
 /// is interrupted is made again too, and takes no turn: an interruption is no failure of this link.
-/// A read of a daemon that stops finds the end. Where it is the only link, it looks a while for
-/// what comes before it sleeps. Contracts see the numbers of its reads, its failures and the reads
-/// that found the end; what bytes come and go, no contract can say.
+/// A short read makes one turn, and the next read goes on with the count. A read of a daemon that
+/// stops finds the end. Where it is the only link, it looks a while for what comes before it
+/// sleeps. Contracts see the numbers of its reads, its failures and the reads that found the end;
+/// what bytes come and go, no contract can say.
 pub struct ServedLink<'a, R> {
     rt: &'a R,
     signals: &'a Signals,
     patience: Patience,
     stream: UnixStream,
     looks: Looks,
+    /// How many turns its peer may still be silent.
+    left: u64,
     reads: Count,
     failed: Count,
     ended: Count,
@@ -50,6 +54,7 @@ impl<'a, R> Drop for ServedLink<'a, R> {
             patience: _,
             stream: _,
             looks: _,
+            left: _,
             reads: _,
             failed: _,
             ended: _,
@@ -88,6 +93,7 @@ impl<'a, R> ServedLink<'a, R> {
             patience,
             stream,
             looks: Looks::new(),
+            left: patience.turns,
             reads: Count::new(),
             failed: Count::new(),
             ended: Count::new(),
@@ -116,6 +122,7 @@ impl<'a, R: Wait> Link for ServedLink<'a, R> {
             self.patience,
             &self.stream,
             &mut self.looks,
+            &mut self.left,
             buf,
         );
         let Ok(n) = read else {
@@ -126,6 +133,26 @@ impl<'a, R: Wait> Link for ServedLink<'a, R> {
             self.ended.up();
         }
         Ok(n)
+    }
+
+    fn read_shortly(&mut self, buf: &mut [u8]) -> Result<Option<usize>, LinkFault> {
+        self.reads.up();
+        let read = received_shortly(
+            self.signals,
+            self.patience,
+            &self.stream,
+            &mut self.looks,
+            &mut self.left,
+            buf,
+        );
+        let Ok(found) = read else {
+            self.failed.up();
+            return Err(LinkFault);
+        };
+        if found == Some(0) && !buf.is_empty() {
+            self.ended.up();
+        }
+        Ok(found)
     }
 
     fn write(&mut self, bytes: &[u8]) -> Result<usize, LinkFault> {
@@ -147,29 +174,68 @@ fn received<R: Wait>(
     patience: Patience,
     stream: &UnixStream,
     looks: &mut Looks,
+    left: &mut u64,
     buf: &mut [u8],
 ) -> io::Result<usize>
     ensures { IfOk result (λ n. n ≤ length buf.old) }
 {
-    let mut left = patience.turns;
     for _ in rt.forever() {
-        if signals.is_stopping() {
-            return Ok(0);
-        }
-        let read = if signals.is_alone() {
-            looks.read(stream, buf)
-        } else {
-            read_from(stream, buf)
-        };
-        if !is_to_be_tried_again(&read, &mut left) {
-            // without a control socket nobody can ask how many there were
-            if patience.turn.is_some() {
-                count_read(signals, &read, buf);
-            }
-            return read;
+        if let Some(n) = read_once(signals, patience, stream, looks, left, buf)? {
+            return Ok(n);
         }
     }
     unreachable!()
+}
+
+/// Reads what comes within a turn. One that has no end is as long as a stop's pause here.
+fn received_shortly(
+    signals: &Signals,
+    patience: Patience,
+    stream: &UnixStream,
+    looks: &mut Looks,
+    left: &mut u64,
+    buf: &mut [u8],
+) -> io::Result<Option<usize>>
+    ensures { IfOk result (λ found. IfSome found (λ n. n ≤ length buf.old)) }
+{
+    if patience.turn.is_some() {
+        return read_once(signals, patience, stream, looks, left, buf);
+    }
+    stream.set_read_timeout(Some(Duration::from_millis(STOP_PAUSE)))?;
+    let read = read_once(signals, patience, stream, looks, left, buf);
+    stream.set_read_timeout(None)?;
+    read
+}
+
+/// Reads once: nothing once the daemon stops. None where it is to be made again, in the turns that
+/// are left. After a read that isn't, there are as many as at first.
+fn read_once(
+    signals: &Signals,
+    patience: Patience,
+    stream: &UnixStream,
+    looks: &mut Looks,
+    left: &mut u64,
+    buf: &mut [u8],
+) -> io::Result<Option<usize>>
+    ensures { IfOk result (λ found. IfSome found (λ n. n ≤ length buf.old)) }
+{
+    if signals.is_stopping() {
+        return Ok(Some(0));
+    }
+    let read = if signals.is_alone() {
+        looks.read(stream, buf)
+    } else {
+        read_from(stream, buf)
+    };
+    if is_to_be_tried_again(&read, left) {
+        return Ok(None);
+    }
+    // without a control socket nobody can ask how many there were
+    if patience.turn.is_some() {
+        count_read(signals, &read, buf);
+    }
+    *left = patience.turns;
+    Ok(Some(read?))
 }
 
 /// Writes what finds room within the patience, and nothing more once the daemon stops and there is

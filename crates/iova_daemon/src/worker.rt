@@ -3,6 +3,7 @@ ghost use Rattle.std.specs.Prelude.{◌≡◌};
 
 use crate::accept::Accept;
 use crate::aside::{Aside, Look};
+use crate::meanwhile::{begin_in_pieces, serve_meanwhile};
 use crate::noting::{NotingSink, note_end};
 use crate::pool::{Accepted, Pool, Turn};
 use crate::roster::{Roster, Stands};
@@ -60,8 +61,9 @@ where
     X: Aside,
 {
     /// Waits at the gate, and then serves sessions at the post until none is to come. Its waiting
-    /// clients are tried again before each wait in the pool, and no later than a second after the
-    /// last try while it waits there.
+    /// clients are tried again before each wait in the pool, no later than a second after the last
+    /// try while it waits there, and during a session too: whoever waits then has waited since
+    /// before it.
     fn work(&self, place: Post<C, F, S, G>, sink: D) -> Post<C, F, S, G> {
         let mut post = place;
         let mut keeper = self.keeper;
@@ -89,20 +91,46 @@ where
                     Turn::Serve(accepted) => {
                         let Accepted { mut link, session } = accepted;
                         self.roster.begin_session(worker);
-                        let ended = run_session_within(
+                        let in_pieces = begin_in_pieces(
                             self.alloc,
+                            keeper.number(),
                             self.roster.limits(),
-                            &mut link,
-                            &mut keeper,
                             &mut post,
-                            &mut sink,
+                            slot,
+                            told,
                         );
+                        let end = match in_pieces {
+                            Some(mut pieces) => {
+                                let end = serve_meanwhile(
+                                    self.rt,
+                                    self.roster,
+                                    &mut link,
+                                    &mut keeper,
+                                    &mut post,
+                                    &mut sink,
+                                    &mut pieces,
+                                );
+                                told = pieces.told;
+                                end
+                            }
+                            None => {
+                                run_session_within(
+                                    self.alloc,
+                                    self.roster.limits(),
+                                    &mut link,
+                                    &mut keeper,
+                                    &mut post,
+                                    &mut sink,
+                                )
+                                .end
+                            }
+                        };
                         // so there are never more connections than sessions
                         drop(link);
                         told = tell(self.rt, self.roster, slot, told, &post.waiting);
                         self.roster.end_session(worker);
                         self.admission.leave(self.rt, self.roster, worker);
-                        note_end(self.notices, session, ended.end);
+                        note_end(self.notices, session, end);
                     }
                     Turn::End => break 'turns,
                     Turn::Lead(_) | Turn::Again => {}
@@ -153,7 +181,8 @@ pub(crate) fn try_again<C: Ledger, F: Ledger, S: Ledger, G: Ledger, K: Keep<C, F
     post: &mut Post<C, F, S, G>,
     sink: &mut D,
 )
-    ensures { post.new.seat.worker ≡ post.old.seat.worker }
+    ensures worker { post.new.seat.worker ≡ post.old.seat.worker }
+    ensures number { K.domain_number keeper.new ≡ K.domain_number keeper.old }
 {
     let worker = post.seat.worker();
     if !post.waiting.is_empty() && roster.begin_trying(worker) {
