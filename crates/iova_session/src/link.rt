@@ -39,8 +39,8 @@ pub trait Link {
         ensures ends { CountsEnds result (length buf.old) (ends self.old) (ends self.new) }
         ensures sent { sent self.new ≡ sent self.old };
 
-    /// Reads as `read` does, but where nothing comes it may give up for now: None, and more may come.
-    /// A link that can't do so waits as long as `read`.
+    /// Reads as `read` does, but where nothing comes it may give up for now: None, and more may
+    /// come. A link that can't do so waits as long as `read`.
     fn read_shortly(&mut self, buf: &mut [u8]) -> Result<Option<usize>, LinkFault>
         ensures bound { IfOk result (λ found. IfSome found (λ n. n ≤ length buf.old)) }
         ensures failures { CountsFailure result (failures self.old) (failures self.new) }

@@ -39,8 +39,8 @@ impl LastBatch {
 
 /// Asks the longest front of `alloc`, `free` and `stat` in one hold, up to the first free whose
 /// ring is full, and gives how many were asked. A free that the last hold stopped at isn't tried in
-/// a hold again, nor one behind a free in a strict domain: these are asked alone. Refused by `NoMemory` where the room for what the
-/// lock tells has to grow and can't; then nothing was asked.
+/// a hold again, nor one behind a free in a strict domain: these are asked alone. Refused by
+/// `NoMemory` where the room for what the lock tells has to grow and can't; then nothing was asked.
 pub(crate) fn ask_together<C: Ledger, F: Ledger, S: Ledger, G: Ledger, K: Keep<C, F, S, G>>(
     keeper: &mut K,
     seat: &mut Seat<C, F, S, G>,
