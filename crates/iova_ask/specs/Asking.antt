@@ -1,9 +1,10 @@
 -- What is sent of an input, and what is written of the answers to it.
-use Rattle.std.specs.Prelude.{ℕ, ◌≡◌, ◌≢◌, ◌<◌, ◌⊎◌, List, [], ◌∷◌, ◌++◌, length, take, flat_map, codes, Option, Result, Ok, Err}
+use Rattle.std.specs.Prelude.{ℕ, ◌≡◌, ◌≢◌, ◌<◌, ◌⊎◌, List, [], ◌∷◌, ◌++◌, length, flat_map, codes, Option, Result, Ok, Err}
 use Rattle.std.specs.List.{AllByRecursion}
 use Rattle.std.specs.Io.KnownBytes.{Appends, Consumes, IsAtEnd}
 use Rattle.iova_range.specs.declared.limits.TheConstants.{MAX_LINE}
 use Rattle.iova_text.specs.Lines.{HasNoLf, IsUnended, IsOverlong, whole_line}
+use Rattle.iova_text.specs.Writing.{AppendsFront}
 use Rattle.iova_ask.specs.declared.fault.AskFault.{AskFault}
 use Rattle.iova_ask.specs.declared.fault.AskFault.TheVariants as fault
 
@@ -67,7 +68,7 @@ Sends taken left sent filled (Err fault.Read) =
     × (IsUnended rest ⊎ IsOverlong rest) × Appends sent filled (lines_text ls)
 Sends taken left sent filled (Err other) =
     (ls : List (List ℕ)) × AreLines ls × AreInFront taken ls
-    × ((n : ℕ) × Appends sent filled (take n (lines_text ls)))
+    × AppendsFront sent filled (lines_text ls)
 
 -- Some bytes were read from a link, and these written. What was kept and then read is what was
 -- written and what is kept now.

@@ -1,8 +1,9 @@
 -- Lines that are sent together.
-use Rattle.std.specs.Prelude.{ℕ, ◌≡◌, ◌≤◌, ◌+◌, ◌⊎◌, Bool, true, false, List, [], ◌++◌, length, take, Option, Result, Ok, Err, MatchBool}
+use Rattle.std.specs.Prelude.{ℕ, ◌≡◌, ◌≤◌, ◌+◌, ◌⊎◌, Bool, true, false, List, [], ◌++◌, length, Option, Result, Ok, Err, MatchBool}
 use Rattle.std.specs.Io.KnownBytes.{Appends}
 use Rattle.iova_range.specs.declared.limits.TheConstants.{MAX_RUN}
 use Rattle.iova_text.specs.Lines.{IsUnended, IsOverlong, whole_line}
+use Rattle.iova_text.specs.Writing.{AppendsFront}
 use Rattle.iova_ask.specs.Asking.{AreLines, AreLinesAnd, AreOpen, EndByBye, BeginWith, IsLine, Passes, lines_text}
 use Rattle.iova_ask.specs.Answers.{AreWholeAnswers}
 use Rattle.iova_ask.specs.declared.front.Run.{Run}
@@ -38,7 +39,7 @@ SendsRun old new before now sent filled (Err fault.Read) =
     × Appends sent filled (lines_text ls)
 SendsRun old new before now sent filled (Err other) =
     (ls : List (List ℕ)) × AreLines ls × BeginWith old ls
-    × ((n : ℕ) × Appends sent filled (take n (lines_text ls)))
+    × AppendsFront sent filled (lines_text ls)
 
 -- What was sent of the rest of an input without an LF, where `before` lines had been sent, and the
 -- answer.
@@ -47,7 +48,7 @@ Rests rest before sent filled (Ok n) = ((rest ≡ []) × (n ≡ before) × Appen
     ⊎ (IsLine rest × (n ≡ before + 1) × Appends sent filled (whole_line rest))
 Rests rest before sent filled (Err fault.Read) = ⊥
 Rests rest before sent filled (Err other) =
-    IsLine rest × ((n : ℕ) × Appends sent filled (take n (whole_line rest)))
+    IsLine rest × AppendsFront sent filled (whole_line rest)
 
 -- So many answers were copied, line by line as they came.
 pub record Copies (n : ℕ) (left after out filled : Option (List ℕ))

@@ -1,9 +1,10 @@
 //! The peer of a daemon: lines sent over a link, and their answers copied.
 #![tactic(auto)]
 
-ghost use Rattle.std.specs.Prelude.{List, ◌≢◌, ◌+◌, ◌^◌, ◌<◌, ◌≤◌, ℕ, [], IfErr, MatchResult, OnOk, length, take};
+ghost use Rattle.std.specs.Prelude.{List, ◌≢◌, ◌+◌, ◌^◌, ◌<◌, ◌≤◌, ℕ, [], IfErr, MatchResult, OnOk, length};
 ghost use Rattle.std.specs.Io.KnownBytes.{Appends, Consumes};
 ghost use Rattle.iova_text.specs.Lines.{IsUnended};
+ghost use Rattle.iova_text.specs.Writing.{AppendsFront};
 ghost use Rattle.iova_ask.specs.Asking.{Breaks, Sends};
 ghost use Rattle.iova_ask.specs.Runs.{SendsRun, Copies, CopiesMore, Rests};
 
@@ -132,7 +133,7 @@ fn ask_some<W: Write, L: Link>(
 ) -> Result<(), AskFault>
     ensures ok { OnOk result (Appends (L.sent link.old) (L.sent link.new) bytes.now) }
     ensures err { IfErr result (λ e. (e ≢ AskFault.Read)
-        × ((n : ℕ) × Appends (L.sent link.old) (L.sent link.new) (take n bytes.now))) }
+        × AppendsFront (L.sent link.old) (L.sent link.new) bytes.now) }
     ensures copied { MatchResult result
         (λ _. Copies lines (L.left link.old) (L.left link.new)
         (W.contents writer.old) (W.contents writer.new) answers.old answers.new)

@@ -9,12 +9,12 @@ use Rattle.iova_model.specs.State.{State}
 use Rattle.iova_c.specs.declared.answer.NumberAnswer.{NumberAnswer}
 use Rattle.iova_c.specs.declared.answer.Listed.{Listed}
 
-abbrev pub listed : Frames → Listed
-listed r = record { lo = r.lo; len = r.len }
+abbrev pub listed_range : Frames → Listed
+listed_range r = record { lo = r.lo; len = r.len }
 
 -- the list with the ranges at its front, as many as it has room for, and what it had behind them
 abbrev pub with_ranges : List Listed → List Frames → List Listed
-with_ranges list ranges = map listed (take (length list) ranges) ++ drop (length ranges) list
+with_ranges list ranges = map listed_range (take (length list) ranges) ++ drop (length ranges) list
 
 -- a call that lists these ranges, or is refused and leaves the list
 abbrev pub Lists : Result (List Frames) Refusal → List Listed → NumberAnswer → List Listed → Type 0

@@ -21,18 +21,18 @@ abbrev pub Reads : {A : Type 0} → (Option State → A) → Option State → A 
 Reads tells old answer new = (answer ≡ tells old) × (new ≡ old)
 
 -- where a frame is, in numbers
-abbrev pub placed : Option Place → PlaceAnswer
-placed None = record { refused = 0; kind = 0; number = 0 }
-placed (Some place.Free) = record { refused = 0; kind = 1; number = 0 }
-placed (Some place.Reserved) = record { refused = 0; kind = 2; number = 0 }
-placed (Some (place.Client id)) = record { refused = 0; kind = 3; number = id }
-placed (Some (place.Magazine worker)) = record { refused = 0; kind = 4; number = worker }
-placed (Some place.Depot) = record { refused = 0; kind = 5; number = 0 }
-placed (Some (place.Ring worker)) = record { refused = 0; kind = 6; number = worker }
+abbrev pub place_in_numbers : Option Place → PlaceAnswer
+place_in_numbers None = record { refused = 0; kind = 0; number = 0 }
+place_in_numbers (Some place.Free) = record { refused = 0; kind = 1; number = 0 }
+place_in_numbers (Some place.Reserved) = record { refused = 0; kind = 2; number = 0 }
+place_in_numbers (Some (place.Client id)) = record { refused = 0; kind = 3; number = id }
+place_in_numbers (Some (place.Magazine worker)) = record { refused = 0; kind = 4; number = worker }
+place_in_numbers (Some place.Depot) = record { refused = 0; kind = 5; number = 0 }
+place_in_numbers (Some (place.Ring worker)) = record { refused = 0; kind = 6; number = worker }
 
 abbrev pub place_answer : ℕ → Option State → PlaceAnswer
 place_answer frame None = record { refused = refusal_number refusal.NoDomain; kind = 0; number = 0 }
-place_answer frame (Some s) = placed (place_inside s frame)
+place_answer frame (Some s) = place_in_numbers (place_inside s frame)
 
 abbrev pub counts_answer : Option State → CountsAnswer
 counts_answer None = record {

@@ -10,9 +10,9 @@ use Rattle.iova_check.specs.declared.stage.Stage.TheVariants as stage
 use Rattle.iova_check.specs.declared.stage.Change.TheVariants as change
 use Rattle.iova_check.specs.declared.finding.Kind.TheVariants as kind
 use Rattle.iova_check.specs.declared.finding.Run.{Run}
-use Rattle.iova_check.specs.History.{changed}
+use Rattle.iova_check.specs.History.{with_change}
 use Rattle.iova_check.specs.Bounds.{Bounds}
-use Rattle.iova_check.specs.Findings.{told, told_outside, IsFound}
+use Rattle.iova_check.specs.Findings.{since_of, told_outside, IsFound}
 use Rattle.iova_check.specs.Allowing.{with_window}
 
 abbrev pick : Bool → Option (Option ℕ)
@@ -50,29 +50,29 @@ not_outside f first last from within = inside_is (nat_lt f first) (nat_lt last f
 
 -- all frames are free, and the first is above the last
 pub nothing_allowed : (at : ℕ → Stage) (first last : ℕ) → ((f : ℕ) → at f ≡ stage.Free) → last < first
-    → (f : ℕ) → told kind.Unmapped (at f) ≡ told_outside (between first last) f
-nothing_allowed at first last free lt f = ap (told kind.Unmapped) (free f) ∙ elim (cases_lt f first) [
+    → (f : ℕ) → since_of kind.Unmapped (at f) ≡ told_outside (between first last) f
+nothing_allowed at first last free lt f = ap (since_of kind.Unmapped) (free f) ∙ elim (cases_lt f first) [
   | inl below ↦ sym (outside_below f first last below)
   | inr above ↦ sym (outside_above f first last (omega arith))
 ]
 
 -- the frames from the first on and below `to` have been mapped
 pub within_allowed : (was at : ℕ → Stage) (first last to : ℕ) → ((f : ℕ) → was f ≡ stage.Free)
-    → ((f : ℕ) → first ≤ f → f < to → at f ≡ changed (change.Mapped 0) (was f))
+    → ((f : ℕ) → first ≤ f → f < to → at f ≡ with_change (change.Mapped 0) (was f))
     → ((f : ℕ) → f < first → at f ≡ was f) → ((f : ℕ) → to ≤ f → at f ≡ was f)
     → ((f : ℕ) → f < 2 ^ 64 - 1 → f ≤ last → f < to) → to ≤ last + 1
-    → (f : ℕ) → f < 2 ^ 64 - 1 → told kind.Unmapped (at f) ≡ told_outside (between first last) f
+    → (f : ℕ) → f < 2 ^ 64 - 1 → since_of kind.Unmapped (at f) ≡ told_outside (between first last) f
 within_allowed was at first last to free inside below above fits least f top = elim (cases_lt f first) [
-  | inl under ↦ ap (told kind.Unmapped) (below f under ∙ free f) ∙ sym (outside_below f first last under)
+  | inl under ↦ ap (since_of kind.Unmapped) (below f under ∙ free f) ∙ sym (outside_below f first last under)
   | inr from ↦ elim (cases_lt last f) [
-    | inl over ↦ ap (told kind.Unmapped) (above f (omega arith) ∙ free f) ∙ sym (outside_above f first last over)
-    | inr within ↦ ap (told kind.Unmapped) (inside f from (fits f top within)) ∙ sym (not_outside f first last from within)
+    | inl over ↦ ap (since_of kind.Unmapped) (above f (omega arith) ∙ free f) ∙ sym (outside_above f first last over)
+    | inr within ↦ ap (since_of kind.Unmapped) (inside f from (fits f top within)) ∙ sym (not_outside f first last from within)
   ]
 ]
 
 -- a window more
 
-unmapped_told : (s : Stage) → told kind.Unmapped (changed (change.Unmapped 0) s) ≡ Some None
+unmapped_told : (s : Stage) → since_of kind.Unmapped (with_change (change.Unmapped 0) s) ≡ Some None
 unmapped_told stage.Free = refl
 unmapped_told (stage.Mapped since) = refl
 unmapped_told (stage.Stale since) = refl
@@ -87,8 +87,8 @@ none_of true s = refl
 none_of false true = refl
 none_of false false = refl
 
-pub window_allowed : (b : Bounds) (w : Frames) (f : ℕ) (was at : Stage) → at ≡ (if covers f w then changed (change.Unmapped 0) was else was)
-    → told kind.Unmapped was ≡ told_outside b f → told kind.Unmapped at ≡ told_outside (with_window b w) f
+pub window_allowed : (b : Bounds) (w : Frames) (f : ℕ) (was at : Stage) → at ≡ (if covers f w then with_change (change.Unmapped 0) was else was)
+    → since_of kind.Unmapped was ≡ told_outside b f → since_of kind.Unmapped at ≡ told_outside (with_window b w) f
 window_allowed b w f was at is h =
     let o = nat_lt f b.first || nat_lt b.last f in
     let s = list_any (covers f) b.windows in
@@ -96,12 +96,12 @@ window_allowed b w f was at is h =
     let whole : told_outside (with_window b w) f ≡ pick (o || (s || (covers f w || false))) = ap (λ (x : Bool). pick (o || x)) all in
     elim (cases_Bool (covers f w)) [
       | inl so ↦
-          let now : at ≡ changed (change.Unmapped 0) was = is ∙ cond-true (covers f w) (changed (change.Unmapped 0) was) was so in
-          ap (told kind.Unmapped) now ∙ (unmapped_told was
+          let now : at ≡ with_change (change.Unmapped 0) was = is ∙ cond-true (covers f w) (with_change (change.Unmapped 0) was) was so in
+          ap (since_of kind.Unmapped) now ∙ (unmapped_told was
           ∙ sym (whole ∙ (ap (λ (x : Bool). pick (o || (s || (x || false)))) so ∙ one_of o s)))
       | inr not ↦
-          let now : at ≡ was = is ∙ cond-false (covers f w) (changed (change.Unmapped 0) was) was not in
-          ap (told kind.Unmapped) now ∙ (h
+          let now : at ≡ was = is ∙ cond-false (covers f w) (with_change (change.Unmapped 0) was) was not in
+          ap (since_of kind.Unmapped) now ∙ (h
           ∙ sym (whole ∙ (ap (λ (x : Bool). pick (o || (s || (x || false)))) not ∙ none_of o s)))
     ]
 

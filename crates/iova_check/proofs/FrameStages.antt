@@ -9,7 +9,7 @@ use Rattle.iova_check.specs.declared.stage.Stage.{Stage}
 use Rattle.iova_check.specs.declared.stage.Stage.TheVariants as stage
 use Rattle.iova_check.specs.declared.stage.Flight.{Flight}
 use Rattle.iova_check.specs.declared.stage.Change.TheVariants as change
-use Rattle.iova_check.specs.History.{next_line, has, flight_of, stage_of, changed, flushed_by}
+use Rattle.iova_check.specs.History.{next_line, has, flight_of, stage_of, with_change, flushed_by}
 use Rattle.iova_check.specs.Promise.{is_line, IsLine, NoneAfter, maps, unmaps, begins, ends_well, is_of, flushes, IsLongFlush, IsShortFlush, IsFlush, TakesBack, MayBeGiven, IsMappedSince, IsStaleSince, IsStage, StagesAreTold}
 use Rattle.iova_check.proofs.Lines.{line_new, line_old, line_bound, line_cases, line_more, line_apart, after_more, after_less, after_newest, between_more, between_less, flush_bound, flush_more, flush_less, takes_more, takes_less}
 use Rattle.iova_check.proofs.Flights.{IsFlight, IsNoFlight, IsFlightOf, flight_is}
@@ -171,7 +171,7 @@ taken_now e past f n is h = record {
 }
 
 unmapped_now : (e : Event) (past : List Event) (f : ℕ) (s : Stage) → maps f e ≡ false → unmaps f e ≡ true → ((number : ℕ) → ends_well number e ≡ false)
-    → flushes f e ≡ false → IsStage past f s → IsStage (e ∷ past) f (changed (change.Unmapped (next_line past)) s)
+    → flushes f e ≡ false → IsStage past f s → IsStage (e ∷ past) f (with_change (change.Unmapped (next_line past)) s)
 unmapped_now e past f stage.Free none is not short h = free_kept e past f none h
 unmapped_now e past f (stage.Mapped n) none is not short h = taken_now e past f n is h
 unmapped_now e past f (stage.Stale n) none is not short h = stale_kept e past f n none (none_ends e past f n not short) h
@@ -291,7 +291,7 @@ end_kept past f number (stage.Stale n) none h = stale_kept (event.End number tru
 
 -- a flush that has it
 flushed : (past : List Event) (f number : ℕ) (flight : Flight) (s : Stage) → IsFlight past number flight → has f flight.range ≡ true
-    → IsStage past f s → IsStage (event.End number true ∷ past) f (changed (change.Flushed flight.line) s)
+    → IsStage past f s → IsStage (event.End number true ∷ past) f (with_change (change.Flushed flight.line) s)
 flushed past f number flight stage.Free is having h = free_kept (event.End number true) past f refl h
 flushed past f number flight (stage.Mapped n) is having h = mapped_kept (event.End number true) past f n refl refl h
 flushed past f number flight (stage.Stale n) is having h =
@@ -307,7 +307,7 @@ ended_well : (past : List Event) (f number : ℕ) (flight : Option Flight) (s : 
 ended_well past f number None s is h = end_kept past f number s (λ n. none_in_flight past f number n is) h
 ended_well past f number (Some flight) s is h =
     let P : Stage → Type 0 = IsStage (event.End number true ∷ past) f in
-    let freed_stage = changed (change.Flushed flight.line) s in
+    let freed_stage = with_change (change.Flushed flight.line) s in
     elim (cases_Bool (has f flight.range)) [
       | inl so ↦ subst P (sym (cond-true (has f flight.range) freed_stage s so)) (flushed past f number flight s is so h)
       | inr not ↦ subst P (sym (cond-false (has f flight.range) freed_stage s not))
@@ -317,7 +317,7 @@ ended_well past f number (Some flight) s is h =
 -- A whole flush at one line
 
 freed_at_once : (past : List Event) (f : ℕ) (range : Option Frames) (s : Stage) → has f range ≡ true
-    → IsStage past f s → IsStage (event.Flush range ∷ past) f (changed (change.Flushed (next_line past)) s)
+    → IsStage past f s → IsStage (event.Flush range ∷ past) f (with_change (change.Flushed (next_line past)) s)
 freed_at_once past f range stage.Free having h = free_kept (event.Flush range) past f refl h
 freed_at_once past f range (stage.Mapped n) having h = mapped_kept (event.Flush range) past f n refl refl h
 freed_at_once past f range (stage.Stale n) having h =
@@ -333,7 +333,7 @@ flushed_at_once : (past : List Event) (f : ℕ) (range : Option Frames) (s : Sta
 flushed_at_once past f range s h =
     let e = event.Flush range in
     let P : Stage → Type 0 = IsStage (e ∷ past) f in
-    let freed_stage = changed (change.Flushed (next_line past)) s in
+    let freed_stage = with_change (change.Flushed (next_line past)) s in
     elim (cases_Bool (has f range)) [
       | inl so ↦ subst P (sym (cond-true (has f range) freed_stage s so)) (freed_at_once past f range s so h)
       | inr not ↦ subst P (sym (cond-false (has f range) freed_stage s not)) (stage_kept e past f s refl refl (λ number. refl) not h)
@@ -354,7 +354,7 @@ stage_is (event.Map r ∷ past) f =
 stage_is (event.Unmap r ∷ past) f =
     let e = event.Unmap r in
     let P : Stage → Type 0 = IsStage (e ∷ past) f in
-    let taken = changed (change.Unmapped (next_line past)) (stage_of past f) in
+    let taken = with_change (change.Unmapped (next_line past)) (stage_of past f) in
     elim (cases_Bool (covers f r)) [
       | inl so ↦ subst P (sym (cond-true (covers f r) taken (stage_of past f) so))
           (unmapped_now e past f (stage_of past f) refl so (λ number. refl) refl (stage_is past f))

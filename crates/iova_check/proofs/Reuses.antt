@@ -14,11 +14,11 @@ use Rattle.iova_check.specs.declared.finding.Run.{Run}
 use Rattle.iova_check.specs.declared.finding.Finding.{Finding}
 use Rattle.iova_check.specs.Bounds.{Bounds}
 use Rattle.iova_check.specs.History.{stage_of}
-use Rattle.iova_check.specs.Findings.{told, IsFound, IsRun, framed, IsMapTold, is_reuse, AreFindings, IsKeptNext, TellsBreaks}
+use Rattle.iova_check.specs.Findings.{since_of, IsFound, IsRun, of_run, IsMapTold, is_reuse, AreFindings, IsKeptNext, TellsBreaks}
 use Rattle.iova_check.proofs.Kept.{free_is, given_is, kept_from_given, given_from_kept}
 
 -- a stage of which neither is told
-neither : (s : Stage) → told kind.Overlap s ≡ None → told kind.Reused s ≡ None → s ≡ stage.Free
+neither : (s : Stage) → since_of kind.Overlap s ≡ None → since_of kind.Reused s ≡ None → s ≡ stage.Free
 neither stage.Free a b = refl
 neither (stage.Mapped since) a b = absurd cc
 neither (stage.Stale since) a b = absurd cc
@@ -44,7 +44,7 @@ found_none tells lo to (Some run) h is f from under = absurd cc
 
 -- of three findings that may be, none is of reuse
 none_of : (outside overlap reused : Option Run)
-    → list_any is_reuse (framed kind.Outside outside ∷ framed kind.Overlap overlap ∷ framed kind.Reused reused ∷ []) ≡ false
+    → list_any is_reuse (of_run kind.Outside outside ∷ of_run kind.Overlap overlap ∷ of_run kind.Reused reused ∷ []) ≡ false
     → (overlap ≡ None) × (reused ≡ None)
 none_of None None None h = (refl, refl)
 none_of None None (Some run) h = absurd cc
@@ -56,7 +56,7 @@ none_of (Some out) (Some run) None h = absurd cc
 none_of (Some out) (Some run) (Some other) h = absurd cc
 
 of_none : (outside overlap reused : Option Run) → overlap ≡ None → reused ≡ None
-    → list_any is_reuse (framed kind.Outside outside ∷ framed kind.Overlap overlap ∷ framed kind.Reused reused ∷ []) ≡ false
+    → list_any is_reuse (of_run kind.Outside outside ∷ of_run kind.Overlap overlap ∷ of_run kind.Reused reused ∷ []) ≡ false
 of_none None None None a b = refl
 of_none None None (Some run) a b = absurd cc
 of_none None (Some run) reused a b = absurd cc
@@ -68,8 +68,8 @@ told_promise : (past : List Event) (bounds : Bounds) (r : Frames) (fs : List (Op
     → (list_any is_reuse fs ≡ false) ↔ IsKeptNext past r
 told_promise past bounds r fs h =
     let to = r.lo + r.len in
-    let overlap = λ (f : ℕ). told kind.Overlap (stage_of past f) in
-    let reused = λ (f : ℕ). told kind.Reused (stage_of past f) in (
+    let overlap = λ (f : ℕ). since_of kind.Overlap (stage_of past f) in
+    let reused = λ (f : ℕ). since_of kind.Reused (stage_of past f) in (
       λ none f in_range.
           let both = none_of h.outside h.overlap h.reused (sym (ap (list_any is_reuse) h.are) ∙ none) in
           let parts = and_parts (nat_le r.lo f) (nat_lt f to) in_range in
@@ -82,8 +82,8 @@ told_promise past bounds r fs h =
           let free : (f : ℕ) → r.lo ≤ f → f < to → stage_of past f ≡ stage.Free = λ f from under.
           free_is past f (given_from_kept (event.Map r) past f (kept f (and_from (nat_le r.lo f) (nat_lt f to) (le-leb r.lo f from) (lt-ltb f to under)))) in
           ap (list_any is_reuse) h.are ∙ of_none h.outside h.overlap h.reused
-          (not_found overlap r.lo to h.overlap h.is_overlap (λ f from under. ap (told kind.Overlap) (free f from under)))
-          (not_found reused r.lo to h.reused h.is_reused (λ f from under. ap (told kind.Reused) (free f from under))),
+          (not_found overlap r.lo to h.overlap h.is_overlap (λ f from under. ap (since_of kind.Overlap) (free f from under)))
+          (not_found reused r.lo to h.reused h.is_reused (λ f from under. ap (since_of kind.Reused) (free f from under))),
     )
 
 pub breaks_told : (past : List Event) (bounds : Bounds) (flights : ℕ → Option Flight) (e : Event) (fs : List (Option Finding))

@@ -8,7 +8,7 @@ use Rattle.std.proofs.lemmas.List.{take_more, get_or-drop, get_or-take}
 use Rattle.iova_text.proofs.Cuts.{cut_at}
 use Rattle.iova_check.specs.declared.event.Event.TheVariants as event
 use Rattle.iova_text.specs.Reading.{stops, is_not_space}
-use Rattle.iova_check.specs.Trace.{word_at_front, from_blank, spaced, last_seven, said_by, event_said}
+use Rattle.iova_check.specs.Trace.{word_at_front, from_blank, spaced_words, last_seven, said_by, event_said}
 
 -- the word at the front of a line, and what stands from the first blank on
 
@@ -58,35 +58,35 @@ front_all [] one = refl
 front_all (b ∷ w) one =
     cond-false (b == 32) [] (b ∷ word_at_front w) (IsOneWord-head b w one) ∙ ap (λ (x : List ℕ). b ∷ x) (front_all w (IsOneWord-tail b w one))
 
-spaced_none : (w : List ℕ) → IsOneWord w → spaced w ≡ []
+spaced_none : (w : List ℕ) → IsOneWord w → spaced_words w ≡ []
 spaced_none [] one = refl
 spaced_none (b ∷ w) one =
-    cond-false (b == 32) (word_at_front w ∷ spaced w) (spaced w) (IsOneWord-head b w one) ∙ spaced_none w (IsOneWord-tail b w one)
+    cond-false (b == 32) (word_at_front w ∷ spaced_words w) (spaced_words w) (IsOneWord-head b w one) ∙ spaced_none w (IsOneWord-tail b w one)
 
 front_more : (a w : List ℕ) → word_at_front (a ++ 32 ∷ w) ≡ word_at_front a
 front_more [] w = refl
 front_more (b ∷ a) w = ap (λ (x : List ℕ). if b == 32 then [] else b ∷ x) (front_more a w)
 
-spaced_more : (a w : List ℕ) → IsOneWord w → spaced (a ++ 32 ∷ w) ≡ spaced a ++ w ∷ []
-spaced_more [] w one = ap (λ (x : List ℕ). x ∷ spaced w) (front_all w one) ∙ ap (λ (x : List (List ℕ)). w ∷ x) (spaced_none w one)
+spaced_more : (a w : List ℕ) → IsOneWord w → spaced_words (a ++ 32 ∷ w) ≡ spaced_words a ++ w ∷ []
+spaced_more [] w one = ap (λ (x : List ℕ). x ∷ spaced_words w) (front_all w one) ∙ ap (λ (x : List (List ℕ)). w ∷ x) (spaced_none w one)
 spaced_more (b ∷ a) w one = elim (cases_Bool (b == 32)) [
   | inl so ↦
       let front = word_at_front (a ++ 32 ∷ w) in
-      let rest = spaced (a ++ 32 ∷ w) in
+      let rest = spaced_words (a ++ 32 ∷ w) in
       cond-true (b == 32) (front ∷ rest) rest so
       ∙ (ap (λ (x : List ℕ). x ∷ rest) (front_more a w) ∙ (ap (λ (x : List (List ℕ)). word_at_front a ∷ x) (spaced_more a w one)
-      ∙ ap (λ (x : List (List ℕ)). x ++ w ∷ []) (sym (cond-true (b == 32) (word_at_front a ∷ spaced a) (spaced a) so))))
+      ∙ ap (λ (x : List (List ℕ)). x ++ w ∷ []) (sym (cond-true (b == 32) (word_at_front a ∷ spaced_words a) (spaced_words a) so))))
   | inr not ↦
       let front = word_at_front (a ++ 32 ∷ w) in
-      let rest = spaced (a ++ 32 ∷ w) in
+      let rest = spaced_words (a ++ 32 ∷ w) in
       cond-false (b == 32) (front ∷ rest) rest not
-      ∙ (spaced_more a w one ∙ ap (λ (x : List (List ℕ)). x ++ w ∷ []) (sym (cond-false (b == 32) (word_at_front a ∷ spaced a) (spaced a) not)))
+      ∙ (spaced_more a w one ∙ ap (λ (x : List (List ℕ)). x ++ w ∷ []) (sym (cond-false (b == 32) (word_at_front a ∷ spaced_words a) (spaced_words a) not)))
 ]
 
 -- at the last blank of a line
 pub cut_at_blank : (line : List ℕ) (n : ℕ) → n < length line → (get_or line n 0 == 32) ≡ true
     → ((k : ℕ) → n + 1 ≤ k → k < length line → (get_or line k 0 == 32) ≡ true → ⊥)
-    → spaced line ≡ spaced (take n line) ++ take (length line - (n + 1)) (drop (n + 1) line) ∷ []
+    → spaced_words line ≡ spaced_words (take n line) ++ take (length line - (n + 1)) (drop (n + 1) line) ∷ []
 cut_at_blank line n lt is none =
     let left = length line - (n + 1) in
     let w = take left (drop (n + 1) line) in
@@ -98,9 +98,9 @@ cut_at_blank line n lt is none =
     let short : k < left = omega (arith, length-take left (drop (n + 1) line), length-drop (n + 1) line) in
     let same : get_or w k 0 ≡ get_or line (n + 1 + k) 0 = get_or-take left (drop (n + 1) line) k 0 short ∙ get_or-drop (n + 1) line k 0 in
     ap (λ (b : ℕ). b == 32) same ∙ false_from_ne_true (get_or line (n + 1 + k) 0 == 32) (none (n + 1 + k) (omega arith) (omega arith)) in
-    ap spaced cut ∙ spaced_more (take n line) w one
+    ap spaced_words cut ∙ spaced_more (take n line) w one
 
-pub no_blank : (line : List ℕ) → ((k : ℕ) → 0 ≤ k → k < length line → (get_or line k 0 == 32) ≡ true → ⊥) → spaced line ≡ []
+pub no_blank : (line : List ℕ) → ((k : ℕ) → 0 ≤ k → k < length line → (get_or line k 0 == 32) ≡ true → ⊥) → spaced_words line ≡ []
 no_blank line none = spaced_none line (λ k lt. false_from_ne_true (get_or line k 0 == 32) (none k (omega arith) lt))
 
 -- The last seven of some words
@@ -130,5 +130,5 @@ too_few domain ws lt =
 -- nothing is read of a long line
 pub long_says : (domain : Option ℕ) (line : List ℕ) → 1024 ≤ length line → event_said domain line ≡ event.Other
 long_says domain line long =
-    cond-false (nat_lt (length line) 1024) (said_by domain (last_seven (spaced line))) event.Other
+    cond-false (nat_lt (length line) 1024) (said_by domain (last_seven (spaced_words line))) event.Other
     (false_from_ne_true (nat_lt (length line) 1024) (λ is. let lt : length line < 1024 = ltb-true (length line) 1024 is in absurd (omega arith)))

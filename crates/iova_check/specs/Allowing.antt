@@ -4,14 +4,15 @@ use Rattle.iova_range.specs.Frames.{Frames}
 use Rattle.iova_check.specs.declared.allowed.Allowed.{Allowed}
 use Rattle.iova_check.specs.declared.finding.Kind.TheVariants as kind
 use Rattle.iova_check.specs.Bounds.{Bounds}
-use Rattle.iova_check.specs.Findings.{told, told_outside}
-use Rattle.iova_check.specs.Marks.{shown}
+use Rattle.iova_check.specs.Findings.{since_of, told_outside}
+use Rattle.iova_check.specs.Marks.{stage_at}
 
 -- of each frame that a line can name, whether it is out of these bounds: the frames that may be
 -- mapped are kept as mapped ones
 abbrev pub Allows : Allowed → Bounds → Type 0
 Allows allowed bounds =
-    (f : ℕ) → f < 2 ^ 64 - 1 → told kind.Unmapped (shown allowed.stages f) ≡ told_outside bounds f
+    (f : ℕ) → f < 2 ^ 64 - 1 → since_of kind.Unmapped (stage_at allowed.stages f)
+    ≡ told_outside bounds f
 
 -- the bounds with a window more
 abbrev pub with_window : Bounds → Frames → Bounds

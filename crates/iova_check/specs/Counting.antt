@@ -5,7 +5,7 @@ use Rattle.iova_check.specs.declared.event.Event.TheVariants as event
 use Rattle.iova_check.specs.declared.finding.Finding.{Finding}
 use Rattle.iova_check.specs.declared.finding.Kind.{Kind}
 use Rattle.iova_check.specs.declared.stage.Stage.{Stage}
-use Rattle.iova_check.specs.Findings.{told}
+use Rattle.iova_check.specs.Findings.{since_of}
 use Rattle.iova_check.specs.declared.counts.Counts.{Counts}
 
 -- with a line more, of which so many findings are told
@@ -146,4 +146,4 @@ count_below passes (suc n) = (if passes n then 1 else 0) + count_below passes n
 
 -- of how many frames that a line can name the kind tells something, where they are at these stages
 abbrev pub frames_told : Kind → (ℕ → Stage) → ℕ
-frames_told kind at = count_below (λ f. is_some (told kind (at f))) (2 ^ 64 - 1)
+frames_told kind at = count_below (λ f. is_some (since_of kind (at f))) (2 ^ 64 - 1)

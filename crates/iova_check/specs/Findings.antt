@@ -18,24 +18,24 @@ use Rattle.iova_check.specs.Promise.{IsKeptAt}
 
 -- what a kind tells of a frame at this stage: nothing where it is not so, else the line since
 -- which, where it tells one
-abbrev pub told : Kind → Stage → Option (Option ℕ)
-told kind.Outside s = None
-told kind.Overlap stage.Free = None
-told kind.Overlap (stage.Mapped since) = Some (Some since)
-told kind.Overlap (stage.Stale since) = None
-told kind.Reused stage.Free = None
-told kind.Reused (stage.Mapped since) = None
-told kind.Reused (stage.Stale since) = Some (Some since)
-told kind.Cut s = None
-told kind.Unmapped stage.Free = Some None
-told kind.Unmapped (stage.Mapped since) = None
-told kind.Unmapped (stage.Stale since) = Some None
-told kind.Stale stage.Free = None
-told kind.Stale (stage.Mapped since) = None
-told kind.Stale (stage.Stale since) = Some (Some since)
-told kind.Wild stage.Free = Some None
-told kind.Wild (stage.Mapped since) = None
-told kind.Wild (stage.Stale since) = None
+abbrev pub since_of : Kind → Stage → Option (Option ℕ)
+since_of kind.Outside s = None
+since_of kind.Overlap stage.Free = None
+since_of kind.Overlap (stage.Mapped since) = Some (Some since)
+since_of kind.Overlap (stage.Stale since) = None
+since_of kind.Reused stage.Free = None
+since_of kind.Reused (stage.Mapped since) = None
+since_of kind.Reused (stage.Stale since) = Some (Some since)
+since_of kind.Cut s = None
+since_of kind.Unmapped stage.Free = Some None
+since_of kind.Unmapped (stage.Mapped since) = None
+since_of kind.Unmapped (stage.Stale since) = Some None
+since_of kind.Stale stage.Free = None
+since_of kind.Stale (stage.Mapped since) = None
+since_of kind.Stale (stage.Stale since) = Some (Some since)
+since_of kind.Wild stage.Free = Some None
+since_of kind.Wild (stage.Mapped since) = None
+since_of kind.Wild (stage.Stale since) = None
 
 -- The lowest of the frames from `lo` on and below `to` of which something is told, and all after it
 -- of which the same is told.
@@ -75,8 +75,8 @@ pub record IsCutAbove (at : ℕ → Stage) (lo to : ℕ) (run : Run) : Type 0 wh
   pub from : lo ≤ run.lo
   pub some : 1 ≤ run.len
   pub ends : run.lo + run.len ≡ to
-  pub same : (f : ℕ) → run.lo ≤ f → f < to → told kind.Overlap (at f) ≡ Some run.since
-  pub longest : lo < run.lo → told kind.Overlap (at (run.lo - 1)) ≢ Some run.since
+  pub same : (f : ℕ) → run.lo ≤ f → f < to → since_of kind.Overlap (at f) ≡ Some run.since
+  pub longest : lo < run.lo → since_of kind.Overlap (at (run.lo - 1)) ≢ Some run.since
 
 abbrev pub IsCutOff : (ℕ → Stage) → ℕ → ℕ → Option Run → Type 0
 IsCutOff at lo to None = ⊥
@@ -85,15 +85,15 @@ IsCutOff at lo to (Some run) = IsCutAbove at lo to run
 -- The frames that are cut off from the frame before `lo`, else those that are cut off from frame
 -- `to`.
 pub record IsCut (at : ℕ → Stage) (lo to : ℕ) (found : Option Run) : Type 0 where
-  pub below : is_joined at lo ≡ true → IsFound (λ f. told kind.Overlap (at f)) lo to found
+  pub below : is_joined at lo ≡ true → IsFound (λ f. since_of kind.Overlap (at f)) lo to found
   pub above : is_joined at lo ≡ false → is_joined at to ≡ true → IsCutOff at lo to found
   pub none : is_joined at lo ≡ false → is_joined at to ≡ false → found ≡ None
 
 -- The findings of a line, in order
 
-abbrev pub framed : Kind → Option Run → Option Finding
-framed kind None = None
-framed kind (Some run) = Some (finding.Frames kind run)
+abbrev pub of_run : Kind → Option Run → Option Finding
+of_run kind None = None
+of_run kind (Some run) = Some (finding.Frames kind run)
 
 -- what is told of a line that maps these frames
 pub record IsMapTold (bounds : Bounds) (at : ℕ → Stage) (r : Frames)
@@ -102,9 +102,9 @@ pub record IsMapTold (bounds : Bounds) (at : ℕ → Stage) (r : Frames)
   pub overlap : Option Run
   pub reused : Option Run
   pub is_outside : IsFound (told_outside bounds) r.lo (r.lo + r.len) outside
-  pub is_overlap : IsFound (λ f. told kind.Overlap (at f)) r.lo (r.lo + r.len) overlap
-  pub is_reused : IsFound (λ f. told kind.Reused (at f)) r.lo (r.lo + r.len) reused
-  pub are : fs ≡ framed kind.Outside outside ∷ framed kind.Overlap overlap ∷ framed kind.Reused
+  pub is_overlap : IsFound (λ f. since_of kind.Overlap (at f)) r.lo (r.lo + r.len) overlap
+  pub is_reused : IsFound (λ f. since_of kind.Reused (at f)) r.lo (r.lo + r.len) reused
+  pub are : fs ≡ of_run kind.Outside outside ∷ of_run kind.Overlap overlap ∷ of_run kind.Reused
       reused ∷ []
 
 -- that unmaps them
@@ -115,8 +115,8 @@ pub record IsUnmapTold (bounds : Bounds) (at : ℕ → Stage) (r : Frames)
   pub unmapped : Option Run
   pub is_outside : IsFound (told_outside bounds) r.lo (r.lo + r.len) outside
   pub is_cut : IsCut at r.lo (r.lo + r.len) cut
-  pub is_unmapped : IsFound (λ f. told kind.Unmapped (at f)) r.lo (r.lo + r.len) unmapped
-  pub are : fs ≡ framed kind.Outside outside ∷ framed kind.Cut cut ∷ framed kind.Unmapped
+  pub is_unmapped : IsFound (λ f. since_of kind.Unmapped (at f)) r.lo (r.lo + r.len) unmapped
+  pub are : fs ≡ of_run kind.Outside outside ∷ of_run kind.Cut cut ∷ of_run kind.Unmapped
       unmapped ∷ []
 
 -- at which a device reached them
@@ -126,9 +126,9 @@ pub record IsUseTold (bounds : Bounds) (at : ℕ → Stage) (r : Frames)
   pub stale : Option Run
   pub wild : Option Run
   pub is_outside : IsFound (told_outside bounds) r.lo (r.lo + r.len) outside
-  pub is_stale : IsFound (λ f. told kind.Stale (at f)) r.lo (r.lo + r.len) stale
-  pub is_wild : IsFound (λ f. told kind.Wild (at f)) r.lo (r.lo + r.len) wild
-  pub are : fs ≡ framed kind.Outside outside ∷ framed kind.Stale stale ∷ framed kind.Wild wild ∷ []
+  pub is_stale : IsFound (λ f. since_of kind.Stale (at f)) r.lo (r.lo + r.len) stale
+  pub is_wild : IsFound (λ f. since_of kind.Wild (at f)) r.lo (r.lo + r.len) wild
+  pub are : fs ≡ of_run kind.Outside outside ∷ of_run kind.Stale stale ∷ of_run kind.Wild wild ∷ []
 
 -- of a flush that is out of order
 abbrev pub flush_told : ℕ → Bool → List (Option Finding)

@@ -59,29 +59,29 @@ flight_of (e ∷ past) number = flight_after (next_line past) e number (flight_o
 
 -- what is mapped is stale since the line that unmaps it; what is stale is free once a flush that
 -- began after that line ended well
-abbrev pub changed : Change → Stage → Stage
-changed (change.Mapped line) s = stage.Mapped line
-changed (change.Unmapped line) stage.Free = stage.Free
-changed (change.Unmapped line) (stage.Mapped since) = stage.Stale line
-changed (change.Unmapped line) (stage.Stale since) = stage.Stale since
-changed (change.Flushed begun) stage.Free = stage.Free
-changed (change.Flushed begun) (stage.Mapped since) = stage.Mapped since
-changed (change.Flushed begun) (stage.Stale since) =
+abbrev pub with_change : Change → Stage → Stage
+with_change (change.Mapped line) s = stage.Mapped line
+with_change (change.Unmapped line) stage.Free = stage.Free
+with_change (change.Unmapped line) (stage.Mapped since) = stage.Stale line
+with_change (change.Unmapped line) (stage.Stale since) = stage.Stale since
+with_change (change.Flushed begun) stage.Free = stage.Free
+with_change (change.Flushed begun) (stage.Mapped since) = stage.Mapped since
+with_change (change.Flushed begun) (stage.Stale since) =
     if nat_lt since begun then stage.Free else stage.Stale since
 
 -- a flush ended well
 abbrev pub flushed_by : Option Flight → ℕ → Stage → Stage
 flushed_by None f was = was
 flushed_by (Some flight) f was =
-    if has f flight.range then changed (change.Flushed flight.line) was else was
+    if has f flight.range then with_change (change.Flushed flight.line) was else was
 
 -- the stage of the frame after line `line`, which is `e`, where `was` was before, and these flushes
 -- were in flight
 abbrev pub stage_after : ℕ → (ℕ → Option Flight) → Event → ℕ → Stage → Stage
 stage_after line flights (event.Map r) f was =
-    if covers f r then changed (change.Mapped line) was else was
+    if covers f r then with_change (change.Mapped line) was else was
 stage_after line flights (event.Unmap r) f was =
-    if covers f r then changed (change.Unmapped line) was else was
+    if covers f r then with_change (change.Unmapped line) was else was
 stage_after line flights (event.Use r) f was = was
 stage_after line flights (event.Begin number range) f was = was
 stage_after line flights (event.End number true) f was = flushed_by (flights number) f was

@@ -7,17 +7,17 @@ use Rattle.iova_check.specs.declared.stage.Stage.TheVariants as stage
 use Rattle.iova_check.specs.declared.stages.Stages.{Stages}
 
 -- the stage of the last mark up to the frame; before the first one frames are free
-abbrev pub shown_by : (ℕ → Option Stage) → ℕ → Stage
-shown_by mark zero = unwrap_or (mark zero) stage.Free
-shown_by mark (suc f) = unwrap_or (mark (suc f)) (shown_by mark f)
+abbrev pub stage_by : (ℕ → Option Stage) → ℕ → Stage
+stage_by mark zero = unwrap_or (mark zero) stage.Free
+stage_by mark (suc f) = unwrap_or (mark (suc f)) (stage_by mark f)
 
-abbrev pub shown : Stages → ℕ → Stage
-shown s f = shown_by (get nat_cmp s.marks) f
+abbrev pub stage_at : Stages → ℕ → Stage
+stage_at s f = stage_by (get nat_cmp s.marks) f
 
 -- the stage before a frame; before frame 0 as before the first mark
 abbrev pub before_by : (ℕ → Option Stage) → ℕ → Stage
 before_by mark zero = stage.Free
-before_by mark (suc f) = shown_by mark f
+before_by mark (suc f) = stage_by mark f
 
 abbrev pub shown_before : Stages → ℕ → Stage
 shown_before s f = before_by (get nat_cmp s.marks) f

@@ -1,7 +1,8 @@
 -- What a check tells: of the bytes that it took, what it wrote, and what it answers.
-use Rattle.std.specs.Prelude.{ℕ, ◌≡◌, ◌≢◌, ◌⊎◌, Bool, nat_lt, List, [], ◌++◌, take, Option, Some, None, Result, Ok, Err}
+use Rattle.std.specs.Prelude.{ℕ, ◌≡◌, ◌≢◌, ◌⊎◌, Bool, nat_lt, List, [], ◌++◌, Option, Some, None, Result, Ok, Err}
 use Rattle.std.specs.Io.KnownBytes.{Consumes, Appends, IsAtEnd}
 use Rattle.iova_text.specs.Lines.{HasNoLf, whole_line, IsUnended}
+use Rattle.iova_text.specs.Writing.{AppendsFront}
 use Rattle.iova_check.specs.declared.source.Form.{Form}
 use Rattle.iova_check.specs.declared.source.Form.TheVariants as form
 use Rattle.iova_check.specs.declared.source.Source.{Source}
@@ -120,7 +121,7 @@ abbrev pub Counts : Option (List ℕ) → Option (List ℕ) → Result Checker C
 Counts told filled (Ok c) (Ok found) =
     Appends told filled (summary_text c) × (found ≡ nat_lt 0 c.counts.findings)
 Counts told filled (Ok c) (Err fault.WriteFault) =
-    (n : ℕ) × Appends told filled (take n (summary_text c))
+    AppendsFront told filled (summary_text c)
 Counts told filled (Ok c) (Err e) = ⊥
 Counts told filled (Err e) answer = (filled ≡ told) × (answer ≡ Err e)
 

@@ -2,7 +2,7 @@
 use Rattle.std.specs.Prelude.{ℕ, ◌-◌, List, [], ◌∷◌, ◌++◌, length, replicate, codes, decimal}
 use Rattle.iova_check.specs.declared.checker.Checker.{Checker}
 use Rattle.iova_check.specs.declared.finding.Kind.TheVariants as kind
-use Rattle.iova_check.specs.Marks.{shown}
+use Rattle.iova_check.specs.Marks.{stage_at}
 use Rattle.iova_check.specs.Counting.{frames_told}
 
 -- left in 10 places
@@ -24,7 +24,7 @@ summary_text c =
     ++ field_text (codes "unmaps") c.counts.unmaps
     ++ field_text (codes "flushes") c.counts.flushes
     ++ field_text (codes "uses") c.counts.uses
-    ++ field_text (codes "mapped") (frames_told kind.Overlap (shown c.tracker.stages))
-    ++ field_text (codes "stale") (frames_told kind.Stale (shown c.tracker.stages))
+    ++ field_text (codes "mapped") (frames_told kind.Overlap (stage_at c.tracker.stages))
+    ++ field_text (codes "stale") (frames_told kind.Stale (stage_at c.tracker.stages))
     ++ field_text (codes "findings") c.counts.findings
     ++ field_text (codes "lines") (c.tracker.line - 1)

@@ -20,9 +20,10 @@ from_blank [] = []
 from_blank (b ∷ bytes) = if b == 32 then b ∷ bytes else from_blank bytes
 
 -- the words that have a blank before them
-abbrev pub spaced : List ℕ → List (List ℕ)
-spaced [] = []
-spaced (b ∷ bytes) = if b == 32 then word_at_front bytes ∷ spaced bytes else spaced bytes
+abbrev pub spaced_words : List ℕ → List (List ℕ)
+spaced_words [] = []
+spaced_words
+    (b ∷ bytes) = if b == 32 then word_at_front bytes ∷ spaced_words bytes else spaced_words bytes
 
 -- the last seven of them, or all where there are fewer
 abbrev pub last_seven : List (List ℕ) → List (List ℕ)
@@ -144,8 +145,9 @@ flush_said domain b c d e =
 abbrev pub is_either : List ℕ → List ℕ → List ℕ → Bool
 is_either short long name = bytes_eq name short || bytes_eq name long
 
-abbrev pub said : Option ℕ → List ℕ → List ℕ → List ℕ → List ℕ → List ℕ → List ℕ → List ℕ → Event
-said domain name about a b c d e =
+abbrev pub event_from : Option ℕ → List ℕ → List ℕ → List ℕ → List ℕ → List ℕ → List ℕ → List ℕ
+    → Event
+event_from domain name about a b c d e =
     if is_either (codes "map:") (codes "iommu:map:") name && bytes_eq about (codes "IOMMU:")
     then map_said (mapped_frames a b c d e)
     else (if is_either (codes "unmap:") (codes "iommu:unmap:") name
@@ -155,14 +157,15 @@ said domain name about a b c d e =
     else event.Other))
 
 abbrev pub said_by : Option ℕ → List (List ℕ) → Event
-said_by domain (name ∷ about ∷ a ∷ b ∷ c ∷ d ∷ e ∷ []) = said domain name about a b c d e
+said_by domain (name ∷ about ∷ a ∷ b ∷ c ∷ d ∷ e ∷ []) = event_from domain name about a b c d e
 said_by domain words = event.Other
 
 -- what a line says, which is without its LF, where flushes of this domain count, or of each: of a
 -- line that has at most 1,024 bytes with its LF its last seven words say it
 abbrev pub event_said : Option ℕ → List ℕ → Event
 event_said domain line =
-    if nat_lt (length line) 1024 then said_by domain (last_seven (spaced line)) else event.Other
+    if nat_lt (length line) 1024 then said_by domain
+    (last_seven (spaced_words line)) else event.Other
 
 -- Lost events
 

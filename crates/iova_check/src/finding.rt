@@ -1,7 +1,7 @@
 //! What may be wrong at a line.
 ghost use Rattle.std.specs.Prelude.{◌≡◌, ◌≤◌, is_some, if◌then◌else◌};
 ghost use Rattle.iova_check.specs.Counting.{how_many};
-ghost use Rattle.iova_check.specs.Findings.{told};
+ghost use Rattle.iova_check.specs.Findings.{since_of};
 
 use crate::stage::Stage;
 
@@ -63,7 +63,7 @@ impl Kind {
     /// What the kind tells of a frame at this stage: nothing where it is not so, else the line
     /// since which, where it tells one.
     pub fn told(self, stage: Stage) -> Option<Option<u64>>
-        ensures { result ≡ told self stage }
+        ensures { result ≡ since_of self stage }
     {
         match (self, stage) {
             (Kind::Overlap, Stage::Mapped(since)) => Some(Some(since)),

@@ -1,10 +1,10 @@
 //! The lowest frames of a range of which something is told, and those after them of which the same
 //! is.
 ghost use Rattle.std.specs.Prelude.{◌≡◌, ◌≢◌, ℕ, ◌+◌, ◌-◌, ◌≤◌, ◌<◌, Some};
-ghost use Rattle.iova_check.specs.Marks.{shown};
+ghost use Rattle.iova_check.specs.Marks.{stage_at};
 ghost use Rattle.iova_check.specs.declared.finding.Kind.TheVariants.{Overlap as Overlapping};
 ghost use Rattle.iova_check.specs.Counting.{frames_told};
-ghost use Rattle.iova_check.specs.Findings.{told, is_joined, IsFound, IsCut};
+ghost use Rattle.iova_check.specs.Findings.{since_of, is_joined, IsFound, IsCut};
 
 use crate::finding::{Kind, Run};
 use crate::stage::Stage;
@@ -14,7 +14,7 @@ use crate::stages::Stages;
 /// frames after it of which it tells the same.
 pub fn find(stages: &Stages, kind: Kind, lo: u64, to: u64) -> Option<Run>
     requires { lo ≤ to }
-    ensures { IsFound (λ f. told kind (shown stages.now f)) lo to result }
+    ensures { IsFound (λ f. since_of kind (stage_at stages.now f)) lo to result }
 {
     let mut at = lo;
     while at < to {
@@ -31,11 +31,12 @@ pub fn find(stages: &Stages, kind: Kind, lo: u64, to: u64) -> Option<Run>
 /// The end of the frames from `lo` on and below `to` of which the kind tells this.
 fn stretch(stages: &Stages, kind: Kind, since: Option<u64>, lo: u64, to: u64) -> u64
     requires some { lo < to }
-    requires first { told kind (shown stages.now lo) ≡ Some since }
+    requires first { since_of kind (stage_at stages.now lo) ≡ Some since }
     ensures after { lo < result }
     ensures within { result ≤ to }
-    ensures same { (f : ℕ) → lo ≤ f → f < result → told kind (shown stages.now f) ≡ Some since }
-    ensures longest { result < to → told kind (shown stages.now result) ≢ Some since }
+    ensures same { (f : ℕ) → lo ≤ f → f < result → since_of kind (stage_at stages.now f)
+        ≡ Some since }
+    ensures longest { result < to → since_of kind (stage_at stages.now result) ≢ Some since }
 {
     let mut at = stages.end(lo, to);
     while at < to && kind.told(stages.stage(at)) == Some(since) {
@@ -48,7 +49,7 @@ fn stretch(stages: &Stages, kind: Kind, since: Option<u64>, lo: u64, to: u64) ->
 /// with the frame before `lo`, else those mapped with `to`.
 pub fn find_cut(stages: &Stages, lo: u64, to: u64) -> Option<Run>
     requires { lo < to }
-    ensures { IsCut (shown stages.now) lo to result }
+    ensures { IsCut (stage_at stages.now) lo to result }
 {
     if joined(stages, lo) {
         return find(stages, Kind::Overlap, lo, to);
@@ -67,7 +68,7 @@ pub fn find_cut(stages: &Stages, lo: u64, to: u64) -> Option<Run>
 
 /// Whether this frame and the one before it are mapped since one line.
 fn joined(stages: &Stages, frame: u64) -> bool
-    ensures { result ≡ is_joined (shown stages.now) frame }
+    ensures { result ≡ is_joined (stage_at stages.now) frame }
 {
     if frame == 0 {
         return false;
@@ -82,12 +83,13 @@ fn joined(stages: &Stages, frame: u64) -> bool
 /// `to`.
 fn last_start(stages: &Stages, since: Option<u64>, lo: u64, to: u64) -> u64
     requires some { lo < to }
-    requires last { told Overlapping (shown stages.now (to - 1)) ≡ Some since }
+    requires last { since_of Overlapping (stage_at stages.now (to - 1)) ≡ Some since }
     ensures from { lo ≤ result }
     ensures within { result < to }
     ensures same { (f : ℕ) → result ≤ f → f < to
-        → told Overlapping (shown stages.now f) ≡ Some since }
-    ensures longest { lo < result → told Overlapping (shown stages.now (result - 1)) ≢ Some since }
+        → since_of Overlapping (stage_at stages.now f) ≡ Some since }
+    ensures longest { lo < result
+        → since_of Overlapping (stage_at stages.now (result - 1)) ≢ Some since }
 {
     let mut start = lo;
     let mut at = lo;
@@ -103,7 +105,7 @@ fn last_start(stages: &Stages, since: Option<u64>, lo: u64, to: u64) -> u64
 
 /// Of how many frames below frame 2^64 - 1 the kind tells something.
 pub fn count_frames(stages: &Stages, kind: Kind) -> u64
-    ensures { result ≡ frames_told kind (shown stages.now) }
+    ensures { result ≡ frames_told kind (stage_at stages.now) }
 {
     let mut count = 0;
     let mut at = 0;

@@ -1,6 +1,6 @@
 //! Where a frame stands, what changes it, and the flushes that are in flight.
 ghost use Rattle.std.specs.Prelude.{◌≡◌};
-ghost use Rattle.iova_check.specs.History.{changed};
+ghost use Rattle.iova_check.specs.History.{with_change};
 
 use iova_range::range::Range;
 
@@ -50,7 +50,7 @@ impl Stage {
 impl Change {
     /// The stage of a frame after the change.
     pub fn of(self, stage: Stage) -> Stage
-        ensures { result ≡ changed self stage }
+        ensures { result ≡ with_change self stage }
     {
         match (self, stage) {
             (Change::Mapped(line), _) => Stage::Mapped(line),

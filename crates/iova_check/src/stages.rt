@@ -24,12 +24,12 @@ impl Stages {
     ghost use Rattle.std.specs.BTreeMap.{get};
     ghost use Rattle.iova_range.specs.Frames.{covers};
     ghost use Rattle.iova_check.specs.declared.stage.Stage.TheVariants.{Free as IsFree, Stale as IsStale};
-    ghost use Rattle.iova_check.specs.History.{changed};
-    ghost use Rattle.iova_check.specs.Marks.{shown, shown_before, IsBare};
+    ghost use Rattle.iova_check.specs.History.{with_change};
+    ghost use Rattle.iova_check.specs.Marks.{stage_at, shown_before, IsBare};
 
     /// Each frame is free.
     pub fn new(alloc: Global) -> Stages
-        ensures { (f : ℕ) → shown result f ≡ IsFree }
+        ensures { (f : ℕ) → stage_at result f ≡ IsFree }
     {
         Stages {
             marks: BTreeMap::new(alloc),
@@ -39,7 +39,7 @@ impl Stages {
 
     /// The stage of this frame.
     pub fn stage(&self, frame: u64) -> Stage
-        ensures { result ≡ shown self.now frame }
+        ensures { result ≡ stage_at self.now frame }
     {
         match self.marks.range(..=frame).next_back() {
             Some((_, stage)) => *stage,
@@ -53,7 +53,8 @@ impl Stages {
         ensures after { frame < result }
         ensures within { result ≤ to }
         ensures bare { IsBare self.now frame result }
-        ensures same { (f : ℕ) → frame ≤ f → f < result → shown self.now f ≡ shown self.now frame }
+        ensures same { (f : ℕ) → frame ≤ f → f < result → stage_at self.now f
+            ≡ stage_at self.now frame }
     {
         self.next_mark(frame, to)
     }
@@ -74,10 +75,10 @@ impl Stages {
     /// Changes the stages of these frames below frame 2^64 - 1.
     pub fn change_range(&mut self, range: Range, change: Change) -> Result<(), AllocError>
         ensures below { OnOk result ((f : ℕ) → f < 2 ^ 64 - 1
-            → shown self.new f ≡ (if covers f range then changed change (shown self.old f)
-            else shown self.old f)) }
+            → stage_at self.new f ≡ (if covers f range then with_change change (stage_at self.old f)
+            else stage_at self.old f)) }
         ensures above { OnOk result ((f : ℕ) → 2 ^ 64 - 1 ≤ f
-            → shown self.new f ≡ shown self.old f) }
+            → stage_at self.new f ≡ stage_at self.old f) }
     {
         let to = range.lo().saturating_add(range.len());
         self.change(range.lo(), to, change)?;
@@ -88,9 +89,9 @@ impl Stages {
     pub fn change(&mut self, lo: u64, to: u64, change: Change) -> Result<(), AllocError>
         requires { lo ≤ to }
         ensures inside { OnOk result ((f : ℕ) → lo ≤ f → f < to
-            → shown self.new f ≡ changed change (shown self.old f)) }
-        ensures below { OnOk result ((f : ℕ) → f < lo → shown self.new f ≡ shown self.old f) }
-        ensures above { OnOk result ((f : ℕ) → to ≤ f → shown self.new f ≡ shown self.old f) }
+            → stage_at self.new f ≡ with_change change (stage_at self.old f)) }
+        ensures below { OnOk result ((f : ℕ) → f < lo → stage_at self.new f ≡ stage_at self.old f) }
+        ensures above { OnOk result ((f : ℕ) → to ≤ f → stage_at self.new f ≡ stage_at self.old f) }
     {
         let mut at = lo;
         while at < to {
@@ -112,11 +113,11 @@ impl Stages {
         requires { frame < to }
         ensures after { frame < result }
         ensures within { result ≤ to }
-        ensures bare { changed change (shown self.now frame) ≢ shown self.now frame
+        ensures bare { with_change change (stage_at self.now frame) ≢ stage_at self.now frame
             → IsBare self.now frame result }
-        ensures kept { changed change (shown self.now frame) ≡ shown self.now frame
+        ensures kept { with_change change (stage_at self.now frame) ≡ stage_at self.now frame
             → (f : ℕ) → frame ≤ f → f < result
-            → changed change (shown self.now f) ≡ shown self.now f }
+            → with_change change (stage_at self.now f) ≡ stage_at self.now f }
     {
         match change {
             Change::Flushed(_) if !self.stage(frame).is_stale() => self.next_stale(frame, to),
@@ -142,9 +143,10 @@ impl Stages {
     fn put(&mut self, at: u64, end: u64, stage: Stage) -> Result<(), AllocError>
         requires some { at < end }
         requires bare { IsBare self.old at end }
-        ensures inside { OnOk result ((f : ℕ) → at ≤ f → f < end → shown self.new f ≡ stage) }
-        ensures below { OnOk result ((f : ℕ) → f < at → shown self.new f ≡ shown self.old f) }
-        ensures above { OnOk result ((f : ℕ) → end ≤ f → shown self.new f ≡ shown self.old f) }
+        ensures inside { OnOk result ((f : ℕ) → at ≤ f → f < end → stage_at self.new f ≡ stage) }
+        ensures below { OnOk result ((f : ℕ) → f < at → stage_at self.new f ≡ stage_at self.old f) }
+        ensures above { OnOk result
+            ((f : ℕ) → end ≤ f → stage_at self.new f ≡ stage_at self.old f) }
     {
         self.cut(end)?;
         self.mark(at, stage)?;
@@ -155,7 +157,7 @@ impl Stages {
 
     /// Sets a mark without a change of stages.
     fn cut(&mut self, at: u64) -> Result<(), AllocError>
-        ensures same { OnOk result ((f : ℕ) → shown self.new f ≡ shown self.old f) }
+        ensures same { OnOk result ((f : ℕ) → stage_at self.new f ≡ stage_at self.old f) }
         ensures marked { OnOk result (IsSome (get nat_cmp self.new.marks at)) }
         ensures others { OnOk result ((q : ℕ) → q ≢ at
             → get nat_cmp self.new.marks q ≡ get nat_cmp self.old.marks q) }
@@ -186,7 +188,7 @@ impl Stages {
 
     /// Takes a mark away that tells what the one before it tells.
     fn join(&mut self, at: u64)
-        ensures { (f : ℕ) → shown self.new f ≡ shown self.old f }
+        ensures { (f : ℕ) → stage_at self.new f ≡ stage_at self.old f }
     {
         if self.stage_before(at) == self.stage(at) {
             let _gone = self.marks.remove(&at);

@@ -4,11 +4,11 @@ ghost use Rattle.std.specs.Ordering.{nat_cmp};
 ghost use Rattle.std.specs.BTreeMap.{get};
 ghost use Rattle.iova_check.specs.declared.event.Event.{Event};
 ghost use Rattle.iova_check.specs.History.{IsRange, IsInReach, flight_of, stage_of};
-ghost use Rattle.iova_check.specs.Marks.{shown};
+ghost use Rattle.iova_check.specs.Marks.{stage_at};
 ghost use Rattle.iova_check.specs.Bounds.{Bounds};
 ghost use Rattle.iova_check.specs.Allowing.{Allows};
 ghost use Rattle.iova_check.specs.Following.{Follows};
-ghost use Rattle.iova_check.specs.Findings.{framed, flush_told, IsMapTold, IsUnmapTold, IsUseTold, AreFindings, TellsBreaks};
+ghost use Rattle.iova_check.specs.Findings.{of_run, flush_told, IsMapTold, IsUnmapTold, IsUseTold, AreFindings, TellsBreaks};
 
 use crate::allowed::Allowed;
 use crate::event::Event;
@@ -36,7 +36,8 @@ pub fn findings(tracker: &Tracker, allowed: &Allowed, event: &Event) -> [Option<
 fn tell(tracker: &Tracker, allowed: &Allowed, event: &Event) -> [Option<Finding>; 3]
     requires { IsInReach event.now }
     ensures { (bounds : Bounds) → Allows allowed.now bounds
-        → AreFindings bounds (shown tracker.now.stages) (get nat_cmp tracker.now.flights) event.now
+        → AreFindings bounds (stage_at tracker.now.stages)
+        (get nat_cmp tracker.now.flights) event.now
         result }
 {
     match event {
@@ -52,7 +53,7 @@ fn tell(tracker: &Tracker, allowed: &Allowed, event: &Event) -> [Option<Finding>
 fn of_map(stages: &Stages, allowed: &Allowed, range: Range) -> [Option<Finding>; 3]
     requires { IsRange range }
     ensures { (bounds : Bounds) → Allows allowed.now bounds
-        → IsMapTold bounds (shown stages.now) range result }
+        → IsMapTold bounds (stage_at stages.now) range result }
 {
     let (lo, to) = (range.lo(), range.lo() + range.len());
     let outside = allowed.find_outside(lo, to);
@@ -68,7 +69,7 @@ fn of_map(stages: &Stages, allowed: &Allowed, range: Range) -> [Option<Finding>;
 fn of_unmap(stages: &Stages, allowed: &Allowed, range: Range) -> [Option<Finding>; 3]
     requires { IsRange range }
     ensures { (bounds : Bounds) → Allows allowed.now bounds
-        → IsUnmapTold bounds (shown stages.now) range result }
+        → IsUnmapTold bounds (stage_at stages.now) range result }
 {
     let (lo, to) = (range.lo(), range.lo() + range.len());
     let outside = allowed.find_outside(lo, to);
@@ -84,7 +85,7 @@ fn of_unmap(stages: &Stages, allowed: &Allowed, range: Range) -> [Option<Finding
 fn of_use(stages: &Stages, allowed: &Allowed, range: Range) -> [Option<Finding>; 3]
     requires { IsRange range }
     ensures { (bounds : Bounds) → Allows allowed.now bounds
-        → IsUseTold bounds (shown stages.now) range result }
+        → IsUseTold bounds (stage_at stages.now) range result }
 {
     let (lo, to) = (range.lo(), range.lo() + range.len());
     let outside = allowed.find_outside(lo, to);
@@ -105,7 +106,7 @@ fn of_flush(no: u64, odd: bool) -> [Option<Finding>; 3]
 }
 
 fn framed(kind: Kind, found: Option<Run>) -> Option<Finding>
-    ensures { result ≡ framed kind found }
+    ensures { result ≡ of_run kind found }
 {
     match found {
         Some(run) => Some(Finding::Frames { kind, run }),

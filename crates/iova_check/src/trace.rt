@@ -1,7 +1,7 @@
 //! The lines of a kernel's trace, read.
 ghost use Rattle.std.specs.Prelude.{◌≡◌, ℕ, ◌+◌, ◌<◌, ◌≤◌, List, [], ◌∷◌, ◌++◌, Some, None, IfSome, IfNone, IsTrue, length, codes};
 ghost use Rattle.iova_check.specs.History.{IsRange, IsInReach};
-ghost use Rattle.iova_check.specs.Trace.{word_at_front, from_blank, spaced, hex_digit, hex_from, hex_number, after, hex_after, are_digits, are_digits_after, frames_of, frames_between, mapped_frames, unmapped_frames, paged_frames, is_other_domain, flush_at, flush_said, is_either, said, event_said, counts_lost, is_lost_behind, says_lost};
+ghost use Rattle.iova_check.specs.Trace.{word_at_front, from_blank, spaced_words, hex_digit, hex_from, hex_number, after, hex_after, are_digits, are_digits_after, frames_of, frames_between, mapped_frames, unmapped_frames, paged_frames, is_other_domain, flush_at, flush_said, is_either, event_from, event_said, counts_lost, is_lost_behind, says_lost};
 
 use crate::event::Event;
 use iova_range::limits::{FRAME_BYTES, MAX_TRACE_LINE};
@@ -85,7 +85,7 @@ fn word_and_rest(bytes: &[u8]) -> (&[u8], &[u8])
 }
 
 fn event_of(domain: Option<u64>, words: &Seven<'_>) -> Event
-    ensures said { result ≡ said domain words.now.name.now words.now.about.now words.now.a.now
+    ensures said { result ≡ event_from domain words.now.name.now words.now.about.now words.now.a.now
         words.now.b.now words.now.c.now
         words.now.d.now words.now.e.now }
     ensures reach { IsInReach result }
@@ -300,9 +300,9 @@ fn hex_digit(byte: u8) -> Option<u8>
 /// The last seven words that have a blank before them. None where there are fewer.
 fn seven_words(line: &[u8]) -> Option<Seven<'_>>
     ensures some { IfSome result (λ w. (before : List (List ℕ))
-        × (spaced line.now ≡ before ++ w.name.now ∷ w.about.now ∷ w.a.now
+        × (spaced_words line.now ≡ before ++ w.name.now ∷ w.about.now ∷ w.a.now
         ∷ w.b.now ∷ w.c.now ∷ w.d.now ∷ w.e.now ∷ [])) }
-    ensures none { IfNone result (length (spaced line.now) < 7) }
+    ensures none { IfNone result (length (spaced_words line.now) < 7) }
 {
     let (line, b, c, d, e) = four_words(line)?;
     let (line, about, a) = two_words(line)?;
@@ -319,9 +319,9 @@ fn seven_words(line: &[u8]) -> Option<Seven<'_>>
 }
 
 fn four_words(line: &[u8]) -> Option<(&[u8], &[u8], &[u8], &[u8], &[u8])>
-    ensures some { IfSome result (λ p. spaced line.now ≡ spaced p.0.now
+    ensures some { IfSome result (λ p. spaced_words line.now ≡ spaced_words p.0.now
         ++ p.1.now ∷ p.2.now ∷ p.3.now ∷ p.4.now ∷ []) }
-    ensures none { IfNone result (length (spaced line.now) < 4) }
+    ensures none { IfNone result (length (spaced_words line.now) < 4) }
 {
     let (line, c, d) = two_words(line)?;
     let (line, a, b) = two_words(line)?;
@@ -329,8 +329,9 @@ fn four_words(line: &[u8]) -> Option<(&[u8], &[u8], &[u8], &[u8], &[u8])>
 }
 
 fn two_words(line: &[u8]) -> Option<(&[u8], &[u8], &[u8])>
-    ensures some { IfSome result (λ p. spaced line.now ≡ spaced p.0.now ++ p.1.now ∷ p.2.now ∷ []) }
-    ensures none { IfNone result (length (spaced line.now) < 2) }
+    ensures some { IfSome result
+        (λ p. spaced_words line.now ≡ spaced_words p.0.now ++ p.1.now ∷ p.2.now ∷ []) }
+    ensures none { IfNone result (length (spaced_words line.now) < 2) }
 {
     let (line, b) = last_word(line)?;
     let (line, a) = last_word(line)?;
@@ -339,8 +340,9 @@ fn two_words(line: &[u8]) -> Option<(&[u8], &[u8], &[u8])>
 
 /// The last word that has a blank before it, and what stands before that blank.
 fn last_word(line: &[u8]) -> Option<(&[u8], &[u8])>
-    ensures some { IfSome result (λ p. spaced line.now ≡ spaced p.0.now ++ p.1.now ∷ []) }
-    ensures none { IfNone result (spaced line.now ≡ []) }
+    ensures some { IfSome result
+        (λ p. spaced_words line.now ≡ spaced_words p.0.now ++ p.1.now ∷ []) }
+    ensures none { IfNone result (spaced_words line.now ≡ []) }
 {
     match memrchr(b' ', line) {
         Some(blank) => Some((&line[..blank], &line[blank + 1..])),

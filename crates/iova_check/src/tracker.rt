@@ -5,7 +5,7 @@ ghost use Rattle.std.specs.BTreeMap.{get};
 ghost use Rattle.iova_check.specs.declared.event.Event.{Event};
 ghost use Rattle.iova_check.specs.History.{IsInReach};
 ghost use Rattle.iova_check.specs.History.{flight_after, stage_after, flushed_by};
-ghost use Rattle.iova_check.specs.Marks.{shown};
+ghost use Rattle.iova_check.specs.Marks.{stage_at};
 ghost use Rattle.iova_check.specs.Following.{Follows};
 
 use crate::event::Event;
@@ -76,11 +76,11 @@ impl Tracker {
 
     /// A flush begins and ends at the next line.
     fn flush_at_once(&mut self, range: Option<Range>) -> Result<(), AllocError>
-        ensures stages { OnOk result ((f : ℕ) → f < 2 ^ 64 - 1 → shown self.new.stages f
+        ensures stages { OnOk result ((f : ℕ) → f < 2 ^ 64 - 1 → stage_at self.new.stages f
             ≡ flushed_by (Some (record { line = self.old.line; range = range })) f
-            (shown self.old.stages f)) }
+            (stage_at self.old.stages f)) }
         ensures top { OnOk result ((f : ℕ) → 2 ^ 64 - 1 ≤ f
-            → shown self.new.stages f ≡ shown self.old.stages f) }
+            → stage_at self.new.stages f ≡ stage_at self.old.stages f) }
         ensures flights { self.new.flights ≡ self.old.flights }
         ensures line { self.new.line ≡ self.old.line }
     {
@@ -92,11 +92,12 @@ impl Tracker {
     fn end(&mut self, no: u64, ok: bool) -> Result<(), AllocError>
         ensures flights { OnOk result ((n : ℕ) → get nat_cmp self.new.flights n
             ≡ (if no == n then None else get nat_cmp self.old.flights n)) }
-        ensures stages { OnOk result ((f : ℕ) → f < 2 ^ 64 - 1 → shown self.new.stages f
-            ≡ (if ok then flushed_by (get nat_cmp self.old.flights no) f (shown self.old.stages f)
-            else shown self.old.stages f)) }
+        ensures stages { OnOk result ((f : ℕ) → f < 2 ^ 64 - 1 → stage_at self.new.stages f
+            ≡ (if ok then flushed_by (get nat_cmp self.old.flights no) f
+            (stage_at self.old.stages f)
+            else stage_at self.old.stages f)) }
         ensures top { OnOk result ((f : ℕ) → 2 ^ 64 - 1 ≤ f
-            → shown self.new.stages f ≡ shown self.old.stages f) }
+            → stage_at self.new.stages f ≡ stage_at self.old.stages f) }
         ensures line { self.new.line ≡ self.old.line }
     {
         let flight = self.flights.remove(&no);
@@ -110,9 +111,9 @@ impl Tracker {
 /// The flush ended well.
 fn flush(stages: &mut Stages, flight: &Flight) -> Result<(), AllocError>
     ensures below { OnOk result ((f : ℕ) → f < 2 ^ 64 - 1
-        → shown stages.new f ≡ flushed_by (Some flight.now) f (shown stages.old f)) }
+        → stage_at stages.new f ≡ flushed_by (Some flight.now) f (stage_at stages.old f)) }
     ensures above { OnOk result ((f : ℕ) → 2 ^ 64 - 1 ≤ f
-        → shown stages.new f ≡ shown stages.old f) }
+        → stage_at stages.new f ≡ stage_at stages.old f) }
 {
     let change = Change::Flushed(flight.line);
     match flight.range {

@@ -4,7 +4,7 @@ use Rattle.std.proofs.lemmas.List.{get_or-set_same, get_or-set_other}
 use Rattle.std.proofs.lemmas.Bool.Decides.{nat_tests}
 use Rattle.iova_range.specs.Frames.{Frames}
 use Rattle.iova_model.specs.declared.totals.Totals.{Totals}
-use Rattle.iova_model.specs.Clients.{Client, client_with, changed, forgotten, begins_at, with_holding, without_holding, share_of, no_totals}
+use Rattle.iova_model.specs.Clients.{Client, client_with, change_client, without_client, begins_at, with_holding, without_holding, share_of, no_totals}
 use Rattle.iova_clients.specs.declared.sums.Sums.{Sums}
 use Rattle.iova_clients.specs.Registry.{Registry, IsRegistry}
 use Rattle.iova_clients.specs.Sums.{share_at, with_share, with_one, without_one, HaveRoom, Include}
@@ -49,15 +49,15 @@ same_worker : (c : Client) → is_of c.worker c ≡ true
 same_worker c = grind (arith, nat_tests)
 
 pub sums_kept : (id : ℕ) (f : Client → Client) (c : Client) (cs : List Client) (s : Sums) → client_with id cs ≡ Some c
-    → (f c).worker ≡ c.worker → (f c).holdings ≡ c.holdings → AreSumsOf cs s → AreSumsOf (changed id f cs) s
+    → (f c).worker ≡ c.worker → (f c).holdings ≡ c.holdings → AreSumsOf cs s → AreSumsOf (change_client id f cs) s
 sums_kept id f c cs s q worker holdings h =
-    sums_same cs (changed id f cs) s (totals_kept everyone id f c cs q refl holdings) (λ w. totals_kept (is_of w) id f c cs q (ap (λ x. x == w) worker) holdings) h
+    sums_same cs (change_client id f cs) s (totals_kept everyone id f c cs q refl holdings) (λ w. totals_kept (is_of w) id f c cs q (ap (λ x. x == w) worker) holdings) h
 
 pub sums_given : (id : ℕ) (r : Frames) (c : Client) (cs : List Client) (s t : Sums) → client_with id cs ≡ Some c → c.worker < 16
     → t.all ≡ with_one r s.all → t.shares ≡ with_share c.worker (with_one r) s.shares
-    → AreSumsOf cs s → AreSumsOf (changed id (with_holding r) cs) t
+    → AreSumsOf cs s → AreSumsOf (change_client id (with_holding r) cs) t
 sums_given id r c cs s t q lt moved_all moved_shares h =
-    sums_moved (with_one r) c.worker cs (changed id (with_holding r) cs) s t lt moved_all moved_shares
+    sums_moved (with_one r) c.worker cs (change_client id (with_holding r) cs) s t lt moved_all moved_shares
     (totals_given everyone id r c cs q refl refl)
     (totals_given (is_of c.worker) id r c cs q (same_worker c) (same_worker c))
     (λ w ne. totals_passed_by (is_of w) id (with_holding r) c cs q (other_worker c w ne) (other_worker c w ne))
@@ -66,17 +66,17 @@ sums_given id r c cs s t q lt moved_all moved_shares h =
 pub sums_taken : (id lo : ℕ) (r : Frames) (c : Client) (cs : List Client) (s t : Sums) → client_with id cs ≡ Some c → c.worker < 16
     → find (begins_at lo) c.holdings ≡ Some r
     → t.all ≡ without_one r s.all → t.shares ≡ with_share c.worker (without_one r) s.shares
-    → AreSumsOf cs s → AreSumsOf (changed id (without_holding lo) cs) t
+    → AreSumsOf cs s → AreSumsOf (change_client id (without_holding lo) cs) t
 sums_taken id lo r c cs s t q lt held moved_all moved_shares h =
-    sums_moved (without_one r) c.worker cs (changed id (without_holding lo) cs) s t lt moved_all moved_shares
+    sums_moved (without_one r) c.worker cs (change_client id (without_holding lo) cs) s t lt moved_all moved_shares
     (Leaves-without r _ _ (totals_taken everyone id lo r c cs q held refl refl))
     (Leaves-without r _ _ (totals_taken (is_of c.worker) id lo r c cs q held (same_worker c) (same_worker c)))
     (λ w ne. totals_passed_by (is_of w) id (without_holding lo) c cs q (other_worker c w ne) (other_worker c w ne))
     h
 
-pub sums_forgotten : (id : ℕ) (c : Client) (cs : List Client) (s : Sums) → client_with id cs ≡ Some c → c.holdings ≡ [] → AreSumsOf cs s → AreSumsOf (forgotten id cs) s
+pub sums_forgotten : (id : ℕ) (c : Client) (cs : List Client) (s : Sums) → client_with id cs ≡ Some c → c.holdings ≡ [] → AreSumsOf cs s → AreSumsOf (without_client id cs) s
 sums_forgotten id c cs s q none h =
-    sums_same cs (forgotten id cs) s (totals_forgotten everyone id c cs q none) (λ w. totals_forgotten (is_of w) id c cs q none) h
+    sums_same cs (without_client id cs) s (totals_forgotten everyone id c cs q none) (λ w. totals_forgotten (is_of w) id c cs q none) h
 
 pub sums_push : (c : Client) (cs : List Client) (s : Sums) → c.holdings ≡ [] → AreSumsOf cs s → AreSumsOf (cs ++ c ∷ []) s
 sums_push c cs s none h =
@@ -93,10 +93,10 @@ share_has_room r s w h sums lt = rw (sums.shares w lt ∙ share_of-by w r.client
 pub all_include : (id lo : ℕ) (r : Frames) (c : Client) (cs : List Client) (s : Sums) → client_with id cs ≡ Some c → find (begins_at lo) c.holdings ≡ Some r
     → AreSumsOf cs s → Include r s.all
 all_include id lo r c cs s q held sums =
-    rw (sums.all ∙ totals-by cs) (Leaves-include r _ (totals_by everyone (changed id (without_holding lo) cs)) (totals_taken everyone id lo r c cs q held refl refl))
+    rw (sums.all ∙ totals-by cs) (Leaves-include r _ (totals_by everyone (change_client id (without_holding lo) cs)) (totals_taken everyone id lo r c cs q held refl refl))
 
 pub share_includes : (id lo : ℕ) (r : Frames) (c : Client) (cs : List Client) (s : Sums) → client_with id cs ≡ Some c → find (begins_at lo) c.holdings ≡ Some r
     → c.worker < 16 → AreSumsOf cs s → Include r (share_at c.worker s.shares)
 share_includes id lo r c cs s q held lt sums =
     rw (sums.shares c.worker lt ∙ share_of-by c.worker cs)
-    (Leaves-include r _ (totals_by (is_of c.worker) (changed id (without_holding lo) cs)) (totals_taken (is_of c.worker) id lo r c cs q held (same_worker c) (same_worker c)))
+    (Leaves-include r _ (totals_by (is_of c.worker) (change_client id (without_holding lo) cs)) (totals_taken (is_of c.worker) id lo r c cs q held (same_worker c) (same_worker c)))

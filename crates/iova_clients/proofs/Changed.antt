@@ -6,7 +6,7 @@ use Rattle.std.specs.Option.{option_copied_mut}
 use Rattle.std.specs.Borrow.{MutBor}
 use Rattle.std.specs.Map.{lookup, remove_entry, set_value}
 use Rattle.std.proofs.lemmas.Bool.Decides.{nat_tests}
-use Rattle.iova_model.specs.Clients.{Client, client_with, changed, forgotten}
+use Rattle.iova_model.specs.Clients.{Client, client_with, change_client, without_client}
 use Rattle.iova_clients.specs.Registry.{is_serial}
 use Rattle.iova_clients.specs.Accounts.{Account, client_at, clients_at, spares_at}
 
@@ -48,8 +48,8 @@ spare_same id es fs same = rw (lookup-spares id fs, lookup-spares id es, same) r
 
 changed_step : (b : Bool) (id : ℕ) (f : Client → Client) (e : ℕ × Account) (a w : Account) (es : List (ℕ × Account)) → is_serial id e.0 ≡ b
     → cond b (Some e.1) (lookup (is_serial id) es) ≡ Some a → f (client_at (id, a)) ≡ client_at (id, w)
-    → (lookup (is_serial id) es ≡ Some a → clients_at (set_value (is_serial id) es w) ≡ changed id f (clients_at es))
-    → clients_at (cond b ((e.0, w) ∷ es) (e ∷ set_value (is_serial id) es w)) ≡ cond b (f (client_at e) ∷ clients_at es) (client_at e ∷ changed id f (clients_at es))
+    → (lookup (is_serial id) es ≡ Some a → clients_at (set_value (is_serial id) es w) ≡ change_client id f (clients_at es))
+    → clients_at (cond b ((e.0, w) ∷ es) (e ∷ set_value (is_serial id) es w)) ≡ cond b (f (client_at e) ∷ clients_at es) (client_at e ∷ change_client id f (clients_at es))
 changed_step true id f e a w es is q change ih =
     let same : e.0 ≡ id = grind (arith, nat_tests) in
     let mine : e.1 ≡ a = cc in
@@ -58,7 +58,7 @@ changed_step true id f e a w es is q change ih =
 changed_step false id f e a w es is q change ih = ap (λ cs. client_at e ∷ cs) (ih q)
 
 pub changed-at : (id : ℕ) (f : Client → Client) (a w : Account) (es : List (ℕ × Account)) → lookup (is_serial id) es ≡ Some a
-    → f (client_at (id, a)) ≡ client_at (id, w) → clients_at (set_value (is_serial id) es w) ≡ changed id f (clients_at es)
+    → f (client_at (id, a)) ≡ client_at (id, w) → clients_at (set_value (is_serial id) es w) ≡ change_client id f (clients_at es)
 changed-at id f a w [] q change = refl
 changed-at id f a w (e ∷ es) q change =
     changed_step (is_serial id e.0) id f e a w es refl q change (λ later. changed-at id f a w es later change)
@@ -106,12 +106,12 @@ spares-set id a w (e ∷ es) q same = step (is_serial id e.0) q (λ later. spare
 
 -- Leaving.
 
-pub forgotten-at : (id : ℕ) (es : List (ℕ × Account)) → clients_at (remove_entry (is_serial id) es) ≡ forgotten id (clients_at es)
+pub forgotten-at : (id : ℕ) (es : List (ℕ × Account)) → clients_at (remove_entry (is_serial id) es) ≡ without_client id (clients_at es)
 forgotten-at id [] = refl
 forgotten-at id (e ∷ es) = step (is_serial id e.0) (forgotten-at id es)
   where
-    step : (b : Bool) → clients_at (remove_entry (is_serial id) es) ≡ forgotten id (clients_at es)
-        → clients_at (cond b es (e ∷ remove_entry (is_serial id) es)) ≡ cond b (clients_at es) (client_at e ∷ forgotten id (clients_at es))
+    step : (b : Bool) → clients_at (remove_entry (is_serial id) es) ≡ without_client id (clients_at es)
+        → clients_at (cond b es (e ∷ remove_entry (is_serial id) es)) ≡ cond b (clients_at es) (client_at e ∷ without_client id (clients_at es))
     step true ih = refl
     step false ih = ap (λ cs. client_at e ∷ cs) ih
 

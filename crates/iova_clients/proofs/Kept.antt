@@ -5,7 +5,7 @@ use Rattle.std.specs.List.{AllByRecursion}
 use Rattle.std.specs.Map.{lookup}
 use Rattle.std.proofs.lemmas.Bool.Decides.{nat_tests}
 use Rattle.iova_range.specs.Frames.{Frames}
-use Rattle.iova_model.specs.Clients.{Client, new_client, has_id, client_with, changed, forgotten, insert_rising, begins_at, remove_at, with_holding, without_holding}
+use Rattle.iova_model.specs.Clients.{Client, new_client, has_id, client_with, change_client, without_client, insert_rising, begins_at, remove_at, with_holding, without_holding}
 use Rattle.iova_model.specs.Valid.{IsRequestSized, Rises, IsClient, SerialsRise}
 use Rattle.iova_clients.specs.Registry.{Registry, HoldsLow, IsRegistry, is_serial}
 use Rattle.iova_clients.specs.Accounts.{Account, client_at, clients_at}
@@ -31,20 +31,20 @@ id_found id c (x ∷ cs) q = step (has_id id x) refl q (λ later. id_found id c 
     step false this is ih = ih is
 
 pub all_changed : (P : Client → Type 0) (id : ℕ) (f : Client → Client) (c : Client) (cs : List Client) → AllByRecursion P cs → client_with id cs ≡ Some c → P (f c)
-    → AllByRecursion P (changed id f cs)
+    → AllByRecursion P (change_client id f cs)
 all_changed P id f c [] h q now = tt
 all_changed P id f c (x ∷ cs) h q now = step (has_id id x) q (λ later. all_changed P id f c cs h.1 later now)
   where
-    step : (b : Bool) → cond b (Some x) (client_with id cs) ≡ Some c → (client_with id cs ≡ Some c → AllByRecursion P (changed id f cs))
-        → AllByRecursion P (cond b (f x ∷ cs) (x ∷ changed id f cs))
+    step : (b : Bool) → cond b (Some x) (client_with id cs) ≡ Some c → (client_with id cs ≡ Some c → AllByRecursion P (change_client id f cs))
+        → AllByRecursion P (cond b (f x ∷ cs) (x ∷ change_client id f cs))
     step true is ih = let mine : c ≡ x = cc in (subst (λ y. P (f y)) mine now, h.1)
     step false is ih = (h.0, ih is)
 
-pub all_forgotten : (P : Client → Type 0) (id : ℕ) (cs : List Client) → AllByRecursion P cs → AllByRecursion P (forgotten id cs)
+pub all_forgotten : (P : Client → Type 0) (id : ℕ) (cs : List Client) → AllByRecursion P cs → AllByRecursion P (without_client id cs)
 all_forgotten P id [] h = tt
 all_forgotten P id (x ∷ cs) h = step (has_id id x) (all_forgotten P id cs h.1)
   where
-    step : (b : Bool) → AllByRecursion P (forgotten id cs) → AllByRecursion P (cond b cs (x ∷ forgotten id cs))
+    step : (b : Bool) → AllByRecursion P (without_client id cs) → AllByRecursion P (cond b cs (x ∷ without_client id cs))
     step true ih = h.1
     step false ih = (h.0, ih)
 
@@ -52,21 +52,21 @@ pub all_push : {X : Type 0} (P : X → Type 0) (x : X) (xs : List X) → AllByRe
 all_push P x [] h now = (now, tt)
 all_push P x (y ∷ xs) h now = (h.0, all_push P x xs h.1 now)
 
-pub length-changed : (id : ℕ) (f : Client → Client) (cs : List Client) → length (changed id f cs) ≡ length cs
+pub length-changed : (id : ℕ) (f : Client → Client) (cs : List Client) → length (change_client id f cs) ≡ length cs
 length-changed id f [] = refl
 length-changed id f (x ∷ cs) = step (has_id id x) (length-changed id f cs)
   where
-    step : (b : Bool) → length (changed id f cs) ≡ length cs → length (cond b (f x ∷ cs) (x ∷ changed id f cs)) ≡ suc (length cs)
+    step : (b : Bool) → length (change_client id f cs) ≡ length cs → length (cond b (f x ∷ cs) (x ∷ change_client id f cs)) ≡ suc (length cs)
     step true ih = refl
     step false ih = ap (λ n. suc n) ih
 
-length-forgotten : (id : ℕ) (cs : List Client) → length (forgotten id cs) ≤ length cs
+length-forgotten : (id : ℕ) (cs : List Client) → length (without_client id cs) ≤ length cs
 length-forgotten id [] = omega arith
 length-forgotten id (x ∷ cs) = step (has_id id x) (length-forgotten id cs)
   where
-    step : (b : Bool) → length (forgotten id cs) ≤ length cs → length (cond b cs (x ∷ forgotten id cs)) ≤ suc (length cs)
+    step : (b : Bool) → length (without_client id cs) ≤ length cs → length (cond b cs (x ∷ without_client id cs)) ≤ suc (length cs)
     step true ih = omega arith
-    step false ih = let h : suc (length (forgotten id cs)) ≤ suc (length cs) = omega arith in h
+    step false ih = let h : suc (length (without_client id cs)) ≤ suc (length cs) = omega arith in h
 
 -- The serials.
 
@@ -75,23 +75,23 @@ SerialsRise-below low high [] last le h = omega arith
 SerialsRise-below low high (c ∷ cs) last le h = (omega (arith, h.0), h.1)
 
 pub SerialsRise-changed : (below id : ℕ) (f : Client → Client) (c : Client) (cs : List Client) (last : ℕ) → SerialsRise below cs last → client_with id cs ≡ Some c → (f c).id ≡ c.id
-    → SerialsRise below (changed id f cs) last
+    → SerialsRise below (change_client id f cs) last
 SerialsRise-changed below id f c [] last h q same = h
 SerialsRise-changed below id f c (x ∷ cs) last h q same = step (has_id id x) q (λ later. SerialsRise-changed x.id id f c cs last h.1 later same)
   where
-    step : (b : Bool) → cond b (Some x) (client_with id cs) ≡ Some c → (client_with id cs ≡ Some c → SerialsRise x.id (changed id f cs) last)
-        → SerialsRise below (cond b (f x ∷ cs) (x ∷ changed id f cs)) last
+    step : (b : Bool) → cond b (Some x) (client_with id cs) ≡ Some c → (client_with id cs ≡ Some c → SerialsRise x.id (change_client id f cs) last)
+        → SerialsRise below (cond b (f x ∷ cs) (x ∷ change_client id f cs)) last
     step true is ih =
         let mine : x ≡ c = cc in
         let kept : (f x).id ≡ x.id = rw mine same in
         rw kept h
     step false is ih = (h.0, ih is)
 
-pub SerialsRise-forgotten : (below id : ℕ) (cs : List Client) (last : ℕ) → SerialsRise below cs last → SerialsRise below (forgotten id cs) last
+pub SerialsRise-forgotten : (below id : ℕ) (cs : List Client) (last : ℕ) → SerialsRise below cs last → SerialsRise below (without_client id cs) last
 SerialsRise-forgotten below id [] last h = h
 SerialsRise-forgotten below id (x ∷ cs) last h = step (has_id id x) (SerialsRise-forgotten x.id id cs last h.1)
   where
-    step : (b : Bool) → SerialsRise x.id (forgotten id cs) last → SerialsRise below (cond b cs (x ∷ forgotten id cs)) last
+    step : (b : Bool) → SerialsRise x.id (without_client id cs) last → SerialsRise below (cond b cs (x ∷ without_client id cs)) last
     step true ih = SerialsRise-below below x.id cs last (omega (arith, h.0)) h.1
     step false ih = (h.0, ih)
 
@@ -118,18 +118,18 @@ client_with_none below id (c ∷ cs) last h le =
     rw other (client_with_none c.id id cs last h.1 (omega (arith, h.0)))
 
 -- one that is forgotten is gone
-pub client_with-forgotten : (below id : ℕ) (cs : List Client) (last : ℕ) → SerialsRise below cs last → client_with id (forgotten id cs) ≡ None
+pub client_with-forgotten : (below id : ℕ) (cs : List Client) (last : ℕ) → SerialsRise below cs last → client_with id (without_client id cs) ≡ None
 client_with-forgotten below id [] last h = refl
 client_with-forgotten below id (x ∷ cs) last h = step (has_id id x) refl (client_with-forgotten x.id id cs last h.1)
   where
-    step : (b : Bool) → has_id id x ≡ b → client_with id (forgotten id cs) ≡ None → client_with id (cond b cs (x ∷ forgotten id cs)) ≡ None
+    step : (b : Bool) → has_id id x ≡ b → client_with id (without_client id cs) ≡ None → client_with id (cond b cs (x ∷ without_client id cs)) ≡ None
     step true is ih = let e : x.id ≡ id = grind (arith, nat_tests) in client_with_none x.id id cs last h.1 (omega arith)
     step false is ih = rw is ih
 
 -- The registry.
 
 pub IsRegistry-changed : (id : ℕ) (f : Client → Client) (c : Client) (r s : Registry) → IsRegistry r → client_with id r.clients ≡ Some c
-    → (f c).id ≡ c.id → IsClient 16 (f c) → HoldsLow (f c) → s.clients ≡ changed id f r.clients → s.serial ≡ r.serial → IsRegistry s
+    → (f c).id ≡ c.id → IsClient 16 (f c) → HoldsLow (f c) → s.clients ≡ change_client id f r.clients → s.serial ≡ r.serial → IsRegistry s
 IsRegistry-changed id f c r s h q same is_client low clients serial = record {
   clients = rw (clients, serial) (record {
     room = omega (arith, length-changed id f r.clients, h.clients.room);
@@ -140,7 +140,7 @@ IsRegistry-changed id f c r s h q same is_client low clients serial = record {
   low = rw clients (all_changed HoldsLow id f c r.clients h.low q low);
 }
 
-pub IsRegistry-forgotten : (id : ℕ) (r s : Registry) → IsRegistry r → s.clients ≡ forgotten id r.clients → s.serial ≡ r.serial → IsRegistry s
+pub IsRegistry-forgotten : (id : ℕ) (r s : Registry) → IsRegistry r → s.clients ≡ without_client id r.clients → s.serial ≡ r.serial → IsRegistry s
 IsRegistry-forgotten id r s h clients serial = record {
   clients = rw (clients, serial) (record {
     room = omega (arith, length-forgotten id r.clients, h.clients.room);

@@ -5,7 +5,7 @@ use Rattle.std.specs.List.{AllByRecursion}
 use Rattle.std.proofs.lemmas.List.Sums.{sum_by-cons, sum_by-append}
 use Rattle.iova_range.specs.Frames.{Frames}
 use Rattle.iova_model.specs.declared.totals.Totals.{Totals}
-use Rattle.iova_model.specs.Clients.{Client, has_id, client_with, changed, forgotten, insert_rising, begins_at, remove_at, with_holding, without_holding, totals_of, all_holdings, totals, share_of}
+use Rattle.iova_model.specs.Clients.{Client, has_id, client_with, change_client, without_client, insert_rising, begins_at, remove_at, with_holding, without_holding, totals_of, all_holdings, totals, share_of}
 use Rattle.iova_model.specs.Valid.{IsClient}
 use Rattle.iova_clients.specs.Registry.{Registry, IsBelowTop, HoldsLow, IsRegistry}
 use Rattle.iova_clients.proofs.Kept.{length-insert_rising}
@@ -77,36 +77,36 @@ share_of-by worker cs = totals_of-by (is_of worker) cs
 -- A sum over the clients, as one of them changes.
 
 pub sum_changed : (m : Client → ℕ) (id : ℕ) (f : Client → Client) (c : Client) (cs : List Client) → client_with id cs ≡ Some c
-    → sum_by m (changed id f cs) + m c ≡ sum_by m cs + m (f c)
+    → sum_by m (change_client id f cs) + m c ≡ sum_by m cs + m (f c)
 sum_changed m id f c [] q = absurd (let bad : None ≡ Some c = q in cc)
 sum_changed m id f c (x ∷ cs) q = step (has_id id x) q (λ later. sum_changed m id f c cs later)
   where
-    step : (b : Bool) → cond b (Some x) (client_with id cs) ≡ Some c → (client_with id cs ≡ Some c → sum_by m (changed id f cs) + m c ≡ sum_by m cs + m (f c))
-        → sum_by m (cond b (f x ∷ cs) (x ∷ changed id f cs)) + m c ≡ sum_by m (x ∷ cs) + m (f c)
+    step : (b : Bool) → cond b (Some x) (client_with id cs) ≡ Some c → (client_with id cs ≡ Some c → sum_by m (change_client id f cs) + m c ≡ sum_by m cs + m (f c))
+        → sum_by m (cond b (f x ∷ cs) (x ∷ change_client id f cs)) + m c ≡ sum_by m (x ∷ cs) + m (f c)
     step true is ih =
         let mine : x ≡ c = cc in
         rw mine (let a = sum_by-cons m (f c) cs in let b = sum_by-cons m c cs in omega arith)
     step false is ih =
         let later = ih is in
-        let a = sum_by-cons m x (changed id f cs) in let b = sum_by-cons m x cs in omega arith
+        let a = sum_by-cons m x (change_client id f cs) in let b = sum_by-cons m x cs in omega arith
 
 pub sum_forgotten : (m : Client → ℕ) (id : ℕ) (c : Client) (cs : List Client) → client_with id cs ≡ Some c
-    → sum_by m (forgotten id cs) + m c ≡ sum_by m cs
+    → sum_by m (without_client id cs) + m c ≡ sum_by m cs
 sum_forgotten m id c [] q = absurd (let bad : None ≡ Some c = q in cc)
 sum_forgotten m id c (x ∷ cs) q = step (has_id id x) q (λ later. sum_forgotten m id c cs later)
   where
-    step : (b : Bool) → cond b (Some x) (client_with id cs) ≡ Some c → (client_with id cs ≡ Some c → sum_by m (forgotten id cs) + m c ≡ sum_by m cs)
-        → sum_by m (cond b cs (x ∷ forgotten id cs)) + m c ≡ sum_by m (x ∷ cs)
+    step : (b : Bool) → cond b (Some x) (client_with id cs) ≡ Some c → (client_with id cs ≡ Some c → sum_by m (without_client id cs) + m c ≡ sum_by m cs)
+        → sum_by m (cond b cs (x ∷ without_client id cs)) + m c ≡ sum_by m (x ∷ cs)
     step true is ih =
         let mine : x ≡ c = cc in
         rw mine (let b = sum_by-cons m c cs in omega arith)
     step false is ih =
         let later = ih is in
-        let a = sum_by-cons m x (forgotten id cs) in let b = sum_by-cons m x cs in omega arith
+        let a = sum_by-cons m x (without_client id cs) in let b = sum_by-cons m x cs in omega arith
 
 -- no term changes
 pub sum_kept : (m : Client → ℕ) (id : ℕ) (f : Client → Client) (c : Client) (cs : List Client) → client_with id cs ≡ Some c → m (f c) ≡ m c
-    → sum_by m (changed id f cs) ≡ sum_by m cs
+    → sum_by m (change_client id f cs) ≡ sum_by m cs
 sum_kept m id f c cs q same = let e = sum_changed m id f c cs q in omega arith
 
 -- Sums over holdings.
@@ -141,7 +141,7 @@ length_removed lo r (x ∷ hs) q = step (begins_at lo x) q (λ later. length_rem
 
 -- where each sum keeps its terms, the totals stay
 pub totals_kept : (p : Client → Bool) (id : ℕ) (f : Client → Client) (c : Client) (cs : List Client) → client_with id cs ≡ Some c
-    → p (f c) ≡ p c → (f c).holdings ≡ c.holdings → totals_by p (changed id f cs) ≡ totals_by p cs
+    → p (f c) ≡ p c → (f c).holdings ≡ c.holdings → totals_by p (change_client id f cs) ≡ totals_by p cs
 totals_kept p id f c cs q tests holdings =
     same_totals _ _ _ _ _ _
     (sum_kept (passing p count_of) id f c cs q (rw (tests, holdings) refl))
@@ -150,7 +150,7 @@ totals_kept p id f c cs q tests holdings =
 
 -- a client that doesn't pass changes nothing
 pub totals_passed_by : (p : Client → Bool) (id : ℕ) (f : Client → Client) (c : Client) (cs : List Client) → client_with id cs ≡ Some c
-    → p (f c) ≡ false → p c ≡ false → totals_by p (changed id f cs) ≡ totals_by p cs
+    → p (f c) ≡ false → p c ≡ false → totals_by p (change_client id f cs) ≡ totals_by p cs
 totals_passed_by p id f c cs q after before =
     same_totals _ _ _ _ _ _
     (sum_kept (passing p count_of) id f c cs q (rw (after, before) refl))
@@ -158,17 +158,17 @@ totals_passed_by p id f c cs q after before =
     (sum_kept (passing p sum_lo_of) id f c cs q (rw (after, before) refl))
 
 passing_given : (p : Client → Bool) (m : Client → ℕ) (g : ℕ) (id : ℕ) (f : Client → Client) (c : Client) (cs : List Client) → client_with id cs ≡ Some c
-    → p (f c) ≡ true → p c ≡ true → m (f c) ≡ m c + g → sum_by (passing p m) (changed id f cs) ≡ sum_by (passing p m) cs + g
+    → p (f c) ≡ true → p c ≡ true → m (f c) ≡ m c + g → sum_by (passing p m) (change_client id f cs) ≡ sum_by (passing p m) cs + g
 passing_given p m g id f c cs q after before more =
     let e = sum_changed (passing p m) id f c cs q in
-    let e' : sum_by (passing p m) (changed id f cs) + m c ≡ sum_by (passing p m) cs + m (f c) = rw (after, before) at e in
+    let e' : sum_by (passing p m) (change_client id f cs) + m c ≡ sum_by (passing p m) cs + m (f c) = rw (after, before) at e in
     omega arith
 
 passing_taken : (p : Client → Bool) (m : Client → ℕ) (g : ℕ) (id : ℕ) (f : Client → Client) (c : Client) (cs : List Client) → client_with id cs ≡ Some c
-    → p (f c) ≡ true → p c ≡ true → m (f c) + g ≡ m c → sum_by (passing p m) (changed id f cs) + g ≡ sum_by (passing p m) cs
+    → p (f c) ≡ true → p c ≡ true → m (f c) + g ≡ m c → sum_by (passing p m) (change_client id f cs) + g ≡ sum_by (passing p m) cs
 passing_taken p m g id f c cs q after before less =
     let e = sum_changed (passing p m) id f c cs q in
-    let e' : sum_by (passing p m) (changed id f cs) + m c ≡ sum_by (passing p m) cs + m (f c) = rw (after, before) at e in
+    let e' : sum_by (passing p m) (change_client id f cs) + m c ≡ sum_by (passing p m) cs + m (f c) = rw (after, before) at e in
     omega arith
 
 -- one holding more, number by number
@@ -179,7 +179,7 @@ numbers_with_one r t =
     same_totals _ _ _ _ _ _ refl (ap (λ n. t.frames + n) len) (ap (λ n. t.sum_lo + n) lo)
 
 pub totals_given : (p : Client → Bool) (id : ℕ) (r : Frames) (c : Client) (cs : List Client) → client_with id cs ≡ Some c
-    → p (with_holding r c) ≡ true → p c ≡ true → totals_by p (changed id (with_holding r) cs) ≡ with_one r (totals_by p cs)
+    → p (with_holding r c) ≡ true → p c ≡ true → totals_by p (change_client id (with_holding r) cs) ≡ with_one r (totals_by p cs)
 totals_given p id r c cs q after before =
     same_totals _ _ _ _ _ _
     (passing_given p count_of 1 id (with_holding r) c cs q after before (length-insert_rising r c.holdings))
@@ -194,7 +194,7 @@ pub record Leaves (r : Frames) (old new : Totals) : Type 0 where
   pub sum_lo : new.sum_lo + r.lo ≡ old.sum_lo
 
 pub totals_taken : (p : Client → Bool) (id lo : ℕ) (r : Frames) (c : Client) (cs : List Client) → client_with id cs ≡ Some c → find (begins_at lo) c.holdings ≡ Some r
-    → p (without_holding lo c) ≡ true → p c ≡ true → Leaves r (totals_by p cs) (totals_by p (changed id (without_holding lo) cs))
+    → p (without_holding lo c) ≡ true → p c ≡ true → Leaves r (totals_by p cs) (totals_by p (change_client id (without_holding lo) cs))
 totals_taken p id lo r c cs q held after before = record {
   count = passing_taken p count_of 1 id (without_holding lo) c cs q after before (length_removed lo r c.holdings held);
   frames = passing_taken p frames_of r.len id (without_holding lo) c cs q after before (sum_removed (λ x. x.len) lo r c.holdings held);
@@ -208,15 +208,15 @@ pub Leaves-without : (r : Frames) (old new : Totals) → Leaves r old new → ne
 Leaves-without r old new h = same_totals _ _ _ _ _ _ (omega (arith, h.count)) (omega (arith, h.frames)) (omega (arith, h.sum_lo))
 
 passing_forgotten : (p : Client → Bool) (m : Client → ℕ) (id : ℕ) (c : Client) (cs : List Client) → client_with id cs ≡ Some c → m c ≡ 0
-    → sum_by (passing p m) (forgotten id cs) ≡ sum_by (passing p m) cs
+    → sum_by (passing p m) (without_client id cs) ≡ sum_by (passing p m) cs
 passing_forgotten p m id c cs q none = step (p c) refl
   where
-    step : (b : Bool) → p c ≡ b → sum_by (passing p m) (forgotten id cs) ≡ sum_by (passing p m) cs
-    step true is = let e : sum_by (passing p m) (forgotten id cs) + m c ≡ sum_by (passing p m) cs = rw is at (sum_forgotten (passing p m) id c cs q) in omega arith
-    step false is = let e : sum_by (passing p m) (forgotten id cs) + 0 ≡ sum_by (passing p m) cs = rw is at (sum_forgotten (passing p m) id c cs q) in omega arith
+    step : (b : Bool) → p c ≡ b → sum_by (passing p m) (without_client id cs) ≡ sum_by (passing p m) cs
+    step true is = let e : sum_by (passing p m) (without_client id cs) + m c ≡ sum_by (passing p m) cs = rw is at (sum_forgotten (passing p m) id c cs q) in omega arith
+    step false is = let e : sum_by (passing p m) (without_client id cs) + 0 ≡ sum_by (passing p m) cs = rw is at (sum_forgotten (passing p m) id c cs q) in omega arith
 
 pub totals_forgotten : (p : Client → Bool) (id : ℕ) (c : Client) (cs : List Client) → client_with id cs ≡ Some c → c.holdings ≡ []
-    → totals_by p (forgotten id cs) ≡ totals_by p cs
+    → totals_by p (without_client id cs) ≡ totals_by p cs
 totals_forgotten p id c cs q none =
     same_totals _ _ _ _ _ _
     (passing_forgotten p count_of id c cs q (ap length none))

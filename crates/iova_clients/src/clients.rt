@@ -1,7 +1,7 @@
 //! The clients of a domain.
 ghost use Rattle.std.specs.Prelude.{◌≡◌, ◌≢◌, ◌+◌, ◌-◌, ◌^◌, ◌<◌, ◌≤◌, ℕ, [], ◌∷◌, ◌++◌, find, length, option_map, option_copied, option_and_then, IfOk, OnOk, OnErr, Ok, Err, IsOkUnless, IfSome, IfNone, IsSomeAnd, All, IsTrue, ◌↔◌, false};
 ghost use Rattle.iova_model.specs.Fit.{is_covered};
-ghost use Rattle.iova_model.specs.Clients.{new_client, client_with, client_of, begins_at, changed, forgotten, with_holding, without_holding, marked, newer_client, totals, share_of};
+ghost use Rattle.iova_model.specs.Clients.{new_client, client_with, client_of, begins_at, change_client, without_client, with_holding, without_holding, with_mark, newer_client, totals, share_of};
 ghost use Rattle.iova_clients.specs.Registry.{empty_registry, spare_of, IsRegistry, open_refusal, room_refusal, CanBeGiven, held_at, lowest, count_held, flags_of, CanBeForgotten, IsHolder};
 
 use crate::flags::ClientFlags;
@@ -279,7 +279,8 @@ impl Clients {
         requires sized { range.len ≤ MAX_FRAMES }
         requires low { range.lo + range.len ≤ 2 ^ 40 }
         ensures range { result ≡ range }
-        ensures clients { self.new.clients ≡ changed id (with_holding range) self.old.clients }
+        ensures clients { self.new.clients
+            ≡ change_client id (with_holding range) self.old.clients }
         ensures serial { self.new.serial ≡ self.old.serial }
         ensures spare { spare_of id self.new + 1 ≡ spare_of id self.old }
         ensures others { (other : ℕ) → other ≢ id
@@ -300,7 +301,8 @@ impl Clients {
         requires sized { range.len ≤ MAX_FRAMES }
         requires low { range.lo + range.len ≤ 2 ^ 40 }
         ensures range { result ≡ range }
-        ensures clients { self.new.clients ≡ changed id (with_holding range) self.old.clients }
+        ensures clients { self.new.clients
+            ≡ change_client id (with_holding range) self.old.clients }
         ensures serial { self.new.serial ≡ self.old.serial }
         ensures spare { spare_of id self.new + 1 ≡ spare_of id self.old }
         ensures others { (other : ℕ) → other ≢ id
@@ -316,7 +318,8 @@ impl Clients {
         requires spare { 1 ≤ spare_of id self.old }
         requires sized { range.len ≤ MAX_FRAMES }
         requires low { range.lo + range.len ≤ 2 ^ 40 }
-        ensures clients { self.new.clients ≡ changed id (with_holding range) self.old.clients }
+        ensures clients { self.new.clients
+            ≡ change_client id (with_holding range) self.old.clients }
         ensures serial { self.new.serial ≡ self.old.serial }
         ensures spare { spare_of id self.new + 1 ≡ spare_of id self.old }
         ensures others { (other : ℕ) → other ≢ id
@@ -336,7 +339,7 @@ impl Clients {
     pub fn take(&mut self, id: ClientId, lo: u64) -> Result<Range, Refusal>
         ensures value { result ≡ held_at lo (client_with id self.old.clients) }
         ensures clients { OnOk result (self.new.clients
-            ≡ changed id (without_holding lo) self.old.clients) }
+            ≡ change_client id (without_holding lo) self.old.clients) }
         ensures serial { self.new.serial ≡ self.old.serial }
         ensures spare { OnOk result (spare_of id self.new ≡ spare_of id self.old + 1) }
         ensures others { (other : ℕ) → other ≢ id
@@ -354,7 +357,8 @@ impl Clients {
     /// same. Refused by `NoClient` where there is no such client.
     pub fn mark_closing(&mut self, id: ClientId) -> Result<u64, Refusal>
         ensures value { result ≡ count_held (client_with id self.old.clients) }
-        ensures clients { OnOk result (self.new.clients ≡ changed id marked self.old.clients) }
+        ensures clients { OnOk result
+            (self.new.clients ≡ change_client id with_mark self.old.clients) }
         ensures serial { self.new.serial ≡ self.old.serial }
         ensures spares { self.new.spares ≡ self.old.spares }
         ensures unchanged { OnErr result (self.new ≡ self.old) }
@@ -367,7 +371,7 @@ impl Clients {
     /// Forgets a client that is closing and has no holding. Its serial is not given again.
     pub fn forget(&mut self, id: ClientId)
         requires { IsSomeAnd (client_with id self.old.clients) CanBeForgotten }
-        ensures clients { self.new.clients ≡ forgotten id self.old.clients }
+        ensures clients { self.new.clients ≡ without_client id self.old.clients }
         ensures serial { self.new.serial ≡ self.old.serial }
         ensures spare { spare_of id self.new ≡ 0 }
         ensures others { (other : ℕ) → other ≢ id

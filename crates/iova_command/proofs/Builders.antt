@@ -13,7 +13,7 @@ use Rattle.clap.specs.declared.builder.arg.Arg.{Arg}
 use Rattle.clap.specs.declared.builder.command.Command.{Command}
 use Rattle.clap.specs.declared.builder.value_parser.ValueParser.{ValueParser}
 use Rattle.clap.specs.declared.builder.value_parser.ValueParser.TheVariants as parser
-use Rattle.iova_command.specs.Commands.{IsCommand, versioned}
+use Rattle.iova_command.specs.Commands.{IsCommand, with_version}
 
 -- a new command with a text about it
 pub new_command : (name : Text) (old new : Command) (text : Bor Text) → app_of old ≡ new_app name → (out-Command old).has_globals ≡ false
@@ -27,9 +27,9 @@ new_command name old new text app local fields = record {
 pub told_more : (app : App) (old versioned_one used new : Command) (version usage help : Bor Text) → IsCommand app old
     → out-Command versioned_one ≡ record (out-Command old) { version = Some version }
     → out-Command used ≡ record (out-Command versioned_one) { usage_str = Some usage }
-    → out-Command new ≡ record (out-Command used) { after_help = Some help } → IsCommand (versioned app) new
+    → out-Command new ≡ record (out-Command used) { after_help = Some help } → IsCommand (with_version app) new
 told_more app old versioned_one used new version usage help is first second third = record {
-  app = ap app_of_fields third ∙ ap app_of_fields second ∙ ap app_of_fields first ∙ ap versioned is.app;
+  app = ap app_of_fields third ∙ ap app_of_fields second ∙ ap app_of_fields first ∙ ap with_version is.app;
   local = ap (λ (f : Command-F Command). f.has_globals) third ∙ ap (λ (f : Command-F Command). f.has_globals) second
       ∙ ap (λ (f : Command-F Command). f.has_globals) first ∙ is.local;
 }

@@ -87,14 +87,14 @@ check_app =
     (place_rule (codes "file"))
 
 -- the program's own name; it tells its version
-abbrev pub versioned : App → App
-versioned app = record app { top = record app.top { has_version = true } }
+abbrev pub with_version : App → App
+with_version app = record app { top = record app.top { has_version = true } }
 
 -- the program
 abbrev pub iovad_app : App
 iovad_app =
     with_subcommand (with_subcommand (with_subcommand
-    (with_subcommand (with_subcommand (versioned (new_app (codes "iovad"))) replay_app.top)
+    (with_subcommand (with_subcommand (with_version (new_app (codes "iovad"))) replay_app.top)
     serve_app.top) ask_app.top) check_app.top) control_app.top
 
 -- a command that is read so, with no option for all of its subcommands

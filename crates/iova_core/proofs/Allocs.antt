@@ -9,7 +9,7 @@ use Rattle.iova_range.specs.declared.refusal.Refusal.TheVariants as refusal
 use Rattle.iova_model.specs.declared.step.Step.TheVariants as step
 use Rattle.iova_model.specs.declared.step.Point.{Point}
 use Rattle.iova_model.specs.declared.step.Point.TheVariants as point
-use Rattle.iova_model.specs.Clients.{Client, client_with, client_of, changed, with_holding, begins_at}
+use Rattle.iova_model.specs.Clients.{Client, client_with, client_of, change_client, with_holding, begins_at}
 use Rattle.iova_model.specs.Laws.{StepsKeepValidity}
 use Rattle.iova_model.specs.State.{State}
 use Rattle.iova_model.specs.Valid.{IsValid}
@@ -20,7 +20,7 @@ use Rattle.iova_depot.specs.Cached.{Cached}
 use Rattle.iova_core.specs.declared.walk.Walked.{Walked}
 use Rattle.iova_core.specs.Reclaim.{Exchanges}
 use Rattle.iova_core.specs.Domain.{Parts, state_of, IsDomain}
-use Rattle.iova_core.specs.Walk.{ArePartsOf, Comes, point_of, placed, found_as}
+use Rattle.iova_core.specs.Walk.{ArePartsOf, Comes, point_of, placed_ranges, found_as}
 use Rattle.iova_core.proofs.Outcomes.{owner_is}
 use Rattle.iova_core.proofs.Queues.{inserted_load}
 use Rattle.iova_core.proofs.Reductions.{room_refusal_of, alloc_walks}
@@ -92,7 +92,7 @@ begins_itself r = let e : (r.lo == r.lo) ≡ true = grind (arith, nat_tests) in 
 
 -- The walk of a request that may be asked.
 module _ (p : Parts) (h : IsDomain p) (w id frames limit : ℕ) (c : Client) (asked : IsAsked (state_of p) w id frames c) (tree : Space) (cached : Cached) (f : Walked)
-    (comes : (s : State) → ArePartsOf p.tree p.cached.caches s → Comes (next.walk s w c.sac (need frames) limit (point_of f)) f cached.caches) (elsewhere : point_of f ≢ point.Ledger) (ex : Exchanges p.tree tree p.cached cached (placed f) []) where
+    (comes : (s : State) → ArePartsOf p.tree p.cached.caches s → Comes (next.walk s w c.sac (need frames) limit (point_of f)) f cached.caches) (elsewhere : point_of f ≢ point.Ledger) (ex : Exchanges p.tree tree p.cached cached (placed_ranges f) []) where
   stands : ArePartsOf p.tree p.cached.caches (state_of p)
   stands = record { bounds = refl; windows = refl; cached = refl; tied = h.tied }
 
@@ -105,14 +105,14 @@ module _ (p : Parts) (h : IsDomain p) (w id frames limit : ℕ) (c : Client) (as
   not_ledger point.Last other = refl
 
   -- what the definitions answer
-  pub alloc_is : next.alloc (state_of p) w id frames limit (point_of f) ≡ next.given (found_as f) (next.with_caches (state_of p) cached.caches) id (need frames)
+  pub alloc_is : next.alloc (state_of p) w id frames limit (point_of f) ≡ next.give (found_as f) (next.with_caches (state_of p) cached.caches) id (need frames)
   alloc_is =
       let s = state_of p in
       let t = next.walk s w c.sac (need frames) limit (point_of f) in
       let e = comes s stands in
       let state : t.state ≡ next.with_caches s cached.caches = (walk_walked s w c.sac (need frames) limit (point_of f)).is ∙ ap (λ x. next.with_caches s x) e.left in
       alloc_walks s w id frames limit (point_of f) c asked.tests asked.client asked.room (not_ledger (point_of f) elsewhere)
-      ∙ (ap (λ x. next.given x t.state id (need frames)) e.found ∙ ap (λ x. next.given (found_as f) x id (need frames)) state)
+      ∙ (ap (λ x. next.give x t.state id (need frames)) e.found ∙ ap (λ x. next.give (found_as f) x id (need frames)) state)
 
   -- Caches that were moved or emptied, and no more.
   abbrev pub walked_parts : Registry → Parts
@@ -128,14 +128,14 @@ module _ (p : Parts) (h : IsDomain p) (w id frames limit : ℕ) (c : Client) (as
       ∙ ap (λ x. made tree.bounds cached.workers tree.windows r.clients x) (sym serial))))
 
   -- what others have has grown by what was found
-  grown : (weigh : Frames → ℕ) → sum_by weigh tree.inserted + weight.cached weigh p.cached.caches ≡ load weigh (state_of p) + weight.cached weigh cached.caches + weight.ranges weigh (placed f)
+  grown : (weigh : Frames → ℕ) → sum_by weigh tree.inserted + weight.cached weigh p.cached.caches ≡ load weigh (state_of p) + weight.cached weigh cached.caches + weight.ranges weigh (placed_ranges f)
   grown weigh =
-      omega (arith, ex.balance weigh, inserted_load p weigh h, cached_sum weigh p.cached.caches, cached_sum weigh cached.caches, weight.ranges_are weigh (placed f), weight.ranges_are weigh [])
+      omega (arith, ex.balance weigh, inserted_load p weigh h, cached_sum weigh p.cached.caches, cached_sum weigh cached.caches, weight.ranges_are weigh (placed_ranges f), weight.ranges_are weigh [])
 
   profile_kept : cached.profile ≡ tree.bounds.profile
   profile_kept = ex.profile ∙ (h.profile ∙ sym (ap (λ (b : Extent). b.profile) ex.bounds))
 
-  pub domain_walked : StepsKeepValidity → (r : Registry) → r.clients ≡ p.clients.clients → r.serial ≡ p.clients.serial → placed f ≡ [] → (next.alloc (state_of p) w id frames limit (point_of f)).state ≡ state_of (walked_parts r) → IsDomain (walked_parts r)
+  pub domain_walked : StepsKeepValidity → (r : Registry) → r.clients ≡ p.clients.clients → r.serial ≡ p.clients.serial → placed_ranges f ≡ [] → (next.alloc (state_of p) w id frames limit (point_of f)).state ≡ state_of (walked_parts r) → IsDomain (walked_parts r)
   domain_walked law r clients serial nothing leaves =
       let q = walked_parts r in
       record {
@@ -148,8 +148,8 @@ module _ (p : Parts) (h : IsDomain p) (w id frames limit : ℕ) (c : Client) (as
       }
 
   -- A range was found.
-  module _ (r : Frames) (is : placed f ≡ r ∷ []) where
-    weighs : (weigh : Frames → ℕ) → weight.ranges weigh (placed f) ≡ weigh r
+  module _ (r : Frames) (is : placed_ranges f ≡ r ∷ []) where
+    weighs : (weigh : Frames → ℕ) → weight.ranges weigh (placed_ranges f) ≡ weigh r
     weighs weigh = omega (arith, ap (weight.ranges weigh) is)
 
     pub found_low : r.lo + r.len ≤ 2 ^ 40
@@ -165,7 +165,7 @@ module _ (p : Parts) (h : IsDomain p) (w id frames limit : ℕ) (c : Client) (as
         rw there (record { room = not_full c.closing (length c.holdings) asked.room; new = none_begins r.lo c.holdings none })
 
     -- and given
-    pub given_state : (r' : Registry) → r'.clients ≡ changed id (with_holding r) p.clients.clients → r'.serial ≡ p.clients.serial → r.len ≡ need frames → found_as f ≡ next.At r.lo → (next.alloc (state_of p) w id frames limit (point_of f)).state ≡ state_of (walked_parts r')
+    pub given_state : (r' : Registry) → r'.clients ≡ change_client id (with_holding r) p.clients.clients → r'.serial ≡ p.clients.serial → r.len ≡ need frames → found_as f ≡ next.At r.lo → (next.alloc (state_of p) w id frames limit (point_of f)).state ≡ state_of (walked_parts r')
     given_state r' clients serial size at =
         let t = next.with_caches (state_of p) cached.caches in
         let one : ℕ → Frames = λ n. record { lo = r.lo; len = n } in
@@ -173,11 +173,11 @@ module _ (p : Parts) (h : IsDomain p) (w id frames limit : ℕ) (c : Client) (as
         let made : List Client → State = λ cs. next.with_clients t cs in
         let kept : Registry = record { clients = p.clients.clients; serial = r'.serial; spares = r'.spares } in
         ap (λ (n : next.Next). n.state) alloc_is
-        ∙ (ap (λ x. (next.given x t id (need frames)).state) at
-        ∙ (ap (λ x. made (changed id (with_holding x) p.clients.clients)) range
+        ∙ (ap (λ x. (next.give x t id (need frames)).state) at
+        ∙ (ap (λ x. made (change_client id (with_holding x) p.clients.clients)) range
         ∙ (ap made (sym clients) ∙ ap (λ x. next.with_clients x r'.clients) (walked_state kept refl serial))))
 
-    pub domain_given : StepsKeepValidity → (r' : Registry) → r'.clients ≡ changed id (with_holding r) p.clients.clients → (next.alloc (state_of p) w id frames limit (point_of f)).state ≡ state_of (walked_parts r') → IsDomain (walked_parts r')
+    pub domain_given : StepsKeepValidity → (r' : Registry) → r'.clients ≡ change_client id (with_holding r) p.clients.clients → (next.alloc (state_of p) w id frames limit (point_of f)).state ≡ state_of (walked_parts r') → IsDomain (walked_parts r')
     domain_given law r' clients leaves =
         let q = walked_parts r' in
         record {

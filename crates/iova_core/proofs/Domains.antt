@@ -12,10 +12,10 @@ use Rattle.iova_model.specs.Flushes.{Flushes}
 use Rattle.iova_model.specs.State.{new_domain}
 use Rattle.iova_model.specs.Valid.{IsValid}
 use Rattle.iova_model.specs.Laws.{NewDomainsAreValid, StepsKeepValidity}
-use Rattle.iova_model.specs.Next.{Next, next, no_worker, opened, with_flushes, with_clients}
+use Rattle.iova_model.specs.Next.{Next, next, no_worker, with_new_client, with_flushes, with_clients}
 use Rattle.iova_tree.specs.Space.{Space, IsSpace, ranges_of}
 use Rattle.iova_clients.specs.Registry.{Registry, open_refusal}
-use Rattle.iova_model.specs.Clients.{Client, new_client, client_with, changed, marked, forgotten}
+use Rattle.iova_model.specs.Clients.{Client, new_client, client_with, change_client, with_mark, without_client}
 use Rattle.iova_core.proofs.Reductions.{open_taken}
 use Rattle.iova_depot.specs.Cached.{Cached, new_cached}
 use Rattle.iova_core.specs.Tied.{IsTied}
@@ -115,18 +115,18 @@ domain_opened law p r w sac h known none clients serial =
     let s = state_of p in
     let q : Parts = record p { clients = r } in
     let test : no_worker s w ≡ false = grind (arith, nat_tests) in
-    let leaves : opened s w sac ≡ state_of q = rw (clients, serial) refl in
+    let leaves : with_new_client s w sac ≡ state_of q = rw (clients, serial) refl in
     let taken : (next s (step.Open w sac) point.Never).state ≡ state_of q = ap (λ (n : Next). n.state) (open_taken s w sac test none) ∙ leaves in
     domain_moved p q h (subst IsValid taken (law s (step.Open w sac) point.Never h.valid)) (subst (λ t. IsMoved s t [] []) leaves (opened_moved s w sac)) refl refl refl
 
 -- a client was marked
-pub domain_marked : (p : Parts) (r : Registry) (id : ℕ) (c : Client) → IsDomain p → client_with id p.clients.clients ≡ Some c → r.clients ≡ changed id marked p.clients.clients → r.serial ≡ p.clients.serial → IsDomain (record p { clients = r })
+pub domain_marked : (p : Parts) (r : Registry) (id : ℕ) (c : Client) → IsDomain p → client_with id p.clients.clients ≡ Some c → r.clients ≡ change_client id with_mark p.clients.clients → r.serial ≡ p.clients.serial → IsDomain (record p { clients = r })
 domain_marked p r id c h found clients serial =
     let s = state_of p in
     domain_clients p r h (subst (λ x. IsValid (with_clients s x)) (sym clients) (with_marked_valid s id c h.valid found)) (subst (λ x. IsMoved s (with_clients s x) [] []) (sym clients) (marked_moved s id)) serial
 
 -- a client without holdings is gone
-pub domain_forgotten : (p : Parts) (r : Registry) (id : ℕ) (c : Client) → IsDomain p → client_with id p.clients.clients ≡ Some c → c.holdings ≡ [] → r.clients ≡ forgotten id p.clients.clients → r.serial ≡ p.clients.serial → IsDomain (record p { clients = r })
+pub domain_forgotten : (p : Parts) (r : Registry) (id : ℕ) (c : Client) → IsDomain p → client_with id p.clients.clients ≡ Some c → c.holdings ≡ [] → r.clients ≡ without_client id p.clients.clients → r.serial ≡ p.clients.serial → IsDomain (record p { clients = r })
 domain_forgotten p r id c h found none clients serial =
     let s = state_of p in
     domain_clients p r h (subst (λ x. IsValid (with_clients s x)) (sym clients) (without_client_valid s id c h.valid found none)) (subst (λ x. IsMoved s (with_clients s x) [] []) (sym clients) (forgotten_moved s id c found none)) serial

@@ -5,8 +5,8 @@ use Rattle.iova_range.specs.Frames.{Frames}
 use Rattle.iova_range.specs.Sizes.{order_of}
 use Rattle.iova_range.specs.Bounds.{Capacities}
 use Rattle.iova_model.specs.declared.entry.Entry.{Entry}
-use Rattle.iova_model.specs.Caches.{Caches, put_range, put_all, emptied}
-use Rattle.iova_model.specs.Flushes.{entry_range, flushed, unflushed}
+use Rattle.iova_model.specs.Caches.{Caches, put_range, put_all, without_entries}
+use Rattle.iova_model.specs.Flushes.{entry_range, flushed_front, unflushed_rest}
 use Rattle.iova_depot.specs.Cached.{Cached, IsCached, LosesOnly}
 use Rattle.iova_tree.specs.Space.{Space, IsSpace}
 use Rattle.iova_core.specs.Reclaim.{HasAll, Frees, IsBacked, Exchanges}
@@ -58,8 +58,8 @@ put_all_push p c w (x ∷ rs) r = put_all_push p (put_range p c w x (order_of x.
 pub record IsDrained (tree tree' : Space) (c c' : Cached) (ring ring' : List Entry) (w finish count : ℕ) : Type 0 where
   pub out : List Entry
   pub taken : ring ≡ out ++ ring'
-  pub flushed : flushed finish ring ≡ out ++ flushed finish ring'
-  pub left : unflushed finish ring ≡ unflushed finish ring'
+  pub flushed : flushed_front finish ring ≡ out ++ flushed_front finish ring'
+  pub left : unflushed_rest finish ring ≡ unflushed_rest finish ring'
   pub counted : count ≡ length out
   pub caches : c' ≡ record c { caches = put_all c.profile c.caches w (map entry_range out) }
   pub exchange : Exchanges tree tree' c c' [] (map entry_range out)
@@ -84,7 +84,7 @@ module _ (tree mid : Space) (c d : Cached) (ring ring' : List Entry) (w finish c
   drained_few few = omega (arith, few, ap length h.taken, length-append h.out ring', h.counted)
 
   -- one entry more
-  pub drained_next : (tree' : Space) (c' : Cached) (e : Entry) (later : List Entry) → ring' ≡ e ∷ later → flushed finish ring' ≡ e ∷ flushed finish later → unflushed finish later ≡ unflushed finish ring'
+  pub drained_next : (tree' : Space) (c' : Cached) (e : Entry) (later : List Entry) → ring' ≡ e ∷ later → flushed_front finish ring' ≡ e ∷ flushed_front finish later → unflushed_rest finish later ≡ unflushed_rest finish ring'
       → c' ≡ record d { caches = put_range d.profile d.caches w (entry_range e) (order_of e.len) } → Exchanges mid tree' d c' [] (entry_range e ∷ []) → IsDrained tree tree' c c' ring later w finish (count + 1)
   drained_next tree' c' e later oldest next rest now ex =
       let outs : map entry_range (h.out ++ e ∷ []) ≡ map entry_range h.out ++ entry_range e ∷ [] = map-append entry_range h.out (e ∷ []) in
@@ -99,7 +99,7 @@ module _ (tree mid : Space) (c d : Cached) (ring ring' : List Entry) (w finish c
       record {
         out = h.out ++ e ∷ [];
         taken = h.taken ∙ (ap (λ l. h.out ++ l) oldest ∙ sym (append_assoc h.out (e ∷ []) later));
-        flushed = h.flushed ∙ (ap (λ l. h.out ++ l) next ∙ sym (append_assoc h.out (e ∷ []) (flushed finish later)));
+        flushed = h.flushed ∙ (ap (λ l. h.out ++ l) next ∙ sym (append_assoc h.out (e ∷ []) (flushed_front finish later)));
         left = h.left ∙ sym rest;
         counted = omega (arith, h.counted, length-append h.out (e ∷ []));
         caches = now ∙ (ap (λ q. made q d.workers (put_range d.profile d.caches w (entry_range e) (order_of e.len))) p_is ∙ (ap (λ n. made c.profile n (put_range d.profile d.caches w (entry_range e) (order_of e.len))) n_is ∙ ap (λ x. made c.profile c.workers x) put_is));
@@ -107,7 +107,7 @@ module _ (tree mid : Space) (c d : Cached) (ring ring' : List Entry) (w finish c
       }
 
   -- no entry more
-  pub drained_out : flushed finish ring' ≡ [] → flushed finish ring ≡ h.out
+  pub drained_out : flushed_front finish ring' ≡ [] → flushed_front finish ring ≡ h.out
   drained_out none = h.flushed ∙ (ap (λ l. h.out ++ l) none ∙ append-nil h.out)
 
 -- Caches that are emptied.
@@ -115,7 +115,7 @@ module _ (tree mid : Space) (c d : Cached) (ring ring' : List Entry) (w finish c
 -- Some of what was cached is free.
 pub record IsEmptying (tree tree' : Space) (c c' : Cached) : Type 0 where
   pub same : c' ≡ record c { caches = c'.caches }
-  pub empty : emptied c'.caches ≡ emptied c.caches
+  pub empty : without_entries c'.caches ≡ without_entries c.caches
   pub exchange : Exchanges tree tree' c c' [] []
 
 pub emptying_none : (tree : Space) (c : Cached) (rs : List Frames) → IsBacked tree c rs → IsEmptying tree tree c c
@@ -128,7 +128,7 @@ module _ (tree mid : Space) (c d : Cached) (h : IsEmptying tree mid c d) where
       omega (arith, backed.has weigh, h.exchange.balance weigh, loses weigh, weight.ranges_are weigh (r ∷ []), weight.ranges_are weigh [])
 
   -- one range more
-  pub emptying_next : (tree' : Space) (c' : Cached) (r : Frames) → c' ≡ record d { caches = c'.caches } → emptied c'.caches ≡ emptied d.caches → LosesOnly r d.caches c'.caches → IsCached c' → Frees mid tree' (r ∷ []) → IsEmptying tree tree' c c'
+  pub emptying_next : (tree' : Space) (c' : Cached) (r : Frames) → c' ≡ record d { caches = c'.caches } → without_entries c'.caches ≡ without_entries d.caches → LosesOnly r d.caches c'.caches → IsCached c' → Frees mid tree' (r ∷ []) → IsEmptying tree tree' c c'
   emptying_next tree' c' r same empty loses cached frees =
       let made : Capacities → ℕ → Cached = λ p n. record { profile = p; workers = n; caches = c'.caches } in
       let p_is : d.profile ≡ c.profile = ap (λ (x : Cached). x.profile) h.same in
@@ -148,7 +148,7 @@ module _ (tree mid : Space) (c d : Cached) (h : IsEmptying tree mid c d) where
       }
 
   -- nothing is left
-  pub emptying_done : (c' : Cached) → emptied d.caches ≡ d.caches → c'.caches ≡ d.caches → c' ≡ record d { caches = c'.caches } → (c' ≡ d) × (d ≡ record c { caches = emptied c.caches })
+  pub emptying_done : (c' : Cached) → without_entries d.caches ≡ d.caches → c'.caches ≡ d.caches → c' ≡ record d { caches = c'.caches } → (c' ≡ d) × (d ≡ record c { caches = without_entries c.caches })
   emptying_done c' none left same =
       let made : Caches → Cached = λ x. record c { caches = x } in
       let of_d : Caches → Cached = λ x. record d { caches = x } in

@@ -4,7 +4,7 @@ use Rattle.std.specs.Prelude.{nat_lt, ok_or}
 use Rattle.std.proofs.lemmas.Bool.Decides.{nat_tests}
 use Rattle.iova_range.specs.declared.refusal.Refusal.{Refusal}
 use Rattle.iova_range.specs.Frames.{Frames}
-use Rattle.iova_model.specs.Clients.{Client, client_with, changed, insert_rising, begins_at, remove_at}
+use Rattle.iova_model.specs.Clients.{Client, client_with, change_client, insert_rising, begins_at, remove_at}
 use Rattle.iova_model.specs.Valid.{Rises}
 use Rattle.iova_clients.specs.Registry.{held_at}
 
@@ -85,11 +85,11 @@ put_back from lo (x ∷ xs) r rises found = step (λ e. put_back (x.lo + 1) lo x
         rw is (rw above (ap (λ l. x ∷ l) (more h)))
 
 -- a client that is changed back
-pub changed_back : (id : ℕ) (f g : Client → Client) (c : Client) (cs : List Client) → client_with id cs ≡ Some c → (g c).id ≡ c.id → f (g c) ≡ c → changed id f (changed id g cs) ≡ cs
+pub changed_back : (id : ℕ) (f g : Client → Client) (c : Client) (cs : List Client) → client_with id cs ≡ Some c → (g c).id ≡ c.id → f (g c) ≡ c → change_client id f (change_client id g cs) ≡ cs
 changed_back id f g c [] found keeps back = absurd cc
 changed_back id f g c (x ∷ xs) found keeps back = step (λ e. changed_back id f g c xs e keeps back) (x.id == id) refl
   where
-    step : (client_with id xs ≡ Some c → changed id f (changed id g xs) ≡ xs) → (b : Bool) → (x.id == id) ≡ b → changed id f (changed id g (x ∷ xs)) ≡ x ∷ xs
+    step : (client_with id xs ≡ Some c → change_client id f (change_client id g xs) ≡ xs) → (b : Bool) → (x.id == id) ≡ b → change_client id f (change_client id g (x ∷ xs)) ≡ x ∷ xs
     step more true is =
         let h : Some x ≡ Some c = rw is at found in
         let same : x ≡ c = cc (h) in

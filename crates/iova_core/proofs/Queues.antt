@@ -8,12 +8,12 @@ use Rattle.iova_range.specs.Frames.{Frames}
 use Rattle.iova_range.specs.Bounds.{Extent}
 use Rattle.iova_model.specs.declared.entry.Entry.{Entry}
 use Rattle.iova_model.specs.Caches.{Caches, put_all}
-use Rattle.iova_model.specs.Flushes.{entry_range, flushed, unflushed}
-use Rattle.iova_model.specs.Clients.{Client, client_with, begins_at, remove_at, changed, with_holding, without_holding}
+use Rattle.iova_model.specs.Flushes.{entry_range, flushed_front, unflushed_rest}
+use Rattle.iova_model.specs.Clients.{Client, client_with, begins_at, remove_at, change_client, with_holding, without_holding}
 use Rattle.iova_model.specs.Effects.{freed_by_drain, cached_ranges}
 use Rattle.iova_model.specs.State.{State}
 use Rattle.iova_model.specs.Valid.{IsValid, IsRing, IsRequestSized, is_inside}
-use Rattle.iova_model.specs.Next.{Next, refused, ring_at, drained, queued, queue, unmap_held}
+use Rattle.iova_model.specs.Next.{Next, refuse_step, ring_at, after_drain, with_entry, queue, unmap_held}
 use Rattle.iova_model.specs.declared.step.Reply.TheVariants as reply
 use Rattle.iova_range.specs.declared.refusal.Refusal.TheVariants as refusal
 use Rattle.iova_tree.specs.Space.{Space}
@@ -78,20 +78,20 @@ ring_backed p q h below = record {
 
 -- Drained rings.
 module _ (p : Parts) (tree : Space) (cached : Cached) (ring : List Entry) (q w : ℕ) (h : IsDomain p) (below-q : q < p.cached.workers) (below-w : w < p.cached.workers)
-    (left : ring ≡ unflushed p.flushes.finish (ring_at (state_of p) q))
-    (now : cached ≡ record p.cached { caches = put_all p.cached.profile p.cached.caches w (map entry_range (flushed p.flushes.finish (ring_at (state_of p) q))) })
-    (ex : Exchanges p.tree tree p.cached cached [] (map entry_range (flushed p.flushes.finish (ring_at (state_of p) q)))) where
+    (left : ring ≡ unflushed_rest p.flushes.finish (ring_at (state_of p) q))
+    (now : cached ≡ record p.cached { caches = put_all p.cached.profile p.cached.caches w (map entry_range (flushed_front p.flushes.finish (ring_at (state_of p) q))) })
+    (ex : Exchanges p.tree tree p.cached cached [] (map entry_range (flushed_front p.flushes.finish (ring_at (state_of p) q)))) where
   abbrev pub drained_parts : Parts
   drained_parts = record p { tree = tree; cached = cached; rings = slice_set p.rings q ring }
 
-  caches_are : cached.caches ≡ (drained (state_of p) q w).caches
-  caches_are = ap (λ (x : Cached). x.caches) now ∙ ap (λ profile. put_all profile p.cached.caches w (map entry_range (flushed p.flushes.finish (ring_at (state_of p) q)))) h.profile
+  caches_are : cached.caches ≡ (after_drain (state_of p) q w).caches
+  caches_are = ap (λ (x : Cached). x.caches) now ∙ ap (λ profile. put_all profile p.cached.caches w (map entry_range (flushed_front p.flushes.finish (ring_at (state_of p) q)))) h.profile
 
-  pub drained_state : drained (state_of p) q w ≡ state_of drained_parts
+  pub drained_state : after_drain (state_of p) q w ≡ state_of drained_parts
   drained_state =
       let made : ℕ → List Frames → Caches → List (List Entry) → State = λ n windows caches rings. record { bounds = tree.bounds; workers = n; windows = windows; clients = p.clients.clients; serial = p.clients.serial; caches = caches; rings = rings; flushes = p.flushes } in
       let s = state_of p in
-      let d = drained s q w in
+      let d = after_drain s q w in
       ap (λ b. record d { bounds = b }) (sym ex.bounds)
       ∙ (ap (λ n. made n d.windows d.caches d.rings) (sym ex.workers)
       ∙ (ap (λ x. made cached.workers x d.caches d.rings) (sym ex.windows)
@@ -102,7 +102,7 @@ module _ (p : Parts) (tree : Space) (cached : Cached) (ring : List Entry) (q w :
   pub drained_frees : (weigh : Frames → ℕ) → sum_by weigh tree.inserted + sum_by weigh (freed_by_drain (state_of p) q w) ≡ sum_by weigh p.tree.inserted
   drained_frees weigh =
       let s = state_of p in
-      let out = map entry_range (flushed s.flushes.finish (ring_at s q)) in
+      let out = map entry_range (flushed_front s.flushes.finish (ring_at s q)) in
       let freed = freed_by_drain s q w in
       omega (arith, ex.balance weigh, cached-put_all weigh s.bounds.profile s.workers s.caches w out (magazine_takes s.bounds.profile h.valid.bounds.profile) h.valid.caches below-w, ap (weight.cached weigh) caches_are, cached_sum weigh cached.caches, cached_sum weigh p.cached.caches, weight.ranges_are weigh out, weight.ranges_are weigh freed, weight.ranges_are weigh [])
 
@@ -122,20 +122,20 @@ module _ (p : Parts) (tree : Space) (cached : Cached) (ring : List Entry) (q w :
 -- A holding that goes into a drained ring.
 
 -- what is flushed and what is left
-flushed_length : (finish : ℕ) (es : List Entry) → length (flushed finish es) + length (unflushed finish es) ≡ length es
+flushed_length : (finish : ℕ) (es : List Entry) → length (flushed_front finish es) + length (unflushed_rest finish es) ≡ length es
 flushed_length finish [] = refl
 flushed_length finish (e ∷ es) = step (flushed_length finish es) (nat_lt e.count finish) refl
   where
-    step : length (flushed finish es) + length (unflushed finish es) ≡ length es → (b : Bool) → nat_lt e.count finish ≡ b → length (flushed finish (e ∷ es)) + length (unflushed finish (e ∷ es)) ≡ length (e ∷ es)
+    step : length (flushed_front finish es) + length (unflushed_rest finish es) ≡ length es → (b : Bool) → nat_lt e.count finish ≡ b → length (flushed_front finish (e ∷ es)) + length (unflushed_rest finish (e ∷ es)) ≡ length (e ∷ es)
     step more true is = rw is (omega (arith, more))
     step more false is = rw is (omega arith)
 
-unflushed_all : (finish : ℕ) (es : List Entry) → flushed finish es ≡ [] → unflushed finish es ≡ es
+unflushed_all : (finish : ℕ) (es : List Entry) → flushed_front finish es ≡ [] → unflushed_rest finish es ≡ es
 unflushed_all finish [] none = refl
 unflushed_all finish (e ∷ es) none = step (nat_lt e.count finish) refl
   where
-    step : (b : Bool) → nat_lt e.count finish ≡ b → unflushed finish (e ∷ es) ≡ e ∷ es
-    step true is = absurd (let h : e ∷ flushed finish es ≡ [] = rw is at none in cc)
+    step : (b : Bool) → nat_lt e.count finish ≡ b → unflushed_rest finish (e ∷ es) ≡ e ∷ es
+    step true is = absurd (let h : e ∷ flushed_front finish es ≡ [] = rw is at none in cc)
     step false is = rw is refl
 
 pub ring_few : (p : Parts) (q : ℕ) → IsDomain p → q < p.cached.workers → length (ring_at (state_of p) q) ≤ 255
@@ -151,14 +151,14 @@ inside_end b r inside =
     grind (arith, nat_tests)
 
 -- a ring that is still full has given nothing up
-pub still_full : (finish : ℕ) (es : List Entry) → length es ≤ 255 → length (unflushed finish es) ≡ 255 → flushed finish es ≡ []
-still_full finish es few full = no_entries (flushed finish es) (omega (arith, flushed_length finish es))
+pub still_full : (finish : ℕ) (es : List Entry) → length es ≤ 255 → length (unflushed_rest finish es) ≡ 255 → flushed_front finish es ≡ []
+still_full finish es few full = no_entries (flushed_front finish es) (omega (arith, flushed_length finish es))
 
 module _ (p : Parts) (tree : Space) (cached : Cached) (ring : List Entry) (w id lo : ℕ) (h : IsDomain p) (below : w < p.cached.workers) (c : Client) (r : Frames)
     (found : client_with id p.clients.clients ≡ Some c) (held : find (begins_at lo) c.holdings ≡ Some r)
-    (left : ring ≡ unflushed p.flushes.finish (ring_at (state_of p) w))
-    (now : cached ≡ record p.cached { caches = put_all p.cached.profile p.cached.caches w (map entry_range (flushed p.flushes.finish (ring_at (state_of p) w))) })
-    (ex : Exchanges p.tree tree p.cached cached [] (map entry_range (flushed p.flushes.finish (ring_at (state_of p) w)))) where
+    (left : ring ≡ unflushed_rest p.flushes.finish (ring_at (state_of p) w))
+    (now : cached ≡ record p.cached { caches = put_all p.cached.profile p.cached.caches w (map entry_range (flushed_front p.flushes.finish (ring_at (state_of p) w))) })
+    (ex : Exchanges p.tree tree p.cached cached [] (map entry_range (flushed_front p.flushes.finish (ring_at (state_of p) w)))) where
   -- the holding is one that a ring may have
   pub held_few : r.len ≤ 1048576
   held_few = all_found IsRequestSized (begins_at lo) c.holdings r held (found_valid p.cached.workers id c p.clients.clients p.clients.serial found h.valid.clients).sized
@@ -170,7 +170,7 @@ module _ (p : Parts) (tree : Space) (cached : Cached) (ring : List Entry) (w id 
       omega (arith, end, h.valid.bounds.bounds.below_top, profile_low p.tree.bounds.profile h.valid.bounds.profile)
 
   -- it can be put back
-  pub held_back : (clients : List Client) → clients ≡ changed id (without_holding lo) p.clients.clients → IsSomeAnd (client_with id clients) (CanBeGiven r)
+  pub held_back : (clients : List Client) → clients ≡ change_client id (without_holding lo) p.clients.clients → IsSomeAnd (client_with id clients) (CanBeGiven r)
   held_back clients is =
       let own = found_valid p.cached.workers id c p.clients.clients p.clients.serial found h.valid.clients in
       let again : client_with id clients ≡ Some (without_holding lo c) = ap (client_with id) is ∙ changed_found id (without_holding lo) c p.clients.clients found refl in
@@ -178,7 +178,7 @@ module _ (p : Parts) (tree : Space) (cached : Cached) (ring : List Entry) (w id 
       rw again (record { room = (let few = removed_length lo c.holdings r held in let room = own.room in omega (arith, few, room)); new = none })
 
   -- and then the clients are what they were
-  pub put_back_clients : changed id (with_holding r) (changed id (without_holding lo) p.clients.clients) ≡ p.clients.clients
+  pub put_back_clients : change_client id (with_holding r) (change_client id (without_holding lo) p.clients.clients) ≡ p.clients.clients
   put_back_clients =
       let own = found_valid p.cached.workers id c p.clients.clients p.clients.serial found h.valid.clients in
       let back : with_holding r (without_holding lo c) ≡ c = ap (λ hs. record c { holdings = hs }) (put_back 0 lo c.holdings r own.rising held) in
@@ -190,8 +190,8 @@ module _ (p : Parts) (tree : Space) (cached : Cached) (ring : List Entry) (w id 
   here : w < length p.rings
   here = omega (arith, below, h.valid.each_ring)
 
-  drained_ring : ring_at (drained (state_of p) w w) w ≡ ring
-  drained_ring = get_or-set_same p.rings w (unflushed p.flushes.finish (ring_at (state_of p) w)) [] here ∙ sym left
+  drained_ring : ring_at (after_drain (state_of p) w w) w ≡ ring
+  drained_ring = get_or-set_same p.rings w (unflushed_rest p.flushes.finish (ring_at (state_of p) w)) [] here ∙ sym left
 
   -- the definitions queue the same
   queues : (c' : Client) → client_with id p.clients.clients ≡ Some c' → unmap_held (find (begins_at lo) c'.holdings) (state_of p) w id ≡ queue (state_of p) w id r
@@ -201,12 +201,12 @@ module _ (p : Parts) (tree : Space) (cached : Cached) (ring : List Entry) (w id 
       ap (λ o. unmap_held o (state_of p) w id) (ap (λ (x : Client). find (begins_at lo) x.holdings) (sym same) ∙ held)
 
   -- The entry fits.
-  module _ (clients : Registry) (taken : clients.clients ≡ changed id (without_holding lo) p.clients.clients) (serial : clients.serial ≡ p.clients.serial)
+  module _ (clients : Registry) (taken : clients.clients ≡ change_client id (without_holding lo) p.clients.clients) (serial : clients.serial ≡ p.clients.serial)
       (entry : Entry) (entry_is : entry ≡ record { lo = r.lo; len = r.len; count = p.flushes.start }) (full : List Entry) (added : full ≡ ring ++ entry ∷ []) (room : length ring < 255) where
     abbrev pub queued_parts : Parts
     queued_parts = record p { tree = tree; cached = cached; clients = clients; rings = slice_set p.rings w full }
 
-    pub queued_state : queued (drained (state_of p) w w) w id r ≡ state_of queued_parts
+    pub queued_state : with_entry (after_drain (state_of p) w w) w id r ≡ state_of queued_parts
     queued_state =
         let d = state_of (drained_parts p tree cached ring w w h below below left now ex) in
         let made : List Client → ℕ → List (List Entry) → State = λ cs n rings. record d { clients = cs; serial = n; rings = rings } in
@@ -214,8 +214,8 @@ module _ (p : Parts) (tree : Space) (cached : Cached) (ring : List Entry) (w id 
         let rings : slice_set d.rings w (ring_at d w ++ e ∷ []) ≡ slice_set p.rings w full =
         set-set p.rings w ring (ring_at d w ++ e ∷ [])
         ∙ ap (λ es. slice_set p.rings w es) (ap (λ es. es ++ e ∷ []) (get_or-set_same p.rings w ring [] here) ∙ (ap (λ x. ring ++ x ∷ []) (sym entry_is) ∙ sym added)) in
-        let clients_are : changed id (without_holding r.lo) p.clients.clients ≡ clients.clients = ap (λ n. changed id (without_holding n) p.clients.clients) (found_lo lo c.holdings r held) ∙ sym taken in
-        ap (λ x. queued x w id r) (drained_state p tree cached ring w w h below below left now ex)
+        let clients_are : change_client id (without_holding r.lo) p.clients.clients ≡ clients.clients = ap (λ n. change_client id (without_holding n) p.clients.clients) (found_lo lo c.holdings r held) ∙ sym taken in
+        ap (λ x. with_entry x w id r) (drained_state p tree cached ring w w h below below left now ex)
         ∙ (ap (λ cs. made cs p.clients.serial (slice_set d.rings w (ring_at d w ++ e ∷ []))) clients_are
         ∙ (ap (λ n. made clients.clients n (slice_set d.rings w (ring_at d w ++ e ∷ []))) (sym serial) ∙ ap (λ x. made clients.clients clients.serial x) rings))
 
@@ -235,13 +235,13 @@ module _ (p : Parts) (tree : Space) (cached : Cached) (ring : List Entry) (w id 
 
     pub queue_taken : (c' : Client) → client_with id p.clients.clients ≡ Some c' → unmap_held (find (begins_at lo) c'.holdings) (state_of p) w id ≡ record { reply = reply.Queued r; state = state_of queued_parts }
     queue_taken c' found' =
-        let test : nat_le 255 (length (ring_at (drained (state_of p) w w) w)) ≡ false = let e = ap length drained_ring in grind (arith, nat_tests) in
+        let test : nat_le 255 (length (ring_at (after_drain (state_of p) w w) w)) ≡ false = let e = ap length drained_ring in grind (arith, nat_tests) in
         let answer : State → Next = λ t. record { reply = reply.Queued r; state = t } in
         queues c' found' ∙ (rw test refl ∙ ap answer queued_state)
 
   -- The ring is full all the same.
-  module _ (clients : Registry) (back : clients.clients ≡ changed id (with_holding r) (changed id (without_holding lo) p.clients.clients)) (serial : clients.serial ≡ p.clients.serial) (full : List Entry) (same : full ≡ ring) (is_full : length ring ≡ 255) where
-    nothing : flushed p.flushes.finish (ring_at (state_of p) w) ≡ []
+  module _ (clients : Registry) (back : clients.clients ≡ change_client id (with_holding r) (change_client id (without_holding lo) p.clients.clients)) (serial : clients.serial ≡ p.clients.serial) (full : List Entry) (same : full ≡ ring) (is_full : length ring ≡ 255) where
+    nothing : flushed_front p.flushes.finish (ring_at (state_of p) w) ≡ []
     nothing = still_full p.flushes.finish (ring_at (state_of p) w) (ring_few p w h below) (sym (ap length left) ∙ is_full)
 
     cached_same : cached ≡ p.cached
@@ -274,7 +274,7 @@ module _ (p : Parts) (tree : Space) (cached : Cached) (ring : List Entry) (w id 
           counted = h.counted ∙ sym (ap (sum_by (λ r. r.len)) ex.windows);
         }
 
-    pub queue_full : (c' : Client) → client_with id p.clients.clients ≡ Some c' → unmap_held (find (begins_at lo) c'.holdings) (state_of p) w id ≡ refused refusal.RingFull (state_of p)
+    pub queue_full : (c' : Client) → client_with id p.clients.clients ≡ Some c' → unmap_held (find (begins_at lo) c'.holdings) (state_of p) w id ≡ refuse_step refusal.RingFull (state_of p)
     queue_full c' found' =
-        let test : nat_le 255 (length (ring_at (drained (state_of p) w w) w)) ≡ true = let e = ap length drained_ring in grind (arith, nat_tests) in
+        let test : nat_le 255 (length (ring_at (after_drain (state_of p) w w) w)) ≡ true = let e = ap length drained_ring in grind (arith, nat_tests) in
         queues c' found' ∙ rw test refl

@@ -4,7 +4,7 @@ use Rattle.iova_range.specs.Frames.{Frames}
 use Rattle.iova_range.specs.Sizes.{order_of}
 use Rattle.iova_model.specs.declared.step.Point.{Point}
 use Rattle.iova_model.specs.declared.step.Point.TheVariants as point
-use Rattle.iova_model.specs.Caches.{Caches, Shelf, shelf_at, with_shelf, get, emptied}
+use Rattle.iova_model.specs.Caches.{Caches, Shelf, shelf_at, with_shelf, get, without_entries}
 use Rattle.iova_model.specs.Fit.{best}
 use Rattle.iova_model.specs.Effects.{cached_ranges}
 use Rattle.iova_model.specs.Clients.{insert_rising}
@@ -17,7 +17,7 @@ use Rattle.iova_core.specs.declared.walk.Walked.{Walked}
 use Rattle.iova_core.specs.declared.walk.Walked.TheVariants as found
 use Rattle.iova_core.specs.Reclaim.{HasAll, IsBacked, Exchanges}
 use Rattle.iova_core.specs.Tied.{IsTied}
-use Rattle.iova_core.specs.Walk.{get_cached, Places, ArePartsOf, Comes, point_of, placed, found_as, IsPlacedOf, IsTryPoint, IsPointFrom}
+use Rattle.iova_core.specs.Walk.{get_cached, Places, ArePartsOf, Comes, point_of, placed_ranges, found_as, IsPlacedOf, IsTryPoint, IsPointFrom}
 use Rattle.iova_core.proofs.Covered.{covered_alike}
 use Rattle.iova_core.proofs.Given.{some_alike}
 use Rattle.iova_core.proofs.Reclaims.{cached_sum}
@@ -126,7 +126,7 @@ exchanges_got tree c c' size (Some lo) space cached from now = record {
 -- Trees.
 
 -- what a tree gives is inserted
-pub exchanges_placed : (o : Option ℕ) (here : Point) (size : ℕ) (tree tree' : Space) (c : Cached) (f : Walked) → IsSpace tree' → IsCached c → Places o here size tree tree' f → Exchanges tree tree' c c (placed f) []
+pub exchanges_placed : (o : Option ℕ) (here : Point) (size : ℕ) (tree tree' : Space) (c : Cached) (f : Walked) → IsSpace tree' → IsCached c → Places o here size tree tree' f → Exchanges tree tree' c c (placed_ranges f) []
 exchanges_placed None here size tree tree' c found.Nowhere space cached h = record {
   space = space;
   cached = cached;
@@ -246,11 +246,11 @@ module _ (s : State) (c : Caches) (w size limit : ℕ) (cached : s.caches ≡ c)
 
   -- what it gives once the caches are emptied
   pub comes_emptied : (tree tree' last : Space) (here : Point) (f : Walked) (left : Caches) → 1 ≤ size → IsSpace tree → ArePartsOf tree (get_cached c w size limit (order_of size)).1 (after_caches s c w size limit) → best tree.bounds (ranges_of tree) size limit ≡ None
-      → IsSpace tree' → ArePartsOf tree' (emptied (get_cached c w size limit (order_of size)).1) (next.with_caches (after_caches s c w size limit) (emptied (get_cached c w size limit (order_of size)).1)) → left ≡ emptied (get_cached c w size limit (order_of size)).1
+      → IsSpace tree' → ArePartsOf tree' (without_entries (get_cached c w size limit (order_of size)).1) (next.with_caches (after_caches s c w size limit) (without_entries (get_cached c w size limit (order_of size)).1)) → left ≡ without_entries (get_cached c w size limit (order_of size)).1
       → Places (best tree'.bounds (ranges_of tree') size limit) point.Last size tree' last f → Comes (next.try s w size limit true here (point_of f)) f left
   comes_emptied tree tree' last here f left some space stands none space' stands' now h =
       let m = point_of f in
-      let bare = next.with_caches (after_caches s c w size limit) (emptied (get_cached c w size limit (order_of size)).1) in
+      let bare = next.with_caches (after_caches s c w size limit) (without_entries (get_cached c w size limit (order_of size)).1) in
       let o = next.best_place bare size limit in
       let gives = tree_gives bare o point.Last size tree' last f (inr refl) (rw (best_same tree' _ bare size limit some space' stands') h) in
       let nothing : next.best_place (after_caches s c w size limit) size limit ≡ None = best_same tree _ (after_caches s c w size limit) size limit some space stands ∙ none in
@@ -312,13 +312,13 @@ module _ (tree : Space) (c d : Cached) (w size limit : ℕ) (backed : IsBacked t
       stands_with tree tree c.caches (get_cached c.caches w size limit (order_of size)).1 s stands refl refl (λ weigh. omega (arith, missed weigh, ap (weight.cached weigh) left_is))
 
   -- and are emptied
-  pub emptied_stands : (tree' : Space) (e : Cached) (s : State) → ArePartsOf tree c.caches s → e ≡ record d { caches = emptied d.caches } → Exchanges tree tree' d e [] []
-      → ArePartsOf tree' (emptied (get_cached c.caches w size limit (order_of size)).1) (next.with_caches (after_caches s c.caches w size limit) (emptied (get_cached c.caches w size limit (order_of size)).1))
+  pub emptied_stands : (tree' : Space) (e : Cached) (s : State) → ArePartsOf tree c.caches s → e ≡ record d { caches = without_entries d.caches } → Exchanges tree tree' d e [] []
+      → ArePartsOf tree' (without_entries (get_cached c.caches w size limit (order_of size)).1) (next.with_caches (after_caches s c.caches w size limit) (without_entries (get_cached c.caches w size limit (order_of size)).1))
   emptied_stands tree' e s stands is ex =
       let g = (get_cached c.caches w size limit (order_of size)).1 in
-      let e_is : e.caches ≡ emptied g = ap (λ (x : Cached). x.caches) is ∙ ap emptied left_is in
-      stands_with tree tree' g (emptied g) (after_caches s c.caches w size limit) (missed_stands s stands) ex.bounds ex.windows
+      let e_is : e.caches ≡ without_entries g = ap (λ (x : Cached). x.caches) is ∙ ap without_entries left_is in
+      stands_with tree tree' g (without_entries g) (after_caches s c.caches w size limit) (missed_stands s stands) ex.bounds ex.windows
       (λ weigh. omega (arith, ex.balance weigh, ap (weight.cached weigh) left_is, ap (weight.cached weigh) e_is, cached_sum weigh d.caches, cached_sum weigh e.caches, weight.ranges_are weigh []))
 
-  pub emptied_left : (e : Cached) → e ≡ record d { caches = emptied d.caches } → e.caches ≡ emptied (get_cached c.caches w size limit (order_of size)).1
-  emptied_left e is = ap (λ (x : Cached). x.caches) is ∙ ap emptied left_is
+  pub emptied_left : (e : Cached) → e ≡ record d { caches = without_entries d.caches } → e.caches ≡ without_entries (get_cached c.caches w size limit (order_of size)).1
+  emptied_left e is = ap (λ (x : Cached). x.caches) is ∙ ap without_entries left_is

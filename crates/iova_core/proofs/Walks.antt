@@ -4,7 +4,7 @@ use Rattle.iova_range.specs.declared.limits.TheConstants.{SAC_LIMIT}
 use Rattle.std.specs.Prelude.{nat_lt}
 use Rattle.iova_model.specs.declared.step.Point.{Point}
 use Rattle.iova_model.specs.declared.step.Point.TheVariants as point
-use Rattle.iova_model.specs.Caches.{Caches, emptied}
+use Rattle.iova_model.specs.Caches.{Caches, without_entries}
 use Rattle.iova_model.specs.State.{State}
 use Rattle.iova_model.specs.Next as next
 use Rattle.iova_range.specs.Sizes.{order_of}
@@ -30,7 +30,7 @@ tree_keeps s (Some lo) no_memory = refl
 
 emptied_keeps : (x : next.Found) (s : State) (size limit : ℕ) (emptying no_memory : Bool) → (next.or_emptied x s size limit emptying no_memory).state ≡ next.with_caches s (next.or_emptied x s size limit emptying no_memory).state.caches
 emptied_keeps next.Nowhere s size limit true no_memory =
-    let bare = next.with_caches s (emptied s.caches) in
+    let bare = next.with_caches s (without_entries s.caches) in
     tree_keeps bare (next.best_place bare size limit) no_memory
 emptied_keeps next.Nowhere s size limit false no_memory = refl
 emptied_keeps (next.At lo) s size limit emptying no_memory = refl

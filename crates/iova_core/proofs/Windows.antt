@@ -15,7 +15,7 @@ use Rattle.iova_model.specs.declared.step.Reply.{Reply}
 use Rattle.iova_model.specs.declared.step.Reply.TheVariants as reply
 use Rattle.iova_model.specs.State.{State, Holder, owners}
 use Rattle.iova_model.specs.Laws.{StepsKeepValidity}
-use Rattle.iova_model.specs.Next.{Next, refused, unless, is_at, is_taken, from_to, union, windows_with, window_tests, reserve_tests, reserved, reserve}
+use Rattle.iova_model.specs.Next.{Next, refuse_step, unless, is_at, is_taken, from_to, union, windows_with, window_tests, reserve_tests, reserve_window, reserve}
 use Rattle.iova_model.proofs.Unless.{unless_refused, unless_taken, unless-append}
 use Rattle.iova_tree.specs.Space.{Space, IsSpace, RiseApart, ranges_of, reserve_refusal}
 use Rattle.iova_depot.specs.Cached.{Cached}
@@ -63,25 +63,25 @@ module _ (p : Parts) (h : IsDomain p) (lo hi : ℕ) where
       ap (λ taken. window_tests p.tree.bounds p.tree.windows taken lo hi ++ (is_at point.Once m, refusal.NoMemory) ∷ [])
       (taken_alike (state_of p) p.tree.inserted (from_to lo hi) h.tied)
 
-  reserve_is : (m : Point) → reserve (state_of p) lo hi m ≡ unless (tree_tests p.tree lo hi) (state_of p) (unless ((is_at point.Once m, refusal.NoMemory) ∷ []) (state_of p) (reserved (state_of p) (from_to lo hi)))
+  reserve_is : (m : Point) → reserve (state_of p) lo hi m ≡ unless (tree_tests p.tree lo hi) (state_of p) (unless ((is_at point.Once m, refusal.NoMemory) ∷ []) (state_of p) (reserve_window (state_of p) (from_to lo hi)))
   reserve_is m =
-      let n = reserved (state_of p) (from_to lo hi) in
+      let n = reserve_window (state_of p) (from_to lo hi) in
       ap (λ tests. unless tests (state_of p) n) (reserve_asks m)
       ∙ unless-append (tree_tests p.tree lo hi) ((is_at point.Once m, refusal.NoMemory) ∷ []) (state_of p) n
 
-  reserve_refused : (m : Point) (r : Refusal) → reserve_refusal p.tree lo hi ≡ Some r → reserve (state_of p) lo hi m ≡ refused r (state_of p)
+  reserve_refused : (m : Point) (r : Refusal) → reserve_refusal p.tree lo hi ≡ Some r → reserve (state_of p) lo hi m ≡ refuse_step r (state_of p)
   reserve_refused m r is = reserve_is m ∙ unless_refused (tree_tests p.tree lo hi) r (state_of p) _ is
 
-  reserve_no_memory : reserve_refusal p.tree lo hi ≡ None → reserve (state_of p) lo hi point.Once ≡ refused refusal.NoMemory (state_of p)
+  reserve_no_memory : reserve_refusal p.tree lo hi ≡ None → reserve (state_of p) lo hi point.Once ≡ refuse_step refusal.NoMemory (state_of p)
   reserve_no_memory is = reserve_is point.Once ∙ unless_taken (tree_tests p.tree lo hi) (state_of p) _ is
 
-  reserve_taken : reserve_refusal p.tree lo hi ≡ None → reserve (state_of p) lo hi point.Never ≡ reserved (state_of p) (from_to lo hi)
+  reserve_taken : reserve_refusal p.tree lo hi ≡ None → reserve (state_of p) lo hi point.Never ≡ reserve_window (state_of p) (from_to lo hi)
   reserve_taken is = reserve_is point.Never ∙ unless_taken (tree_tests p.tree lo hi) (state_of p) _ is
 
   -- either refusal
-  reserve_refuses : (m : Point) (r : Refusal) → (r ≡ refusal.NoMemory → m ≡ point.Once) → ((r ≡ refusal.NoMemory) × (reserve_refusal p.tree lo hi ≡ None)) ⊎ (reserve_refusal p.tree lo hi ≡ Some r) → reserve (state_of p) lo hi m ≡ refused r (state_of p)
+  reserve_refuses : (m : Point) (r : Refusal) → (r ≡ refusal.NoMemory → m ≡ point.Once) → ((r ≡ refusal.NoMemory) × (reserve_refusal p.tree lo hi ≡ None)) ⊎ (reserve_refusal p.tree lo hi ≡ Some r) → reserve (state_of p) lo hi m ≡ refuse_step r (state_of p)
   reserve_refuses m r once (inl both) =
-      ap (reserve (state_of p) lo hi) (once both.0) ∙ (reserve_no_memory both.1 ∙ ap (λ x. refused x (state_of p)) (sym both.0))
+      ap (reserve (state_of p) lo hi) (once both.0) ∙ (reserve_no_memory both.1 ∙ ap (λ x. refuse_step x (state_of p)) (sym both.0))
   reserve_refuses m r once (inr test) = reserve_refused m r test
 
 -- What the step answers and leaves, as the definitions say.
@@ -112,7 +112,7 @@ module _ (p q : Parts) (t : State) (lo hi : ℕ) (same : state_of p ≡ t) (h : 
       subst (λ x. IsReserve x (state_of q) lo hi m (reply.Refused r)) same here
 
   -- a window
-  new_windows : q.tree ≡ record p.tree { windows = windows_with (from_to lo hi) p.tree.windows } → state_of q ≡ (reserved (state_of p) (from_to lo hi)).state
+  new_windows : q.tree ≡ record p.tree { windows = windows_with (from_to lo hi) p.tree.windows } → state_of q ≡ (reserve_window (state_of p) (from_to lo hi)).state
   new_windows tree = rw (tree, keeps.clients, keeps.cached, keeps.rings, keeps.flushes) refl
 
   pub is_reserved : (result : Result Frames Refusal) (w : Frames) → Refuses (reserve_refusal p.tree lo hi) result → result ≡ Ok w → w ≡ union (from_to lo hi) p.tree.windows → q.tree ≡ record p.tree { windows = windows_with (from_to lo hi) p.tree.windows } → IsReserve t (state_of q) lo hi point.Never (reply.Reserved w)
@@ -128,7 +128,7 @@ module _ (p q : Parts) (t : State) (lo hi : ℕ) (same : state_of p ≡ t) (h : 
   pub domain_reserved : StepsKeepValidity → (result : Result Frames Refusal) (w : Frames) → Refuses (reserve_refusal p.tree lo hi) result → result ≡ Ok w → q.tree ≡ record p.tree { windows = windows_with (from_to lo hi) p.tree.windows } → IsSpace q.tree → q.reserved ≡ sum_by (λ r. r.len) q.tree.windows → IsDomain q
   domain_reserved law result w refuses ok tree space counted =
       let is = reserve_taken p h lo hi (refuses_ok (reserve_refusal p.tree lo hi) result w refuses ok) in
-      let s : State = (reserved (state_of p) (from_to lo hi)).state in
+      let s : State = (reserve_window (state_of p) (from_to lo hi)).state in
       let tied : IsTied (s.windows ++ p.tree.inserted) s = load_tied p.tree.inserted s (λ weigh. tied_load p.tree.inserted (state_of p) h.tied weigh) in
       let bounds : q.tree.bounds ≡ p.tree.bounds = ap (λ (x : Space). x.bounds) tree in
       domain_step law p q (step.Reserve lo hi) point.Never h (ap (λ (n : Next). n.state) is ∙ sym (new_windows tree))

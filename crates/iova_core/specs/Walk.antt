@@ -43,10 +43,10 @@ point_of found.Nowhere = point.Never
 point_of (found.OutOfMemory m) = m
 
 -- the ranges that were found
-abbrev pub placed : Walked → List Frames
-placed (found.Placed r) = r ∷ []
-placed found.Nowhere = []
-placed (found.OutOfMemory m) = []
+abbrev pub placed_ranges : Walked → List Frames
+placed_ranges (found.Placed r) = r ∷ []
+placed_ranges found.Nowhere = []
+placed_ranges (found.OutOfMemory m) = []
 
 -- the same in the words of the definitions
 abbrev pub found_as : Walked → next.Found

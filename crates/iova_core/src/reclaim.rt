@@ -3,8 +3,8 @@
 
 ghost use Rattle.std.specs.Prelude.{◌≡◌, ◌≤◌, ◌<◌, ◌^◌, [], ◌∷◌, length, map, Some, IsTrue};
 ghost use Rattle.iova_range.specs.Sizes.{order_of};
-ghost use Rattle.iova_model.specs.Caches.{of_order, emptied};
-ghost use Rattle.iova_model.specs.Flushes.{entry_range, flushed, unflushed};
+ghost use Rattle.iova_model.specs.Caches.{of_order, without_entries};
+ghost use Rattle.iova_model.specs.Flushes.{entry_range, flushed_front, unflushed_rest};
 ghost use Rattle.iova_tree.specs.Space.{IsSpace};
 ghost use Rattle.iova_depot.specs.Cached.{with_contents};
 ghost use Rattle.iova_core.specs.Reclaim.{HasAll, Frees, IsBacked, Exchanges, with_range, with_ranges};
@@ -89,12 +89,12 @@ pub fn drain(tree: &mut Tree, caches: &mut Caches, ring: &mut Ring, w: usize, fi
     requires worker { w < caches.old.workers }
     requires room { length ring.old ≤ MAX_ENTRIES }
     requires backed { IsBacked tree.old caches.old (map entry_range ring.old) }
-    ensures count { result ≡ length (flushed finish ring.old) }
-    ensures ring { ring.new ≡ unflushed finish ring.old }
+    ensures count { result ≡ length (flushed_front finish ring.old) }
+    ensures ring { ring.new ≡ unflushed_rest finish ring.old }
     ensures caches { caches.new ≡ with_ranges caches.old w
-        (map entry_range (flushed finish ring.old)) }
+        (map entry_range (flushed_front finish ring.old)) }
     ensures backed { Exchanges tree.old tree.new caches.old caches.new []
-        (map entry_range (flushed finish ring.old)) }
+        (map entry_range (flushed_front finish ring.old)) }
 {
     let waits = ring.waits(finish);
     drain_unless(waits, tree, caches, ring, w, finish)
@@ -110,17 +110,17 @@ pub fn drain_unless(
     w: usize,
     finish: u64,
 ) -> u64
-    requires none { IsTrue waits → flushed finish ring.old ≡ [] }
-    requires all { IsTrue waits → unflushed finish ring.old ≡ ring.old }
+    requires none { IsTrue waits → flushed_front finish ring.old ≡ [] }
+    requires all { IsTrue waits → unflushed_rest finish ring.old ≡ ring.old }
     requires worker { w < caches.old.workers }
     requires room { length ring.old ≤ MAX_ENTRIES }
     requires backed { IsBacked tree.old caches.old (map entry_range ring.old) }
-    ensures count { result ≡ length (flushed finish ring.old) }
-    ensures ring { ring.new ≡ unflushed finish ring.old }
+    ensures count { result ≡ length (flushed_front finish ring.old) }
+    ensures ring { ring.new ≡ unflushed_rest finish ring.old }
     ensures caches { caches.new ≡ with_ranges caches.old w
-        (map entry_range (flushed finish ring.old)) }
+        (map entry_range (flushed_front finish ring.old)) }
     ensures backed { Exchanges tree.old tree.new caches.old caches.new []
-        (map entry_range (flushed finish ring.old)) }
+        (map entry_range (flushed_front finish ring.old)) }
 {
     if waits {
         return 0;
@@ -140,12 +140,12 @@ fn drain_flushed(
     requires worker { w < caches.old.workers }
     requires room { length ring.old ≤ MAX_ENTRIES }
     requires backed { IsBacked tree.old caches.old (map entry_range ring.old) }
-    ensures count { result ≡ length (flushed finish ring.old) }
-    ensures ring { ring.new ≡ unflushed finish ring.old }
+    ensures count { result ≡ length (flushed_front finish ring.old) }
+    ensures ring { ring.new ≡ unflushed_rest finish ring.old }
     ensures caches { caches.new ≡ with_ranges caches.old w
-        (map entry_range (flushed finish ring.old)) }
+        (map entry_range (flushed_front finish ring.old)) }
     ensures backed { Exchanges tree.old tree.new caches.old caches.new []
-        (map entry_range (flushed finish ring.old)) }
+        (map entry_range (flushed_front finish ring.old)) }
 {
     let mut count = 0;
     while let Some(entry) = ring.take_flushed(finish) {
@@ -159,7 +159,7 @@ fn drain_flushed(
 #[cold]
 pub fn empty(tree: &mut Tree, caches: &mut Caches)
     requires backed { IsBacked tree.old caches.old [] }
-    ensures caches { caches.new ≡ with_contents caches.old (emptied caches.old.caches) }
+    ensures caches { caches.new ≡ with_contents caches.old (without_entries caches.old.caches) }
     ensures backed { Exchanges tree.old tree.new caches.old caches.new [] [] }
 {
     while let Some((order, lo)) = caches.take_any() {

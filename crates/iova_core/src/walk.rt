@@ -9,7 +9,7 @@ ghost use Rattle.iova_range.specs.Sizes.{order_of};
 ghost use Rattle.iova_tree.specs.Space.{IsSpace, ranges_of};
 ghost use Rattle.iova_depot.specs.Cached.{IsCached, with_contents};
 ghost use Rattle.iova_core.specs.Reclaim.{IsBacked, Exchanges};
-ghost use Rattle.iova_core.specs.Walk.{get_cached, Places, ArePartsOf, Comes, point_of, placed, IsPlacedOf, IsTryPoint, IsPointFrom};
+ghost use Rattle.iova_core.specs.Walk.{get_cached, Places, ArePartsOf, Comes, point_of, placed_ranges, IsPlacedOf, IsTryPoint, IsPointFrom};
 
 use crate::reclaim::empty;
 use iova_depot::caches::Caches;
@@ -106,7 +106,7 @@ fn try_loaded(tree: &Tree, caches: &mut Caches, w: usize, size: u64, limit: u64)
         caches.new.caches) }
     ensures size { IfSome result (λ r. IsPlacedOf size (Walked.Placed r)) }
     ensures backed { IfSome result (λ r. Exchanges tree.now tree.now caches.old caches.new
-        (placed (Walked.Placed r)) []) }
+        (placed_ranges (Walked.Placed r)) []) }
     ensures none { IfNone result (caches.new ≡ caches.old) }
 {
     match from_loaded(caches, w, size, limit) {
@@ -157,7 +157,7 @@ fn try_once(
         → Comes (next.try s w size limit emptying here (point_of result)) result caches.new.caches }
     ensures size { IsPlacedOf size result }
     ensures point { IsPointFrom here (point_of result) }
-    ensures backed { Exchanges tree.old tree.new caches.old caches.new (placed result) [] }
+    ensures backed { Exchanges tree.old tree.new caches.old caches.new (placed_ranges result) [] }
 {
     if let Some(lo) = from_caches(caches, w, size, limit) {
         return Walked::Placed(Range::new(lo, size));
@@ -193,7 +193,7 @@ pub fn walk(
         → Comes (next.walk s w sac size limit (point_of result)) result caches.new.caches }
     ensures size { IsPlacedOf size result }
     ensures point { point_of result ≢ Point.Ledger }
-    ensures backed { Exchanges tree.old tree.new caches.old caches.new (placed result) [] }
+    ensures backed { Exchanges tree.old tree.new caches.old caches.new (placed_ranges result) [] }
 {
     match try_loaded(tree, caches, w, size, first_limit(sac, limit)) {
         Some(range) => Walked::Placed(range),
@@ -219,7 +219,7 @@ fn walk_on(
         → Comes (next.walk s w sac size limit (point_of result)) result caches.new.caches }
     ensures size { IsPlacedOf size result }
     ensures point { point_of result ≢ Point.Ledger }
-    ensures backed { Exchanges tree.old tree.new caches.old caches.new (placed result) [] }
+    ensures backed { Exchanges tree.old tree.new caches.old caches.new (placed_ranges result) [] }
 {
     if sac && limit > SAC_LIMIT {
         match try_once(tree, caches, w, size, SAC_LIMIT, false, Point::First) {

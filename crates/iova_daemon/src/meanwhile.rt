@@ -80,7 +80,7 @@ where
     L: Link,
     K: Keep<C, F, S, G>,
     D: Sink,
-    requires number { pieces.old.paused.session.number ≡ K.domain_number keeper.old }
+    requires number { pieces.old.paused.session.number ≡ (K.identity keeper.old).number }
     requires goes { pieces.old.paused.end ≡ None }
     ensures { post.new.seat.worker ≡ post.old.seat.worker }
 {
@@ -109,7 +109,7 @@ where
     L: Link,
     K: Keep<C, F, S, G>,
     D: Sink,
-    requires number { pieces.old.paused.session.number ≡ K.domain_number keeper.old }
+    requires number { pieces.old.paused.session.number ≡ (K.identity keeper.old).number }
     requires goes { pieces.old.paused.end ≡ None }
     ensures { post.new.seat.worker ≡ post.old.seat.worker }
 {

@@ -182,7 +182,7 @@ pub(crate) fn try_again<C: Ledger, F: Ledger, S: Ledger, G: Ledger, K: Keep<C, F
     sink: &mut D,
 )
     ensures worker { post.new.seat.worker ≡ post.old.seat.worker }
-    ensures number { K.domain_number keeper.new ≡ K.domain_number keeper.old }
+    ensures number { (K.identity keeper.new).number ≡ (K.identity keeper.old).number }
 {
     let worker = post.seat.worker();
     if !post.waiting.is_empty() && roster.begin_trying(worker) {

@@ -10,7 +10,7 @@ use Rattle.iova_model.specs.Valid.{IsDepot, AreWorkerCaches}
 use Rattle.iova_mag.specs.Workers.{WorkerCache, IsWorkerCache, AreEmpty, cache_of, with_cache}
 use Rattle.iova_depot.specs.Stored.{Stored}
 use Rattle.iova_depot.specs.Cached.{Cached, IsCached, with_worker_cache, with_depot}
-use Rattle.iova_depot.specs.Inside.{AreEmptyBelow, seen, AreCachesKept}
+use Rattle.iova_depot.specs.Inside.{AreEmptyBelow, caches_of, AreCachesKept}
 use Rattle.iova_depot.proofs.Counts.{entries_in, entries_of, frames_of-with_worker_cache, frames_of-with_depot}
 
 -- what is seen of a worker, of a depot, and of all
@@ -21,7 +21,7 @@ abbrev pub lists_in : Stored → List (List ℕ)
 lists_in d = d.lists
 
 abbrev pub all_seen : Capacities → List WorkerCache → List Stored → Cached
-all_seen profile ws ds = record { profile = profile; workers = length ws; caches = seen ws ds }
+all_seen profile ws ds = record { profile = profile; workers = length ws; caches = caches_of ws ds }
 
 pub cached : (profile : Capacities) (ws : List WorkerCache) (ds : List Stored) (m d n : ℕ) → AreCachesKept profile ws ds m d n → IsCached (all_seen profile ws ds)
 cached profile ws ds m d n s = record { profile = s.is_profile; some_worker = s.some_worker; few_workers = s.few_workers; caches = s.caches }
@@ -32,11 +32,11 @@ pub caches_at : (ws : List WorkerCache) (w : ℕ) (p : WorkerCache) → w < leng
 caches_at ws w p lt is = get_or-map caches_in ws w p [] lt ∙ ap caches_in (sym is)
 
 -- its magazines are those seen at its place
-pub cache_at-seen : (ws : List WorkerCache) (ds : List Stored) (w o : ℕ) (p : WorkerCache) → w < length ws → p ≡ slice_index_or ws w p → cache_at (seen ws ds) w o ≡ cache_of p o
+pub cache_at-seen : (ws : List WorkerCache) (ds : List Stored) (w o : ℕ) (p : WorkerCache) → w < length ws → p ≡ slice_index_or ws w p → cache_at (caches_of ws ds) w o ≡ cache_of p o
 cache_at-seen ws ds w o p lt is = ap (λ (cs : List Cache). slice_index_or cs o no_magazines) (caches_at ws w p lt is)
 
 -- it has six of them, and the profile of all
-pub orders_at : (profile : Capacities) (ws : List WorkerCache) (ds : List Stored) (m d n w : ℕ) → AreCachesKept profile ws ds m d n → w < length ws → length (slice_index_or (seen ws ds).workers w []) ≡ 6
+pub orders_at : (profile : Capacities) (ws : List WorkerCache) (ds : List Stored) (m d n w : ℕ) → AreCachesKept profile ws ds m d n → w < length ws → length (slice_index_or (caches_of ws ds).workers w []) ≡ 6
 orders_at profile ws ds m d n w s lt =
     let k : length (map caches_in ws) ≡ length ws = s.caches.each_worker in
     (All-get_or (AreWorkerCaches profile) (map caches_in ws) w [] (omega arith) (All-from_recursion (AreWorkerCaches profile) (map caches_in ws) s.caches.magazines)).orders
@@ -47,7 +47,7 @@ profile_at profile ws ds m d n w p s lt is =
 
 -- other magazines of one order in it
 pub seen-set_worker : (ws : List WorkerCache) (ds : List Stored) (w o : ℕ) (p q : WorkerCache) (cache : Cache) → w < length ws → p ≡ slice_index_or ws w p
-    → q ≡ with_cache p o cache → seen (slice_set ws w q) ds ≡ with_worker_cache (seen ws ds) w o cache
+    → q ≡ with_cache p o cache → caches_of (slice_set ws w q) ds ≡ with_worker_cache (caches_of ws ds) w o cache
 seen-set_worker ws ds w o p q cache lt is becomes =
     ap (λ (all : List (List Cache)). let c : Caches = record { workers = all; depots = map lists_in ds } in c)
     (map-set caches_in ws w q
@@ -55,7 +55,7 @@ seen-set_worker ws ds w o p q cache lt is becomes =
 
 pub all_seen-set_worker : (change : Cache → Cache) (profile : Capacities) (ws : List WorkerCache) (ds : List Stored) (w o : ℕ) (p q : WorkerCache) → w < length ws → p ≡ slice_index_or ws w p
     → q ≡ with_cache p o (change (cache_of p o))
-    → all_seen profile (slice_set ws w q) ds ≡ record { profile = profile; workers = length ws; caches = with_worker_cache (seen ws ds) w o (change (cache_at (seen ws ds) w o)) }
+    → all_seen profile (slice_set ws w q) ds ≡ record { profile = profile; workers = length ws; caches = with_worker_cache (caches_of ws ds) w o (change (cache_at (caches_of ws ds) w o)) }
 all_seen-set_worker change profile ws ds w o p q lt is becomes =
     rw (cache_at-seen ws ds w o p lt is, seen-set_worker ws ds w o p q (change (cache_of p o)) lt is becomes, length-set ws w q) refl
 
@@ -97,13 +97,13 @@ pub inside-worker : (profile : Capacities) (ws : List WorkerCache) (ds : List St
     → AreCachesKept profile (slice_set ws w q) ds m' d n'
 inside-worker profile ws ds m d n m' n' w o p q cache s lt o_lt is becomes sound counts le empty =
     let k : length (map caches_in ws) ≡ length ws = s.caches.each_worker in
-    let w_lt : w < length (seen ws ds).workers = omega arith in
-    let in_orders : o < length (slice_index_or (seen ws ds).workers w []) = rw (orders_at profile ws ds m d n w s lt) o_lt in
+    let w_lt : w < length (caches_of ws ds).workers = omega arith in
+    let in_orders : o < length (slice_index_or (caches_of ws ds).workers w []) = rw (orders_at profile ws ds m d n w s lt) o_lt in
     let same : q.profile ≡ profile = ap (λ (p : WorkerCache). p.profile) becomes ∙ profile_at profile ws ds m d n w p s lt is in
     let now = seen-set_worker ws ds w o p q cache lt is becomes in
     let l = length-set ws w q in
-    let frames = frames_of-with_worker_cache (seen ws ds) w o cache w_lt in_orders in
-    let counts' : m' + 2 ^ o * entries_in (cache_at (seen ws ds) w o) ≡ m + 2 ^ o * entries_in cache = rw (cache_at-seen ws ds w o p lt is) counts in
+    let frames = frames_of-with_worker_cache (caches_of ws ds) w o cache w_lt in_orders in
+    let counts' : m' + 2 ^ o * entries_in (cache_at (caches_of ws ds) w o) ≡ m + 2 ^ o * entries_in cache = rw (cache_at-seen ws ds w o p lt is) counts in
     record {
       is_profile = s.is_profile;
       some_worker = rw l s.some_worker;
@@ -119,7 +119,7 @@ inside-worker profile ws ds m d n m' n' w o p q cache s lt o_lt is becomes sound
       };
       magazines = rw (ap (λ (c : Caches). c.workers) now) (count_follows m m' _ _ _ _ frames s.magazines counts');
       depot = s.depot;
-      empty = rw (now, l) (empty-with_worker_cache n n' (length ws) (seen ws ds) w o cache w_lt in_orders s.empty le empty);
+      empty = rw (now, l) (empty-with_worker_cache n n' (length ws) (caches_of ws ds) w o cache w_lt in_orders s.empty le empty);
     }
 
 -- A depot.
@@ -131,7 +131,7 @@ pub length-depots : (profile : Capacities) (ws : List WorkerCache) (ds : List St
 length-depots profile ws ds m d n s = sym (length-map ds lists_in) ∙ s.caches.orders
 
 pub depot_at-seen : (profile : Capacities) (ws : List WorkerCache) (ds : List Stored) (m d n o : ℕ) (p : Stored) → AreCachesKept profile ws ds m d n → o < 6 → p ≡ slice_index_or ds o p
-    → slice_index_or (seen ws ds).depots o [] ≡ p.lists
+    → slice_index_or (caches_of ws ds).depots o [] ≡ p.lists
 depot_at-seen profile ws ds m d n o p s lt is = let k = length-depots profile ws ds m d n s in lists_at ds o p (omega arith) is
 
 pub depot_profile_at : (profile : Capacities) (ws : List WorkerCache) (ds : List Stored) (m d n o : ℕ) (p : Stored) → AreCachesKept profile ws ds m d n → o < 6 → p ≡ slice_index_or ds o p → p.profile ≡ profile
@@ -139,7 +139,7 @@ depot_profile_at profile ws ds m d n o p s lt is =
     let k = length-depots profile ws ds m d n s in
     ap (λ (p : Stored). p.profile) is ∙ All-get_or (λ (p : Stored). p.profile ≡ profile) ds o p (omega arith) s.same_in_depots
 
-pub seen-set_depot : (ws : List WorkerCache) (ds : List Stored) (o : ℕ) (q : Stored) → seen ws (slice_set ds o q) ≡ with_depot (seen ws ds) o q.lists
+pub seen-set_depot : (ws : List WorkerCache) (ds : List Stored) (o : ℕ) (q : Stored) → caches_of ws (slice_set ds o q) ≡ with_depot (caches_of ws ds) o q.lists
 seen-set_depot ws ds o q = ap (λ (all : List (List (List ℕ))). let c : Caches = record { workers = map caches_in ws; depots = all } in c) (map-set lists_in ds o q)
 
 empty-with_depot : (n n' workers : ℕ) (c : Caches) (o : ℕ) (lists : List (List ℕ)) → o < length c.depots → AreEmptyBelow n workers c → n' ≤ n
@@ -159,11 +159,11 @@ pub inside-depot : (profile : Capacities) (ws : List WorkerCache) (ds : List Sto
     → AreCachesKept profile ws (slice_set ds o q) m d' n'
 inside-depot profile ws ds m d n d' n' o p q s o_lt is keeps sound counts le empty =
     let k : length (map lists_in ds) ≡ 6 = s.caches.orders in
-    let lt : o < length (seen ws ds).depots = omega arith in
+    let lt : o < length (caches_of ws ds).depots = omega arith in
     let same : q.profile ≡ profile = keeps ∙ depot_profile_at profile ws ds m d n o p s o_lt is in
     let now = seen-set_depot ws ds o q in
-    let frames = frames_of-with_depot (seen ws ds) o q.lists lt in
-    let counts' : d' + 2 ^ o * entries_of (slice_index_or (seen ws ds).depots o []) ≡ d + 2 ^ o * entries_of q.lists = rw (depot_at-seen profile ws ds m d n o p s o_lt is) counts in
+    let frames = frames_of-with_depot (caches_of ws ds) o q.lists lt in
+    let counts' : d' + 2 ^ o * entries_of (slice_index_or (caches_of ws ds).depots o []) ≡ d + 2 ^ o * entries_of q.lists = rw (depot_at-seen profile ws ds m d n o p s o_lt is) counts in
     record {
       is_profile = s.is_profile;
       some_worker = s.some_worker;
@@ -179,5 +179,5 @@ inside-depot profile ws ds m d n d' n' o p q s o_lt is keeps sound counts le emp
       };
       magazines = s.magazines;
       depot = rw (ap (λ (c : Caches). c.depots) now) (count_follows d d' _ _ _ _ frames s.depot counts');
-      empty = rw now (empty-with_depot n n' (length ws) (seen ws ds) o q.lists lt s.empty le empty);
+      empty = rw now (empty-with_depot n n' (length ws) (caches_of ws ds) o q.lists lt s.empty le empty);
     }

@@ -14,7 +14,7 @@ use Rattle.iova_model.specs.Effects.{frames_of}
 use Rattle.iova_mag.specs.Workers.{WorkerCache, pair_of}
 use Rattle.iova_depot.specs.Stored.{Stored}
 use Rattle.iova_depot.specs.Cached.{Cached, LosesOnly}
-use Rattle.iova_depot.specs.Inside.{seen}
+use Rattle.iova_depot.specs.Inside.{caches_of}
 use Rattle.iova_depot.proofs.Changes.{all_seen}
 use Rattle.iova_depot.proofs.Counts.{weight_of, weight_of-append, weight_of-set, frames_in, pair_holders, by_orders, by_workers, by_depots}
 
@@ -169,6 +169,6 @@ loses_frames o lo old new t = off_caches frames_in o lo old new t
 
 -- what was taken out of the caches as they were before the search for it
 pub takes_seen : (profile : Capacities) (ws : List WorkerCache) (ds : List Stored) (o lo : ℕ) (old here new : Cached) → all_seen profile ws ds ≡ new → here ≡ old
-    → TakesEntry o lo here.caches new.caches → TakesEntry o lo old.caches (seen ws ds)
+    → TakesEntry o lo here.caches new.caches → TakesEntry o lo old.caches (caches_of ws ds)
 takes_seen profile ws ds o lo old here new seen_is same takes =
     subst (λ (c : Cached). TakesEntry o lo old.caches c.caches) (sym seen_is) (subst (λ (c : Cached). TakesEntry o lo c.caches new.caches) same takes)

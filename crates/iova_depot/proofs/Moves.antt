@@ -6,10 +6,10 @@ use Rattle.std.proofs.lemmas.List.{length-set, length-take-le}
 use Rattle.std.proofs.lemmas.Bool.Decides.{nat_tests}
 use Rattle.iova_range.specs.Bounds.{Capacities}
 use Rattle.iova_model.specs.Fit.{greatest}
-use Rattle.iova_model.specs.Caches.{Cache, TakesOut, TakesOffShelf, get, put, popped, fitting, front}
+use Rattle.iova_model.specs.Caches.{Cache, TakesOut, TakesOffShelf, get, put, pop_entry, fitting, front}
 use Rattle.iova_mag.specs.declared.worker.Got.{Got}
 use Rattle.iova_mag.specs.declared.worker.Got.TheVariants.{Hit, Miss, Empty}
-use Rattle.iova_mag.specs.Workers.{shelf_of, pair_of, got, found, AreEmpty, HasRoom, newest, without_newest}
+use Rattle.iova_mag.specs.Workers.{shelf_of, pair_of, got_from, hit_or_miss, AreEmpty, HasRoom, newest, without_newest}
 use Rattle.iova_depot.proofs.Counts.{entries_in}
 
 -- Get.
@@ -37,12 +37,12 @@ hits Miss = 0
 hits Empty = 0
 
 popped_entries : (loaded previous : List ℕ) (o : Option ℕ) → ((i : ℕ) → o ≡ Some i → i < length loaded)
-    → let p = popped (record { loaded = loaded; previous = previous; depot = [] }) o in entries_in (pair_of p.1) + hits (found p.0) ≡ length loaded + length previous
+    → let p = pop_entry (record { loaded = loaded; previous = previous; depot = [] }) o in entries_in (pair_of p.1) + hits (hit_or_miss p.0) ≡ length loaded + length previous
 popped_entries loaded previous None below = omega arith
 popped_entries loaded previous (Some i) below = let n = length-swap_remove loaded i 0 (below i refl) in omega arith
 
 got_entries : (loaded previous : List ℕ) (limit size : ℕ)
-    → let c : Cache = record { loaded = loaded; previous = previous } in entries_in (pair_of (get (shelf_of c) limit size).1) + hits (got c limit size) ≡ length loaded + length previous
+    → let c : Cache = record { loaded = loaded; previous = previous } in entries_in (pair_of (get (shelf_of c) limit size).1) + hits (got_from c limit size) ≡ length loaded + length previous
 got_entries (x ∷ xs) previous limit size = popped_entries (x ∷ xs) previous (fitting (x ∷ xs) limit size) (λ i is. greatest_below (λ i. nat_le (slice_index (x ∷ xs) i + size - 1) limit) (length (x ∷ xs)) i is)
 got_entries [] (y ∷ ys) limit size =
     let e = popped_entries (y ∷ ys) [] (fitting (y ∷ ys) limit size) (λ i is. greatest_below (λ i. nat_le (slice_index (y ∷ ys) i + size - 1) limit) (length (y ∷ ys)) i is) in
@@ -50,7 +50,7 @@ got_entries [] (y ∷ ys) limit size =
 got_entries [] [] limit size = refl
 
 -- a hit takes one entry, and nothing else does
-pub entries_in-get : (c : Cache) (limit size : ℕ) → entries_in (pair_of (get (shelf_of c) limit size).1) + hits (got c limit size) ≡ entries_in c
+pub entries_in-get : (c : Cache) (limit size : ℕ) → entries_in (pair_of (get (shelf_of c) limit size).1) + hits (got_from c limit size) ≡ entries_in c
 entries_in-get c limit size = got_entries c.loaded c.previous limit size
 
 pub hits-no_hit : (g : Got) → ((lo : ℕ) → g ≡ Hit lo → ⊥) → hits g ≡ 0

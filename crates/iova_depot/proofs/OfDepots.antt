@@ -12,7 +12,7 @@ use Rattle.iova_mag.specs.Magazines.{Magazine, IsMagazine}
 use Rattle.iova_mag.specs.Workers.{WorkerCache, with_cache}
 use Rattle.iova_depot.specs.Stored.{Stored}
 use Rattle.iova_depot.specs.Cached.{Cached, with_worker_cache}
-use Rattle.iova_depot.specs.Inside.{seen, AreCachesKept}
+use Rattle.iova_depot.specs.Inside.{caches_of, AreCachesKept}
 use Rattle.iova_depot.proofs.Counts.{entries_of, pow_of_order, depots_bound}
 use Rattle.iova_depot.proofs.Changes.{all_seen, depot_at-seen, seen-set_depot, all_seen-set_worker}
 use Rattle.iova_depot.proofs.Steps.{shifted, magazine_small, LessInDepot, less-depot, MoreInDepot, more-depot}
@@ -58,7 +58,7 @@ count_fits profile ws ds m d n o len magazine s lt len_is whole =
     let frames = shifted len o (omega arith) lt in
     let few : len ≤ 128 = omega arith in
     let some : 2 ^ o * len ≤ 32 * 128 = mul-le-mul (pow_of_order o lt) few in
-    let most = depots_bound profile (length ws) (seen ws ds) s.is_profile s.caches in
+    let most = depots_bound profile (length ws) (caches_of ws ds) s.is_profile s.caches in
     let bound : d ≤ 786432 = rw (← s.depot) at most in
     omega arith
 
@@ -90,9 +90,9 @@ of_take profile ws ds m d n o lo p q s lt was keeps sound takes =
 
 -- it was one of the shelf's
 pub takes_from_depot : (profile : Capacities) (ws : List WorkerCache) (ds : List Stored) (m d n o lo : ℕ) (p q : Stored) → AreCachesKept profile ws ds m d n
-    → o < 6 → p ≡ slice_index_or ds o p → TakesOutOfDepot lo p.lists q.lists → TakesEntry o lo (seen ws ds) (seen ws (slice_set ds o q))
+    → o < 6 → p ≡ slice_index_or ds o p → TakesOutOfDepot lo p.lists q.lists → TakesEntry o lo (caches_of ws ds) (caches_of ws (slice_set ds o q))
 takes_from_depot profile ws ds m d n o lo p q s lt was takes =
-    let all : Caches = seen ws ds in
+    let all : Caches = caches_of ws ds in
     let cs = slice_index_or all.workers 0 [] in
     let here = cache_at all 0 o in
     let left : Shelf = record { loaded = here.loaded; previous = here.previous; depot = q.lists } in
@@ -111,13 +111,13 @@ pub all_seen-reload : (profile : Capacities) (ws : List WorkerCache) (ds : List 
     → w < length ws → o < 6 → p ≡ slice_index_or ds o p → q ≡ record p { lists = front p.lists } → magazine ≡ record { profile = p.profile; entries = last_or [] p.lists }
     → u ≡ slice_index_or ws w u → v ≡ with_cache u o (record { loaded = magazine.entries; previous = [] })
     → all_seen profile (slice_set ws w v) (slice_set ds o q)
-    ≡ record { profile = profile; workers = length ws; caches = with_shelf (seen ws ds) w o (record { loaded = last_or [] (slice_index_or (seen ws ds).depots o []); previous = []; depot = front (slice_index_or (seen ws ds).depots o []) }) }
+    ≡ record { profile = profile; workers = length ws; caches = with_shelf (caches_of ws ds) w o (record { loaded = last_or [] (slice_index_or (caches_of ws ds).depots o []); previous = []; depot = front (slice_index_or (caches_of ws ds).depots o []) }) }
 all_seen-reload profile ws ds m d n w o p q u v magazine s lt o_lt was is value was_worker is_worker =
-    let lists = slice_index_or (seen ws ds).depots o [] in
+    let lists = slice_index_or (caches_of ws ds).depots o [] in
     let at : lists ≡ p.lists = depot_at-seen profile ws ds m d n o p s o_lt was in
     let left : q.lists ≡ front lists = ap (λ (q : Stored). q.lists) is ∙ ap front (sym at) in
     let entries : magazine.entries ≡ last_or [] lists = ap (λ (m : Magazine). m.entries) value ∙ ap (λ (ls : List (List ℕ)). last_or [] ls) (sym at) in
-    let all : Caches = seen ws ds in
+    let all : Caches = caches_of ws ds in
     let loaded : List ℕ → Cache = λ los. record { loaded = los; previous = [] } in
     let now : List ℕ → List (List (List ℕ)) → Cached = λ los depots. record { profile = profile; workers = length ws; caches = record { workers = (with_worker_cache all w o (loaded los)).workers; depots = depots } } in
     all_seen-set_worker (λ (c : Cache). loaded magazine.entries) profile ws (slice_set ds o q) w o u v lt was_worker is_worker

@@ -7,10 +7,10 @@ use Rattle.iova_model.specs.Caches.{Cache, Caches, Shelf, TakesEntry, no_magazin
 use Rattle.iova_mag.specs.declared.worker.Got.{Got}
 use Rattle.iova_mag.specs.declared.worker.Got.TheVariants.{Hit}
 use Rattle.iova_mag.specs.Magazines.{Magazine, IsMagazine}
-use Rattle.iova_mag.specs.Workers.{WorkerCache, IsWorkerCache, AreEmpty, HasRoom, cache_of, with_cache, shelf_of, pair_of, got, newest, without_newest}
+use Rattle.iova_mag.specs.Workers.{WorkerCache, IsWorkerCache, AreEmpty, HasRoom, cache_of, with_cache, shelf_of, pair_of, got_from, newest, without_newest}
 use Rattle.iova_depot.specs.Stored.{Stored}
 use Rattle.iova_depot.specs.Cached.{with_worker_cache}
-use Rattle.iova_depot.specs.Inside.{seen, AreCachesKept}
+use Rattle.iova_depot.specs.Inside.{caches_of, AreCachesKept}
 use Rattle.iova_depot.proofs.Counts.{pow_of_order, magazines_bound}
 use Rattle.iova_depot.proofs.Moves.{hits, entries_in-get, hits-no_hit, entries_in-put, entries_in-newest, takes_newest, without_newest-none}
 use Rattle.std.proofs.lemmas.List.{set-get_or}
@@ -37,19 +37,19 @@ no_change : (profile : Capacities) (ws : List WorkerCache) (ds : List Stored) (m
 no_change profile ws ds m d n w q l = let e : m - 0 ≡ m = omega arith in rw e at l.inside
 
 pub of_hit : (profile : Capacities) (ws : List WorkerCache) (ds : List Stored) (m d n w o limit lo : ℕ) (p q : WorkerCache) (g : Got)
-    → Becomes profile ws ds m d n w o p q (pair_of (get (shelf_of (cache_of p o)) limit (2 ^ o)).1) → g ≡ got (cache_of p o) limit (2 ^ o) → g ≡ Hit lo
+    → Becomes profile ws ds m d n w o p q (pair_of (get (shelf_of (cache_of p o)) limit (2 ^ o)).1) → g ≡ got_from (cache_of p o) limit (2 ^ o) → g ≡ Hit lo
     → LessInMagazines profile ws ds m d n w q (1 * 2 ^ o % 18446744073709551616)
 of_hit profile ws ds m d n w o limit lo p q g b value hit =
     let counts = entries_in-get (cache_of p o) limit (2 ^ o) in
-    let one : hits (got (cache_of p o) limit (2 ^ o)) ≡ 1 = ap hits (sym value ∙ hit) in
+    let one : hits (got_from (cache_of p o) limit (2 ^ o)) ≡ 1 = ap hits (sym value ∙ hit) in
     less-worker profile ws ds m d n w o p q _ 1 _ b.inside b.in_workers b.in_orders b.was b.is b.sound (one_shifted o b.in_orders) (omega arith)
 
 pub of_no_hit : (profile : Capacities) (ws : List WorkerCache) (ds : List Stored) (m d n w o limit : ℕ) (p q : WorkerCache) (g : Got)
-    → Becomes profile ws ds m d n w o p q (pair_of (get (shelf_of (cache_of p o)) limit (2 ^ o)).1) → g ≡ got (cache_of p o) limit (2 ^ o) → ((lo : ℕ) → g ≡ Hit lo → ⊥)
+    → Becomes profile ws ds m d n w o p q (pair_of (get (shelf_of (cache_of p o)) limit (2 ^ o)).1) → g ≡ got_from (cache_of p o) limit (2 ^ o) → ((lo : ℕ) → g ≡ Hit lo → ⊥)
     → AreCachesKept profile (slice_set ws w q) ds m d n
 of_no_hit profile ws ds m d n w o limit p q g b value miss =
     let counts = entries_in-get (cache_of p o) limit (2 ^ o) in
-    let none : hits (got (cache_of p o) limit (2 ^ o)) ≡ 0 = ap hits (sym value) ∙ hits-no_hit g miss in
+    let none : hits (got_from (cache_of p o) limit (2 ^ o)) ≡ 0 = ap hits (sym value) ∙ hits-no_hit g miss in
     let zeros : 0 ≡ 2 ^ o * 0 = omega arith in
     no_change profile ws ds m d n w q (less-worker profile ws ds m d n w o p q _ 0 0 b.inside b.in_workers b.in_orders b.was b.is b.sound zeros (omega arith))
 
@@ -76,7 +76,7 @@ count_fits profile ws ds m d n o len magazine s lt len_is whole =
     let frames = shifted len o (omega arith) lt in
     let few : len ≤ 128 = omega arith in
     let some : 2 ^ o * len ≤ 32 * 128 = mul-le-mul (pow_of_order o lt) few in
-    let most = magazines_bound profile (length ws) (seen ws ds) s.is_profile s.few_workers s.caches in
+    let most = magazines_bound profile (length ws) (caches_of ws ds) s.is_profile s.few_workers s.caches in
     let bound : m ≤ 786432 = rw (← s.magazines) at most in
     omega arith
 
@@ -108,17 +108,17 @@ pub of_no_take : (profile : Capacities) (ws : List WorkerCache) (ds : List Store
     → q ≡ with_cache p o (without_newest (cache_of p o)) → newest (cache_of p o) ≡ None → AreCachesKept profile (slice_set ws w q) ds m d n
 of_no_take profile ws ds m d n w o p q s was is none = rw (same_worker ws w o p q was is none) s
 
-pub none_in_worker : (ws : List WorkerCache) (ds : List Stored) (w o : ℕ) (p : WorkerCache) → w < length ws → p ≡ slice_index_or ws w p → newest (cache_of p o) ≡ None → AreEmpty (cache_at (seen ws ds) w o)
+pub none_in_worker : (ws : List WorkerCache) (ds : List Stored) (w o : ℕ) (p : WorkerCache) → w < length ws → p ≡ slice_index_or ws w p → newest (cache_of p o) ≡ None → AreEmpty (cache_at (caches_of ws ds) w o)
 none_in_worker ws ds w o p lt was none = rw (cache_at-seen ws ds w o p lt was) (without_newest-none (cache_of p o) none).0
 
 -- where an entry was, it was one of the shelf's
 pub takes_from_worker : (ws : List WorkerCache) (ds : List Stored) (w o lo : ℕ) (p q : WorkerCache) → w < length ws → p ≡ slice_index_or ws w p
-    → q ≡ with_cache p o (without_newest (cache_of p o)) → newest (cache_of p o) ≡ Some lo → TakesEntry o lo (seen ws ds) (seen (slice_set ws w q) ds)
+    → q ≡ with_cache p o (without_newest (cache_of p o)) → newest (cache_of p o) ≡ Some lo → TakesEntry o lo (caches_of ws ds) (caches_of (slice_set ws w q) ds)
 takes_from_worker ws ds w o lo p q lt was is some =
     let c = without_newest (cache_of p o) in
-    let depot = slice_index_or (seen ws ds).depots o [] in
+    let depot = slice_index_or (caches_of ws ds).depots o [] in
     let left : Shelf = record { loaded = c.loaded; previous = c.previous; depot = depot } in
-    let all : Caches = seen ws ds in
+    let all : Caches = caches_of ws ds in
     record {
       worker = w;
       shelf = left;
@@ -130,7 +130,7 @@ takes_from_worker ws ds w o lo p q lt was is some =
 -- a put, as all is seen
 pub all_seen-put : (profile : Capacities) (ws : List WorkerCache) (ds : List Stored) (m d n w o lo : ℕ) (p q : WorkerCache) → AreCachesKept profile ws ds m d n → w < length ws → p ≡ slice_index_or ws w p
     → q ≡ with_cache p o (pair_of (put p.profile (shelf_of (cache_of p o)) lo))
-    → all_seen profile (slice_set ws w q) ds ≡ record { profile = profile; workers = length ws; caches = with_worker_cache (seen ws ds) w o (pair_of (put profile (shelf_of (cache_at (seen ws ds) w o)) lo)) }
+    → all_seen profile (slice_set ws w q) ds ≡ record { profile = profile; workers = length ws; caches = with_worker_cache (caches_of ws ds) w o (pair_of (put profile (shelf_of (cache_at (caches_of ws ds) w o)) lo)) }
 all_seen-put profile ws ds m d n w o lo p q s lt was is =
     all_seen-set_worker (λ (cache : Cache). pair_of (put profile (shelf_of cache) lo)) profile ws ds w o p q lt was
     (is ∙ ap (λ (of : Capacities). with_cache p o (pair_of (put of (shelf_of (cache_of p o)) lo))) (profile_at profile ws ds m d n w p s lt was))

@@ -7,12 +7,12 @@ use Rattle.std.proofs.lemmas.Bool.Decides.{nat_tests}
 use Rattle.std.proofs.lemmas.List.{set-get_or, set-set, get_or-set_same, length-set}
 use Rattle.std.proofs.lemmas.List.Elements.{All-get_or, All-from_recursion}
 use Rattle.iova_range.specs.Bounds.{Capacities}
-use Rattle.iova_model.specs.Caches.{Cache, Caches, Shelf, cache_at, shelf_at, with_shelf, popped, fitting, get, put, last_or, front}
+use Rattle.iova_model.specs.Caches.{Cache, Caches, Shelf, cache_at, shelf_at, with_shelf, pop_entry, fitting, get, put, last_or, front}
 use Rattle.iova_model.specs.Valid.{AreWorkerCaches}
 use Rattle.iova_mag.specs.declared.worker.Got.{Got}
 use Rattle.iova_mag.specs.declared.worker.Got.TheVariants.{Hit, Miss, Empty}
 use Rattle.iova_mag.specs.Magazines.{Magazine}
-use Rattle.iova_mag.specs.Workers.{shelf_of, pair_of, got, AreEmpty, AreFull, HasRoom}
+use Rattle.iova_mag.specs.Workers.{shelf_of, pair_of, got_from, AreEmpty, AreFull, HasRoom}
 use Rattle.iova_depot.specs.Cached.{Cached, IsCached, with_worker_cache, with_depot}
 use Rattle.iova_depot.proofs.Counts.{sizes_of}
 use Rattle.iova_depot.proofs.Changes.{at_same}
@@ -21,14 +21,14 @@ use Rattle.iova_depot.proofs.Changes.{at_same}
 abbrev pub with_lists : Shelf → List (List ℕ) → Shelf
 with_lists s depot = record { loaded = s.loaded; previous = s.previous; depot = depot }
 
-popped-lists : (loaded previous : List ℕ) (depot : List (List ℕ)) (o : Option ℕ) → (popped (record { loaded = loaded; previous = previous; depot = depot }) o).1
-    ≡ with_lists (popped (record { loaded = loaded; previous = previous; depot = [] }) o).1 depot
+popped-lists : (loaded previous : List ℕ) (depot : List (List ℕ)) (o : Option ℕ) → (pop_entry (record { loaded = loaded; previous = previous; depot = depot }) o).1
+    ≡ with_lists (pop_entry (record { loaded = loaded; previous = previous; depot = [] }) o).1 depot
 popped-lists loaded previous depot None = refl
 popped-lists loaded previous depot (Some i) = refl
 
 -- A get that finds an entry in the two leaves the depot alone.
 
-get-own : (loaded previous : List ℕ) (depot : List (List ℕ)) (limit size : ℕ) → got (record { loaded = loaded; previous = previous }) limit size ≢ Empty
+get-own : (loaded previous : List ℕ) (depot : List (List ℕ)) (limit size : ℕ) → got_from (record { loaded = loaded; previous = previous }) limit size ≢ Empty
     → (get (record { loaded = loaded; previous = previous; depot = depot }) limit size).1 ≡ with_lists (get (record { loaded = loaded; previous = previous; depot = [] }) limit size).1 depot
 get-own (x ∷ xs) previous depot limit size some = popped-lists (x ∷ xs) previous depot (fitting (x ∷ xs) limit size)
 get-own [] (y ∷ ys) depot limit size some = popped-lists (y ∷ ys) [] depot (fitting (y ∷ ys) limit size)
@@ -37,7 +37,7 @@ get-own [] [] depot limit size some = absurd (some refl)
 same_depot : (c : Caches) (w o : ℕ) (cache : Cache) → with_shelf c w o (with_lists (shelf_of cache) (slice_index_or c.depots o [])) ≡ with_worker_cache c w o cache
 same_depot c w o cache = ap (λ (depots : List (List (List ℕ))). let after : Caches = record { workers = (with_worker_cache c w o cache).workers; depots = depots } in after) (set-get_or c.depots o [])
 
-pub with_shelf-get : (c : Caches) (w o limit size : ℕ) → got (cache_at c w o) limit size ≢ Empty → with_shelf c w o (get (shelf_at c w o) limit size).1 ≡ with_worker_cache c w o (pair_of (get (shelf_of (cache_at c w o)) limit size).1)
+pub with_shelf-get : (c : Caches) (w o limit size : ℕ) → got_from (cache_at c w o) limit size ≢ Empty → with_shelf c w o (get (shelf_at c w o) limit size).1 ≡ with_worker_cache c w o (pair_of (get (shelf_of (cache_at c w o)) limit size).1)
 with_shelf-get c w o limit size some =
     ap (λ (s : Shelf). with_shelf c w o s) (get-own (cache_at c w o).loaded (cache_at c w o).previous (slice_index_or c.depots o []) limit size some)
     ∙ same_depot c w o (pair_of (get (shelf_of (cache_at c w o)) limit size).1)
@@ -49,7 +49,7 @@ pub miss_is_not_empty : (g : Got) → g ≡ Miss → g ≢ Empty
 miss_is_not_empty g is none = let both : Miss ≡ Empty = sym is ∙ none in cc
 
 -- as `get` says it
-pub got_own : (old new : Cached) (w o limit : ℕ) (g : Got) → g ≡ got (cache_at old.caches w o) limit (2 ^ o) → g ≢ Empty
+pub got_own : (old new : Cached) (w o limit : ℕ) (g : Got) → g ≡ got_from (cache_at old.caches w o) limit (2 ^ o) → g ≢ Empty
     → new ≡ record old { caches = with_worker_cache old.caches w o (pair_of (get (shelf_of (cache_at old.caches w o)) limit (2 ^ o)).1) }
     → new ≡ record old { caches = with_shelf old.caches w o (get (shelf_at old.caches w o) limit (2 ^ o)).1 }
 got_own old new w o limit g value some is = rw (with_shelf-get old.caches w o limit (2 ^ o) (λ none. some (value ∙ none))) is
@@ -87,12 +87,12 @@ with_worker_cache-twice c w o a b lt =
     (ap (λ (ys : List Cache). slice_set (slice_set c.workers w xs) w ys) inner ∙ set-set c.workers w xs (slice_set cs o b))
 
 loaded_get : (loaded : List ℕ) (depot : List (List ℕ)) (limit size : ℕ)
-    → with_lists (get (record { loaded = loaded; previous = []; depot = [] }) limit size).1 depot ≡ (popped (record { loaded = loaded; previous = []; depot = depot }) (fitting loaded limit size)).1
+    → with_lists (get (record { loaded = loaded; previous = []; depot = [] }) limit size).1 depot ≡ (pop_entry (record { loaded = loaded; previous = []; depot = depot }) (fitting loaded limit size)).1
 loaded_get [] depot limit size = refl
 loaded_get (x ∷ xs) depot limit size = sym (popped-lists (x ∷ xs) [] depot (fitting (x ∷ xs) limit size))
 
 empty_get : (loaded previous : List ℕ) (depot : List (List ℕ)) (limit size : ℕ) → loaded ≡ [] → previous ≡ []
-    → (popped (record { loaded = last_or [] depot; previous = []; depot = front depot }) (fitting (last_or [] depot) limit size)).1 ≡ (get (record { loaded = loaded; previous = previous; depot = depot }) limit size).1
+    → (pop_entry (record { loaded = last_or [] depot; previous = []; depot = front depot }) (fitting (last_or [] depot) limit size)).1 ≡ (get (record { loaded = loaded; previous = previous; depot = depot }) limit size).1
 empty_get [] [] depot limit size e f = refl
 empty_get (x ∷ xs) previous depot limit size e f = absurd cc
 empty_get [] (y ∷ ys) depot limit size e f = absurd cc
@@ -105,11 +105,11 @@ with_shelf-reload c w o limit size s none =
     let first : Cache = record { loaded = last_or [] depot; previous = [] } in
     let mid = with_depot (with_worker_cache c w o first) o (front depot) in
     let at : cache_at mid w o ≡ first = at_same c w o first s.in_workers s.in_orders in
-    let got : Cache = pair_of (get (shelf_of first) limit size).1 in
-    let whole : with_lists (shelf_of got) (front depot) ≡ (get (shelf_at c w o) limit size).1 =
+    let got_from : Cache = pair_of (get (shelf_of first) limit size).1 in
+    let whole : with_lists (shelf_of got_from) (front depot) ≡ (get (shelf_at c w o) limit size).1 =
     loaded_get (last_or [] depot) (front depot) limit size ∙ empty_get (cache_at c w o).loaded (cache_at c w o).previous depot limit size none.0 none.1 in
     ap (λ (cache : Cache). with_worker_cache mid w o (pair_of (get (shelf_of cache) limit size).1)) at
-    ∙ (ap (λ (c' : Caches). with_depot c' o (front depot)) (with_worker_cache-twice c w o first got s.in_workers)
+    ∙ (ap (λ (c' : Caches). with_depot c' o (front depot)) (with_worker_cache-twice c w o first got_from s.in_workers)
     ∙ ap (λ (s : Shelf). with_shelf c w o s) whole)
 
 -- as `reload_and_get` says it

@@ -5,12 +5,12 @@ use Rattle.std.proofs.Math.Seq.{map-set_same}
 use Rattle.std.proofs.lemmas.Bool.{cases_lt}
 use Rattle.std.proofs.lemmas.List.Elements.{All-get_or, All-from_recursion}
 use Rattle.iova_range.specs.Bounds.{Capacities}
-use Rattle.iova_model.specs.Caches.{Cache, Caches, Shelf, no_magazines, cache_at, shelf_at, with_shelf, TakesOffShelf, TakesEntry, emptied}
+use Rattle.iova_model.specs.Caches.{Cache, Caches, Shelf, no_magazines, cache_at, shelf_at, with_shelf, TakesOffShelf, TakesEntry, without_entries}
 use Rattle.iova_model.specs.Valid.{AreWorkerCaches, AreCaches}
 use Rattle.iova_mag.specs.Workers.{WorkerCache, AreEmpty, pair_of}
 use Rattle.iova_depot.specs.Stored.{Stored}
 use Rattle.iova_depot.specs.Cached.{Cached}
-use Rattle.iova_depot.specs.Inside.{AreEmptyBelow, seen, AreCachesKept}
+use Rattle.iova_depot.specs.Inside.{AreEmptyBelow, caches_of, AreCachesKept}
 use Rattle.iova_depot.proofs.Changes.{all_seen}
 
 -- an element of a list after a write is what was written, or as it was
@@ -80,7 +80,7 @@ empty-takes n workers o lo old new s t = rw t.others (record {
     depot i lt below (inr same) = same ∙ s.depots i lt below
 
 -- and leaves the same when all the others are taken out too
-pub emptied-takes : (o lo : ℕ) (old new : Caches) → TakesEntry o lo old new → emptied new ≡ emptied old
+pub emptied-takes : (o lo : ℕ) (old new : Caches) → TakesEntry o lo old new → without_entries new ≡ without_entries old
 emptied-takes o lo old new t =
     let cs = slice_index_or old.workers t.worker [] in
     let none : Cache → Cache = λ c. no_magazines in
@@ -89,7 +89,7 @@ emptied-takes o lo old new t =
     let workers : map (map none) (slice_set old.workers t.worker (slice_set cs o (pair_of t.shelf))) ≡ map (map none) old.workers =
     map-set_same (map none) old.workers t.worker (slice_set cs o (pair_of t.shelf)) [] orders in
     let depots : map no_lists (slice_set old.depots o t.shelf.depot) ≡ map no_lists old.depots = map-set_same no_lists old.depots o t.shelf.depot [] refl in
-    ap emptied t.others ∙ rw (workers, depots) refl
+    ap without_entries t.others ∙ rw (workers, depots) refl
 
 -- one more slot
 pub empty-more : (slot workers : ℕ) (c : Caches) → AreEmptyBelow slot workers c → ((w o : ℕ) → w < workers → o < 6 → w * 6 + o ≡ slot → AreEmpty (cache_at c w o))
@@ -115,7 +115,7 @@ map_same f (x ∷ xs) d same = rw (same 0 (omega arith), map_same f xs d (λ k l
 are_none : (c : Cache) → AreEmpty c → no_magazines ≡ c
 are_none c none = ap (λ (los : List ℕ). let d : Cache = record { loaded = los; previous = [] } in d) (sym none.0) ∙ ap (λ (los : List ℕ). let d : Cache = record { loaded = c.loaded; previous = los } in d) (sym none.1)
 
-pub all_empty : (profile : Capacities) (slot workers : ℕ) (c : Caches) → AreCaches profile workers c → (workers + 1) * 6 ≤ slot → AreEmptyBelow slot workers c → emptied c ≡ c
+pub all_empty : (profile : Capacities) (slot workers : ℕ) (c : Caches) → AreCaches profile workers c → (workers + 1) * 6 ≤ slot → AreEmptyBelow slot workers c → without_entries c ≡ c
 all_empty profile slot workers c sound le s =
     let n : length c.workers ≡ workers = sound.each_worker in
     let k : length c.depots ≡ 6 = sound.orders in
@@ -129,7 +129,7 @@ all_empty profile slot workers c sound le s =
         map_same _ (slice_index_or c.workers w []) no_magazines (λ o o_lt. are_none (cache_at c w o) (s.magazines w o (omega arith) (omega arith) (omega arith)))
 
 -- another first slot
-pub with_first : (profile : Capacities) (ws : List WorkerCache) (ds : List Stored) (m d n n' : ℕ) → AreCachesKept profile ws ds m d n → AreEmptyBelow n' (length ws) (seen ws ds) → AreCachesKept profile ws ds m d n'
+pub with_first : (profile : Capacities) (ws : List WorkerCache) (ds : List Stored) (m d n n' : ℕ) → AreCachesKept profile ws ds m d n → AreEmptyBelow n' (length ws) (caches_of ws ds) → AreCachesKept profile ws ds m d n'
 with_first profile ws ds m d n n' s empty = record {
   is_profile = s.is_profile;
   some_worker = s.some_worker;
@@ -144,7 +144,7 @@ with_first profile ws ds m d n n' s empty = record {
 
 -- what the search for an entry knows of them, where it takes one
 pub first_kept : (profile : Capacities) (ws : List WorkerCache) (ds : List Stored) (n o lo : ℕ) (old new : Cached) → all_seen profile ws ds ≡ new → new ≡ record old { caches = new.caches }
-    → AreEmptyBelow n old.workers old.caches → TakesEntry o lo old.caches new.caches → AreEmptyBelow n (length ws) (seen ws ds)
+    → AreEmptyBelow n old.workers old.caches → TakesEntry o lo old.caches new.caches → AreEmptyBelow n (length ws) (caches_of ws ds)
 first_kept profile ws ds n o lo old new seen_is same s takes =
     let after = empty-takes n old.workers o lo old.caches new.caches s takes in
     let now : AreEmptyBelow n new.workers new.caches = subst (λ (w : ℕ). AreEmptyBelow n w new.caches) (sym (ap (λ (c : Cached). c.workers) same)) after in
@@ -152,7 +152,7 @@ first_kept profile ws ds n o lo old new seen_is same s takes =
 
 -- and where there is none
 pub nothing_left : (profile : Capacities) (ws : List WorkerCache) (ds : List Stored) (m d n slot : ℕ) (old now : Cached) → AreCachesKept profile ws ds m d n → all_seen profile ws ds ≡ old → now ≡ old
-    → AreEmptyBelow slot now.workers now.caches → (length ws + 1) * 6 ≤ slot → emptied old.caches ≡ old.caches
+    → AreEmptyBelow slot now.workers now.caches → (length ws + 1) * 6 ≤ slot → without_entries old.caches ≡ old.caches
 nothing_left profile ws ds m d n slot old now s seen_is same empty le =
-    let before : AreEmptyBelow slot (length ws) (seen ws ds) = subst (λ (c : Cached). AreEmptyBelow slot c.workers c.caches) (same ∙ sym seen_is) empty in
-    rw (← seen_is) (all_empty profile slot (length ws) (seen ws ds) s.caches le before)
+    let before : AreEmptyBelow slot (length ws) (caches_of ws ds) = subst (λ (c : Cached). AreEmptyBelow slot c.workers c.caches) (same ∙ sym seen_is) empty in
+    rw (← seen_is) (all_empty profile slot (length ws) (caches_of ws ds) s.caches le before)

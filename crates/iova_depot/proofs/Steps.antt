@@ -9,7 +9,7 @@ use Rattle.iova_model.specs.Valid.{IsDepot}
 use Rattle.iova_mag.specs.Magazines.{Magazine, IsMagazine}
 use Rattle.iova_mag.specs.Workers.{WorkerCache, IsWorkerCache, AreEmpty, cache_of, with_cache}
 use Rattle.iova_depot.specs.Stored.{Stored}
-use Rattle.iova_depot.specs.Inside.{seen, AreCachesKept}
+use Rattle.iova_depot.specs.Inside.{caches_of, AreCachesKept}
 use Rattle.iova_depot.proofs.Counts.{entries_in, entries_of, pow_of_order, sizes_of, magazines_bound, depots_bound, frames_of-with_worker_cache, frames_of-with_depot}
 use Rattle.iova_depot.proofs.Changes.{cache_at-seen, orders_at, depot_at-seen, inside-worker, inside-depot}
 
@@ -58,11 +58,11 @@ pub less-worker : (profile : Capacities) (ws : List WorkerCache) (ds : List Stor
     → w < length ws → o < 6 → p ≡ slice_index_or ws w p → q ≡ with_cache p o cache → IsWorkerCache q
     → frames ≡ 2 ^ o * a → entries_in (cache_of p o) ≡ a + entries_in cache → LessInMagazines profile ws ds m d n w q frames
 less-worker profile ws ds m d n w o p q cache a frames s lt o_lt is becomes sound frames_are counts =
-    let k : length (seen ws ds).workers ≡ length ws = s.caches.each_worker in
-    let w_lt : w < length (seen ws ds).workers = omega arith in
-    let in_orders : o < length (slice_index_or (seen ws ds).workers w []) = rw (orders_at profile ws ds m d n w s lt) o_lt in
+    let k : length (caches_of ws ds).workers ≡ length ws = s.caches.each_worker in
+    let w_lt : w < length (caches_of ws ds).workers = omega arith in
+    let in_orders : o < length (slice_index_or (caches_of ws ds).workers w []) = rw (orders_at profile ws ds m d n w s lt) o_lt in
     let at = cache_at-seen ws ds w o p lt is in
-    let sums = rw (at, ← s.magazines) at (frames_of-with_worker_cache (seen ws ds) w o cache w_lt in_orders) in
+    let sums = rw (at, ← s.magazines) at (frames_of-with_worker_cache (caches_of ws ds) w o cache w_lt in_orders) in
     let fits : 2 ^ o * a ≤ m = part_fits m _ (2 ^ o) a (entries_in (cache_of p o)) (entries_in cache) counts sums in
     let empty : w * 6 + o < n → AreEmpty cache =
     λ below. (let none = entries_in-empty (cache_of p o) (rw at at (s.empty.magazines w o lt o_lt below)) in no_entries cache (omega arith)) in
@@ -85,10 +85,10 @@ pub less-depot : (profile : Capacities) (ws : List WorkerCache) (ds : List Store
     → o < 6 → p ≡ slice_index_or ds o p → q.profile ≡ p.profile → IsDepot q.profile q.lists
     → frames ≡ 2 ^ o * a → entries_of p.lists ≡ a + entries_of q.lists → LessInDepot profile ws ds m d n o q frames
 less-depot profile ws ds m d n o p q a frames s o_lt is keeps sound frames_are counts =
-    let k : length (seen ws ds).depots ≡ 6 = s.caches.orders in
-    let lt : o < length (seen ws ds).depots = omega arith in
+    let k : length (caches_of ws ds).depots ≡ 6 = s.caches.orders in
+    let lt : o < length (caches_of ws ds).depots = omega arith in
     let at = depot_at-seen profile ws ds m d n o p s o_lt is in
-    let sums = rw (at, ← s.depot) at (frames_of-with_depot (seen ws ds) o q.lists lt) in
+    let sums = rw (at, ← s.depot) at (frames_of-with_depot (caches_of ws ds) o q.lists lt) in
     let fits : 2 ^ o * a ≤ d = part_fits d _ (2 ^ o) a (entries_of p.lists) (entries_of q.lists) counts sums in
     let empty : length ws * 6 + o < n → q.lists ≡ [] =
     λ below. (let none : entries_of p.lists ≡ 0 = ap entries_of (sym at ∙ s.empty.depots o o_lt below) in no_lists q.profile q.lists sound (omega arith)) in
@@ -108,7 +108,7 @@ pub more-worker : (profile : Capacities) (ws : List WorkerCache) (ds : List Stor
     → w < length ws → o < 6 → p ≡ slice_index_or ws w p → q ≡ with_cache p o cache → IsWorkerCache q
     → frames ≡ 2 ^ o * a → a ≤ 4096 → entries_in cache ≡ a + entries_in (cache_of p o) → n' ≤ n → n' ≤ w * 6 + o → MoreInMagazines profile ws ds m d n' w q frames
 more-worker profile ws ds m d n n' w o p q cache a frames s lt o_lt is becomes sound frames_are a_le counts le below_slot =
-    let most = magazines_bound profile (length ws) (seen ws ds) s.is_profile s.few_workers s.caches in
+    let most = magazines_bound profile (length ws) (caches_of ws ds) s.is_profile s.few_workers s.caches in
     let bound : m ≤ 786432 = rw (← s.magazines) at most in
     let brought : 2 ^ o * a ≤ 32 * 4096 = mul-le-mul (pow_of_order o o_lt) a_le in
     record {
@@ -125,7 +125,7 @@ pub more-depot : (profile : Capacities) (ws : List WorkerCache) (ds : List Store
     → o < 6 → p ≡ slice_index_or ds o p → q.profile ≡ p.profile → IsDepot q.profile q.lists
     → frames ≡ 2 ^ o * a → a ≤ 4096 → entries_of q.lists ≡ a + entries_of p.lists → n' ≤ n → n' ≤ length ws * 6 + o → MoreInDepot profile ws ds m d n' o q frames
 more-depot profile ws ds m d n n' o p q a frames s o_lt is keeps sound frames_are a_le counts le below_slot =
-    let most = depots_bound profile (length ws) (seen ws ds) s.is_profile s.caches in
+    let most = depots_bound profile (length ws) (caches_of ws ds) s.is_profile s.caches in
     let bound : d ≤ 786432 = rw (← s.depot) at most in
     let brought : 2 ^ o * a ≤ 32 * 4096 = mul-le-mul (pow_of_order o o_lt) a_le in
     record {

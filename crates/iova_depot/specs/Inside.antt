@@ -16,8 +16,8 @@ pub record AreEmptyBelow (slot workers : ℕ) (c : Caches) : Type 0 where
   pub depots : (o : ℕ) → o < 6 → workers * 6 + o < slot → slice_index_or c.depots o [] ≡ []
 
 -- what is seen of the workers and the depots
-abbrev pub seen : List WorkerCache → List Stored → Caches
-seen workers depots =
+abbrev pub caches_of : List WorkerCache → List Stored → Caches
+caches_of workers depots =
     record { workers = map (λ w. w.caches) workers; depots = map (λ d. d.lists) depots }
 
 -- all have the profile, the two counts are those of the frames, and there is nothing below the
@@ -29,7 +29,7 @@ pub record AreCachesKept (profile : Capacities) (workers : List WorkerCache) (de
   pub few_workers : length workers ≤ MAX_WORKERS
   pub same_in_workers : All (λ w. w.profile ≡ profile) workers
   pub same_in_depots : All (λ d. d.profile ≡ profile) depots
-  pub caches : AreCaches profile (length workers) (seen workers depots)
-  pub magazines : in_magazines ≡ frames_of (magazine_holders 0 (seen workers depots).workers)
-  pub depot : in_depot ≡ frames_of (depot_holders 0 (seen workers depots).depots)
-  pub empty : AreEmptyBelow first_filled (length workers) (seen workers depots)
+  pub caches : AreCaches profile (length workers) (caches_of workers depots)
+  pub magazines : in_magazines ≡ frames_of (magazine_holders 0 (caches_of workers depots).workers)
+  pub depot : in_depot ≡ frames_of (depot_holders 0 (caches_of workers depots).depots)
+  pub empty : AreEmptyBelow first_filled (length workers) (caches_of workers depots)

@@ -2,11 +2,11 @@
 ghost use Rattle.std.specs.Prelude.{◌≡◌, ◌≢◌, ◌+◌, ◌*◌, ◌%◌, ◌-◌, ◌≤◌, ◌<◌, ◌^◌, ◌↔◌, ℕ, [], length, replicate, Some, find, option_map, IsTrue, IfOk, IsErr, IfNone, IfSome, OnSome};
 ghost use Rattle.std.specs.Bool.{OnTrue, OnFalse};
 ghost use Rattle.iova_range.specs.Bounds.{first_profile};
-ghost use Rattle.iova_model.specs.Caches.{TakesAny, TakesEntry, emptied, cache_at, shelf_at, get, put};
+ghost use Rattle.iova_model.specs.Caches.{TakesAny, TakesEntry, without_entries, cache_at, shelf_at, get, put};
 ghost use Rattle.iova_model.specs.State.{magazine_holders, depot_holders};
 ghost use Rattle.iova_model.specs.Effects.{frames_of};
 ghost use Rattle.iova_mag.specs.Magazines.{magazine_of};
-ghost use Rattle.iova_mag.specs.Workers.{AreEmpty, HasRoom, GivesNewest, got, new_worker};
+ghost use Rattle.iova_mag.specs.Workers.{AreEmpty, HasRoom, GivesNewest, got_from, new_worker};
 ghost use Rattle.iova_depot.specs.Cached.{Cached, IsCached, IsDepotFull, AreFullAt, LosesOnly, new_cached, place_at, cached_place, cached_frames, depot_at, range_of_entry, after_get, after_put, sent_by_put, after_own_get, after_own_put, after_reload, after_renewal, after_store};
 
 use crate::depot::Depot;
@@ -51,12 +51,12 @@ impl Model for Caches {
 
     ghost Value = { Cached };
 
-    ghost use Rattle.iova_depot.specs.Inside.{seen, AreCachesKept};
+    ghost use Rattle.iova_depot.specs.Inside.{caches_of, AreCachesKept};
 
     ghost view = { λ c. record {
       profile = c.profile;
       workers = length c.workers.items;
-      caches = seen c.workers.items c.depots.items;
+      caches = caches_of c.workers.items c.depots.items;
     } };
 
     ghost invariant = { λ c. AreCachesKept
@@ -214,7 +214,7 @@ impl Caches {
             self.new.caches) }
         ensures fewer { IfSome result
             (λ entry. cached_frames self.new.caches + 2 ^ entry.0 ≡ cached_frames self.old.caches) }
-        ensures emptied { emptied self.new.caches ≡ emptied self.old.caches }
+        ensures emptied { without_entries self.new.caches ≡ without_entries self.old.caches }
         ensures same { self.new ≡ record self.old { caches = self.new.caches } }
         ensures order { IfSome result (λ entry. entry.0 < ORDERS) }
         ensures sound { IsCached self.new }
@@ -264,7 +264,7 @@ impl Caches {
     fn try_get(&mut self, w: usize, order: u8, limit: u64) -> Got
         requires worker { w < self.old.workers }
         requires order { order < ORDERS }
-        ensures value { result ≡ got (cache_at self.old.caches w order) limit (2 ^ order) }
+        ensures value { result ≡ got_from (cache_at self.old.caches w order) limit (2 ^ order) }
         ensures left { self.new ≡ after_own_get self.old w order limit }
         ensures empty { result ≡ Got.Empty → AreEmpty (cache_at self.old.caches w order) }
         ensures sound { IsCached self.new }

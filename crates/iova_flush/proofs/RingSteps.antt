@@ -4,7 +4,7 @@ use Rattle.std.specs.List.{AllByRecursion}
 use Rattle.std.proofs.lemmas.List.Sums.{sum_by-cons}
 use Rattle.std.proofs.lemmas.Bool.Decides.{nat_tests}
 use Rattle.iova_model.specs.declared.entry.Entry.{Entry}
-use Rattle.iova_model.specs.Flushes.{flushed, unflushed}
+use Rattle.iova_model.specs.Flushes.{flushed_front, unflushed_rest}
 use Rattle.iova_model.specs.Valid.{IsRequestSizedEntry}
 use Rattle.iova_flush.specs.Rings.{frame_count, OldestWaits, IsRingKept}
 
@@ -25,10 +25,10 @@ oldest_within {es = x ∷ es} e h is =
     let same : e ≡ x = cc in
     rw same (omega (arith, frame_count-cons x es, h.counted))
 
-pub flushed-waits : (finish : ℕ) (es : List Entry) → OldestWaits finish es → flushed finish es ≡ []
+pub flushed-waits : (finish : ℕ) (es : List Entry) → OldestWaits finish es → flushed_front finish es ≡ []
 flushed-waits finish [] waits = refl
 flushed-waits finish (e ∷ es) waits = grind (arith, nat_tests)
 
-pub unflushed-waits : (finish : ℕ) (es : List Entry) → OldestWaits finish es → unflushed finish es ≡ es
+pub unflushed-waits : (finish : ℕ) (es : List Entry) → OldestWaits finish es → unflushed_rest finish es ≡ es
 unflushed-waits finish [] waits = refl
 unflushed-waits finish (e ∷ es) waits = grind (arith, nat_tests)

@@ -2,7 +2,7 @@
 use Rattle.std.proofs.Common.{ℕ, ◌≡◌, ◌+◌, ◌-◌, ◌^◌, ◌<◌, ◌≤◌, ◌==◌, max, Bool, true, false, List, [], ◌∷◌, ◌++◌, length, refl, subst, arith, length-append}
 use Rattle.std.proofs.lemmas.Bool.Decides.{nat_tests}
 use Rattle.iova_model.specs.declared.flight.Flight.{Flight}
-use Rattle.iova_model.specs.Flushes.{Flushes, begun, ended, is_in_flight, credit_of, without_flight, passed_on, left_over, credit_sum, NumbersRise, CreditsReach, AreSound}
+use Rattle.iova_model.specs.Flushes.{Flushes, with_flight, after_end, is_in_flight, credit_of, without_flight, passed_on, left_over, credit_sum, NumbersRise, CreditsReach, AreSound}
 
 -- Numbers that rise.
 
@@ -115,7 +115,7 @@ CreditsReach-passed_on newest finish n (f ∷ g ∷ fs) c =
 
 -- All of it.
 
-pub AreSound-begun : (s : Flushes) → length s.in_flight < 32 → s.start < 2 ^ 63 - 1 → AreSound s → AreSound (begun s)
+pub AreSound-begun : (s : Flushes) → length s.in_flight < 32 → s.start < 2 ^ 63 - 1 → AreSound s → AreSound (with_flight s)
 AreSound-begun s room fresh h =
     let g : Flight = record { number = s.start + 1; credit = 1 + s.owed } in
     record {
@@ -129,7 +129,7 @@ AreSound-begun s room fresh h =
       worn = omega arith;
     }
 
-pub AreSound-ended : (s : Flushes) (n : ℕ) (ok : Bool) → is_in_flight n s.in_flight ≡ true → AreSound s → AreSound (ended s n ok)
+pub AreSound-ended : (s : Flushes) (n : ℕ) (ok : Bool) → is_in_flight n s.in_flight ≡ true → AreSound s → AreSound (after_end s n ok)
 AreSound-ended s n true is h =
     let e = ReachesOn-from s.newest s.finish n s.in_flight h.reach is in
     record {

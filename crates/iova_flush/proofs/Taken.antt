@@ -5,7 +5,7 @@ use Rattle.std.proofs.lemmas.Bool.Decides.{nat_tests}
 use Rattle.std.proofs.lemmas.List.Quantifiers.{position-Some}
 use Rattle.std.specs.List.{position_or_len}
 use Rattle.iova_model.specs.declared.flight.Flight.{Flight}
-use Rattle.iova_model.specs.Flushes.{Flushes, ended, is_in_flight, credit_of, without_flight, passed_on, left_over, credit_sum, AreSound}
+use Rattle.iova_model.specs.Flushes.{Flushes, after_end, is_in_flight, credit_of, without_flight, passed_on, left_over, credit_sum, AreSound}
 use Rattle.iova_flush.proofs.Sound.{credit_sum-without, AreSound-ended}
 
 -- x is at this place, and is the first flight of number n
@@ -95,18 +95,18 @@ credits-le-credit_sum n (f ∷ fs) (suc place) x later h more is =
 -- What the flushes are then.
 
 pub ended-well : (s : Flushes) (n place : ℕ) (x : Flight) → IsFirst n s.in_flight place x
-    → ended s n true ≡ record { start = s.start; finish = s.finish + x.credit; owed = s.owed; newest = max s.newest n; good = s.good + 1; in_flight = remove s.in_flight place }
+    → after_end s n true ≡ record { start = s.start; finish = s.finish + x.credit; owed = s.owed; newest = max s.newest n; good = s.good + 1; in_flight = remove s.in_flight place }
 ended-well s n place x h = rw (credit_of-first n s.in_flight place x h, without_flight-first n s.in_flight place x h) refl
 
 pub ended-passed_on : (s : Flushes) (n place : ℕ) (x later : Flight) → IsFirst n s.in_flight place x → suc place < length s.in_flight
     → later ≡ get_or (remove s.in_flight place) place later
-    → ended s n false ≡ record { start = s.start; finish = s.finish; owed = s.owed; newest = s.newest; good = s.good; in_flight = slice_set (remove s.in_flight place) place (record { number = later.number; credit = later.credit + x.credit }) }
+    → after_end s n false ≡ record { start = s.start; finish = s.finish; owed = s.owed; newest = s.newest; good = s.good; in_flight = slice_set (remove s.in_flight place) place (record { number = later.number; credit = later.credit + x.credit }) }
 ended-passed_on s n place x later h more is =
     let none : s.owed + left_over n s.in_flight ≡ s.owed = omega (arith, left_over-first n s.in_flight place x h more) in
     rw (none, passed_on-first n s.in_flight place x later h more is) refl
 
 pub ended-owed : (s : Flushes) (n place : ℕ) (x : Flight) → IsFirst n s.in_flight place x → length s.in_flight ≤ suc place
-    → ended s n false ≡ record { start = s.start; finish = s.finish; owed = s.owed + x.credit; newest = s.newest; good = s.good; in_flight = remove s.in_flight place }
+    → after_end s n false ≡ record { start = s.start; finish = s.finish; owed = s.owed + x.credit; newest = s.newest; good = s.good; in_flight = remove s.in_flight place }
 ended-owed s n place x h last = rw (left_over-last n s.in_flight place x h last, passed_on-last n s.in_flight place x h last) refl
 
 pub AreSound-well : {s : Flushes} → AreSound s → (n place : ℕ) (x : Flight) → IsFirst n s.in_flight place x

@@ -1,6 +1,6 @@
 //! The flushes in flight, with their credits.
 ghost use Rattle.std.specs.Prelude.{◌≡◌, ◌≤◌, ◌<◌, ◌-◌, ◌^◌, ◌↔◌, ◌⊎◌, ◌==◌, position, length, IsTrue, is_ok, IsOk, IsOkUnless, IfOk, IfErr, OnOk, OnErr};
-ghost use Rattle.iova_model.specs.Flushes.{flushes_from, begun, ended, is_in_flight, NumbersRise, AreSound};
+ghost use Rattle.iova_model.specs.Flushes.{flushes_from, with_flight, after_end, is_in_flight, NumbersRise, AreSound};
 
 use crate::Flight;
 use arrayvec::ArrayVec;
@@ -98,7 +98,7 @@ impl Flights {
     pub fn begin(&mut self) -> Result<u64, Refusal>
         ensures begins { IsOk result ↔ (length self.old.in_flight < MAX_FLIGHTS)
             × (self.old.start < MAX_SERIAL) }
-        ensures begun { OnOk result (self.new ≡ begun self.old) }
+        ensures begun { OnOk result (self.new ≡ with_flight self.old) }
         ensures number { IfOk result (λ no. no ≡ self.new.start) }
 
         // Too many in flight come before too great a number.
@@ -130,7 +130,7 @@ impl Flights {
     /// flush of that number is in flight.
     pub fn end(&mut self, no: u64, ok: bool) -> Result<(), Refusal>
         ensures known { is_ok result ≡ is_in_flight no self.old.in_flight }
-        ensures ended { OnOk result (self.new ≡ ended self.old no ok) }
+        ensures ended { OnOk result (self.new ≡ after_end self.old no ok) }
         ensures refused { IsOkUnless result Refusal.NoFlight }
         ensures unchanged { OnErr result (self.new ≡ self.old) }
 

@@ -2,7 +2,7 @@
 ghost use Rattle.std.specs.Prelude.{◌≡◌, ◌≤◌, ◌<◌, ◌*◌, ◌↔◌, [], ◌∷◌, ◌++◌, length, IsTrue, IsErr, IsOkUnless, IfOk, IfErr, OnOk, OnErr, IfSome, IfNone, MatchOption};
 ghost use Rattle.std.specs.List.{list_any, AllByRecursion};
 ghost use Rattle.iova_range.specs.Frames.{covers};
-ghost use Rattle.iova_model.specs.Flushes.{entry_range, flushed, unflushed};
+ghost use Rattle.iova_model.specs.Flushes.{entry_range, flushed_front, unflushed_rest};
 ghost use Rattle.iova_model.specs.Valid.{IsRequestSizedEntry};
 ghost use Rattle.iova_flush.specs.Rings.{frame_count, OldestWaits};
 
@@ -90,10 +90,10 @@ impl Ring {
         ensures unchanged { IfNone result (self.new ≡ self.old) }
 
         // What calls until `None` take out, and what they leave.
-        ensures next { MatchOption result (flushed finish self.old ≡ [])
-            (λ entry. flushed finish self.old ≡ entry ∷ flushed finish self.new) }
-        ensures rest { unflushed finish self.new ≡ unflushed finish self.old }
-        ensures left { IfNone result (unflushed finish self.new ≡ self.new) }
+        ensures next { MatchOption result (flushed_front finish self.old ≡ [])
+            (λ entry. flushed_front finish self.old ≡ entry ∷ flushed_front finish self.new) }
+        ensures rest { unflushed_rest finish self.new ≡ unflushed_rest finish self.old }
+        ensures left { IfNone result (unflushed_rest finish self.new ≡ self.new) }
     {
         match self.entries.front() {
             Some(entry) if entry.count < finish => {
@@ -108,8 +108,8 @@ impl Ring {
     #[inline]
     pub fn waits(&self, finish: u64) -> bool
         ensures is { IsTrue result ↔ OldestWaits finish self.now }
-        ensures none { IsTrue result → flushed finish self.now ≡ [] }
-        ensures all { IsTrue result → unflushed finish self.now ≡ self.now }
+        ensures none { IsTrue result → flushed_front finish self.now ≡ [] }
+        ensures all { IsTrue result → unflushed_rest finish self.now ≡ self.now }
     {
         let oldest = self.entries.front();
         match oldest {

@@ -1,5 +1,5 @@
 -- What contracts see of seats and tallies, and what a keeper tells.
-use Rattle.std.specs.Prelude.{ℕ, zero, suc, ◌≡◌, ◌+◌, ◌*◌, ◌<◌, ◌≤◌, ◌%◌, ◌⊎◌, List, [], ◌∷◌, ◌++◌, length, Option, Some, None, Result, Ok, Err, MatchOption}
+use Rattle.std.specs.Prelude.{ℕ, zero, suc, ◌≡◌, ◌+◌, ◌*◌, ◌<◌, ◌≤◌, ◌%◌, ◌⊎◌, Bool, List, [], ◌∷◌, ◌++◌, length, Option, Some, None, Result, Ok, Err, MatchOption, if◌then◌else◌}
 use Rattle.std.specs.declared.sync.ledger.Blank.{Blank}
 use Rattle.std.specs.declared.sync.ledger.Ledger.{Ghosts as Ledger}
 use Rattle.iova_range.specs.declared.refusal.Refusal.{Refusal}
@@ -27,6 +27,11 @@ use Rattle.iova_sink.specs.Calls.{Call, good_calls}
 pub record TallyState : Type 0 where
   pub good : ℕ
   pub parts : ℕ
+
+-- what stays of a domain through all calls: its number, and whether it is strict
+pub record Identity : Type 0 where
+  pub number : ℕ
+  pub strict : Bool
 
 -- a seat: its worker, its shares, and its tally
 pub record SeatState : Type 0 where
@@ -226,6 +231,25 @@ WhereKnown (Some s) after P = MatchOption after ⊥ (λ t. P s t)
 -- flushes that ended well rise from old to new, by at most the good calls that the sink was made
 abbrev pub RisesWithin : ℕ → ℕ → List Call → List Call → Type 0
 RisesWithin old new before now = new + good_calls before ≤ old + good_calls now
+
+-- only the shares of a seat move
+abbrev pub MovesSharesAlone : SeatState → SeatState → Type 0
+MovesSharesAlone old new = (new.worker ≡ old.worker) × (new.tally ≡ old.tally)
+
+-- what calls leave of a seat: its worker, its parts of the ledger, and a tally that rose by no more
+-- than the good calls of the sink
+pub record KeepsPlace (old new : SeatState) (before now : List Call) : Type 0 where
+  pub worker : new.worker ≡ old.worker
+  pub parts : new.tally.parts ≡ old.tally.parts
+  pub tally : RisesWithin old.tally.good new.tally.good before now
+
+-- what a hold leaves of a seat in which a flush ends, as `ok` says: its worker, its parts, and a
+-- tally that rose by one at most, and only where the flush ended well
+pub record KeepsPlaceAtEnd (old new : SeatState) (ok : Bool) : Type 0 where
+  pub worker : new.worker ≡ old.worker
+  pub parts : new.tally.parts ≡ old.tally.parts
+  pub least : old.tally.good ≤ new.tally.good
+  pub most : new.tally.good ≤ old.tally.good + (if ok then 1 else 0)
 
 -- Shares.
 

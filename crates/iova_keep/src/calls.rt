@@ -2,7 +2,7 @@
 ghost use Rattle.std.specs.Prelude.{◌≡◌, ℕ, ◌+◌, ◌<◌, ◌≤◌, ◌++◌, List, [], ◌∷◌, Some, Err, true, false, IfOk, IfErr, MatchResult};
 ghost use Rattle.iova_model.specs.Effects.{MovesTotals, IsReplyTo};
 ghost use Rattle.iova_sink.specs.Calls.{Invalidation, failed_calls};
-ghost use Rattle.iova_keep.specs.Views.{TallyState, SeatState, WhereKnown, RisesWithin, queued_or, begun_or, IsUnmapRefusal, IsBeginRefusal, IsFlushRefusal, IsUnmapHeard};
+ghost use Rattle.iova_keep.specs.Views.{TallyState, SeatState, WhereKnown, RisesWithin, queued_or, begun_or, IsUnmapRefusal, IsBeginRefusal, IsFlushRefusal, IsUnmapHeard, KeepsPlace};
 ghost use Rattle.iova_keep.specs.Answers.{DoesUnmap, DoesFlush, DoesTimeout};
 
 use crate::keep::{Heard, Keep};
@@ -24,18 +24,17 @@ pub fn flush<C: Ledger, F: Ledger, S: Ledger, G: Ledger, K: Keep<C, F, S, G>, D:
     sink: &mut D,
 ) -> Result<u64, Refusal>
     ensures domain { WhereKnown (K.domain keeper.old) (K.domain keeper.new)
-        (DoesFlush result (K.domain_number keeper.old) (D.calls sink.old) (D.calls sink.new)) }
+        (DoesFlush result (K.identity keeper.old).number (D.calls sink.old) (D.calls sink.new)) }
     ensures sunk { IfOk result (λ no. D.calls sink.new ≡ D.calls
-        sink.old ++ Invalidation (K.domain_number keeper.old) no true ∷ []) }
+        sink.old ++ Invalidation (K.identity keeper.old).number no true ∷ []) }
     ensures fault { result ≡ Err Refusal.SinkFault → (no : ℕ)
         × (D.calls sink.new ≡ D.calls
-        sink.old ++ Invalidation (K.domain_number keeper.old) no false ∷ []) }
+        sink.old ++ Invalidation (K.identity keeper.old).number no false ∷ []) }
     ensures refusal { IfErr result IsFlushRefusal }
     ensures tally { RisesWithin tally.old.good tally.new.good (D.calls sink.old)
         (D.calls sink.new) }
     ensures parts { tally.new.parts ≡ tally.old.parts }
-    ensures number { K.domain_number keeper.new ≡ K.domain_number keeper.old }
-    ensures strict { K.strict keeper.new ≡ K.strict keeper.old }
+    ensures same { K.identity keeper.new ≡ K.identity keeper.old }
 {
     let Heard {
         reply: _,
@@ -67,16 +66,12 @@ pub fn unmap<C: Ledger, F: Ledger, S: Ledger, G: Ledger, K: Keep<C, F, S, G>, D:
     lo: u64,
 ) -> Result<Range, Refusal>
     ensures domain { WhereKnown (K.domain keeper.old) (K.domain keeper.new)
-        (DoesUnmap seat.old id lo result (K.domain_number keeper.old) (D.calls sink.old)
+        (DoesUnmap seat.old id lo result (K.identity keeper.old).number (D.calls sink.old)
         (D.calls sink.new)) }
     ensures answer { MatchResult result (λ r. r.lo ≡ lo) IsUnmapRefusal }
     ensures seat { MovesTotals (queued_or result) seat.old.held seat.new.held }
-    ensures worker { seat.new.worker ≡ seat.old.worker }
-    ensures tally { RisesWithin seat.old.tally.good seat.new.tally.good (D.calls sink.old)
-        (D.calls sink.new) }
-    ensures parts { seat.new.tally.parts ≡ seat.old.tally.parts }
-    ensures number { K.domain_number keeper.new ≡ K.domain_number keeper.old }
-    ensures strict { K.strict keeper.new ≡ K.strict keeper.old }
+    ensures place { KeepsPlace seat.old seat.new (D.calls sink.old) (D.calls sink.new) }
+    ensures same { K.identity keeper.new ≡ K.identity keeper.old }
 {
     let Heard {
         reply,
@@ -105,15 +100,14 @@ pub fn timeout<C: Ledger, F: Ledger, S: Ledger, G: Ledger, K: Keep<C, F, S, G>, 
     sink: &mut D,
 ) -> Result<u64, Refusal>
     ensures domain { WhereKnown (K.domain keeper.old) (K.domain keeper.new)
-        (DoesTimeout result (K.domain_number keeper.old) (D.calls sink.old) (D.calls sink.new)) }
+        (DoesTimeout result (K.identity keeper.old).number (D.calls sink.old) (D.calls sink.new)) }
     ensures refusal { IfErr result IsFlushRefusal }
     ensures fault { result ≡ Err Refusal.SinkFault
         → failed_calls (D.calls sink.old) < failed_calls (D.calls sink.new) }
     ensures tally { RisesWithin tally.old.good tally.new.good (D.calls sink.old)
         (D.calls sink.new) }
     ensures parts { tally.new.parts ≡ tally.old.parts }
-    ensures number { K.domain_number keeper.new ≡ K.domain_number keeper.old }
-    ensures strict { K.strict keeper.new ≡ K.strict keeper.old }
+    ensures same { K.identity keeper.new ≡ K.identity keeper.old }
 {
     // for the proof: that a flush leaves as many workers as there are
     steps_keep_the_domain();

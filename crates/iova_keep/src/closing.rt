@@ -3,7 +3,7 @@ ghost use Rattle.std.specs.Prelude.{◌≡◌, ◌≢◌, ◌==◌, ℕ, ◌+◌
 ghost use Rattle.iova_range.specs.Frames.{Frames};
 ghost use Rattle.iova_model.specs.Effects.{IsReplyTo};
 ghost use Rattle.iova_sink.specs.Calls.{failed_calls};
-ghost use Rattle.iova_keep.specs.Views.{TallyState, SeatState, WhereKnown, RisesWithin, IsCloseHeard, IsCloseRefusal, IsBeginHeard, LowersTold, IsLowered, begun_of};
+ghost use Rattle.iova_keep.specs.Views.{TallyState, SeatState, WhereKnown, RisesWithin, IsCloseHeard, IsCloseRefusal, IsBeginHeard, LowersTold, IsLowered, begun_of, KeepsPlace};
 ghost use Rattle.iova_keep.specs.Events.{Answered};
 ghost use Rattle.iova_keep.specs.Answers.{DoesEndClient, DoesRest, Leaves};
 
@@ -28,18 +28,14 @@ pub fn end_client<C: Ledger, F: Ledger, S: Ledger, G: Ledger, K: Keep<C, F, S, G
     id: ClientId,
 ) -> Result<Ending, Refusal>
     ensures domain { WhereKnown (K.domain keeper.old) (K.domain keeper.new)
-        (DoesEndClient seat.old seat.new.held id result (K.domain_number keeper.old)
+        (DoesEndClient seat.old seat.new.held id result (K.identity keeper.old).number
         (D.calls sink.old)
         (D.calls sink.new)) }
     ensures shares { LowersTold result seat.old.held seat.new.held }
     ensures fault { (left : ℕ) → result ≡ Ok (Ending.Waiting left Why.SinkFailed)
         → failed_calls (D.calls sink.old) < failed_calls (D.calls sink.new) }
-    ensures worker { seat.new.worker ≡ seat.old.worker }
-    ensures tally { RisesWithin seat.old.tally.good seat.new.tally.good (D.calls sink.old)
-        (D.calls sink.new) }
-    ensures parts { seat.new.tally.parts ≡ seat.old.tally.parts }
-    ensures number { K.domain_number keeper.new ≡ K.domain_number keeper.old }
-    ensures strict { K.strict keeper.new ≡ K.strict keeper.old }
+    ensures place { KeepsPlace seat.old seat.new (D.calls sink.old) (D.calls sink.new) }
+    ensures same { K.identity keeper.new ≡ K.identity keeper.old }
 {
     let before = seat.count();
     let first = keeper.close_first(seat, id);
@@ -69,7 +65,7 @@ fn close_rest<C: Ledger, F: Ledger, S: Ledger, G: Ledger, K: Keep<C, F, S, G>, D
 ) -> LastHold
     ensures domain { WhereKnown (K.domain keeper.old) (K.domain keeper.new)
         (DoesRest seat.old seat.new.held id no result.ok result.heard.reply result.heard.begun
-        (K.domain_number keeper.old) (D.calls sink.old) (D.calls sink.new)) }
+        (K.identity keeper.old).number (D.calls sink.old) (D.calls sink.new)) }
     ensures left { WhereKnown (K.domain keeper.old) (K.domain keeper.new)
         (Leaves id result.heard.left) }
     ensures shares { (ranges : List Frames) × IsLowered ranges seat.old.held seat.new.held }
@@ -79,12 +75,8 @@ fn close_rest<C: Ledger, F: Ledger, S: Ledger, G: Ledger, K: Keep<C, F, S, G>, D
     ensures failed { failed_calls (D.calls sink.old) ≤ failed_calls (D.calls sink.new) }
     ensures fault { result.ok ≡ false → failed_calls (D.calls sink.old) < failed_calls
         (D.calls sink.new) }
-    ensures worker { seat.new.worker ≡ seat.old.worker }
-    ensures tally { RisesWithin seat.old.tally.good seat.new.tally.good (D.calls sink.old)
-        (D.calls sink.new) }
-    ensures parts { seat.new.tally.parts ≡ seat.old.tally.parts }
-    ensures number { K.domain_number keeper.new ≡ K.domain_number keeper.old }
-    ensures strict { K.strict keeper.new ≡ K.strict keeper.old }
+    ensures place { KeepsPlace seat.old seat.new (D.calls sink.old) (D.calls sink.new) }
+    ensures same { K.identity keeper.new ≡ K.identity keeper.old }
 {
     let ok = invalidated(sink, keeper.number(), no);
     let heard = keeper.close_again(seat, id, no, ok);

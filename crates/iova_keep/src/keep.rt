@@ -6,7 +6,7 @@ ghost use Rattle.iova_model.specs.Clients.{totals, no_totals};
 ghost use Rattle.iova_model.specs.State.{State};
 ghost use Rattle.iova_model.specs.Valid.{Rises};
 ghost use Rattle.iova_model.specs.Effects.{MovesTotals, IsReplyTo, IsGivenTo, ended_well};
-ghost use Rattle.iova_keep.specs.Views.{TallyState, SeatState, WhereKnown, IsReserveRefusal, IsOpenRefusal, IsAllocRefusal, IsUnmapHeard, IsBeginHeard, IsReleaseBegin, IsSecondBegin, IsCloseHeard, MovesHeard, Lowers, queued_by, given_or, stat_of, IsKept, IsWorker};
+ghost use Rattle.iova_keep.specs.Views.{TallyState, SeatState, Identity, WhereKnown, IsReserveRefusal, IsOpenRefusal, IsAllocRefusal, IsUnmapHeard, IsBeginHeard, IsReleaseBegin, IsSecondBegin, IsCloseHeard, MovesHeard, Lowers, KeepsPlaceAtEnd, queued_by, given_or, stat_of, IsKept, IsWorker, MovesSharesAlone};
 ghost use Rattle.iova_keep.specs.Batches.{DoesBatch, TellsAsks};
 ghost use Rattle.iova_keep.specs.Releases.{ReleasesFirst, ReleasesAgain, ReleasesLast};
 ghost use Rattle.iova_keep.specs.StepLogs.{StepLog, GoesOn};
@@ -44,11 +44,8 @@ pub trait Keep<C: Ledger, F: Ledger, S: Ledger, G: Ledger> {
     /// The domain, where that is known.
     ghost domain: { Self → Option State };
 
-    /// The domain's number.
-    ghost domain_number: { Self → ℕ };
-
-    /// Whether the domain is strict, where it is known.
-    ghost strict: { Self → Bool };
+    /// The domain's number, and whether it is strict, where that is known.
+    ghost identity: { Self → Identity };
 
     /// What is recorded of its steps, where that is known. No call ends the recording before it is
     /// full, and then it is over for good.
@@ -56,7 +53,7 @@ pub trait Keep<C: Ledger, F: Ledger, S: Ledger, G: Ledger> {
 
     /// The domain's number. It takes no hold.
     fn number(&self) -> u64
-        ensures { result ≡ domain_number self.now };
+        ensures { result ≡ (identity self.now).number };
 
     /// A domain that is known keeps what each domain keeps. It takes no hold, and does nothing: it
     /// is there for proofs.
@@ -67,8 +64,7 @@ pub trait Keep<C: Ledger, F: Ledger, S: Ledger, G: Ledger> {
     /// overlap them, and gives it. Refused by `BadWindow`, `Taken`, `WindowsFull` and `NoMemory`;
     /// then nothing has changed. No seat has a share in it.
     fn reserve(&mut self, lo: u64, hi: u64) -> Result<Range, Refusal>
-        ensures number { domain_number self.new ≡ domain_number self.old }
-        ensures strict { strict self.new ≡ strict self.old }
+        ensures same { identity self.new ≡ identity self.old }
         ensures log { GoesOn (log self.old) (log self.new) }
         ensures domain { WhereKnown (domain self.old) (domain self.new) (Reserves lo hi result) }
         ensures refusal { IfErr result IsReserveRefusal };
@@ -76,8 +72,7 @@ pub trait Keep<C: Ledger, F: Ledger, S: Ledger, G: Ledger> {
     /// Opens a client of the seat's worker, which is first sought places below 4 GiB where it is
     /// `sac`. Refused by `Worn`, `ClientsFull` and `NoMemory`; then nothing has changed.
     fn open(&mut self, seat: &mut Seat<C, F, S, G>, sac: bool) -> Result<ClientId, Refusal>
-        ensures number { domain_number self.new ≡ domain_number self.old }
-        ensures strict { strict self.new ≡ strict self.old }
+        ensures same { identity self.new ≡ identity self.old }
         ensures log { GoesOn (log self.old) (log self.new) }
         ensures domain { WhereKnown (domain self.old) (domain self.new)
             (Opens seat.old.worker sac result) }
@@ -94,25 +89,23 @@ pub trait Keep<C: Ledger, F: Ledger, S: Ledger, G: Ledger> {
         frames: u64,
         limit: u64,
     ) -> Result<Range, Refusal>
-        ensures number { domain_number self.new ≡ domain_number self.old }
-        ensures strict { strict self.new ≡ strict self.old }
+        ensures same { identity self.new ≡ identity self.old }
         ensures log { GoesOn (log self.old) (log self.new) }
         ensures domain { WhereKnown (domain self.old) (domain self.new)
             (Allocs seat.old.worker id frames limit result) }
         ensures given { MatchResult result (IsGivenTo frames limit) IsAllocRefusal }
         ensures seat { MovesTotals (given_or result) seat.old.held seat.new.held }
-        ensures rest { (seat.new.worker ≡ seat.old.worker) × (seat.new.tally ≡ seat.old.tally) };
+        ensures rest { MovesSharesAlone seat.old seat.new };
 
     /// The first hold of an unmap: an unmap; where the ring is full, a flush begins.
     fn unmap_first(&mut self, seat: &mut Seat<C, F, S, G>, id: ClientId, lo: u64) -> Heard
-        ensures number { domain_number self.new ≡ domain_number self.old }
-        ensures strict { strict self.new ≡ strict self.old }
+        ensures same { identity self.new ≡ identity self.old }
         ensures log { GoesOn (log self.old) (log self.new) }
         ensures domain { WhereKnown (domain self.old) (domain self.new)
             (UnmapsFirst seat.old id lo result.reply result.begun) }
         ensures left { WhereKnown (domain self.old) (domain self.new) (Leaves id result.left) }
         ensures seat { MovesHeard result.reply seat.old.held seat.new.held }
-        ensures rest { (seat.new.worker ≡ seat.old.worker) × (seat.new.tally ≡ seat.old.tally) }
+        ensures rest { MovesSharesAlone seat.old seat.new }
         ensures heard { IsUnmapHeard lo result.reply }
         ensures queued { MatchOption result.reply ⊥ (λ r. result.queued ≡ queued_by r) }
         ensures begun { IsBeginHeard result.reply result.begun };
@@ -127,27 +120,22 @@ pub trait Keep<C: Ledger, F: Ledger, S: Ledger, G: Ledger> {
         no: u64,
         ok: bool,
     ) -> Heard
-        ensures number { domain_number self.new ≡ domain_number self.old }
-        ensures strict { strict self.new ≡ strict self.old }
+        ensures same { identity self.new ≡ identity self.old }
         ensures log { GoesOn (log self.old) (log self.new) }
         ensures domain { WhereKnown (domain self.old) (domain self.new)
             (UnmapsAgain seat.old id lo no ok result.reply) }
         ensures left { WhereKnown (domain self.old) (domain self.new) (Leaves id result.left) }
         ensures seat { MovesHeard result.reply seat.old.held seat.new.held }
-        ensures worker { seat.new.worker ≡ seat.old.worker }
-        ensures good { (seat.old.tally.good ≤ seat.new.tally.good)
-            × (seat.new.tally.good ≤ seat.old.tally.good + (if ok then 1 else 0)) }
         ensures ended { WhereKnown (domain self.old) (domain self.new)
             (RaisesByEnd seat.old.tally.good seat.new.tally.good no ok) }
-        ensures parts { seat.new.tally.parts ≡ seat.old.tally.parts }
+        ensures place { KeepsPlaceAtEnd seat.old seat.new ok }
         ensures heard { IsUnmapHeard lo result.reply }
         ensures queued { MatchOption result.reply ⊥ (λ r. result.queued ≡ queued_by r) }
         ensures begun { result.begun ≡ None };
 
     /// The first hold of a flush: it begins. Refused by `FlightsFull` and `Worn`.
     fn begin(&mut self, tally: &mut Tally<G>) -> Heard
-        ensures number { domain_number self.new ≡ domain_number self.old }
-        ensures strict { strict self.new ≡ strict self.old }
+        ensures same { identity self.new ≡ identity self.old }
         ensures log { GoesOn (log self.old) (log self.new) }
         ensures domain { WhereKnown (domain self.old) (domain self.new) (Begins result.begun) }
         ensures tally { tally.new ≡ tally.old }
@@ -157,8 +145,7 @@ pub trait Keep<C: Ledger, F: Ledger, S: Ledger, G: Ledger> {
     /// The second hold of a flush: it ends, as `ok` says. Refused by `NoFlight`. `ok` is what a
     /// sink answered for this flush.
     fn end(&mut self, tally: &mut Tally<G>, no: u64, ok: bool) -> Heard
-        ensures number { domain_number self.new ≡ domain_number self.old }
-        ensures strict { strict self.new ≡ strict self.old }
+        ensures same { identity self.new ≡ identity self.old }
         ensures log { GoesOn (log self.old) (log self.new) }
         ensures domain { WhereKnown (domain self.old) (domain self.new) (Ends no ok result.reply) }
         ensures good { MatchOption result.reply ⊥
@@ -170,14 +157,13 @@ pub trait Keep<C: Ledger, F: Ledger, S: Ledger, G: Ledger> {
     /// The first hold of a client's end: its ranges are queued, lowest first, until it is gone or a
     /// step is refused; where the ring is full, a flush begins.
     fn close_first(&mut self, seat: &mut Seat<C, F, S, G>, id: ClientId) -> Heard
-        ensures number { domain_number self.new ≡ domain_number self.old }
-        ensures strict { strict self.new ≡ strict self.old }
+        ensures same { identity self.new ≡ identity self.old }
         ensures log { GoesOn (log self.old) (log self.new) }
         ensures domain { WhereKnown (domain self.old) (domain self.new)
             (ClosesFirst seat.old seat.new.held id result.reply result.begun) }
         ensures left { WhereKnown (domain self.old) (domain self.new) (Leaves id result.left) }
         ensures seat { Lowers result.queued seat.old.held seat.new.held }
-        ensures rest { (seat.new.worker ≡ seat.old.worker) × (seat.new.tally ≡ seat.old.tally) }
+        ensures rest { MovesSharesAlone seat.old seat.new }
         ensures heard { IsCloseHeard result.reply }
         ensures begun { IsBeginHeard result.reply result.begun }
         ensures full { result.begun ≡ None → result.reply ≢ Some (Reply.Refused Refusal.RingFull) };
@@ -186,19 +172,15 @@ pub trait Keep<C: Ledger, F: Ledger, S: Ledger, G: Ledger> {
     /// but where the ring is full before a range was queued, no flush begins. `ok` is what a sink
     /// answered for this flush.
     fn close_again(&mut self, seat: &mut Seat<C, F, S, G>, id: ClientId, no: u64, ok: bool) -> Heard
-        ensures number { domain_number self.new ≡ domain_number self.old }
-        ensures strict { strict self.new ≡ strict self.old }
+        ensures same { identity self.new ≡ identity self.old }
         ensures log { GoesOn (log self.old) (log self.new) }
         ensures domain { WhereKnown (domain self.old) (domain self.new)
             (ClosesAgain seat.old seat.new.held id no ok result.reply result.begun) }
         ensures left { WhereKnown (domain self.old) (domain self.new) (Leaves id result.left) }
         ensures seat { Lowers result.queued seat.old.held seat.new.held }
-        ensures worker { seat.new.worker ≡ seat.old.worker }
-        ensures good { (seat.old.tally.good ≤ seat.new.tally.good)
-            × (seat.new.tally.good ≤ seat.old.tally.good + (if ok then 1 else 0)) }
         ensures ended { WhereKnown (domain self.old) (domain self.new)
             (RaisesByEnd seat.old.tally.good seat.new.tally.good no ok) }
-        ensures parts { seat.new.tally.parts ≡ seat.old.tally.parts }
+        ensures place { KeepsPlaceAtEnd seat.old seat.new ok }
         ensures heard { IsCloseHeard result.reply }
         ensures begun { IsBeginHeard result.reply result.begun }
         ensures goes_on { result.begun ≢ None → seat.new.held.count < seat.old.held.count };
@@ -206,14 +188,13 @@ pub trait Keep<C: Ledger, F: Ledger, S: Ledger, G: Ledger> {
     /// The first hold of a release: an unmap; where the ring is full, or a range was queued in a
     /// strict domain, a flush begins.
     fn release_first(&mut self, seat: &mut Seat<C, F, S, G>, id: ClientId, lo: u64) -> Heard
-        ensures number { domain_number self.new ≡ domain_number self.old }
-        ensures strict { strict self.new ≡ strict self.old }
+        ensures same { identity self.new ≡ identity self.old }
         ensures log { GoesOn (log self.old) (log self.new) }
         ensures domain { WhereKnown (domain self.old) (domain self.new)
-            (ReleasesFirst (strict self.old) seat.old id lo result.reply result.begun) }
+            (ReleasesFirst (identity self.old).strict seat.old id lo result.reply result.begun) }
         ensures left { WhereKnown (domain self.old) (domain self.new) (Leaves id result.left) }
         ensures seat { MovesHeard result.reply seat.old.held seat.new.held }
-        ensures rest { (seat.new.worker ≡ seat.old.worker) × (seat.new.tally ≡ seat.old.tally) }
+        ensures rest { MovesSharesAlone seat.old seat.new }
         ensures heard { IsUnmapHeard lo result.reply }
         ensures queued { MatchOption result.reply ⊥ (λ r. result.queued ≡ queued_by r) }
         ensures begun { IsReleaseBegin result.reply result.begun };
@@ -229,19 +210,16 @@ pub trait Keep<C: Ledger, F: Ledger, S: Ledger, G: Ledger> {
         no: u64,
         ok: bool,
     ) -> Heard
-        ensures number { domain_number self.new ≡ domain_number self.old }
-        ensures strict { strict self.new ≡ strict self.old }
+        ensures same { identity self.new ≡ identity self.old }
         ensures log { GoesOn (log self.old) (log self.new) }
         ensures domain { WhereKnown (domain self.old) (domain self.new)
-            (ReleasesAgain (strict self.old) seat.old id lo no ok result.reply result.begun) }
+            (ReleasesAgain
+            (identity self.old).strict seat.old id lo no ok result.reply result.begun) }
         ensures left { WhereKnown (domain self.old) (domain self.new) (Leaves id result.left) }
         ensures seat { MovesHeard result.reply seat.old.held seat.new.held }
-        ensures worker { seat.new.worker ≡ seat.old.worker }
-        ensures good { (seat.old.tally.good ≤ seat.new.tally.good)
-            × (seat.new.tally.good ≤ seat.old.tally.good + (if ok then 1 else 0)) }
         ensures ended { WhereKnown (domain self.old) (domain self.new)
             (RaisesByEnd seat.old.tally.good seat.new.tally.good no ok) }
-        ensures parts { seat.new.tally.parts ≡ seat.old.tally.parts }
+        ensures place { KeepsPlaceAtEnd seat.old seat.new ok }
         ensures heard { IsUnmapHeard lo result.reply }
         ensures queued { MatchOption result.reply ⊥ (λ r. result.queued ≡ queued_by r) }
         ensures begun { IsSecondBegin result.reply result.begun };
@@ -250,24 +228,20 @@ pub trait Keep<C: Ledger, F: Ledger, S: Ledger, G: Ledger> {
     /// the worker's ring is drained. Whether the finish count is at least the flush's number then.
     /// `ok` is what a sink answered for this flush.
     fn release_last(&mut self, seat: &mut Seat<C, F, S, G>, no: u64, ok: bool) -> bool
-        ensures number { domain_number self.new ≡ domain_number self.old }
-        ensures strict { strict self.new ≡ strict self.old }
+        ensures same { identity self.new ≡ identity self.old }
         ensures log { GoesOn (log self.old) (log self.new) }
         ensures domain { WhereKnown (domain self.old) (domain self.new)
             (ReleasesLast seat.old no ok result) }
-        ensures seat { (seat.new.worker ≡ seat.old.worker) × (seat.new.held ≡ seat.old.held) }
-        ensures good { (seat.old.tally.good ≤ seat.new.tally.good)
-            × (seat.new.tally.good ≤ seat.old.tally.good + (if ok then 1 else 0)) }
+        ensures held { seat.new.held ≡ seat.old.held }
         ensures ended { WhereKnown (domain self.old) (domain self.new)
             (RaisesByEnd seat.old.tally.good seat.new.tally.good no ok) }
-        ensures parts { seat.new.tally.parts ≡ seat.old.tally.parts };
+        ensures place { KeepsPlaceAtEnd seat.old seat.new ok };
 
     /// Drains every ring, 0 first, into the magazines of worker `by`, and gives how many entries
     /// that frees. Refused by `NoWorker`, where the domain has no such worker; then nothing has
     /// changed. Worker 0 is there in every domain, and so is that of each seat.
     fn drain_all(&mut self, by: u64) -> Result<u64, Refusal>
-        ensures number { domain_number self.new ≡ domain_number self.old }
-        ensures strict { strict self.new ≡ strict self.old }
+        ensures same { identity self.new ≡ identity self.old }
         ensures log { GoesOn (log self.old) (log self.new) }
         ensures domain { WhereKnown (domain self.old) (domain self.new) (DrainsAll by result) }
         ensures refusal { IfErr result (λ e. e ≡ Refusal.NoWorker) }
@@ -285,11 +259,10 @@ pub trait Keep<C: Ledger, F: Ledger, S: Ledger, G: Ledger> {
         told: &mut Vec<Told>,
     ) -> Result<usize, Refusal>
         requires { (1 ≤ length asks.now) × (length asks.now ≤ MAX_RUN) }
-        ensures number { domain_number self.new ≡ domain_number self.old }
-        ensures strict { strict self.new ≡ strict self.old }
+        ensures same { identity self.new ≡ identity self.old }
         ensures log { GoesOn (log self.old) (log self.new) }
         ensures domain { WhereKnown (domain self.old) (domain self.new)
-            (DoesBatch (strict self.old) seat.old seat.new.held id asks.now told.old.items
+            (DoesBatch (identity self.old).strict seat.old seat.new.held id asks.now told.old.items
             told.new.items result) }
         ensures told { IfOk result (λ n. TellsAsks asks.now told.old.items told.new.items n
             seat.old.held
@@ -297,7 +270,7 @@ pub trait Keep<C: Ledger, F: Ledger, S: Ledger, G: Ledger> {
         ensures memory { IfErr result (λ e. (e ≡ Refusal.NoMemory)
             × (told.new.items ≡ told.old.items)
             × (seat.new ≡ seat.old)) }
-        ensures rest { (seat.new.worker ≡ seat.old.worker) × (seat.new.tally ≡ seat.old.tally) };
+        ensures rest { MovesSharesAlone seat.old seat.new };
 
     /// Appends the holdings of the seat's client, at most 4,096, rising by first frame. Refused by
     /// `NoClient` and `NoMemory`; then nothing is appended. With room for 4,096 more it takes no

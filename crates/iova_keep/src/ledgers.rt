@@ -3,7 +3,7 @@ ghost use Rattle.std.specs.Prelude.{◌≡◌, ◌+◌, ◌*◌, ◌≤◌, ◌�
 ghost use Rattle.iova_range.specs.declared.limits.TheConstants.{MAX_WORKERS, TALLY_PARTS};
 ghost use Rattle.iova_model.specs.Clients.{totals_of, no_totals};
 ghost use Rattle.iova_model.specs.Effects.{add_totals};
-ghost use Rattle.iova_keep.specs.Views.{AreBlanksOf, TallyState, SeatState, LedgersState, Covers, seats_in_turn};
+ghost use Rattle.iova_keep.specs.Views.{AreBlanksOf, TallyState, SeatState, LedgersState, Covers, seats_in_turn, MovesSharesAlone};
 
 use crate::seat::{Seat, Tally};
 use iova_model::totals::Totals;
@@ -132,7 +132,7 @@ impl<C: Ledger, F: Ledger, S: Ledger, G: Ledger> Ledgers<C, F, S, G> {
         ensures shares { self.new.shares ≡ totals }
         ensures ended { self.new.ended ≡ self.old.ended }
         ensures held { seat.new.held ≡ add_totals seat.old.held (totals_of (range ∷ [])) }
-        ensures rest { (seat.new.worker ≡ seat.old.worker) × (seat.new.tally ≡ seat.old.tally) }
+        ensures rest { MovesSharesAlone seat.old seat.new }
     {
         // for the proof: these are numbers, and no share is above its total
         let _totals = totals;
@@ -154,7 +154,7 @@ impl<C: Ledger, F: Ledger, S: Ledger, G: Ledger> Ledgers<C, F, S, G> {
         ensures shares { self.old.shares ≡ add_totals self.new.shares (totals_of (range ∷ [])) }
         ensures ended { self.new.ended ≡ self.old.ended }
         ensures held { seat.old.held ≡ add_totals seat.new.held (totals_of (range ∷ [])) }
-        ensures rest { (seat.new.worker ≡ seat.old.worker) × (seat.new.tally ≡ seat.old.tally) }
+        ensures rest { MovesSharesAlone seat.old seat.new }
     {
         self.count.sub(&mut seat.counted, 1);
         self.frames.sub(&mut seat.framed, range.len());

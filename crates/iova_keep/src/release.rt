@@ -2,7 +2,7 @@
 //! between two holds, never in one.
 ghost use Rattle.std.specs.Prelude.{◌≡◌, ◌+◌, ◌≤◌, ◌++◌, ◌∷◌, [], MatchResult};
 ghost use Rattle.iova_model.specs.Effects.{MovesTotals};
-ghost use Rattle.iova_keep.specs.Views.{TallyState, SeatState, WhereKnown, RisesWithin, IsUnmapRefusal, unmapped_or, range_of};
+ghost use Rattle.iova_keep.specs.Views.{TallyState, SeatState, WhereKnown, RisesWithin, IsUnmapRefusal, unmapped_or, range_of, KeepsPlace};
 ghost use Rattle.iova_keep.specs.Releases.{DoesRelease, DoesReleaseRest, DoesFollow};
 
 use crate::calls::{answer, invalidated};
@@ -32,17 +32,14 @@ pub fn release<C: Ledger, F: Ledger, S: Ledger, G: Ledger, K: Keep<C, F, S, G>, 
     lo: u64,
 ) -> Result<Unmapped, Refusal>
     ensures domain { WhereKnown (K.domain keeper.old) (K.domain keeper.new)
-        (DoesRelease (K.strict keeper.old) seat.old id lo result (K.domain_number keeper.old)
+        (DoesRelease (K.identity keeper.old).strict seat.old id lo result
+        (K.identity keeper.old).number
         (D.calls sink.old)
         (D.calls sink.new)) }
     ensures answer { MatchResult result (λ u. (range_of u).lo ≡ lo) IsUnmapRefusal }
     ensures seat { MovesTotals (unmapped_or result) seat.old.held seat.new.held }
-    ensures worker { seat.new.worker ≡ seat.old.worker }
-    ensures tally { RisesWithin seat.old.tally.good seat.new.tally.good (D.calls sink.old)
-        (D.calls sink.new) }
-    ensures parts { seat.new.tally.parts ≡ seat.old.tally.parts }
-    ensures number { K.domain_number keeper.new ≡ K.domain_number keeper.old }
-    ensures strict { K.strict keeper.new ≡ K.strict keeper.old }
+    ensures place { KeepsPlace seat.old seat.new (D.calls sink.old) (D.calls sink.new) }
+    ensures same { K.identity keeper.new ≡ K.identity keeper.old }
 {
     let heard = keeper.release_first(seat, id, lo);
     let begun = flush_begun(&heard);
@@ -65,16 +62,13 @@ fn try_again<C: Ledger, F: Ledger, S: Ledger, G: Ledger, K: Keep<C, F, S, G>, D:
     no: u64,
 ) -> Result<Unmapped, Refusal>
     ensures domain { WhereKnown (K.domain keeper.old) (K.domain keeper.new)
-        (DoesReleaseRest (K.strict keeper.old) seat.old id lo no result (K.domain_number keeper.old)
+        (DoesReleaseRest (K.identity keeper.old).strict seat.old id lo no result
+        (K.identity keeper.old).number
         (D.calls sink.old) (D.calls sink.new)) }
     ensures answer { MatchResult result (λ u. (range_of u).lo ≡ lo) IsUnmapRefusal }
     ensures seat { MovesTotals (unmapped_or result) seat.old.held seat.new.held }
-    ensures worker { seat.new.worker ≡ seat.old.worker }
-    ensures tally { RisesWithin seat.old.tally.good seat.new.tally.good (D.calls sink.old)
-        (D.calls sink.new) }
-    ensures parts { seat.new.tally.parts ≡ seat.old.tally.parts }
-    ensures number { K.domain_number keeper.new ≡ K.domain_number keeper.old }
-    ensures strict { K.strict keeper.new ≡ K.strict keeper.old }
+    ensures place { KeepsPlace seat.old seat.new (D.calls sink.old) (D.calls sink.new) }
+    ensures same { K.identity keeper.new ≡ K.identity keeper.old }
 {
     let ok = invalidated(sink, keeper.number(), no);
     let heard = keeper.release_again(seat, id, lo, no, ok);
@@ -95,17 +89,13 @@ fn follow<C: Ledger, F: Ledger, S: Ledger, G: Ledger, K: Keep<C, F, S, G>, D: Si
     begun: Option<u64>,
 ) -> Unmapped
     ensures domain { WhereKnown (K.domain keeper.old) (K.domain keeper.new)
-        (DoesFollow seat.old.worker range begun result (K.domain_number keeper.old)
+        (DoesFollow seat.old.worker range begun result (K.identity keeper.old).number
         (D.calls sink.old)
         (D.calls sink.new)) }
     ensures range { range_of result ≡ range }
     ensures held { seat.new.held ≡ seat.old.held }
-    ensures worker { seat.new.worker ≡ seat.old.worker }
-    ensures tally { RisesWithin seat.old.tally.good seat.new.tally.good (D.calls sink.old)
-        (D.calls sink.new) }
-    ensures parts { seat.new.tally.parts ≡ seat.old.tally.parts }
-    ensures number { K.domain_number keeper.new ≡ K.domain_number keeper.old }
-    ensures strict { K.strict keeper.new ≡ K.strict keeper.old }
+    ensures place { KeepsPlace seat.old seat.new (D.calls sink.old) (D.calls sink.new) }
+    ensures same { K.identity keeper.new ≡ K.identity keeper.old }
 {
     let Some(no) = begun else {
         return Unmapped::Queued(range);

@@ -8,7 +8,7 @@ use Rattle.iova_model.specs.declared.step.Step.{Step}
 use Rattle.iova_model.specs.declared.step.Step.TheVariants as step
 use Rattle.iova_model.specs.declared.step.Reply.{Reply}
 use Rattle.iova_model.specs.declared.step.Reply.TheVariants as reply
-use Rattle.iova_model.specs.Clients.{Client, client_with, changed, forgotten, remove_at, with_holding, without_holding, marked}
+use Rattle.iova_model.specs.Clients.{Client, client_with, change_client, without_client, remove_at, with_holding, without_holding, with_mark}
 use Rattle.iova_model.specs.State.{State}
 use Rattle.iova_model.specs.Valid.{SerialsRise}
 use Rattle.iova_model.specs.Effects.{queued_in, Marks, Empties}
@@ -69,12 +69,12 @@ module _ (s : State) (id : ℕ) (c : Client) (is : client_with id s.clients ≡ 
   untouched i still closing = record { client = c; is = still; closing = closing; left = ap (λ l. l ++ c.holdings) i.queues; not_emptied = i.not_emptied }
 
   -- it is marked
-  now_marked : {st : Step} {r : Reply} {t : State} → IsIdle id st r → client_with id t.clients ≡ Some (marked c) → Closes id c.holdings st r t
-  now_marked i still = record { client = marked c; is = still; closing = refl; left = ap (λ l. l ++ c.holdings) i.queues; not_emptied = i.not_emptied }
+  now_marked : {st : Step} {r : Reply} {t : State} → IsIdle id st r → client_with id t.clients ≡ Some (with_mark c) → Closes id c.holdings st r t
+  now_marked i still = record { client = with_mark c; is = still; closing = refl; left = ap (λ l. l ++ c.holdings) i.queues; not_emptied = i.not_emptied }
 
   -- and then found
-  marked_is : client_with id (changed id marked s.clients) ≡ Some (marked c)
-  marked_is = changed_found id marked c s.clients is refl
+  marked_is : client_with id (change_client id with_mark s.clients) ≡ Some (with_mark c)
+  marked_is = changed_found id with_mark c s.clients is refl
 
   -- a client with its serial is itself
   is_same : (w other : ℕ) (d : Client) → IsOwned w other s.clients d → other ≡ id → d ≡ c
@@ -90,23 +90,23 @@ module _ (s : State) (id : ℕ) (c : Client) (is : client_with id s.clients ≡ 
       cc
 
   -- another client is changed
-  other_changed : (other : ℕ) (change : Client → Client) → KeepsSerial change → other ≢ id → client_with id (changed other change s.clients) ≡ Some c
+  other_changed : (other : ℕ) (change : Client → Client) → KeepsSerial change → other ≢ id → client_with id (change_client other change s.clients) ≡ Some c
   other_changed other change keeps apart = found-changed_other id other change s.clients keeps apart ∙ is
 
   -- Some client is marked, and no more.
-  marks_one : {st : Step} {r : Reply} (other : ℕ) → IsIdle id st r → (c.closing ≡ true) ⊎ (other ≡ id) → Closes id c.holdings st r (record s { clients = changed other marked s.clients })
+  marks_one : {st : Step} {r : Reply} (other : ℕ) → IsIdle id st r → (c.closing ≡ true) ⊎ (other ≡ id) → Closes id c.holdings st r (record s { clients = change_client other with_mark s.clients })
   marks_one {st = st} {r = r} other i why = split (cases_eq other id) why
     where
-      split : (other ≡ id) ⊎ (other ≡ id → ⊥) → (c.closing ≡ true) ⊎ (other ≡ id) → Closes id c.holdings st r (record s { clients = changed other marked s.clients })
-      split (inl same) why = now_marked i (subst (λ k. client_with id (changed k marked s.clients) ≡ Some (marked c)) (sym same) marked_is)
-      split (inr apart) (inl closing) = untouched i (other_changed other marked (λ d. refl) apart) closing
+      split : (other ≡ id) ⊎ (other ≡ id → ⊥) → (c.closing ≡ true) ⊎ (other ≡ id) → Closes id c.holdings st r (record s { clients = change_client other with_mark s.clients })
+      split (inl same) why = now_marked i (subst (λ k. client_with id (change_client k with_mark s.clients) ≡ Some (with_mark c)) (sym same) marked_is)
+      split (inr apart) (inl closing) = untouched i (other_changed other with_mark (λ d. refl) apart) closing
       split (inr apart) (inr same) = absurd (apart same)
 
   -- The lowest holding of some client is queued.
 
   -- those that are left
   after_lowest : ℕ → Frames → List Client
-  after_lowest other r = changed other (without_holding r.lo) (changed other marked s.clients)
+  after_lowest other r = change_client other (without_holding r.lo) (change_client other with_mark s.clients)
 
   -- its lowest holding is queued, and it is closing with the others
   lowest_queued : (w : ℕ) (r : Frames) (rs : List Frames) (t : State) → c.holdings ≡ r ∷ rs → t.clients ≡ after_lowest id r → Closes id c.holdings (step.CloseOne w id) (reply.Queued r) t
@@ -116,8 +116,8 @@ module _ (s : State) (id : ℕ) (c : Client) (is : client_with id s.clients ≡ 
       let here : (r.lo == r.lo) ≡ true = grind (arith, nat_tests) in
       let rest : remove_at r.lo c.holdings ≡ rs = rw (lowest, here) refl in
       record {
-        client = without_holding r.lo (marked c);
-        is = ap (λ cs. client_with id cs) clients ∙ changed_found id (without_holding r.lo) (marked c) (changed id marked s.clients) marked_is refl;
+        client = without_holding r.lo (with_mark c);
+        is = ap (λ cs. client_with id cs) clients ∙ changed_found id (without_holding r.lo) (with_mark c) (change_client id with_mark s.clients) marked_is refl;
         closing = refl;
         left = rw (same, rest) (sym lowest);
         not_emptied = λ e. let is = e.1 in cc;
@@ -126,7 +126,7 @@ module _ (s : State) (id : ℕ) (c : Client) (is : client_with id s.clients ≡ 
   -- where the lowest holding of another client is queued, it stays as it is
   other_queued : (other : ℕ) (r : Frames) → other ≢ id → client_with id (after_lowest other r) ≡ Some c
   unfolding after_lowest
-  other_queued other r apart = found-changed_other id other (without_holding r.lo) (changed other marked s.clients) (λ x. refl) apart ∙ other_changed other marked (λ x. refl) apart
+  other_queued other r apart = found-changed_other id other (without_holding r.lo) (change_client other with_mark s.clients) (λ x. refl) apart ∙ other_changed other with_mark (λ x. refl) apart
 
   -- the lowest holding of some client is queued: it is this one's, or this one is closing and stays as it is
   queues_one : (w other : ℕ) (d : Client) (r : Frames) (rs : List Frames) (t : State) → IsOwned w other s.clients d → d.holdings ≡ r ∷ rs → t.clients ≡ after_lowest other r → (c.closing ≡ true) ⊎ (other ≡ id)
@@ -143,12 +143,12 @@ module _ (s : State) (id : ℕ) (c : Client) (is : client_with id s.clients ≡ 
 
   -- Some client that holds nothing is forgotten.
   forgets_one : (w other : ℕ) (d : Client) → SerialsRise 0 s.clients s.serial → IsOwned w other s.clients d → d.holdings ≡ [] → (c.closing ≡ true) ⊎ (other ≡ id)
-      → ClosesOrLeaves id c.holdings (step.CloseOne w other) reply.Empty (record s { clients = forgotten other s.clients })
+      → ClosesOrLeaves id c.holdings (step.CloseOne w other) reply.Empty (record s { clients = without_client other s.clients })
   forgets_one w other d rise own empty why = split (cases_eq other id) why
     where
-      split : (other ≡ id) ⊎ (other ≡ id → ⊥) → (c.closing ≡ true) ⊎ (other ≡ id) → ClosesOrLeaves id c.holdings (step.CloseOne w other) reply.Empty (record s { clients = forgotten other s.clients })
+      split : (other ≡ id) ⊎ (other ≡ id → ⊥) → (c.closing ≡ true) ⊎ (other ≡ id) → ClosesOrLeaves id c.holdings (step.CloseOne w other) reply.Empty (record s { clients = without_client other s.clients })
       split (inl same) why = inr (record {
-        gone = subst (λ i. client_with id (forgotten i s.clients) ≡ None) (sym same) (forgotten_is_gone id 0 s.clients s.serial rise);
+        gone = subst (λ i. client_with id (without_client i s.clients) ≡ None) (sym same) (forgotten_is_gone id 0 s.clients s.serial rise);
         nothing = ap (λ x. x.holdings) (sym (is_same w other d own same)) ∙ empty;
         nothing_queued = refl;
         empties = (ap (λ i. Some i) same, refl);

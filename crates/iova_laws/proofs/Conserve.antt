@@ -8,11 +8,11 @@ use Rattle.iova_model.specs.declared.step.Reply.TheVariants as reply
 use Rattle.iova_range.specs.declared.refusal.Refusal.{Refusal}
 use Rattle.iova_range.specs.declared.refusal.Refusal.TheVariants as refusal
 use Rattle.iova_model.specs.Caches.{Caches}
-use Rattle.iova_model.specs.Clients.{Client, client_with, marked, begins_at}
-use Rattle.iova_model.specs.Flushes.{begun, ended, unflushed}
+use Rattle.iova_model.specs.Clients.{Client, client_with, with_mark, begins_at}
+use Rattle.iova_model.specs.Flushes.{with_flight, after_end, unflushed_rest}
 use Rattle.iova_model.specs.State.{State}
 use Rattle.iova_model.specs.Valid.{IsValid}
-use Rattle.iova_model.specs.Next.{Next, refused, Found, At, Nowhere, OutOfMemory, with_caches, from_to, union, reserved, given, given_from, ring_at, drained, queued}
+use Rattle.iova_model.specs.Next.{Next, refuse_step, Found, At, Nowhere, OutOfMemory, with_caches, from_to, union, reserve_window, give, give_from, ring_at, after_drain, with_entry}
 use Rattle.iova_model.specs.Effects.{Moves, MovesInAlloc, Conserves, freed_by_drain, cached_ranges}
 use Rattle.iova_model.specs.Laws.{StepsConserve}
 use Rattle.iova_laws.proofs.Weight as weight
@@ -32,7 +32,7 @@ moved_conserves s st n gained freed moves moved = record {
 }
 
 -- the union takes the place of the windows that overlap
-reserved_conserves : (s : State) (lo hi : ℕ) → Conserves s (step.Reserve lo hi) (reserved s (from_to lo hi))
+reserved_conserves : (s : State) (lo hi : ℕ) → Conserves s (step.Reserve lo hi) (reserve_window s (from_to lo hi))
 reserved_conserves s lo hi =
     let r = from_to lo hi in
     let old = filter (meets r) s.windows in
@@ -42,11 +42,11 @@ reserved_conserves s lo hi =
       freed = old;
       moves = (refl, refl);
       balance = λ weigh.
-          omega (arith, held_weigh weigh (reserved s r).state, held_weigh weigh s, weight.ranges_are weigh (new ∷ []), weight.ranges_are weigh old, weight.ranges-insert weigh new (filter (λ w. not (meets r w)) s.windows), weight.ranges-filter weigh (meets r) s.windows);
+          omega (arith, held_weigh weigh (reserve_window s r).state, held_weigh weigh s, weight.ranges_are weigh (new ∷ []), weight.ranges_are weigh old, weight.ranges-insert weigh new (filter (λ w. not (meets r w)) s.windows), weight.ranges-filter weigh (meets r) s.windows);
     }
 
 -- a request is given what was found
-given_conserves : (s : State) (w id frames limit size : ℕ) (client : Client) → AreThere s w id client → (found : Found) (c : Caches) → WalkOutcome s true size limit found c → Conserves s (step.Alloc w id frames limit) (given found (with_caches s c) id size)
+given_conserves : (s : State) (w id frames limit size : ℕ) (client : Client) → AreThere s w id client → (found : Found) (c : Caches) → WalkOutcome s true size limit found c → Conserves s (step.Alloc w id frames limit) (give found (with_caches s c) id size)
 given_conserves s w id frames limit size client own Nowhere c none =
     moved_conserves s (step.Alloc w id frames limit) _ [] (cached_ranges s.caches) (refl, refl) (emptied_moved s c none.0)
 given_conserves s w id frames limit size client own OutOfMemory c may =
@@ -62,20 +62,20 @@ given_conserves s w id frames limit size client own (At lo) c (inr fresh) =
     moved_conserves s (step.Alloc w id frames limit) _ (r ∷ []) free.freed (inr (refl, free.is)) (moved_then s t _ (r ∷ []) free.freed free.moved (given_moved t id client r own.found))
 
 -- the worker's ring is drained, and then takes the range
-pub drained_queued_moved : (s : State) (w id : ℕ) (c : Client) (r : Frames) → HasShape s → w < s.workers → client_with id s.clients ≡ Some c → find (begins_at r.lo) c.holdings ≡ Some r → IsMoved s (queued (drained s w w) w id r) [] (freed_by_drain s w w)
+pub drained_queued_moved : (s : State) (w id : ℕ) (c : Client) (r : Frames) → HasShape s → w < s.workers → client_with id s.clients ≡ Some c → find (begins_at r.lo) c.holdings ≡ Some r → IsMoved s (with_entry (after_drain s w w) w id r) [] (freed_by_drain s w w)
 drained_queued_moved s w id c r shape below found held =
-    let d = drained s w w in
-    let same : length d.rings ≡ length s.rings = length-set s.rings w (unflushed s.flushes.finish (ring_at s w)) in
-    moved_then s d (queued d w id r) [] (freed_by_drain s w w) (drained_moved s w w shape below below) (queued_moved d w id c r (omega (arith, shape.each_ring)) found held)
+    let d = after_drain s w w in
+    let same : length d.rings ≡ length s.rings = length-set s.rings w (unflushed_rest s.flushes.finish (ring_at s w)) in
+    moved_then s d (with_entry d w id r) [] (freed_by_drain s w w) (drained_moved s w w shape below below) (queued_moved d w id c r (omega (arith, shape.each_ring)) found held)
 
 -- the same of the first holding of a client that is marked
-pub closed_moved : (s : State) (w id : ℕ) (c : Client) (r : Frames) (rs : List Frames) → HasShape s → AreThere s w id c → c.holdings ≡ r ∷ rs → IsMoved s (queued (drained (with_marked s id) w w) w id r) [] (freed_by_drain s w w)
+pub closed_moved : (s : State) (w id : ℕ) (c : Client) (r : Frames) (rs : List Frames) → HasShape s → AreThere s w id c → c.holdings ≡ r ∷ rs → IsMoved s (with_entry (after_drain (with_marked s id) w w) w id r) [] (freed_by_drain s w w)
 closed_moved s w id c r rs shape own is =
     let t = with_marked s id in
     let shape' : HasShape t = record { takes = shape.takes; caches = shape.caches; each_ring = shape.each_ring } in
-    let found : client_with id t.clients ≡ Some (marked c) = changed_found id marked c s.clients own.found refl in
+    let found : client_with id t.clients ≡ Some (with_mark c) = changed_found id with_mark c s.clients own.found refl in
     let held : find (begins_at r.lo) c.holdings ≡ Some r = ap (find (begins_at r.lo)) is ∙ first_held r rs in
-    let queued_moves = drained_queued_moved t w id (marked c) r shape' own.worker found held in
+    let queued_moves = drained_queued_moved t w id (with_mark c) r shape' own.worker found held in
     let none = marked_moved s id in
     record {
       windows = queued_moves.windows;
@@ -106,16 +106,16 @@ cases : (s : State) → IsValid s → Cases s (Conserves s)
 cases s valid =
     let shape = shape_of s valid in
     record {
-      on_refused = λ st r other. moved_conserves s st (refused r s) [] [] (refused_moves s st r other) (moved_none s);
+      on_refused = λ st r other. moved_conserves s st (refuse_step r s) [] [] (refused_moves s st r other) (moved_none s);
       on_reserve = λ lo hi may. reserved_conserves s lo hi;
       on_open = λ w sac may. moved_conserves s (step.Open w sac) _ [] [] (refl, refl) (opened_moved s w sac);
       on_alloc = λ w id frames limit m c own may.
           let size = need frames in
-          walk_cases s w size own.worker c.sac limit m (λ t. Conserves s (step.Alloc w id frames limit) (given_from t id size)) valid.caches (λ found left shape' outcome. given_conserves s w id frames limit size c own found left outcome);
+          walk_cases s w size own.worker c.sac limit m (λ t. Conserves s (step.Alloc w id frames limit) (give_from t id size)) valid.caches (λ found left shape' outcome. given_conserves s w id frames limit size c own found left outcome);
       on_unmap = λ w id lo c r own held room.
           moved_conserves s (step.Unmap w id lo) _ [] (freed_by_drain s w w) (refl, refl) (drained_queued_moved s w id c r shape own.worker own.found (held_at lo r c.holdings held));
-      on_begin = λ may. moved_conserves s step.Begin _ [] [] (refl, refl) (flushes_moved s (begun s.flushes));
-      on_end = λ n ok flying. moved_conserves s (step.End n ok) _ [] [] (refl, refl) (flushes_moved s (ended s.flushes n ok));
+      on_begin = λ may. moved_conserves s step.Begin _ [] [] (refl, refl) (flushes_moved s (with_flight s.flushes));
+      on_end = λ n ok flying. moved_conserves s (step.End n ok) _ [] [] (refl, refl) (flushes_moved s (after_end s.flushes n ok));
       on_drain = λ q w below-q below-w.
           moved_conserves s (step.Drain q w) _ [] (freed_by_drain s q w) (refl, refl) (drained_moved s q w shape below-q below-w);
       on_close = λ w id c own. moved_conserves s (step.Close w id) _ [] [] (refl, refl) (marked_moved s id);

@@ -3,11 +3,11 @@ use Rattle.std.proofs.Common.{ℕ, ◌≡◌, ◌+◌, ◌<◌, ◌≤◌, inl, 
 use Rattle.iova_range.specs.Frames.{Frames}
 use Rattle.iova_model.specs.declared.entry.Entry.{Entry}
 use Rattle.iova_model.specs.Caches.{Caches}
-use Rattle.iova_model.specs.Flushes.{Flushes, entry_range, flushed, unflushed}
-use Rattle.iova_model.specs.Clients.{Client, new_client, client_with, changed, forgotten, marked, begins_at, with_holding, without_holding}
+use Rattle.iova_model.specs.Flushes.{Flushes, entry_range, flushed_front, unflushed_rest}
+use Rattle.iova_model.specs.Clients.{Client, new_client, client_with, change_client, without_client, with_mark, begins_at, with_holding, without_holding}
 use Rattle.iova_model.specs.State.{State}
 use Rattle.iova_model.specs.Valid.{AreCaches, IsValid}
-use Rattle.iova_model.specs.Next.{with_clients, with_caches, with_flushes, opened, ring_at, drained, queued}
+use Rattle.iova_model.specs.Next.{with_clients, with_caches, with_flushes, with_new_client, ring_at, after_drain, with_entry}
 use Rattle.iova_model.specs.Effects.{freed_by_drain, cached_ranges, FreesCaches}
 use Rattle.iova_laws.proofs.Weight as weight
 use Rattle.iova_laws.proofs.WeightCaches.{cached-put_all}
@@ -42,7 +42,7 @@ clients_moved : (s : State) (cs : List Client) → ((weigh : Frames → ℕ) →
 clients_moved s cs same = record { windows = refl; bounds = refl; balance = λ weigh. omega (arith, same weigh) }
 
 -- a new client holds nothing
-pub opened_moved : (s : State) (w : ℕ) (sac : Bool) → IsMoved s (opened s w sac) [] []
+pub opened_moved : (s : State) (w : ℕ) (sac : Bool) → IsMoved s (with_new_client s w sac) [] []
 opened_moved s w sac = record {
   windows = refl;
   bounds = refl;
@@ -51,15 +51,15 @@ opened_moved s w sac = record {
 
 -- a client that is marked holds what it did
 pub marked_moved : (s : State) (id : ℕ) → IsMoved s (with_marked s id) [] []
-marked_moved s id = clients_moved s (changed id marked s.clients) (λ weigh. weight.clients-marked weigh id s.clients)
+marked_moved s id = clients_moved s (change_client id with_mark s.clients) (λ weigh. weight.clients-marked weigh id s.clients)
 
 -- a client with nothing goes
-pub forgotten_moved : (s : State) (id : ℕ) (c : Client) → client_with id s.clients ≡ Some c → c.holdings ≡ [] → IsMoved s (with_clients s (forgotten id s.clients)) [] []
+pub forgotten_moved : (s : State) (id : ℕ) (c : Client) → client_with id s.clients ≡ Some c → c.holdings ≡ [] → IsMoved s (with_clients s (without_client id s.clients)) [] []
 forgotten_moved s id c found none =
-    clients_moved s (forgotten id s.clients) (λ weigh. omega (arith, weight.clients-forgotten weigh id c s.clients found, ap (weight.ranges weigh) none))
+    clients_moved s (without_client id s.clients) (λ weigh. omega (arith, weight.clients-forgotten weigh id c s.clients found, ap (weight.ranges weigh) none))
 
 -- a client gets a range
-pub given_moved : (s : State) (id : ℕ) (c : Client) (r : Frames) → client_with id s.clients ≡ Some c → IsMoved s (with_clients s (changed id (with_holding r) s.clients)) (r ∷ []) []
+pub given_moved : (s : State) (id : ℕ) (c : Client) (r : Frames) → client_with id s.clients ≡ Some c → IsMoved s (with_clients s (change_client id (with_holding r) s.clients)) (r ∷ []) []
 given_moved s id c r found = record {
   windows = refl;
   bounds = refl;
@@ -92,7 +92,7 @@ may_moved s c (inl same) = record { freed = []; is = inl refl; moved = same_move
 may_moved s c (inr none) = record { freed = cached_ranges s.caches; is = inr refl; moved = emptied_moved s c none }
 
 -- a client gets a cached range
-pub left_moved : (s : State) (c : Caches) (id : ℕ) (x : Client) (r : Frames) → Left r s.caches c → client_with id s.clients ≡ Some x → IsMoved s (with_clients (with_caches s c) (changed id (with_holding r) s.clients)) [] []
+pub left_moved : (s : State) (c : Caches) (id : ℕ) (x : Client) (r : Frames) → Left r s.caches c → client_with id s.clients ≡ Some x → IsMoved s (with_clients (with_caches s c) (change_client id (with_holding r) s.clients)) [] []
 left_moved s c id x r left found = record {
   windows = refl;
   bounds = refl;
@@ -112,19 +112,19 @@ pub shape_of : (s : State) → IsValid s → HasShape s
 shape_of s valid = record { takes = magazine_takes s.bounds.profile valid.bounds.profile; caches = valid.caches; each_ring = valid.each_ring }
 
 -- a drained ring goes to the magazines, and what they send out becomes free
-pub drained_moved : (s : State) (q w : ℕ) → HasShape s → q < s.workers → w < s.workers → IsMoved s (drained s q w) [] (freed_by_drain s q w)
+pub drained_moved : (s : State) (q w : ℕ) → HasShape s → q < s.workers → w < s.workers → IsMoved s (after_drain s q w) [] (freed_by_drain s q w)
 drained_moved s q w shape below-q below-w = record {
   windows = refl;
   bounds = refl;
   balance = λ weigh.
       let ring = ring_at s q in
-      let out = map entry_range (flushed s.flushes.finish ring) in
+      let out = map entry_range (flushed_front s.flushes.finish ring) in
       let here : q < length s.rings = omega (arith, shape.each_ring) in
-      omega (arith, weight.rings-set weigh q s.rings (unflushed s.flushes.finish ring) here, weight.entries-unflushed weigh s.flushes.finish ring, cached-put_all weigh s.bounds.profile s.workers s.caches w out shape.takes shape.caches below-w);
+      omega (arith, weight.rings-set weigh q s.rings (unflushed_rest s.flushes.finish ring) here, weight.entries-unflushed weigh s.flushes.finish ring, cached-put_all weigh s.bounds.profile s.workers s.caches w out shape.takes shape.caches below-w);
 }
 
 -- a client's range goes to a ring
-pub queued_moved : (s : State) (w id : ℕ) (c : Client) (r : Frames) → w < length s.rings → client_with id s.clients ≡ Some c → find (begins_at r.lo) c.holdings ≡ Some r → IsMoved s (queued s w id r) [] []
+pub queued_moved : (s : State) (w id : ℕ) (c : Client) (r : Frames) → w < length s.rings → client_with id s.clients ≡ Some c → find (begins_at r.lo) c.holdings ≡ Some r → IsMoved s (with_entry s w id r) [] []
 queued_moved s w id c r here found held = record {
   windows = refl;
   bounds = refl;

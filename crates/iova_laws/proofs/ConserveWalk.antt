@@ -8,7 +8,7 @@ use Rattle.iova_model.specs.declared.step.Point.TheVariants as point
 use Rattle.iova_range.specs.Frames.{Frames}
 use Rattle.iova_range.specs.Sizes.{order_of}
 use Rattle.iova_model.specs.Fit.{fits}
-use Rattle.iova_model.specs.Caches.{Caches, Shelf, shelf_at, with_shelf, reloaded, fitting, popped, get, emptied}
+use Rattle.iova_model.specs.Caches.{Caches, Shelf, shelf_at, with_shelf, reload, fitting, pop_entry, get, without_entries}
 use Rattle.iova_model.specs.State.{State, held_ranges}
 use Rattle.iova_model.specs.Valid.{AreCaches}
 use Rattle.iova_model.specs.Next.{Found, At, Nowhere, OutOfMemory, Tried, with_caches, is_at, best_place, from_cache, from_tree, or_emptied, or_tree, try, or_second, walk}
@@ -72,9 +72,9 @@ OnEach s size limit emptying P =
 
 -- what a get gives isn't above the limit
 got_within : (s : Shelf) (limit size lo : ℕ) → (get s limit size).0 ≡ Some lo → lo + size ≤ limit + 1
-got_within s limit size lo is = popped_within (reloaded s) (fitting (reloaded s).loaded limit size) refl is
+got_within s limit size lo is = popped_within (reload s) (fitting (reload s).loaded limit size) refl is
   where
-    popped_within : (t : Shelf) (x : Option ℕ) → fitting t.loaded limit size ≡ x → (popped t x).0 ≡ Some lo → lo + size ≤ limit + 1
+    popped_within : (t : Shelf) (x : Option ℕ) → fitting t.loaded limit size ≡ x → (pop_entry t x).0 ≡ Some lo → lo + size ≤ limit + 1
     popped_within t None found is = absurd cc
     popped_within t (Some i) found is =
         let g = greatest_some (λ k. nat_le (slice_index t.loaded k + size - 1) limit) (length t.loaded) i found in
@@ -98,7 +98,7 @@ module _ (s : State) (w size : ℕ) (below : w < s.workers) where
       -- nothing fits: once more with all caches emptied, where that may be
       last_cases : (no_memory : Bool) → (emptying : Bool) → OnEach s size limit emptying P → (c : Caches) → AreOwn s c → Same s.caches c → P (or_emptied Nowhere (with_caches s c) size limit emptying no_memory)
       last_cases no_memory true each c own same =
-          let c' = emptied c in
+          let c' = without_entries c in
           tree_cases limit P each c' (emptied_valid s.bounds.profile s.workers c own) (λ weigh. cached-emptied weigh c) (best_place (with_caches s c') size limit) refl no_memory
       last_cases no_memory false each c own same = each Nowhere c own same
 

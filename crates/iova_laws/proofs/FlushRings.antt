@@ -6,7 +6,7 @@ use Rattle.std.proofs.lemmas.Bool.{or_left, or_right}
 use Rattle.std.proofs.lemmas.Bool.Decides.{nat_tests}
 use Rattle.iova_range.specs.Frames.{covers}
 use Rattle.iova_model.specs.declared.entry.Entry.{Entry}
-use Rattle.iova_model.specs.Flushes.{entry_range, unflushed}
+use Rattle.iova_model.specs.Flushes.{entry_range, unflushed_rest}
 use Rattle.iova_model.specs.Transcript.{is_ringed}
 
 -- an entry has the frame, with a count that isn't below this one
@@ -20,7 +20,7 @@ waits frame count [] = false
 waits frame count (ring ∷ rings) = waits_in frame count ring || waits frame count rings
 
 -- a drain leaves it, where the count isn't below the finish count
-pub waits_in-unflushed : (frame count finish : ℕ) (es : List Entry) → finish ≤ count → waits_in frame count es ≡ true → waits_in frame count (unflushed finish es) ≡ true
+pub waits_in-unflushed : (frame count finish : ℕ) (es : List Entry) → finish ≤ count → waits_in frame count es ≡ true → waits_in frame count (unflushed_rest finish es) ≡ true
 waits_in-unflushed frame count finish [] le h = h
 waits_in-unflushed frame count finish (e ∷ es) le h = grind (arith, nat_tests, waits_in-unflushed frame count finish es le)
 

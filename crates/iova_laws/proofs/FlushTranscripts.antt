@@ -9,7 +9,7 @@ use Rattle.iova_model.specs.declared.step.Reply.{Reply}
 use Rattle.iova_model.specs.declared.step.Reply.TheVariants as reply
 use Rattle.iova_model.specs.declared.step.Point.{Point}
 use Rattle.iova_model.specs.declared.flight.Flight.{Flight}
-use Rattle.iova_model.specs.Flushes.{Flushes, is_in_flight, without_flight, passed_on, ended}
+use Rattle.iova_model.specs.Flushes.{Flushes, is_in_flight, without_flight, passed_on, after_end}
 use Rattle.iova_model.specs.State.{State}
 use Rattle.iova_model.specs.Next.{next}
 use Rattle.iova_model.specs.Transcript.{Pair, IsTranscript, after, Unmaps, IsUnmappedAt, IsFlushedBetween, is_ringed}
@@ -101,7 +101,7 @@ module _ (ps : List Pair) (i count k : ℕ) (p : Pair) (is : slice_get ps k ≡ 
 
   -- a flush ends at the pair: one that is newer than the unmap and ends well is whole, and else no newer one has ended well
   ended_left : (old : Flushes) (n : ℕ) (ok : Bool) → p.step ≡ step.End n ok → p.reply ≡ reply.Ended → is_in_flight n old.in_flight ≡ true → AllBegan ps i count k old → (count < n) ⊎ (n ≤ count)
-      → Left old (ended old n ok)
+      → Left old (after_end old n ok)
   ended_left old n true a r flies h (inr le) = record {
     began = λ g still above. began_later g (h g (in_flight_without g n old.in_flight still) above);
     newest = inl (λ before. omega arith);

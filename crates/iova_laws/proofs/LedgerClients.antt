@@ -1,13 +1,13 @@
 -- Where a client stands among the clients.
 use Rattle.std.proofs.Common.{ℕ, ◌≡◌, Bool, true, false, List, [], ◌∷◌, ◌++◌, Some, refl, ap}
-use Rattle.iova_model.specs.Clients.{Client, client_with, has_id, changed}
+use Rattle.iova_model.specs.Clients.{Client, client_with, has_id, change_client}
 
 -- The clients before it and those after it, which a change to it leaves.
 pub record IsAmongClients (id : ℕ) (c : Client) (clients : List Client) : Type 0 where
   pub before : List Client
   pub later : List Client
   pub is : clients ≡ before ++ c ∷ later
-  pub changes : (change : Client → Client) → changed id change clients ≡ before ++ change c ∷ later
+  pub changes : (change : Client → Client) → change_client id change clients ≡ before ++ change c ∷ later
 
 -- the first client is the one, or it stands before it
 stands_step : (id : ℕ) (c x : Client) (clients : List Client) (b : Bool) → has_id id x ≡ b → client_with id (x ∷ clients) ≡ Some c

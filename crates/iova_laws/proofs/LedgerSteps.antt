@@ -6,7 +6,7 @@ use Rattle.std.proofs.lemmas.Bool.Decides.{nat_tests}
 use Rattle.iova_range.specs.Frames.{Frames}
 use Rattle.iova_model.specs.declared.step.Step.{Step}
 use Rattle.iova_model.specs.declared.step.Reply.{Reply}
-use Rattle.iova_model.specs.Clients.{Client, client_with, changed, forgotten, begins_at, remove_at, with_holding, without_holding, marked, totals_of, all_holdings, totals, share_of}
+use Rattle.iova_model.specs.Clients.{Client, client_with, change_client, without_client, begins_at, remove_at, with_holding, without_holding, with_mark, totals_of, all_holdings, totals, share_of}
 use Rattle.iova_model.specs.State.{State}
 use Rattle.iova_model.specs.Next.{next}
 use Rattle.iova_model.specs.Effects.{MovesTotals, MovesShare, worker_of}
@@ -46,19 +46,19 @@ module _ (keep : ℕ → Bool) where
   held_opened cs c none = grind (arith, nat_tests, append-nil (held cs), held-append cs (c ∷ []))
 
   -- nor has one that is forgotten
-  held-forgotten : (id : ℕ) (c : Client) (clients : List Client) → client_with id clients ≡ Some c → c.holdings ≡ [] → held (forgotten id clients) ≡ held clients
+  held-forgotten : (id : ℕ) (c : Client) (clients : List Client) → client_with id clients ≡ Some c → c.holdings ≡ [] → held (without_client id clients) ≡ held clients
   held-forgotten id c [] is none = absurd cc
   held-forgotten id c (x ∷ cs) is none = grind (arith, nat_tests, held-forgotten id c cs)
 
   -- a change leaves the holdings
   held_same : (id : ℕ) (c : Client) (change : Client → Client) (clients : List Client) → client_with id clients ≡ Some c → (change c).worker ≡ c.worker → (change c).holdings ≡ c.holdings
-      → held (changed id change clients) ≡ held clients
+      → held (change_client id change clients) ≡ held clients
   held_same id c change [] is same_worker same = absurd cc
   held_same id c change (x ∷ cs) is same_worker same = grind (arith, nat_tests, held_same id c change cs)
 
   -- or the client is of another worker
   held_other : (id : ℕ) (c : Client) (change : Client → Client) (clients : List Client) → client_with id clients ≡ Some c → (change c).worker ≡ c.worker → keep c.worker ≡ false
-      → held (changed id change clients) ≡ held clients
+      → held (change_client id change clients) ≡ held clients
   held_other id c change [] is same_worker other = absurd cc
   held_other id c change (x ∷ cs) is same_worker other = grind (arith, nat_tests, held_other id c change cs)
 
@@ -73,15 +73,15 @@ module _ (keep : ℕ → Bool) where
     held_old = let at = stands id c clients is in ap held at.is ∙ held_between at.before at.later c mine
 
     -- and after it
-    held_new : held (changed id change clients) ≡ around (change c).holdings
+    held_new : held (change_client id change clients) ≡ around (change c).holdings
     held_new = let at = stands id c clients is in ap held (at.changes change) ∙ held_between at.before at.later (change c) (ap keep same_worker ∙ mine)
 
     -- one range more in its holdings
-    held_more : (r : Frames) → HasMore r c.holdings (change c).holdings → HasMore r (held clients) (held (changed id change clients))
+    held_more : (r : Frames) → HasMore r c.holdings (change c).holdings → HasMore r (held clients) (held (change_client id change clients))
     held_more r h = let at = stands id c clients is in more_alike r _ _ _ _ held_old held_new (more_within r (held at.before) c.holdings (change c).holdings (held at.later) h)
 
     -- one less
-    held_less : (r : Frames) → HasMore r (change c).holdings c.holdings → HasMore r (held (changed id change clients)) (held clients)
+    held_less : (r : Frames) → HasMore r (change c).holdings c.holdings → HasMore r (held (change_client id change clients)) (held clients)
     held_less r h = let at = stands id c clients is in more_alike r _ _ _ _ held_new held_old (more_within r (held at.before) (change c).holdings c.holdings (held at.later) h)
 
   -- a step moves their totals where it names one of them
@@ -92,12 +92,12 @@ module _ (keep : ℕ → Bool) where
       totals_more r _ _ (held_more id c s.clients own.is (with_holding r) refl (ap keep own.worker ∙ named w refl) r (more-insert r c.holdings))
   totals_move s (unmaps w id lo c r known own still_open found) named =
       totals_more r _ _ (held_less id c s.clients own.is (without_holding r.lo) refl (ap keep own.worker ∙ named w refl) r (found_removed lo r c.holdings found))
-  totals_move s (closes w id c own) named = ap totals_of (held_same id c marked s.clients own.is refl refl)
+  totals_move s (closes w id c own) named = ap totals_of (held_same id c with_mark s.clients own.is refl refl)
   totals_move s (queues_lowest w id c r rs known own lowest) named =
-      let again = changed_found id marked c s.clients own.is refl in
-      let less = held_less id (marked c) (changed id marked s.clients) again (without_holding r.lo) refl (ap keep own.worker ∙ named w refl) r (lowest_removed r rs c.holdings lowest) in
-      sym (ap totals_of (held_same id c marked s.clients own.is refl refl)) ∙ totals_more r _ _ less
-  totals_move s (only_marks w id c own) named = ap totals_of (held_same id c marked s.clients own.is refl refl)
+      let again = changed_found id with_mark c s.clients own.is refl in
+      let less = held_less id (with_mark c) (change_client id with_mark s.clients) again (without_holding r.lo) refl (ap keep own.worker ∙ named w refl) r (lowest_removed r rs c.holdings lowest) in
+      sym (ap totals_of (held_same id c with_mark s.clients own.is refl refl)) ∙ totals_more r _ _ less
+  totals_move s (only_marks w id c own) named = ap totals_of (held_same id c with_mark s.clients own.is refl refl)
   totals_move s (forgets w id c own none) named = ap totals_of (held-forgotten id c s.clients own.is none)
   totals_move s o named = refl
 
@@ -107,12 +107,12 @@ module _ (keep : ℕ → Bool) where
   totals_stay s (opens w sac) named = ap totals_of (held_opened s.clients _ refl)
   totals_stay s (gives w id frames limit c r caches own still_open) named = ap totals_of (held_other id c (with_holding r) s.clients own.is refl (ap keep own.worker ∙ named w refl))
   totals_stay s (unmaps w id lo c r known own still_open found) named = ap totals_of (held_other id c (without_holding r.lo) s.clients own.is refl (ap keep own.worker ∙ named w refl))
-  totals_stay s (closes w id c own) named = ap totals_of (held_same id c marked s.clients own.is refl refl)
+  totals_stay s (closes w id c own) named = ap totals_of (held_same id c with_mark s.clients own.is refl refl)
   totals_stay s (queues_lowest w id c r rs known own lowest) named =
-      let again = changed_found id marked c s.clients own.is refl in
-      let others = held_other id (marked c) (without_holding r.lo) (changed id marked s.clients) again refl (ap keep own.worker ∙ named w refl) in
-      ap totals_of (others ∙ held_same id c marked s.clients own.is refl refl)
-  totals_stay s (only_marks w id c own) named = ap totals_of (held_same id c marked s.clients own.is refl refl)
+      let again = changed_found id with_mark c s.clients own.is refl in
+      let others = held_other id (with_mark c) (without_holding r.lo) (change_client id with_mark s.clients) again refl (ap keep own.worker ∙ named w refl) in
+      ap totals_of (others ∙ held_same id c with_mark s.clients own.is refl refl)
+  totals_stay s (only_marks w id c own) named = ap totals_of (held_same id c with_mark s.clients own.is refl refl)
   totals_stay s (forgets w id c own none) named = ap totals_of (held-forgotten id c s.clients own.is none)
   totals_stay s o named = refl
 

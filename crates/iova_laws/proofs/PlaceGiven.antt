@@ -13,7 +13,7 @@ use Rattle.iova_model.specs.Clients.{Client, client_with, with_holding}
 use Rattle.iova_model.specs.Flushes.{entry_range}
 use Rattle.iova_model.specs.State.{State}
 use Rattle.iova_model.specs.Valid.{IsValid}
-use Rattle.iova_model.specs.Next.{Next, Found, At, Nowhere, OutOfMemory, with_caches, given, given_from, next}
+use Rattle.iova_model.specs.Next.{Next, Found, At, Nowhere, OutOfMemory, with_caches, give, give_from, next}
 use Rattle.iova_model.specs.Transcript.{is_ringed}
 use Rattle.iova_laws.proofs.Weight as weight
 use Rattle.iova_laws.proofs.ValidCases.{Cases, next_cases}
@@ -41,13 +41,13 @@ GivesNoRinged s frame n = (r : Frames) → n.reply ≡ reply.Given r → covers 
 
 module _ (s : State) (frame : ℕ) (valid : IsValid s) where
   -- what a walk finds is held by a client then, and so by no ring
-  found_not_ringed : (id size limit : ℕ) (c : Client) → 1 ≤ size → size ≤ 1048576 → length c.holdings < 4096 → client_with id s.clients ≡ Some c → (found : Found) (left : Caches) → AreOwn s left → WalkOutcome s true size limit found left → GivesNoRinged s frame (given found (with_caches s left) id size)
+  found_not_ringed : (id size limit : ℕ) (c : Client) → 1 ≤ size → size ≤ 1048576 → length c.holdings < 4096 → client_with id s.clients ≡ Some c → (found : Found) (left : Caches) → AreOwn s left → WalkOutcome s true size limit found left → GivesNoRinged s frame (give found (with_caches s left) id size)
   found_not_ringed id size limit c some few room is Nowhere left own outcome r e = absurd cc
   found_not_ringed id size limit c some few room is OutOfMemory left own outcome r e = absurd cc
   found_not_ringed id size limit c some few room is (At lo) left own outcome r e =
       let x : Frames = record { lo = lo; len = size } in
       let same : r ≡ x = cc in
-      let u = given (At lo) (with_caches s left) id size in
+      let u = give (At lo) (with_caches s left) id size in
       let valid' = answered_valid s id size limit c valid some few room is (At lo) left own outcome in
       λ here.
       let one : has frame x ≡ 1 = ap (λ b. cond b 1 0) (ap (covers frame) (sym same) ∙ here) in
@@ -62,7 +62,7 @@ module _ (s : State) (frame : ℕ) (valid : IsValid s) where
     on_open = λ w sac may r e. absurd cc;
     on_alloc = λ w id frames limit m c own may.
         let size = need frames in
-        walk_cases s w size own.worker c.sac limit m (λ t. GivesNoRinged s frame (given_from t id size)) valid.caches (found_not_ringed id size limit c (need_ge frames may.some) (need_le frames may.some may.few) may.room own.found);
+        walk_cases s w size own.worker c.sac limit m (λ t. GivesNoRinged s frame (give_from t id size)) valid.caches (found_not_ringed id size limit c (need_ge frames may.some) (need_le frames may.some may.few) may.room own.found);
     on_unmap = λ w id lo c x own held room r e. absurd cc;
     on_begin = λ may r e. absurd cc;
     on_end = λ n ok flies r e. absurd cc;

@@ -12,9 +12,9 @@ use Rattle.iova_model.specs.declared.step.Step.TheVariants as step
 use Rattle.iova_model.specs.declared.step.Reply.TheVariants as reply
 use Rattle.iova_model.specs.declared.step.Point.{Point}
 use Rattle.iova_model.specs.declared.step.Point.TheVariants as point
-use Rattle.iova_model.specs.Caches.{emptied}
-use Rattle.iova_model.specs.Flushes.{begun, ended, flushed}
-use Rattle.iova_model.specs.Clients.{Client, client_of, changed, begins_at, marked}
+use Rattle.iova_model.specs.Caches.{without_entries}
+use Rattle.iova_model.specs.Flushes.{with_flight, after_end, flushed_front}
+use Rattle.iova_model.specs.Clients.{Client, client_of, change_client, begins_at, with_mark}
 use Rattle.iova_model.specs.State.{State}
 use Rattle.iova_model.specs.Next
 use Rattle.iova_model.specs.Laws.{NoMemoryIsRefused, OtherStepsTakeNoMemory}
@@ -51,7 +51,7 @@ tree_found s (Some lo) = λ e. absurd cc
 
 -- nor is it with emptied caches
 emptied_found : (found : Next.Found) (s : State) (size limit : ℕ) (emptying : Bool) → (found ≡ Next.OutOfMemory → ⊥) → FindsMemory (Next.or_emptied found s size limit emptying false)
-emptied_found Next.Nowhere s size limit true fine = let s' = Next.with_caches s (emptied s.caches) in tree_found s' (Next.best_place s' size limit)
+emptied_found Next.Nowhere s size limit true fine = let s' = Next.with_caches s (without_entries s.caches) in tree_found s' (Next.best_place s' size limit)
 emptied_found Next.Nowhere s size limit false fine = λ e. absurd cc
 emptied_found (Next.At lo) s size limit emptying fine = λ e. absurd cc
 emptied_found Next.OutOfMemory s size limit emptying fine = fine
@@ -84,7 +84,7 @@ walk_found s w sac size limit =
     (λ e. try_found s w size limit true point.Second refl)
 
 -- what the walk found is given, or nothing is
-given_has : (found : Next.Found) (s : State) (id size : ℕ) → (found ≡ Next.OutOfMemory → ⊥) → HasMemory (Next.given found s id size)
+given_has : (found : Next.Found) (s : State) (id size : ℕ) → (found ≡ Next.OutOfMemory → ⊥) → HasMemory (Next.give found s id size)
 given_has Next.Nowhere s id size fine = λ e. absurd cc
 given_has (Next.At lo) s id size fine = λ e. absurd cc
 given_has Next.OutOfMemory s id size fine = absurd (fine refl)
@@ -96,14 +96,14 @@ alloc_to_has : (o : Option Client) (s : State) (w id size limit : ℕ) → HasMe
 alloc_to_has None s w id size limit = λ e. absurd cc
 alloc_to_has (Some c) s w id size limit =
     let t = Next.walk s w c.sac size limit point.Never in
-    unless_has s (Next.ledger_tests c point.Never) (Next.given_from t id size) ((λ b e. absurd cc), ((λ b e. absurd cc), ((λ b e. absurd cc), tt)))
+    unless_has s (Next.ledger_tests c point.Never) (Next.give_from t id size) ((λ b e. absurd cc), ((λ b e. absurd cc), ((λ b e. absurd cc), tt)))
     (given_has t.found t.state id size (walk_found s w c.sac size limit))
 
 -- a holding that is queued
 queue_has : (s : State) (w id : ℕ) (r : Frames) → HasMemory (Next.queue s w id r)
 queue_has s w id r =
-    let d = Next.drained s w w in
-    unless_has s (Next.full_tests d w) (record { reply = reply.Queued r; state = Next.queued d w id r }) ((λ b e. absurd cc), tt) (λ e. absurd cc)
+    let d = Next.after_drain s w w in
+    unless_has s (Next.full_tests d w) (record { reply = reply.Queued r; state = Next.with_entry d w id r }) ((λ b e. absurd cc), tt) (λ e. absurd cc)
 
 -- an unmap, by its holding
 unmap_held_has : (held : Option Frames) (s : State) (w id : ℕ) → HasMemory (Next.unmap_held held s w id)
@@ -125,7 +125,7 @@ close_of_has (Some c) s id = λ e. absurd cc
 -- one step of a closing, by its lowest holding
 close_lowest_has : (rs : List Frames) (s : State) (w id : ℕ) → HasMemory (Next.close_lowest rs s w id)
 close_lowest_has [] s w id = λ e. absurd cc
-close_lowest_has (r ∷ rs) s w id = queue_has (Next.with_clients s (changed id marked s.clients)) w id r
+close_lowest_has (r ∷ rs) s w id = queue_has (Next.with_clients s (change_client id with_mark s.clients)) w id r
 
 -- and by its client
 close_one_of_has : (o : Option Client) (s : State) (w id : ℕ) → HasMemory (Next.close_one_of o s w id)
@@ -139,23 +139,23 @@ worker_has s w n has = unless_has s (Next.worker_tests s w) n ((λ b e. absurd c
 -- where no growth is refused, each step has memory
 next_has : (s : State) (st : Step) → HasMemory (Next.next s st point.Never)
 next_has s (step.Reserve lo hi) =
-    unless_has s (Next.reserve_tests s lo hi point.Never) (Next.reserved s (Next.from_to lo hi))
+    unless_has s (Next.reserve_tests s lo hi point.Never) (Next.reserve_window s (Next.from_to lo hi))
     ((λ b e. absurd cc), ((λ b e. absurd cc), ((λ b e. absurd cc), ((λ b e. absurd cc), tt)))) (λ e. absurd cc)
 next_has s (step.Open w sac) =
-    unless_has s (Next.open_tests s w point.Never) (record { reply = reply.Opened (s.serial + 1); state = Next.opened s w sac })
+    unless_has s (Next.open_tests s w point.Never) (record { reply = reply.Opened (s.serial + 1); state = Next.with_new_client s w sac })
     ((λ b e. absurd cc), ((λ b e. absurd cc), ((λ b e. absurd cc), ((λ b e. absurd cc), tt)))) (λ e. absurd cc)
 next_has s (step.Alloc w id frames limit) =
     unless_has s (Next.alloc_tests s w frames) (Next.alloc_to (client_of w id s.clients) s w id (need frames) limit point.Never)
     ((λ b e. absurd cc), ((λ b e. absurd cc), ((λ b e. absurd cc), tt))) (alloc_to_has (client_of w id s.clients) s w id (need frames) limit)
 next_has s (step.Unmap w id lo) = worker_has s w _ (unmap_of_has (client_of w id s.clients) s w id lo)
 next_has s step.Begin =
-    unless_has s (Next.begin_tests s.flushes) (record { reply = reply.Begun (s.flushes.start + 1); state = Next.with_flushes s (begun s.flushes) })
+    unless_has s (Next.begin_tests s.flushes) (record { reply = reply.Begun (s.flushes.start + 1); state = Next.with_flushes s (with_flight s.flushes) })
     ((λ b e. absurd cc), ((λ b e. absurd cc), tt)) (λ e. absurd cc)
 next_has s (step.End n ok) =
-    unless_has s (Next.end_tests s.flushes n) (record { reply = reply.Ended; state = Next.with_flushes s (ended s.flushes n ok) }) ((λ b e. absurd cc), tt) (λ e. absurd cc)
+    unless_has s (Next.end_tests s.flushes n) (record { reply = reply.Ended; state = Next.with_flushes s (after_end s.flushes n ok) }) ((λ b e. absurd cc), tt) (λ e. absurd cc)
 next_has s (step.Drain q w) =
-    let count = length (flushed s.flushes.finish (Next.ring_at s q)) in
-    unless_has s (Next.drain_tests s q w) (record { reply = reply.Drained count; state = Next.drained s q w }) ((λ b e. absurd cc), tt) (λ e. absurd cc)
+    let count = length (flushed_front s.flushes.finish (Next.ring_at s q)) in
+    unless_has s (Next.drain_tests s q w) (record { reply = reply.Drained count; state = Next.after_drain s q w }) ((λ b e. absurd cc), tt) (λ e. absurd cc)
 next_has s (step.Close w id) = worker_has s w _ (close_of_has (client_of w id s.clients) s id)
 next_has s (step.CloseOne w id) = worker_has s w _ (close_one_of_has (client_of w id s.clients) s w id)
 

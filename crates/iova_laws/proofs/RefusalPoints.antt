@@ -9,10 +9,10 @@ use Rattle.iova_model.specs.declared.step.Step.TheVariants as step
 use Rattle.iova_model.specs.declared.step.Reply.TheVariants as reply
 use Rattle.iova_model.specs.declared.step.Point.{Point}
 use Rattle.iova_model.specs.declared.step.Point.TheVariants as point
-use Rattle.iova_model.specs.Caches.{emptied}
+use Rattle.iova_model.specs.Caches.{without_entries}
 use Rattle.iova_model.specs.Clients.{Client, client_of}
 use Rattle.iova_model.specs.State.{State}
-use Rattle.iova_model.specs.Next.{Next, refused, unless, Found, At, Nowhere, OutOfMemory, Tried, is_at, with_caches, from_cache, best_place, from_tree, or_emptied, or_tree, try, or_second, walk, given_from, ledger_tests, alloc_to, alloc_tests, from_to, reserve_tests, reserved, open_tests, opened}
+use Rattle.iova_model.specs.Next.{Next, refuse_step, unless, Found, At, Nowhere, OutOfMemory, Tried, is_at, with_caches, from_cache, best_place, from_tree, or_emptied, or_tree, try, or_second, walk, give_from, ledger_tests, alloc_to, alloc_tests, from_to, reserve_tests, reserve_window, open_tests, with_new_client}
 use Rattle.iova_model.specs.Laws.{PointsOnlyRefuse}
 
 -- one choice between things that are alike
@@ -40,7 +40,7 @@ emptied_alike t t' size limit emptying no_memory (inr same) =
     subst P same (alike t.found t.state emptying)
   where
     alike : (found : Found) (s : State) (e : Bool) → IsAlike (or_emptied found s size limit e no_memory) (or_emptied found s size limit e false)
-    alike Nowhere s true = let u = with_caches s (emptied s.caches) in tree_alike u (best_place u size limit) no_memory
+    alike Nowhere s true = let u = with_caches s (without_entries s.caches) in tree_alike u (best_place u size limit) no_memory
     alike Nowhere s false = inr refl
     alike (At lo) s e = inr refl
     alike OutOfMemory s e = inr refl
@@ -93,7 +93,7 @@ OnlyRefuses n n' = (n.reply ≡ reply.Refused refusal.NoMemory) ⊎ (n ≡ n')
 unless_alike : (s : State) (tests : List (Bool × Refusal)) (n n' : Next) → OnlyRefuses n n' → OnlyRefuses (unless tests s n) (unless tests s n')
 unless_alike s [] n n' alike = alike
 unless_alike s ((b, r) ∷ tests) n n' alike =
-    cond_alike OnlyRefuses b (refused r s) (refused r s) (unless tests s n) (unless tests s n') (inr refl) (unless_alike s tests n n' alike)
+    cond_alike OnlyRefuses b (refuse_step r s) (refuse_step r s) (unless tests s n) (unless tests s n') (inr refl) (unless_alike s tests n n' alike)
 
 -- and a last test for memory in the first
 unless_memory : (s : State) (tests : List (Bool × Refusal)) (no_memory : Bool) (n n' : Next) → OnlyRefuses n n' → OnlyRefuses (unless (tests ++ (no_memory, refusal.NoMemory) ∷ []) s n) (unless tests s n')
@@ -101,27 +101,27 @@ unless_memory s [] true n n' alike = inl refl
 unless_memory s [] false n n' alike = alike
 unless_memory s ((b, r) ∷ tests) no_memory n n' alike =
     let rest = unless (tests ++ (no_memory, refusal.NoMemory) ∷ []) s n in
-    cond_alike OnlyRefuses b (refused r s) (refused r s) rest (unless tests s n') (inr refl) (unless_memory s tests no_memory n n' alike)
+    cond_alike OnlyRefuses b (refuse_step r s) (refuse_step r s) rest (unless tests s n') (inr refl) (unless_memory s tests no_memory n n' alike)
 
 -- what a walk comes to is answered
-given_alike : (t t' : Tried) (id size : ℕ) → IsAlike t t' → OnlyRefuses (given_from t id size) (given_from t' id size)
+given_alike : (t t' : Tried) (id size : ℕ) → IsAlike t t' → OnlyRefuses (give_from t id size) (give_from t' id size)
 given_alike t t' id size (inl out) = inl (rw out refl)
-given_alike t t' id size (inr same) = inr (ap (λ x. given_from x id size) same)
+given_alike t t' id size (inr same) = inr (ap (λ x. give_from x id size) same)
 
 -- the ledger's growth may be refused before it
 alloc_to_alike : (client : Option Client) (s : State) (w id size limit : ℕ) (m : Point) → OnlyRefuses (alloc_to client s w id size limit m) (alloc_to client s w id size limit point.Never)
 alloc_to_alike None s w id size limit m = inr refl
 alloc_to_alike (Some c) s w id size limit m =
     let walked = λ (p : Point). walk s w c.sac size limit p in
-    unless_memory s (take 2 (ledger_tests c m)) (is_at point.Ledger m) (given_from (walked m) id size) (given_from (walked point.Never) id size)
+    unless_memory s (take 2 (ledger_tests c m)) (is_at point.Ledger m) (give_from (walked m) id size) (give_from (walked point.Never) id size)
     (given_alike (walked m) (walked point.Never) id size (walk_alike s w c.sac size limit m))
 
 -- the steps that take memory have their point after all other tests, and the others have none
 pub points_only_refuse : PointsOnlyRefuse
 points_only_refuse s (step.Reserve lo hi) m =
-    let n = reserved s (from_to lo hi) in unless_memory s (take 3 (reserve_tests s lo hi m)) (is_at point.Once m) n n (inr refl)
+    let n = reserve_window s (from_to lo hi) in unless_memory s (take 3 (reserve_tests s lo hi m)) (is_at point.Once m) n n (inr refl)
 points_only_refuse s (step.Open w sac) m =
-    let n : Next = record { reply = reply.Opened (s.serial + 1); state = opened s w sac } in
+    let n : Next = record { reply = reply.Opened (s.serial + 1); state = with_new_client s w sac } in
     unless_memory s (take 3 (open_tests s w m)) (is_at point.Once m) n n (inr refl)
 points_only_refuse s (step.Alloc w id frames limit) m =
     let client = client_of w id s.clients in

@@ -11,7 +11,7 @@ use Rattle.iova_model.specs.declared.step.Step.TheVariants as step
 use Rattle.iova_model.specs.declared.step.Reply.{Reply}
 use Rattle.iova_model.specs.declared.step.Reply.TheVariants as reply
 use Rattle.iova_model.specs.declared.step.Point.{Point}
-use Rattle.iova_model.specs.Clients.{Client, client_of, begins_at, changed, marked, new_client, with_holding, without_holding}
+use Rattle.iova_model.specs.Clients.{Client, client_of, begins_at, change_client, with_mark, new_client, with_holding, without_holding}
 use Rattle.iova_model.specs.State.{State}
 use Rattle.iova_model.specs.Next
 use Rattle.iova_model.specs.Effects.{IsReplyTo, ended_well, to_queue, client_named, held_in, held_by}
@@ -74,12 +74,12 @@ others_keep s (gives w other frames limit c r caches own still_open) id unnamed 
 others_keep s (unmaps w other lo c r known own still_open found) id unnamed =
     ap held_in (found-changed_other id other (without_holding r.lo) s.clients (λ x. refl) (λ same. unnamed (ap (λ i. Some i) same)))
 others_keep s (closes w other c own) id unnamed =
-    ap held_in (found-changed_other id other marked s.clients (λ x. refl) (λ same. unnamed (ap (λ i. Some i) same)))
+    ap held_in (found-changed_other id other with_mark s.clients (λ x. refl) (λ same. unnamed (ap (λ i. Some i) same)))
 others_keep s (queues_lowest w other c r rs known own lowest) id unnamed =
     let apart : other ≢ id = λ same. unnamed (ap (λ i. Some i) same) in
-    ap held_in (found-changed_other id other (without_holding r.lo) (changed other marked s.clients) (λ x. refl) apart ∙ found-changed_other id other marked s.clients (λ x. refl) apart)
+    ap held_in (found-changed_other id other (without_holding r.lo) (change_client other with_mark s.clients) (λ x. refl) apart ∙ found-changed_other id other with_mark s.clients (λ x. refl) apart)
 others_keep s (only_marks w other c own) id unnamed =
-    ap held_in (found-changed_other id other marked s.clients (λ x. refl) (λ same. unnamed (ap (λ i. Some i) same)))
+    ap held_in (found-changed_other id other with_mark s.clients (λ x. refl) (λ same. unnamed (ap (λ i. Some i) same)))
 others_keep s (forgets w other c own empty) id unnamed =
     ap held_in (found-forgotten_other id other s.clients (λ same. unnamed (ap (λ i. Some i) same)))
 others_keep s o id unnamed = refl
@@ -96,7 +96,7 @@ module _ (s : State) where
   if_worker : (st : Step) (w : ℕ) (n : Next.Next) → IsReplyTo st (reply.Refused refusal.NoWorker) → InKind st n → InKind st (Next.unless (Next.worker_tests s w) s n)
   if_worker st w n none comes = unless_each (InKind st) s (Next.worker_tests s w) n ((λ e. none), λ e. tt) (λ all. comes)
 
-  given_kind : (found : Next.Found) (u : State) (w id frames limit size : ℕ) → InKind (step.Alloc w id frames limit) (Next.given found u id size)
+  given_kind : (found : Next.Found) (u : State) (w id frames limit size : ℕ) → InKind (step.Alloc w id frames limit) (Next.give found u id size)
   given_kind Next.Nowhere u w id frames limit size = inr (inr (inr (inr (inr (inr (inr (inl refl)))))))
   given_kind Next.OutOfMemory u w id frames limit size = inr (inr (inr (inr (inr (inr (inl refl))))))
   given_kind (Next.At lo) u w id frames limit size = tt
@@ -105,14 +105,14 @@ module _ (s : State) where
   alloc_to_kind None w id frames limit m = inr (inr (inr (inl refl)))
   alloc_to_kind (Some c) w id frames limit m =
       let size = need frames in
-      unless_each (InKind (step.Alloc w id frames limit)) s (Next.ledger_tests c m) (Next.given_from (Next.walk s w c.sac size limit m) id size)
+      unless_each (InKind (step.Alloc w id frames limit)) s (Next.ledger_tests c m) (Next.give_from (Next.walk s w c.sac size limit m) id size)
       ((λ e. inr (inr (inr (inr (inl refl))))), λ e. ((λ e. inr (inr (inr (inr (inr (inl refl)))))), λ e. ((λ e. inr (inr (inr (inr (inr (inr (inl refl))))))), λ e. tt)))
       (λ all. let t = Next.walk s w c.sac size limit m in given_kind t.found t.state w id frames limit size)
 
   queue_kind : (st : Step) (u : State) (w id : ℕ) (r : Frames) → IsReplyTo st (reply.Refused refusal.RingFull) → IsReplyTo st (reply.Queued r) → InKind st (Next.queue u w id r)
   queue_kind st u w id r full queued =
-      let d = Next.drained u w w in
-      let n : Next.Next = record { reply = reply.Queued r; state = Next.queued d w id r } in
+      let d = Next.after_drain u w w in
+      let n : Next.Next = record { reply = reply.Queued r; state = Next.with_entry d w id r } in
       unless_each (InKind st) u (Next.full_tests d w) n ((λ e. full), λ e. tt) (λ all. queued)
 
   unmap_held_kind : (held : Option Frames) (w id lo : ℕ) (holdings : List Frames) → find (begins_at lo) holdings ≡ held → InKind (step.Unmap w id lo) (Next.unmap_held held s w id)
@@ -131,7 +131,7 @@ module _ (s : State) where
 
   close_lowest_kind : (rs : List Frames) (w id : ℕ) → InKind (step.CloseOne w id) (Next.close_lowest rs s w id)
   close_lowest_kind [] w id = tt
-  close_lowest_kind (r ∷ rs) w id = queue_kind (step.CloseOne w id) (Next.with_clients s (changed id marked s.clients)) w id r (inr (inr (inl refl))) tt
+  close_lowest_kind (r ∷ rs) w id = queue_kind (step.CloseOne w id) (Next.with_clients s (change_client id with_mark s.clients)) w id r (inr (inr (inl refl))) tt
 
   close_one_of_kind : (o : Option Client) (w id : ℕ) → InKind (step.CloseOne w id) (Next.close_one_of o s w id)
   close_one_of_kind None w id = inr (inl refl)
@@ -139,10 +139,10 @@ module _ (s : State) where
 
 in_kind : (s : State) (st : Step) (m : Point) → InKind st (Next.next s st m)
 in_kind s (step.Reserve lo hi) m =
-    unless_each (InKind (step.Reserve lo hi)) s (Next.reserve_tests s lo hi m) (Next.reserved s (Next.from_to lo hi))
+    unless_each (InKind (step.Reserve lo hi)) s (Next.reserve_tests s lo hi m) (Next.reserve_window s (Next.from_to lo hi))
     ((λ e. inl refl), λ e. ((λ e. inr (inl refl)), λ e. ((λ e. inr (inr (inl refl))), λ e. ((λ e. inr (inr (inr (inl refl)))), λ e. tt)))) (λ all. tt)
 in_kind s (step.Open w sac) m =
-    let n : Next.Next = record { reply = reply.Opened (s.serial + 1); state = Next.opened s w sac } in
+    let n : Next.Next = record { reply = reply.Opened (s.serial + 1); state = Next.with_new_client s w sac } in
     unless_each (InKind (step.Open w sac)) s (Next.open_tests s w m) n
     ((λ e. inl refl), λ e. ((λ e. inr (inl refl)), λ e. ((λ e. inr (inr (inl refl))), λ e. ((λ e. inr (inr (inr (inl refl)))), λ e. tt)))) (λ all. tt)
 in_kind s (step.Alloc w id frames limit) m =

@@ -12,11 +12,11 @@ use Rattle.iova_range.specs.Bounds.{Extent}
 use Rattle.iova_model.specs.declared.step.Step.{Step}
 use Rattle.iova_model.specs.declared.step.Step.TheVariants as step
 use Rattle.iova_model.specs.Fit.{IsBest}
-use Rattle.iova_model.specs.Caches.{Caches, emptied}
+use Rattle.iova_model.specs.Caches.{Caches, without_entries}
 use Rattle.iova_model.specs.Clients.{Client}
 use Rattle.iova_model.specs.State.{State, Holder, holders, held_ranges}
 use Rattle.iova_model.specs.Valid.{is_inside, is_aligned, IsValid}
-use Rattle.iova_model.specs.Next.{Next, refused, Found, At, Nowhere, OutOfMemory, with_caches, best_place, given, given_from}
+use Rattle.iova_model.specs.Next.{Next, refuse_step, Found, At, Nowhere, OutOfMemory, with_caches, best_place, give, give_from}
 use Rattle.iova_model.specs.Effects.{IsAnswerTo, AnswersRequest}
 use Rattle.iova_model.specs.Laws.{RequestsAreAnswered}
 use Rattle.iova_model.proofs.Placing.{AreSome, fits-Fits, best-is_best}
@@ -70,14 +70,14 @@ IsAnswered s (step.Alloc w id frames limit) n = AnswersRequest s frames limit n.
 IsAnswered s st n = Unit {0}
 
 -- no test refuses for want of space
-refused_answered : (s : State) (st : Step) (r : Refusal) → is_no_space r ≡ false → IsAnswered s st (refused r s)
+refused_answered : (s : State) (st : Step) (r : Refusal) → is_no_space r ≡ false → IsAnswered s st (refuse_step r s)
 refused_answered s (step.Alloc w id frames limit) refusal.NoSpace other = absurd cc
 refused_answered s st r other = tt
 
 module _ (s : State) (valid : IsValid s) (w id frames limit : ℕ) (c : Client) (own : AreThere s w id c) (may : MayAlloc frames c) where
   -- what a walk comes to is answered, where it leaves emptied caches if it finds nothing
-  found_answered : (found : Found) (left : Caches) → AreOwn s left → WalkOutcome s true (need frames) limit found left → (found ≡ Nowhere → left ≡ emptied s.caches)
-      → AnswersRequest s frames limit (given found (with_caches s left) id (need frames)).reply
+  found_answered : (found : Found) (left : Caches) → AreOwn s left → WalkOutcome s true (need frames) limit found left → (found ≡ Nowhere → left ≡ without_entries s.caches)
+      → AnswersRequest s frames limit (give found (with_caches s left) id (need frames)).reply
   found_answered (At lo) left whole (inl was) nowhere = cached_suits s left frames limit lo valid was
   found_answered (At lo) left whole (inr free) nowhere = free_suits s left frames limit lo free.1
   found_answered OutOfMemory left whole outcome nowhere = tt
@@ -95,7 +95,7 @@ cases s valid = record {
   on_open = λ w sac may. tt;
   on_alloc = λ w id frames limit m c own may.
       let size = need frames in
-      walk_cases s w size own.worker c.sac limit m (λ t. (t.found ≡ Nowhere → t.state.caches ≡ emptied s.caches) → AnswersRequest s frames limit (given_from t id size).reply) valid.caches
+      walk_cases s w size own.worker c.sac limit m (λ t. (t.found ≡ Nowhere → t.state.caches ≡ without_entries s.caches) → AnswersRequest s frames limit (give_from t id size).reply) valid.caches
       (found_answered s valid w id frames limit c own may) (walk_walked s w c.sac size limit m).nowhere;
   on_unmap = λ w id lo c r own held room. tt;
   on_begin = λ may. tt;

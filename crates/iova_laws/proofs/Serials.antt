@@ -1,7 +1,7 @@
 -- Serials that rise, so that each is one client's.
 use Rattle.std.proofs.Common.{ℕ, ◌≡◌, ◌+◌, ◌≤◌, List, [], ◌∷◌, ◌++◌, Some, None, refl, arith}
 use Rattle.std.proofs.lemmas.Bool.Decides.{nat_tests}
-use Rattle.iova_model.specs.Clients.{Client, client_with, changed, forgotten}
+use Rattle.iova_model.specs.Clients.{Client, client_with, change_client, without_client}
 use Rattle.iova_model.specs.Valid.{SerialsRise}
 
 -- a change that leaves the serial
@@ -24,12 +24,12 @@ serials-push low [] last new is rise = (omega arith, omega arith)
 serials-push low (c ∷ cs) last new is rise = (rise.0, serials-push c.id cs last new is rise.1)
 
 -- a change leaves them
-pub serials-changed : (low id : ℕ) (change : Client → Client) (clients : List Client) (last : ℕ) → KeepsSerial change → SerialsRise low clients last → SerialsRise low (changed id change clients) last
+pub serials-changed : (low id : ℕ) (change : Client → Client) (clients : List Client) (last : ℕ) → KeepsSerial change → SerialsRise low clients last → SerialsRise low (change_client id change clients) last
 serials-changed low id change [] last keeps rise = rise
 serials-changed low id change (x ∷ cs) last keeps rise = grind (arith, nat_tests, serials-changed x.id id change cs last keeps rise.1, keeps x)
 
 -- and so they do where a client goes
-pub serials-forgotten : (low id : ℕ) (clients : List Client) (last : ℕ) → SerialsRise low clients last → SerialsRise low (forgotten id clients) last
+pub serials-forgotten : (low id : ℕ) (clients : List Client) (last : ℕ) → SerialsRise low clients last → SerialsRise low (without_client id clients) last
 serials-forgotten low id [] last rise = rise
 serials-forgotten low id (x ∷ cs) last rise = grind (arith, nat_tests, serials-forgotten x.id id cs last rise.1, serials_from x.id low cs last)
 
@@ -39,7 +39,7 @@ none_below id low [] last rise le = refl
 none_below id low (x ∷ cs) last rise le = grind (arith, nat_tests, none_below id x.id cs last rise.1)
 
 -- a client that is forgotten is gone
-pub forgotten_is_gone : (id low : ℕ) (clients : List Client) (last : ℕ) → SerialsRise low clients last → client_with id (forgotten id clients) ≡ None
+pub forgotten_is_gone : (id low : ℕ) (clients : List Client) (last : ℕ) → SerialsRise low clients last → client_with id (without_client id clients) ≡ None
 forgotten_is_gone id low [] last rise = refl
 forgotten_is_gone id low (x ∷ cs) last rise = grind (arith, nat_tests, forgotten_is_gone id x.id cs last rise.1, none_below id x.id cs last rise.1)
 

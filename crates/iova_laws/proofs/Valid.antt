@@ -7,11 +7,11 @@ use Rattle.iova_range.specs.Frames.{Frames, meets}
 use Rattle.iova_range.specs.Sizes.{need}
 use Rattle.iova_model.specs.declared.entry.Entry.{Entry}
 use Rattle.iova_model.specs.Caches.{Caches}
-use Rattle.iova_model.specs.Flushes.{Flushes, AreSound, begun, ended, entry_range, flushed, unflushed, is_in_flight}
-use Rattle.iova_model.specs.Clients.{Client, client_with, changed, forgotten, marked, begins_at, with_holding, without_holding, insert_rising}
+use Rattle.iova_model.specs.Flushes.{Flushes, AreSound, with_flight, after_end, entry_range, flushed_front, unflushed_rest, is_in_flight}
+use Rattle.iova_model.specs.Clients.{Client, client_with, change_client, without_client, with_mark, begins_at, with_holding, without_holding, insert_rising}
 use Rattle.iova_model.specs.State.{State, new_domain}
 use Rattle.iova_model.specs.Valid.{is_inside, IsRequestSized, AreClients, IsRing, IsValid}
-use Rattle.iova_model.specs.Next.{Found, At, Nowhere, OutOfMemory, next, with_clients, with_caches, with_flushes, with_windows, opened, union, windows_with, from_to, given, given_from, ring_at, drained, queued}
+use Rattle.iova_model.specs.Next.{Found, At, Nowhere, OutOfMemory, next, with_clients, with_caches, with_flushes, with_windows, with_new_client, union, windows_with, from_to, give, give_from, ring_at, after_drain, with_entry}
 use Rattle.iova_model.specs.Transcript.{Pair, after}
 use Rattle.iova_model.specs.Effects.{freed_by_drain, cached_ranges}
 use Rattle.iova_model.specs.Laws.{NewDomainsAreValid, StepsKeepValidity, TranscriptsKeepValidity}
@@ -89,7 +89,7 @@ reserved_valid s lo hi h may =
 -- Clients.
 
 -- a new client
-open_valid : (s : State) (w : ℕ) (sac : Bool) → IsValid s → MayOpen s w → IsValid (opened s w sac)
+open_valid : (s : State) (w : ℕ) (sac : Bool) → IsValid s → MayOpen s w → IsValid (with_new_client s w sac)
 open_valid s w sac h may = record {
   bounds = h.bounds;
   some_worker = h.some_worker;
@@ -100,28 +100,28 @@ open_valid s w sac h may = record {
   each_ring = h.each_ring;
   rings = h.rings;
   flushes = h.flushes;
-  one_place = one_place (opened s w sac) (moved_in_order s (opened s w sac) [] (opened_moved s w sac) (in_order s h.one_place));
+  one_place = one_place (with_new_client s w sac) (moved_in_order s (with_new_client s w sac) [] (opened_moved s w sac) (in_order s h.one_place));
 }
 
 -- a client that is marked closing
 pub with_marked_valid : (s : State) (id : ℕ) (c : Client) → IsValid s → client_with id s.clients ≡ Some c → IsValid (with_marked s id)
 with_marked_valid s id c h found =
-    let cs = changed id marked s.clients in
+    let cs = change_client id with_mark s.clients in
     let own = found_valid s.workers id c s.clients s.serial found h.clients in
-    with_clients_valid s cs h (changed_valid id marked (λ x. refl) s.workers c s.clients s.serial found (marked_valid s.workers c own) h.clients) (moved_in_order s (with_marked s id) [] (marked_moved s id) (in_order s h.one_place))
+    with_clients_valid s cs h (changed_valid id with_mark (λ x. refl) s.workers c s.clients s.serial found (marked_valid s.workers c own) h.clients) (moved_in_order s (with_marked s id) [] (marked_moved s id) (in_order s h.one_place))
 
 -- a client with nothing goes
-pub without_client_valid : (s : State) (id : ℕ) (c : Client) → IsValid s → client_with id s.clients ≡ Some c → c.holdings ≡ [] → IsValid (with_clients s (forgotten id s.clients))
+pub without_client_valid : (s : State) (id : ℕ) (c : Client) → IsValid s → client_with id s.clients ≡ Some c → c.holdings ≡ [] → IsValid (with_clients s (without_client id s.clients))
 without_client_valid s id c h found none =
-    let cs = forgotten id s.clients in
+    let cs = without_client id s.clients in
     with_clients_valid s cs h (forgotten_valid s.workers id s.clients s.serial h.clients) (moved_in_order s (with_clients s cs) [] (forgotten_moved s id c found none) (in_order s h.one_place))
 
 -- Requests.
 
 -- a client is given a range, and the state is in order
-given_valid : (s : State) (id : ℕ) (c : Client) (r : Frames) → IsValid s → client_with id s.clients ≡ Some c → length c.holdings < 4096 → r.len ≤ 1048576 → InOrder (with_clients s (changed id (with_holding r) s.clients)) → IsValid (with_clients s (changed id (with_holding r) s.clients))
+given_valid : (s : State) (id : ℕ) (c : Client) (r : Frames) → IsValid s → client_with id s.clients ≡ Some c → length c.holdings < 4096 → r.len ≤ 1048576 → InOrder (with_clients s (change_client id (with_holding r) s.clients)) → IsValid (with_clients s (change_client id (with_holding r) s.clients))
 given_valid s id c r h found room sized order =
-    let cs = changed id (with_holding r) s.clients in
+    let cs = change_client id (with_holding r) s.clients in
     let found' = changed_found id (with_holding r) c s.clients found refl in
     let le : (weigh : Frames → ℕ) → weight.ranges weigh (insert_rising r c.holdings) ≤ weight.clients weigh cs = λ weigh. weight.holdings_le weigh id (with_holding r c) cs found' in
     let outside = lacks (is_inside s.bounds) in
@@ -135,20 +135,20 @@ left_valid s c freed h own moved =
     with_caches_valid s c h own (moved_in_order s (with_caches s c) freed moved (in_order s h.one_place))
 
 -- what a request comes to
-pub answered_valid : (s : State) (id size limit : ℕ) (x : Client) → IsValid s → 1 ≤ size → size ≤ 1048576 → length x.holdings < 4096 → client_with id s.clients ≡ Some x → (found : Found) (c : Caches) → AreOwn s c → WalkOutcome s true size limit found c → IsValid (given found (with_caches s c) id size).state
+pub answered_valid : (s : State) (id size limit : ℕ) (x : Client) → IsValid s → 1 ≤ size → size ≤ 1048576 → length x.holdings < 4096 → client_with id s.clients ≡ Some x → (found : Found) (c : Caches) → AreOwn s c → WalkOutcome s true size limit found c → IsValid (give found (with_caches s c) id size).state
 answered_valid s id size limit x h some few room is Nowhere c own none = left_valid s c (cached_ranges s.caches) h own (emptied_moved s c none.0)
 answered_valid s id size limit x h some few room is OutOfMemory c own may =
     let free = may_moved s c may in left_valid s c free.freed h own free.moved
 answered_valid s id size limit x h some few room is (At lo) c own (inl was) =
     let r : Frames = record { lo = lo; len = size } in
     let t = with_caches s c in
-    let u = with_clients t (changed id (with_holding r) s.clients) in
+    let u = with_clients t (change_client id (with_holding r) s.clients) in
     let moved : IsMoved s t [] (r ∷ []) = record { windows = refl; bounds = refl; balance = λ weigh. omega (arith, was.left weigh) } in
     given_valid t id x r (left_valid s c (r ∷ []) h own moved) is room few (moved_in_order s u [] (left_moved s c id x r was.left is) (in_order s h.one_place))
 answered_valid s id size limit x h some few room is (At lo) c own (inr fresh) =
     let r : Frames = record { lo = lo; len = size } in
     let t = with_caches s c in
-    let u = with_clients t (changed id (with_holding r) s.clients) in
+    let u = with_clients t (change_client id (with_holding r) s.clients) in
     let free = may_moved s c fresh.0 in
     let h' = left_valid s c free.freed h own free.moved in
     let may = fit_may_add t size fresh.1.used lo some fresh.1.fits in
@@ -157,7 +157,7 @@ answered_valid s id size limit x h some few room is (At lo) c own (inr fresh) =
 -- Rings.
 
 -- a ring is drained into the magazines of a worker
-pub drained_valid : (s : State) (q w : ℕ) → IsValid s → q < s.workers → w < s.workers → IsValid (drained s q w)
+pub drained_valid : (s : State) (q w : ℕ) → IsValid s → q < s.workers → w < s.workers → IsValid (after_drain s q w)
 drained_valid s q w h below-q below-w =
     let ring = ring_at s q in
     let here : q < length s.rings = omega (arith, h.each_ring) in
@@ -168,11 +168,11 @@ drained_valid s q w h below-q below-w =
       few_workers = h.few_workers;
       windows = h.windows;
       clients = h.clients;
-      caches = put_all_valid s.bounds.profile s.workers s.caches w (map entry_range (flushed s.flushes.finish ring)) (magazine_takes s.bounds.profile h.bounds.profile) below-w h.caches;
-      each_ring = length-set s.rings q (unflushed s.flushes.finish ring) ∙ h.each_ring;
-      rings = all-set (IsRing s.flushes.start) s.rings q (unflushed s.flushes.finish ring) (unflushed_valid s.flushes.start s.flushes.finish ring old) h.rings;
+      caches = put_all_valid s.bounds.profile s.workers s.caches w (map entry_range (flushed_front s.flushes.finish ring)) (magazine_takes s.bounds.profile h.bounds.profile) below-w h.caches;
+      each_ring = length-set s.rings q (unflushed_rest s.flushes.finish ring) ∙ h.each_ring;
+      rings = all-set (IsRing s.flushes.start) s.rings q (unflushed_rest s.flushes.finish ring) (unflushed_valid s.flushes.start s.flushes.finish ring old) h.rings;
       flushes = h.flushes;
-      one_place = one_place (drained s q w) (moved_in_order s (drained s q w) (freed_by_drain s q w) (drained_moved s q w (shape_of s h) below-q below-w) (in_order s h.one_place));
+      one_place = one_place (after_drain s q w) (moved_in_order s (after_drain s q w) (freed_by_drain s q w) (drained_moved s q w (shape_of s h) below-q below-w) (in_order s h.one_place));
     }
 
 -- a holding is inside
@@ -183,9 +183,9 @@ held_inside s id c r h found held =
     none_lacks (is_inside s.bounds) r (omega (arith, order.inside, weight.holdings_le outside id c s.clients found, weight.ranges-remove outside r.lo r c.holdings held))
 
 -- a holding goes last into a ring
-queued_valid : (s : State) (w id : ℕ) (c : Client) (r : Frames) → IsValid s → w < s.workers → client_with id s.clients ≡ Some c → find (begins_at r.lo) c.holdings ≡ Some r → length (ring_at s w) < 255 → IsValid (queued s w id r)
+queued_valid : (s : State) (w id : ℕ) (c : Client) (r : Frames) → IsValid s → w < s.workers → client_with id s.clients ≡ Some c → find (begins_at r.lo) c.holdings ≡ Some r → length (ring_at s w) < 255 → IsValid (with_entry s w id r)
 queued_valid s w id c r h below found held room =
-    let t = queued s w id r in
+    let t = with_entry s w id r in
     let e : Entry = record { lo = r.lo; len = r.len; count = s.flushes.start } in
     let ring = ring_at s w in
     let here : w < length s.rings = omega (arith, h.each_ring) in
@@ -225,21 +225,21 @@ flushes_valid s f h rings sound = record {
 }
 
 -- a flush begins
-pub begun_valid : (s : State) → IsValid s → MayBegin s → IsValid (with_flushes s (begun s.flushes))
+pub begun_valid : (s : State) → IsValid s → MayBegin s → IsValid (with_flushes s (with_flight s.flushes))
 begun_valid s h may =
-    flushes_valid s (begun s.flushes) h (all-weaker (IsRing s.flushes.start) (IsRing (s.flushes.start + 1)) s.rings (later_ring s.flushes.start) h.rings) (begins_keep_flushes_sound s.flushes h.flushes may.room may.worn)
+    flushes_valid s (with_flight s.flushes) h (all-weaker (IsRing s.flushes.start) (IsRing (s.flushes.start + 1)) s.rings (later_ring s.flushes.start) h.rings) (begins_keep_flushes_sound s.flushes h.flushes may.room may.worn)
 
 -- a flush ends
-pub ended_valid : (s : State) (n : ℕ) (ok : Bool) → IsValid s → is_in_flight n s.flushes.in_flight ≡ true → IsValid (with_flushes s (ended s.flushes n ok))
-ended_valid s n true h flies = flushes_valid s (ended s.flushes n true) h h.rings (ends_keep_flushes_sound s.flushes n true h.flushes flies)
-ended_valid s n false h flies = flushes_valid s (ended s.flushes n false) h h.rings (ends_keep_flushes_sound s.flushes n false h.flushes flies)
+pub ended_valid : (s : State) (n : ℕ) (ok : Bool) → IsValid s → is_in_flight n s.flushes.in_flight ≡ true → IsValid (with_flushes s (after_end s.flushes n ok))
+ended_valid s n true h flies = flushes_valid s (after_end s.flushes n true) h h.rings (ends_keep_flushes_sound s.flushes n true h.flushes flies)
+ended_valid s n false h flies = flushes_valid s (after_end s.flushes n false) h h.rings (ends_keep_flushes_sound s.flushes n false h.flushes flies)
 
 -- The whole.
 
 -- a worker's ring is drained and takes a holding
-pub unmapped_valid : (s : State) (w id : ℕ) (c : Client) (r : Frames) → IsValid s → w < s.workers → client_with id s.clients ≡ Some c → find (begins_at r.lo) c.holdings ≡ Some r → HasRingRoom s w → IsValid (queued (drained s w w) w id r)
+pub unmapped_valid : (s : State) (w id : ℕ) (c : Client) (r : Frames) → IsValid s → w < s.workers → client_with id s.clients ≡ Some c → find (begins_at r.lo) c.holdings ≡ Some r → HasRingRoom s w → IsValid (with_entry (after_drain s w w) w id r)
 unmapped_valid s w id c r h below found held room =
-    queued_valid (drained s w w) w id c r (drained_valid s w w h below below) below found held room
+    queued_valid (after_drain s w w) w id c r (drained_valid s w w h below below) below found held room
 
 -- each case leaves a valid state
 cases : (s : State) → IsValid s → Cases s (λ st n. IsValid n.state)
@@ -249,7 +249,7 @@ cases s h = record {
   on_open = λ w sac may. open_valid s w sac h may;
   on_alloc = λ w id frames limit m c own may.
       let size = need frames in
-      walk_cases s w size own.worker c.sac limit m (λ t. IsValid (given_from t id size).state) h.caches (answered_valid s id size limit c h (need_ge frames may.some) (need_le frames may.some may.few) may.room own.found);
+      walk_cases s w size own.worker c.sac limit m (λ t. IsValid (give_from t id size).state) h.caches (answered_valid s id size limit c h (need_ge frames may.some) (need_le frames may.some may.few) may.room own.found);
   on_unmap = λ w id lo c r own held room.
       unmapped_valid s w id c r h own.worker own.found (held_at lo r c.holdings held) room;
   on_begin = λ may. begun_valid s h may;
@@ -259,8 +259,8 @@ cases s h = record {
   on_close_last = λ w id c own none. without_client_valid s id c h own.found none;
   on_close_full = λ w id c r own. with_marked_valid s id c h own.found;
   on_close_one = λ w id c r rs own is room.
-      let found : client_with id (with_marked s id).clients ≡ Some (marked c) = changed_found id marked c s.clients own.found refl in
-      unmapped_valid (with_marked s id) w id (marked c) r (with_marked_valid s id c h own.found) own.worker found (ap (find (begins_at r.lo)) is ∙ first_held r rs) room;
+      let found : client_with id (with_marked s id).clients ≡ Some (with_mark c) = changed_found id with_mark c s.clients own.found refl in
+      unmapped_valid (with_marked s id) w id (with_mark c) r (with_marked_valid s id c h own.found) own.worker found (ap (find (begins_at r.lo)) is ∙ first_held r rs) room;
 }
 
 -- so every step does

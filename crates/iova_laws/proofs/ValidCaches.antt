@@ -8,7 +8,7 @@ use Rattle.std.proofs.lemmas.List.{length-map, length-replicate}
 use Rattle.iova_range.specs.Frames.{Frames}
 use Rattle.iova_range.specs.Sizes.{order_of}
 use Rattle.iova_range.specs.Bounds.{Capacities, IsProfile}
-use Rattle.iova_model.specs.Caches.{Cache, Caches, Shelf, is_empty, last_or, front, no_magazines, new_caches, shelf_at, with_shelf, reloaded, fitting, popped, get, with_room, put, put_range, put_all, emptied}
+use Rattle.iova_model.specs.Caches.{Cache, Caches, Shelf, is_empty, last_or, front, no_magazines, new_caches, shelf_at, with_shelf, reload, fitting, pop_entry, get, with_room, put, put_range, put_all, without_entries}
 use Rattle.iova_model.specs.Valid.{IsCache, AreWorkerCaches, IsDepotList, IsDepot, AreCaches}
 use Rattle.iova_laws.proofs.ValidLists.{all-at, all-set, all-push, all-take, all-replicate, all-map}
 
@@ -86,7 +86,7 @@ module _ (p : Capacities) where
       (all-at (IsDepotList p) (x ∷ xs) (length (x ∷ xs) - 1) [] (omega arith) h.each).room
 
   -- the moves before a get
-  reloaded_valid : (s : Shelf) → IsShelf s → IsShelf (reloaded s)
+  reloaded_valid : (s : Shelf) → IsShelf s → IsShelf (reload s)
   reloaded_valid s h =
       let turned : Shelf = record { loaded = s.previous; previous = s.loaded; depot = s.depot } in
       let refilled : Shelf = record { loaded = last_or [] s.depot; previous = []; depot = front s.depot } in
@@ -97,7 +97,7 @@ module _ (p : Capacities) where
       (λ f. record { loaded = last_fits s.depot h.depot; previous = omega arith; depot = front_valid s.depot h.depot }))
 
   -- an entry leaves
-  popped_valid : (s : Shelf) (x : Option ℕ) → IsShelf s → IsShelf (popped s x).1
+  popped_valid : (s : Shelf) (x : Option ℕ) → IsShelf s → IsShelf (pop_entry s x).1
   popped_valid s None h = h
   popped_valid s (Some i) h =
       let n = length s.loaded - 1 in
@@ -111,7 +111,7 @@ module _ (p : Capacities) where
   -- a get keeps the limits
   pub get_valid : (s : Shelf) (limit size : ℕ) → IsShelf s → IsShelf (get s limit size).1
   get_valid s limit size h =
-      popped_valid (reloaded s) (fitting (reloaded s).loaded limit size) (reloaded_valid s h)
+      popped_valid (reload s) (fitting (reload s).loaded limit size) (reloaded_valid s h)
 
   -- A put.
 
@@ -198,7 +198,7 @@ module _ (p : Capacities) where
   )
 
   -- and emptied caches
-  pub emptied_valid : (n : ℕ) (c : Caches) → AreCaches p n c → AreCaches p n (emptied c)
+  pub emptied_valid : (n : ℕ) (c : Caches) → AreCaches p n c → AreCaches p n (without_entries c)
   emptied_valid n c h = record {
     each_worker = length-map c.workers _ ∙ h.each_worker;
     magazines = emptied_workers c.workers h.magazines;

@@ -12,10 +12,10 @@ use Rattle.iova_model.specs.declared.step.Step.{Step}
 use Rattle.iova_model.specs.declared.step.Step.TheVariants as step
 use Rattle.iova_model.specs.declared.step.Reply.TheVariants as reply
 use Rattle.iova_model.specs.declared.step.Point.{Point}
-use Rattle.iova_model.specs.Flushes.{is_in_flight, begun, ended, flushed}
-use Rattle.iova_model.specs.Clients.{Client, client_with, client_of, changed, forgotten, marked, begins_at}
+use Rattle.iova_model.specs.Flushes.{is_in_flight, with_flight, after_end, flushed_front}
+use Rattle.iova_model.specs.Clients.{Client, client_with, client_of, change_client, without_client, with_mark, begins_at}
 use Rattle.iova_model.specs.State.{State}
-use Rattle.iova_model.specs.Next.{Next, refused, unless, with_clients, with_flushes, from_to, is_taken, windows_with, reserved, opened, given_from, walk, ring_at, drained, queued, worker_tests, reserve_tests, open_tests, alloc_tests, ledger_tests, drain_tests, full_tests, closing_tests, begin_tests, end_tests, alloc_to, unmap_of, unmap_held, close_of, close_one_of, close_lowest, reserve, open_client, alloc, unmap, begin, end, drain, close, close_one, next}
+use Rattle.iova_model.specs.Next.{Next, refuse_step, unless, with_clients, with_flushes, from_to, is_taken, windows_with, reserve_window, with_new_client, give_from, walk, ring_at, after_drain, with_entry, worker_tests, reserve_tests, open_tests, alloc_tests, ledger_tests, drain_tests, full_tests, closing_tests, begin_tests, end_tests, alloc_to, unmap_of, unmap_held, close_of, close_one_of, close_lowest, reserve, open_client, alloc, unmap, begin, end, drain, close, close_one, next}
 use Rattle.iova_model.proofs.Unless.{AllFail, unless_cases}
 use Rattle.iova_laws.proofs.Tests.{EachRefusal, unless_each}
 use Rattle.iova_laws.proofs.Outcomes.{owned}
@@ -52,11 +52,11 @@ pub record MayBegin (s : State) : Type 0 where
 
 -- the worker's ring has room, once it is drained
 abbrev pub HasRingRoom : State → ℕ → Type 0
-HasRingRoom s w = length (ring_at (drained s w w) w) < 255
+HasRingRoom s w = length (ring_at (after_drain s w w) w) < 255
 
 -- the state with the client marked closing
 abbrev pub with_marked : State → ℕ → State
-with_marked s id = with_clients s (changed id marked s.clients)
+with_marked s id = with_clients s (change_client id with_mark s.clients)
 
 -- there is no space: the walk of a request alone refuses so, and no test does
 abbrev pub is_no_space : Refusal → Bool
@@ -65,18 +65,18 @@ is_no_space r = false
 
 -- what a law has to show of each step
 pub record Cases (s : State) (P : Step → Next → Type 0) : Type 0 where
-  pub on_refused : (st : Step) (r : Refusal) → is_no_space r ≡ false → P st (refused r s)
-  pub on_reserve : (lo hi : ℕ) → MayReserve s lo hi → P (step.Reserve lo hi) (reserved s (from_to lo hi))
-  pub on_open : (w : ℕ) (sac : Bool) → MayOpen s w → P (step.Open w sac) (record { reply = reply.Opened (s.serial + 1); state = opened s w sac })
-  pub on_alloc : (w id frames limit : ℕ) (m : Point) (c : Client) → AreThere s w id c → MayAlloc frames c → P (step.Alloc w id frames limit) (given_from (walk s w c.sac (need frames) limit m) id (need frames))
-  pub on_unmap : (w id lo : ℕ) (c : Client) (r : Frames) → AreThere s w id c → find (begins_at lo) c.holdings ≡ Some r → HasRingRoom s w → P (step.Unmap w id lo) (record { reply = reply.Queued r; state = queued (drained s w w) w id r })
-  pub on_begin : MayBegin s → P step.Begin (record { reply = reply.Begun (s.flushes.start + 1); state = with_flushes s (begun s.flushes) })
-  pub on_end : (n : ℕ) (ok : Bool) → is_in_flight n s.flushes.in_flight ≡ true → P (step.End n ok) (record { reply = reply.Ended; state = with_flushes s (ended s.flushes n ok) })
-  pub on_drain : (q w : ℕ) → q < s.workers → w < s.workers → P (step.Drain q w) (record { reply = reply.Drained (length (flushed s.flushes.finish (ring_at s q))); state = drained s q w })
+  pub on_refused : (st : Step) (r : Refusal) → is_no_space r ≡ false → P st (refuse_step r s)
+  pub on_reserve : (lo hi : ℕ) → MayReserve s lo hi → P (step.Reserve lo hi) (reserve_window s (from_to lo hi))
+  pub on_open : (w : ℕ) (sac : Bool) → MayOpen s w → P (step.Open w sac) (record { reply = reply.Opened (s.serial + 1); state = with_new_client s w sac })
+  pub on_alloc : (w id frames limit : ℕ) (m : Point) (c : Client) → AreThere s w id c → MayAlloc frames c → P (step.Alloc w id frames limit) (give_from (walk s w c.sac (need frames) limit m) id (need frames))
+  pub on_unmap : (w id lo : ℕ) (c : Client) (r : Frames) → AreThere s w id c → find (begins_at lo) c.holdings ≡ Some r → HasRingRoom s w → P (step.Unmap w id lo) (record { reply = reply.Queued r; state = with_entry (after_drain s w w) w id r })
+  pub on_begin : MayBegin s → P step.Begin (record { reply = reply.Begun (s.flushes.start + 1); state = with_flushes s (with_flight s.flushes) })
+  pub on_end : (n : ℕ) (ok : Bool) → is_in_flight n s.flushes.in_flight ≡ true → P (step.End n ok) (record { reply = reply.Ended; state = with_flushes s (after_end s.flushes n ok) })
+  pub on_drain : (q w : ℕ) → q < s.workers → w < s.workers → P (step.Drain q w) (record { reply = reply.Drained (length (flushed_front s.flushes.finish (ring_at s q))); state = after_drain s q w })
   pub on_close : (w id : ℕ) (c : Client) → AreThere s w id c → P (step.Close w id) (record { reply = reply.Marked (length c.holdings); state = with_marked s id })
-  pub on_close_last : (w id : ℕ) (c : Client) → AreThere s w id c → c.holdings ≡ [] → P (step.CloseOne w id) (record { reply = reply.Empty; state = with_clients s (forgotten id s.clients) })
-  pub on_close_full : (w id : ℕ) (c : Client) (r : Refusal) → AreThere s w id c → P (step.CloseOne w id) (refused r (with_marked s id))
-  pub on_close_one : (w id : ℕ) (c : Client) (r : Frames) (rs : List Frames) → AreThere s w id c → c.holdings ≡ r ∷ rs → HasRingRoom (with_marked s id) w → P (step.CloseOne w id) (record { reply = reply.Queued r; state = queued (drained (with_marked s id) w w) w id r })
+  pub on_close_last : (w id : ℕ) (c : Client) → AreThere s w id c → c.holdings ≡ [] → P (step.CloseOne w id) (record { reply = reply.Empty; state = with_clients s (without_client id s.clients) })
+  pub on_close_full : (w id : ℕ) (c : Client) (r : Refusal) → AreThere s w id c → P (step.CloseOne w id) (refuse_step r (with_marked s id))
+  pub on_close_one : (w id : ℕ) (c : Client) (r : Frames) (rs : List Frames) → AreThere s w id c → c.holdings ≡ r ∷ rs → HasRingRoom (with_marked s id) w → P (step.CloseOne w id) (record { reply = reply.Queued r; state = with_entry (after_drain (with_marked s id) w w) w id r })
 
 -- a worker that passes its test, and a client that is found for it
 there_from : (s : State) (w id : ℕ) (c : Client) → AllFail (worker_tests s w) → client_of w id s.clients ≡ Some c → AreThere s w id c
@@ -100,7 +100,7 @@ module _ (s : State) (P : Step → Next → Type 0) (cases : Cases s P) where
   -- frames become a window
   reserve_case : (lo hi : ℕ) (m : Point) → P (step.Reserve lo hi) (reserve s lo hi m)
   reserve_case lo hi m =
-      tested (step.Reserve lo hi) (reserve_tests s lo hi m) (reserved s (from_to lo hi)) refl (λ all.
+      tested (step.Reserve lo hi) (reserve_tests s lo hi m) (reserve_window s (from_to lo hi)) refl (λ all.
       let above = or_parts (nat_lt hi lo || nat_lt lo s.bounds.start) (nat_lt s.bounds.last hi) all.0 in
       let below = or_parts (nat_lt hi lo) (nat_lt lo s.bounds.start) above.0 in
       cases.on_reserve lo hi (record {
@@ -136,7 +136,7 @@ module _ (s : State) (P : Step → Next → Type 0) (cases : Cases s P) where
       of_holding : (c : Client) → AreThere s w id c → (x : Option Frames) → find (begins_at lo) c.holdings ≡ x → P (step.Unmap w id lo) (unmap_held x s w id)
       of_holding c own None held = cases.on_refused (step.Unmap w id lo) refusal.NotHeld refl
       of_holding c own (Some r) held =
-          tested (step.Unmap w id lo) (full_tests (drained s w w) w) _ refl (λ all. cases.on_unmap w id lo c r own held (leb-false _ _ all.0))
+          tested (step.Unmap w id lo) (full_tests (after_drain s w w) w) _ refl (λ all. cases.on_unmap w id lo c r own held (leb-false _ _ all.0))
 
       of_client : AllFail (worker_tests s w) → (x : Option Client) → client_of w id s.clients ≡ x → P (step.Unmap w id lo) (unmap_of x s w id lo)
       of_client all None is = cases.on_refused (step.Unmap w id lo) refusal.NoClient refl
@@ -174,7 +174,7 @@ module _ (s : State) (P : Step → Next → Type 0) (cases : Cases s P) where
       of_holdings : (c : Client) → AreThere s w id c → (rs : List Frames) → c.holdings ≡ rs → P (step.CloseOne w id) (close_lowest rs s w id)
       of_holdings c own [] is = cases.on_close_last w id c own is
       of_holdings c own (r ∷ rs) is =
-          unless_cases (P (step.CloseOne w id)) (with_marked s id) (full_tests (drained (with_marked s id) w w) w) _ (λ r. cases.on_close_full w id c r own) (λ all. cases.on_close_one w id c r rs own is (leb-false _ _ all.0))
+          unless_cases (P (step.CloseOne w id)) (with_marked s id) (full_tests (after_drain (with_marked s id) w w) w) _ (λ r. cases.on_close_full w id c r own) (λ all. cases.on_close_one w id c r rs own is (leb-false _ _ all.0))
 
       of_client : AllFail (worker_tests s w) → (x : Option Client) → client_of w id s.clients ≡ x → P (step.CloseOne w id) (close_one_of x s w id)
       of_client all None is = cases.on_refused (step.CloseOne w id) refusal.NoClient refl

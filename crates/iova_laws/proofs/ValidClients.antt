@@ -2,7 +2,7 @@
 use Rattle.std.proofs.Common.{ℕ, ◌≡◌, ◌+◌, ◌-◌, ◌^◌, ◌<◌, ◌≤◌, Bool, true, false, List, [], ◌∷◌, ◌++◌, length, Some, refl, subst, arith, length-append}
 use Rattle.std.specs.List.{AllByRecursion}
 use Rattle.iova_range.specs.Frames.{Frames}
-use Rattle.iova_model.specs.Clients.{Client, new_client, has_id, client_with, changed, forgotten, with_holding, without_holding, marked}
+use Rattle.iova_model.specs.Clients.{Client, new_client, has_id, client_with, change_client, without_client, with_holding, without_holding, with_mark}
 use Rattle.iova_model.specs.Valid.{IsRequestSized, IsClient, AreClients}
 use Rattle.iova_laws.proofs.Weight as weight
 use Rattle.iova_laws.proofs.Serials.{KeepsSerial, serials-push, serials-changed, serials-forgotten}
@@ -26,21 +26,21 @@ opened_valid workers cs serial w sac below worn room h =
 
 module _ (id : ℕ) (change : Client → Client) (keeps : KeepsSerial change) where
   -- there are as many clients
-  length-changed : (cs : List Client) → length (changed id change cs) ≡ length cs
+  length-changed : (cs : List Client) → length (change_client id change cs) ≡ length cs
   length-changed [] = refl
   length-changed (c ∷ cs) = changed_step (length-changed cs) (has_id id c) refl
     where
-      changed_step : length (changed id change cs) ≡ length cs → (b : Bool) → has_id id c ≡ b → length (changed id change (c ∷ cs)) ≡ length (c ∷ cs)
+      changed_step : length (change_client id change cs) ≡ length cs → (b : Bool) → has_id id c ≡ b → length (change_client id change (c ∷ cs)) ≡ length (c ∷ cs)
       changed_step more true is = rw is refl
       changed_step more false is = rw is (omega arith)
 
   -- what holds of all and of the changed one holds of all again
-  all-changed : (P : Client → Type 0) (c : Client) (cs : List Client) → client_with id cs ≡ Some c → P (change c) → AllByRecursion P cs → AllByRecursion P (changed id change cs)
+  all-changed : (P : Client → Type 0) (c : Client) (cs : List Client) → client_with id cs ≡ Some c → P (change c) → AllByRecursion P cs → AllByRecursion P (change_client id change cs)
   all-changed P c [] found here all = tt
   all-changed P c (x ∷ cs) found here all =
       changed_step (λ e. all-changed P c cs e here all.1) (has_id id x) refl
     where
-      changed_step : (client_with id cs ≡ Some c → AllByRecursion P (changed id change cs)) → (b : Bool) → has_id id x ≡ b → AllByRecursion P (changed id change (x ∷ cs))
+      changed_step : (client_with id cs ≡ Some c → AllByRecursion P (change_client id change cs)) → (b : Bool) → has_id id x ≡ b → AllByRecursion P (change_client id change (x ∷ cs))
       changed_step more true is =
           let found' = rw is at found in
           let same : c ≡ x = cc (found') in
@@ -48,7 +48,7 @@ module _ (id : ℕ) (change : Client → Client) (keeps : KeepsSerial change) wh
       changed_step more false is = rw is (all.0, more (rw is at found))
 
   -- the clients with a change to the one that is found
-  pub changed_valid : (workers : ℕ) (c : Client) (cs : List Client) (serial : ℕ) → client_with id cs ≡ Some c → IsClient workers (change c) → AreClients workers cs serial → AreClients workers (changed id change cs) serial
+  pub changed_valid : (workers : ℕ) (c : Client) (cs : List Client) (serial : ℕ) → client_with id cs ≡ Some c → IsClient workers (change c) → AreClients workers cs serial → AreClients workers (change_client id change cs) serial
   changed_valid workers c cs serial found here h = record {
     room = omega (arith, length-changed cs, h.room);
     serials = serials-changed 0 id change cs serial keeps h.serials;
@@ -61,7 +61,7 @@ pub found_valid : (workers id : ℕ) (c : Client) (cs : List Client) (serial : �
 found_valid workers id c cs serial found h = all_found (IsClient workers) (has_id id) cs c found h.each
 
 -- a client marked closing
-pub marked_valid : (workers : ℕ) (c : Client) → IsClient workers c → IsClient workers (marked c)
+pub marked_valid : (workers : ℕ) (c : Client) → IsClient workers c → IsClient workers (with_mark c)
 marked_valid workers c h = record { worker = h.worker; room = h.room; rising = h.rising; sized = h.sized }
 
 -- a client with one more range, which begins where none of its own does
@@ -85,25 +85,25 @@ without_holding_valid workers c lo h = record {
 -- A client goes.
 
 -- there are no more clients
-length_forgotten_le : (id : ℕ) (cs : List Client) → length (forgotten id cs) ≤ length cs
+length_forgotten_le : (id : ℕ) (cs : List Client) → length (without_client id cs) ≤ length cs
 length_forgotten_le id [] = omega arith
 length_forgotten_le id (c ∷ cs) = forgotten_step (length_forgotten_le id cs) (has_id id c) refl
   where
-    forgotten_step : length (forgotten id cs) ≤ length cs → (b : Bool) → has_id id c ≡ b → length (forgotten id (c ∷ cs)) ≤ length (c ∷ cs)
+    forgotten_step : length (without_client id cs) ≤ length cs → (b : Bool) → has_id id c ≡ b → length (without_client id (c ∷ cs)) ≤ length (c ∷ cs)
     forgotten_step more true is = rw is (omega arith)
     forgotten_step more false is = rw is (omega arith)
 
 -- what held of all holds of the others
-all-forgotten : (P : Client → Type 0) (id : ℕ) (cs : List Client) → AllByRecursion P cs → AllByRecursion P (forgotten id cs)
+all-forgotten : (P : Client → Type 0) (id : ℕ) (cs : List Client) → AllByRecursion P cs → AllByRecursion P (without_client id cs)
 all-forgotten P id [] all = tt
 all-forgotten P id (c ∷ cs) all = forgotten_step (all-forgotten P id cs all.1) (has_id id c) refl
   where
-    forgotten_step : AllByRecursion P (forgotten id cs) → (b : Bool) → has_id id c ≡ b → AllByRecursion P (forgotten id (c ∷ cs))
+    forgotten_step : AllByRecursion P (without_client id cs) → (b : Bool) → has_id id c ≡ b → AllByRecursion P (without_client id (c ∷ cs))
     forgotten_step more true is = rw is all.1
     forgotten_step more false is = rw is (all.0, more)
 
 -- the clients without one
-pub forgotten_valid : (workers id : ℕ) (cs : List Client) (serial : ℕ) → AreClients workers cs serial → AreClients workers (forgotten id cs) serial
+pub forgotten_valid : (workers id : ℕ) (cs : List Client) (serial : ℕ) → AreClients workers cs serial → AreClients workers (without_client id cs) serial
 forgotten_valid workers id cs serial h = record {
   room = omega (arith, length_forgotten_le id cs, h.room);
   serials = serials-forgotten 0 id cs serial h.serials;

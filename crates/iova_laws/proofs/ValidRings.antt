@@ -3,7 +3,7 @@ use Rattle.std.proofs.Common.{ℕ, ◌≡◌, ◌+◌, ◌<◌, ◌≤◌, Bool,
 use Rattle.std.specs.Prelude.{nat_lt}
 use Rattle.std.specs.List.{AllByRecursion}
 use Rattle.iova_model.specs.declared.entry.Entry.{Entry}
-use Rattle.iova_model.specs.Flushes.{unflushed, CountsRise}
+use Rattle.iova_model.specs.Flushes.{unflushed_rest, CountsRise}
 use Rattle.iova_model.specs.Valid.{IsRequestSizedEntry, IsRing}
 use Rattle.iova_laws.proofs.ValidLists.{all-push}
 
@@ -24,35 +24,35 @@ later_ring start es h = record { room = h.room; rising = counts_to 0 es start (s
 -- A drain.
 
 -- the counts that stay don't fall
-counts-unflushed : (finish low : ℕ) (es : List Entry) (top : ℕ) → CountsRise low es top → CountsRise low (unflushed finish es) top
+counts-unflushed : (finish low : ℕ) (es : List Entry) (top : ℕ) → CountsRise low es top → CountsRise low (unflushed_rest finish es) top
 counts-unflushed finish low [] top h = h
 counts-unflushed finish low (e ∷ es) top h =
     unflushed_step (counts-unflushed finish e.count es top h.1) (nat_lt e.count finish) refl
   where
-    unflushed_step : CountsRise e.count (unflushed finish es) top → (b : Bool) → nat_lt e.count finish ≡ b → CountsRise low (unflushed finish (e ∷ es)) top
-    unflushed_step more true is = rw is (counts_from low e.count (unflushed finish es) top (omega (arith, h.0)) more)
+    unflushed_step : CountsRise e.count (unflushed_rest finish es) top → (b : Bool) → nat_lt e.count finish ≡ b → CountsRise low (unflushed_rest finish (e ∷ es)) top
+    unflushed_step more true is = rw is (counts_from low e.count (unflushed_rest finish es) top (omega (arith, h.0)) more)
     unflushed_step more false is = rw is h
 
 -- there are no more entries
-length_unflushed_le : (finish : ℕ) (es : List Entry) → length (unflushed finish es) ≤ length es
+length_unflushed_le : (finish : ℕ) (es : List Entry) → length (unflushed_rest finish es) ≤ length es
 length_unflushed_le finish [] = omega arith
 length_unflushed_le finish (e ∷ es) = unflushed_step (length_unflushed_le finish es) (nat_lt e.count finish) refl
   where
-    unflushed_step : length (unflushed finish es) ≤ length es → (b : Bool) → nat_lt e.count finish ≡ b → length (unflushed finish (e ∷ es)) ≤ length (e ∷ es)
+    unflushed_step : length (unflushed_rest finish es) ≤ length es → (b : Bool) → nat_lt e.count finish ≡ b → length (unflushed_rest finish (e ∷ es)) ≤ length (e ∷ es)
     unflushed_step more true is = rw is (omega arith)
     unflushed_step more false is = rw is (omega arith)
 
 -- what held of all holds of those that stay
-all-unflushed : (P : Entry → Type 0) (finish : ℕ) (es : List Entry) → AllByRecursion P es → AllByRecursion P (unflushed finish es)
+all-unflushed : (P : Entry → Type 0) (finish : ℕ) (es : List Entry) → AllByRecursion P es → AllByRecursion P (unflushed_rest finish es)
 all-unflushed P finish [] all = tt
 all-unflushed P finish (e ∷ es) all = unflushed_step (all-unflushed P finish es all.1) (nat_lt e.count finish) refl
   where
-    unflushed_step : AllByRecursion P (unflushed finish es) → (b : Bool) → nat_lt e.count finish ≡ b → AllByRecursion P (unflushed finish (e ∷ es))
+    unflushed_step : AllByRecursion P (unflushed_rest finish es) → (b : Bool) → nat_lt e.count finish ≡ b → AllByRecursion P (unflushed_rest finish (e ∷ es))
     unflushed_step more true is = rw is more
     unflushed_step more false is = rw is all
 
 -- a ring after a drain
-pub unflushed_valid : (start finish : ℕ) (es : List Entry) → IsRing start es → IsRing start (unflushed finish es)
+pub unflushed_valid : (start finish : ℕ) (es : List Entry) → IsRing start es → IsRing start (unflushed_rest finish es)
 unflushed_valid start finish es h = record {
   room = omega (arith, length_unflushed_le finish es, h.room);
   rising = counts-unflushed finish 0 es start h.rising;

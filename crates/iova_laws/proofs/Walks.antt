@@ -7,12 +7,12 @@ use Rattle.std.proofs.lemmas.Bool.{cond_both}
 use Rattle.iova_range.specs.Sizes.{order_of}
 use Rattle.iova_model.specs.declared.step.Point.{Point}
 use Rattle.iova_model.specs.declared.step.Point.TheVariants as point
-use Rattle.iova_model.specs.Caches.{Cache, Caches, Shelf, no_magazines, shelf_at, with_shelf, get, emptied}
+use Rattle.iova_model.specs.Caches.{Cache, Caches, Shelf, no_magazines, shelf_at, with_shelf, get, without_entries}
 use Rattle.iova_model.specs.State.{State}
 use Rattle.iova_model.specs.Next
 
 -- whatever a shelf is, the emptied caches are the same
-emptied-with_shelf : (c : Caches) (w o : ℕ) (s : Shelf) → emptied (with_shelf c w o s) ≡ emptied c
+emptied-with_shelf : (c : Caches) (w o : ℕ) (s : Shelf) → without_entries (with_shelf c w o s) ≡ without_entries c
 emptied-with_shelf c w o s =
     let none : Cache → Cache = λ x. no_magazines in
     let row = slice_index_or c.workers w [] in
@@ -27,12 +27,12 @@ emptied-with_shelf c w o s =
 -- All but the caches is as it was, and they are emptied alike.
 record IsRecached (s t : State) : Type 0 where
   is : t ≡ Next.with_caches s t.caches
-  emptied : emptied t.caches ≡ emptied s.caches
+  emptied : without_entries t.caches ≡ without_entries s.caches
 
 -- what a try that found nothing leaves of the caches
 abbrev pub LeftBy : Bool → Caches → Caches → Type 0
-LeftBy true old new = new ≡ emptied old
-LeftBy false old new = emptied new ≡ emptied old
+LeftBy true old new = new ≡ without_entries old
+LeftBy false old new = without_entries new ≡ without_entries old
 
 -- what a try leaves
 pub record IsWalked (s : State) (emptying : Bool) (t : Next.Tried) : Type 0 where
@@ -44,7 +44,7 @@ recached_self : (s : State) → IsRecached s s
 recached_self s = record { is = refl; emptied = refl }
 
 -- the tree is asked again, with all caches emptied
-again_walked : (s t : State) (place : Option ℕ) (no_memory : Bool) → t ≡ Next.with_caches s (emptied s.caches) → IsWalked s true (Next.from_tree t place no_memory)
+again_walked : (s t : State) (place : Option ℕ) (no_memory : Bool) → t ≡ Next.with_caches s (without_entries s.caches) → IsWalked s true (Next.from_tree t place no_memory)
 again_walked s t None no_memory e = record { is = e ∙ ap (λ x. Next.with_caches s x.caches) (sym e); nowhere = λ n. ap (λ x. x.caches) e }
 again_walked s t (Some lo) no_memory e = record { is = e ∙ ap (λ x. Next.with_caches s x.caches) (sym e); nowhere = λ n. ap (λ x. x.caches) e }
 
@@ -52,8 +52,8 @@ again_walked s t (Some lo) no_memory e = record { is = e ∙ ap (λ x. Next.with
 tree_walked : (s t : State) (size limit : ℕ) (place : Option ℕ) (emptying no_memory no_memory_last : Bool) → IsRecached s t
     → (let x = Next.from_tree t place no_memory in IsWalked s emptying (Next.or_emptied x.found x.state size limit emptying no_memory_last))
 tree_walked s t size limit None true no_memory no_memory_last h =
-    let u = Next.with_caches t (emptied t.caches) in
-    let same : u ≡ Next.with_caches s (emptied s.caches) = ap (λ x. Next.with_caches x (emptied t.caches)) h.is ∙ ap (λ c. Next.with_caches s c) h.emptied in
+    let u = Next.with_caches t (without_entries t.caches) in
+    let same : u ≡ Next.with_caches s (without_entries s.caches) = ap (λ x. Next.with_caches x (without_entries t.caches)) h.is ∙ ap (λ c. Next.with_caches s c) h.emptied in
     again_walked s u (Next.best_place u size limit) no_memory_last same
 tree_walked s t size limit None false no_memory no_memory_last h = record { is = h.is; nowhere = λ n. h.emptied }
 tree_walked s t size limit (Some lo) emptying true no_memory_last h = record { is = h.is; nowhere = λ n. absurd cc }
@@ -79,7 +79,7 @@ try_walked s w size limit emptying here m =
 second_walked : (s : State) (found : Next.Found) (t : State) (w size limit : ℕ) (m : Point) → IsWalked s false (record { found = found; state = t }) → IsWalked s true (Next.or_second found t w size limit m)
 second_walked s Next.Nowhere t w size limit m h =
     let x = try_walked t w size limit true point.Second m in
-    let same : emptied t.caches ≡ emptied s.caches = h.nowhere refl in
+    let same : without_entries t.caches ≡ without_entries s.caches = h.nowhere refl in
     record {
       is = x.is ∙ ap (λ u. Next.with_caches u (Next.try t w size limit true point.Second m).state.caches) h.is;
       nowhere = λ n. x.nowhere n ∙ same;

@@ -6,8 +6,8 @@ use Rattle.std.proofs.lemmas.List.Recursion.{is_sum_by}
 use Rattle.iova_range.specs.Frames.{Frames}
 use Rattle.iova_model.specs.declared.entry.Entry.{Entry}
 use Rattle.iova_model.specs.Caches.{Cache, Caches, Shelf, no_magazines, of_order}
-use Rattle.iova_model.specs.Flushes.{entry_range, flushed, unflushed}
-use Rattle.iova_model.specs.Clients.{Client, has_id, client_with, changed, forgotten, marked, insert_rising, begins_at, remove_at}
+use Rattle.iova_model.specs.Flushes.{entry_range, flushed_front, unflushed_rest}
+use Rattle.iova_model.specs.Clients.{Client, has_id, client_with, change_client, without_client, with_mark, insert_rising, begins_at, remove_at}
 
 module _ (weigh : Frames → ℕ) where
   -- ranges
@@ -196,11 +196,11 @@ module _ (weigh : Frames → ℕ) where
   entries-append (x ∷ xs) ys = omega (arith, entries-append xs ys)
 
   -- what a drain leaves, and what it takes out
-  pub entries-unflushed : (finish : ℕ) (es : List Entry) → entries (unflushed finish es) + ranges (map entry_range (flushed finish es)) ≡ entries es
+  pub entries-unflushed : (finish : ℕ) (es : List Entry) → entries (unflushed_rest finish es) + ranges (map entry_range (flushed_front finish es)) ≡ entries es
   entries-unflushed finish [] = refl
   entries-unflushed finish (e ∷ es) = flushed_step (entries-unflushed finish es) (nat_lt e.count finish) refl
     where
-      flushed_step : entries (unflushed finish es) + ranges (map entry_range (flushed finish es)) ≡ entries es → (b : Bool) → nat_lt e.count finish ≡ b → entries (unflushed finish (e ∷ es)) + ranges (map entry_range (flushed finish (e ∷ es))) ≡ entries (e ∷ es)
+      flushed_step : entries (unflushed_rest finish es) + ranges (map entry_range (flushed_front finish es)) ≡ entries es → (b : Bool) → nat_lt e.count finish ≡ b → entries (unflushed_rest finish (e ∷ es)) + ranges (map entry_range (flushed_front finish (e ∷ es))) ≡ entries (e ∷ es)
       flushed_step more true is = rw is (omega arith)
       flushed_step more false is = rw is (omega arith)
 
@@ -212,11 +212,11 @@ module _ (weigh : Frames → ℕ) where
   clients-append (x ∷ xs) ys = omega (arith, clients-append xs ys)
 
   -- a change to the client that is found
-  pub clients-changed : (id : ℕ) (change : Client → Client) (c : Client) (cs : List Client) → client_with id cs ≡ Some c → clients (changed id change cs) + ranges c.holdings ≡ clients cs + ranges (change c).holdings
+  pub clients-changed : (id : ℕ) (change : Client → Client) (c : Client) (cs : List Client) → client_with id cs ≡ Some c → clients (change_client id change cs) + ranges c.holdings ≡ clients cs + ranges (change c).holdings
   clients-changed id change c [] found = absurd cc
   clients-changed id change c (x ∷ cs) found = changed_step (λ e. clients-changed id change c cs e) (has_id id x) refl
     where
-      changed_step : (client_with id cs ≡ Some c → clients (changed id change cs) + ranges c.holdings ≡ clients cs + ranges (change c).holdings) → (b : Bool) → has_id id x ≡ b → clients (changed id change (x ∷ cs)) + ranges c.holdings ≡ clients (x ∷ cs) + ranges (change c).holdings
+      changed_step : (client_with id cs ≡ Some c → clients (change_client id change cs) + ranges c.holdings ≡ clients cs + ranges (change c).holdings) → (b : Bool) → has_id id x ≡ b → clients (change_client id change (x ∷ cs)) + ranges c.holdings ≡ clients (x ∷ cs) + ranges (change c).holdings
       changed_step more true is =
           let found' = rw is at found in
           let same : x ≡ c = cc (found') in
@@ -224,17 +224,17 @@ module _ (weigh : Frames → ℕ) where
       changed_step more false is = rw is (omega (arith, more (rw is at found)))
 
   -- a mark changes no holdings
-  pub clients-marked : (id : ℕ) (cs : List Client) → clients (changed id marked cs) ≡ clients cs
+  pub clients-marked : (id : ℕ) (cs : List Client) → clients (change_client id with_mark cs) ≡ clients cs
   clients-marked id [] = refl
   clients-marked id (c ∷ cs) =
-      cond_both (has_id id c) (marked c ∷ cs) (c ∷ changed id marked cs) (λ l. clients l ≡ clients (c ∷ cs)) (λ e. refl) (λ e. omega (arith, clients-marked id cs))
+      cond_both (has_id id c) (with_mark c ∷ cs) (c ∷ change_client id with_mark cs) (λ l. clients l ≡ clients (c ∷ cs)) (λ e. refl) (λ e. omega (arith, clients-marked id cs))
 
   -- the client that is found goes
-  pub clients-forgotten : (id : ℕ) (c : Client) (cs : List Client) → client_with id cs ≡ Some c → clients (forgotten id cs) + ranges c.holdings ≡ clients cs
+  pub clients-forgotten : (id : ℕ) (c : Client) (cs : List Client) → client_with id cs ≡ Some c → clients (without_client id cs) + ranges c.holdings ≡ clients cs
   clients-forgotten id c [] found = absurd cc
   clients-forgotten id c (x ∷ cs) found = forgotten_step (λ e. clients-forgotten id c cs e) (has_id id x) refl
     where
-      forgotten_step : (client_with id cs ≡ Some c → clients (forgotten id cs) + ranges c.holdings ≡ clients cs) → (b : Bool) → has_id id x ≡ b → clients (forgotten id (x ∷ cs)) + ranges c.holdings ≡ clients (x ∷ cs)
+      forgotten_step : (client_with id cs ≡ Some c → clients (without_client id cs) + ranges c.holdings ≡ clients cs) → (b : Bool) → has_id id x ≡ b → clients (without_client id (x ∷ cs)) + ranges c.holdings ≡ clients (x ∷ cs)
       forgotten_step more true is =
           let found' = rw is at found in
           let same : x ≡ c = cc (found') in

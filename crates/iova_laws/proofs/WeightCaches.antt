@@ -5,7 +5,7 @@ use Rattle.std.proofs.lemmas.Bool.{cond_both}
 use Rattle.iova_range.specs.Frames.{Frames}
 use Rattle.iova_range.specs.Sizes.{order_of}
 use Rattle.iova_range.specs.Bounds.{Capacities}
-use Rattle.iova_model.specs.Caches.{Cache, Caches, Shelf, no_magazines, is_empty, last_or, front, shelf_at, with_shelf, reloaded, fitting, popped, get, with_room, put, sent_out, put_range, put_all, freed_by_put, freed_by_puts, emptied}
+use Rattle.iova_model.specs.Caches.{Cache, Caches, Shelf, no_magazines, is_empty, last_or, front, shelf_at, with_shelf, reload, fitting, pop_entry, get, with_room, put, sent_out, put_range, put_all, freed_by_put, freed_by_puts, without_entries}
 use Rattle.iova_model.specs.Valid.{AreCaches}
 use Rattle.iova_model.proofs.Placing.{greatest_some}
 use Rattle.iova_laws.proofs.Weight as weight
@@ -35,7 +35,7 @@ module _ (weigh : Frames → ℕ) where
   -- Gets.
 
   -- the moves before a get
-  shelf-reloaded : (o : ℕ) (s : Shelf) → weight.shelf weigh o (reloaded s) ≡ weight.shelf weigh o s
+  shelf-reloaded : (o : ℕ) (s : Shelf) → weight.shelf weigh o (reload s) ≡ weight.shelf weigh o s
   shelf-reloaded o s =
       let turned : Shelf = record { loaded = s.previous; previous = s.loaded; depot = s.depot } in
       let refilled : Shelf = record { loaded = last_or [] s.depot; previous = []; depot = front s.depot } in
@@ -52,20 +52,20 @@ module _ (weigh : Frames → ℕ) where
   Pops o s (Some lo) t = weight.shelf weigh o t + weigh (record { lo = lo; len = 2 ^ o }) ≡ weight.shelf weigh o s
 
   -- an entry leaves, or none
-  popped_pops : (o : ℕ) (s : Shelf) (limit size : ℕ) (x : Option ℕ) → fitting s.loaded limit size ≡ x → Pops o s (popped s x).0 (popped s x).1
+  popped_pops : (o : ℕ) (s : Shelf) (limit size : ℕ) (x : Option ℕ) → fitting s.loaded limit size ≡ x → Pops o s (pop_entry s x).0 (pop_entry s x).1
   popped_pops o s limit size None is = refl
   popped_pops o s limit size (Some i) is =
       omega (arith, weight.firsts-swap_remove weigh o i s.loaded (greatest_some _ (length s.loaded) i is).below)
 
   -- the moves before it change no weight
-  pops_reloaded : (o : ℕ) (s : Shelf) (x : Option ℕ) (t : Shelf) → Pops o (reloaded s) x t → Pops o s x t
+  pops_reloaded : (o : ℕ) (s : Shelf) (x : Option ℕ) (t : Shelf) → Pops o (reload s) x t → Pops o s x t
   pops_reloaded o s None t h = omega (arith, h, shelf-reloaded o s)
   pops_reloaded o s (Some lo) t h = omega (arith, h, shelf-reloaded o s)
 
   -- so a get takes what it gives
   pub get_pops : (o : ℕ) (s : Shelf) (limit size : ℕ) → Pops o s (get s limit size).0 (get s limit size).1
   get_pops o s limit size =
-      pops_reloaded o s _ _ (popped_pops o (reloaded s) limit size (fitting (reloaded s).loaded limit size) refl)
+      pops_reloaded o s _ _ (popped_pops o (reload s) limit size (fitting (reload s).loaded limit size) refl)
 
   -- Puts.
 
@@ -99,5 +99,5 @@ module _ (weigh : Frames → ℕ) where
       omega (arith, cached-put_all p n c' w rs takes h' below, cached-put_range p n c w r (order_of r.len) refl h below, weight.ranges-append weigh (freed_by_put p c w r (order_of r.len)) (freed_by_puts p c' w rs))
 
   -- emptied caches have nothing
-  pub cached-emptied : (c : Caches) → weight.cached weigh (emptied c) ≡ 0
+  pub cached-emptied : (c : Caches) → weight.cached weigh (without_entries c) ≡ 0
   cached-emptied c = omega (arith, weight.magazines_none weigh c.workers, weight.depots_none weigh 0 c.depots)

@@ -12,7 +12,7 @@ ghost use Rattle.iova_keep.specs.Steps.{Takes, IsGivenWithin, IsDrainReply};
 ghost use Rattle.iova_keep.specs.StepLogs.{StepLog, IsRecorded, is_recording, new_log};
 ghost use Rattle.iova_keep.specs.Events.{Does, Unmapping, IsShort, Closing, Draining, rings_from};
 ghost use Rattle.iova_lock.specs.Books.{BookState, IsSame, ReadsNewer, by_seat, by_tally, new_book, steps_in, IsBook};
-ghost use Rattle.iova_keep.specs.Views.{AreBlanksOf, TallyState, SeatState, Covers, IsWorker, new_seats, seats_in_turn, left_of, stat_of, IsLowered, IsCloseHeard, IsKept};
+ghost use Rattle.iova_keep.specs.Views.{AreBlanksOf, TallyState, SeatState, Covers, IsWorker, new_seats, seats_in_turn, left_of, stat_of, IsLowered, IsCloseHeard, IsKept, MovesSharesAlone};
 
 use iova_core::domain::Domain;
 use iova_core::{ClientId, Reply, Step};
@@ -446,7 +446,7 @@ impl<C: Ledger, F: Ledger, S: Ledger, G: Ledger> Book<C, F, S, G> {
         ensures kind { (result ≡ Reply.Refused Refusal.NotHeld) ⊎ IsReplyTo step result }
         ensures known { result ≢ Reply.Refused Refusal.NoWorker }
         ensures seat { MovesTotals result seat.old.held seat.new.held }
-        ensures rest { (seat.new.worker ≡ seat.old.worker) × (seat.new.tally ≡ seat.old.tally) }
+        ensures rest { MovesSharesAlone seat.old seat.new }
     {
         if !self.covers_step(seat, step) {
             return Reply::Refused(Refusal::NotHeld);
@@ -488,7 +488,7 @@ impl<C: Ledger, F: Ledger, S: Ledger, G: Ledger> Book<C, F, S, G> {
         ensures shares { (ranges : List Frames) × IsLowered ranges seat.old.held seat.new.held }
         ensures heard { IsCloseHeard (Some result) }
         ensures same { IsSame self.old self.new }
-        ensures rest { (seat.new.worker ≡ seat.old.worker) × (seat.new.tally ≡ seat.old.tally) }
+        ensures rest { MovesSharesAlone seat.old seat.new }
     {
         let worker = seat.worker();
         let last = 'queue: loop {
@@ -563,7 +563,7 @@ impl<C: Ledger, F: Ledger, S: Ledger, G: Ledger> Book<C, F, S, G> {
         ensures known { result ≢ Reply.Refused Refusal.NoWorker }
         ensures given { IsGivenWithin step result }
         ensures seat { MovesTotals result seat.old.held seat.new.held }
-        ensures rest { (seat.new.worker ≡ seat.old.worker) × (seat.new.tally ≡ seat.old.tally) }
+        ensures rest { MovesSharesAlone seat.old seat.new }
     {
         // for the proof: it is one of the domain's
         let _worker = seat.worker();

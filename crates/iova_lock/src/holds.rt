@@ -76,9 +76,7 @@ fn flush_follows(strict: bool, reply: &Reply) -> bool
 impl<C: Ledger, F: Ledger, S: Ledger, G: Ledger> Keep<C, F, S, G> for Book<C, F, S, G> {
     ghost domain = { λ b. Some b.state };
 
-    ghost domain_number = { λ b. b.number };
-
-    ghost strict = { λ b. b.strict };
+    ghost identity = { λ b. record { number = b.number; strict = b.strict } };
 
     ghost log = { λ b. b.log };
 

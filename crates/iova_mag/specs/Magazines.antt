@@ -1,7 +1,7 @@
 -- One magazine: a list of first frames, the newest last.
 use Rattle.std.specs.Prelude.{ℕ, ◌≤◌, ◌<◌, ◌^◌, List, [], length, Option, All}
 use Rattle.iova_range.specs.Bounds.{Capacities, IsProfile}
-use Rattle.iova_model.specs.Caches.{Shelf, fitting, popped}
+use Rattle.iova_model.specs.Caches.{Shelf, fitting, pop_entry}
 
 -- What a `Magazine` is seen as: its entries, and the profile that says how many of them it is full
 -- at
@@ -25,4 +25,4 @@ only entries = record { loaded = entries; previous = []; depot = [] }
 
 -- what a pop gives, and what it leaves
 abbrev pub pop : List ℕ → ℕ → ℕ → Option ℕ × Shelf
-pop entries limit size = popped (only entries) (fitting entries limit size)
+pop entries limit size = pop_entry (only entries) (fitting entries limit size)

@@ -72,14 +72,14 @@ abbrev pub HasRoom : Capacities → Cache → Type 0
 HasRoom p c = (length c.loaded < p.mag) ⊎ (length c.previous < p.mag)
 
 -- what a get finds in the two
-abbrev pub found : Option ℕ → Got
-found None = Miss
-found (Some lo) = Hit lo
+abbrev pub hit_or_miss : Option ℕ → Got
+hit_or_miss None = Miss
+hit_or_miss (Some lo) = Hit lo
 
-abbrev pub got : Cache → ℕ → ℕ → Got
-got c limit size =
+abbrev pub got_from : Cache → ℕ → ℕ → Got
+got_from c limit size =
     if is_empty c.loaded && is_empty c.previous then Empty
-    else found (get (shelf_of c) limit size).0
+    else hit_or_miss (get (shelf_of c) limit size).0
 
 -- loaded has an entry, and the newest one fits
 pub record GivesNewest (c : Cache) (limit size : ℕ) : Type 0 where

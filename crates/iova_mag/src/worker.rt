@@ -7,7 +7,7 @@ ghost use Rattle.iova_range.specs.Frames.{covers};
 ghost use Rattle.iova_model.specs.State.{cache_holders};
 ghost use Rattle.iova_model.specs.Valid.{IsCache};
 ghost use Rattle.iova_mag.specs.Magazines.{magazine_of};
-ghost use Rattle.iova_mag.specs.Workers.{IsWorkerCache, new_pair, new_worker, cache_of, with_cache, cache_after_get, cache_after_put, renewed_cache, has_frame, AreEmpty, AreFull, HasRoom, GivesNewest, got, newest, without_newest};
+ghost use Rattle.iova_mag.specs.Workers.{IsWorkerCache, new_pair, new_worker, cache_of, with_cache, cache_after_get, cache_after_put, renewed_cache, has_frame, AreEmpty, AreFull, HasRoom, GivesNewest, got_from, newest, without_newest};
 
 use crate::magazine::Magazine;
 use iova_range::limits::ORDERS;
@@ -67,7 +67,7 @@ impl Pair {
     #[inline(always)]
     fn try_get(&mut self, order: u8, limit: u64) -> Got
         requires { order < ORDERS }
-        ensures value { result ≡ got self.old.cache limit (2 ^ order) }
+        ensures value { result ≡ got_from self.old.cache limit (2 ^ order) }
         ensures left { self.new ≡ record self.old
             { cache = cache_after_get self.old.cache limit (2 ^ order) } }
         ensures empty { result ≡ Got.Empty → AreEmpty self.old.cache }
@@ -231,7 +231,7 @@ impl WorkerCache {
     #[inline(always)]
     pub fn try_get(&mut self, order: u8, limit: u64) -> Got
         requires { order < ORDERS }
-        ensures value { result ≡ got (cache_of self.old order) limit (2 ^ order) }
+        ensures value { result ≡ got_from (cache_of self.old order) limit (2 ^ order) }
         ensures left { self.new
             ≡ with_cache self.old order (cache_after_get (cache_of self.old order) limit
             (2 ^ order)) }

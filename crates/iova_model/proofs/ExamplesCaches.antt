@@ -2,7 +2,7 @@
 use Rattle.std.proofs.Common.{ℕ, zero, suc, ap, ◌≡◌, ◌++◌, List, [], ◌∷◌, Some, None, refl, arith}
 use Rattle.std.specs.Prelude.{replicate, slice_get}
 use Rattle.iova_range.specs.Bounds.{Capacities, first_profile, second_profile}
-use Rattle.iova_model.specs.Caches.{Cache, no_magazines, new_caches, get, put, sent_out, put_range, put_all, freed_by_puts, emptied, TakesOut, TakesOutOfDepot, TakesAny, Caches, cache_at, with_shelf}
+use Rattle.iova_model.specs.Caches.{Cache, no_magazines, new_caches, get, put, sent_out, put_range, put_all, freed_by_puts, without_entries, TakesOut, TakesOutOfDepot, TakesAny, Caches, cache_at, with_shelf}
 use Rattle.iova_model.proofs.ExampleWords.{at, shelf}
 
 -- Get and pop.
@@ -149,7 +149,7 @@ freed_where_sent_out :
 freed_where_sent_out = refl
 
 all_orders_are_emptied :
-    emptied (record { workers = fours (8 ∷ []) ∷ (record { loaded = 1 ∷ []; previous = 2 ∷ [] } ∷ []) ∷ []; depots = ((3 ∷ []) ∷ []) ∷ [] ∷ ((4 ∷ []) ∷ []) ∷ [] })
+    without_entries (record { workers = fours (8 ∷ []) ∷ (record { loaded = 1 ∷ []; previous = 2 ∷ [] } ∷ []) ∷ []; depots = ((3 ∷ []) ∷ []) ∷ [] ∷ ((4 ∷ []) ∷ []) ∷ [] })
     ≡ record { workers = replicate 6 no_magazines ∷ (no_magazines ∷ []) ∷ []; depots = [] ∷ [] ∷ [] ∷ [] }
 all_orders_are_emptied = refl
 

@@ -4,7 +4,7 @@ use Rattle.iova_range.specs.declared.refusal.Refusal.TheVariants.{NoFlight}
 use Rattle.iova_model.specs.declared.step.Step.TheVariants.{Unmap, Begin, End, Drain}
 use Rattle.iova_model.specs.declared.step.Reply.TheVariants.{Queued, Begun, Ended, Drained, Refused}
 use Rattle.iova_model.specs.declared.entry.Entry.{Entry}
-use Rattle.iova_model.specs.Flushes.{Flushes, flushes_from, begun, ended, flushed, unflushed}
+use Rattle.iova_model.specs.Flushes.{Flushes, flushes_from, with_flight, after_end, flushed_front, unflushed_rest}
 use Rattle.iova_model.proofs.ExampleWords.{replies, after, at, small, held, entry}
 
 new_numbers : flushes_from 5 ≡ record { start = 5; finish = 5; owed = 0; newest = 5; good = 0; in_flight = [] }
@@ -31,41 +31,41 @@ newer_then_failed : (after small (Begin ∷ Begin ∷ End 2 true ∷ End 1 false
 newer_then_failed = refl
 
 abbrev three : Flushes
-three = begun (begun (begun (flushes_from 0)))
+three = with_flight (with_flight (with_flight (flushes_from 0)))
 
 credits_begun : three ≡ record { start = 3; finish = 0; owed = 0; newest = 0; good = 0; in_flight = record { number = 1; credit = 1 } ∷ record { number = 2; credit = 1 } ∷ record { number = 3; credit = 1 } ∷ [] }
 credits_begun = refl
 
-credits_failed : ended three 2 false ≡ record { start = 3; finish = 0; owed = 0; newest = 0; good = 0; in_flight = record { number = 1; credit = 1 } ∷ record { number = 3; credit = 2 } ∷ [] }
+credits_failed : after_end three 2 false ≡ record { start = 3; finish = 0; owed = 0; newest = 0; good = 0; in_flight = record { number = 1; credit = 1 } ∷ record { number = 3; credit = 2 } ∷ [] }
 credits_failed = refl
 
-credits_well : ended (ended three 2 false) 3 true ≡ record { start = 3; finish = 2; owed = 0; newest = 3; good = 1; in_flight = record { number = 1; credit = 1 } ∷ [] }
+credits_well : after_end (after_end three 2 false) 3 true ≡ record { start = 3; finish = 2; owed = 0; newest = 3; good = 1; in_flight = record { number = 1; credit = 1 } ∷ [] }
 credits_well = refl
 
-credits_owed : ended (ended (ended three 2 false) 3 true) 1 false ≡ record { start = 3; finish = 2; owed = 1; newest = 3; good = 1; in_flight = [] }
+credits_owed : after_end (after_end (after_end three 2 false) 3 true) 1 false ≡ record { start = 3; finish = 2; owed = 1; newest = 3; good = 1; in_flight = [] }
 credits_owed = refl
 
-credits_passed_on : begun (ended (ended (ended three 2 false) 3 true) 1 false)
+credits_passed_on : with_flight (after_end (after_end (after_end three 2 false) 3 true) 1 false)
     ≡ record { start = 4; finish = 2; owed = 0; newest = 3; good = 1; in_flight = record { number = 4; credit = 2 } ∷ [] }
 credits_passed_on = refl
 
-credits_settled : ended (begun (ended (ended (ended three 2 false) 3 true) 1 false)) 4 true
+credits_settled : after_end (with_flight (after_end (after_end (after_end three 2 false) 3 true) 1 false)) 4 true
     ≡ record { start = 4; finish = 4; owed = 0; newest = 4; good = 2; in_flight = [] }
 credits_settled = refl
 
-oldest_fails : ended three 1 false ≡ record { start = 3; finish = 0; owed = 0; newest = 0; good = 0; in_flight = record { number = 2; credit = 2 } ∷ record { number = 3; credit = 1 } ∷ [] }
+oldest_fails : after_end three 1 false ≡ record { start = 3; finish = 0; owed = 0; newest = 0; good = 0; in_flight = record { number = 2; credit = 2 } ∷ record { number = 3; credit = 1 } ∷ [] }
 oldest_fails = refl
 
-newest_fails : ended three 3 false ≡ record { start = 3; finish = 0; owed = 1; newest = 0; good = 0; in_flight = record { number = 1; credit = 1 } ∷ record { number = 2; credit = 1 } ∷ [] }
+newest_fails : after_end three 3 false ≡ record { start = 3; finish = 0; owed = 1; newest = 0; good = 0; in_flight = record { number = 1; credit = 1 } ∷ record { number = 2; credit = 1 } ∷ [] }
 newest_fails = refl
 
-both_are_owed : ended (ended three 3 false) 2 false ≡ record { start = 3; finish = 0; owed = 2; newest = 0; good = 0; in_flight = record { number = 1; credit = 1 } ∷ [] }
+both_are_owed : after_end (after_end three 3 false) 2 false ≡ record { start = 3; finish = 0; owed = 2; newest = 0; good = 0; in_flight = record { number = 1; credit = 1 } ∷ [] }
 both_are_owed = refl
 
-older_ends_after_newer : ended (ended three 3 true) 1 true ≡ record { start = 3; finish = 2; owed = 0; newest = 3; good = 2; in_flight = record { number = 2; credit = 1 } ∷ [] }
+older_ends_after_newer : after_end (after_end three 3 true) 1 true ≡ record { start = 3; finish = 2; owed = 0; newest = 3; good = 2; in_flight = record { number = 2; credit = 1 } ∷ [] }
 older_ends_after_newer = refl
 
-owed_stays_at_a_good_end : ended (ended three 3 false) 1 true ≡ record { start = 3; finish = 1; owed = 1; newest = 1; good = 1; in_flight = record { number = 2; credit = 1 } ∷ [] }
+owed_stays_at_a_good_end : after_end (after_end three 3 false) 1 true ≡ record { start = 3; finish = 1; owed = 1; newest = 1; good = 1; in_flight = record { number = 2; credit = 1 } ∷ [] }
 owed_stays_at_a_good_end = refl
 
 ends_once : replies small (Begin ∷ Begin ∷ End 1 true ∷ End 1 true ∷ End 0 false ∷ End 3 true ∷ End 2 false ∷ End 2 false ∷ [])
@@ -77,17 +77,17 @@ ends_once = refl
 abbrev waiting : List Entry
 waiting = entry 10 1 0 ∷ entry 20 1 2 ∷ entry 30 1 1 ∷ []
 
-taken_at_0 : flushed 0 waiting ≡ []
+taken_at_0 : flushed_front 0 waiting ≡ []
 taken_at_0 = refl
 
-taken_at_2 : flushed 2 waiting ≡ entry 10 1 0 ∷ []
+taken_at_2 : flushed_front 2 waiting ≡ entry 10 1 0 ∷ []
 taken_at_2 = refl
 
-left_at_2 : unflushed 2 waiting ≡ entry 20 1 2 ∷ entry 30 1 1 ∷ []
+left_at_2 : unflushed_rest 2 waiting ≡ entry 20 1 2 ∷ entry 30 1 1 ∷ []
 left_at_2 = refl
 
-taken_at_3 : flushed 3 waiting ≡ waiting
+taken_at_3 : flushed_front 3 waiting ≡ waiting
 taken_at_3 = refl
 
-left_at_3 : unflushed 3 waiting ≡ []
+left_at_3 : unflushed_rest 3 waiting ≡ []
 left_at_3 = refl

@@ -10,7 +10,7 @@ use Rattle.iova_model.specs.declared.step.Point.TheVariants.{Never}
 use Rattle.iova_model.specs.declared.place.Place.TheVariants.{Free, Magazine, Depot, Ring}
 use Rattle.iova_model.specs.declared.place.Place.TheVariants as place
 use Rattle.iova_model.specs.Caches.{Cache, no_magazines, new_caches}
-use Rattle.iova_model.specs.Clients.{Client, marked, totals, share_of}
+use Rattle.iova_model.specs.Clients.{Client, with_mark, totals, share_of}
 use Rattle.iova_model.specs.State.{State, place_of, counts}
 use Rattle.iova_model.specs.Next.{next}
 use Rattle.iova_model.proofs.ExampleWords.{domain, at, client, closing_client, entry}
@@ -193,7 +193,7 @@ marks_alone = refl
 marks_again : next mixed (Close 1 2) Never ≡ record { reply = Marked 1; state = mixed }
 marks_again = refl
 
-a_mark_changes_nothing_else : marked third ≡ record { id = 3; worker = 2; sac = true; closing = true; holdings = [] }
+a_mark_changes_nothing_else : with_mark third ≡ record { id = 3; worker = 2; sac = true; closing = true; holdings = [] }
 a_mark_changes_nothing_else = refl
 
 closes_the_lowest : next mixed (CloseOne 0 1) Never ≡ record {

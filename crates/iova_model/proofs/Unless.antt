@@ -3,7 +3,7 @@ use Rattle.std.proofs.Common.{◌≡◌, Bool, true, false, List, [], ◌∷◌,
 use Rattle.std.proofs.lemmas.Bool.{cond_both}
 use Rattle.iova_range.specs.declared.refusal.Refusal.{Refusal}
 use Rattle.iova_model.specs.State.{State}
-use Rattle.iova_model.specs.Next.{Next, refused, unless, first_refusal}
+use Rattle.iova_model.specs.Next.{Next, refuse_step, unless, first_refusal}
 
 -- none of the tests passes
 abbrev pub AllFail : List (Bool × Refusal) → Type 0
@@ -11,17 +11,17 @@ AllFail [] = Unit {0}
 AllFail ((b, r) ∷ tests) = (b ≡ false) × AllFail tests
 
 -- what holds of each refusal, and of the step where all tests fail, holds
-pub unless_cases : (P : Next → Type 0) (s : State) (tests : List (Bool × Refusal)) (n : Next) → ((r : Refusal) → P (refused r s)) → (AllFail tests → P n) → P (unless tests s n)
+pub unless_cases : (P : Next → Type 0) (s : State) (tests : List (Bool × Refusal)) (n : Next) → ((r : Refusal) → P (refuse_step r s)) → (AllFail tests → P n) → P (unless tests s n)
 unless_cases P s [] n is_refused is_taken = is_taken tt
 unless_cases P s ((b, r) ∷ tests) n is_refused is_taken =
-    cond_both b (refused r s) (unless tests s n) P (λ e. is_refused r) (λ e. unless_cases P s tests n is_refused (λ all. is_taken (e, all)))
+    cond_both b (refuse_step r s) (unless tests s n) P (λ e. is_refused r) (λ e. unless_cases P s tests n is_refused (λ all. is_taken (e, all)))
 
 -- The step is refused by the first test that passes, and taken where none does.
 
 -- what the refusal of the first test that passes makes of a step
 abbrev pub refused_or : Option Refusal → State → Next → Next
 refused_or None s n = n
-refused_or (Some r) s n = refused r s
+refused_or (Some r) s n = refuse_step r s
 
 refused_or_first : (b : Bool) (r : Refusal) (tests : List (Bool × Refusal)) (s : State) (n : Next) → unless tests s n ≡ refused_or (first_refusal tests) s n
     → unless ((b, r) ∷ tests) s n ≡ refused_or (first_refusal ((b, r) ∷ tests)) s n
@@ -32,7 +32,7 @@ pub unless-first_refusal : (tests : List (Bool × Refusal)) (s : State) (n : Nex
 unless-first_refusal [] s n = refl
 unless-first_refusal ((b, r) ∷ tests) s n = refused_or_first b r tests s n (unless-first_refusal tests s n)
 
-pub unless_refused : (tests : List (Bool × Refusal)) (r : Refusal) (s : State) (n : Next) → first_refusal tests ≡ Some r → unless tests s n ≡ refused r s
+pub unless_refused : (tests : List (Bool × Refusal)) (r : Refusal) (s : State) (n : Next) → first_refusal tests ≡ Some r → unless tests s n ≡ refuse_step r s
 unless_refused tests r s n is = rw (unless-first_refusal tests s n, is) refl
 
 pub unless_taken : (tests : List (Bool × Refusal)) (s : State) (n : Next) → first_refusal tests ≡ None → unless tests s n ≡ n

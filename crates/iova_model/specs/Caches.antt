@@ -68,8 +68,8 @@ of_order o los = map (λ lo. record { lo = lo; len = 2 ^ o }) los
 
 -- What a get leaves before it pops: where loaded is empty and previous isn't, they change places;
 -- where both are empty, the depot's last list leaves it and becomes loaded. __iova_rcache_get
-abbrev pub reloaded : Shelf → Shelf
-reloaded s =
+abbrev pub reload : Shelf → Shelf
+reload s =
     if not (is_empty s.loaded) then s else
     if not (is_empty s.previous) then record {
       loaded = s.previous;
@@ -85,9 +85,9 @@ fitting loaded limit size =
 
 -- That entry is given, the last one is written to its place, and the list is one shorter. Without
 -- one the moves stand.
-abbrev pub popped : Shelf → Option ℕ → Option ℕ × Shelf
-popped s None = (None, s)
-popped s (Some i) = (
+abbrev pub pop_entry : Shelf → Option ℕ → Option ℕ × Shelf
+pop_entry s None = (None, s)
+pop_entry s (Some i) = (
   Some (slice_index s.loaded i),
   record {
     loaded = swap_remove s.loaded i 0;
@@ -97,7 +97,7 @@ popped s (Some i) = (
 )
 
 abbrev pub get : Shelf → ℕ → ℕ → Option ℕ × Shelf
-get s limit size = popped (reloaded s) (fitting (reloaded s).loaded limit size)
+get s limit size = pop_entry (reload s) (fitting (reload s).loaded limit size)
 
 -- Room for one more: where loaded is full and previous isn't, they change places; where both are
 -- full, loaded goes last into the depot, or is sent out where that has as many lists as it takes.
@@ -149,8 +149,8 @@ freed_by_puts p c w (r ∷ rs) =
     ++ freed_by_puts p (put_range p c w r (order_of r.len)) w rs
 
 -- nothing is cached any more
-abbrev pub emptied : Caches → Caches
-emptied c = record {
+abbrev pub without_entries : Caches → Caches
+without_entries c = record {
   workers = map (λ cs. map (λ cache. no_magazines) cs) c.workers;
   depots = map (λ d. []) c.depots;
 }
@@ -189,5 +189,5 @@ pub record TakesEntry (o lo : ℕ) (old new : Caches) : Type 0 where
 
 -- one cached entry leaves with its order, or nothing is cached
 abbrev pub TakesAny : Caches → Option (ℕ × ℕ) → Caches → Type 0
-TakesAny old None new = (emptied old ≡ old) × (new ≡ old)
+TakesAny old None new = (without_entries old ≡ old) × (new ≡ old)
 TakesAny old (Some entry) new = TakesEntry entry.0 entry.1 old new

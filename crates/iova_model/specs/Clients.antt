@@ -38,14 +38,15 @@ abbrev pub newer_client : ℕ → ℕ → List Client → Option Client
 newer_client worker than clients = find (is_newer worker than) clients
 
 -- the clients with a change to that one
-abbrev pub changed : ℕ → (Client → Client) → List Client → List Client
-changed id change [] = []
-changed id change (c ∷ cs) = if has_id id c then change c ∷ cs else c ∷ changed id change cs
+abbrev pub change_client : ℕ → (Client → Client) → List Client → List Client
+change_client id change [] = []
+change_client id change
+    (c ∷ cs) = if has_id id c then change c ∷ cs else c ∷ change_client id change cs
 
 -- and without it
-abbrev pub forgotten : ℕ → List Client → List Client
-forgotten id [] = []
-forgotten id (c ∷ cs) = if has_id id c then cs else c ∷ forgotten id cs
+abbrev pub without_client : ℕ → List Client → List Client
+without_client id [] = []
+without_client id (c ∷ cs) = if has_id id c then cs else c ∷ without_client id cs
 
 -- a range in its place in a list that rises by first frames
 abbrev pub insert_rising : Frames → List Frames → List Frames
@@ -66,8 +67,8 @@ with_holding r c = record c { holdings = insert_rising r c.holdings }
 abbrev pub without_holding : ℕ → Client → Client
 without_holding lo c = record c { holdings = remove_at lo c.holdings }
 
-abbrev pub marked : Client → Client
-marked c = record c { closing = true }
+abbrev pub with_mark : Client → Client
+with_mark c = record c { closing = true }
 
 -- count, frames and sum of the first frames of some holdings
 abbrev pub totals_of : List Frames → Totals

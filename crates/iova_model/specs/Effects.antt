@@ -14,9 +14,9 @@ use Rattle.iova_model.specs.declared.place.Place.{Place}
 use Rattle.iova_model.specs.declared.place.Place.TheVariants as place
 use Rattle.iova_model.specs.declared.totals.Totals.{Totals}
 use Rattle.iova_model.specs.Fit.{IsBest}
-use Rattle.iova_model.specs.Caches.{Caches, freed_by_puts, emptied}
-use Rattle.iova_model.specs.Flushes.{entry_range, flushed}
-use Rattle.iova_model.specs.Clients.{Client, changed, marked, client_with, client_of, begins_at, totals, totals_of, share_of}
+use Rattle.iova_model.specs.Caches.{Caches, freed_by_puts, without_entries}
+use Rattle.iova_model.specs.Flushes.{entry_range, flushed_front}
+use Rattle.iova_model.specs.Clients.{Client, change_client, with_mark, client_with, client_of, begins_at, totals, totals_of, share_of}
 use Rattle.iova_model.specs.State.{State, Holder, holders, held_ranges, window_holders, magazine_holders, depot_holders, ring_holders, cached_holders, times_held, counts}
 use Rattle.iova_model.specs.Next.{Next, no_worker, from_to, ring_at, with_caches, with_clients}
 use Rattle.iova_model.specs.Transcript.{Pair}
@@ -53,7 +53,7 @@ pub record CountsAddUp (s : State) : Type 0 where
 abbrev pub freed_by_drain : State → ℕ → ℕ → List Frames
 freed_by_drain s q w =
     freed_by_puts s.bounds.profile s.caches w
-    (map entry_range (flushed s.flushes.finish (ring_at s q)))
+    (map entry_range (flushed_front s.flushes.finish (ring_at s q)))
 
 abbrev pub cached_ranges : Caches → List Frames
 cached_ranges c = map (λ h. h.range) (cached_holders c)
@@ -288,7 +288,8 @@ abbrev pub AnswersRequest : State → ℕ → ℕ → Reply → Type 0
 AnswersRequest s frames limit (reply.Given r) = IsAnswerTo s frames limit r
 -- nothing fits with all caches emptied
 AnswersRequest s frames limit (reply.Refused refusal.NoSpace) =
-    IsBest s.bounds (held_ranges (with_caches s (emptied s.caches))) (need frames) limit None
+    IsBest s.bounds (held_ranges (with_caches s (without_entries s.caches)))
+    (need frames) limit None
 AnswersRequest s frames limit r = Unit {0}
 
 -- Refusals and memory.
@@ -309,10 +310,10 @@ takes_memory (step.CloseOne w id) = false
 -- nothing or no memory, and the mark of a client whose closing finds the ring full
 abbrev pub RefusalLeaves : State → Step → Refusal → State → Type 0
 RefusalLeaves s (step.Alloc w id frames limit) refusal.NoSpace t =
-    t ≡ with_caches s (emptied s.caches)
+    t ≡ with_caches s (without_entries s.caches)
 RefusalLeaves s (step.Alloc w id frames limit) refusal.NoMemory t = t ≡ with_caches s t.caches
 RefusalLeaves s (step.CloseOne w id) refusal.RingFull t =
-    t ≡ with_clients s (changed id marked s.clients)
+    t ≡ with_clients s (change_client id with_mark s.clients)
 RefusalLeaves s st r t = t ≡ s
 
 -- Which reply a step has, what it queues, and which flushes it ends well.

@@ -22,8 +22,8 @@ abbrev pub flushes_from : ℕ → Flushes
 flushes_from n = record { start = n; finish = n; owed = 0; newest = n; good = 0; in_flight = [] }
 
 -- a flush begins, with a credit of its own and all that is owed
-abbrev pub begun : Flushes → Flushes
-begun s = record {
+abbrev pub with_flight : Flushes → Flushes
+with_flight s = record {
   start = s.start + 1;
   finish = s.finish;
   owed = 0;
@@ -62,8 +62,8 @@ left_over n (f ∷ g ∷ fs) = if f.number == n then 0 else left_over n (g ∷ f
 
 -- A flush that ended well adds its credit to the finish count; one that failed passes it on, and
 -- the last one's is owed.
-abbrev pub ended : Flushes → ℕ → Bool → Flushes
-ended s n true = record {
+abbrev pub after_end : Flushes → ℕ → Bool → Flushes
+after_end s n true = record {
   start = s.start;
   finish = s.finish + credit_of n s.in_flight;
   owed = s.owed;
@@ -71,7 +71,7 @@ ended s n true = record {
   good = s.good + 1;
   in_flight = without_flight n s.in_flight;
 }
-ended s n false = record {
+after_end s n false = record {
   start = s.start;
   finish = s.finish;
   owed = s.owed + left_over n s.in_flight;
@@ -117,13 +117,13 @@ entry_range e = record { lo = e.lo; len = e.len }
 
 -- What a drain takes out: the longest prefix whose counts are all below the finish count. The rest
 -- stays. fq_ring_free
-abbrev pub flushed : ℕ → List Entry → List Entry
-flushed finish [] = []
-flushed finish (e ∷ es) = if nat_lt e.count finish then e ∷ flushed finish es else []
+abbrev pub flushed_front : ℕ → List Entry → List Entry
+flushed_front finish [] = []
+flushed_front finish (e ∷ es) = if nat_lt e.count finish then e ∷ flushed_front finish es else []
 
-abbrev pub unflushed : ℕ → List Entry → List Entry
-unflushed finish [] = []
-unflushed finish (e ∷ es) = if nat_lt e.count finish then unflushed finish es else e ∷ es
+abbrev pub unflushed_rest : ℕ → List Entry → List Entry
+unflushed_rest finish [] = []
+unflushed_rest finish (e ∷ es) = if nat_lt e.count finish then unflushed_rest finish es else e ∷ es
 
 -- the counts don't fall, from `low` up to `top`
 abbrev pub CountsRise : ℕ → List Entry → ℕ → Type 0

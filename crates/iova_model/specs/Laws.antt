@@ -13,7 +13,7 @@ use Rattle.iova_model.specs.declared.step.Reply.TheVariants as reply
 use Rattle.iova_model.specs.declared.step.Point.{Point}
 use Rattle.iova_model.specs.declared.step.Point.TheVariants as point
 use Rattle.iova_model.specs.Fit.{IsBest, best}
-use Rattle.iova_model.specs.Flushes.{Flushes, flushes_from, begun, is_in_flight, ended, AreSound, NumbersRise}
+use Rattle.iova_model.specs.Flushes.{Flushes, flushes_from, with_flight, is_in_flight, after_end, AreSound, NumbersRise}
 use Rattle.iova_model.specs.Clients.{Client, client_with, totals}
 use Rattle.iova_model.specs.State.{State, new_domain, place_of}
 use Rattle.iova_model.specs.Valid.{IsValid}
@@ -141,18 +141,18 @@ NewFlushesAreSound = (n : ℕ) → n ≤ MAX_SERIAL → AreSound (flushes_from n
 abbrev pub BeginsKeepFlushesSound : Type 0
 BeginsKeepFlushesSound =
     (f : Flushes) → AreSound f → length f.in_flight < MAX_FLIGHTS → f.start < MAX_SERIAL
-    → AreSound (begun f)
+    → AreSound (with_flight f)
 
 abbrev pub EndsKeepFlushesSound : Type 0
 EndsKeepFlushesSound =
     (f : Flushes) (n : ℕ) (ok : Bool) → AreSound f → is_in_flight n f.in_flight ≡ true
-    → AreSound (ended f n ok)
+    → AreSound (after_end f n ok)
 
 -- where the oldest flush in flight ends well, the finish count reaches its number
 abbrev pub OldestFlushReaches : Type 0
 OldestFlushReaches =
     (f : Flushes) (n : ℕ) → AreSound f → is_in_flight n f.in_flight ≡ true
-    → NumbersRise (n - 1) f.in_flight f.start → n ≤ (ended f n true).finish
+    → NumbersRise (n - 1) f.in_flight f.start → n ≤ (after_end f n true).finish
 
 -- 10. Which reply a step has, what it queues, and which flushes it ends well.
 

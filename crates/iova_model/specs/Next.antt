@@ -15,9 +15,9 @@ use Rattle.iova_model.specs.declared.step.Point.{Point}
 use Rattle.iova_model.specs.declared.step.Point.TheVariants as point
 use Rattle.iova_model.specs.declared.entry.Entry.{Entry}
 use Rattle.iova_model.specs.Fit.{best}
-use Rattle.iova_model.specs.Caches.{Caches, shelf_at, with_shelf, get, put_all, emptied}
-use Rattle.iova_model.specs.Flushes.{Flushes, is_in_flight, begun, ended, entry_range, flushed, unflushed}
-use Rattle.iova_model.specs.Clients.{Client, new_client, client_of, changed, forgotten, insert_rising, begins_at, with_holding, without_holding, marked}
+use Rattle.iova_model.specs.Caches.{Caches, shelf_at, with_shelf, get, put_all, without_entries}
+use Rattle.iova_model.specs.Flushes.{Flushes, is_in_flight, with_flight, after_end, entry_range, flushed_front, unflushed_rest}
+use Rattle.iova_model.specs.Clients.{Client, new_client, client_of, change_client, without_client, insert_rising, begins_at, with_holding, without_holding, with_mark}
 use Rattle.iova_model.specs.State.{State, owners, held_ranges}
 
 -- The growth at this point was refused.
@@ -38,13 +38,13 @@ pub record Next : Type 0 where
   pub reply : Reply
   pub state : State
 
-abbrev pub refused : Refusal → State → Next
-refused r s = record { reply = reply.Refused r; state = s }
+abbrev pub refuse_step : Refusal → State → Next
+refuse_step r s = record { reply = reply.Refused r; state = s }
 
 -- The first test that passes refuses, and else the step is taken.
 abbrev pub unless : List (Bool × Refusal) → State → Next → Next
 unless [] s n = n
-unless ((b, r) ∷ tests) s n = if b then refused r s else unless tests s n
+unless ((b, r) ∷ tests) s n = if b then refuse_step r s else unless tests s n
 
 -- the refusal of the first test that passes, if one does
 abbrev pub first_refusal : List (Bool × Refusal) → Option Refusal
@@ -103,20 +103,20 @@ reserve_tests s lo hi m =
     window_tests s.bounds s.windows (is_taken s (from_to lo hi)) lo hi
     ++ (is_at point.Once m, refusal.NoMemory) ∷ []
 
-abbrev pub reserved : State → Frames → Next
-reserved s r =
+abbrev pub reserve_window : State → Frames → Next
+reserve_window s r =
     record {
       reply = reply.Reserved (union r s.windows);
       state = with_windows s (windows_with r s.windows);
     }
 
 abbrev pub reserve : State → ℕ → ℕ → Point → Next
-reserve s lo hi m = unless (reserve_tests s lo hi m) s (reserved s (from_to lo hi))
+reserve s lo hi m = unless (reserve_tests s lo hi m) s (reserve_window s (from_to lo hi))
 
 -- Clients
 
-abbrev pub opened : State → ℕ → Bool → State
-opened s w sac =
+abbrev pub with_new_client : State → ℕ → Bool → State
+with_new_client s w sac =
     record s { clients = s.clients ++ new_client (s.serial + 1) w sac ∷ []; serial = s.serial + 1 }
 
 abbrev pub open_tests : State → ℕ → Point → List (Bool × Refusal)
@@ -130,7 +130,7 @@ open_tests s w m =
 abbrev pub open_client : State → ℕ → Bool → Point → Next
 open_client s w sac m =
     unless (open_tests s w m) s (record
-    { reply = reply.Opened (s.serial + 1); state = opened s w sac })
+    { reply = reply.Opened (s.serial + 1); state = with_new_client s w sac })
 
 -- Requests: Linux 5.15 drivers/iommu/dma-iommu.c: iommu_dma_alloc_iova, and drivers/iommu/iova.c:
 -- alloc_iova_fast; what is emptied before the tree is asked once more, and that a refused growth
@@ -166,7 +166,8 @@ from_tree s (Some lo) no_memory =
 -- where there was nothing, the tree alone is asked again, with all caches emptied
 abbrev pub or_emptied : Found → State → ℕ → ℕ → Bool → Bool → Tried
 or_emptied Nowhere s size limit true no_memory =
-    let s' = with_caches s (emptied s.caches) in from_tree s' (best_place s' size limit) no_memory
+    let s' = with_caches s (without_entries s.caches) in from_tree s'
+    (best_place s' size limit) no_memory
 or_emptied Nowhere s size limit false no_memory = record { found = Nowhere; state = s }
 or_emptied (At lo) s size limit emptying no_memory = record { found = At lo; state = s }
 or_emptied OutOfMemory s size limit emptying no_memory = record { found = OutOfMemory; state = s }
@@ -197,15 +198,19 @@ walk s w sac size limit m =
     limit m)
     else try s w size limit true point.Second m
 
-abbrev pub given : Found → State → ℕ → ℕ → Next
-given Nowhere s id size = refused refusal.NoSpace s
-given OutOfMemory s id size = refused refusal.NoMemory s
-given (At lo) s id size =
+abbrev pub give : Found → State → ℕ → ℕ → Next
+give Nowhere s id size = refuse_step refusal.NoSpace s
+give OutOfMemory s id size = refuse_step refusal.NoMemory s
+give (At lo) s id size =
     let r : Frames = record { lo = lo; len = size } in
-    record { reply = reply.Given r; state = with_clients s (changed id (with_holding r) s.clients) }
+    record {
+      reply = reply.Given r;
+      state = with_clients s
+          (change_client id (with_holding r) s.clients);
+    }
 
-abbrev pub given_from : Tried → ℕ → ℕ → Next
-given_from t id size = given t.found t.state id size
+abbrev pub give_from : Tried → ℕ → ℕ → Next
+give_from t id size = give t.found t.state id size
 
 abbrev pub ledger_tests : Client → Point → List (Bool × Refusal)
 ledger_tests c m =
@@ -215,9 +220,9 @@ ledger_tests c m =
     ∷ []
 
 abbrev pub alloc_to : Option Client → State → ℕ → ℕ → ℕ → ℕ → Point → Next
-alloc_to None s w id size limit m = refused refusal.NoClient s
+alloc_to None s w id size limit m = refuse_step refusal.NoClient s
 alloc_to (Some c) s w id size limit m =
-    unless (ledger_tests c m) s (given_from (walk s w c.sac size limit m) id size)
+    unless (ledger_tests c m) s (give_from (walk s w c.sac size limit m) id size)
 
 abbrev pub alloc_tests : State → ℕ → ℕ → List (Bool × Refusal)
 alloc_tests s w frames =
@@ -238,11 +243,11 @@ abbrev pub ring_at : State → ℕ → List Entry
 ring_at s q = slice_index_or s.rings q []
 
 -- ring q is drained into the magazines of worker w
-abbrev pub drained : State → ℕ → ℕ → State
-drained s q w = record s {
+abbrev pub after_drain : State → ℕ → ℕ → State
+after_drain s q w = record s {
   caches = put_all s.bounds.profile s.caches w
-      (map entry_range (flushed s.flushes.finish (ring_at s q)));
-  rings = slice_set s.rings q (unflushed s.flushes.finish (ring_at s q));
+      (map entry_range (flushed_front s.flushes.finish (ring_at s q)));
+  rings = slice_set s.rings q (unflushed_rest s.flushes.finish (ring_at s q));
 }
 
 abbrev pub drain_tests : State → ℕ → ℕ → List (Bool × Refusal)
@@ -251,14 +256,14 @@ drain_tests s q w = (no_worker s q || no_worker s w, refusal.NoWorker) ∷ []
 abbrev pub drain : State → ℕ → ℕ → Next
 drain s q w =
     unless (drain_tests s q w) s (record {
-      reply = reply.Drained (length (flushed s.flushes.finish (ring_at s q)));
-      state = drained s q w;
+      reply = reply.Drained (length (flushed_front s.flushes.finish (ring_at s q)));
+      state = after_drain s q w;
     })
 
 -- a holding goes last into the worker's ring, with the start count
-abbrev pub queued : State → ℕ → ℕ → Frames → State
-queued s w id r = record s {
-  clients = changed id (without_holding r.lo) s.clients;
+abbrev pub with_entry : State → ℕ → ℕ → Frames → State
+with_entry s w id r = record s {
+  clients = change_client id (without_holding r.lo) s.clients;
   rings = slice_set s.rings w (ring_at s w
       ++ record { lo = r.lo; len = r.len; count = s.flushes.start } ∷ []);
 }
@@ -270,18 +275,18 @@ full_tests s w = (nat_le MAX_ENTRIES (length (ring_at s w)), refusal.RingFull) �
 -- leaves the state.
 abbrev pub queue : State → ℕ → ℕ → Frames → Next
 queue s w id r =
-    let d = drained s w w in unless (full_tests d w) s
-    (record { reply = reply.Queued r; state = queued d w id r })
+    let d = after_drain s w w in unless (full_tests d w) s
+    (record { reply = reply.Queued r; state = with_entry d w id r })
 
 abbrev pub unmap_held : Option Frames → State → ℕ → ℕ → Next
-unmap_held None s w id = refused refusal.NotHeld s
+unmap_held None s w id = refuse_step refusal.NotHeld s
 unmap_held (Some r) s w id = queue s w id r
 
 abbrev pub closing_tests : Client → List (Bool × Refusal)
 closing_tests c = (c.closing, refusal.Closing) ∷ []
 
 abbrev pub unmap_of : Option Client → State → ℕ → ℕ → ℕ → Next
-unmap_of None s w id lo = refused refusal.NoClient s
+unmap_of None s w id lo = refuse_step refusal.NoClient s
 unmap_of (Some c) s w id lo =
     unless (closing_tests c) s (unmap_held (find (begins_at lo) c.holdings) s w id)
 
@@ -300,7 +305,7 @@ begin_tests f =
 abbrev pub begin : State → Next
 begin s =
     unless (begin_tests s.flushes) s (record
-    { reply = reply.Begun (s.flushes.start + 1); state = with_flushes s (begun s.flushes) })
+    { reply = reply.Begun (s.flushes.start + 1); state = with_flushes s (with_flight s.flushes) })
 
 abbrev pub end_tests : Flushes → ℕ → List (Bool × Refusal)
 end_tests f n = (not (is_in_flight n f.in_flight), refusal.NoFlight) ∷ []
@@ -308,16 +313,16 @@ end_tests f n = (not (is_in_flight n f.in_flight), refusal.NoFlight) ∷ []
 abbrev pub end : State → ℕ → Bool → Next
 end s n ok =
     unless (end_tests s.flushes n) s (record
-    { reply = reply.Ended; state = with_flushes s (ended s.flushes n ok) })
+    { reply = reply.Ended; state = with_flushes s (after_end s.flushes n ok) })
 
 -- Closing: own
 
 abbrev pub close_of : Option Client → State → ℕ → Next
-close_of None s id = refused refusal.NoClient s
+close_of None s id = refuse_step refusal.NoClient s
 close_of (Some c) s id =
     record {
       reply = reply.Marked (length c.holdings);
-      state = with_clients s (changed id marked s.clients);
+      state = with_clients s (change_client id with_mark s.clients);
     }
 
 abbrev pub close : State → ℕ → ℕ → Next
@@ -326,11 +331,11 @@ close s w id = unless (worker_tests s w) s (close_of (client_of w id s.clients) 
 -- the lowest holding is queued, or the client goes; where the ring is full, the mark stays
 abbrev pub close_lowest : List Frames → State → ℕ → ℕ → Next
 close_lowest [] s w id =
-    record { reply = reply.Empty; state = with_clients s (forgotten id s.clients) }
-close_lowest (r ∷ rs) s w id = queue (with_clients s (changed id marked s.clients)) w id r
+    record { reply = reply.Empty; state = with_clients s (without_client id s.clients) }
+close_lowest (r ∷ rs) s w id = queue (with_clients s (change_client id with_mark s.clients)) w id r
 
 abbrev pub close_one_of : Option Client → State → ℕ → ℕ → Next
-close_one_of None s w id = refused refusal.NoClient s
+close_one_of None s w id = refuse_step refusal.NoClient s
 close_one_of (Some c) s w id = close_lowest c.holdings s w id
 
 abbrev pub close_one : State → ℕ → ℕ → Next

@@ -7,7 +7,7 @@ use Rattle.iova_text.proofs.LineEnds.{cut_once, odd_more, overlong_more}
 use Rattle.iova_proto.specs.declared.request.Request.{Request}
 use Rattle.iova_proto.specs.Requests.{request_line, request_text, IsRequest}
 use Rattle.iova_proto.specs.Feeds.{IsNoRequest, BeginsBad}
-use Rattle.iova_proto.specs.Streams.{FeedsPiece, FeedsPieces, StandsAt, Reads, joined}
+use Rattle.iova_proto.specs.Streams.{FeedsPiece, FeedsPieces, StandsAt, Reads, bytes_of_pieces}
 use Rattle.iova_proto.proofs.Spellings.{no_lf_request, same_request}
 use Rattle.iova_proto.proofs.Feeding.{unended_no_request, bad_no_request, bad_not_unended, rest_behind}
 
@@ -73,7 +73,7 @@ reads_more stream rs first (Some kept) next piece so_far e =
 -- All pieces
 
 pieces_more : (pieces : List (List ℕ)) (stream : List ℕ) (rs others : List Request) (state next : Option (List ℕ)) → Reads stream rs state
-    → FeedsPieces pieces state others next → Reads (stream ++ joined pieces) (rs ++ others) next
+    → FeedsPieces pieces state others next → Reads (stream ++ bytes_of_pieces pieces) (rs ++ others) next
 pieces_more [] stream rs others state next so_far (none, same) =
     let P : List ℕ → Type 0 = λ x. Reads x (rs ++ others) next in
     let Q : List Request → Type 0 = λ x. Reads stream x next in
@@ -82,13 +82,13 @@ pieces_more [] stream rs others state next so_far (none, same) =
 pieces_more (piece ∷ pieces) stream rs all state next so_far (first, mid, others, whole, one, more) =
     let after = pieces_more pieces (stream ++ piece) (rs ++ first) others mid next (reads_more stream rs first state mid piece so_far one) more in
     let P : List ℕ → Type 0 = λ x. Reads x ((rs ++ first) ++ others) next in
-    let Q : List Request → Type 0 = λ x. Reads (stream ++ joined (piece ∷ pieces)) x next in
-    subst Q (append_assoc rs first others ∙ ap (λ (x : List Request). rs ++ x) (sym whole)) (subst P (append_assoc stream piece (joined pieces)) after)
+    let Q : List Request → Type 0 = λ x. Reads (stream ++ bytes_of_pieces (piece ∷ pieces)) x next in
+    subst Q (append_assoc rs first others ∙ ap (λ (x : List Request). rs ++ x) (sym whole)) (subst P (append_assoc stream piece (bytes_of_pieces pieces)) after)
 
 nothing_read : Reads [] [] (Some [])
 nothing_read = record { rest = []; each = tt; whole = refl; stands = (refl, record { one = refl; short = omega arith }) }
 
-pub pieces_read : (pieces : List (List ℕ)) (rs : List Request) (state : Option (List ℕ)) → FeedsPieces pieces (Some []) rs state → Reads (joined pieces) rs state
+pub pieces_read : (pieces : List (List ℕ)) (rs : List Request) (state : Option (List ℕ)) → FeedsPieces pieces (Some []) rs state → Reads (bytes_of_pieces pieces) rs state
 pieces_read pieces rs state e = pieces_more pieces [] [] rs (Some []) state nothing_read e
 
 -- One reading
@@ -128,8 +128,8 @@ pub one_reading : (stream : List ℕ) (rs ss : List Request) (state other : Opti
     → (rs ≡ ss) × (state ≡ other)
 one_reading stream rs ss state other x y = lines_once rs ss x.rest y.rest state other x.each y.each (sym x.whole ∙ y.whole) x.stands y.stands
 
-pub any_cut : (pieces others : List (List ℕ)) (rs ss : List Request) (state other : Option (List ℕ)) → joined pieces ≡ joined others
+pub any_cut : (pieces others : List (List ℕ)) (rs ss : List Request) (state other : Option (List ℕ)) → bytes_of_pieces pieces ≡ bytes_of_pieces others
     → FeedsPieces pieces (Some []) rs state → FeedsPieces others (Some []) ss other → (rs ≡ ss) × (state ≡ other)
 any_cut pieces others rs ss state other e x y =
     let P : List ℕ → Type 0 = λ s. Reads s rs state in
-    one_reading (joined others) rs ss state other (subst P e (pieces_read pieces rs state x)) (pieces_read others ss other y)
+    one_reading (bytes_of_pieces others) rs ss state other (subst P e (pieces_read pieces rs state x)) (pieces_read others ss other y)

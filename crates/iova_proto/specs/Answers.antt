@@ -25,20 +25,20 @@ first_line answer.Bye = whole_line (codes "bye")
 first_line (answer.Refused r) = whole_line (refusal_line r)
 
 -- the ranges that have a line of their own after it
-abbrev pub listed : Answer → List Frames
-listed (answer.Opened serial) = []
-listed (answer.Given r) = []
-listed (answer.Queued r) = []
-listed (answer.Freed r) = []
-listed (answer.Held ranges) = ranges
-listed (answer.Flushed number freed) = []
-listed (answer.Stat stat) = []
-listed answer.Bye = []
-listed (answer.Refused r) = []
+abbrev pub listed_ranges : Answer → List Frames
+listed_ranges (answer.Opened serial) = []
+listed_ranges (answer.Given r) = []
+listed_ranges (answer.Queued r) = []
+listed_ranges (answer.Freed r) = []
+listed_ranges (answer.Held ranges) = ranges
+listed_ranges (answer.Flushed number freed) = []
+listed_ranges (answer.Stat stat) = []
+listed_ranges answer.Bye = []
+listed_ranges (answer.Refused r) = []
 
 abbrev pub range_line : Frames → List ℕ
 range_line r = whole_line (line_text (decimal r.lo) (decimal r.len ∷ []))
 
 -- an answer's text
 abbrev pub answer_text : Answer → List ℕ
-answer_text a = first_line a ++ flat_map range_line (listed a)
+answer_text a = first_line a ++ flat_map range_line (listed_ranges a)

@@ -40,15 +40,15 @@ pub record Reads (stream : List ℕ) (rs : List Request) (state : Option (List �
   pub stands : StandsAt rest state
 
 -- the bytes of all pieces
-abbrev pub joined : List (List ℕ) → List ℕ
-joined pieces = flat_map (λ (piece : List ℕ). piece) pieces
+abbrev pub bytes_of_pieces : List (List ℕ) → List ℕ
+bytes_of_pieces pieces = flat_map (λ (piece : List ℕ). piece) pieces
 
 -- what the pieces of a stream give is what stands in the whole of it
 abbrev pub PiecesRead : Type 0
 PiecesRead =
     (pieces : List (List ℕ)) (rs : List Request) (state : Option (List ℕ))
     → FeedsPieces pieces (Some []) rs state
-    → Reads (joined pieces) rs state
+    → Reads (bytes_of_pieces pieces) rs state
 
 -- a stream is read in one way
 abbrev pub OneReading : Type 0
@@ -61,6 +61,6 @@ OneReading =
 abbrev pub AnyCut : Type 0
 AnyCut =
     (pieces others : List (List ℕ)) (rs ss : List Request) (state other : Option (List ℕ))
-    → joined pieces ≡ joined others
+    → bytes_of_pieces pieces ≡ bytes_of_pieces others
     → FeedsPieces pieces (Some []) rs state → FeedsPieces others (Some []) ss other
     → (rs ≡ ss) × (state ≡ other)

@@ -138,7 +138,7 @@ pub const MAX_SINK_TIMEOUT: u64 = 3_600;
 pub const SINK_TIMEOUT: u64 = 10;
 
 /// The time between two rounds in which a daemon's clients that wait are tried again, in
-/// milliseconds: a post that waits for a session looks about it so often.
+/// milliseconds: by a post that waits for a session, or serves one that began while they waited.
 pub const RETRY_PAUSE: u64 = 1_000;
 
 /// The longest time until a daemon sees that it is asked to stop, in milliseconds: what waits for a

@@ -13,7 +13,7 @@ use Rattle.iova_model.specs.declared.step.Reply.{Reply}
 use Rattle.iova_model.specs.declared.step.Reply.TheVariants as reply
 use Rattle.iova_model.specs.declared.step.Point.{Point}
 use Rattle.iova_model.specs.declared.step.Point.TheVariants as point
-use Rattle.iova_model.specs.Clients.{Client, client_of, begins_at, changed, marked}
+use Rattle.iova_model.specs.Clients.{Client, client_of, begins_at, change_client, with_mark}
 use Rattle.iova_model.specs.State.{State}
 use Rattle.iova_model.specs.Effects.{worker_of}
 use Rattle.iova_model.specs.Next
@@ -22,7 +22,7 @@ abbrev IsKnown : Next.Next → Type 0
 IsKnown n = n.reply ≢ reply.Refused refusal.NoWorker
 
 -- a test that refuses by something else
-or_refused : (b : Bool) (r : Refusal) (s : State) (n : Next.Next) → r ≢ refusal.NoWorker → IsKnown n → IsKnown (if b then Next.refused r s else n)
+or_refused : (b : Bool) (r : Refusal) (s : State) (n : Next.Next) → r ≢ refusal.NoWorker → IsKnown n → IsKnown (if b then Next.refuse_step r s else n)
 or_refused true r s n other rest = λ e. other cc
 or_refused false r s n other rest = rest
 
@@ -32,7 +32,7 @@ open_known s w sac m is =
     (or_refused (nat_le MAX_CLIENTS (length s.clients)) refusal.ClientsFull s _ (λ e. cc)
     (or_refused (Next.is_at point.Once m) refusal.NoMemory s _ (λ e. cc) (λ e. cc))))
 
-given_known : (found : Next.Found) (s : State) (id size : ℕ) → IsKnown (Next.given found s id size)
+given_known : (found : Next.Found) (s : State) (id size : ℕ) → IsKnown (Next.give found s id size)
 given_known Next.Nowhere s id size = λ e. cc
 given_known Next.OutOfMemory s id size = λ e. cc
 given_known (Next.At lo) s id size = λ e. cc
@@ -51,7 +51,7 @@ alloc_known s w id frames limit m is =
     (or_refused (nat_lt MAX_FRAMES frames) refusal.TooBig s _ (λ e. cc) (alloc_to_known (client_of w id s.clients) s w id (need frames) limit m)))
 
 queue_known : (s : State) (w id : ℕ) (r : Frames) → IsKnown (Next.queue s w id r)
-queue_known s w id r = or_refused (nat_le MAX_ENTRIES (length (Next.ring_at (Next.drained s w w) w))) refusal.RingFull s _ (λ e. cc) (λ e. cc)
+queue_known s w id r = or_refused (nat_le MAX_ENTRIES (length (Next.ring_at (Next.after_drain s w w) w))) refusal.RingFull s _ (λ e. cc) (λ e. cc)
 
 unmap_held_known : (o : Option Frames) (s : State) (w id : ℕ) → IsKnown (Next.unmap_held o s w id)
 unmap_held_known None s w id = λ e. cc
@@ -73,7 +73,7 @@ close_known s w id is = rw is (close_of_known (client_of w id s.clients) s id)
 
 close_lowest_known : (rs : List Frames) (s : State) (w id : ℕ) → IsKnown (Next.close_lowest rs s w id)
 close_lowest_known [] s w id = λ e. cc
-close_lowest_known (r ∷ rs) s w id = queue_known (Next.with_clients s (changed id marked s.clients)) w id r
+close_lowest_known (r ∷ rs) s w id = queue_known (Next.with_clients s (change_client id with_mark s.clients)) w id r
 
 close_one_of_known : (o : Option Client) (s : State) (w id : ℕ) → IsKnown (Next.close_one_of o s w id)
 close_one_of_known None s w id = λ e. cc

@@ -6,7 +6,7 @@ use Rattle.std.proofs.lemmas.List.Elements.{filter_more}
 use Rattle.std.proofs.lemmas.List.Sums.{fold-append}
 use lib.Dec.{ltb, leb}
 use Rattle.iova_range.specs.Frames.{Frames, covers, meets, join}
-use Rattle.iova_regions.specs.Windows.{RiseFrom, lies_below, union, windows_with, covered}
+use Rattle.iova_regions.specs.Windows.{RiseFrom, lies_below, union, windows_with, is_covered}
 
 same_bool : (x y : Bool) → (x ≡ true → y ≡ true) → (y ≡ true → x ≡ true) → x ≡ y
 same_bool true y f g = sym (f refl)
@@ -193,26 +193,26 @@ or_moves false y z = refl
 
 -- the union of a range that has the other's frames, and of what the other meets
 union_covers : (f : ℕ) (a r : Frames) (ws : List Frames) → 1 ≤ r.len → a.lo ≤ r.lo → r.lo + r.len ≤ a.lo + a.len
-    → covers f (fold join a (filter (meets r) ws)) ≡ (covers f a || covered f (filter (meets r) ws))
+    → covers f (fold join a (filter (meets r) ws)) ≡ (covers f a || is_covered f (filter (meets r) ws))
 union_covers f a r [] some from to = or_none (covers f a)
 union_covers f a r (w ∷ ws) some from to =
     split (meets r w) refl (λ p q. union_covers f (join a w) r ws some p q) (union_covers f a r ws some from to)
   where
     split : (b : Bool) → meets r w ≡ b
         → ((join a w).lo ≤ r.lo → r.lo + r.len ≤ (join a w).lo + (join a w).len
-        → covers f (fold join (join a w) (filter (meets r) ws)) ≡ (covers f (join a w) || covered f (filter (meets r) ws)))
-        → covers f (fold join a (filter (meets r) ws)) ≡ (covers f a || covered f (filter (meets r) ws))
-        → covers f (fold join a (filter (meets r) (w ∷ ws))) ≡ (covers f a || covered f (filter (meets r) (w ∷ ws)))
+        → covers f (fold join (join a w) (filter (meets r) ws)) ≡ (covers f (join a w) || is_covered f (filter (meets r) ws)))
+        → covers f (fold join a (filter (meets r) ws)) ≡ (covers f a || is_covered f (filter (meets r) ws))
+        → covers f (fold join a (filter (meets r) (w ∷ ws))) ≡ (covers f a || is_covered f (filter (meets r) (w ∷ ws)))
     split true is with_it without =
         let both = and_parts (ltb r.lo (w.lo + w.len)) (ltb w.lo (r.lo + r.len)) is in
         let begun : r.lo < w.lo + w.len = ltb-true r.lo (w.lo + w.len) both.0 in
         let begins : w.lo < r.lo + r.len = ltb-true w.lo (r.lo + r.len) both.1 in
         let next = with_it (omega arith) (omega arith) in
         let here = join_covers f a w (omega arith) (omega arith) in
-        subst (λ (x : List Frames). covers f (fold join a x) ≡ (covers f a || covered f x)) (sym (keep (meets r) w ws is))
-        (next ∙ (ap (λ (x : Bool). x || covered f (filter (meets r) ws)) here ∙ or_moves (covers f a) (covers f w) (covered f (filter (meets r) ws))))
+        subst (λ (x : List Frames). covers f (fold join a x) ≡ (covers f a || is_covered f x)) (sym (keep (meets r) w ws is))
+        (next ∙ (ap (λ (x : Bool). x || is_covered f (filter (meets r) ws)) here ∙ or_moves (covers f a) (covers f w) (is_covered f (filter (meets r) ws))))
     split false is with_it without =
-        subst (λ (x : List Frames). covers f (fold join a x) ≡ (covers f a || covered f x)) (sym (leave (meets r) w ws is))
+        subst (λ (x : List Frames). covers f (fold join a x) ≡ (covers f a || is_covered f x)) (sym (leave (meets r) w ws is))
         without
 
 first_moves : (x b m h : Bool) → (x || (b || (m || h))) ≡ ((x || b) || (m || h))
@@ -232,27 +232,27 @@ last_moves false b m h = refl
 
 -- each window is below the range, meets it or is above it
 split_covers : (f : ℕ) (r : Frames) (end : ℕ) (ws : List Frames) → 1 ≤ r.len → RiseFrom end ws
-    → covered f ws ≡ (covered f (lowers_of r ws) || (covered f (filter (meets r) ws) || covered f (highers_of r ws)))
+    → is_covered f ws ≡ (is_covered f (lowers_of r ws) || (is_covered f (filter (meets r) ws) || is_covered f (highers_of r ws)))
 split_covers f r end [] some rise = refl
 split_covers f r end (w ∷ ws) some rise =
     split (side w r rise.1 some) (ap (λ (x : Bool). covers f w || x) (split_covers f r (w.lo + w.len) ws some rise.2))
   where
-    parts : (b c m n h k : List Frames) → b ≡ c → m ≡ n → h ≡ k → (covered f c || (covered f n || covered f k)) ≡ (covered f b || (covered f m || covered f h))
+    parts : (b c m n h k : List Frames) → b ≡ c → m ≡ n → h ≡ k → (is_covered f c || (is_covered f n || is_covered f k)) ≡ (is_covered f b || (is_covered f m || is_covered f h))
     parts b c m n h k e g i = cc
 
     split : IsLower w r ⊎ (IsTouching w r ⊎ IsHigher w r)
-        → (covers f w || covered f ws) ≡ (covers f w || (covered f (lowers_of r ws) || (covered f (filter (meets r) ws) || covered f (highers_of r ws))))
-        → covered f (w ∷ ws) ≡ (covered f (lowers_of r (w ∷ ws)) || (covered f (filter (meets r) (w ∷ ws)) || covered f (highers_of r (w ∷ ws))))
+        → (covers f w || is_covered f ws) ≡ (covers f w || (is_covered f (lowers_of r ws) || (is_covered f (filter (meets r) ws) || is_covered f (highers_of r ws))))
+        → is_covered f (w ∷ ws) ≡ (is_covered f (lowers_of r (w ∷ ws)) || (is_covered f (filter (meets r) (w ∷ ws)) || is_covered f (highers_of r (w ∷ ws))))
     split (inl is) tails =
-        tails ∙ (first_moves (covers f w) (covered f (lowers_of r ws)) (covered f (filter (meets r) ws)) (covered f (highers_of r ws))
+        tails ∙ (first_moves (covers f w) (is_covered f (lowers_of r ws)) (is_covered f (filter (meets r) ws)) (is_covered f (highers_of r ws))
         ∙ parts (lowers_of r (w ∷ ws)) (w ∷ lowers_of r ws) (filter (meets r) (w ∷ ws)) (filter (meets r) ws) (highers_of r (w ∷ ws)) (highers_of r ws)
         (keep (λ (x : Frames). lies_below x r) w ws is.lower) (leave (meets r) w ws is.apart) (leave (λ (x : Frames). lies_below r x) w ws is.other))
     split (inr (inl is)) tails =
-        tails ∙ (middle_moves (covers f w) (covered f (lowers_of r ws)) (covered f (filter (meets r) ws)) (covered f (highers_of r ws))
+        tails ∙ (middle_moves (covers f w) (is_covered f (lowers_of r ws)) (is_covered f (filter (meets r) ws)) (is_covered f (highers_of r ws))
         ∙ parts (lowers_of r (w ∷ ws)) (lowers_of r ws) (filter (meets r) (w ∷ ws)) (w ∷ filter (meets r) ws) (highers_of r (w ∷ ws)) (highers_of r ws)
         (leave (λ (x : Frames). lies_below x r) w ws is.lower) (keep (meets r) w ws is.touches) (leave (λ (x : Frames). lies_below r x) w ws is.other))
     split (inr (inr is)) tails =
-        tails ∙ (last_moves (covers f w) (covered f (lowers_of r ws)) (covered f (filter (meets r) ws)) (covered f (highers_of r ws))
+        tails ∙ (last_moves (covers f w) (is_covered f (lowers_of r ws)) (is_covered f (filter (meets r) ws)) (is_covered f (highers_of r ws))
         ∙ parts (lowers_of r (w ∷ ws)) (lowers_of r ws) (filter (meets r) (w ∷ ws)) (filter (meets r) ws) (highers_of r (w ∷ ws)) (w ∷ highers_of r ws)
         (leave (λ (x : Frames). lies_below x r) w ws is.lower) (leave (meets r) w ws is.apart) (keep (λ (x : Frames). lies_below r x) w ws is.higher))
 
@@ -265,11 +265,11 @@ union_moves false false true h = refl
 union_moves false false false true = refl
 union_moves false false false false = refl
 
-pub covers_with : (f : ℕ) (r : Frames) (ws : List Frames) → 1 ≤ r.len → RiseFrom 1 ws → covered f (windows_with r ws) ≡ (covered f ws || covers f r)
+pub covers_with : (f : ℕ) (r : Frames) (ws : List Frames) → 1 ≤ r.len → RiseFrom 1 ws → is_covered f (windows_with r ws) ≡ (is_covered f ws || covers f r)
 covers_with f r ws some rise =
     list_any-append (covers f) (lowers_of r ws) (union r ws ∷ highers_of r ws)
-    ∙ (ap (λ (x : Bool). covered f (lowers_of r ws) || (x || covered f (highers_of r ws))) (union_covers f r r ws some (omega arith) (omega arith))
-    ∙ (union_moves (covered f (lowers_of r ws)) (covers f r) (covered f (filter (meets r) ws)) (covered f (highers_of r ws))
+    ∙ (ap (λ (x : Bool). is_covered f (lowers_of r ws) || (x || is_covered f (highers_of r ws))) (union_covers f r r ws some (omega arith) (omega arith))
+    ∙ (union_moves (is_covered f (lowers_of r ws)) (covers f r) (is_covered f (filter (meets r) ws)) (is_covered f (highers_of r ws))
     ∙ ap (λ (x : Bool). x || covers f r) (sym (split_covers f r 1 ws some rise))))
 
 pub length_with : (r : Frames) (ws : List Frames) → length (windows_with r ws) ≡ length (lowers_of r ws) + (1 + length (highers_of r ws))

@@ -10,7 +10,7 @@ use Rattle.iova_text.specs.Lines.{whole_line}
 use Rattle.iova_regions.specs.declared.region.Region.{Region}
 use Rattle.iova_regions.specs.declared.region.Counted.{Counted}
 use Rattle.iova_regions.specs.Text.{IsRegion, region_text, regions_text}
-use Rattle.iova_regions.specs.Windows.{covered, is_between}
+use Rattle.iova_regions.specs.Windows.{is_covered, is_between}
 use Rattle.iova_regions.specs.Regions.{counts, frames_of, windows_after, after_all, keeps_back, Covers, AreTaken}
 
 or_nothing : (x : Bool) → x ≡ (x || (false || false))
@@ -27,7 +27,7 @@ or_moves false y z = refl
 
 pub covers_nothing : (which : Counted) (bounds : Extent) (r : Region) (ws : List Frames) → ((f : ℕ) → keeps_back which bounds f r ≡ false) → Covers which bounds (r ∷ []) ws ws
 covers_nothing which bounds r ws none =
-    λ f. or_nothing (covered f ws) ∙ ap (λ (x : Bool). covered f ws || (x || false)) (sym (none f))
+    λ f. or_nothing (is_covered f ws) ∙ ap (λ (x : Bool). is_covered f ws || (x || false)) (sym (none f))
 
 pub uncounted : (which : Counted) (bounds : Extent) (r : Region) → counts which r.kind ≡ false → (f : ℕ) → keeps_back which bounds f r ≡ false
 uncounted which bounds r left f = ap (λ (x : Bool). x && (covers f (frames_of r) && is_between bounds.start bounds.last f)) left
@@ -38,22 +38,22 @@ outside which bounds r counted none f = ap (λ (x : Bool). x && (covers f (frame
 
 pub covers_part : (which : Counted) (bounds : Extent) (r : Region) (p : Frames) (old new : List Frames) → counts which r.kind ≡ true
     → ((f : ℕ) → covers f p ≡ (covers f (frames_of r) && is_between bounds.start bounds.last f))
-    → ((f : ℕ) → covered f new ≡ (covered f old || covers f p)) → Covers which bounds (r ∷ []) old new
+    → ((f : ℕ) → is_covered f new ≡ (is_covered f old || covers f p)) → Covers which bounds (r ∷ []) old new
 covers_part which bounds r p old new counted is covers_it =
     λ f.
     let keeps : keeps_back which bounds f r ≡ (covers f (frames_of r) && is_between bounds.start bounds.last f) = ap (λ (x : Bool). x && (covers f (frames_of r) && is_between bounds.start bounds.last f)) counted in
-    covers_it f ∙ ap (λ (x : Bool). covered f old || x) (is f ∙ (sym keeps ∙ or_none (keeps_back which bounds f r)))
+    covers_it f ∙ ap (λ (x : Bool). is_covered f old || x) (is f ∙ (sym keeps ∙ or_none (keeps_back which bounds f r)))
 
 covers_more : (which : Counted) (bounds : Extent) (rs : List Region) (r : Region) (a b c : List Frames) → Covers which bounds rs a b → Covers which bounds (r ∷ []) b c
     → Covers which bounds (rs ++ r ∷ []) a c
 covers_more which bounds rs r a b c first then =
     λ f.
     then f ∙ (ap (λ (x : Bool). x || list_any (keeps_back which bounds f) (r ∷ [])) (first f)
-    ∙ (or_moves (covered f a) (list_any (keeps_back which bounds f) rs) (list_any (keeps_back which bounds f) (r ∷ []))
-    ∙ ap (λ (x : Bool). covered f a || x) (sym (list_any-append (keeps_back which bounds f) rs (r ∷ [])))))
+    ∙ (or_moves (is_covered f a) (list_any (keeps_back which bounds f) rs) (list_any (keeps_back which bounds f) (r ∷ []))
+    ∙ ap (λ (x : Bool). is_covered f a || x) (sym (list_any-append (keeps_back which bounds f) rs (r ∷ [])))))
 
 pub covers_none : (which : Counted) (bounds : Extent) (ws : List Frames) → Covers which bounds [] ws ws
-covers_none which bounds ws = λ f. or_none (covered f ws)
+covers_none which bounds ws = λ f. or_none (is_covered f ws)
 
 after_more : (which : Counted) (bounds : Extent) (rs : List Region) (r : Region) (a b : List Frames) → after_all which bounds rs a ≡ Some b
     → length (windows_after which bounds r b) ≤ 64 → after_all which bounds (rs ++ r ∷ []) a ≡ Some (windows_after which bounds r b)

@@ -15,7 +15,7 @@ use Rattle.iova_regions.specs.declared.region.Counted.TheVariants as counted
 use Rattle.iova_regions.specs.declared.fault.RegionsFault.{RegionsFault}
 use Rattle.iova_regions.specs.declared.fault.RegionsFault.TheVariants as fault
 use Rattle.iova_regions.specs.Text.{IsRegion, region_text, regions_text}
-use Rattle.iova_regions.specs.Windows.{windows_with, covered, is_between, part}
+use Rattle.iova_regions.specs.Windows.{windows_with, is_covered, is_between, part}
 
 abbrev pub is_direct : RegionKind → Bool
 is_direct kind.Direct = true
@@ -55,7 +55,7 @@ keeps_back which bounds frame r =
 -- a window has the frame afterwards exactly where one had it before or a region keeps it back
 abbrev pub Covers : Counted → Extent → List Region → List Frames → List Frames → Type 0
 Covers which bounds rs old new =
-    (frame : ℕ) → covered frame new ≡ (covered frame old
+    (frame : ℕ) → is_covered frame new ≡ (is_covered frame old
     || list_any (keeps_back which bounds frame) rs)
 
 -- lines of these regions, whose windows there is room for

@@ -28,8 +28,8 @@ abbrev pub windows_with : Frames → List Frames → List Frames
 windows_with r ws = filter (λ w. lies_below w r) ws ++ union r ws ∷ filter (λ w. lies_below r w) ws
 
 -- a window has the frame
-abbrev pub covered : ℕ → List Frames → Bool
-covered frame ws = list_any (covers frame) ws
+abbrev pub is_covered : ℕ → List Frames → Bool
+is_covered frame ws = list_any (covers frame) ws
 
 -- the frame is one of these, with the first and the last
 abbrev pub is_between : ℕ → ℕ → ℕ → Bool

@@ -1,7 +1,7 @@
 //! Windows: frames that are kept back.
 ghost use Rattle.std.specs.Prelude.{◌≡◌, ◌≤◌, ◌<◌, ℕ, ◌&&◌, ◌||◌, ◌^◌, [], OnOk, OnErr, MatchOption, length, filter, fold, false, nat_le};
 ghost use Rattle.iova_range.specs.Frames.{Frames, covers, meets, join};
-ghost use Rattle.iova_regions.specs.Windows.{AreWindows, RiseFrom, lies_below, union, windows_with, covered, is_between, part};
+ghost use Rattle.iova_regions.specs.Windows.{AreWindows, RiseFrom, lies_below, union, windows_with, is_covered, is_between, part};
 
 use crate::ranges::Ranges;
 use iova_range::limits::MAX_WINDOWS;
@@ -68,7 +68,7 @@ impl Windows {
         ensures ok { OnOk result (self.new ≡ windows_with range self.old) }
         ensures windows { OnOk result (AreWindows self.new) }
         ensures covers { OnOk result ((frame : ℕ)
-            → covered frame self.new ≡ (covered frame self.old || covers frame range)) }
+            → is_covered frame self.new ≡ (is_covered frame self.old || covers frame range)) }
         ensures same { OnErr result (self.new ≡ self.old) }
         ensures full { OnErr result ((result ≡ Err Refusal.WindowsFull)
             × (MAX_WINDOWS < length (windows_with range self.old))) }

@@ -5,7 +5,7 @@ use Rattle.std.specs.List.{AllByRecursion}
 use Rattle.std.proofs.lemmas.Bool.{cases_eq}
 use Rattle.std.proofs.lemmas.Bool.Decides.{nat_tests}
 use Rattle.iova_range.specs.Frames.{Frames}
-use Rattle.iova_model.specs.Clients.{Client, client_with, client_of, has_id, if_owned, forgotten, all_holdings, holdings_in}
+use Rattle.iova_model.specs.Clients.{Client, client_with, client_of, has_id, if_owned, without_client, all_holdings, holdings_in}
 use Rattle.iova_model.specs.State.{State}
 use Rattle.iova_model.specs.Valid.{SerialsRise}
 use Rattle.iova_model.specs.Laws.{StepsKeepValidity}
@@ -45,11 +45,11 @@ other_id id x e is = grind (arith, nat_tests)
 
 -- one that is forgotten leaves the others
 forgotten_step : (w id : ℕ) (ids : List ℕ) (x : Client) (cs : List Client) (b : Bool) → has_id id x ≡ b → (id ≤ x.id → AllByRecursion (IsOneOf w ids) cs) → ((x.id ≡ id → ⊥) → IsOneOf w ids x)
-    → AllByRecursion (IsOneOf w ids) (forgotten id cs) → AllByRecursion (IsOneOf w ids) (forgotten id (x ∷ cs))
+    → AllByRecursion (IsOneOf w ids) (without_client id cs) → AllByRecursion (IsOneOf w ids) (without_client id (x ∷ cs))
 forgotten_step w id ids x cs true e above other further = rw e (above (same_id id x e))
 forgotten_step w id ids x cs false e above other further = rw e (other (other_id id x e), further)
 
-forgotten_others : (w id low : ℕ) (ids : List ℕ) (cs : List Client) (top : ℕ) → SerialsRise low cs top → AllByRecursion (IsOneOf w (id ∷ ids)) cs → AllByRecursion (IsOneOf w ids) (forgotten id cs)
+forgotten_others : (w id low : ℕ) (ids : List ℕ) (cs : List Client) (top : ℕ) → SerialsRise low cs top → AllByRecursion (IsOneOf w (id ∷ ids)) cs → AllByRecursion (IsOneOf w ids) (without_client id cs)
 forgotten_others w id low ids [] top rise each = tt
 forgotten_others w id low ids (x ∷ cs) top rise each =
     forgotten_step w id ids x cs (has_id id x) refl (λ le. above_others w id x.id ids cs top rise.1 le each.1) (λ other. is_other w id ids x other each.0)
@@ -86,16 +86,16 @@ nobody_holds w (c ∷ cs) each =
 
 -- Who is gone.
 
-other_found : (id j : ℕ) (cs : List Client) → (j ≡ id → ⊥) → client_with j (forgotten id cs) ≡ client_with j cs
+other_found : (id j : ℕ) (cs : List Client) → (j ≡ id → ⊥) → client_with j (without_client id cs) ≡ client_with j cs
 other_found id j [] other = refl
 other_found id j (x ∷ cs) other = grind (arith, nat_tests, other_found id j cs other)
 
-gone_step : (w id j : ℕ) (cs : List Client) (top : ℕ) → SerialsRise 0 cs top → client_of w j cs ≡ None → (j ≡ id) ⊎ (j ≡ id → ⊥) → client_of w j (forgotten id cs) ≡ None
+gone_step : (w id j : ℕ) (cs : List Client) (top : ℕ) → SerialsRise 0 cs top → client_of w j cs ≡ None → (j ≡ id) ⊎ (j ≡ id → ⊥) → client_of w j (without_client id cs) ≡ None
 gone_step w id j cs top rise none (inl e) =
-    subst (λ (k : ℕ). client_of w k (forgotten id cs) ≡ None) (sym e) (ap (λ o. option_and_then (if_owned w) o) (forgotten_is_gone id 0 cs top rise))
+    subst (λ (k : ℕ). client_of w k (without_client id cs) ≡ None) (sym e) (ap (λ o. option_and_then (if_owned w) o) (forgotten_is_gone id 0 cs top rise))
 gone_step w id j cs top rise none (inr other) = ap (λ o. option_and_then (if_owned w) o) (other_found id j cs other) ∙ none
 
-gone_stays : (w id j : ℕ) (cs : List Client) (top : ℕ) → SerialsRise 0 cs top → client_of w j cs ≡ None → client_of w j (forgotten id cs) ≡ None
+gone_stays : (w id j : ℕ) (cs : List Client) (top : ℕ) → SerialsRise 0 cs top → client_of w j cs ≡ None → client_of w j (without_client id cs) ≡ None
 gone_stays w id j cs top rise none = gone_step w id j cs top rise none (cases_eq j id)
 
 -- what the end of one client leaves of those that hold, and of those that are gone
@@ -105,7 +105,7 @@ record After (w id : ℕ) (ids : List ℕ) (s t : State) : Type 0 where
   stays : (j : ℕ) → client_of w j s.clients ≡ None → client_of w j t.clients ≡ None
 
 after_end : (w id : ℕ) (ids : List ℕ) (s t : State) → SerialsRise 0 s.clients s.serial → AllByRecursion (IsOneOf w (id ∷ ids)) s.clients
-    → (t.clients ≡ forgotten id s.clients) ⊎ ((t ≡ s) × (client_of w id s.clients ≡ None)) → After w id ids s t
+    → (t.clients ≡ without_client id s.clients) ⊎ ((t ≡ s) × (client_of w id s.clients ≡ None)) → After w id ids s t
 after_end w id ids s t rise each (inl e) = record {
   holders = subst (λ (cs : List Client). AllByRecursion (IsOneOf w ids) cs) (sym e) (forgotten_others w id 0 ids s.clients s.serial rise each);
   gone = ap (client_of w id) e ∙ ap (λ o. option_and_then (if_owned w) o) (forgotten_is_gone id 0 s.clients s.serial rise);
@@ -159,7 +159,7 @@ module _ (law : StepsKeepValidity) (number : ℕ) where
     kept : a.kept ≡ false
     over : a.over ≡ false
     calm : Calm left.held t
-    clients : (t.clients ≡ forgotten id s.clients) ⊎ ((t ≡ s) × (client_of seat.worker id s.clients ≡ None))
+    clients : (t.clients ≡ without_client id s.clients) ⊎ ((t ≡ s) × (client_of seat.worker id s.clients ≡ None))
 
   attempt_ends : (seat left : SeatState) (id : ℕ) (a : Attempt) (before now : List Call) (s t : State) → Calm seat.held s → failed_calls now ≡ failed_calls before → Attempts false seat left id a number before now s t
       → Tried seat left id a s t

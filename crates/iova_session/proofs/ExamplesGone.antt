@@ -4,7 +4,7 @@ use Rattle.std.specs.List.{AllByRecursion}
 use Rattle.iova_range.specs.Frames.{Frames}
 use Rattle.iova_range.specs.Bounds.{first_profile}
 use Rattle.iova_model.specs.Clients.{Client}
-use Rattle.iova_model.specs.Flushes.{begun}
+use Rattle.iova_model.specs.Flushes.{with_flight}
 use Rattle.iova_model.specs.State.{State, new_domain}
 use Rattle.iova_model.specs.Next.{with_flushes}
 use Rattle.iova_sink.specs.Calls.{Call, failed_in, failed_calls}
@@ -48,7 +48,7 @@ not_waiting : IsAlone seat [] (domain []) → ⊥
 not_waiting a = let there = (a.holders.0 (λ e. cc)).1.1 in omega (arith, there)
 
 -- nor where a flush is in flight
-not_quiet : IsAlone seat (1 ∷ []) (with_flushes (domain []) (begun (domain []).flushes)) → ⊥
+not_quiet : IsAlone seat (1 ∷ []) (with_flushes (domain []) (with_flight (domain []).flushes)) → ⊥
 not_quiet a = let none = a.quiet in cc
 
 -- None failed where each call that was appended went well.

@@ -12,7 +12,7 @@ use Rattle.iova_model.specs.declared.step.Step.TheVariants as step
 use Rattle.iova_model.specs.declared.step.Reply.{Reply}
 use Rattle.iova_model.specs.declared.step.Reply.TheVariants as reply
 use Rattle.iova_model.specs.declared.totals.Totals.{Totals}
-use Rattle.iova_model.specs.Clients.{Client, client_with, client_of, if_owned, changed, forgotten, without_holding, marked}
+use Rattle.iova_model.specs.Clients.{Client, client_with, client_of, if_owned, change_client, without_client, without_holding, with_mark}
 use Rattle.iova_model.specs.State.{State}
 use Rattle.iova_model.specs.Valid.{IsValid, SerialsRise}
 use Rattle.iova_model.specs.Next
@@ -31,7 +31,7 @@ none_below id low [] top rise le = refl
 none_below id low (x ∷ cs) top rise le = grind (arith, nat_tests, none_below id x.id cs top rise.1)
 
 -- a client that is forgotten is gone
-pub forgotten_is_gone : (id low : ℕ) (clients : List Client) (top : ℕ) → SerialsRise low clients top → client_with id (forgotten id clients) ≡ None
+pub forgotten_is_gone : (id low : ℕ) (clients : List Client) (top : ℕ) → SerialsRise low clients top → client_with id (without_client id clients) ≡ None
 forgotten_is_gone id low [] top rise = refl
 forgotten_is_gone id low (x ∷ cs) top rise = grind (arith, nat_tests, forgotten_is_gone id x.id cs top rise.1, none_below id x.id cs top rise.1)
 
@@ -79,7 +79,7 @@ module _ (s : State) (w id : ℕ) (rise : SerialsRise 0 s.clients s.serial) wher
     known = λ there e u same. let both : None ≡ Some there.client = sym none ∙ found_there w id s there in cc;
   }
 
-  empty_says : Says w id s reply.Empty (Next.with_clients s (forgotten id s.clients))
+  empty_says : Says w id s reply.Empty (Next.with_clients s (without_client id s.clients))
   empty_says = record {
     gone = λ e. forgotten_is_gone id 0 s.clients s.serial rise;
     queued = λ q e. absurd cc;
@@ -98,13 +98,13 @@ module _ (s : State) (w id : ℕ) (rise : SerialsRise 0 s.clients s.serial) wher
   lowest_says c is worker [] = empty_says
   lowest_says c is worker (r ∷ rs) =
       let own = owned w id s.clients c is in
-      let m = Next.with_clients s (changed id marked s.clients) in
-      let d = Next.drained m w w in
-      let now : client_with id (changed id marked s.clients) ≡ Some (marked c) = changed_found id marked c s.clients own.is refl in
-      cond_both (nat_le MAX_ENTRIES (length (Next.ring_at d w))) (Next.refused refusal.RingFull m) (record { reply = reply.Queued r; state = Next.queued d w id r }) (λ n. Says w id s n.reply n.state)
-      (λ b. full_says m (record { client = marked c; is = now; mine = own.worker; worker = worker }))
-      (λ b. queued_says (Next.queued d w id r) r
-      (record { client = without_holding r.lo (marked c); is = changed_found id (without_holding r.lo) (marked c) (changed id marked s.clients) now refl; mine = own.worker; worker = worker }))
+      let m = Next.with_clients s (change_client id with_mark s.clients) in
+      let d = Next.after_drain m w w in
+      let now : client_with id (change_client id with_mark s.clients) ≡ Some (with_mark c) = changed_found id with_mark c s.clients own.is refl in
+      cond_both (nat_le MAX_ENTRIES (length (Next.ring_at d w))) (Next.refuse_step refusal.RingFull m) (record { reply = reply.Queued r; state = Next.with_entry d w id r }) (λ n. Says w id s n.reply n.state)
+      (λ b. full_says m (record { client = with_mark c; is = now; mine = own.worker; worker = worker }))
+      (λ b. queued_says (Next.with_entry d w id r) r
+      (record { client = without_holding r.lo (with_mark c); is = changed_found id (without_holding r.lo) (with_mark c) (change_client id with_mark s.clients) now refl; mine = own.worker; worker = worker }))
 
   client_says : (o : Option Client) → client_of w id s.clients ≡ o → Next.no_worker s w ≡ false
       → Says w id s (Next.close_one_of o s w id).reply (Next.close_one_of o s w id).state
@@ -113,7 +113,7 @@ module _ (s : State) (w id : ℕ) (rise : SerialsRise 0 s.clients s.serial) wher
 
   close_says : Says w id s (Next.close_one s w id).reply (Next.close_one s w id).state
   close_says =
-      cond_both (Next.no_worker s w) (Next.refused refusal.NoWorker s) (Next.close_one_of (client_of w id s.clients) s w id) (λ n. Says w id s n.reply n.state)
+      cond_both (Next.no_worker s w) (Next.refuse_step refusal.NoWorker s) (Next.close_one_of (client_of w id s.clients) s w id) (λ n. Says w id s n.reply n.state)
       no_worker_says (λ b. client_says (client_of w id s.clients) refl b)
 
 -- Steps in a valid domain.

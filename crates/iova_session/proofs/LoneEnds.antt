@@ -12,7 +12,7 @@ use Rattle.iova_model.specs.declared.step.Step.TheVariants as step
 use Rattle.iova_model.specs.declared.step.Reply.{Reply}
 use Rattle.iova_model.specs.declared.step.Reply.TheVariants as reply
 use Rattle.iova_model.specs.declared.totals.Totals.{Totals}
-use Rattle.iova_model.specs.Clients.{Client, client_with, client_of, has_id, forgotten, totals, all_holdings}
+use Rattle.iova_model.specs.Clients.{Client, client_with, client_of, has_id, without_client, totals, all_holdings}
 use Rattle.iova_model.specs.State.{State}
 use Rattle.iova_model.specs.Valid.{IsValid, IsClient}
 use Rattle.iova_model.specs.Next
@@ -223,10 +223,10 @@ record Unseen (s : State) (r : Reply) (t : State) : Type 0 where
 
 unseen_of : (s : State) (w id : ℕ) (b : Bool) → Next.no_worker s w ≡ b → client_of w id s.clients ≡ None → Unseen s (Next.close_one s w id).reply (Next.close_one s w id).state
 unseen_of s w id true worker none =
-    let goes : Next.close_one s w id ≡ Next.refused refusal.NoWorker s = rw worker refl in
+    let goes : Next.close_one s w id ≡ Next.refuse_step refusal.NoWorker s = rw worker refl in
     subst (λ (n : Next.Next). Unseen s n.reply n.state) (sym goes) (record { reply = no_worker; same = refl })
 unseen_of s w id false worker none =
-    let goes : Next.close_one s w id ≡ Next.refused refusal.NoClient s = rw (worker, none) refl in
+    let goes : Next.close_one s w id ≡ Next.refuse_step refusal.NoClient s = rw (worker, none) refl in
     subst (λ (n : Next.Next). Unseen s n.reply n.state) (sym goes) (record { reply = no_client; same = refl })
 
 takes_unseen : (s : State) (w id : ℕ) (r : Reply) (t : State) → client_of w id s.clients ≡ None → Takes s (step.CloseOne w id) r t → Unseen s r t
@@ -310,7 +310,7 @@ pub record Calm (held : Totals) (s : State) : Type 0 where
 
 -- what all clients hold is what one holds, and what the others do
 measured_step : (m : List Frames → ℕ) → ((xs ys : List Frames) → m (xs ++ ys) ≡ m xs + m ys) → (id : ℕ) (c x : Client) (cs : List Client) (b : Bool) → has_id id x ≡ b → client_with id (x ∷ cs) ≡ Some c
-    → (client_with id cs ≡ Some c → m (all_holdings cs) ≡ m c.holdings + m (all_holdings (forgotten id cs))) → m (all_holdings (x ∷ cs)) ≡ m c.holdings + m (all_holdings (forgotten id (x ∷ cs)))
+    → (client_with id cs ≡ Some c → m (all_holdings cs) ≡ m c.holdings + m (all_holdings (without_client id cs))) → m (all_holdings (x ∷ cs)) ≡ m c.holdings + m (all_holdings (without_client id (x ∷ cs)))
 measured_step m adds id c x cs true e found further =
     let here = rw e at found in
     let one : x ≡ c = cc (here) in
@@ -318,11 +318,11 @@ measured_step m adds id c x cs true e found further =
 measured_step m adds id c x cs false e found further =
     let more = further (rw e at found) in
     let first = adds x.holdings (all_holdings cs) in
-    let last = adds x.holdings (all_holdings (forgotten id cs)) in
+    let last = adds x.holdings (all_holdings (without_client id cs)) in
     rw e (omega (arith, more, first, last))
 
 measured : (m : List Frames → ℕ) → ((xs ys : List Frames) → m (xs ++ ys) ≡ m xs + m ys) → (id : ℕ) (c : Client) (cs : List Client) → client_with id cs ≡ Some c
-    → m (all_holdings cs) ≡ m c.holdings + m (all_holdings (forgotten id cs))
+    → m (all_holdings cs) ≡ m c.holdings + m (all_holdings (without_client id cs))
 measured m adds id c [] is = absurd cc
 measured m adds id c (x ∷ cs) is = measured_step m adds id c x cs (has_id id x) refl is (λ further. measured m adds id c cs further)
 
@@ -334,7 +334,7 @@ found_all : (P : Client → Type 0) (id : ℕ) (c : Client) (cs : List Client) �
 found_all P id c [] each is = absurd cc
 found_all P id c (x ∷ cs) each is = found_step P id c x cs (has_id id x) refl each.0 is (λ further. found_all P id c cs each.1 further)
 
-calm_lone : (w id : ℕ) (held : Totals) (s : State) (c : Client) → Calm held s → client_of w id s.clients ≡ Some c → Lone w id (forgotten id s.clients) held MAX_SERIAL s
+calm_lone : (w id : ℕ) (held : Totals) (s : State) (c : Client) → Calm held s → client_of w id s.clients ≡ Some c → Lone w id (without_client id s.clients) held MAX_SERIAL s
 calm_lone w id held s c calm is =
     let own = owned w id s.clients c is in
     let known = found_all (IsClient s.workers) id c s.clients calm.valid.clients.each own.is in
@@ -360,7 +360,7 @@ calm_lone w id held s c calm is =
 pub record LoneEnd (w id : ℕ) (left : Totals) (result : Result Ending Refusal) (s t : State) : Type 0 where
   pub over : still_waits result ≡ false
   pub calm : Calm left t
-  pub clients : (t.clients ≡ forgotten id s.clients) ⊎ ((t ≡ s) × (client_of w id s.clients ≡ None))
+  pub clients : (t.clients ≡ without_client id s.clients) ⊎ ((t ≡ s) × (client_of w id s.clients ≡ None))
 
 module _ (law : StepsKeepValidity) (seat : SeatState) (left : Totals) (id number : ℕ) (result : Result Ending Refusal) (before now : List Call) (s t : State) where
   ends_of : (o : Option Client) → client_of seat.worker id s.clients ≡ o → Calm seat.held s → failed_calls now ≡ failed_calls before → DoesEndClient seat left id result number before now s t
@@ -375,7 +375,7 @@ module _ (law : StepsKeepValidity) (seat : SeatState) (left : Totals) (id number
   ends_of (Some c) is calm good d =
       let sum = ap failed_calls d.allowed.1 ∙ failed_append before (sink_calls number d.events) in
       let none : failed_calls (sink_calls number d.events) ≡ 0 = omega (arith, sum, good) in
-      let e = end_ends law seat.worker id (forgotten id s.clients) number s t d.allowed.0 calm.valid (calm_lone seat.worker id seat.held s c calm is) none d.leads in
+      let e = end_ends law seat.worker id (without_client id s.clients) number s t d.allowed.0 calm.valid (calm_lone seat.worker id seat.held s c calm is) none d.leads in
       let l = e.left_so in
       record {
         over = e.over;

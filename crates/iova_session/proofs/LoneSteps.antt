@@ -14,8 +14,8 @@ use Rattle.iova_model.specs.declared.step.Step.TheVariants as step
 use Rattle.iova_model.specs.declared.step.Reply.{Reply}
 use Rattle.iova_model.specs.declared.step.Reply.TheVariants as reply
 use Rattle.iova_model.specs.declared.totals.Totals.{Totals}
-use Rattle.iova_model.specs.Clients.{Client, client_with, client_of, if_owned, changed, forgotten, remove_at, without_holding, marked, totals_of, totals, all_holdings}
-use Rattle.iova_model.specs.Flushes.{Flushes, AreSound, CountsRise, begun, ended, is_in_flight, unflushed}
+use Rattle.iova_model.specs.Clients.{Client, client_with, client_of, if_owned, change_client, without_client, remove_at, without_holding, with_mark, totals_of, totals, all_holdings}
+use Rattle.iova_model.specs.Flushes.{Flushes, AreSound, CountsRise, with_flight, after_end, is_in_flight, unflushed_rest}
 use Rattle.iova_model.specs.State.{State}
 use Rattle.iova_model.specs.Valid.{IsValid, IsRing}
 use Rattle.iova_model.specs.Next
@@ -34,7 +34,7 @@ below_top low [] top rise = rise
 below_top low (e ∷ es) top rise = omega (arith, rise.0, below_top e.count es top rise.1)
 
 -- counts that are all below the finish count
-all_flushed : (low finish : ℕ) (es : List Entry) (top : ℕ) → CountsRise low es top → top < finish → unflushed finish es ≡ []
+all_flushed : (low finish : ℕ) (es : List Entry) (top : ℕ) → CountsRise low es top → top < finish → unflushed_rest finish es ≡ []
 all_flushed low finish [] top rise lt = refl
 all_flushed low finish (e ∷ es) top rise lt =
     let here : e.count ≤ top = below_top e.count es top rise.1 in
@@ -55,9 +55,9 @@ emptied_ring (r ∷ rs) (suc q) = emptied_ring rs q
 
 -- what the end of a flush leaves that began where none was in flight
 record OnlyFlush (f : Flushes) (n : ℕ) : Type 0 where
-  there : is_in_flight n (begun f).in_flight ≡ true
-  quiet : (ended (begun f) n true).in_flight ≡ []
-  finish : (ended (begun f) n true).finish ≡ f.start + 1
+  there : is_in_flight n (with_flight f).in_flight ≡ true
+  quiet : (after_end (with_flight f) n true).in_flight ≡ []
+  finish : (after_end (with_flight f) n true).finish ≡ f.start + 1
 
 only_flush : (f : Flushes) (n : ℕ) → f.in_flight ≡ [] → n ≡ f.start + 1 → AreSound f → OnlyFlush f n
 only_flush f n none is sound =
@@ -71,7 +71,7 @@ only_flush f n none is sound =
 
 -- Clients.
 
-pub forgotten_changed : (id : ℕ) (change : Client → Client) (cs : List Client) → ((c : Client) → (change c).id ≡ c.id) → forgotten id (changed id change cs) ≡ forgotten id cs
+pub forgotten_changed : (id : ℕ) (change : Client → Client) (cs : List Client) → ((c : Client) → (change c).id ≡ c.id) → without_client id (change_client id change cs) ≡ without_client id cs
 forgotten_changed id change [] keeps = refl
 forgotten_changed id change (x ∷ cs) keeps = let k = keeps x in grind (arith, nat_tests, forgotten_changed id change cs keeps)
 
@@ -85,7 +85,7 @@ pub record Lone (w id : ℕ) (rest : List Client) (held : Totals) (top : ℕ) (s
   pub is : client_with id s.clients ≡ Some client
   pub mine : client.worker ≡ w
   pub worker : Next.no_worker s w ≡ false
-  pub others : forgotten id s.clients ≡ rest
+  pub others : without_client id s.clients ≡ rest
   pub shares : HasAtLeast held (add_totals (totals_of client.holdings) (totals rest))
   pub quiet : s.flushes.in_flight ≡ []
   pub numbers : s.flushes.start + (length client.holdings + length (all_holdings rest)) ≤ top
@@ -108,7 +108,7 @@ pub record Says (w id : ℕ) (rest : List Client) (held : Totals) (top : ℕ) (s
   pub queued : (q : Frames) (mid : Totals) (low : ℕ) → r ≡ reply.Queued q → held ≡ add_totals mid (totals_of (q ∷ [])) → top ≤ low + 1 → Lone w id rest mid low t
   pub full : r ≡ reply.Refused refusal.RingFull → Full w id rest held top t
   pub only : (e : Refusal) → r ≡ reply.Refused e → e ≡ refusal.RingFull
-  pub room : unflushed s.flushes.finish (Next.ring_at s w) ≡ [] → r ≡ reply.Refused refusal.RingFull → ⊥
+  pub room : unflushed_rest s.flushes.finish (Next.ring_at s w) ≡ [] → r ≡ reply.Refused refusal.RingFull → ⊥
 
 refused_as : {e d : Refusal} → ◌≡◌ {A = Reply} (reply.Refused e) (reply.Refused d) → d ≡ e
 refused_as h = cc
@@ -133,7 +133,7 @@ at_least_rest : (held a b : Totals) → HasAtLeast held (add_totals a b) → Has
 at_least_rest held a b h = record { count = omega (arith, h.count); frames = omega (arith, h.frames); sum_lo = omega (arith, h.sum_lo) }
 
 module _ (w id : ℕ) (rest : List Client) (held : Totals) (top : ℕ) (s : State) (lone : Lone w id rest held top s) where
-  empty_says : lone.client.holdings ≡ [] → Says w id rest held top s lone.client reply.Empty (Next.with_clients s (forgotten id s.clients))
+  empty_says : lone.client.holdings ≡ [] → Says w id rest held top s lone.client reply.Empty (Next.with_clients s (without_client id s.clients))
   empty_says none = record {
     empty = λ e. (
       none,
@@ -150,14 +150,14 @@ module _ (w id : ℕ) (rest : List Client) (held : Totals) (top : ℕ) (s : Stat
     room = λ out e. cc;
   }
 
-  lone_marked : (r : Frames) (rs : List Frames) → lone.client.holdings ≡ r ∷ rs → Full w id rest held top (Next.with_clients s (changed id marked s.clients))
+  lone_marked : (r : Frames) (rs : List Frames) → lone.client.holdings ≡ r ∷ rs → Full w id rest held top (Next.with_clients s (change_client id with_mark s.clients))
   lone_marked r rs is = record {
     lone = record {
-      client = marked lone.client;
-      is = changed_found id marked lone.client s.clients lone.is refl;
+      client = with_mark lone.client;
+      is = changed_found id with_mark lone.client s.clients lone.is refl;
       mine = lone.mine;
       worker = lone.worker;
-      others = forgotten_changed id marked s.clients (λ c. refl) ∙ lone.others;
+      others = forgotten_changed id with_mark s.clients (λ c. refl) ∙ lone.others;
       shares = lone.shares;
       quiet = lone.quiet;
       numbers = lone.numbers;
@@ -166,8 +166,8 @@ module _ (w id : ℕ) (rest : List Client) (held : Totals) (top : ℕ) (s : Stat
   }
 
   full_says : (r : Frames) (rs : List Frames) → lone.client.holdings ≡ r ∷ rs
-      → nat_le MAX_ENTRIES (length (Next.ring_at (Next.drained (Next.with_clients s (changed id marked s.clients)) w w) w)) ≡ true
-      → Says w id rest held top s lone.client (reply.Refused refusal.RingFull) (Next.with_clients s (changed id marked s.clients))
+      → nat_le MAX_ENTRIES (length (Next.ring_at (Next.after_drain (Next.with_clients s (change_client id with_mark s.clients)) w w) w)) ≡ true
+      → Says w id rest held top s lone.client (reply.Refused refusal.RingFull) (Next.with_clients s (change_client id with_mark s.clients))
   full_says r rs is b = record {
     empty = λ e. absurd cc;
     queued = λ q mid low e sum le. absurd cc;
@@ -180,9 +180,9 @@ module _ (w id : ℕ) (rest : List Client) (held : Totals) (top : ℕ) (s : Stat
   }
 
   queued_says : (r : Frames) (rs : List Frames) → lone.client.holdings ≡ r ∷ rs
-      → Says w id rest held top s lone.client (reply.Queued r) (Next.queued (Next.drained (Next.with_clients s (changed id marked s.clients)) w w) w id r)
+      → Says w id rest held top s lone.client (reply.Queued r) (Next.with_entry (Next.after_drain (Next.with_clients s (change_client id with_mark s.clients)) w w) w id r)
   queued_says r rs is =
-      let now : client_with id (changed id marked s.clients) ≡ Some (marked lone.client) = changed_found id marked lone.client s.clients lone.is refl in
+      let now : client_with id (change_client id with_mark s.clients) ≡ Some (with_mark lone.client) = changed_found id with_mark lone.client s.clients lone.is refl in
       let left : remove_at r.lo lone.client.holdings ≡ rs = ap (remove_at r.lo) is ∙ remove_first r rs in
       record {
         empty = λ e. absurd cc;
@@ -191,11 +191,11 @@ module _ (w id : ℕ) (rest : List Client) (held : Totals) (top : ℕ) (s : Stat
             let shares = first_less held mid (totals rest) r rs (subst (λ (x : Frames). held ≡ add_totals mid (totals_of (x ∷ []))) same sum) (subst (λ (xs : List Frames). HasAtLeast held (add_totals (totals_of xs) (totals rest))) is lone.shares) in
             let numbers : s.flushes.start + (length (r ∷ rs) + length (all_holdings rest)) ≤ top = subst (λ (xs : List Frames). s.flushes.start + (length xs + length (all_holdings rest)) ≤ top) is lone.numbers in
             record {
-              client = without_holding r.lo (marked lone.client);
-              is = changed_found id (without_holding r.lo) (marked lone.client) (changed id marked s.clients) now refl;
+              client = without_holding r.lo (with_mark lone.client);
+              is = changed_found id (without_holding r.lo) (with_mark lone.client) (change_client id with_mark s.clients) now refl;
               mine = lone.mine;
               worker = lone.worker;
-              others = forgotten_changed id (without_holding r.lo) (changed id marked s.clients) (λ c. refl) ∙ (forgotten_changed id marked s.clients (λ c. refl) ∙ lone.others);
+              others = forgotten_changed id (without_holding r.lo) (change_client id with_mark s.clients) (λ c. refl) ∙ (forgotten_changed id with_mark s.clients (λ c. refl) ∙ lone.others);
               shares = subst (λ (xs : List Frames). HasAtLeast mid (add_totals (totals_of xs) (totals rest))) (sym left) shares;
               quiet = lone.quiet;
               numbers = subst (λ (xs : List Frames). s.flushes.start + (length xs + length (all_holdings rest)) ≤ low) (sym left) (omega (arith, numbers, le));
@@ -209,9 +209,9 @@ module _ (w id : ℕ) (rest : List Client) (held : Totals) (top : ℕ) (s : Stat
       → Says w id rest held top s lone.client (Next.close_lowest rs s w id).reply (Next.close_lowest rs s w id).state
   lowest_says [] is = empty_says is
   lowest_says (r ∷ rs) is =
-      let m = Next.with_clients s (changed id marked s.clients) in
-      let d = Next.drained m w w in
-      cond_both (nat_le MAX_ENTRIES (length (Next.ring_at d w))) (Next.refused refusal.RingFull m) (record { reply = reply.Queued r; state = Next.queued d w id r }) (λ n. Says w id rest held top s lone.client n.reply n.state)
+      let m = Next.with_clients s (change_client id with_mark s.clients) in
+      let d = Next.after_drain m w w in
+      cond_both (nat_le MAX_ENTRIES (length (Next.ring_at d w))) (Next.refuse_step refusal.RingFull m) (record { reply = reply.Queued r; state = Next.with_entry d w id r }) (λ n. Says w id rest held top s lone.client n.reply n.state)
       (λ b. full_says r rs is b)
       (λ b. queued_says r rs is)
 
@@ -261,7 +261,7 @@ pub record Flying (w id : ℕ) (rest : List Client) (held : Totals) (n : ℕ) (s
   pub full : Full w id rest held MAX_SERIAL before
   pub sound : IsValid before
   pub number : n ≡ before.flushes.start + 1
-  pub is : s ≡ Next.with_flushes before (begun before.flushes)
+  pub is : s ≡ Next.with_flushes before (with_flight before.flushes)
 
 pub begin_lone : (w id : ℕ) (rest : List Client) (held : Totals) (s : State) (r : Reply) (t : State) → IsValid s → Full w id rest held MAX_SERIAL s → Takes s step.Begin r t
     → (n : ℕ) × (r ≡ reply.Begun n) × Flying w id rest held n t
@@ -272,7 +272,7 @@ begin_lone w id rest held s r t valid full h =
     let some = full.some in
     let lt : s.flushes.start < MAX_SERIAL = omega (arith, numbers, some) in
     let left : nat_le MAX_SERIAL s.flushes.start ≡ false = lt-leb MAX_SERIAL s.flushes.start lt in
-    let goes = unless_taken (Next.begin_tests s.flushes) s (record { reply = reply.Begun (s.flushes.start + 1); state = Next.with_flushes s (begun s.flushes) }) (rw (few, left) refl) in (
+    let goes = unless_taken (Next.begin_tests s.flushes) s (record { reply = reply.Begun (s.flushes.start + 1); state = Next.with_flushes s (with_flight s.flushes) }) (rw (few, left) refl) in (
       s.flushes.start + 1,
       h.1 ∙ ap (λ (n : Next.Next). n.reply) goes,
       record { before = s; full = full; sound = valid; number = refl; is = h.2 ∙ ap (λ (n : Next.Next). n.state) goes },
@@ -281,10 +281,10 @@ begin_lone w id rest held s r t valid full h =
 -- a flush has ended well, so that the ring is emptied next
 pub record Fresh (w id : ℕ) (rest : List Client) (held : Totals) (s : State) : Type 0 where
   pub full : Full w id rest held (MAX_SERIAL + 1) s
-  pub room : unflushed s.flushes.finish (Next.ring_at s w) ≡ []
+  pub room : unflushed_rest s.flushes.finish (Next.ring_at s w) ≡ []
 
 after_flush : (w id : ℕ) (rest : List Client) (held : Totals) (n : ℕ) (b : State) → IsValid b → Full w id rest held MAX_SERIAL b → n ≡ b.flushes.start + 1
-    → Fresh w id rest held (Next.with_flushes b (ended (begun b.flushes) n true))
+    → Fresh w id rest held (Next.with_flushes b (after_end (with_flight b.flushes) n true))
 after_flush w id rest held n b valid full is =
     let lone = full.lone in
     let over = only_flush b.flushes n lone.quiet is valid.flushes in
@@ -304,21 +304,21 @@ after_flush w id rest held n b valid full is =
         };
         some = full.some;
       };
-      room = all_flushed 0 (ended (begun b.flushes) n true).finish (Next.ring_at b w) b.flushes.start (ring_rises b.flushes.start b.rings w valid.rings) (omega (arith, finish));
+      room = all_flushed 0 (after_end (with_flight b.flushes) n true).finish (Next.ring_at b w) b.flushes.start (ring_rises b.flushes.start b.rings w valid.rings) (omega (arith, finish));
     }
 
 -- the end of the flush, as a step
 end_over : (w id : ℕ) (rest : List Client) (held : Totals) (n : ℕ) (b : State) → IsValid b → Full w id rest held MAX_SERIAL b → n ≡ b.flushes.start + 1
-    → Fresh w id rest held (Next.end (Next.with_flushes b (begun b.flushes)) n true).state
+    → Fresh w id rest held (Next.end (Next.with_flushes b (with_flight b.flushes)) n true).state
 end_over w id rest held n b valid full is =
-    let s = Next.with_flushes b (begun b.flushes) in
+    let s = Next.with_flushes b (with_flight b.flushes) in
     let over = only_flush b.flushes n full.lone.quiet is valid.flushes in
-    let there : not (is_in_flight n (begun b.flushes).in_flight) ≡ false = ap not over.there in
-    let goes = unless_taken (Next.end_tests s.flushes n) s (record { reply = reply.Ended; state = Next.with_flushes s (ended s.flushes n true) }) (rw there refl) in
+    let there : not (is_in_flight n (with_flight b.flushes).in_flight) ≡ false = ap not over.there in
+    let goes = unless_taken (Next.end_tests s.flushes n) s (record { reply = reply.Ended; state = Next.with_flushes s (after_end s.flushes n true) }) (rw there refl) in
     subst (λ (x : Next.Next). Fresh w id rest held x.state) (sym goes) (after_flush w id rest held n b valid full is)
 
 pub end_lone : (w id : ℕ) (rest : List Client) (held : Totals) (n : ℕ) (s : State) (r : Reply) (t : State) → Flying w id rest held n s → Takes s (step.End n true) r t → Fresh w id rest held t
 unfolding Takes
 end_lone w id rest held n s r t f h =
-    let goes : t ≡ (Next.end (Next.with_flushes f.before (begun f.before.flushes)) n true).state = h.2 ∙ ap (λ (x : State). (Next.end x n true).state) f.is in
+    let goes : t ≡ (Next.end (Next.with_flushes f.before (with_flight f.before.flushes)) n true).state = h.2 ∙ ap (λ (x : State). (Next.end x n true).state) f.is in
     subst (λ (x : State). Fresh w id rest held x) (sym goes) (end_over w id rest held n f.before f.sound f.full f.number)

@@ -22,7 +22,7 @@ use Rattle.iova_proto.specs.declared.answer.Answer.{Answer}
 use Rattle.iova_proto.specs.declared.request.Request.{Request}
 use Rattle.iova_proto.specs.declared.request.Request.TheVariants as request
 use Rattle.iova_session.specs.Pairs.{Pair, asked, told}
-use Rattle.iova_session.specs.Desks.{IsClientAnswer, released, given_by, taken_by, given_in, taken_in, MovesBy, asks_in, ask_of, ask_then, answer_of, told_pairs, IsToldTo, AreTold, IsFirstAlone, IsAnswer, SessionState, AnswersRun}
+use Rattle.iova_session.specs.Desks.{IsClientAnswer, answer_of_release, given_by, taken_by, given_in, taken_in, MovesBy, asks_in, ask_of, ask_then, answer_of, told_pairs, IsToldTo, AreTold, IsFirstAlone, IsAnswer, SessionState, AnswersRun}
 
 pub same_totals : (a b : Totals) → a.count ≡ b.count → a.frames ≡ b.frames → a.sum_lo ≡ b.sum_lo → a ≡ b
 same_totals a b count frames sum_lo = λ i. record { count = count i; frames = frames i; sum_lo = sum_lo i }
@@ -54,11 +54,11 @@ told_moves (lock_told.Stat x) a b m = no_move a b m
 told_moves (lock_told.Refused e) a b m = no_move a b m
 
 -- and what a release came to
-pub released_moves : (u : Unmapped) (a b : Totals) → MovesTotals (reply.Queued (range_of u)) a b → MovesBy (given_by (released u)) (taken_by (released u)) a b
+pub released_moves : (u : Unmapped) (a b : Totals) → MovesTotals (reply.Queued (range_of u)) a b → MovesBy (given_by (answer_of_release u)) (taken_by (answer_of_release u)) a b
 released_moves (unmapped.Queued r) a b m = told_moves (lock_told.Queued r) a b m
 released_moves (unmapped.Freed r) a b m = told_moves (lock_told.Queued r) a b m
 
-pub released_answers : (listed lo : ℕ) (u : Unmapped) → (range_of u).lo ≡ lo → IsClientAnswer listed (request.Free lo) (released u)
+pub released_answers : (listed lo : ℕ) (u : Unmapped) → (range_of u).lo ≡ lo → IsClientAnswer listed (request.Free lo) (answer_of_release u)
 released_answers listed lo (unmapped.Queued r) is = is
 released_answers listed lo (unmapped.Freed r) is = is
 

@@ -192,9 +192,9 @@ answer_of (lock_told.Stat stat) = answer.Stat stat
 answer_of (lock_told.Refused e) = answer.Refused e
 
 -- what a release came to as an answer
-abbrev pub released : Unmapped → Answer
-released (unmapped.Queued r) = answer.Queued r
-released (unmapped.Freed r) = answer.Freed r
+abbrev pub answer_of_release : Unmapped → Answer
+answer_of_release (unmapped.Queued r) = answer.Queued r
+answer_of_release (unmapped.Freed r) = answer.Freed r
 
 -- the requests at the front, with what is told of them
 abbrev pub told_pairs : List Request → List Told → List Pair
@@ -241,10 +241,3 @@ pub record AnswersRun (rs : List Request) (count : ℕ) (was now : SessionState)
   pub asked : asked pairs ≡ take count rs
   pub told : later ≡ before ++ told pairs
   pub shares : MovesBy (given_in pairs) (taken_in pairs) old new
-
--- what a session leaves at a seat: its worker, its parts of the ledger, and a tally that grew by no
--- more than the good calls of its sink
-pub record KeepsPlace (old new : SeatState) (before now : List Call) : Type 0 where
-  pub worker : new.worker ≡ old.worker
-  pub parts : new.tally.parts ≡ old.tally.parts
-  pub tally : new.tally.good + good_calls before ≤ old.tally.good + good_calls now

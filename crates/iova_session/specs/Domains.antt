@@ -17,7 +17,7 @@ use Rattle.iova_keep.specs.Views.{WhereKnown, SeatState, left_of}
 use Rattle.iova_keep.specs.Answers.{DoesFlush, DrainsAll}
 use Rattle.iova_keep.specs.Releases.{DoesRelease}
 use Rattle.iova_sink.specs.Calls.{Call}
-use Rattle.iova_session.specs.Desks.{released}
+use Rattle.iova_session.specs.Desks.{answer_of_release}
 
 -- no client but this one has other holdings than before
 abbrev pub KeepsOthers : Option ℕ → State → State → Type 0
@@ -50,12 +50,13 @@ Lists worker id listed a s =
 
 -- what a free is answered, of which the release came to this
 abbrev pub release_answer : Result Unmapped Refusal → Answer
-release_answer (Ok u) = released u
+release_answer (Ok u) = answer_of_release u
 release_answer (Err e) = answer.Refused e
 
 -- A free is a release of the client's range, which leads the domain from s to t, between these
 -- calls of the sink.
-abbrev pub FreesRange : Bool → SeatState → ℕ → ℕ → Answer → ℕ → List Call → List Call → State → State
+abbrev pub FreesRange : Bool → SeatState → ℕ → ℕ → Answer → ℕ → List Call → List Call → State
+    → State
     → Type 0
 FreesRange strict seat id lo a number before now s t =
     (result : Result Unmapped Refusal) × DoesRelease strict seat id lo result number before now s t

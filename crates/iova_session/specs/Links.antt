@@ -1,16 +1,11 @@
 -- What contracts see of links.
-use Rattle.std.specs.Prelude.{ℕ, ◌≡◌, ◌+◌, ◌<◌, List, Option, Result, MatchResult, take}
-use Rattle.std.specs.Io.KnownBytes.{Appends}
+use Rattle.std.specs.Prelude.{ℕ, ◌≡◌, ◌+◌, ◌<◌, List, Option, Result, MatchResult}
 
 -- how the ends are counted at a read that answers this, where there is room for so many bytes
 abbrev pub CountsEnds : {E : Type 0} → Result ℕ E → ℕ → ℕ → ℕ → Type 0
 CountsEnds result room old new =
     MatchResult result (λ n. (0 < n → new ≡ old) × (n ≡ 0 → 0 < room → new ≡ old + 1))
     (λ e. new ≡ old)
-
--- a front of these bytes was written
-abbrev pub AppendsFront : Option (List ℕ) → Option (List ℕ) → List ℕ → Type 0
-AppendsFront old new bytes = (n : ℕ) × Appends old new (take n bytes)
 
 -- a link in memory: the bytes that are left and those that were written, how many it moves at a
 -- time, the call that fails, and how many calls there were, reads among them, failures, and reads

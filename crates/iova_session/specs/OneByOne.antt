@@ -4,11 +4,11 @@ use Rattle.std.specs.Io.KnownBytes.{Appends, Consumes}
 use Rattle.iova_range.specs.declared.limits.TheConstants.{MAX_REQUESTS}
 use Rattle.iova_model.specs.State.{State}
 use Rattle.iova_sink.specs.Calls.{Call}
-use Rattle.iova_keep.specs.Views.{SeatState, WhereKnown}
+use Rattle.iova_keep.specs.Views.{SeatState, WhereKnown, KeepsPlace}
 use Rattle.iova_session.specs.declared.run.SessionEnd.{SessionEnd}
 use Rattle.iova_session.specs.Pairs.{Pair}
 use Rattle.iova_session.specs.Sessions.{Serves}
-use Rattle.iova_session.specs.Desks.{AreAnswers, KeepsPlace, client_after}
+use Rattle.iova_session.specs.Desks.{AreAnswers, client_after}
 use Rattle.iova_session.specs.Domains.{LeavesOthers}
 use Rattle.iova_session.specs.Leading.{SessionLeads}
 use Rattle.iova_session.specs.Posts.{EndsClient}

@@ -3,7 +3,7 @@ ghost use Rattle.std.specs.Prelude.{◌≡◌, ◌≢◌, ℕ, ◌+◌, ◌≤�
 ghost use Rattle.iova_sink.specs.Counts.{CountsFailure};
 ghost use Rattle.std.specs.Io.KnownBytes.{Appends};
 ghost use Rattle.iova_proto.specs.Answers.{answer_text, first_line};
-ghost use Rattle.iova_session.specs.Links.{AppendsFront};
+ghost use Rattle.iova_text.specs.Writing.{AppendsFront};
 ghost use Rattle.iova_session.specs.Pairs.{Pair, answers_text};
 ghost use Rattle.iova_session.specs.Sessions.{failures_at, ends_at};
 ghost use Rattle.iova_session.specs.Rounds.{AsksRun, IsCut, CountsFault};

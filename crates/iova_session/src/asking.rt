@@ -3,10 +3,10 @@
 ghost use Rattle.std.specs.Prelude.{◌≡◌, ◌≢◌, ℕ, ◌+◌, ◌≤◌, IfSome};
 ghost use Rattle.iova_range.specs.declared.limits.TheConstants.{MAX_LISTED};
 ghost use Rattle.iova_sink.specs.Calls.{good_calls};
-ghost use Rattle.iova_keep.specs.Views.{WhereKnown};
+ghost use Rattle.iova_keep.specs.Views.{WhereKnown, KeepsPlace};
 ghost use Rattle.iova_session.specs.Domains.{FlushesAndDrains, Lists};
 ghost use Rattle.iova_session.specs.Leading.{ClientDoes, FirstDoes};
-ghost use Rattle.iova_session.specs.Desks.{IsFirstAnswer, IsClientAnswer, MovesBy, given_by, released, taken_by};
+ghost use Rattle.iova_session.specs.Desks.{IsFirstAnswer, IsClientAnswer, MovesBy, given_by, answer_of_release, taken_by};
 
 use iova_keep::calls::flush;
 use iova_keep::keep::Keep;
@@ -30,11 +30,10 @@ pub(crate) fn ask_first<C: Ledger, F: Ledger, S: Ledger, G: Ledger, K: Keep<C, F
     seat: &mut Seat<C, F, S, G>,
     request: Request,
 ) -> Answer
-    ensures number { K.domain_number keeper.new ≡ K.domain_number keeper.old }
-    ensures strict { K.strict keeper.new ≡ K.strict keeper.old }
+    ensures same { K.identity keeper.new ≡ K.identity keeper.old }
     ensures does { WhereKnown (K.domain keeper.old) (K.domain keeper.new)
-        (FirstDoes (K.domain_number keeper.old) seat.old.worker request result) }
-    ensures answer { IsFirstAnswer (K.domain_number keeper.old) request result }
+        (FirstDoes (K.identity keeper.old).number seat.old.worker request result) }
+    ensures answer { IsFirstAnswer (K.identity keeper.old).number request result }
     ensures shares { MovesBy (given_by result) (taken_by result) seat.old.held seat.new.held }
     ensures seat { seat.new ≡ seat.old }
 {
@@ -68,19 +67,15 @@ pub(crate) fn ask_alone<C: Ledger, F: Ledger, S: Ledger, G: Ledger, K: Keep<C, F
     requires listed { listed ≤ MAX_LISTED }
     requires alloc { (frames : ℕ) → (limit : ℕ) → request ≢ Request.Alloc frames limit }
     requires stat { request ≢ Request.Stat }
-    ensures number { K.domain_number keeper.new ≡ K.domain_number keeper.old }
-    ensures strict { K.strict keeper.new ≡ K.strict keeper.old }
+    ensures same { K.identity keeper.new ≡ K.identity keeper.old }
     ensures answer { IsClientAnswer listed request result }
     ensures does { WhereKnown (K.domain keeper.old) (K.domain keeper.new)
-        (ClientDoes (K.strict keeper.old) (K.domain_number keeper.old) seat.old id listed request
+        (ClientDoes (K.identity keeper.old).strict
+        (K.identity keeper.old).number seat.old id listed request
         result
         (D.calls sink.old) (D.calls sink.new)) }
     ensures shares { MovesBy (given_by result) (taken_by result) seat.old.held seat.new.held }
-    ensures worker { seat.new.worker ≡ seat.old.worker }
-    ensures tally { seat.new.tally.good + good_calls
-        (D.calls sink.old) ≤ seat.old.tally.good + good_calls
-        (D.calls sink.new) }
-    ensures parts { seat.new.tally.parts ≡ seat.old.tally.parts }
+    ensures place { KeepsPlace seat.old seat.new (D.calls sink.old) (D.calls sink.new) }
 {
     let flushes = may_flush(request);
     lock_where(sink, flushes);
@@ -123,19 +118,15 @@ fn ask_locked<C: Ledger, F: Ledger, S: Ledger, G: Ledger, K: Keep<C, F, S, G>, D
     requires listed { listed ≤ MAX_LISTED }
     requires alloc { (frames : ℕ) → (limit : ℕ) → request ≢ Request.Alloc frames limit }
     requires stat { request ≢ Request.Stat }
-    ensures number { K.domain_number keeper.new ≡ K.domain_number keeper.old }
-    ensures strict { K.strict keeper.new ≡ K.strict keeper.old }
+    ensures same { K.identity keeper.new ≡ K.identity keeper.old }
     ensures answer { IsClientAnswer listed request result }
     ensures does { WhereKnown (K.domain keeper.old) (K.domain keeper.new)
-        (ClientDoes (K.strict keeper.old) (K.domain_number keeper.old) seat.old id listed request
+        (ClientDoes (K.identity keeper.old).strict
+        (K.identity keeper.old).number seat.old id listed request
         result
         (D.calls sink.old) (D.calls sink.new)) }
     ensures shares { MovesBy (given_by result) (taken_by result) seat.old.held seat.new.held }
-    ensures worker { seat.new.worker ≡ seat.old.worker }
-    ensures tally { seat.new.tally.good + good_calls
-        (D.calls sink.old) ≤ seat.old.tally.good + good_calls
-        (D.calls sink.new) }
-    ensures parts { seat.new.tally.parts ≡ seat.old.tally.parts }
+    ensures place { KeepsPlace seat.old seat.new (D.calls sink.old) (D.calls sink.new) }
 {
     match request {
         Request::Hello { domain: _, sac: _ } => Answer::Refused(Refusal::Twice),
@@ -156,7 +147,7 @@ fn ask_locked<C: Ledger, F: Ledger, S: Ledger, G: Ledger, K: Keep<C, F, S, G>, D
 
 /// What a release is answered.
 fn released(unmapped: Unmapped) -> Answer
-    ensures { result ≡ released unmapped }
+    ensures { result ≡ answer_of_release unmapped }
 {
     match unmapped {
         Unmapped::Queued(range) => Answer::Queued(range),
@@ -198,18 +189,13 @@ fn flush_and_drain<C: Ledger, F: Ledger, S: Ledger, G: Ledger, K: Keep<C, F, S, 
     seat: &mut Seat<C, F, S, G>,
     sink: &mut D,
 ) -> Answer
-    ensures number { K.domain_number keeper.new ≡ K.domain_number keeper.old }
-    ensures strict { K.strict keeper.new ≡ K.strict keeper.old }
+    ensures same { K.identity keeper.new ≡ K.identity keeper.old }
     ensures flushes { WhereKnown (K.domain keeper.old) (K.domain keeper.new)
-        (FlushesAndDrains seat.old.worker result (K.domain_number keeper.old) (D.calls sink.old)
+        (FlushesAndDrains seat.old.worker result (K.identity keeper.old).number (D.calls sink.old)
         (D.calls sink.new)) }
     ensures answer { IsClientAnswer 0 Request.Flush result }
     ensures shares { MovesBy (given_by result) (taken_by result) seat.old.held seat.new.held }
-    ensures worker { seat.new.worker ≡ seat.old.worker }
-    ensures tally { seat.new.tally.good + good_calls
-        (D.calls sink.old) ≤ seat.old.tally.good + good_calls
-        (D.calls sink.new) }
-    ensures parts { seat.new.tally.parts ≡ seat.old.tally.parts }
+    ensures place { KeepsPlace seat.old seat.new (D.calls sink.old) (D.calls sink.new) }
 {
     match flush(keeper, seat.tally(), sink) {
         Err(refusal) => Answer::Refused(refusal),

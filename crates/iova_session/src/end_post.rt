@@ -1,7 +1,6 @@
 //! The end of a post's service.
 ghost use Rattle.std.specs.Prelude.{◌≡◌, length, vec_capacity};
-ghost use Rattle.iova_keep.specs.Views.{RisesWithin, WhereKnown};
-ghost use Rattle.iova_session.specs.Desks.{KeepsPlace};
+ghost use Rattle.iova_keep.specs.Views.{RisesWithin, WhereKnown, KeepsPlace};
 ghost use Rattle.iova_session.specs.Posts.{EndsPost, IsSublist, MakesRound};
 
 use crate::post::Post;
@@ -21,12 +20,11 @@ pub fn end_post<C: Ledger, F: Ledger, S: Ledger, G: Ledger, K: Keep<C, F, S, G>,
     sink: &mut D,
     flushes: bool,
 ) -> u64
-    ensures number { K.domain_number keeper.new ≡ K.domain_number keeper.old }
-    ensures strict { K.strict keeper.new ≡ K.strict keeper.old }
+    ensures same { K.identity keeper.new ≡ K.identity keeper.old }
     ensures left { result ≡ length post.new.waiting.items }
     ensures waiting { IsSublist post.new.waiting.items post.old.waiting.items }
     ensures domain { WhereKnown (K.domain keeper.old) (K.domain keeper.new) (EndsPost flushes
-        (vec_capacity post.old.ranges) (K.domain_number keeper.old) post.old.waiting.items
+        (vec_capacity post.old.ranges) (K.identity keeper.old).number post.old.waiting.items
         post.new.waiting.items
         post.old.seat post.new.seat.held (D.calls sink.old) (D.calls sink.new)) }
     ensures place { KeepsPlace post.old.seat post.new.seat (D.calls sink.old) (D.calls sink.new) }
@@ -43,10 +41,9 @@ fn make_round<C: Ledger, F: Ledger, S: Ledger, G: Ledger, K: Keep<C, F, S, G>, D
     tally: &mut Tally<G>,
     sink: &mut D,
 )
-    ensures number { K.domain_number keeper.new ≡ K.domain_number keeper.old }
-    ensures strict { K.strict keeper.new ≡ K.strict keeper.old }
+    ensures same { K.identity keeper.new ≡ K.identity keeper.old }
     ensures domain { WhereKnown (K.domain keeper.old) (K.domain keeper.new) (MakesRound wanted
-        (K.domain_number keeper.old) (D.calls sink.old) (D.calls sink.new)) }
+        (K.identity keeper.old).number (D.calls sink.old) (D.calls sink.new)) }
     ensures tally { RisesWithin tally.old.good tally.new.good (D.calls sink.old)
         (D.calls sink.new) }
     ensures parts { tally.new.parts ≡ tally.old.parts }

@@ -1,8 +1,7 @@
 //! The end of a client whose session is over: its sink is told of its ranges first.
 ghost use Rattle.std.specs.Prelude.{◌≡◌, ◌≢◌, ◌≤◌, [], true, vec_capacity, IfSome};
 ghost use Rattle.iova_range.specs.declared.limits.TheConstants.{MAX_HOLDINGS};
-ghost use Rattle.iova_keep.specs.Views.{WhereKnown, LowersTold};
-ghost use Rattle.iova_session.specs.Desks.{KeepsPlace};
+ghost use Rattle.iova_keep.specs.Views.{WhereKnown, LowersTold, KeepsPlace};
 ghost use Rattle.iova_session.specs.Leaving.{Attempts, Departs, IsTold, still_waits};
 ghost use Rattle.iova_model.specs.Clients.{client_of, holdings_in};
 
@@ -47,11 +46,10 @@ pub(crate) fn leave<C: Ledger, F: Ledger, S: Ledger, G: Ledger, K: Keep<C, F, S,
     requires { MAX_HOLDINGS ≤ vec_capacity ranges.old }
     ensures domain { WhereKnown (K.domain keeper.old) (K.domain keeper.new)
         (Departs seat.old seat.new.held id result
-        (K.domain_number keeper.old) (D.calls sink.old) (D.calls sink.new)) }
+        (K.identity keeper.old).number (D.calls sink.old) (D.calls sink.new)) }
     ensures shares { LowersTold result.ended seat.old.held seat.new.held }
     ensures place { KeepsPlace seat.old seat.new (D.calls sink.old) (D.calls sink.new) }
-    ensures number { K.domain_number keeper.new ≡ K.domain_number keeper.old }
-    ensures strict { K.strict keeper.new ≡ K.strict keeper.old }
+    ensures same { K.identity keeper.new ≡ K.identity keeper.old }
     ensures room { MAX_HOLDINGS ≤ vec_capacity ranges.new }
 {
     sink.lock();
@@ -71,11 +69,10 @@ fn leave_locked<C: Ledger, F: Ledger, S: Ledger, G: Ledger, K: Keep<C, F, S, G>,
     requires { MAX_HOLDINGS ≤ vec_capacity ranges.old }
     ensures domain { WhereKnown (K.domain keeper.old) (K.domain keeper.new)
         (Departs seat.old seat.new.held id result
-        (K.domain_number keeper.old) (D.calls sink.old) (D.calls sink.new)) }
+        (K.identity keeper.old).number (D.calls sink.old) (D.calls sink.new)) }
     ensures shares { LowersTold result.ended seat.old.held seat.new.held }
     ensures place { KeepsPlace seat.old seat.new (D.calls sink.old) (D.calls sink.new) }
-    ensures number { K.domain_number keeper.new ≡ K.domain_number keeper.old }
-    ensures strict { K.strict keeper.new ≡ K.strict keeper.old }
+    ensures same { K.identity keeper.new ≡ K.identity keeper.old }
     ensures room { MAX_HOLDINGS ≤ vec_capacity ranges.new }
 {
     ranges.clear();
@@ -101,7 +98,8 @@ fn tell<C: Ledger, F: Ledger, S: Ledger, G: Ledger, K: Keep<C, F, S, G>, D: Sink
 ) -> Result<(), SinkFault>
     requires empty { ranges.old.items ≡ [] }
     requires room { MAX_HOLDINGS ≤ vec_capacity ranges.old }
-    ensures told { IsTold (K.domain_number keeper.now) id ranges.new.items result (D.calls sink.old)
+    ensures told { IsTold (K.identity keeper.now).number id ranges.new.items result
+        (D.calls sink.old)
         (D.calls sink.new) }
     ensures held { IfSome (K.domain keeper.now)
         (λ s. ranges.new.items ≡ holdings_in (client_of seat.now.worker id s.clients)) }
@@ -126,10 +124,9 @@ pub(crate) fn try_to_end<C: Ledger, F: Ledger, S: Ledger, G: Ledger, K: Keep<C, 
     requires { over ≢ true → MAX_HOLDINGS ≤ vec_capacity ranges.old }
     ensures domain { WhereKnown (K.domain keeper.old) (K.domain keeper.new)
         (Attempts over seat.old seat.new id result
-        (K.domain_number keeper.old) (D.calls sink.old) (D.calls sink.new)) }
+        (K.identity keeper.old).number (D.calls sink.old) (D.calls sink.new)) }
     ensures place { KeepsPlace seat.old seat.new (D.calls sink.old) (D.calls sink.new) }
-    ensures number { K.domain_number keeper.new ≡ K.domain_number keeper.old }
-    ensures strict { K.strict keeper.new ≡ K.strict keeper.old }
+    ensures same { K.identity keeper.new ≡ K.identity keeper.old }
     ensures room { result.over ≢ true → MAX_HOLDINGS ≤ vec_capacity ranges.new }
 {
     if over {

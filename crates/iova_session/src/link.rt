@@ -2,7 +2,8 @@
 ghost use Rattle.std.specs.Prelude.{◌≡◌, ◌+◌, ◌<◌, ◌≤◌, ℕ, List, Option, Ok, IfOk, IfSome, OnErr, OnOk, length};
 ghost use Rattle.iova_sink.specs.Counts.{CountsFailure};
 ghost use Rattle.std.specs.Io.KnownBytes.{Appends, ReadConsumes, WriteAppends};
-ghost use Rattle.iova_session.specs.Links.{AppendsFront, CountsEnds};
+ghost use Rattle.iova_text.specs.Writing.{AppendsFront};
+ghost use Rattle.iova_session.specs.Links.{CountsEnds};
 
 use thiserror::Error;
 

@@ -1,8 +1,7 @@
 //! Sessions at a post, one after another.
 ghost use Rattle.std.specs.Prelude.{◌≡◌, ◌+◌, ◌≤◌, ◌++◌, ◌∷◌, [], List, length, vec_len, vec_capacity};
 ghost use Rattle.iova_session.specs.declared.run.SessionEnd.{SessionEnd};
-ghost use Rattle.iova_session.specs.Desks.{KeepsPlace};
-ghost use Rattle.iova_keep.specs.Views.{WhereKnown};
+ghost use Rattle.iova_keep.specs.Views.{WhereKnown, KeepsPlace};
 ghost use Rattle.iova_session.specs.Histories.{KeepsPromises};
 ghost use Rattle.iova_session.specs.OneByOne.{ServesEach, between};
 
@@ -35,10 +34,10 @@ pub fn serve_one_by_one<
     ends: &mut Vec<SessionEnd>,
 )
     requires room { vec_len ends.old + length links.old ≤ vec_capacity ends.old }
-    ensures number { K.domain_number keeper.new ≡ K.domain_number keeper.old }
-    ensures strict { K.strict keeper.new ≡ K.strict keeper.old }
+    ensures same { K.identity keeper.new ≡ K.identity keeper.old }
     ensures sessions { (told : List SessionEnd) × (ends.new.items ≡ ends.old.items ++ told)
-        × ServesEach L.left L.sent L.reads (K.strict keeper.old) (K.domain_number keeper.old)
+        × ServesEach L.left L.sent L.reads (K.identity keeper.old).strict
+        (K.identity keeper.old).number
         links.old links.new told
         (between post.old.seat post.old.waiting.items (D.calls sink.old) (K.domain keeper.old))
         (between post.new.seat post.new.waiting.items (D.calls sink.new) (K.domain keeper.new)) }

@@ -1,9 +1,9 @@
 //! Sessions that take turns at one post: each goes on a piece of its stream at a time.
 ghost use Rattle.std.specs.Prelude.{◌≡◌, ℕ, ◌+◌, ◌++◌, List, None, Some, IsSome, IfSome};
 ghost use Rattle.std.specs.Io.KnownBytes.{Appends};
-ghost use Rattle.iova_keep.specs.Views.{WhereKnown};
+ghost use Rattle.iova_keep.specs.Views.{WhereKnown, KeepsPlace};
 ghost use Rattle.iova_session.specs.Pairs.{Pair};
-ghost use Rattle.iova_session.specs.Desks.{AreAnswers, KeepsPlace, MovesBy, given_in, taken_in, client_after};
+ghost use Rattle.iova_session.specs.Desks.{AreAnswers, MovesBy, given_in, taken_in, client_after};
 ghost use Rattle.iova_session.specs.Rounds.{TakesPiece, CountsFault};
 ghost use Rattle.iova_session.specs.Sessions.{ServesWithin};
 ghost use Rattle.iova_session.specs.Domains.{KeepsOthers, LeavesOthers};
@@ -161,14 +161,14 @@ pub fn resume<C: Ledger, F: Ledger, S: Ledger, G: Ledger, L: Link, K: Keep<C, F,
     sink: &mut D,
     room: &mut RunRoom,
 ) -> Option<End>
-    requires { paused.old.session.number ≡ K.domain_number keeper.old }
+    requires { paused.old.session.number ≡ (K.identity keeper.old).number }
     ensures end { paused.new.end ≡ result }
     ensures turn { paused.old.end ≡ None → (ps : List Pair) × (written : List ℕ)
         × TakesTurn paused.old paused.new piece.now ps written
         × Appends (L.sent link.old) (L.sent link.new) written
         × MovesBy (given_in ps) (taken_in ps) post.old.seat.held post.new.seat.held
         × ∥ WhereKnown (K.domain keeper.old) (K.domain keeper.new)
-        (GoesOn (K.strict keeper.old)
+        (GoesOn (K.identity keeper.old).strict
         paused.old.session paused.new.session post.old.seat post.new.seat (D.calls sink.old)
         (D.calls sink.new)) ∥₁ }
     ensures over { IfSome paused.old.end (λ e. (paused.new ≡ paused.old)
@@ -177,7 +177,7 @@ pub fn resume<C: Ledger, F: Ledger, S: Ledger, G: Ledger, L: Link, K: Keep<C, F,
         × (L.failures link.new ≡ L.failures link.old)) }
     ensures others { WhereKnown (K.domain keeper.old) (K.domain keeper.new)
         (KeepsOthers (client_after None paused.new.session.pairs)) }
-    ensures answers { AreAnswers (K.domain_number keeper.old) None 0 paused.new.session.pairs }
+    ensures answers { AreAnswers (K.identity keeper.old).number None 0 paused.new.session.pairs }
     ensures held { IsHeldBy paused.new.session.pairs paused.new.held }
     ensures moved { MovesAlong paused.old.held paused.new.held post.old.seat.held
         post.new.seat.held }
@@ -187,8 +187,7 @@ pub fn resume<C: Ledger, F: Ledger, S: Ledger, G: Ledger, L: Link, K: Keep<C, F,
     ensures ends { L.ends link.new ≡ L.ends link.old }
     ensures failures { paused.old.end ≡ None
         → L.failures link.new ≡ L.failures link.old + failures_of result }
-    ensures number { K.domain_number keeper.new ≡ K.domain_number keeper.old }
-    ensures strict { K.strict keeper.new ≡ K.strict keeper.old }
+    ensures same { K.identity keeper.new ≡ K.identity keeper.old }
     ensures place { KeepsPlace post.old.seat post.new.seat (D.calls sink.old) (D.calls sink.new) }
 {
     // for the proof: that its answers are those of its domain
@@ -261,7 +260,7 @@ fn turn_at<C: Ledger, F: Ledger, S: Ledger, G: Ledger, L: Link, K: Keep<C, F, S,
     room: &mut RunRoom,
 ) -> Result<(), End>
     requires lines { IsSome progress.old.lines }
-    requires domain { progress.old.session.number ≡ K.domain_number keeper.old }
+    requires domain { progress.old.session.number ≡ (K.identity keeper.old).number }
     ensures turn { (kept : List ℕ) × (ps : List Pair) × (written : List ℕ)
         × (progress.old.lines ≡ Some kept)
         × (progress.new.session.pairs ≡ progress.old.session.pairs ++ ps)
@@ -270,7 +269,7 @@ fn turn_at<C: Ledger, F: Ledger, S: Ledger, G: Ledger, L: Link, K: Keep<C, F, S,
         progress.new.lines result
         × MovesBy (given_in ps) (taken_in ps) seat.old.held seat.new.held }
     ensures leads { ∥ WhereKnown (K.domain keeper.old) (K.domain keeper.new)
-        (GoesOn (K.strict keeper.old)
+        (GoesOn (K.identity keeper.old).strict
         progress.old.session progress.new.session seat.old seat.new (D.calls sink.old)
         (D.calls sink.new)) ∥₁ }
     ensures others { WhereKnown (K.domain keeper.old) (K.domain keeper.new)
@@ -281,8 +280,7 @@ fn turn_at<C: Ledger, F: Ledger, S: Ledger, G: Ledger, L: Link, K: Keep<C, F, S,
     ensures reads { L.reads link.new ≡ L.reads link.old }
     ensures ends { L.ends link.new ≡ L.ends link.old }
     ensures failures { CountsFault result (L.failures link.old) (L.failures link.new) }
-    ensures number { K.domain_number keeper.new ≡ K.domain_number keeper.old }
-    ensures strict { K.strict keeper.new ≡ K.strict keeper.old }
+    ensures same { K.identity keeper.new ≡ K.identity keeper.old }
     ensures place { KeepsPlace seat.old seat.new (D.calls sink.old) (D.calls sink.new) }
 {
     let lent = DomainAccess { keeper, seat, sink };
@@ -317,11 +315,10 @@ fn turn_lent<
 ) -> Turned<'a, C, F, S, G, K, D>
     requires lines { IsSome progress.old.lines }
     requires session { progress.old.session ≡ O.session }
-    requires named { progress.old.session.number ≡ O.number }
+    requires named { progress.old.session.number ≡ O.identity.number }
     requires names { (lent.keeper.ghost_name ≡ O.keeper_name) × (lent.seat.ghost_name ≡ O.seat_name)
         × (lent.sink.ghost_name ≡ O.sink_name) }
-    requires number { K.domain_number lent.keeper.now ≡ O.number }
-    requires strict { K.strict lent.keeper.now ≡ O.strict }
+    requires same { K.identity lent.keeper.now ≡ O.identity }
     requires domain { K.domain lent.keeper.now ≡ O.domain }
     requires seat { lent.seat.now ≡ O.seat }
     requires calls { D.calls lent.sink.now ≡ O.calls }
@@ -339,7 +336,7 @@ fn turn_lent<
         result.lent.seat.now.held }
     ensures leads { ∥ WhereKnown (K.domain lent.entry.keeper.now)
         (K.domain result.lent.keeper.now)
-        (GoesOn (K.strict lent.entry.keeper.now) progress.old.session progress.new.session
+        (GoesOn (K.identity lent.entry.keeper.now).strict progress.old.session progress.new.session
         lent.entry.seat.now
         result.lent.seat.now (D.calls lent.entry.sink.now) (D.calls result.lent.sink.now)) ∥₁ }
     ensures others { WhereKnown (K.domain lent.entry.keeper.now) (K.domain result.lent.keeper.now)
@@ -350,9 +347,7 @@ fn turn_lent<
     ensures reads { L.reads link.new ≡ L.reads link.old }
     ensures ends { L.ends link.new ≡ L.ends link.old }
     ensures failures { CountsFault result.taken (L.failures link.old) (L.failures link.new) }
-    ensures number { K.domain_number result.lent.keeper.now
-        ≡ K.domain_number lent.entry.keeper.now }
-    ensures strict { K.strict result.lent.keeper.now ≡ K.strict lent.entry.keeper.now }
+    ensures same { K.identity result.lent.keeper.now ≡ K.identity lent.entry.keeper.now }
     ensures place { KeepsPlace lent.entry.seat.now result.lent.seat.now
         (D.calls lent.entry.sink.now)
         (D.calls result.lent.sink.now) }
@@ -408,15 +403,14 @@ pub fn depart<C: Ledger, F: Ledger, S: Ledger, G: Ledger, K: Keep<C, F, S, G>, D
         paused.now.session.pairs paused.now.held told
         post.old.seat.held post.new.seat.held post.old.waiting.items post.new.waiting.items) }
     ensures does { IfSome result (λ told. WhereKnown (K.domain keeper.old) (K.domain keeper.new)
-        (λ s t. DepartureDoes (K.domain_number keeper.old)
+        (λ s t. DepartureDoes (K.identity keeper.old).number
         (client_after None paused.now.session.pairs) told paused.now.held post.old.waiting.items
         post.new.waiting.items
         (standing post.old.seat (D.calls sink.old) s)
         (standing post.new.seat (D.calls sink.new) t))) }
     ensures others { IfSome result (λ told. WhereKnown (K.domain keeper.old) (K.domain keeper.new)
         (LeavesOthers (client_after None paused.now.session.pairs) told)) }
-    ensures number { K.domain_number keeper.new ≡ K.domain_number keeper.old }
-    ensures strict { K.strict keeper.new ≡ K.strict keeper.old }
+    ensures same { K.identity keeper.new ≡ K.identity keeper.old }
     ensures place { KeepsPlace post.old.seat post.new.seat (D.calls sink.old) (D.calls sink.new) }
 {
     if !take_room(&mut post.waiting, &mut post.ranges) {

@@ -1,9 +1,8 @@
 //! The clients of a post whose end waits, tried again.
 ghost use Rattle.std.specs.Prelude.{◌≡◌, ◌≢◌, ◌≤◌, true, length, vec_capacity};
 ghost use Rattle.iova_range.specs.declared.limits.TheConstants.{MAX_HOLDINGS};
-ghost use Rattle.iova_keep.specs.Views.{WhereKnown};
+ghost use Rattle.iova_keep.specs.Views.{WhereKnown, KeepsPlace};
 ghost use Rattle.iova_session.specs.Posts.{IsSublist, Retries, RetriesAll};
-ghost use Rattle.iova_session.specs.Desks.{KeepsPlace};
 ghost use Rattle.iova_session.specs.Gone.{EndsWhereGood};
 
 use crate::leaving::try_to_end;
@@ -24,13 +23,12 @@ pub fn retry<C: Ledger, F: Ledger, S: Ledger, G: Ledger, K: Keep<C, F, S, G>, D:
     post: &mut Post<C, F, S, G>,
     sink: &mut D,
 ) -> u64
-    ensures number { K.domain_number keeper.new ≡ K.domain_number keeper.old }
-    ensures strict { K.strict keeper.new ≡ K.strict keeper.old }
+    ensures same { K.identity keeper.new ≡ K.identity keeper.old }
     ensures left { result ≡ length post.new.waiting.items }
     ensures waiting { IsSublist post.new.waiting.items post.old.waiting.items }
     ensures domain { WhereKnown (K.domain keeper.old) (K.domain keeper.new)
         (RetriesAll (vec_capacity post.old.ranges)
-        (K.domain_number keeper.old) post.old.waiting.items post.new.waiting.items post.old.seat
+        (K.identity keeper.old).number post.old.waiting.items post.new.waiting.items post.old.seat
         post.new.seat
         (D.calls sink.old) (D.calls sink.new)) }
     ensures gone { WhereKnown (K.domain keeper.old) (K.domain keeper.new)
@@ -57,12 +55,11 @@ fn retry_until<C: Ledger, F: Ledger, S: Ledger, G: Ledger, K: Keep<C, F, S, G>, 
     over: bool,
 ) -> u64
     requires { over ≢ true → MAX_HOLDINGS ≤ vec_capacity post.old.ranges }
-    ensures number { K.domain_number keeper.new ≡ K.domain_number keeper.old }
-    ensures strict { K.strict keeper.new ≡ K.strict keeper.old }
+    ensures same { K.identity keeper.new ≡ K.identity keeper.old }
     ensures left { result ≡ length post.new.waiting.items }
     ensures waiting { IsSublist post.new.waiting.items post.old.waiting.items }
     ensures domain { WhereKnown (K.domain keeper.old) (K.domain keeper.new)
-        (Retries over (K.domain_number keeper.old)
+        (Retries over (K.identity keeper.old).number
         post.old.waiting.items post.new.waiting.items post.old.seat post.new.seat (D.calls sink.old)
         (D.calls sink.new)) }
     ensures place { KeepsPlace post.old.seat post.new.seat (D.calls sink.old) (D.calls sink.new) }

@@ -3,12 +3,12 @@ ghost use Rattle.std.specs.Prelude.{◌≡◌, ℕ, ◌+◌, ◌++◌, ◌≤◌
 ghost use Rattle.std.specs.Io.KnownBytes.{Appends, Consumes};
 ghost use Rattle.iova_range.specs.declared.limits.TheConstants.{MAX_HOLDINGS, MAX_REQUESTS};
 ghost use Rattle.iova_sink.specs.Calls.{Call};
-ghost use Rattle.iova_keep.specs.Views.{WhereKnown};
+ghost use Rattle.iova_keep.specs.Views.{WhereKnown, KeepsPlace};
 ghost use Rattle.iova_session.specs.Domains.{LeavesOthers};
 ghost use Rattle.iova_session.specs.Leading.{EndDoes, LeadsFrom, SessionLeads, standing};
 ghost use Rattle.iova_session.specs.Pairs.{Pair};
 ghost use Rattle.iova_session.specs.Sessions.{Serves, ServesWithin, failures_at, ends_at};
-ghost use Rattle.iova_session.specs.Desks.{AreAnswers, KeepsPlace, MovesBy, given_in, taken_in, client_after};
+ghost use Rattle.iova_session.specs.Desks.{AreAnswers, MovesBy, given_in, taken_in, client_after};
 ghost use Rattle.iova_session.specs.Leaving.{still_waits};
 ghost use Rattle.iova_session.specs.Posts.{EndsClient, EndsFrom, Fits, TellsFitting, kept_if};
 
@@ -70,27 +70,25 @@ fn serve_lent<
 ) -> ServedSession<'a, C, F, S, G, K, D>
     requires names { (lent.keeper.ghost_name ≡ O.keeper_name) × (lent.seat.ghost_name ≡ O.seat_name)
         × (lent.sink.ghost_name ≡ O.sink_name) }
-    requires number { K.domain_number lent.keeper.now ≡ O.number }
-    requires strict { K.strict lent.keeper.now ≡ O.strict }
+    requires same { K.identity lent.keeper.now ≡ O.identity }
     requires domain { K.domain lent.keeper.now ≡ O.domain }
     requires seat { lent.seat.now ≡ O.seat }
     requires calls { D.calls lent.sink.now ≡ O.calls }
     ensures names { (result.lent.keeper.ghost_name ≡ lent.entry.keeper.ghost_name)
         × (result.lent.seat.ghost_name ≡ lent.entry.seat.ghost_name)
         × (result.lent.sink.ghost_name ≡ lent.entry.sink.ghost_name) }
-    ensures number { K.domain_number result.lent.keeper.now
-        ≡ K.domain_number lent.entry.keeper.now }
-    ensures strict { K.strict result.lent.keeper.now ≡ K.strict lent.entry.keeper.now }
+    ensures same { K.identity result.lent.keeper.now ≡ K.identity lent.entry.keeper.now }
     ensures session { (taken : List ℕ) × (ps : List Pair) × (written : List ℕ) × (reads : ℕ)
         × Consumes (L.left link.old) (L.left link.new) taken
         × Appends (L.sent link.old) (L.sent link.new) written
         × (L.reads link.new ≡ L.reads link.old + reads)
         × ServesWithin limits.requests limits.reads taken ps written reads result.end
-        × AreAnswers (K.domain_number lent.entry.keeper.now) None 0 ps
+        × AreAnswers (K.identity lent.entry.keeper.now).number None 0 ps
         × (result.client ≡ client_after None ps)
         × MovesBy (given_in ps) (taken_in ps) lent.entry.seat.now.held result.lent.seat.now.held
         × ∥ WhereKnown (K.domain lent.entry.keeper.now) (K.domain result.lent.keeper.now)
-        (LeadsFrom (K.strict lent.entry.keeper.now) (K.domain_number lent.entry.keeper.now) ps
+        (LeadsFrom (K.identity lent.entry.keeper.now).strict
+        (K.identity lent.entry.keeper.now).number ps
         lent.entry.seat.now
         result.lent.seat.now (D.calls lent.entry.sink.now) (D.calls result.lent.sink.now)) ∥₁ }
     ensures failures { L.failures link.new ≡ L.failures link.old + failures_at result.end }
@@ -126,18 +124,18 @@ fn serve_at<C: Ledger, F: Ledger, S: Ledger, G: Ledger, K: Keep<C, F, S, G>, D: 
     seat: &mut Seat<C, F, S, G>,
     sink: &mut D,
 ) -> (End, Option<ClientId>)
-    ensures number { K.domain_number keeper.new ≡ K.domain_number keeper.old }
-    ensures strict { K.strict keeper.new ≡ K.strict keeper.old }
+    ensures same { K.identity keeper.new ≡ K.identity keeper.old }
     ensures session { (taken : List ℕ) × (ps : List Pair) × (written : List ℕ) × (reads : ℕ)
         × Consumes (L.left link.old) (L.left link.new) taken
         × Appends (L.sent link.old) (L.sent link.new) written
         × (L.reads link.new ≡ L.reads link.old + reads)
         × ServesWithin limits.requests limits.reads taken ps written reads result.0
-        × AreAnswers (K.domain_number keeper.old) None 0 ps
+        × AreAnswers (K.identity keeper.old).number None 0 ps
         × (result.1 ≡ client_after None ps)
         × MovesBy (given_in ps) (taken_in ps) seat.old.held seat.new.held
-        × ∥ WhereKnown (K.domain keeper.old) (K.domain keeper.new) (LeadsFrom (K.strict keeper.old)
-        (K.domain_number keeper.old) ps seat.old seat.new (D.calls sink.old) (D.calls sink.new))
+        × ∥ WhereKnown (K.domain keeper.old) (K.domain keeper.new)
+        (LeadsFrom (K.identity keeper.old).strict
+        (K.identity keeper.old).number ps seat.old seat.new (D.calls sink.old) (D.calls sink.new))
         ∥₁ }
     ensures failures { L.failures link.new ≡ L.failures link.old + failures_at result.0 }
     ensures ends { L.ends link.new ≡ L.ends link.old + ends_at result.0 }
@@ -182,21 +180,20 @@ pub fn run_session<
     post: &mut Post<C, F, S, G>,
     sink: &mut D,
 ) -> SessionEnd
-    ensures number { K.domain_number keeper.new ≡ K.domain_number keeper.old }
-    ensures strict { K.strict keeper.new ≡ K.strict keeper.old }
+    ensures same { K.identity keeper.new ≡ K.identity keeper.old }
     ensures session { (taken : List ℕ) × (ps : List Pair) × (written : List ℕ) × (reads : ℕ)
         × Consumes (L.left link.old) (L.left link.new) taken
         × Appends (L.sent link.old) (L.sent link.new) written
         × (L.reads link.new ≡ L.reads link.old + reads)
         × Serves MAX_REQUESTS taken ps written reads result.end
-        × AreAnswers (K.domain_number keeper.old) None 0 ps
+        × AreAnswers (K.identity keeper.old).number None 0 ps
         × EndsClient ps result.client post.old.seat.held post.new.seat.held post.old.waiting.items
         post.new.waiting.items
         × WhereKnown (K.domain keeper.old) (K.domain keeper.new)
         (LeavesOthers (client_after None ps) result.client)
         × ∥ WhereKnown (K.domain keeper.old) (K.domain keeper.new)
-        (SessionLeads (K.strict keeper.old)
-        (K.domain_number keeper.old) ps result.client post.old.seat post.new.seat
+        (SessionLeads (K.identity keeper.old).strict
+        (K.identity keeper.old).number ps result.client post.old.seat post.new.seat
         post.old.waiting.items post.new.waiting.items (D.calls sink.old) (D.calls sink.new)) ∥₁ }
     ensures failures { L.failures link.new ≡ L.failures link.old + failures_at result.end }
     ensures ends { L.ends link.new ≡ L.ends link.old + ends_at result.end }
@@ -222,21 +219,20 @@ pub fn run_session_within<
     post: &mut Post<C, F, S, G>,
     sink: &mut D,
 ) -> SessionEnd
-    ensures number { K.domain_number keeper.new ≡ K.domain_number keeper.old }
-    ensures strict { K.strict keeper.new ≡ K.strict keeper.old }
+    ensures same { K.identity keeper.new ≡ K.identity keeper.old }
     ensures session { (taken : List ℕ) × (ps : List Pair) × (written : List ℕ) × (reads : ℕ)
         × Consumes (L.left link.old) (L.left link.new) taken
         × Appends (L.sent link.old) (L.sent link.new) written
         × (L.reads link.new ≡ L.reads link.old + reads)
         × ServesWithin limits.requests limits.reads taken ps written reads result.end
-        × AreAnswers (K.domain_number keeper.old) None 0 ps
+        × AreAnswers (K.identity keeper.old).number None 0 ps
         × EndsClient ps result.client post.old.seat.held post.new.seat.held post.old.waiting.items
         post.new.waiting.items
         × WhereKnown (K.domain keeper.old) (K.domain keeper.new)
         (LeavesOthers (client_after None ps) result.client)
         × ∥ WhereKnown (K.domain keeper.old) (K.domain keeper.new)
-        (SessionLeads (K.strict keeper.old)
-        (K.domain_number keeper.old) ps result.client post.old.seat post.new.seat
+        (SessionLeads (K.identity keeper.old).strict
+        (K.identity keeper.old).number ps result.client post.old.seat post.new.seat
         post.old.waiting.items post.new.waiting.items (D.calls sink.old) (D.calls sink.new)) ∥₁ }
     ensures failures { L.failures link.new ≡ L.failures link.old + failures_at result.end }
     ensures ends { L.ends link.new ≡ L.ends link.old + ends_at result.end }
@@ -270,12 +266,11 @@ pub(crate) fn end_opened<C: Ledger, F: Ledger, S: Ledger, G: Ledger, K: Keep<C, 
 ) -> Option<Ending>
     requires room { vec_len post.old.waiting + 1 ≤ vec_capacity post.old.waiting }
     requires ranges { MAX_HOLDINGS ≤ vec_capacity post.old.ranges }
-    ensures number { K.domain_number keeper.new ≡ K.domain_number keeper.old }
-    ensures strict { K.strict keeper.new ≡ K.strict keeper.old }
+    ensures same { K.identity keeper.new ≡ K.identity keeper.old }
     ensures domain { WhereKnown (K.domain keeper.old) (K.domain keeper.new)
         (LeavesOthers (Some id) result) }
     ensures does { WhereKnown (K.domain keeper.old) (K.domain keeper.new)
-        (λ s t. EndDoes (K.domain_number keeper.old)
+        (λ s t. EndDoes (K.identity keeper.old).number
         (Some id) result back post.old.waiting.items post.new.waiting.items
         (standing post.old.seat (D.calls sink.old) s)
         (standing post.new.seat (D.calls sink.new) t)) }

@@ -2,8 +2,8 @@
 ghost use Rattle.std.specs.Prelude.{◌≡◌, ◌+◌, ◌≤◌, ℕ, Bool, false, IfOk, IfErr, List, [], Option, None, length};
 ghost use Rattle.iova_sink.specs.Calls.{Call, good_calls};
 ghost use Rattle.iova_model.specs.State.{State};
-ghost use Rattle.iova_keep.specs.Views.{SeatState, WhereKnown, new_seat};
-ghost use Rattle.iova_session.specs.Desks.{SessionState, AnswersRun, KeepsPlace, MovesBy, MovesBy-prop, given_in, taken_in, client_after, listed_after};
+ghost use Rattle.iova_keep.specs.Views.{Identity, SeatState, WhereKnown, new_seat, KeepsPlace};
+ghost use Rattle.iova_session.specs.Desks.{SessionState, AnswersRun, MovesBy, MovesBy-prop, given_in, taken_in, client_after, listed_after};
 ghost use Rattle.iova_session.specs.Leading.{LeadsFrom, GoesOn};
 
 use crate::asking::{ask_alone, ask_first};
@@ -22,14 +22,11 @@ use std::sync::ledger::Ledger;
 
 /// What a session begins with, as the type of its desk knows it.
 pub(crate) trait SessionStart {
-    /// The number of the domain.
-    ghost number: { ℕ };
+    /// The domain's number, and whether it is strict.
+    ghost identity: { Identity };
 
     /// The domain, where the keeper tells it.
     ghost domain: { Option State };
-
-    /// Whether it is strict, where the keeper tells it.
-    ghost strict: { Bool };
 
     /// The session.
     ghost session: { SessionState };
@@ -49,11 +46,9 @@ pub(crate) trait SessionStart {
 }
 
 impl SessionStart for Brand {
-    ghost number = { 0 };
+    ghost identity = { record { number = 0; strict = false } };
 
     ghost domain = { None };
-
-    ghost strict = { false };
 
     ghost session = { record { number = 0; client = None; listed = 0; pairs = [] } };
 
@@ -103,10 +98,10 @@ pub(crate) struct SessionDesk<
     pub(crate) opening: PhantomData<O>,
     ghost names: { (lent.keeper.ghost_name ≡ O.keeper_name) × (lent.seat.ghost_name ≡ O.seat_name)
         × (lent.sink.ghost_name ≡ O.sink_name) },
-    ghost number: { (session.number ≡ O.number) × (K.domain_number lent.keeper.now ≡ O.number) },
-    ghost strict: { K.strict lent.keeper.now ≡ O.strict },
+    ghost number: { session.number ≡ O.identity.number },
+    ghost same: { K.identity lent.keeper.now ≡ O.identity },
     ghost leads: { ∥ WhereKnown O.domain (K.domain lent.keeper.now)
-        (LeadsFrom O.strict O.number session.pairs
+        (LeadsFrom O.identity.strict O.identity.number session.pairs
         O.seat lent.seat.now O.calls (D.calls lent.sink.now)) ∥₁ },
     ghost shares: { MovesBy (given_in session.pairs) (taken_in session.pairs) O.seat.held
         lent.seat.now.held } by { MovesBy-prop (given_in session.pairs) (taken_in session.pairs)
@@ -154,16 +149,15 @@ pub(crate) fn ask_lent<C: Ledger, F: Ledger, S: Ledger, G: Ledger, K: Keep<C, F,
 ) -> Result<usize, Refusal>
     requires some { 1 ≤ length requests.now }
     requires most { length requests.now ≤ MAX_RUN }
-    requires number { session.old.number ≡ K.domain_number lent.old.keeper.now }
+    requires number { session.old.number ≡ (K.identity lent.old.keeper.now).number }
     ensures names { (lent.new.keeper.ghost_name ≡ lent.old.keeper.ghost_name)
         × (lent.new.seat.ghost_name ≡ lent.old.seat.ghost_name)
         × (lent.new.sink.ghost_name ≡ lent.old.sink.ghost_name) }
-    ensures number { K.domain_number lent.new.keeper.now ≡ K.domain_number lent.old.keeper.now }
-    ensures strict { K.strict lent.new.keeper.now ≡ K.strict lent.old.keeper.now }
+    ensures same { K.identity lent.new.keeper.now ≡ K.identity lent.old.keeper.now }
     ensures after { (session.old.client ≡ client_after None session.old.pairs)
         × (session.old.listed ≡ listed_after 0 session.old.pairs) }
     ensures leads { WhereKnown (K.domain lent.old.keeper.now) (K.domain lent.new.keeper.now)
-        (GoesOn (K.strict lent.old.keeper.now) session.old session.new lent.old.seat.now
+        (GoesOn (K.identity lent.old.keeper.now).strict session.old session.new lent.old.seat.now
         lent.new.seat.now
         (D.calls lent.old.sink.now) (D.calls lent.new.sink.now)) }
     ensures count { IfOk result (λ n. (1 ≤ n) × (n ≤ length requests.now)) }
@@ -200,13 +194,13 @@ pub(crate) fn ask_front<C: Ledger, F: Ledger, S: Ledger, G: Ledger, K: Keep<C, F
 ) -> Result<usize, Refusal>
     requires some { 1 ≤ length requests.now }
     requires most { length requests.now ≤ MAX_RUN }
-    requires number { session.old.number ≡ K.domain_number keeper.old }
-    ensures number { K.domain_number keeper.new ≡ K.domain_number keeper.old }
-    ensures strict { K.strict keeper.new ≡ K.strict keeper.old }
+    requires number { session.old.number ≡ (K.identity keeper.old).number }
+    ensures same { K.identity keeper.new ≡ K.identity keeper.old }
     ensures after { (session.old.client ≡ client_after None session.old.pairs)
         × (session.old.listed ≡ listed_after 0 session.old.pairs) }
     ensures leads { WhereKnown (K.domain keeper.old) (K.domain keeper.new)
-        (GoesOn (K.strict keeper.old) session.old session.new seat.old seat.new (D.calls sink.old)
+        (GoesOn (K.identity keeper.old).strict session.old session.new seat.old seat.new
+        (D.calls sink.old)
         (D.calls sink.new)) }
     ensures count { IfOk result (λ n. (1 ≤ n) × (n ≤ length requests.now)) }
     ensures ok { IfOk result

@@ -1,7 +1,7 @@
 //! Requests that are asked together, in one hold of the lock.
 ghost use Rattle.std.specs.Prelude.{◌≡◌, ◌+◌, ◌≤◌, ◌++◌, ◌∷◌, [], List, Some, IsSome, IsTrue, IfOk, IfErr, length, map, take, vec_len, vec_capacity};
 ghost use Rattle.iova_sink.specs.Calls.{Call};
-ghost use Rattle.iova_keep.specs.Views.{WhereKnown};
+ghost use Rattle.iova_keep.specs.Views.{WhereKnown, MovesSharesAlone};
 ghost use Rattle.iova_session.specs.Leading.{GoesOn, IsSame};
 ghost use Rattle.iova_session.specs.Desks.{SessionState, ask_of as the_ask_of, asks_in, answer_of as the_answer_of, told_pairs, AreTold, IsFirstAlone, AnswersRun};
 
@@ -53,11 +53,10 @@ pub(crate) fn ask_together<C: Ledger, F: Ledger, S: Ledger, G: Ledger, K: Keep<C
     requires client { session.old.client ≡ Some id }
     requires most { length requests.now ≤ MAX_RUN }
     requires room { vec_len answers.old + length requests.now ≤ vec_capacity answers.old }
-    ensures number { K.domain_number keeper.new ≡ K.domain_number keeper.old }
-    ensures strict { K.strict keeper.new ≡ K.strict keeper.old }
+    ensures same { K.identity keeper.new ≡ K.identity keeper.old }
     ensures leads { (calls : List Call)
         → IfOk result (λ n. WhereKnown (K.domain keeper.old) (K.domain keeper.new)
-        (GoesOn (K.strict keeper.old) session.old session.new seat.old seat.new calls calls)) }
+        (GoesOn (K.identity keeper.old).strict session.old session.new seat.old seat.new calls calls)) }
     ensures most { IfOk result (λ n. n ≤ length requests.now) }
     ensures ok { IfOk result
         (λ n. AnswersRun requests.now n session.old session.new answers.old.items answers.new.items
@@ -71,7 +70,7 @@ pub(crate) fn ask_together<C: Ledger, F: Ledger, S: Ledger, G: Ledger, K: Keep<C
     ensures none { IfOk result (λ n. n ≡ 0
         → (session.new ≡ session.old) × (answers.new.items ≡ answers.old.items)
         × (seat.new ≡ seat.old) × WhereKnown (K.domain keeper.old) (K.domain keeper.new) IsSame) }
-    ensures rest { (seat.new.worker ≡ seat.old.worker) × (seat.new.tally ≡ seat.old.tally) }
+    ensures rest { MovesSharesAlone seat.old seat.new }
     ensures kept { IfOk result (λ n. vec_capacity answers.old ≤ vec_capacity answers.new) }
 {
     // for the proof: a free whose ring is full changes nothing

@@ -38,13 +38,14 @@ pub(crate) struct TurnDesk<
     pub(crate) opening: PhantomData<O>,
     ghost names: { (lent.keeper.ghost_name ≡ O.keeper_name) × (lent.seat.ghost_name ≡ O.seat_name)
         × (lent.sink.ghost_name ≡ O.sink_name) },
-    ghost number: { (session.number ≡ O.number) × (K.domain_number lent.keeper.now ≡ O.number) },
-    ghost strict: { K.strict lent.keeper.now ≡ O.strict },
-    ghost opened: { (O.session.number ≡ O.number)
+    ghost number: { session.number ≡ O.identity.number },
+    ghost same: { K.identity lent.keeper.now ≡ O.identity },
+    ghost opened: { (O.session.number ≡ O.identity.number)
         × (O.session.client ≡ client_after None O.session.pairs)
         × (O.session.listed ≡ listed_after 0 O.session.pairs) },
     ghost leads: { ∥ WhereKnown O.domain (K.domain lent.keeper.now)
-        (GoesOn O.strict O.session session O.seat lent.seat.now O.calls (D.calls lent.sink.now))
+        (GoesOn O.identity.strict O.session session O.seat lent.seat.now O.calls
+        (D.calls lent.sink.now))
         ∥₁ },
     ghost shares: { ∥ MovesOn O.session session O.seat.held lent.seat.now.held ∥₁ },
     ghost worker: { lent.seat.now.worker ≡ O.seat.worker },

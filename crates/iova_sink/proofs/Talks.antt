@@ -10,7 +10,7 @@ use Rattle.iova_sink.specs.declared.asking.Heard.{Heard}
 use Rattle.iova_sink.specs.declared.asking.Heard.TheVariants as heard
 use Rattle.iova_range.specs.Frames.{Frames}
 use Rattle.iova_sink.specs.Records.{range_line, ranges_text}
-use Rattle.iova_sink.specs.Channels.{Talk, with_sent, with_received, with_failure, with_stray, opened, closed, Connects, HasFailed, IsFront, IsCutOff, Readies, SendsAll, IsBegun, Requests, EndsAtLf, IsAnswer, IsSaid, Hears, Concludes, Answers}
+use Rattle.iova_sink.specs.Channels.{Talk, with_sent, with_received, with_failure, with_stray, with_connection, without_connection, Connects, HasFailed, IsFront, IsCutOff, Readies, SendsAll, IsBegun, Requests, EndsAtLf, IsAnswer, IsSaid, Hears, Concludes, Answers}
 use Rattle.iova_sink.proofs.Records.{take_plus, rest_of}
 
 known_more : (r : Option (List ℕ)) (xs ys : List ℕ) → append_known (append_known r xs) ys ≡ append_known r (xs ++ ys)
@@ -60,7 +60,7 @@ readies_by_stray old new e =
     cut_by_failure old new (ap (λ (t : Talk). t.sent) e) (ap (λ (t : Talk). t.received) e)
     (inr (let more : new.strays ≡ old.strays + 1 = ap (λ (t : Talk). t.strays) e in omega arith))
 
-pub stays_open : (old new : Talk) → new ≡ old → old.connected ≡ true → new ≡ opened old
+pub stays_open : (old new : Talk) → new ≡ old → old.connected ≡ true → new ≡ with_connection old
 stays_open old new e is = e ∙ ap (λ (b : Bool). record old { connected = b }) is
 
 -- A request sent
@@ -98,10 +98,10 @@ sends_first a c xs ys f q =
     let is : xs ≡ front ++ rest = q.1.1 in
     (front, (rest ++ ys, ap (λ (x : List ℕ). x ++ ys) is ∙ append_assoc front rest ys), q.2)
 
-pub requests_from : (a b c : Talk) (request : List ℕ) (r : Result Unit ChannelFault) → b ≡ opened a → SendsAll b c request r → Requests a c request r
+pub requests_from : (a b c : Talk) (request : List ℕ) (r : Result Unit ChannelFault) → b ≡ with_connection a → SendsAll b c request r → Requests a c request r
 requests_from a b c request (Ok u) p q = q ∙ ap (λ (t : Talk). with_sent t request) p
 requests_from a b c request (Err f) p q =
-    let whole : c ≡ with_failure (with_sent (opened a) q.0) = q.2 ∙ ap (λ (t : Talk). with_failure (with_sent t q.0)) p in
+    let whole : c ≡ with_failure (with_sent (with_connection a) q.0) = q.2 ∙ ap (λ (t : Talk). with_failure (with_sent t q.0)) p in
     record {
       front = q.0;
       is_front = q.1;
@@ -205,21 +205,21 @@ hears_said old new got done failed heard.Failed e answer is = e ∙ ap (with_rec
 hears_said old new got done failed heard.Broken e answer is = (got, answer, inr (e, is.0, is.1))
 
 -- a connection closed after what is no answer
-pub settles_closed : (a b c : Talk) (done failed : List ℕ) → Hears a b done failed heard.Broken → c ≡ closed b
-    → (got : List ℕ) × IsAnswer got done × ((c ≡ closed (with_failure (with_received a got))) ⊎ ((c ≡ closed (with_received a got)) × (got ≢ done) × (got ≢ failed)))
+pub settles_closed : (a b c : Talk) (done failed : List ℕ) → Hears a b done failed heard.Broken → c ≡ without_connection b
+    → (got : List ℕ) × IsAnswer got done × ((c ≡ without_connection (with_failure (with_received a got))) ⊎ ((c ≡ without_connection (with_received a got)) × (got ≢ done) × (got ≢ failed)))
 settles_closed a b c done failed h e = (h.0, h.1, split h.2)
   where
     split : (b ≡ with_failure (with_received a h.0)) ⊎ ((b ≡ with_received a h.0) × (h.0 ≢ done) × (h.0 ≢ failed))
-        → (c ≡ closed (with_failure (with_received a h.0))) ⊎ ((c ≡ closed (with_received a h.0)) × (h.0 ≢ done) × (h.0 ≢ failed))
-    split (inl is) = inl (e ∙ ap closed is)
-    split (inr is) = inr (e ∙ ap closed is.0, is.1, is.2)
+        → (c ≡ without_connection (with_failure (with_received a h.0))) ⊎ ((c ≡ without_connection (with_received a h.0)) × (h.0 ≢ done) × (h.0 ≢ failed))
+    split (inl is) = inl (e ∙ ap without_connection is)
+    split (inr is) = inr (e ∙ ap without_connection is.0, is.1, is.2)
 
 -- A request and its answer
 
 nothing_heard : (done : List ℕ) → IsAnswer [] done
 nothing_heard done = record { short = omega arith; one = λ k lt. absurd (omega arith) }
 
-still_failed : (a b c : Talk) → c ≡ closed b → HasFailed a b → HasFailed a c
+still_failed : (a b c : Talk) → c ≡ without_connection b → HasFailed a b → HasFailed a c
 still_failed a b c is (inl lt) = inl (let same : c.failures ≡ b.failures = ap (λ (t : Talk). t.failures) is in omega arith)
 still_failed a b c is (inr lt) = inr (let same : c.strays ≡ b.strays = ap (λ (t : Talk). t.strays) is in omega arith)
 
@@ -228,7 +228,7 @@ pub answers_from : (a b c : Talk) (request done failed : List ℕ) (s : Result U
 answers_from a b c request done failed (Ok u) (Ok v) p q = q ∙ ap (λ (t : Talk). with_received t done) p
 answers_from a b c request done failed (Ok u) (Err fault.Refused) p q = q ∙ ap (λ (t : Talk). with_received t failed) p
 answers_from a b c request done failed (Ok u) (Err fault.Broken) p (got, answer, inl is) =
-    let whole : c ≡ closed (with_failure (with_received (with_sent (opened a) request) got)) = is ∙ ap (λ (t : Talk). closed (with_failure (with_received t got))) p in
+    let whole : c ≡ without_connection (with_failure (with_received (with_sent (with_connection a) request) got)) = is ∙ ap (λ (t : Talk). without_connection (with_failure (with_received t got))) p in
     record {
       front = request;
       got = got;
@@ -240,7 +240,7 @@ answers_from a b c request done failed (Ok u) (Err fault.Broken) p (got, answer,
       failure = inl (inl (let more : c.failures ≡ a.failures + 1 = ap (λ (t : Talk). t.failures) whole in omega arith));
     }
 answers_from a b c request done failed (Ok u) (Err fault.Broken) p (got, answer, inr is) =
-    let whole : c ≡ closed (with_received (with_sent (opened a) request) got) = is.0 ∙ ap (λ (t : Talk). closed (with_received t got)) p in
+    let whole : c ≡ without_connection (with_received (with_sent (with_connection a) request) got) = is.0 ∙ ap (λ (t : Talk). without_connection (with_received t got)) p in
     record {
       front = request;
       got = got;

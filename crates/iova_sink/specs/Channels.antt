@@ -36,11 +36,11 @@ with_failure t = record t { failures = t.failures + 1 }
 abbrev pub with_stray : Talk → Talk
 with_stray t = record t { strays = t.strays + 1 }
 
-abbrev pub opened : Talk → Talk
-opened t = record t { connected = true }
+abbrev pub with_connection : Talk → Talk
+with_connection t = record t { connected = true }
 
-abbrev pub closed : Talk → Talk
-closed t = record t { connected = false }
+abbrev pub without_connection : Talk → Talk
+without_connection t = record t { connected = false }
 
 -- a front of the bytes was sent, or the call failed
 abbrev pub Sends : Talk → Talk → List ℕ → Result ℕ ChannelFault → Type 0
@@ -61,8 +61,8 @@ Looks old new (Err e) = new ≡ with_failure old
 
 -- there is a connection, or the call failed and there is none
 abbrev pub Connects : Talk → Talk → Result Unit ChannelFault → Type 0
-Connects old new (Ok u) = new ≡ opened old
-Connects old new (Err e) = new ≡ closed (with_failure old)
+Connects old new (Ok u) = new ≡ with_connection old
+Connects old new (Err e) = new ≡ without_connection (with_failure old)
 
 -- Requests
 
@@ -84,7 +84,7 @@ pub record IsCutOff (old new : Talk) (request : List ℕ) : Type 0 where
 
 -- there is a connection in which no byte was seen to stand; or whatever was to be sent is cut off
 abbrev pub Readies : Talk → Talk → Result Unit ChannelFault → Type 0
-Readies old new (Ok u) = new ≡ opened old
+Readies old new (Ok u) = new ≡ with_connection old
 Readies old new (Err e) = (request : List ℕ) → IsCutOff old new request
 
 -- the bytes were sent, or a front of them and the call failed
@@ -106,7 +106,7 @@ Adds old new block now line (Err e) = SendsAll old new block (Err e)
 
 -- the whole request was sent over a connection in which no byte was seen to stand
 abbrev pub Requests : Talk → Talk → List ℕ → Result Unit ChannelFault → Type 0
-Requests old new request (Ok u) = new ≡ with_sent (opened old) request
+Requests old new request (Ok u) = new ≡ with_sent (with_connection old) request
 Requests old new request (Err e) = IsCutOff old new request
 
 -- Answers
@@ -156,7 +156,8 @@ pub record BreaksOff (old new : Talk) (request done failed : List ℕ) : Type 0 
 -- the whole request was sent over a connection in which no byte was seen to stand, and these bytes
 -- and no other were received; the connection stays, and no call of the channel failed
 abbrev pub IsAnsweredBy : Talk → Talk → List ℕ → List ℕ → Type 0
-IsAnsweredBy old new request answer = new ≡ with_received (with_sent (opened old) request) answer
+IsAnsweredBy old new request answer = new
+    ≡ with_received (with_sent (with_connection old) request) answer
 
 -- what became of a request that has these two answers
 abbrev pub Answers : Talk → Talk → List ℕ → List ℕ → List ℕ → Result Unit SinkFault → Type 0
@@ -170,12 +171,13 @@ Settles middle new done failed (Ok u) = new ≡ with_received middle done
 Settles middle new done failed (Err fault.Refused) = new ≡ with_received middle failed
 Settles middle new done failed (Err fault.Broken) =
     (got : List ℕ) × IsAnswer got done
-    × ((new ≡ closed (with_failure (with_received middle got)))
-    ⊎ ((new ≡ closed (with_received middle got)) × (got ≢ done) × (got ≢ failed)))
+    × ((new ≡ without_connection (with_failure (with_received middle got)))
+    ⊎ ((new ≡ without_connection (with_received middle got)) × (got ≢ done) × (got ≢ failed)))
 
 -- what becomes of one that was sent or cut off
 abbrev pub Concludes : Talk → Talk → List ℕ → List ℕ → Result Unit ChannelFault
     → Result Unit SinkFault → Type 0
 Concludes middle new done failed (Ok u) result = Settles middle new done failed result
 Concludes middle new done failed (Err f) (Ok u) = ⊥
-Concludes middle new done failed (Err f) (Err e) = (e ≡ fault.Broken) × (new ≡ closed middle)
+Concludes middle new done failed (Err f) (Err e) = (e ≡ fault.Broken)
+    × (new ≡ without_connection middle)

@@ -1,6 +1,6 @@
 //! A connection to a peer that answers.
 ghost use Rattle.std.specs.Prelude.{◌≡◌, ◌<◌, ◌≤◌, IfOk, length};
-ghost use Rattle.iova_sink.specs.Channels.{Talk, Sends, Receives, Looks, Connects, closed};
+ghost use Rattle.iova_sink.specs.Channels.{Talk, Sends, Receives, Looks, Connects, without_connection};
 
 /// The channel failed.
 #[derive(Clone, Copy, PartialEq, Eq, Debug)]
@@ -56,5 +56,5 @@ pub trait Channel {
 
     /// Closes the connection, where there is one.
     fn close(&mut self)
-        ensures { talk self.new ≡ closed (talk self.old) };
+        ensures { talk self.new ≡ without_connection (talk self.old) };
 }

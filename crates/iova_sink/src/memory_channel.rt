@@ -1,6 +1,6 @@
 //! A channel in memory.
 ghost use Rattle.std.specs.Prelude.{◌≡◌, ◌<◌, ◌≤◌, [], Some, IfOk, length, false};
-ghost use Rattle.iova_sink.specs.Channels.{Sends, Receives, Looks, Connects, closed, with_failure, with_stray};
+ghost use Rattle.iova_sink.specs.Channels.{Sends, Receives, Looks, Connects, without_connection, with_failure, with_stray};
 
 use crate::channel::{Channel, ChannelFault, Standing};
 use crate::count::Count;

@@ -1,6 +1,7 @@
 //! All bytes written, and flushed where that is wanted.
-ghost use Rattle.std.specs.Prelude.{◌≡◌, ◌<◌, ℕ, take, IfOk, OnOk, OnErr, IsOk, IsErr};
+ghost use Rattle.std.specs.Prelude.{◌≡◌, ◌<◌, IfOk, OnOk, OnErr, IsOk, IsErr};
 ghost use Rattle.std.specs.Io.KnownBytes.{Appends};
+ghost use Rattle.iova_text.specs.Writing.{AppendsFront};
 
 use std::io;
 use std::io::Write;
@@ -15,8 +16,8 @@ pub struct WriteFault;
 /// an interruption too, or a write takes nothing; some first bytes are written then.
 pub fn write_all<W: Write>(writer: &mut W, bytes: &[u8]) -> Result<(), WriteFault>
     ensures ok { OnOk result (Appends (W.contents writer.old) (W.contents writer.new) bytes.now) }
-    ensures err { OnErr result ((n : ℕ)
-        × Appends (W.contents writer.old) (W.contents writer.new) (take n bytes.now)) }
+    ensures err { OnErr result
+        (AppendsFront (W.contents writer.old) (W.contents writer.new) bytes.now) }
 {
     write_bytes(writer, bytes)?;
     flushed(writer.flush())
@@ -27,8 +28,8 @@ pub fn write_all<W: Write>(writer: &mut W, bytes: &[u8]) -> Result<(), WriteFaul
 /// bytes are written then.
 pub fn write_bytes<W: Write>(writer: &mut W, bytes: &[u8]) -> Result<(), WriteFault>
     ensures ok { OnOk result (Appends (W.contents writer.old) (W.contents writer.new) bytes.now) }
-    ensures err { OnErr result ((n : ℕ)
-        × Appends (W.contents writer.old) (W.contents writer.new) (take n bytes.now)) }
+    ensures err { OnErr result
+        (AppendsFront (W.contents writer.old) (W.contents writer.new) bytes.now) }
 {
     let mut done = 0;
     while done < bytes.len() {

@@ -1,6 +1,6 @@
 use Rattle.std.proofs.Common.{◌≡◌, ◌∙◌, ap, sym, inl, inr, None, arith, rules}
 use Rattle.std.proofs.lemmas.Bool.{cases_lt}
-use Rattle.iova_check.specs.Findings.{told}
+use Rattle.iova_check.specs.Findings.{since_of}
 use Rattle.iova_check.proofs.scan.find.Goals as goal
 
 pub loop-at-preserved : goal.loop-at-preserved
@@ -12,6 +12,6 @@ loop-at-preserved c =
       within = next.within;
       none = λ f from under. elim (cases_lt f c.loop-at.at) [
         | inl below ↦ c.loop-at.invariant.none f from below
-        | inr above ↦ ap (told c.args.kind) (next.same f above under ∙ sym c.stage.ensures) ∙ (sym c.told.ensures ∙ is)
+        | inr above ↦ ap (since_of c.args.kind) (next.same f above under ∙ sym c.stage.ensures) ∙ (sym c.told.ensures ∙ is)
       ];
     }

@@ -1,13 +1,13 @@
 use Rattle.std.proofs.Common.{◌≡◌, ◌∙◌, ap, sym, inl, inr, Some, arith, rules}
 use Rattle.std.proofs.lemmas.Bool.{cases_lt}
-use Rattle.iova_check.specs.Findings.{told}
+use Rattle.iova_check.specs.Findings.{since_of}
 use Rattle.iova_check.proofs.scan.stretch.Goals as goal
 
 pub loop-at-init : goal.loop-at-init
 loop-at-init c = record {
   after = c.end-at.ensures.after;
   within = c.end-at.ensures.within;
-  same = λ f from under. ap (told c.args.kind) (c.end-at.ensures.same f from under) ∙ c.requires.first;
+  same = λ f from under. ap (since_of c.args.kind) (c.end-at.ensures.same f from under) ∙ c.requires.first;
 }
 
 pub loop-at-preserved : goal.loop-at-preserved
@@ -19,6 +19,6 @@ loop-at-preserved c =
       within = next.within;
       same = λ f from under. elim (cases_lt f c.loop-at.at) [
         | inl below ↦ c.loop-at.invariant.same f from below
-        | inr above ↦ ap (told c.args.kind) (next.same f above under ∙ sym c.stage.ensures) ∙ (sym c.told.ensures ∙ is)
+        | inr above ↦ ap (since_of c.args.kind) (next.same f above under ∙ sym c.stage.ensures) ∙ (sym c.told.ensures ∙ is)
       ];
     }

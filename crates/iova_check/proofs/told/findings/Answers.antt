@@ -7,7 +7,7 @@ use Rattle.iova_check.specs.declared.finding.Finding.{Finding}
 use Rattle.iova_check.specs.Bounds.{Bounds}
 use Rattle.iova_check.specs.declared.tracker.Tracker.{Tracker}
 use Rattle.iova_check.specs.History.{flight_of, stage_of}
-use Rattle.iova_check.specs.Marks.{shown}
+use Rattle.iova_check.specs.Marks.{stage_at}
 use Rattle.iova_check.specs.Following.{Follows}
 use Rattle.iova_check.specs.Findings.{AreFindings}
 use Rattle.std.specs.Ordering.{nat_cmp}
@@ -17,7 +17,7 @@ use Rattle.iova_check.proofs.told.findings.Goals as goal
 
 -- what the tracker knows are the stages and the flushes in flight
 followed : (past : List Event) (t : Tracker) (bounds : Bounds) (e : Event) (fs : List (Option Finding)) → Follows past t
-    → AreFindings bounds (shown t.stages) (get nat_cmp t.flights) e fs → AreFindings bounds (stage_of past) (flight_of past) e fs
+    → AreFindings bounds (stage_at t.stages) (get nat_cmp t.flights) e fs → AreFindings bounds (stage_of past) (flight_of past) e fs
 followed past t bounds e fs follows h =
     let P : (ℕ → Stage) → Type 0 = λ at. AreFindings bounds at (get nat_cmp t.flights) e fs in
     let Q : (ℕ → Option Flight) → Type 0 = λ flights. AreFindings bounds (stage_of past) flights e fs in

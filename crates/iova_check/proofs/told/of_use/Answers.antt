@@ -1,7 +1,7 @@
 use Rattle.std.proofs.Common.{ℕ, ◌≡◌, ◌+◌, arith}
 use Rattle.iova_check.specs.declared.finding.Kind.TheVariants as kind
-use Rattle.iova_check.specs.Findings.{told, told_outside, IsFound}
-use Rattle.iova_check.specs.Marks.{shown}
+use Rattle.iova_check.specs.Findings.{since_of, told_outside, IsFound}
+use Rattle.iova_check.specs.Marks.{stage_at}
 use Rattle.iova_check.proofs.AllowedFrames.{moved}
 use Rattle.iova_check.proofs.told.of_use.Goals as goal
 
@@ -11,8 +11,8 @@ returns c = λ bounds allows.
     let lo : c.lo-lo.result ≡ range.lo = c.lo-lo.ensures in
     let to : c.lo.result + c.len.result ≡ range.lo + range.len = omega (arith, c.lo.ensures, c.len.ensures.is) in
     let P : ℕ → ℕ → Type 0 = λ a b. IsFound (told_outside bounds) a b c.find_outside-outside.result in
-    let Q : ℕ → ℕ → Type 0 = λ a b. IsFound (λ f. told kind.Stale (shown c.args.stages.now f)) a b c.find-stale.result in
-    let S : ℕ → ℕ → Type 0 = λ a b. IsFound (λ f. told kind.Wild (shown c.args.stages.now f)) a b c.find-wild.result in
+    let Q : ℕ → ℕ → Type 0 = λ a b. IsFound (λ f. since_of kind.Stale (stage_at c.args.stages.now f)) a b c.find-stale.result in
+    let S : ℕ → ℕ → Type 0 = λ a b. IsFound (λ f. since_of kind.Wild (stage_at c.args.stages.now f)) a b c.find-wild.result in
     record {
       outside = c.find_outside-outside.result;
       stale = c.find-stale.result;

@@ -8,12 +8,12 @@ returns-in-Err-clause-domain g c = known_flush_refused _ _ c.begin-begun.result.
 
 pub returns-then-ok-clause-domain : goal.returns-then-ok-clause-domain
 returns-then-ok-clause-domain g c =
-    let k = rw (c.number-2.ensures, c.begin-begun.ensures.number) at c.invalidated-ok.ensures in
+    let k = rw (c.number-2.ensures, c.begin-begun.ensures.same) at c.invalidated-ok.ensures in
     known_flush_done _ _ _ c.in-Ok.no c.begin-begun.result.begun c.end-ended.result.reply c.invalidated-ok.result _ _ _ (c.in-Some.is ∙ ap Some c.in-Ok.ensures.is) c.if-ok.true k c.begin-begun.ensures.domain c.end-ended.ensures.domain
 
 pub returns-else-ok-clause-domain : goal.returns-else-ok-clause-domain
 returns-else-ok-clause-domain g c =
-    let k = rw (c.number-2.ensures, c.begin-begun.ensures.number) at c.invalidated-ok.ensures in
+    let k = rw (c.number-2.ensures, c.begin-begun.ensures.same) at c.invalidated-ok.ensures in
     known_flush_failed _ _ _ c.in-Ok.no c.begin-begun.result.begun c.end-ended.result.reply c.invalidated-ok.result _ _ _ (c.in-Some.is ∙ ap Some c.in-Ok.ensures.is) c.if-ok.false k c.begin-begun.ensures.domain c.end-ended.ensures.domain
 
 pub returns-then-ok-clause-tally : goal.returns-then-ok-clause-tally

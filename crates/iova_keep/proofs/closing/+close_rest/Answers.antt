@@ -1,4 +1,4 @@
-use Rattle.std.proofs.Common.{arith}
+use Rattle.std.proofs.Common.{◌∙◌, arith}
 use Rattle.iova_keep.proofs.Doing.{good_within}
 use Rattle.iova_keep.proofs.Closings.{lowered_more}
 use Rattle.iova_keep.proofs.Endings.{known_rest_last, known_rest_more, failed_at_most, failed_then}
@@ -16,18 +16,19 @@ returns-in-None-clause-failed g t c = failed_at_most _ _ _ _ _ c.invalidated-ok.
 pub returns-in-None-clause-fault : goal.returns-in-None-clause-fault
 returns-in-None-clause-fault g t c = λ e. failed_then _ _ _ _ _ c.invalidated-ok.ensures e
 
-pub returns-in-None-clause-tally : goal.returns-in-None-clause-tally
-returns-in-None-clause-tally g t c =
+pub returns-in-None-clause-place : goal.returns-in-None-clause-place
+returns-in-None-clause-place g t c =
     let k = c.invalidated-ok.ensures in
-    good_within c.args.no c.invalidated-ok.result _ _ c.number.result _ _ c.close_again-heard.ensures.good.1 k
+    let end = c.close_again-heard.ensures.place in
+    record { worker = end.worker; parts = end.parts; tally = good_within c.args.no c.invalidated-ok.result _ _ c.number.result _ _ end.most k }
 
 pub returns-in-Some-clause-domain : goal.returns-in-Some-clause-domain
 returns-in-Some-clause-domain g t c =
     let h = c.close_again-heard in
     let k = rw c.number.ensures at c.invalidated-ok.ensures in
     let full = rw c.in-Some.ensures.some at h.ensures.begun in
-    known_rest_more _ _ _ c.args.seat.now h.new.seat c.close_rest.new.seat.held c.args.id c.args.no c.in-Some.next c.invalidated-ok.result c.close_rest.result.ok h.result.reply h.result.begun c.close_rest.result.heard.reply c.close_rest.result.heard.begun _ _ _ _ k h.ensures.worker full.0 c.in-Some.ensures.some
-    h.ensures.domain (rw h.ensures.number at c.close_rest.ensures.domain)
+    known_rest_more _ _ _ c.args.seat.now h.new.seat c.close_rest.new.seat.held c.args.id c.args.no c.in-Some.next c.invalidated-ok.result c.close_rest.result.ok h.result.reply h.result.begun c.close_rest.result.heard.reply c.close_rest.result.heard.begun _ _ _ _ k h.ensures.place.worker full.0 c.in-Some.ensures.some
+    h.ensures.domain (rw h.ensures.same at c.close_rest.ensures.domain)
 
 pub returns-in-Some-clause-shares : goal.returns-in-Some-clause-shares
 returns-in-Some-clause-shares g t c = let h = c.close_again-heard.ensures.seat in lowered_more _ _ _ (h.0, h.2) c.close_rest.ensures.shares
@@ -44,9 +45,10 @@ returns-in-Some-clause-fault g t c = λ e.
     let rest = c.close_rest.ensures.fault e in
     omega (arith, first, rest)
 
-pub returns-in-Some-clause-tally : goal.returns-in-Some-clause-tally
-returns-in-Some-clause-tally g t c =
+pub returns-in-Some-clause-place : goal.returns-in-Some-clause-place
+returns-in-Some-clause-place g t c =
     let k = c.invalidated-ok.ensures in
-    let first = good_within c.args.no c.invalidated-ok.result _ _ c.number.result _ _ c.close_again-heard.ensures.good.1 k in
-    let rest = c.close_rest.ensures.tally in
-    omega (arith, first, rest)
+    let end = c.close_again-heard.ensures.place in
+    let first = good_within c.args.no c.invalidated-ok.result _ _ c.number.result _ _ end.most k in
+    let rest = c.close_rest.ensures.place in
+    record { worker = rest.worker ∙ end.worker; parts = rest.parts ∙ end.parts; tally = omega (arith, first, rest.tally) }

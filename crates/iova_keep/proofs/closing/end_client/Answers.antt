@@ -27,7 +27,7 @@ returns-in-Some-clause-domain g c =
     let counted : c.args.seat.now.held.count ≡ l.new.seat.held.count + (c.count-before.result - c.count-in-Some.result) = omega (arith, e, c.count-before.ensures, c.count-in-Some.ensures) in
     let full = rw c.in-Some.ensures.some at h.ensures.begun in
     known_end_more _ _ _ c.args.seat.now h.new.seat l.new.seat.held c.args.id _ _ c.in-Some.no l.result.ok h.result.reply h.result.begun l.result.heard.reply l.result.heard.begun _ _ _ _ counted
-    c.ending-in-Some.ensures h.ensures.rest.0 full.0 c.in-Some.ensures.some h.ensures.domain (rw h.ensures.number at l.ensures.domain) l.ensures.left
+    c.ending-in-Some.ensures h.ensures.rest.0 full.0 c.in-Some.ensures.some h.ensures.domain (rw h.ensures.same at l.ensures.domain) l.ensures.left
 
 pub returns-in-Some-clause-shares : goal.returns-in-Some-clause-shares
 returns-in-Some-clause-shares g c =

@@ -15,8 +15,8 @@ returns-else-release_last-clause-domain g c =
     let k = rw c.number.ensures at c.invalidated-ok.ensures in
     rw c.in-Some.is (known_not_freed _ _ c.args.seat.now _ _ _ c.release_last.result _ _ _ c.if-release_last.false k c.release_last.ensures.domain)
 
-pub returns-then-release_last-clause-tally : goal.returns-then-release_last-clause-tally
-returns-then-release_last-clause-tally g c = good_within c.in-Some.no c.invalidated-ok.result _ _ c.number.result _ _ c.release_last.ensures.good.1 c.invalidated-ok.ensures
+pub returns-then-release_last-clause-place : goal.returns-then-release_last-clause-place
+returns-then-release_last-clause-place g c = let end = c.release_last.ensures.place in record { worker = end.worker; parts = end.parts; tally = good_within c.in-Some.no c.invalidated-ok.result _ _ c.number.result _ _ end.most c.invalidated-ok.ensures }
 
-pub returns-else-release_last-clause-tally : goal.returns-else-release_last-clause-tally
-returns-else-release_last-clause-tally g c = good_within c.in-Some.no c.invalidated-ok.result _ _ c.number.result _ _ c.release_last.ensures.good.1 c.invalidated-ok.ensures
+pub returns-else-release_last-clause-place : goal.returns-else-release_last-clause-place
+returns-else-release_last-clause-place g c = let end = c.release_last.ensures.place in record { worker = end.worker; parts = end.parts; tally = good_within c.in-Some.no c.invalidated-ok.result _ _ c.number.result _ _ end.most c.invalidated-ok.ensures }

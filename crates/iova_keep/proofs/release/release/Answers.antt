@@ -5,7 +5,7 @@ use Rattle.iova_keep.proofs.release.release.Goals as goal
 pub returns-in-Ok-clause-domain : goal.returns-in-Ok-clause-domain
 returns-in-Ok-clause-domain g c =
     let h = c.release_first-heard in
-    let f = rw (c.flush_begun-begun.ensures.is, h.ensures.number) at c.follow.ensures.domain in
+    let f = rw (c.flush_begun-begun.ensures.is, h.ensures.same) at c.follow.ensures.domain in
     known_release_queued _ _ _ _ c.args.seat.now _ _ _ _ h.result.reply h.result.begun _ _ _ _ c.in-Ok.ensures.is h.ensures.rest.0 h.ensures.domain f
 
 pub returns-in-None-clause-domain : goal.returns-in-None-clause-domain
@@ -16,6 +16,6 @@ returns-in-None-clause-domain g c =
 pub returns-in-Some-clause-domain : goal.returns-in-Some-clause-domain
 returns-in-Some-clause-domain g c =
     let h = c.release_first-heard in
-    let f = rw (h.ensures.strict, h.ensures.number) at c.try_again.ensures.domain in
+    let f = rw (h.ensures.same) at c.try_again.ensures.domain in
     let same = rw c.in-Err.ensures.is at h.ensures.seat in
     known_release_rest _ _ _ _ c.args.seat.now h.new.seat _ _ _ _ h.result.reply h.result.begun _ _ _ _ c.in-Err.ensures.is (sym c.in-Some.ensures.is) h.ensures.rest.0 same h.ensures.domain f

@@ -5,7 +5,8 @@ use Rattle.iova_session.proofs.leaving.leave_locked.Goals as goal
 pub returns-in-Ok-clause-place : goal.returns-in-Ok-clause-place
 returns-in-Ok-clause-place g c =
     let k = told_good _ _ _ _ _ _ c.tell.ensures.told in
-    record { worker = c.end_client.ensures.worker; parts = c.end_client.ensures.parts; tally = omega (arith, c.end_client.ensures.tally, k) }
+    let place = c.end_client.ensures.place in
+    record { worker = place.worker; parts = place.parts; tally = omega (arith, place.tally, k) }
 
 pub returns-in-Err-clause-place : goal.returns-in-Err-clause-place
 returns-in-Err-clause-place g c = let k = told_good _ _ _ _ _ _ c.tell.ensures.told in record { worker = refl; parts = refl; tally = omega (arith, k) }

@@ -3,15 +3,14 @@ use Rattle.std.proofs.lemmas.Grind.{common_steps}
 use Rattle.std.specs.Prelude.{Option, Some, IfSome}
 use Rattle.iova_model.specs.State.{State}
 use Rattle.iova_model.specs.Valid.{IsValid}
-use Rattle.iova_keep.specs.Views.{IsKept}
+use Rattle.iova_keep.specs.Views.{Identity, IsKept}
 use Rattle.iova_session.proofs.Histories.{each_keeps}
 use Rattle.iova_session.proofs.Each.{none_served, next_served, rest_after}
 use Rattle.iova_session.proofs.one_by_one.serve_one_by_one.Goals as goal
 
 pub loop-at-init : goal.loop-at-init
 loop-at-init g c = record {
-  number = refl;
-  strict = refl;
+  same = refl;
   place = record { worker = refl; parts = refl; tally = omega arith };
   long = refl;
   rest = refl;
@@ -29,8 +28,7 @@ loop-at-preserved g c =
     let lt : at < length c.args.links.now = let t = c.loop-at-test.true in grind (arith, common_steps) in
     let here : at < length c.loop-at.links = omega (arith, lt, i.long) in
     record {
-      number = n.number ∙ i.number;
-      strict = n.strict ∙ i.strict;
+      same = n.same ∙ i.same;
       place = record { worker = n.place.worker ∙ i.place.worker; parts = n.place.parts ∙ i.place.parts; tally = omega (arith, n.place.tally, i.place.tally) };
       long = length-set c.loop-at.links at c.run_session-end.new.link ∙ i.long;
       rest = rest_after c.loop-at.links c.args.links.now at c.index-links-at.result c.run_session-end.new.link here lt i.rest;
@@ -40,7 +38,7 @@ loop-at-preserved g c =
         i.sessions.0 ++ c.run_session-end.result ∷ [],
         c.push_end.ensures.items ∙ ap (λ x. x ++ c.run_session-end.result ∷ []) i.sessions.1 ∙ append_assoc c.args.ends.now.items i.sessions.0 (c.run_session-end.result ∷ []),
         next_served _ _ _ _ _ c.args.links.now c.loop-at.links i.sessions.0 at c.index-links-at.result c.run_session-end.new.link c.run_session-end.result _ _ _ _ _
-            lt here i.rest i.strict i.number i.sessions.2
+            lt here i.rest (ap (λ (x : Identity). x.strict) i.same) (ap (λ (x : Identity). x.number) i.same) i.sessions.2
             (record {
               taken = h.0;
               pairs = h.1;

@@ -2,8 +2,7 @@ use Rattle.iova_session.proofs.paused.turn_at.Given as goal
 
 abbrev pub ghosts-turn_lent : goal.ghosts-turn_lent
 ghosts-turn_lent g a = record {
-  number = g.K.Keep.domain_number a.lent.keeper.now;
-  strict = g.K.Keep.strict a.lent.keeper.now;
+  identity = g.K.Keep.identity a.lent.keeper.now;
   domain = g.K.Keep.domain a.lent.keeper.now;
   session = a.progress.now.session;
   seat = a.lent.seat.now;

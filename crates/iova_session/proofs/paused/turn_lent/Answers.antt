@@ -11,7 +11,7 @@ invariant_of-desk-clause-shares g c =
 
 pub invariant_of-desk-clause-leads : goal.invariant_of-desk-clause-leads
 invariant_of-desk-clause-leads g c =
-    goes_yet g.O.SessionStart.strict g.O.SessionStart.session c.replace.result g.O.SessionStart.seat c.args.lent.seat.now g.O.SessionStart.calls (g.D.Sink.calls c.args.lent.sink.now)
+    goes_yet g.O.SessionStart.identity.strict g.O.SessionStart.session c.replace.result g.O.SessionStart.seat c.args.lent.seat.now g.O.SessionStart.calls (g.D.Sink.calls c.args.lent.sink.now)
     g.O.SessionStart.domain (g.K.Keep.domain c.args.lent.keeper.now) (c.replace.ensures.value ∙ c.requires.session) c.requires.seat c.requires.calls c.requires.domain
 
 pub returns-clause-turn : goal.returns-clause-turn
@@ -34,12 +34,12 @@ returns-clause-turn g c =
 
 pub returns-clause-leads : goal.returns-clause-leads
 returns-clause-leads g c =
-    rw (c.requires.domain, c.requires.strict, c.requires.session, c.requires.seat, c.requires.calls) c.take_piece-taken.new.desk.leads
+    rw (c.requires.domain, c.requires.same, c.requires.session, c.requires.seat, c.requires.calls) c.take_piece-taken.new.desk.leads
 
 pub returns-clause-others : goal.returns-clause-others
 returns-clause-others g c =
     let was = c.args.progress.now.session in
     let now = c.take_piece-taken.new.desk in
-    let named : now.session.number ≡ was.number = now.number.0 ∙ sym c.requires.named in
+    let named : now.session.number ≡ was.number = now.number ∙ sym c.requires.named in
     turn_keeps c.others_keep_their_holdings.ensures _ was now.session _ _ _ _ _ _ (c.client.ensures.after, c.client.ensures.listed)
     (subst (λ n. AreAnswers n None 0 now.session.pairs) named c.client-2.ensures.answers) (returns-clause-leads g c)

@@ -13,7 +13,7 @@ trying-preserved g c =
     let old = c.args.post.now.waiting.items in
     let lt : c.trying.at < length old = let t = c.trying-test.true in let e = c.len-at-end.ensures in grind (arith, common_steps) in
     let there : id ≡ get_or old c.trying.at id = kept_there old c.trying.post.waiting.items c.trying.at c.trying.left id lt c.index-id.ensures i.tried in
-    let does = rw i.number at n.domain in
+    let does = rw i.same at n.domain in
     elim c.if-tried.branch [
       | then-tried w ↦
           let yes = w.if-tried.true in
@@ -21,8 +21,7 @@ trying-preserved g c =
           let seat : c.if-tried.post.seat ≡ c.try_to_end-tried.new.seat = rw w.post-is refl in
           record {
             tried = rw (w.post-is, w.left-is) next;
-            number = n.number ∙ i.number;
-            strict = n.strict ∙ i.strict;
+            same = n.same ∙ i.same;
             place = rw seat (record { worker = n.place.worker ∙ i.place.worker; parts = n.place.parts ∙ i.place.parts; tally = omega (arith, n.place.tally, i.place.tally) });
             room = λ goes. rw w.post-is (n.room goes);
             goes_on = λ more left now o k.
@@ -40,8 +39,7 @@ trying-preserved g c =
           let seat : c.if-tried.post.seat ≡ c.try_to_end-tried.new.seat = rw w.post-is refl in
           record {
             tried = rw (w.post-is, w.left-is) next;
-            number = n.number ∙ i.number;
-            strict = n.strict ∙ i.strict;
+            same = n.same ∙ i.same;
             place = rw seat (record { worker = n.place.worker ∙ i.place.worker; parts = n.place.parts ∙ i.place.parts; tally = omega (arith, n.place.tally, i.place.tally) });
             room = λ goes. rw w.post-is (n.room goes);
             goes_on = λ more left now o k.

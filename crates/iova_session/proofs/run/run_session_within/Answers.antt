@@ -1,6 +1,7 @@
 use Rattle.std.proofs.Common.{[], sym, arith}
 use Rattle.iova_session.proofs.EndedClients.{ended_opened, none_opened, nothing_served, nothing_answered, nothing_ended, none_taken, none_sent}
-use Rattle.std.proofs.Common.{◌∙◌, None}
+use Rattle.std.proofs.Common.{◌∙◌, ap, None}
+use Rattle.iova_keep.specs.Views.{Identity}
 use Rattle.iova_session.specs.Desks.{client_after}
 use Rattle.iova_session.proofs.Others.{nothing_left, opened_keeps, unopened_keeps}
 use Rattle.iova_session.proofs.Kept.{keeps_others}
@@ -44,5 +45,5 @@ returns-in-Some-clause-session g c =
       h.8,
       ended_opened c.in-Some.id h.1 c.serve_at-end.result.1 _ _ _ _ _ _ h.9 c.in-Some.is h.10 ended,
       opened_keeps (client_after None h.1) c.end_opened-client.result _ _ _ c.in-Some.id (sym h.9 ∙ c.in-Some.is) (keeps_others c.others_keep_their_holdings.ensures _ _ h.1 _ _ _ _ _ _ h.8 h.11) c.end_opened-client.ensures.domain,
-      session_leads _ _ _ c.in-Some.id h.1 c.end_opened-client.result _ _ _ _ _ _ _ _ _ _ _ (sym h.9 ∙ c.in-Some.is) c.serve_at-end.ensures.number h.11 does,
+      session_leads _ _ _ c.in-Some.id h.1 c.end_opened-client.result _ _ _ _ _ _ _ _ _ _ _ (sym h.9 ∙ c.in-Some.is) (ap (λ (i : Identity). i.number) c.serve_at-end.ensures.same) h.11 does,
     )

@@ -3,10 +3,9 @@ use Rattle.iova_session.proofs.run.serve_at.Given as goal
 
 abbrev pub ghosts-serve_lent : goal.ghosts-serve_lent
 ghosts-serve_lent g a = record {
-  number = g.K.Keep.domain_number a.lent.keeper.now;
-  strict = g.K.Keep.strict a.lent.keeper.now;
+  identity = g.K.Keep.identity a.lent.keeper.now;
   domain = g.K.Keep.domain a.lent.keeper.now;
-  session = record { number = g.K.Keep.domain_number a.lent.keeper.now; client = None; listed = 0; pairs = [] };
+  session = record { number = (g.K.Keep.identity a.lent.keeper.now).number; client = None; listed = 0; pairs = [] };
   seat = a.lent.seat.now;
   calls = g.D.Sink.calls a.lent.sink.now;
   keeper_name = a.lent.keeper.ghost_name;

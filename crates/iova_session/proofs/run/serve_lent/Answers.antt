@@ -13,5 +13,5 @@ invariant_of-desk-clause-shares g c =
 
 pub invariant_of-desk-clause-leads : goal.invariant_of-desk-clause-leads
 invariant_of-desk-clause-leads g c =
-    leads_yet g.O.SessionStart.strict g.O.SessionStart.number c.new-session.result.pairs g.O.SessionStart.seat c.args.lent.seat.now g.O.SessionStart.calls (g.D.Sink.calls c.args.lent.sink.now)
+    leads_yet g.O.SessionStart.identity.strict g.O.SessionStart.identity.number c.new-session.result.pairs g.O.SessionStart.seat c.args.lent.seat.now g.O.SessionStart.calls (g.D.Sink.calls c.args.lent.sink.now)
     g.O.SessionStart.domain (g.K.Keep.domain c.args.lent.keeper.now) (ap (λ (s : SessionState). s.pairs) c.new-session.ensures) c.requires.domain c.requires.seat c.requires.calls

@@ -1,5 +1,5 @@
 use Rattle.std.proofs.Common.{◌≡◌, ◌∙◌, refl, sym, ap, arith, Vec, Global}
-use Rattle.iova_keep.specs.Views.{SeatState}
+use Rattle.iova_keep.specs.Views.{Identity, SeatState}
 use Rattle.iova_proto.specs.declared.answer.Answer.{Answer}
 use Rattle.iova_session.specs.Desks.{SessionState, MovesBy, given_by, taken_by}
 use Rattle.iova_session.proofs.ToldPairs.{one_asked}
@@ -56,8 +56,8 @@ returns-clause-leads g c =
           let more = rw (w.session-is, n.0, w.answer-is) at added in
           rw (w.keeper-is, w.seat-is, w.sink-is)
           (alone_goes _ _ _ _ w.in-Some.id w.listed.result c.args.session.now c.add.new.self _ w.ask_alone-answer.result c.args.seat.now w.ask_together.new.seat w.ask_alone-answer.new.seat _ _ _ _ _
-          w.ask_together.ensures.strict w.ask_together.ensures.number n.2 n.3
+          (ap (λ (i : Identity). i.strict) w.ask_together.ensures.same) (ap (λ (i : Identity). i.number) w.ask_together.ensures.same) n.2 n.3
           c.requires.number (sym c.client-client.ensures.value ∙ w.in-Some.is) (sym (w.listed.ensures.value ∙ ap (λ (x : SessionState). x.listed) n.0)) more
-          (record { worker = w.ask_alone-answer.ensures.worker; shares = w.ask_alone-answer.ensures.shares })
+          (record { worker = w.ask_alone-answer.ensures.place.worker; shares = w.ask_alone-answer.ensures.shares })
           w.ask_alone-answer.ensures.does)
     ]

@@ -64,5 +64,5 @@ pub returns-clause-leads : goal.returns-clause-leads
 returns-clause-leads g c = λ calls.
     let h = from_told c.args.requests.now _ _ _ _ _ _ (c.asks_from-most.ensures.asks (omega (arith, c.if-most-eq0.false))) c.clear.ensures.items c.in_ok-count.ensures.told in
     let s = rw c.as_slice.ensures.value at c.tell_all.ensures.session in
-    batch_goes c.refusals_keep_the_state.ensures (g.K.Keep.strict c.args.keeper.now) c.args.id c.args.requests.now _ _ c.batch.new.told.items _ c.args.session.now c.tell_all.new.session c.args.seat.now c.batch.new.seat calls _ _
+    batch_goes c.refusals_keep_the_state.ensures (g.K.Keep.identity c.args.keeper.now).strict c.args.id c.args.requests.now _ _ c.batch.new.told.items _ c.args.session.now c.tell_all.new.session c.args.seat.now c.batch.new.seat calls _ _
     c.requires.client (c.asks_from-most.ensures.asks (omega (arith, c.if-most-eq0.false))) c.clear.ensures.items h.0.each (ap (λ (x : SessionState). x.pairs) s) c.batch.ensures.rest c.in_ok-count.ensures.domain

@@ -2,8 +2,8 @@ use Rattle.std.proofs.Common.{◌≡◌, ◌≢◌, ◌<◌, ◌≤◌, ap, ◌�
 use Rattle.std.proofs.lemmas.Bool.{cases_lt}
 use Rattle.std.specs.BTreeMap.{get}
 use Rattle.std.specs.Ordering.{nat_cmp}
-use Rattle.iova_check.specs.History.{changed}
-use Rattle.iova_check.specs.Marks.{shown}
+use Rattle.iova_check.specs.History.{with_change}
+use Rattle.iova_check.specs.Marks.{stage_at}
 use Rattle.iova_check.proofs.Marks.{shown_bare}
 use Rattle.iova_check.proofs.stages.Stages.change.Goals as goal
 
@@ -14,7 +14,7 @@ loop-at-preserved-in_ok-put c =
     let before : c.args.lo ≤ c.loop-at.at = so_far.from in
     let after : c.loop-at.at < c.end_of_change-end.result = c.end_of_change-end.ensures.after in
     let other : c.of-stage.result ≢ c.stage-before.result = search rules in
-    let new : c.of-stage.result ≡ changed c.args.change (shown c.loop-at.self c.loop-at.at) = c.of-stage.ensures ∙ ap (changed c.args.change) c.stage-before.ensures in
+    let new : c.of-stage.result ≡ with_change c.args.change (stage_at c.loop-at.self c.loop-at.at) = c.of-stage.ensures ∙ ap (with_change c.args.change) c.stage-before.ensures in
     let bare = c.end_of_change-end.ensures.bare (λ same. other (new ∙ (same ∙ sym c.stage-before.ensures))) in
     record {
       from = omega arith;
@@ -22,9 +22,9 @@ loop-at-preserved-in_ok-put c =
       inside = λ f from under. elim (cases_lt f c.loop-at.at) [
         | inl below ↦ put.below f below ∙ so_far.inside f from below
         | inr above ↦
-            let one : shown c.loop-at.self f ≡ shown c.loop-at.self c.loop-at.at =
+            let one : stage_at c.loop-at.self f ≡ stage_at c.loop-at.self c.loop-at.at =
             shown_bare (get nat_cmp c.loop-at.self.marks) c.loop-at.at f above (λ q lt le. bare q lt (omega arith)) in
-            put.inside f above under ∙ (new ∙ ap (changed c.args.change) (sym one ∙ so_far.above f above))
+            put.inside f above under ∙ (new ∙ ap (with_change c.args.change) (sym one ∙ so_far.above f above))
       ];
       below = λ f below. put.below f (omega arith) ∙ so_far.below f below;
       above = λ f above. put.above f above ∙ so_far.above f (omega arith);
@@ -36,14 +36,14 @@ loop-at-preserved c =
     let before : c.args.lo ≤ c.loop-at.at = so_far.from in
     let after : c.loop-at.at < c.end_of_change-end.result = c.end_of_change-end.ensures.after in
     let same : c.of-stage.result ≡ c.stage-before.result = search rules in
-    let stays : changed c.args.change (shown c.loop-at.self c.loop-at.at) ≡ shown c.loop-at.self c.loop-at.at =
-    ap (changed c.args.change) (sym c.stage-before.ensures) ∙ (sym c.of-stage.ensures ∙ (same ∙ c.stage-before.ensures)) in
+    let stays : with_change c.args.change (stage_at c.loop-at.self c.loop-at.at) ≡ stage_at c.loop-at.self c.loop-at.at =
+    ap (with_change c.args.change) (sym c.stage-before.ensures) ∙ (sym c.of-stage.ensures ∙ (same ∙ c.stage-before.ensures)) in
     record {
       from = omega arith;
       within = c.end_of_change-end.ensures.within;
       inside = λ f from under. elim (cases_lt f c.loop-at.at) [
         | inl below ↦ so_far.inside f from below
-        | inr above ↦ sym (c.end_of_change-end.ensures.kept stays f above under) ∙ ap (changed c.args.change) (so_far.above f above)
+        | inr above ↦ sym (c.end_of_change-end.ensures.kept stays f above under) ∙ ap (with_change c.args.change) (so_far.above f above)
       ];
       below = λ f below. so_far.below f below;
       above = λ f above. so_far.above f (omega arith);

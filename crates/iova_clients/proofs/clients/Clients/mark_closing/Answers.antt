@@ -2,7 +2,7 @@ use Rattle.std.proofs.Common.{Ok, length, refl, sym, ap, ◌∙◌}
 use Rattle.std.specs.Result.{result_ok}
 use Rattle.std.proofs.lemmas.Result.{err_from_is_err_and}
 use Rattle.iova_range.specs.declared.refusal.Refusal.TheVariants.{NoClient}
-use Rattle.iova_model.specs.Clients.{marked}
+use Rattle.iova_model.specs.Clients.{with_mark}
 use Rattle.iova_clients.specs.Registry.{count_held}
 use Rattle.iova_clients.specs.Accounts.{Account, client_at, clients_at}
 use Rattle.iova_clients.proofs.Changed.{client_some, client_none, changed-at, spares-set, found_mut, refused_at, none_mut}
@@ -26,11 +26,11 @@ invariant_of-self-2 c =
     let client = client_some id es a found in
     let is = client_is id es a _ refl c.self.invariant.registry found in
     let low = client_is_low id es a _ refl c.self.invariant.registry found in
-    let clients = changed-at id marked a c.mark_closing.new.self es found (ap (λ x. client_at (id, x)) (sym c.mark_closing.ensures)) in
+    let clients = changed-at id with_mark a c.mark_closing.new.self es found (ap (λ x. client_at (id, x)) (sym c.mark_closing.ensures)) in
     record {
-      registry = IsRegistry-changed id marked (client_at (id, a)) _ _ c.self.invariant.registry client refl
+      registry = IsRegistry-changed id with_mark (client_at (id, a)) _ _ c.self.invariant.registry client refl
           (record { worker = is.worker; room = is.room; rising = is.rising; sized = is.sized }) low clients refl;
-      sums = rw clients (sums_kept id marked (client_at (id, a)) (clients_at es) c.self.inside.sums client refl refl c.self.invariant.sums);
+      sums = rw clients (sums_kept id with_mark (client_at (id, a)) (clients_at es) c.self.inside.sums client refl refl c.self.invariant.sums);
     }
 
 pub returns-clause-value : goal.returns-clause-value
@@ -47,7 +47,7 @@ returns-clause-clients c =
     let id = c.args.id in
     let a = c.in_ok-ledger.ledger.now in
     let found = found_mut c.get_mut.result c.in_ok-ledger.ledger _ c.get_mut.ensures.value (c.ok_or.ensures.ok_part ∙ ap (λ r. result_ok r) c.in_ok-ledger.was) in
-    rw (← c.self.view_is) (changed-at id marked a c.mark_closing.new.self es found (ap (λ x. client_at (id, x)) (sym c.mark_closing.ensures)))
+    rw (← c.self.view_is) (changed-at id with_mark a c.mark_closing.new.self es found (ap (λ x. client_at (id, x)) (sym c.mark_closing.ensures)))
 
 pub returns-clause-spares : goal.returns-clause-spares
 returns-clause-spares c =

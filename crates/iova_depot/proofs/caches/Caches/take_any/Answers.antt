@@ -1,5 +1,5 @@
 use Rattle.std.proofs.Common.{◌≡◌, ◌≤◌, ◌+◌, ◌*◌, length, vec_len, ap, ◌∙◌, arith}
-use Rattle.iova_model.specs.Caches.{emptied}
+use Rattle.iova_model.specs.Caches.{without_entries}
 use Rattle.iova_depot.specs.Cached.{Cached}
 use Rattle.iova_depot.proofs.Leaving.{takes_seen, loses_only, loses_frames}
 use Rattle.iova_depot.proofs.Slots.{with_first, first_kept, emptied-takes, nothing_left}
@@ -12,7 +12,7 @@ invariant_of-self c =
 
 pub returns-in-Some-clause-emptied : goal.returns-in-Some-clause-emptied
 returns-in-Some-clause-emptied c =
-    let left = λ (seen : Cached). emptied seen.caches in
+    let left = λ (seen : Cached). without_entries seen.caches in
     ap left c.self-in-loop-slot.view_is ∙ (emptied-takes _ _ _ _ c.in-Some.ensures.taken ∙ ap left c.loop-slot.invariant.same)
 
 pub returns-clause-taken : goal.returns-clause-taken

@@ -1,6 +1,6 @@
 use Rattle.std.proofs.Common.{◌≡◌, ◌≤◌, List, [], ◌∷◌, ◌++◌, length, filter, refl, sym, ap, ◌∙◌, subst, arith, append_assoc}
 use Rattle.iova_range.specs.Frames.{Frames}
-use Rattle.iova_regions.specs.Windows.{AreWindows, lies_below, union, windows_with, covered}
+use Rattle.iova_regions.specs.Windows.{AreWindows, lies_below, union, windows_with, is_covered}
 use Rattle.iova_regions.proofs.Insertions.{rises_with, covers_with, length_with}
 use Rattle.iova_regions.proofs.windows.Windows.insert.Goals as goal
 
@@ -50,4 +50,4 @@ returns-clause-covers c =
     λ frame.
     let rising = subst (λ (x : List Frames). AreWindows x) c.self.view_is c.self.invariant in
     let some : 1 ≤ c.args.range.len = omega (arith, c.len-some.ensures.some, c.len-some.ensures.is) in
-    ap (covered frame) (made c) ∙ covers_with frame c.args.range c.args.self.now some rising.rising
+    ap (is_covered frame) (made c) ∙ covers_with frame c.args.range c.args.self.now some rising.rising

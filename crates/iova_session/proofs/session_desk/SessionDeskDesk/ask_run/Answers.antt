@@ -1,3 +1,5 @@
+use Rattle.std.proofs.Common.{ap}
+use Rattle.iova_keep.specs.Views.{Identity}
 use Rattle.iova_session.proofs.ToldPairs.{moved_either}
 use Rattle.iova_session.proofs.Leads.{leads_on}
 use Rattle.iova_session.proofs.session_desk.SessionDeskDesk.ask_run.Goals as goal
@@ -8,8 +10,8 @@ invariant_of-self-clause-shares g c =
 
 pub invariant_of-self-clause-leads : goal.invariant_of-self-clause-leads
 invariant_of-self-clause-leads g c =
-    leads_on g.O.SessionStart.strict (g.K.Keep.strict c.args.self.now.lent.keeper.now) g.O.SessionStart.number c.args.self.now.session c.ask_lent.new.session
+    leads_on g.O.SessionStart.identity.strict (g.K.Keep.identity c.args.self.now.lent.keeper.now).strict g.O.SessionStart.identity.number c.args.self.now.session c.ask_lent.new.session
     g.O.SessionStart.seat c.args.self.now.lent.seat.now c.ask_lent.new.lent.seat.now
     g.O.SessionStart.calls (g.D.Sink.calls c.args.self.now.lent.sink.now) (g.D.Sink.calls c.ask_lent.new.lent.sink.now)
     g.O.SessionStart.domain (g.K.Keep.domain c.args.self.now.lent.keeper.now) (g.K.Keep.domain c.ask_lent.new.lent.keeper.now)
-    c.args.self.now.strict c.args.self.now.number.0 c.ask_lent.ensures.after c.args.self.now.leads c.ask_lent.ensures.leads
+    (ap (λ (i : Identity). i.strict) c.args.self.now.same) c.args.self.now.number c.ask_lent.ensures.after c.args.self.now.leads c.ask_lent.ensures.leads
