@@ -1,8 +1,8 @@
 //! Which worker of an event loop accepts the next link: one that serves the fewest sessions.
 
-use crate::door::Door;
-use crate::loads::{Load, fewest, place_of};
 use crate::roster::Roster;
+use iova_links::door::Door;
+use iova_links::loads::{Load, fewest, place_of};
 use iova_range::limits::MAX_WORKERS;
 use mio::Waker;
 use std::io;

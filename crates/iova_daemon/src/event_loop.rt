@@ -3,14 +3,14 @@ ghost use Rattle.std.specs.Prelude.{◌≡◌};
 
 use crate::admission::{Admission, Admitted};
 use crate::aside::{Aside, Look};
-use crate::door::Door;
 use crate::guests::{Came, Guest, Hall, PIECE};
-use crate::noting::{NotingSink, note_end};
-use crate::queued_link::{Found, QueuedLink};
 use crate::roster::Roster;
 use crate::threads::Work;
 use crate::worker::{WorkerContext, go_aside, tell, try_again};
 use iova_keep::keep::Keep;
+use iova_links::door::Door;
+use iova_links::noting::{NotingSink, note_end};
+use iova_links::queued_link::{Found, QueuedLink};
 use iova_range::limits::{MAX_WAITING, RETRY_PAUSE};
 use iova_session::end::End;
 use iova_session::paused::{PausedSession, RunRoom, depart, resume};

@@ -1,10 +1,10 @@
 //! The flusher: rounds beside the workers, and flushes ahead of them.
-use crate::pause::Pause;
 use crate::roster::Roster;
 use crate::threads::SideTask;
 use iova_keep::calls::{flush, timeout};
 use iova_keep::keep::Keep;
 use iova_keep::seat::Tally;
+use iova_links::pause::Pause;
 use iova_range::refusal::Refusal;
 use iova_session::post::Post;
 use iova_sink::sink::Sink;

@@ -1,6 +1,6 @@
 //! The sessions that take turns on a worker's thread, and what it waits for them by.
-use crate::pause::shorter;
-use crate::queued_link::QueuedLink;
+use iova_links::pause::shorter;
+use iova_links::queued_link::QueuedLink;
 use iova_range::limits::RETRY_PAUSE;
 use iova_session::end::End;
 use iova_session::paused::PausedSession;

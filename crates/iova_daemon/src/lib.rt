@@ -5,46 +5,35 @@ ghost use Rattle.std.specs.Prelude.{◌≡◌, ◌+◌, ◌≤◌, IfOk, IfErr, 
 ghost use Rattle.std.specs.Option.{ForSome};
 ghost use Rattle.iova_daemon.specs.Serving.{IsServeRefusal};
 
-pub mod accept;
 mod admission;
 pub mod aside;
 mod crossing;
-pub mod dial;
-pub mod door;
 mod event_loop;
 mod flusher;
 mod guests;
-mod loads;
-pub mod locked_sink;
 mod meanwhile;
-mod noting;
-pub mod pause;
 mod pool;
-mod queued_link;
 mod roster;
-pub mod served_link;
-pub mod signals;
-pub mod socket;
 mod threads;
 mod worker;
 
-use crate::accept::Accept;
 use crate::admission::Admission;
 use crate::aside::{Aside, Look, NothingAside};
 use crate::crossing::{
     admissions_are_sync, domains_are_sync, gears_are_send, pools_are_sync, posts_are_send,
     turns_are_sync,
 };
-use crate::dial::{Dial, UnixNet};
-use crate::door::Door;
 use crate::event_loop::Gear;
 use crate::guests::{EVENTS, LISTENER, WAKE};
-use crate::pause::Pause;
 use crate::pool::Pool;
 use crate::roster::Roster;
 use crate::worker::WorkerContext;
 use flusher::{Busy, Flusher};
 use iova_keep::keep::Keep;
+use iova_links::accept::Accept;
+use iova_links::dial::{Dial, UnixNet};
+use iova_links::door::Door;
+use iova_links::pause::Pause;
 use iova_lock::shared::Shared;
 use iova_range::refusal::Refusal;
 use iova_session::link::Link;

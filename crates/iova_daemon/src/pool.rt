@@ -3,8 +3,8 @@
 ghost use Rattle.std.specs.Prelude.{◌<◌};
 ghost use Rattle.iova_range.specs.declared.limits.TheConstants.{MAX_WORKERS};
 
-use crate::loads::{Load, fewest, place_of};
 use crate::roster::Roster;
+use iova_links::loads::{Load, fewest, place_of};
 use iova_range::limits::MAX_WORKERS;
 use std::alloc::Global;
 use std::array;

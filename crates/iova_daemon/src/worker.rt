@@ -1,14 +1,14 @@
 //! A slot of a worker: sessions at one post, one after another.
 ghost use Rattle.std.specs.Prelude.{◌≡◌};
 
-use crate::accept::Accept;
 use crate::aside::{Aside, Look};
 use crate::meanwhile::{begin_in_pieces, serve_meanwhile};
-use crate::noting::{NotingSink, note_end};
 use crate::pool::{Accepted, Pool, Turn};
 use crate::roster::{Roster, Stands};
 use crate::threads::{Place, Work};
 use iova_keep::keep::Keep;
+use iova_links::accept::Accept;
+use iova_links::noting::{NotingSink, note_end};
 use iova_model::step::ClientId;
 use iova_range::limits::RETRY_PAUSE;
 use iova_session::link::Link;

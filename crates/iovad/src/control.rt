@@ -5,7 +5,7 @@ use crate::metrics::put_metrics;
 use crate::sessions::put_sessions;
 use arrayvec::ArrayVec;
 use iova_daemon::aside::{Aside, Look, Standing};
-use iova_daemon::signals::Signals;
+use iova_links::signals::Signals;
 use iova_range::limits::{
     CONTROL_PAUSE, CONTROL_READS, MAX_CONTROL_SILENCE, MAX_CONTROLS, MAX_LINE,
 };

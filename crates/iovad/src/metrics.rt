@@ -1,7 +1,7 @@
 //! What is counted of a daemon, in the text form that Prometheus reads.
 use crate::control::Pad;
 use iova_daemon::aside::{Figures, Look};
-use iova_daemon::signals::Signals;
+use iova_links::signals::Signals;
 use std::alloc::AllocError;
 use std::str;
 

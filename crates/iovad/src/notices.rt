@@ -1,5 +1,5 @@
 //! Where a daemon's notices go.
-use iova_daemon::signals::Signals;
+use iova_links::signals::Signals;
 use iova_range::limits::NOTICE_PAUSE;
 use log::kv::Source;
 use log::sink::Console;

@@ -2,8 +2,8 @@
 //! notices that are counted.
 ghost use Rattle.std.specs.Prelude.{Some, None};
 
-use iova_daemon::accept::Accept;
-use iova_daemon::pause::Pause;
+use iova_links::accept::Accept;
+use iova_links::pause::Pause;
 use iova_range::range::Range;
 use iova_session::link::{Link, LinkFault};
 use iova_session::memory_link::MemoryLink;

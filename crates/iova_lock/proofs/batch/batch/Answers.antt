@@ -4,7 +4,7 @@ use Rattle.iova_record.proofs.GoingOn.{goes_on_here}
 use Rattle.iova_lock.proofs.batch.batch.Goals as goal
 
 pub returns-then-is_err-clause-rest : goal.returns-then-is_err-clause-rest
-returns-then-is_err-clause-rest g c = ((refl, refl, goes_on_here _), refl, refl)
+returns-then-is_err-clause-rest g c = ((refl, refl, goes_on_here _), (refl, refl))
 
 pub returns-clause-told : goal.returns-clause-told
 returns-clause-told g c =

@@ -1,6 +1,6 @@
 use Rattle.std.proofs.Common.{◌≡◌, IfSome, IfNone, ℕ, ◌<◌, ◌≤◌, length, slice_index_or}
-use Rattle.iova_daemon.specs.declared.loads.Load.{Load}
-use Rattle.iova_daemon.proofs.loads.fewest.Given as goal
+use Rattle.iova_links.specs.declared.loads.Load.{Load}
+use Rattle.iova_links.proofs.loads.fewest.Given as goal
 
 -- none of those so far has an idle slot, or the best one has and serves no more than any of those
 abbrev pub invariant-loop-at : goal.invariant-loop-at

@@ -1,6 +1,6 @@
 -- Which worker the next session goes to.
 use Rattle.std.specs.Prelude.{◌≤◌, List, All}
-use Rattle.iova_daemon.specs.declared.loads.Load.{Load}
+use Rattle.iova_links.specs.declared.loads.Load.{Load}
 
 -- it has an idle slot, and none of these with an idle slot serves fewer sessions
 abbrev pub IsFewest : List Load → Load → Type 0

@@ -50,17 +50,17 @@ impl Signals {
     }
 
     /// A link more is served.
-    pub(crate) fn begin_link(&self) {
+    pub fn begin_link(&self) {
         self.links.fetch_add(1, Ordering::SeqCst);
     }
 
     /// A link that was served is let go.
-    pub(crate) fn end_link(&self) {
+    pub fn end_link(&self) {
         self.links.fetch_sub(1, Ordering::SeqCst);
     }
 
     /// Whether there is one link alone.
-    pub(crate) fn is_alone(&self) -> bool {
+    pub fn is_alone(&self) -> bool {
         self.links.load(Ordering::Relaxed) == 1
     }
 

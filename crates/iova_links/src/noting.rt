@@ -6,14 +6,14 @@ use log::{Log, debug, warn};
 
 /// A sink, each of whose failures is a notice.
 #[derive(Drop)]
-pub(crate) struct NotingSink<'a, D, N> {
+pub struct NotingSink<'a, D, N> {
     sink: D,
     notices: &'a N,
 }
 
 impl<'a, D, N> NotingSink<'a, D, N> {
     /// This sink, with notices told here.
-    pub(crate) fn new(sink: D, notices: &'a N) -> NotingSink<'a, D, N> {
+    pub fn new(sink: D, notices: &'a N) -> NotingSink<'a, D, N> {
         NotingSink { sink, notices }
     }
 }
@@ -48,12 +48,12 @@ impl<'a, D: Sink, N: Log> Sink for NotingSink<'a, D, N> {
 
 /// A notice of what happened to the flush, the client or the session of this number. Its target is
 /// the word, so that what takes notices may tell those of a kind less often.
-pub(crate) fn note<N: Log>(notices: &N, what: &str, number: u64, how: &str) {
+pub fn note<N: Log>(notices: &N, what: &str, number: u64, how: &str) {
     warn!(notices; target: what, "{what} {number}: {how}");
 }
 
 /// A session's end is a warning where the link failed, or memory was refused.
-pub(crate) fn note_end<N: Log>(notices: &N, session: u64, end: End) {
+pub fn note_end<N: Log>(notices: &N, session: u64, end: End) {
     match end {
         End::LinkFault => note(notices, "session", session, "the link failed"),
         End::NoMemory => note(notices, "session", session, "no memory"),

@@ -8,7 +8,7 @@ use std::time::Duration;
 const LOOK_PAUSE: u64 = 100;
 
 /// The shorter of two times; none is without an end.
-pub(crate) fn shorter(limit: Option<Duration>, time: Duration) -> Duration {
+pub fn shorter(limit: Option<Duration>, time: Duration) -> Duration {
     match limit {
         Some(limit) => limit.min(time),
         None => time,

@@ -282,6 +282,6 @@ fn count_read(signals: &Signals, read: &io::Result<usize>, buf: &[u8]) {
 }
 
 /// Counts the lines that came.
-pub(crate) fn count_lines(signals: &Signals, piece: &[u8]) {
+pub fn count_lines(signals: &Signals, piece: &[u8]) {
     signals.count_requests(memchr_iter(b'\n', piece).count() as u64);
 }

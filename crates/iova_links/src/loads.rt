@@ -1,20 +1,20 @@
 //! How busy workers are, and which of them the next session goes to.
 ghost use Rattle.std.specs.Prelude.{◌≡◌, ◌<◌, IfSome, IfNone, All, slice_get};
 ghost use Rattle.std.specs.Option.{ForSome};
-ghost use Rattle.iova_daemon.specs.Loads.{IsFewest};
+ghost use Rattle.iova_links.specs.Loads.{IsFewest};
 ghost use Rattle.iova_range.specs.declared.limits.TheConstants.{MAX_WORKERS};
 
 use iova_range::limits::MAX_WORKERS;
 
 /// How many slots of a worker are idle, and how many sessions it serves.
 #[derive(Clone, Copy)]
-pub(crate) struct Load {
+pub struct Load {
     pub idle: u64,
     pub sessions: u64,
 }
 
 /// The place of a worker.
-pub(crate) fn place_of(worker: u64) -> usize
+pub fn place_of(worker: u64) -> usize
     ensures { result < MAX_WORKERS }
 {
     (worker % MAX_WORKERS) as usize
@@ -23,7 +23,7 @@ pub(crate) fn place_of(worker: u64) -> usize
 /// The place of the worker that serves the fewest sessions of those with an idle slot; among
 /// several the first one, where it is one of them, else that of the lowest place. None where no
 /// slot is idle.
-pub(crate) fn fewest(loads: &[Load], first: usize) -> Option<usize>
+pub fn fewest(loads: &[Load], first: usize) -> Option<usize>
     ensures fewest { IfSome result (λ at. ForSome (slice_get loads.now at) (IsFewest loads.now)) }
     ensures none { IfNone result (All (λ l. l.idle ≡ 0) loads.now) }
 {

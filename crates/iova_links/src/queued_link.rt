@@ -13,7 +13,7 @@ use std::os::unix::net::UnixStream;
 /// A connected Unix socket that doesn't block, and what it couldn't take yet. A write takes all:
 /// what finds no room in the socket is kept. Contracts see the numbers of its reads, its failures
 /// and the reads that found the end; what bytes come and go, no contract can say.
-pub(crate) struct QueuedLink {
+pub struct QueuedLink {
     stream: UnixStream,
     unsent: Vec<u8>,
     /// So many of these were sent since.
@@ -47,7 +47,7 @@ impl Model for QueuedLink {
 
 /// What a look at a link found.
 #[derive(Clone, Copy)]
-pub(crate) enum Found {
+pub enum Found {
     /// So many bytes, one at least.
     Bytes(usize),
     /// None yet.
@@ -62,7 +62,7 @@ pub(crate) enum Found {
 
 impl QueuedLink {
     /// A link over this socket, which is made one that doesn't block.
-    pub(crate) fn new(alloc: Global, stream: UnixStream) -> io::Result<QueuedLink> {
+    pub fn new(alloc: Global, stream: UnixStream) -> io::Result<QueuedLink> {
         stream.set_nonblocking(true)?;
         Ok(QueuedLink {
             stream,
@@ -75,12 +75,12 @@ impl QueuedLink {
     }
 
     /// The socket's descriptor.
-    pub(crate) fn descriptor(&self) -> RawFd {
+    pub fn descriptor(&self) -> RawFd {
         self.stream.as_raw_fd()
     }
 
     /// What has come.
-    pub(crate) fn look(&self, buf: &mut [u8]) -> Found {
+    pub fn look(&self, buf: &mut [u8]) -> Found {
         match (&self.stream).read(buf) {
             Ok(0) => Found::End,
             Ok(n) => Found::Bytes(n),
@@ -93,12 +93,12 @@ impl QueuedLink {
     }
 
     /// Whether bytes wait to be sent.
-    pub(crate) fn is_behind(&self) -> bool {
+    pub fn is_behind(&self) -> bool {
         !self.unsent.is_empty()
     }
 
     /// Sends what waits and finds room. False where the link failed.
-    pub(crate) fn send_on(&mut self) -> bool {
+    pub fn send_on(&mut self) -> bool {
         let Some(rest) = self.unsent.get(self.sent..) else {
             return false;
         };

@@ -1,0 +1,16 @@
+//! What a daemon's sessions come over and call: sockets and their links, sinks that posts share,
+//! and which worker is the least busy; pauses, and what asks for a stop. It starts no thread, and
+//! knows of no domain.
+#![tactic(auto)]
+
+pub mod accept;
+pub mod dial;
+pub mod door;
+pub mod loads;
+pub mod locked_sink;
+pub mod noting;
+pub mod pause;
+pub mod queued_link;
+pub mod served_link;
+pub mod signals;
+pub mod socket;
