@@ -68,7 +68,7 @@ unseen_step w id ids x cs false e none first above further =
     let rest : client_of w id cs ≡ None = rw e at none in
     (is_other w id ids x (other_id id x e) first, further rest)
 
-unseen_others : (w id low : ℕ) (ids : List ℕ) (cs : List Client) (top : ℕ) → SerialsRise low cs top → client_of w id cs ≡ None → AllByRecursion (IsOneOf w (id ∷ ids)) cs → AllByRecursion (IsOneOf w ids) cs
+pub unseen_others : (w id low : ℕ) (ids : List ℕ) (cs : List Client) (top : ℕ) → SerialsRise low cs top → client_of w id cs ≡ None → AllByRecursion (IsOneOf w (id ∷ ids)) cs → AllByRecursion (IsOneOf w ids) cs
 unseen_others w id low ids [] top rise none each = tt
 unseen_others w id low ids (x ∷ cs) top rise none each =
     unseen_step w id ids x cs (has_id id x) refl none each.0 (λ le. above_others w id x.id ids cs top rise.1 le each.1) (λ rest. unseen_others w id x.id ids cs top rise.1 rest each.1)

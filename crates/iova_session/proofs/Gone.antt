@@ -1,6 +1,6 @@
 -- A client whose end is told as `Ended` is gone.
 use Rattle.std.proofs.Common.{ℕ, ◌≡◌, ◌+◌, ◌≤◌, Bool, true, false, List, [], ◌∷◌, ◌++◌, Option, Some, None, refl, sym, ap, ◌∙◌, subst, arith}
-use Rattle.std.specs.Prelude.{Result, Ok, length, option_and_then, nat_le}
+use Rattle.std.specs.Prelude.{Result, Ok, Err, length, option_and_then, nat_le}
 use Rattle.iova_range.specs.declared.limits.TheConstants.{MAX_ENTRIES}
 use Rattle.std.proofs.lemmas.Bool.{cond_both}
 use Rattle.std.proofs.lemmas.Bool.Decides.{nat_tests}
@@ -23,6 +23,7 @@ use Rattle.iova_keep.specs.declared.ending.Ending.{Ending}
 use Rattle.iova_keep.specs.declared.ending.Ending.TheVariants as ending
 use Rattle.iova_keep.specs.Steps.{Takes}
 use Rattle.iova_keep.specs.Views.{IsUnknown}
+use Rattle.iova_session.specs.Leaving.{still_waits}
 use Rattle.iova_keep.specs.Events.{Event, Ran, NotRun, Invalidated, Leads, run, not_run, Closing, stops, queues, CloseFirst, closed, closed_full, CloseAgain, closed_again, full_at_once, full_again, CloseRest, last, another, Answered, ended, unknown, gone, share, sink_failed, overlap, flights_full, worn, EndClient, in_one_hold, in_more}
 
 -- what is at most the lower bound is no client's serial
@@ -257,3 +258,77 @@ module _ (law : StepsKeepValidity) (w id : ℕ) where
       let h = first_hears s split.0 c valid split.1 in
       let rest = rest_hears split.0 t r h.valid (h.full refl) split.2 in
       answered_gone is a rest.gone (λ e u some same. rest.known e u same)
+
+-- A client that isn't known where its closing stops.
+
+module _ (w id : ℕ) where
+  lowest_known : (s : State) (rs : List Frames) → (Next.close_lowest rs s w id).reply ≡ reply.Refused refusal.NoClient → ⊥
+  lowest_known s [] = λ e. cc
+  lowest_known s (r ∷ rs) =
+      let m = Next.with_clients s (change_client id with_mark s.clients) in
+      let d = Next.after_drain m w w in
+      cond_both (nat_le MAX_ENTRIES (length (Next.ring_at d w))) (Next.refuse_step refusal.RingFull m) (record { reply = reply.Queued r; state = Next.with_entry d w id r }) (λ n. n.reply ≡ reply.Refused refusal.NoClient → ⊥)
+      (λ b e. cc)
+      (λ b e. cc)
+
+  -- not the worker's
+  abbrev Unknown : Next.Next → Type 0
+  Unknown n = n.reply ≡ reply.Refused refusal.NoClient → client_of w id n.state.clients ≡ None
+
+  client_unknown : (s : State) (o : Option Client) → client_of w id s.clients ≡ o → Unknown (Next.close_one_of o s w id)
+  client_unknown s None is = λ e. is
+  client_unknown s (Some c) is = λ e. absurd (lowest_known s c.holdings e)
+
+  close_unknown : (s : State) → Unknown (Next.close_one s w id)
+  close_unknown s =
+      cond_both (Next.no_worker s w) (Next.refuse_step refusal.NoWorker s) (Next.close_one_of (client_of w id s.clients) s w id) (λ n. Unknown n)
+      (λ b e. absurd cc) (λ b. client_unknown s (client_of w id s.clients) refl)
+
+  takes_unknown : (s : State) (r : Reply) (t : State) → r ≡ reply.Refused refusal.NoClient → Takes s (step.CloseOne w id) r t → client_of w id t.clients ≡ None
+  unfolding Takes
+  takes_unknown s r t e h = ap (λ (x : State). client_of w id x.clients) h.2 ∙ close_unknown s (sym h.1 ∙ e)
+
+  closing_unknown : {held left : Totals} {r : Reply} {es : List Event} (s t : State) → Closing (step.CloseOne w id) held left r es → r ≡ reply.Refused refusal.NoClient → Leads s es t → client_of w id t.clients ≡ None
+  closing_unknown s t (stops held left r es even other (run q)) e l = ap (λ (x : State). client_of w id x.clients) l.2 ∙ takes_unknown s r l.0 e l.1
+  closing_unknown s t (stops held left r es even other not_run) e l = absurd cc
+  closing_unknown s t (queues held mid left q r es sum k) e l = closing_unknown l.0 t k e l.2
+
+  first_unknown : {held left : Totals} {o b : Option Reply} {es : List Event} (s t : State) → CloseFirst (step.CloseOne w id) held left o b es → o ≡ Some (reply.Refused refusal.NoClient) → Leads s es t
+      → client_of w id t.clients ≡ None
+  first_unknown s t (closed r es other k) e l = closing_unknown s t k (some_reply e) l
+  first_unknown s t (closed_full begin es k) e l = absurd cc
+
+  again_unknown : {n : ℕ} {ok : Bool} {held left : Totals} {o b : Option Reply} {es : List Event} (s t : State) → CloseAgain (step.CloseOne w id) n ok held left o b es → o ≡ Some (reply.Refused refusal.NoClient)
+      → Leads s es t → client_of w id t.clients ≡ None
+  again_unknown s t (closed_again end r es other k) e l = closing_unknown l.0 t k (some_reply e) l.2
+  again_unknown s t (full_at_once end es even k) e l = absurd cc
+  again_unknown s t (full_again end begin es less k) e l = absurd cc
+
+  rest_unknown : {n : ℕ} {held left : Totals} {ok : Bool} {o b : Option Reply} {es : List Event} (s t : State) → CloseRest (step.CloseOne w id) n held left ok o b es → o ≡ Some (reply.Refused refusal.NoClient)
+      → Leads s es t → client_of w id t.clients ≡ None
+  rest_unknown s t (last n ok held left o b es k) e l = again_unknown s t k e l
+  rest_unknown s t (another n m ok well held mid left o b es fs a c) e l = let split = leads_split es fs s t l in rest_unknown split.0 t c e split.2
+
+  answered_unknown : {queued left : ℕ} {flushed : Option Bool} {o b : Option Reply} {result : Result Ending Refusal} (x : Refusal) → result ≡ Err x → Answered queued left flushed o b result
+      → o ≡ Some (reply.Refused refusal.NoClient)
+  answered_unknown x e ended = absurd cc
+  answered_unknown x e (unknown y known none) = ap (λ (z : Refusal). Some (reply.Refused z)) known
+  answered_unknown x e (gone y known some) = absurd cc
+  answered_unknown x e share = absurd cc
+  answered_unknown x e (sink_failed f) = absurd cc
+  answered_unknown x e (overlap f) = absurd cc
+  answered_unknown x e flights_full = absurd cc
+  answered_unknown x e worn = absurd cc
+
+  end_unknown : {held left : Totals} {remains : ℕ} {result : Result Ending Refusal} {es : List Event} (x : Refusal) (s t : State) → result ≡ Err x → EndClient (step.CloseOne w id) held left remains result es → Leads s es t
+      → client_of w id t.clients ≡ None
+  end_unknown x s t e (in_one_hold queued o b result es sum c a) l = first_unknown s t c (answered_unknown x e a) l
+  end_unknown x s t e (in_more queued n ok mid o b result es fs sum c r a) l =
+      let split = leads_split es fs s t l in rest_unknown split.0 t r (answered_unknown x e a) split.2
+
+-- A client whose end is over is no client of the worker's.
+pub over_is_gone : StepsKeepValidity → (w id : ℕ) {held left : Totals} {remains : ℕ} {es : List Event} (result : Result Ending Refusal) (s t : State) → still_waits result ≡ false
+    → EndClient (step.CloseOne w id) held left remains result es → IsValid s → Leads s es t → client_of w id t.clients ≡ None
+over_is_gone law w id (Ok (ending.Ended q)) s t over h valid l = ap (λ o. option_and_then (if_owned w) o) (ended_is_gone law w id s t refl h valid l)
+over_is_gone law w id (Ok (ending.Waiting left why)) s t over h valid l = absurd cc
+over_is_gone law w id (Err x) s t over h valid l = end_unknown w id x s t refl h l

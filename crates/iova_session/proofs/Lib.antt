@@ -22,4 +22,7 @@ mod Turns
 mod TurnsTaken
 mod Each
 mod Histories
+mod AloneSteps
+mod AloneHolds
+mod AloneSessions
 mod ExamplesGone

@@ -27,12 +27,25 @@ pub record IsAlone (seat : SeatState) (waiting : List ℕ) (s : State) : Type 0 
   pub shares : HasAtLeast seat.held (totals s.clients)
   pub quiet : s.flushes.in_flight ≡ []
 
+-- Where whoever holds a range was one of those that waited, it is so afterwards, too.
+abbrev pub StaysAlone : SeatState → SeatState → List ℕ → List ℕ → State → State → Type 0
+StaysAlone old new was waiting s t = IsAlone old was s → IsAlone new waiting t
+
 -- There is room for the ranges of a client, without which the round is over before it begins. And
 -- there are numbers for the flushes that full rings begin: a range is queued after each, so that
 -- they are at most as many as the ranges that are held.
 pub record HasNumbers (space : ℕ) (s : State) : Type 0 where
   pub room : MAX_HOLDINGS ≤ space
   pub flushes : s.flushes.start + length (all_holdings s.clients) ≤ MAX_SERIAL
+
+-- the second of these alone
+abbrev pub HasFlushNumbers : State → Type 0
+HasFlushNumbers s = s.flushes.start + length (all_holdings s.clients) ≤ MAX_SERIAL
+
+-- A post where a client waits has room for the ranges of one: the session whose client it is took
+-- it.
+abbrev pub HasRoom : List ℕ → ℕ → Type 0
+HasRoom waiting room = waiting ≢ [] → MAX_HOLDINGS ≤ room
 
 -- No call of the sink failed in between: calls are only appended, and so each of those that were
 -- went well.

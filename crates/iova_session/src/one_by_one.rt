@@ -3,13 +3,17 @@ ghost use Rattle.std.specs.Prelude.{◌≡◌, ◌+◌, ◌≤◌, ◌++◌, ◌
 ghost use Rattle.iova_session.specs.declared.run.SessionEnd.{SessionEnd};
 ghost use Rattle.iova_keep.specs.Views.{WhereKnown, KeepsPlace};
 ghost use Rattle.iova_session.specs.Histories.{KeepsPromises};
+ghost use Rattle.iova_session.specs.Gone.{HasRoom, StaysAlone};
 ghost use Rattle.iova_session.specs.OneByOne.{ServesEach, between};
 
 use crate::link::Link;
 use crate::post::Post;
 use crate::run::{SessionEnd, run_session};
 use iova_keep::keep::Keep;
+use iova_laws::ledgers::steps_move_ledgers;
 use iova_laws::promises::promises_are_kept;
+use iova_laws::replies::steps_are_answered_in_kind;
+use iova_laws::validity::steps_keep_validity;
 use iova_sink::sink::Sink;
 use std::alloc::Global;
 use std::sync::ledger::Ledger;
@@ -42,11 +46,19 @@ pub fn serve_one_by_one<
         (between post.old.seat post.old.waiting.items (D.calls sink.old) (K.domain keeper.old))
         (between post.new.seat post.new.waiting.items (D.calls sink.new) (K.domain keeper.new)) }
     ensures promises { ∥ WhereKnown (K.domain keeper.old) (K.domain keeper.new) KeepsPromises ∥₁ }
+    ensures alone { ∥ WhereKnown (K.domain keeper.old) (K.domain keeper.new)
+        (StaysAlone post.old.seat post.new.seat post.old.waiting.items post.new.waiting.items) ∥₁ }
+    ensures room { HasRoom post.old.waiting.items (vec_capacity post.old.ranges)
+        → HasRoom post.new.waiting.items (vec_capacity post.new.ranges) }
     ensures place { KeepsPlace post.old.seat post.new.seat (D.calls sink.old) (D.calls sink.new) }
 {
-    // for the proof: a domain that is known is valid, and what every transcript from there keeps
+    // for the proof: a domain that is known is valid, and what every transcript from there keeps;
+    // and what a step leaves of a valid domain, of its totals, and may answer
     keeper.domain_is_kept();
     promises_are_kept();
+    steps_keep_validity();
+    steps_move_ledgers();
+    steps_are_answered_in_kind();
     for at in 0..links.len() {
         let end = run_session(alloc, &mut links[at], keeper, post, sink);
         push_end(ends, end);

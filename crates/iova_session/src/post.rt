@@ -113,6 +113,7 @@ pub(crate) fn take_room(waiting: &mut Vec<ClientId>, ranges: &mut Vec<Range>) ->
     ensures waiting { waiting.new.items ≡ waiting.old.items }
     ensures room { result ≡ true → vec_len waiting.new + 1 ≤ vec_capacity waiting.new }
     ensures ranges { result ≡ true → MAX_HOLDINGS ≤ vec_capacity ranges.new }
+    ensures kept { MAX_HOLDINGS ≤ vec_capacity ranges.old → MAX_HOLDINGS ≤ vec_capacity ranges.new }
 {
     waiting.try_reserve(1).is_ok() && has_ranges(ranges)
 }

@@ -5,6 +5,7 @@ ghost use Rattle.iova_range.specs.declared.limits.TheConstants.{MAX_HOLDINGS, MA
 ghost use Rattle.iova_sink.specs.Calls.{Call};
 ghost use Rattle.iova_keep.specs.Views.{WhereKnown, KeepsPlace};
 ghost use Rattle.iova_session.specs.Domains.{LeavesOthers};
+ghost use Rattle.iova_session.specs.Gone.{HasRoom};
 ghost use Rattle.iova_session.specs.Leading.{EndDoes, LeadsFrom, SessionLeads, standing};
 ghost use Rattle.iova_session.specs.Pairs.{Pair};
 ghost use Rattle.iova_session.specs.Sessions.{Serves, ServesWithin, failures_at, ends_at};
@@ -197,6 +198,8 @@ pub fn run_session<
         post.old.waiting.items post.new.waiting.items (D.calls sink.old) (D.calls sink.new)) ∥₁ }
     ensures failures { L.failures link.new ≡ L.failures link.old + failures_at result.end }
     ensures ends { L.ends link.new ≡ L.ends link.old + ends_at result.end }
+    ensures room { HasRoom post.old.waiting.items (vec_capacity post.old.ranges)
+        → HasRoom post.new.waiting.items (vec_capacity post.new.ranges) }
     ensures place { KeepsPlace post.old.seat post.new.seat (D.calls sink.old) (D.calls sink.new) }
 {
     run_session_within(alloc, SessionLimits::usual(), link, keeper, post, sink)
@@ -236,6 +239,8 @@ pub fn run_session_within<
         post.old.waiting.items post.new.waiting.items (D.calls sink.old) (D.calls sink.new)) ∥₁ }
     ensures failures { L.failures link.new ≡ L.failures link.old + failures_at result.end }
     ensures ends { L.ends link.new ≡ L.ends link.old + ends_at result.end }
+    ensures room { HasRoom post.old.waiting.items (vec_capacity post.old.ranges)
+        → HasRoom post.new.waiting.items (vec_capacity post.new.ranges) }
     ensures place { KeepsPlace post.old.seat post.new.seat (D.calls sink.old) (D.calls sink.new) }
 {
     // for the proof: whose holdings a step leaves
@@ -277,6 +282,7 @@ pub(crate) fn end_opened<C: Ledger, F: Ledger, S: Ledger, G: Ledger, K: Keep<C, 
     ensures ended { EndsFrom id result back post.old.seat.held post.new.seat.held
         post.old.waiting.items
         post.new.waiting.items }
+    ensures room { MAX_HOLDINGS ≤ vec_capacity post.new.ranges }
     ensures place { KeepsPlace post.old.seat post.new.seat (D.calls sink.old) (D.calls sink.new) }
 {
     // for the proof: whose holdings a step leaves, and that a domain that is known is valid

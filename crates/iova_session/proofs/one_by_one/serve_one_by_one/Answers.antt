@@ -4,6 +4,7 @@ use Rattle.std.specs.Prelude.{Option, Some, IfSome}
 use Rattle.iova_model.specs.State.{State}
 use Rattle.iova_model.specs.Valid.{IsValid}
 use Rattle.iova_keep.specs.Views.{Identity, IsKept}
+use Rattle.iova_session.proofs.AloneSessions.{each_stays_alone}
 use Rattle.iova_session.proofs.Histories.{each_keeps}
 use Rattle.iova_session.proofs.Each.{none_served, next_served, rest_after}
 use Rattle.iova_session.proofs.one_by_one.serve_one_by_one.Goals as goal
@@ -15,6 +16,7 @@ loop-at-init g c = record {
   long = refl;
   rest = refl;
   count = omega arith;
+  has_room = λ has. has;
   room = c.requires.room;
   sessions = ([], sym (append-nil c.args.ends.now.items), none_served _ _ _ _ _ _);
 }
@@ -33,6 +35,7 @@ loop-at-preserved g c =
       long = length-set c.loop-at.links at c.run_session-end.new.link ∙ i.long;
       rest = rest_after c.loop-at.links c.args.links.now at c.index-links-at.result c.run_session-end.new.link here lt i.rest;
       count = let more = c.push_end.ensures.items in let before = i.count in grind (arith, common_steps);
+      has_room = λ has. n.room (i.has_room has);
       room = omega (arith, i.room, c.push_end.ensures.kept);
       sessions = (
         i.sessions.0 ++ c.run_session-end.result ∷ [],
@@ -57,9 +60,16 @@ loop-at-preserved g c =
       );
     }
 
+-- a domain that is known is valid
+known_valid : (o : Option State) → IfSome o IsKept → (s : State) → o ≡ Some s → IsValid s
+known_valid o known s is = let P : Option State → Type 0 = λ x. IfSome x IsKept in let kept : IsKept s = subst P is known in kept.valid
+
 pub returns-clause-promises : goal.returns-clause-promises
 returns-clause-promises g c =
     let i = c.loop-at.invariant in
-    let P : Option State → Type 0 = λ x. IfSome x IsKept in
-    let valid : (s : State) → g.K.Keep.domain c.args.keeper.now ≡ Some s → IsValid s = λ s is. (let kept : IsKept s = subst P is c.domain_is_kept.ensures in kept.valid) in
-    each_keeps _ _ _ _ _ c.promises_are_kept.ensures _ _ i.sessions.0 _ _ valid i.sessions.2
+    each_keeps _ _ _ _ _ c.promises_are_kept.ensures _ _ i.sessions.0 _ _ (known_valid _ c.domain_is_kept.ensures) i.sessions.2
+
+pub returns-clause-alone : goal.returns-clause-alone
+returns-clause-alone g c =
+    let i = c.loop-at.invariant in
+    each_stays_alone c.steps_keep_validity.ensures c.steps_move_ledgers.ensures c.steps_are_answered_in_kind.ensures _ _ _ _ _ _ _ i.sessions.0 _ _ (known_valid _ c.domain_is_kept.ensures) i.sessions.2

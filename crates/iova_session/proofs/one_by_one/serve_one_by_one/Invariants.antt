@@ -1,6 +1,7 @@
 use Rattle.std.proofs.Common.{◌≡◌, ◌≤◌, ◌+◌, ◌++◌, List, length, take, drop, vec_len, vec_capacity}
 use Rattle.iova_session.specs.declared.run.SessionEnd.{SessionEnd}
 use Rattle.iova_keep.specs.Views.{KeepsPlace}
+use Rattle.iova_session.specs.Gone.{HasRoom}
 use Rattle.iova_session.specs.OneByOne.{ServesEach, between}
 use Rattle.iova_session.proofs.one_by_one.serve_one_by_one.Given as goal
 
@@ -11,6 +12,7 @@ invariant-loop-at g l = record {
   long : length l.links ≡ length l.initial.links;
   rest : drop l.at l.links ≡ drop l.at l.initial.links;
   count : vec_len l.ends ≡ vec_len l.initial.ends + l.at;
+  has_room : HasRoom l.initial.post.waiting.items (vec_capacity l.initial.post.ranges) → HasRoom l.post.waiting.items (vec_capacity l.post.ranges);
   room : vec_len l.initial.ends + length l.initial.links ≤ vec_capacity l.ends;
   sessions : (told : List SessionEnd) × (l.ends.items ≡ l.initial.ends.items ++ told)
       × ServesEach g.L.Link.left g.L.Link.sent g.L.Link.reads (g.K.Keep.identity l.initial.keeper).strict (g.K.Keep.identity l.initial.keeper).number
