@@ -32,9 +32,9 @@ use Rattle.iova_session.specs.declared.leaving.Leaving.{Leaving}
 use Rattle.iova_session.specs.declared.run.SessionEnd.{SessionEnd}
 use Rattle.iova_session.specs.Pairs.{Pair}
 use Rattle.iova_session.specs.Desks.{MovesBy, given_by, taken_by, next_client, count_listed, client_after}
-use Rattle.iova_session.specs.Domains.{IsListOf, Lists, release_answer, FlushesAndDrains}
-use Rattle.iova_session.specs.Gone.{IsOneOf, HasAtLeast, IsAlone, StaysAlone}
-use Rattle.iova_session.specs.Leaving.{EndsAfter, Departs, still_waits}
+use Rattle.iova_session.specs.Domains.{IsListOf, release_answer, FlushesAndDrains}
+use Rattle.iova_session.specs.Gone.{IsOneOf, HasAtLeast, StaysAlone}
+use Rattle.iova_session.specs.Leaving.{EndsAfter, still_waits}
 use Rattle.iova_session.specs.Leading.{Standing, standing, open_answer, alloc_answer, FirstDoes, ClientDoes, PairDoes, MovesSeat, PairsLead, EndDoes, SessionLeads}
 use Rattle.iova_session.specs.OneByOne.{Between, ServesOne, ServesEach}
 use Rattle.iova_session.specs.Posts.{kept_if}
@@ -48,8 +48,8 @@ use Rattle.iova_session.proofs.AloneHolds.{all_pass, release_goes, flush_goes, d
 -- Shares.
 
 -- nothing was given, and nothing taken
-unmoved : (old new : Totals) → MovesBy [] [] old new → new ≡ old
-unmoved old new m = same_totals new old
+shares_stay : (old new : Totals) → MovesBy [] [] old new → new ≡ old
+shares_stay old new m = same_totals new old
     (let e = ap (λ (x : Totals). x.count) m in omega (arith, e))
     (let e = ap (λ (x : Totals). x.frames) m in omega (arith, e))
     (let e = ap (λ (x : Totals). x.sum_lo) m in omega (arith, e))
@@ -65,7 +65,7 @@ taken_one r old new m = same_totals old (add_totals new (totals_of (r ∷ [])))
 release_lowers : (result : Result Unmapped Refusal) (old new : Totals) → MovesBy (given_by (release_answer result)) (taken_by (release_answer result)) old new → Lowers (Some (unmapped_or result)) old new
 release_lowers (Ok (unmapped.Queued r)) old new m = taken_one r old new m
 release_lowers (Ok (unmapped.Freed r)) old new m = taken_one r old new m
-release_lowers (Err e) old new m = unmoved old new m
+release_lowers (Err e) old new m = shares_stay old new m
 
 -- a request, by what it is answered
 alloc_enough : (result : Result Frames Refusal) (old new held left : Totals) → MovesBy (given_by (alloc_answer result)) (taken_by (alloc_answer result)) held left → HasAtLeast held old
@@ -79,7 +79,7 @@ alloc_enough (Ok r) old new held left m h moved =
     let b = ap (λ (x : Totals). x.sum_lo) m in
     record { count = omega (arith, c, d, h.count); frames = omega (arith, f, g, h.frames); sum_lo = omega (arith, a, b, h.sum_lo) }
 alloc_enough (Err e) old new held left m h moved =
-    subst (λ (x : Totals). HasAtLeast x new) (sym (unmoved held left m)) (subst (λ (x : Totals). HasAtLeast held x) (sym moved) h)
+    subst (λ (x : Totals). HasAtLeast x new) (sym (shares_stay held left m)) (subst (λ (x : Totals). HasAtLeast held x) (sym moved) h)
 
 -- Who may hold a range: the clients that wait, and the session's.
 
@@ -99,40 +99,40 @@ first_last : (id : ℕ) (ids : List ℕ) (x : ℕ) → Contains (id ∷ ids) x �
 first_last id ids x (zero, lt, is) = subst (λ (y : ℕ). Contains (ids ++ id ∷ []) y) is (Contains-push ids id)
 first_last id ids x (suc k, lt, is) = Contains-append_left ids (id ∷ []) x (k, omega (arith, lt), is)
 
-widened : (w : ℕ) (ids more : List ℕ) (held : Totals) (s : State) → ((id : ℕ) → Contains ids id → Contains more id) → AloneIn w ids None held s → AloneIn w more None held s
-widened w ids more held s wider a = record { valid = a.valid; holders = one_of_more w ids more s.clients wider a.holders; shares = a.shares; flights = a.flights }
+alone_widens : (w : ℕ) (ids more : List ℕ) (held : Totals) (s : State) → ((id : ℕ) → Contains ids id → Contains more id) → AloneIn w ids None held s → AloneIn w more None held s
+alone_widens w ids more held s wider a = record { valid = a.valid; holders = one_of_more w ids more s.clients wider a.holders; shares = a.shares; flights = a.flights }
 
-unchanged : (w : ℕ) (ids : List ℕ) (old new : Totals) (s t : State) → new ≡ old → t ≡ s → AloneIn w ids None old s → AloneIn w ids None new t
-unchanged w ids old new s t e same a = subst (λ (x : Totals). AloneIn w ids None x t) (sym e) (subst (AloneIn w ids None old) (sym same) a)
+alone_stays : (w : ℕ) (ids : List ℕ) (old new : Totals) (s t : State) → new ≡ old → t ≡ s → AloneIn w ids None old s → AloneIn w ids None new t
+alone_stays w ids old new s t e same a = subst (λ (x : Totals). AloneIn w ids None x t) (sym e) (subst (AloneIn w ids None old) (sym same) a)
 
 -- Requests.
 
 -- a request that is answered so keeps it, where the shares move as the answer says
-abbrev Keeps : ℕ → List ℕ → Option ℕ → Answer → Totals → Totals → State → State → Type 0
-Keeps w waiting client a old new s t =
+abbrev KeepsAlone : ℕ → List ℕ → Option ℕ → Answer → Totals → Totals → State → State → Type 0
+KeepsAlone w waiting client a old new s t =
     MovesBy (given_by a) (taken_by a) old new → AloneIn w (with_client client waiting) None old s → AloneIn w (with_client (next_client client a) waiting) None new t
 
 module _ (law : StepsKeepValidity) (ledger : StepsMoveLedgers) (kind : StepsAreAnsweredInKind) (w : ℕ) (waiting : List ℕ) (old new : Totals) where
   -- nothing is done, and nothing given or taken
-  refused_keeps : (client : Option ℕ) (e : Refusal) (s t : State) → t ≡ s → Keeps w waiting client (answer.Refused e) old new s t
-  refused_keeps client e s t same m a = unchanged w (with_client client waiting) old new s t (unmoved old new m) same a
+  refused_keeps : (client : Option ℕ) (e : Refusal) (s t : State) → t ≡ s → KeepsAlone w waiting client (answer.Refused e) old new s t
+  refused_keeps client e s t same m a = alone_stays w (with_client client waiting) old new s t (shares_stay old new m) same a
 
-  bye_keeps : (client : Option ℕ) (s t : State) → t ≡ s → Keeps w waiting client answer.Bye old new s t
-  bye_keeps client s t same m a = unchanged w (with_client client waiting) old new s t (unmoved old new m) same a
+  bye_keeps : (client : Option ℕ) (s t : State) → t ≡ s → KeepsAlone w waiting client answer.Bye old new s t
+  bye_keeps client s t same m a = alone_stays w (with_client client waiting) old new s t (shares_stay old new m) same a
 
-  so_keeps : (client : Option ℕ) (a b : Answer) (s t : State) → a ≡ b → Keeps w waiting client b old new s t → Keeps w waiting client a old new s t
-  so_keeps client a b s t e k = subst (λ (x : Answer). Keeps w waiting client x old new s t) (sym e) k
+  so_keeps : (client : Option ℕ) (a b : Answer) (s t : State) → a ≡ b → KeepsAlone w waiting client b old new s t → KeepsAlone w waiting client a old new s t
+  so_keeps client a b s t e k = subst (λ (x : Answer). KeepsAlone w waiting client x old new s t) (sym e) k
 
-  hello_keeps : (sac : Bool) (result : Result ℕ Refusal) (s t : State) → Opens w sac result s t → Keeps w waiting None (open_answer result) old new s t
+  hello_keeps : (sac : Bool) (result : Result ℕ Refusal) (s t : State) → Opens w sac result s t → KeepsAlone w waiting None (open_answer result) old new s t
   hello_keeps sac (Ok id) s t h m a =
-      let e = unmoved old new m in
-      widened w waiting (id ∷ waiting) new t (behind id waiting)
+      let e = shares_stay old new m in
+      alone_widens w waiting (id ∷ waiting) new t (behind id waiting)
       (subst (λ (x : Totals). AloneIn w waiting None x t) (sym e) (open_passes law ledger kind w waiting s w sac (opened_or (Ok id)) t old h refl a))
   hello_keeps sac (Err x) s t h m a =
-      let e = unmoved old new m in
+      let e = shares_stay old new m in
       subst (λ (y : Totals). AloneIn w waiting None y t) (sym e) (open_passes law ledger kind w waiting s w sac (opened_or (Err x)) t old h refl a)
 
-  first_keeps : (number : ℕ) (r : Request) (a : Answer) (s t : State) → FirstDoes number w r a s t → Keeps w waiting None a old new s t
+  first_keeps : (number : ℕ) (r : Request) (a : Answer) (s t : State) → FirstDoes number w r a s t → KeepsAlone w waiting None a old new s t
   first_keeps number (request.Hello domain sac) a s t (inl h) = so_keeps None a (answer.Refused refusal.NoDomain) s t h.1 (refused_keeps None refusal.NoDomain s t h.2)
   first_keeps number (request.Hello domain sac) a s t (inr h) = so_keeps None a (open_answer h.1.0) s t h.1.2 (hello_keeps sac h.1.0 s t h.1.1)
   first_keeps number (request.Alloc frames limit) a s t h = so_keeps None a (answer.Refused refusal.NoClient) s t h.0 (refused_keeps None refusal.NoClient s t h.1)
@@ -142,7 +142,7 @@ module _ (law : StepsKeepValidity) (ledger : StepsMoveLedgers) (kind : StepsAreA
   first_keeps number request.Stat a s t h = so_keeps None a (answer.Refused refusal.NoClient) s t h.0 (refused_keeps None refusal.NoClient s t h.1)
   first_keeps number request.Bye a s t h = so_keeps None a answer.Bye s t h.0 (bye_keeps None s t h.1)
 
-  alloc_keeps : (id frames limit : ℕ) (result : Result Frames Refusal) (s t : State) → Allocs w id frames limit result s t → Keeps w waiting (Some id) (alloc_answer result) old new s t
+  alloc_keeps : (id frames limit : ℕ) (result : Result Frames Refusal) (s t : State) → Allocs w id frames limit result s t → KeepsAlone w waiting (Some id) (alloc_answer result) old new s t
   alloc_keeps id frames limit result s t h m a =
       subst (λ (c : Option ℕ). AloneIn w (with_client c waiting) None new t) (sym (stays result))
       (alloc_passes law ledger kind w (id ∷ waiting) s t id frames limit (given_or result) old new h (0, omega arith, refl)
@@ -154,7 +154,7 @@ module _ (law : StepsKeepValidity) (ledger : StepsMoveLedgers) (kind : StepsAreA
 
   -- what comes to the same client is answered by no other
   release_keeps : (strict : Bool) (seat : SeatState) (id lo number : ℕ) (result : Result Unmapped Refusal) (before now : List Call) (s t : State) → seat.worker ≡ w → DoesRelease strict seat id lo result number before now s t
-      → Keeps w waiting (Some id) (release_answer result) old new s t
+      → KeepsAlone w waiting (Some id) (release_answer result) old new s t
   release_keeps strict seat id lo number result before now s t mine d m a =
       subst (λ (c : Option ℕ). AloneIn w (with_client c waiting) None new t) (sym (stays result))
       (all_pass law ledger kind w (id ∷ waiting) d.events None None old new s t (release_goes old new d.allowed.0 (release_lowers result old new m)) d.leads a)
@@ -164,13 +164,13 @@ module _ (law : StepsKeepValidity) (ledger : StepsMoveLedgers) (kind : StepsAreA
       stays (Ok (unmapped.Freed r)) = refl
       stays (Err e) = refl
 
-  flush_keeps : (id v number : ℕ) (a : Answer) (before now : List Call) (s t : State) → FlushesAndDrains v a number before now s t → Keeps w waiting (Some id) a old new s t
+  flush_keeps : (id v number : ℕ) (a : Answer) (before now : List Call) (s t : State) → FlushesAndDrains v a number before now s t → KeepsAlone w waiting (Some id) a old new s t
   flush_keeps id v number (answer.Flushed k freed) before now s t h m a =
-      let e = unmoved old new m in
+      let e = shares_stay old new m in
       let mid = all_pass law ledger kind w (id ∷ waiting) h.1.events None None old old s h.0 (flush_goes old h.1.allowed.0) h.1.leads a in
       subst (λ (x : Totals). AloneIn w (id ∷ waiting) None x t) (sym e) (all_pass law ledger kind w (id ∷ waiting) h.2.events None None old old h.0 t (drain_all_goes old h.2.allowed) h.2.leads mid)
   flush_keeps id v number (answer.Refused x) before now s t h m a =
-      let e = unmoved old new m in
+      let e = shares_stay old new m in
       subst (λ (y : Totals). AloneIn w (id ∷ waiting) None y t) (sym e) (all_pass law ledger kind w (id ∷ waiting) h.events None None old old s t (flush_goes old h.allowed.0) h.leads a)
   flush_keeps id v number (answer.Opened n) before now s t h m a = absurd h
   flush_keeps id v number (answer.Given r) before now s t h m a = absurd h
@@ -180,11 +180,11 @@ module _ (law : StepsKeepValidity) (ledger : StepsMoveLedgers) (kind : StepsAreA
   flush_keeps id v number (answer.Stat x) before now s t h m a = absurd h
   flush_keeps id v number answer.Bye before now s t h m a = absurd h
 
-  stat_keeps : (id : ℕ) (x : Stat) (s t : State) → t ≡ s → Keeps w waiting (Some id) (answer.Stat x) old new s t
-  stat_keeps id x s t same m a = unchanged w (id ∷ waiting) old new s t (unmoved old new m) same a
+  stat_keeps : (id : ℕ) (x : Stat) (s t : State) → t ≡ s → KeepsAlone w waiting (Some id) (answer.Stat x) old new s t
+  stat_keeps id x s t same m a = alone_stays w (id ∷ waiting) old new s t (shares_stay old new m) same a
 
-  list_of_keeps : (id listed : ℕ) (held : List Frames) (a : Answer) (s t : State) → IsListOf held listed a → t ≡ s → Keeps w waiting (Some id) a old new s t
-  list_of_keeps id listed held (answer.Held rs) s t h same m a = unchanged w (id ∷ waiting) old new s t (unmoved old new m) same a
+  list_of_keeps : (id listed : ℕ) (held : List Frames) (a : Answer) (s t : State) → IsListOf held listed a → t ≡ s → KeepsAlone w waiting (Some id) a old new s t
+  list_of_keeps id listed held (answer.Held rs) s t h same m a = alone_stays w (id ∷ waiting) old new s t (shares_stay old new m) same a
   list_of_keeps id listed held (answer.Refused x) s t h same m a = refused_keeps (Some id) x s t same m a
   list_of_keeps id listed held (answer.Opened n) s t h same m a = absurd h
   list_of_keeps id listed held (answer.Given r) s t h same m a = absurd h
@@ -194,12 +194,12 @@ module _ (law : StepsKeepValidity) (ledger : StepsMoveLedgers) (kind : StepsAreA
   list_of_keeps id listed held (answer.Stat x) s t h same m a = absurd h
   list_of_keeps id listed held answer.Bye s t h same m a = absurd h
 
-  list_keeps : (id listed : ℕ) (o : Option Client) (a : Answer) (s t : State) → MatchOption o (a ≡ answer.Refused refusal.NoClient) (λ c. IsListOf c.holdings listed a) → t ≡ s → Keeps w waiting (Some id) a old new s t
+  list_keeps : (id listed : ℕ) (o : Option Client) (a : Answer) (s t : State) → MatchOption o (a ≡ answer.Refused refusal.NoClient) (λ c. IsListOf c.holdings listed a) → t ≡ s → KeepsAlone w waiting (Some id) a old new s t
   list_keeps id listed None a s t h same = so_keeps (Some id) a (answer.Refused refusal.NoClient) s t h (refused_keeps (Some id) refusal.NoClient s t same)
   list_keeps id listed (Some c) a s t h same = list_of_keeps id listed c.holdings a s t h same
 
   client_keeps : (strict : Bool) (number : ℕ) (seat : SeatState) (id listed : ℕ) (r : Request) (a : Answer) (before now : List Call) (s t : State) → seat.worker ≡ w
-      → ClientDoes strict number seat id listed r a before now s t → Keeps w waiting (Some id) a old new s t
+      → ClientDoes strict number seat id listed r a before now s t → KeepsAlone w waiting (Some id) a old new s t
   client_keeps strict number seat id listed (request.Alloc frames limit) a before now s t mine h =
       so_keeps (Some id) a (alloc_answer h.0) s t h.2 (alloc_keeps id frames limit h.0 s t (subst (λ (v : ℕ). Allocs v id frames limit h.0 s t) mine h.1))
   client_keeps strict number seat id listed (request.Free lo) a before now s t mine h =
@@ -239,7 +239,7 @@ module _ (law : StepsKeepValidity) (ledger : StepsMoveLedgers) (kind : StepsAreA
   -- who waits after the client's end
   left_over : (id : ℕ) (result : Result Ending Refusal) (waits : Bool) (held : Totals) (t : State) → still_waits result ≡ waits → (still_waits result ≡ false → client_of w id t.clients ≡ None) → AloneIn w (id ∷ waiting) None held t
       → AloneIn w (waiting ++ kept_if waits id) None held t
-  left_over id result true held t is none a = widened w (id ∷ waiting) (waiting ++ id ∷ []) held t (first_last id waiting) a
+  left_over id result true held t is none a = alone_widens w (id ∷ waiting) (waiting ++ id ∷ []) held t (first_last id waiting) a
   left_over id result false held t is none a = subst (λ (ids : List ℕ). AloneIn w ids None held t) (sym (append-nil waiting)) (record {
     valid = a.valid;
     holders = unseen_others w id 0 waiting t.clients t.serial a.valid.clients.serials (none is) a.holders;
@@ -256,7 +256,7 @@ module _ (law : StepsKeepValidity) (ledger : StepsMoveLedgers) (kind : StepsAreA
       (all_pass law ledger kind w (id ∷ waiting) d.events None None seat.held left s t (end_client_goes d.allowed.0) d.leads a)
   departs_keep (Err e) seat left id held l number before now s t mine h a =
       let waits : still_waits l.ended ≡ true = ap still_waits h.1 in
-      left_over id l.ended (still_waits l.ended) left t refl (λ over. absurd (let both : true ≡ false = sym waits ∙ over in cc)) (unchanged w (id ∷ waiting) seat.held left s t h.2 h.4 a)
+      left_over id l.ended (still_waits l.ended) left t refl (λ over. absurd (let both : true ≡ false = sym waits ∙ over in cc)) (alone_stays w (id ∷ waiting) seat.held left s t h.2 h.4 a)
 
   end_keeps : (number : ℕ) (client : Option ℕ) (told : Option Ending) (back : Option Totals) (now : List ℕ) (a b : Standing) → a.seat.worker ≡ w → EndDoes number client told back waiting now a b → AloneAt w waiting client a
       → AloneAt w now None b
@@ -297,6 +297,7 @@ module _ (law : StepsKeepValidity) (ledger : StepsMoveLedgers) (kind : StepsAreA
       known_same : (o : Option State) (c : Between) → WhereKnown o o (Carries c c)
       known_same None c = tt
       known_same (Some s) c = λ alone. alone
+
       same_carries : (c d : Between) → d ≡ c → Carried c d
       same_carries c d e = subst (λ (x : Between). Carried c x) (sym e) (known_same c.domain c)
   each_carries [] [] (e ∷ es) a b h = absurd h

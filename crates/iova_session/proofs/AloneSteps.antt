@@ -1,11 +1,8 @@
 -- What single steps leave of a domain where whoever holds a range is one of some clients, and no flush is in flight but one.
 use Rattle.std.proofs.Common.{ℕ, ◌≡◌, ◌≢◌, ◌+◌, ◌==◌, Bool, true, false, List, [], ◌∷◌, ◌++◌, Option, Some, None, refl, sym, ap, ◌∙◌, subst, arith}
-use Rattle.std.specs.Prelude.{not, find, sum_by, length, Contains}
+use Rattle.std.specs.Prelude.{not, find, Contains}
 use Rattle.std.specs.List.{AllByRecursion}
 use Rattle.std.proofs.lemmas.Bool.Decides.{nat_tests}
-use Rattle.std.proofs.lemmas.List.Sums.{sum_by-append}
-use Rattle.iova_range.specs.declared.refusal.Refusal.{Refusal}
-use Rattle.iova_range.specs.declared.refusal.Refusal.TheVariants as refusal
 use Rattle.iova_range.specs.Frames.{Frames}
 use Rattle.iova_range.specs.Sizes.{need}
 use Rattle.iova_model.specs.declared.flight.Flight.{Flight}
@@ -17,7 +14,7 @@ use Rattle.iova_model.specs.declared.step.Reply.TheVariants as reply
 use Rattle.iova_model.specs.declared.totals.Totals.{Totals}
 use Rattle.iova_model.specs.Caches.{Caches}
 use Rattle.iova_model.specs.Clients.{Client, new_client, client_with, client_of, has_id, change_client, without_client, remove_at, begins_at, with_holding, without_holding, with_mark, totals_of, totals}
-use Rattle.iova_model.specs.Flushes.{Flushes, with_flight, is_in_flight, after_end}
+use Rattle.iova_model.specs.Flushes.{Flushes, is_in_flight, after_end}
 use Rattle.iova_model.specs.State.{State}
 use Rattle.iova_model.specs.Valid.{IsValid}
 use Rattle.iova_model.specs.Next
@@ -232,12 +229,12 @@ pub data Passes : Step → Reply → Option ℕ → Totals → Option ℕ → To
   ends : (n : ℕ) (ok : Bool) (r : Reply) (held : Totals) → Passes (step.End n ok) r (Some n) held None held
 
 module _ (law : StepsKeepValidity) (ledger : StepsMoveLedgers) (kind : StepsAreAnsweredInKind) (w : ℕ) (ids : List ℕ) where
-  moved_on : (s : State) (st : Step) (r : Reply) (t : State) (flying : Option ℕ) (held left : Totals) → Takes s st r t → Keeps w ids s t
+  step_moves : (s : State) (st : Step) (r : Reply) (t : State) (flying : Option ℕ) (held left : Totals) → Takes s st r t → Keeps w ids s t
       → (MovesTotals r (totals s.clients) (totals t.clients) → HasAtLeast left (totals t.clients)) → AloneIn w ids flying held s → AloneIn w ids flying left t
   unfolding Takes
-  moved_on s st r t flying held left h k enough a =
+  step_moves s st r t flying held left h k enough a =
       let moved : MovesTotals r (totals s.clients) (totals t.clients) = subst (λ (x : Reply). MovesTotals x (totals s.clients) (totals t.clients)) (sym h.1)
-          (subst (λ (x : State). MovesTotals (Next.next s st h.0).reply (totals s.clients) (totals x.clients)) (sym h.2) (ledger s st h.0 a.valid).totals) in
+      (subst (λ (x : State). MovesTotals (Next.next s st h.0).reply (totals s.clients) (totals x.clients)) (sym h.2) (ledger s st h.0 a.valid).totals) in
       record {
         valid = takes_valid law s st r t a.valid h;
         holders = k.holders a.holders;
@@ -246,17 +243,17 @@ module _ (law : StepsKeepValidity) (ledger : StepsMoveLedgers) (kind : StepsAreA
       }
 
   -- no client was given anything
-  lowered : (s : State) (st : Step) (r : Reply) (t : State) (flying : Option ℕ) (held left : Totals) → ((g : Frames) → IsReplyTo st (reply.Given g) → ⊥) → Takes s st r t → Keeps w ids s t
+  step_lowers : (s : State) (st : Step) (r : Reply) (t : State) (flying : Option ℕ) (held left : Totals) → ((g : Frames) → IsReplyTo st (reply.Given g) → ⊥) → Takes s st r t → Keeps w ids s t
       → Lowers (Some r) held left → AloneIn w ids flying held s → AloneIn w ids flying left t
   unfolding Takes
-  lowered s st r t flying held left other h k l a =
+  step_lowers s st r t flying held left other h k l a =
       let answers : IsReplyTo st r = subst (IsReplyTo st) (sym h.1) (kind s st h.0) in
-      moved_on s st r t flying held left h k
+      step_moves s st r t flying held left h k
       (λ moved. still_enough r (totals s.clients) (totals t.clients) held left (λ g e. other g (subst (IsReplyTo st) e answers)) moved l a.shares) a
 
   -- or the clients are as they were
-  flown : (s t : State) (o p : Option ℕ) (held : Totals) → IsValid t → Flies p s t → AloneIn w ids o held s → AloneIn w ids p held t
-  flown s t o p held valid f a = record {
+  step_flies : (s t : State) (o p : Option ℕ) (held : Totals) → IsValid t → Flies p s t → AloneIn w ids o held s → AloneIn w ids p held t
+  step_flies s t o p held valid f a = record {
     valid = valid;
     holders = subst (AllByRecursion (IsOneOf w ids)) (sym f.clients) a.holders;
     shares = subst (λ (cs : List Client). HasAtLeast held (totals cs)) (sym f.clients) a.shares;
@@ -266,26 +263,26 @@ module _ (law : StepsKeepValidity) (ledger : StepsMoveLedgers) (kind : StepsAreA
   pub step_passes : {st : Step} {r : Reply} {o p : Option ℕ} {held left : Totals} (s t : State) → Passes st r o held p left → Takes s st r t → AloneIn w ids o held s → AloneIn w ids p left t
   unfolding Takes
   step_passes s t (unmaps v id lo r o held left l) h a =
-      lowered s (step.Unmap v id lo) r t o held left (λ g no. no) h (subst (Keeps w ids s) (sym h.2) (unmap_kept w ids s v id lo)) l a
+      step_lowers s (step.Unmap v id lo) r t o held left (λ g no. no) h (subst (Keeps w ids s) (sym h.2) (unmap_kept w ids s v id lo)) l a
   step_passes s t (closes v id r o held left l) h a =
-      lowered s (step.CloseOne v id) r t o held left (λ g no. no) h (subst (Keeps w ids s) (sym h.2) (close_one_kept w ids s v id)) l a
+      step_lowers s (step.CloseOne v id) r t o held left (λ g no. no) h (subst (Keeps w ids s) (sym h.2) (close_one_kept w ids s v id)) l a
   step_passes s t (drains q by r o held) h a =
-      flown s t o o held (takes_valid law s (step.Drain q by) r t a.valid h) (subst (Flies o s) (sym h.2) (drain_flies s q by o a.flights)) a
+      step_flies s t o o held (takes_valid law s (step.Drain q by) r t a.valid h) (subst (Flies o s) (sym h.2) (drain_flies s q by o a.flights)) a
   step_passes s t (begins r held) h a =
       let f = begin_flies s a.flights in
-      flown s t None (begun_of (Some r)) held (takes_valid law s step.Begin r t a.valid h)
+      step_flies s t None (begun_of (Some r)) held (takes_valid law s step.Begin r t a.valid h)
       (subst (λ (x : State). Flies (begun_of (Some r)) s x) (sym h.2) (subst (λ (x : Reply). Flies (begun_of (Some x)) s (Next.begin s).state) (sym h.1) f)) a
   step_passes s t (ends n ok r held) h a =
-      flown s t (Some n) None held (takes_valid law s (step.End n ok) r t a.valid h) (subst (Flies None s) (sym h.2) (end_flies s n ok a.flights)) a
+      step_flies s t (Some n) None held (takes_valid law s (step.End n ok) r t a.valid h) (subst (Flies None s) (sym h.2) (end_flies s n ok a.flights)) a
 
   -- a client is opened
   pub open_passes : (s : State) (v : ℕ) (sac : Bool) (r : Reply) (t : State) (held : Totals) → Takes s (step.Open v sac) r t → Lowers (Some r) held held → AloneIn w ids None held s → AloneIn w ids None held t
   unfolding Takes
-  open_passes s v sac r t held h l a = lowered s (step.Open v sac) r t None held held (λ g no. no) h (subst (Keeps w ids s) (sym h.2) (open_kept w ids s v sac h.0)) l a
+  open_passes s v sac r t held h l a = step_lowers s (step.Open v sac) r t None held held (λ g no. no) h (subst (Keeps w ids s) (sym h.2) (open_kept w ids s v sac h.0)) l a
 
   -- a client requests frames
   pub alloc_passes : (s t : State) (id frames limit : ℕ) (r : Reply) (held left : Totals) → Takes s (step.Alloc w id frames limit) r t → Contains ids id
       → (MovesTotals r (totals s.clients) (totals t.clients) → HasAtLeast left (totals t.clients)) → AloneIn w ids None held s → AloneIn w ids None left t
   unfolding Takes
   alloc_passes s t id frames limit r held left h there enough a =
-      moved_on s (step.Alloc w id frames limit) r t None held left h (subst (Keeps w ids s) (sym h.2) (alloc_kept w ids s id frames limit h.0 there)) enough a
+      step_moves s (step.Alloc w id frames limit) r t None held left h (subst (Keeps w ids s) (sym h.2) (alloc_kept w ids s id frames limit h.0 there)) enough a

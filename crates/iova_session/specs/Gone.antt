@@ -27,7 +27,7 @@ pub record IsAlone (seat : SeatState) (waiting : List ℕ) (s : State) : Type 0 
   pub shares : HasAtLeast seat.held (totals s.clients)
   pub quiet : s.flushes.in_flight ≡ []
 
--- Where whoever holds a range was one of those that waited, it is so afterwards, too.
+-- where nobody but clients that waited held a range, none but clients that wait does afterwards
 abbrev pub StaysAlone : SeatState → SeatState → List ℕ → List ℕ → State → State → Type 0
 StaysAlone old new was waiting s t = IsAlone old was s → IsAlone new waiting t
 
@@ -38,12 +38,11 @@ pub record HasNumbers (space : ℕ) (s : State) : Type 0 where
   pub room : MAX_HOLDINGS ≤ space
   pub flushes : s.flushes.start + length (all_holdings s.clients) ≤ MAX_SERIAL
 
--- the second of these alone
+-- the numbers alone
 abbrev pub HasFlushNumbers : State → Type 0
 HasFlushNumbers s = s.flushes.start + length (all_holdings s.clients) ≤ MAX_SERIAL
 
--- A post where a client waits has room for the ranges of one: the session whose client it is took
--- it.
+-- a post where a client waits has room for its ranges, which its session took
 abbrev pub HasRoom : List ℕ → ℕ → Type 0
 HasRoom waiting room = waiting ≢ [] → MAX_HOLDINGS ≤ room
 

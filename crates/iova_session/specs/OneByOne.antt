@@ -1,5 +1,5 @@
 -- Sessions at a post, one after another.
-use Rattle.std.specs.Prelude.{ℕ, ◌≡◌, ◌+◌, Bool, List, [], ◌∷◌, Option, None}
+use Rattle.std.specs.Prelude.{ℕ, ◌≡◌, ◌+◌, Bool, List, [], ◌∷◌, Option, None, IfSome}
 use Rattle.std.specs.Io.KnownBytes.{Appends, Consumes}
 use Rattle.iova_range.specs.declared.limits.TheConstants.{MAX_REQUESTS}
 use Rattle.iova_model.specs.State.{State}
@@ -10,8 +10,9 @@ use Rattle.iova_session.specs.Pairs.{Pair}
 use Rattle.iova_session.specs.Sessions.{Serves}
 use Rattle.iova_session.specs.Desks.{AreAnswers, client_after}
 use Rattle.iova_session.specs.Domains.{LeavesOthers}
+use Rattle.iova_session.specs.Gone.{IsAlone, HasRoom, HasFlushNumbers, NoneFailed, EndsAll}
 use Rattle.iova_session.specs.Leading.{SessionLeads}
-use Rattle.iova_session.specs.Posts.{EndsClient}
+use Rattle.iova_session.specs.Posts.{EndsClient, IsSublist, RetriesAll}
 
 -- how things stand between two sessions: the post's seat, its clients that wait, the calls of the
 -- sink, and the domain where it is known
@@ -57,3 +58,26 @@ ServesEach left sent reads strict number (l ∷ ls) (m ∷ ms) (e ∷ es) a b =
     (reads m) e a mid
     × ServesEach left sent reads strict number ls ms es mid b
 ServesEach left sent reads strict number ls ms es a b = ⊥
+
+-- A round of tries behind sessions, from s before them to t after it. Where nobody else held a
+-- range before them, the post had room for the ranges of a client then if any waited, there are
+-- numbers for flushes between the two, and no call of the sink fails in the round, all end, and
+-- nobody holds anything.
+abbrev pub EndsAllBehind : ℕ → Between → Between → Between → State → State → Type 0
+EndsAllBehind room a mid b s t =
+    IsAlone a.seat a.waiting s → HasRoom a.waiting room → IfSome mid.domain HasFlushNumbers
+    → NoneFailed mid.calls b.calls → EndsAll a.seat.worker mid.waiting b.waiting t
+
+-- Sessions over these links, at a post that had so much room for ranges, and then one round of
+-- tries: from a to b, by how things stand and how much room there is in between.
+pub record ServesThenRetries {L : Type 0} (left sent : L → Option (List ℕ)) (reads : L → ℕ)
+    (strict : Bool) (number room : ℕ)
+    (ls ms : List L) (told : List SessionEnd) (a b : Between) : Type 0 where
+  pub mid : Between
+  pub space : ℕ
+  pub served : ServesEach left sent reads strict number ls ms told a mid
+  pub has_room : HasRoom a.waiting room → HasRoom mid.waiting space
+  pub waiting : IsSublist b.waiting mid.waiting
+  pub tried : WhereKnown mid.domain b.domain
+      (RetriesAll space number mid.waiting b.waiting mid.seat b.seat mid.calls b.calls)
+  pub gone : ∥ WhereKnown a.domain b.domain (EndsAllBehind room a mid b) ∥₁

@@ -4,10 +4,11 @@ ghost use Rattle.iova_session.specs.declared.run.SessionEnd.{SessionEnd};
 ghost use Rattle.iova_keep.specs.Views.{WhereKnown, KeepsPlace};
 ghost use Rattle.iova_session.specs.Histories.{KeepsPromises};
 ghost use Rattle.iova_session.specs.Gone.{HasRoom, StaysAlone};
-ghost use Rattle.iova_session.specs.OneByOne.{ServesEach, between};
+ghost use Rattle.iova_session.specs.OneByOne.{ServesEach, ServesThenRetries, between};
 
 use crate::link::Link;
 use crate::post::Post;
+use crate::retry::retry;
 use crate::run::{SessionEnd, run_session};
 use iova_keep::keep::Keep;
 use iova_laws::ledgers::steps_move_ledgers;
@@ -63,6 +64,45 @@ pub fn serve_one_by_one<
         let end = run_session(alloc, &mut links[at], keeper, post, sink);
         push_end(ends, end);
     }
+}
+
+/// The same, and then tries once to end each client that waits (`retry`): gives how many still
+/// wait. Where nobody but clients that waited at the post held a range of the domain before, all
+/// are gone then and nobody holds a range, unless a call of the sink fails in the round or the
+/// numbers for flushes run out. The round needs room for the ranges of a client, which the session
+/// took whose client waits.
+pub fn serve_one_by_one_then_retry<
+    C: Ledger,
+    F: Ledger,
+    S: Ledger,
+    G: Ledger,
+    L: Link,
+    K: Keep<C, F, S, G>,
+    D: Sink,
+>(
+    alloc: Global,
+    links: &mut [L],
+    keeper: &mut K,
+    post: &mut Post<C, F, S, G>,
+    sink: &mut D,
+    ends: &mut Vec<SessionEnd>,
+) -> u64
+    requires room { vec_len ends.old + length links.old ≤ vec_capacity ends.old }
+    ensures same { K.identity keeper.new ≡ K.identity keeper.old }
+    ensures left { result ≡ length post.new.waiting.items }
+    ensures sessions { (told : List SessionEnd) × (ends.new.items ≡ ends.old.items ++ told)
+        × ServesThenRetries L.left L.sent L.reads (K.identity keeper.old).strict
+        (K.identity keeper.old).number
+        (vec_capacity post.old.ranges) links.old links.new told
+        (between post.old.seat post.old.waiting.items (D.calls sink.old) (K.domain keeper.old))
+        (between post.new.seat post.new.waiting.items (D.calls sink.new) (K.domain keeper.new)) }
+    ensures place { KeepsPlace post.old.seat post.new.seat (D.calls sink.old) (D.calls sink.new) }
+{
+    serve_one_by_one(alloc, links, keeper, post, sink, ends);
+    // for the proof: a domain that is known is valid, and so is what a step leaves
+    keeper.domain_is_kept();
+    steps_keep_validity();
+    retry(keeper, post, sink)
 }
 
 /// Appends the end, for which there is room.
