@@ -15,7 +15,7 @@ use Rattle.iova_proto.specs.declared.request.Request.{Request}
 use Rattle.iova_proto.specs.declared.request.Request.TheVariants as request
 use Rattle.iova_session.specs.declared.end.End.TheVariants as ends
 use Rattle.iova_session.specs.Sessions.{ServesWithin, StopsAtBye}
-use Rattle.iova_session.specs.Pairs.{Pair, asked, told, requests_text, answers_text}
+use Rattle.iova_session.specs.Pairs.{Pair, requests_of, answers_of, requests_text, answers_text}
 use Rattle.iova_session.specs.Desks.{client_after, given_in, taken_in, given_by, taken_by, MovesBy, AreAnswers, IsFirstAnswer, next_client, count_listed}
 use Rattle.iova_session.specs.Leaving.{still_waits}
 use Rattle.iova_session.specs.Posts.{EndsClientOf, EndsClient, EndsFrom, kept_if}
@@ -113,7 +113,7 @@ none_opened number ps opened old new was e none answers moved =
 
 -- a session of which nothing was read
 pub nothing_served : (most bound : ℕ) → ServesWithin most bound [] [] [] 0 ends.NoMemory
-unfolding asked told requests_text answers_text StopsAtBye
+unfolding requests_of answers_of requests_text answers_text StopsAtBye
 nothing_served most bound = record { rest = []; requests = record { good = tt; whole = refl; byes = tt; few = omega arith }; few = omega arith; says = (0, refl) }
 
 pub nothing_answered : (number : ℕ) → AreAnswers number None 0 []

@@ -5,12 +5,12 @@ use Rattle.std.proofs.Math.Seq.{take-append-add}
 use Rattle.iova_range.specs.declared.limits.TheConstants.{MAX_SESSION_READS}
 use Rattle.iova_proto.specs.Requests.{IsRequest}
 use Rattle.iova_proto.specs.declared.request.Request.{Request}
-use Rattle.iova_session.specs.Pairs.{Pair, asked, told, requests_text, answers_text}
+use Rattle.iova_session.specs.Pairs.{Pair, requests_of, answers_of, requests_text, answers_text}
 use Rattle.iova_session.specs.Sessions.{bad_line, too_many, HasNoBye, StopsAtBye, EndsInBye, BeginsWith, IsPastLimit, IsLastLine, EndsSo, Serves, ServesWithin}
 use Rattle.iova_session.specs.Rounds.{AllAnswered}
 use Rattle.iova_session.specs.declared.end.End.{End}
 use Rattle.iova_session.specs.declared.end.End.TheVariants as ends
-use Rattle.iova_session.proofs.Texts.{requests_text-nil, asked-append, asked_both, told_both, length-asked, asked-nil, none_told}
+use Rattle.iova_session.proofs.Texts.{requests_text-nil, requests_of-append, asked_both, told_both, length-asked, requests_of-nil, none_told}
 use Rattle.iova_session.proofs.Byes.{All-append, HasNoBye-nil, HasNoBye-append, StopsAtBye-none, StopsAtBye-behind, EndsInBye-behind}
 
 -- a piece after what is kept
@@ -19,54 +19,54 @@ behind : (bytes piece next first later more : List ℕ) → bytes ≡ first ++ n
 behind bytes piece next first later more e f =
     ap (λ x. x ++ piece) e ∙ append_assoc first next piece ∙ ap (λ x. first ++ x) f ∙ sym (append_assoc first later more)
 
-behind_pairs : (bytes piece next more : List ℕ) (ps qs : List Pair) → bytes ≡ requests_text (asked ps) ++ next
-    → next ++ piece ≡ requests_text (asked qs) ++ more → bytes ++ piece ≡ requests_text (asked (ps ++ qs)) ++ more
+behind_pairs : (bytes piece next more : List ℕ) (ps qs : List Pair) → bytes ≡ requests_text (requests_of ps) ++ next
+    → next ++ piece ≡ requests_text (requests_of qs) ++ more → bytes ++ piece ≡ requests_text (requests_of (ps ++ qs)) ++ more
 behind_pairs bytes piece next more ps qs e f =
-    behind bytes piece next (requests_text (asked ps)) (requests_text (asked qs)) more e f ∙ ap (λ x. x ++ more) (sym (asked_both ps qs))
+    behind bytes piece next (requests_text (requests_of ps)) (requests_text (requests_of qs)) more e f ∙ ap (λ x. x ++ more) (sym (asked_both ps qs))
 
-good_both : (ps qs : List Pair) → AllByRecursion IsRequest (asked ps) → AllByRecursion IsRequest (asked qs) → AllByRecursion IsRequest (asked (ps ++ qs))
+good_both : (ps qs : List Pair) → AllByRecursion IsRequest (requests_of ps) → AllByRecursion IsRequest (requests_of qs) → AllByRecursion IsRequest (requests_of (ps ++ qs))
 good_both ps qs h k =
     let P : List Request → Type 0 = λ x. AllByRecursion IsRequest x in
-    subst P (sym (asked-append ps qs)) (All-append IsRequest (asked ps) (asked qs) h k)
+    subst P (sym (requests_of-append ps qs)) (All-append IsRequest (requests_of ps) (requests_of qs) h k)
 
-no_bye_both : (ps qs : List Pair) → HasNoBye (asked ps) → HasNoBye (asked qs) → HasNoBye (asked (ps ++ qs))
-no_bye_both ps qs h k = subst HasNoBye (sym (asked-append ps qs)) (HasNoBye-append (asked ps) (asked qs) h k)
+no_bye_both : (ps qs : List Pair) → HasNoBye (requests_of ps) → HasNoBye (requests_of qs) → HasNoBye (requests_of (ps ++ qs))
+no_bye_both ps qs h k = subst HasNoBye (sym (requests_of-append ps qs)) (HasNoBye-append (requests_of ps) (requests_of qs) h k)
 
-last_bye_both : (ps qs : List Pair) → HasNoBye (asked ps) → EndsInBye (asked qs) → EndsInBye (asked (ps ++ qs))
-last_bye_both ps qs h k = subst EndsInBye (sym (asked-append ps qs)) (EndsInBye-behind (asked ps) (asked qs) h k)
+last_bye_both : (ps qs : List Pair) → HasNoBye (requests_of ps) → EndsInBye (requests_of qs) → EndsInBye (requests_of (ps ++ qs))
+last_bye_both ps qs h k = subst EndsInBye (sym (requests_of-append ps qs)) (EndsInBye-behind (requests_of ps) (requests_of qs) h k)
 
-text_both : (ps qs : List Pair) (w v : List ℕ) → w ≡ answers_text (told ps) → v ≡ answers_text (told qs) → w ++ v ≡ answers_text (told (ps ++ qs))
-text_both ps qs w v e f = ap (λ x. x ++ v) e ∙ ap (λ x. answers_text (told ps) ++ x) f ∙ sym (told_both ps qs)
+text_both : (ps qs : List Pair) (w v : List ℕ) → w ≡ answers_text (answers_of ps) → v ≡ answers_text (answers_of qs) → w ++ v ≡ answers_text (answers_of (ps ++ qs))
+text_both ps qs w v e f = ap (λ x. x ++ v) e ∙ ap (λ x. answers_text (answers_of ps) ++ x) f ∙ sym (told_both ps qs)
 
-line_both : (ps qs : List Pair) (w v line : List ℕ) → w ≡ answers_text (told ps) → v ≡ answers_text (told qs) ++ line
-    → w ++ v ≡ answers_text (told (ps ++ qs)) ++ line
+line_both : (ps qs : List Pair) (w v line : List ℕ) → w ≡ answers_text (answers_of ps) → v ≡ answers_text (answers_of qs) ++ line
+    → w ++ v ≡ answers_text (answers_of (ps ++ qs)) ++ line
 line_both ps qs w v line e f =
-    ap (λ x. x ++ v) e ∙ ap (λ x. answers_text (told ps) ++ x) f
-    ∙ sym (append_assoc (answers_text (told ps)) (answers_text (told qs)) line) ∙ ap (λ x. x ++ line) (sym (told_both ps qs))
+    ap (λ x. x ++ v) e ∙ ap (λ x. answers_text (answers_of ps) ++ x) f
+    ∙ sym (append_assoc (answers_text (answers_of ps)) (answers_text (answers_of qs)) line) ∙ ap (λ x. x ++ line) (sym (told_both ps qs))
 
-cut_both : (ps qs : List Pair) (w v line : List ℕ) (n : ℕ) → w ≡ answers_text (told ps) → v ≡ take n (answers_text (told qs) ++ line)
-    → w ++ v ≡ take (length w + n) (answers_text (told (ps ++ qs)) ++ line)
+cut_both : (ps qs : List Pair) (w v line : List ℕ) (n : ℕ) → w ≡ answers_text (answers_of ps) → v ≡ take n (answers_text (answers_of qs) ++ line)
+    → w ++ v ≡ take (length w + n) (answers_text (answers_of (ps ++ qs)) ++ line)
 cut_both ps qs w v line n e f =
-    ap (λ x. w ++ x) f ∙ sym (take-append-add w (answers_text (told qs) ++ line) n)
-    ∙ ap (take (length w + n)) (line_both ps qs w (answers_text (told qs) ++ line) line e refl)
+    ap (λ x. w ++ x) f ∙ sym (take-append-add w (answers_text (answers_of qs) ++ line) n)
+    ∙ ap (take (length w + n)) (line_both ps qs w (answers_text (answers_of qs) ++ line) line e refl)
 
 pub AllAnswered-none : AllAnswered [] [] [] []
 AllAnswered-none = record {
   lines = record {
-    good = let P : List Request → Type 0 = λ x. AllByRecursion IsRequest x in subst P (sym asked-nil) tt;
-    whole = sym (append-nil (requests_text (asked [])) ∙ ap requests_text asked-nil ∙ requests_text-nil);
+    good = let P : List Request → Type 0 = λ x. AllByRecursion IsRequest x in subst P (sym requests_of-nil) tt;
+    whole = sym (append-nil (requests_text (requests_of [])) ∙ ap requests_text requests_of-nil ∙ requests_text-nil);
   };
-  byes = subst HasNoBye (sym asked-nil) HasNoBye-nil;
+  byes = subst HasNoBye (sym requests_of-nil) HasNoBye-nil;
   answered = none_told;
 }
 
 pub AllAnswered-kept : (kept : List ℕ) → AllAnswered kept [] kept []
 AllAnswered-kept kept = record {
   lines = record {
-    good = let P : List Request → Type 0 = λ x. AllByRecursion IsRequest x in subst P (sym asked-nil) tt;
-    whole = ap (λ x. x ++ kept) (sym (ap requests_text asked-nil ∙ requests_text-nil));
+    good = let P : List Request → Type 0 = λ x. AllByRecursion IsRequest x in subst P (sym requests_of-nil) tt;
+    whole = ap (λ x. x ++ kept) (sym (ap requests_text requests_of-nil ∙ requests_text-nil));
   };
-  byes = subst HasNoBye (sym asked-nil) HasNoBye-nil;
+  byes = subst HasNoBye (sym requests_of-nil) HasNoBye-nil;
   answered = none_told;
 }
 
@@ -81,22 +81,22 @@ AllAnswered-then bytes piece next more w v ps qs a b = record {
   answered = text_both ps qs w v a.answered b.answered;
 }
 
-limit_both : (most bound here reads : ℕ) (ps qs : List Pair) (rest : List ℕ) → length ps + here ≡ most → IsPastLimit here MAX_SESSION_READS (asked qs) rest 0
-    → IsPastLimit most bound (asked (ps ++ qs)) rest reads
+limit_both : (most bound here reads : ℕ) (ps qs : List Pair) (rest : List ℕ) → length ps + here ≡ most → IsPastLimit here MAX_SESSION_READS (requests_of qs) rest 0
+    → IsPastLimit most bound (requests_of (ps ++ qs)) rest reads
 limit_both most bound here reads ps qs rest l (inl a) =
     inl (omega (arith, length-asked (ps ++ qs), length-asked qs, length-append {A = Pair} ps qs, a.0, l), a.1)
 limit_both most bound here reads ps qs rest l (inr b) = absurd (omega (arith, b.0))
 
-last_line_both : (most bound here reads : ℕ) (ps qs : List Pair) (rest line : List ℕ) → length ps + here ≡ most → HasNoBye (asked ps)
-    → IsLastLine here MAX_SESSION_READS (asked qs) rest 0 line → IsLastLine most bound (asked (ps ++ qs)) rest reads line
+last_line_both : (most bound here reads : ℕ) (ps qs : List Pair) (rest line : List ℕ) → length ps + here ≡ most → HasNoBye (requests_of ps)
+    → IsLastLine here MAX_SESSION_READS (requests_of qs) rest 0 line → IsLastLine most bound (requests_of (ps ++ qs)) rest reads line
 last_line_both most bound here reads ps qs rest line l h (inl a) = inl a
 last_line_both most bound here reads ps qs rest line l h (inr (inl b)) = inr (inl (b.0, no_bye_both ps qs h b.1, b.2))
 last_line_both most bound here reads ps qs rest line l h (inr (inr d)) =
     inr (inr (d.0, no_bye_both ps qs h d.1, limit_both most bound here reads ps qs rest l d.2))
 
 says_both : (most bound here reads : ℕ) (w v rest : List ℕ) (ps qs : List Pair) (end : End) → length ps + here ≡ most
-    → w ≡ answers_text (told ps) → HasNoBye (asked ps) → EndsSo here MAX_SESSION_READS (asked qs) rest 0 (answers_text (told qs)) v end
-    → EndsSo most bound (asked (ps ++ qs)) rest reads (answers_text (told (ps ++ qs))) (w ++ v) end
+    → w ≡ answers_text (answers_of ps) → HasNoBye (requests_of ps) → EndsSo here MAX_SESSION_READS (requests_of qs) rest 0 (answers_text (answers_of qs)) v end
+    → EndsSo most bound (requests_of (ps ++ qs)) rest reads (answers_text (answers_of (ps ++ qs))) (w ++ v) end
 says_both most bound here reads w v rest ps qs ends.Bye l e h b = (last_bye_both ps qs h b.0, text_both ps qs w v e b.1)
 says_both most bound here reads w v rest ps qs ends.Closed l e h b = (no_bye_both ps qs h b.0, b.1, text_both ps qs w v e b.2)
 says_both most bound here reads w v rest ps qs ends.LinkFault l e h b =
@@ -106,8 +106,8 @@ says_both most bound here reads w v rest ps qs ends.TooMany l e h b =
     (no_bye_both ps qs h b.0, limit_both most bound here reads ps qs rest l b.1, line_both ps qs w v too_many e b.2)
 says_both most bound here reads w v rest ps qs ends.NoMemory l e h b = (
   length w + b.0,
-  ap (λ x. w ++ x) b.1 ∙ sym (take-append-add w (answers_text (told qs)) b.0)
-      ∙ ap (take (length w + b.0)) (text_both ps qs w (answers_text (told qs)) e refl),
+  ap (λ x. w ++ x) b.1 ∙ sym (take-append-add w (answers_text (answers_of qs)) b.0)
+      ∙ ap (take (length w + b.0)) (text_both ps qs w (answers_text (answers_of qs)) e refl),
 )
 
 -- a session goes on, and ends at the next piece
@@ -119,7 +119,7 @@ Serves-then most bound here reads bytes piece next w v ps qs end l few a b = rec
   requests = record {
     good = good_both ps qs a.lines.good b.requests.good;
     whole = behind_pairs bytes piece next b.rest ps qs a.lines.whole b.requests.whole;
-    byes = subst StopsAtBye (sym (asked-append ps qs)) (StopsAtBye-behind (asked ps) (asked qs) a.byes b.requests.byes);
+    byes = subst StopsAtBye (sym (requests_of-append ps qs)) (StopsAtBye-behind (requests_of ps) (requests_of qs) a.byes b.requests.byes);
     few = omega (arith, length-asked (ps ++ qs), length-asked qs, length-append {A = Pair} ps qs, b.requests.few, l);
   };
   few = few;
@@ -128,10 +128,10 @@ Serves-then most bound here reads bytes piece next w v ps qs end l few a b = rec
 
 -- what stands in the bytes where a session goes on
 pub begins : (most here : ℕ) (bytes next w : List ℕ) (ps : List Pair) → length ps + here ≡ most → AllAnswered bytes ps next w
-    → BeginsWith most bytes (asked ps) next
+    → BeginsWith most bytes (requests_of ps) next
 begins most here bytes next w ps l a = record {
   good = a.lines.good;
   whole = a.lines.whole;
-  byes = StopsAtBye-none (asked ps) a.byes;
+  byes = StopsAtBye-none (requests_of ps) a.byes;
   few = omega (arith, length-asked ps, l);
 }

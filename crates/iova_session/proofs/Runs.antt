@@ -6,38 +6,38 @@ use Rattle.std.specs.Io.KnownBytes.{Appends}
 use Rattle.std.specs.Prelude.{Option, IsErrAnd}
 use Rattle.iova_proto.specs.declared.answer.Answer.{Answer}
 use Rattle.iova_proto.specs.declared.request.Request.{Request}
-use Rattle.iova_session.specs.Pairs.{Pair, asked, told, answers_text}
+use Rattle.iova_session.specs.Pairs.{Pair, requests_of, answers_of, answers_text}
 use Rattle.iova_session.specs.Rounds.{AsksRun, IsCut}
 use Rattle.iova_session.specs.declared.end.End.{End}
-use Rattle.iova_session.proofs.Texts.{take_plus, all_after, asked-append, told_both}
+use Rattle.iova_session.proofs.Texts.{take_plus, all_after, requests_of-append, told_both}
 
 -- one more front of the run was asked
-pub asked_more : (run : List Request) (ps qs : List Pair) (i n : ℕ) → i ≤ length run → asked ps ≡ take i run
-    → asked qs ≡ take n (take (length run - i) (drop i run)) → asked (ps ++ qs) ≡ take (i + n) run
+pub asked_more : (run : List Request) (ps qs : List Pair) (i n : ℕ) → i ≤ length run → requests_of ps ≡ take i run
+    → requests_of qs ≡ take n (take (length run - i) (drop i run)) → requests_of (ps ++ qs) ≡ take (i + n) run
 asked_more run ps qs i n h e f =
-    asked-append ps qs ∙ ap (λ x. x ++ asked qs) e ∙ ap (λ x. take i run ++ x) (f ∙ ap (take n) (all_after run i)) ∙ sym (take_plus run i n h)
+    requests_of-append ps qs ∙ ap (λ x. x ++ requests_of qs) e ∙ ap (λ x. take i run ++ x) (f ∙ ap (take n) (all_after run i)) ∙ sym (take_plus run i n h)
 
-pub asked_rest : (run : List Request) (ps : List Pair) (i : ℕ) → asked ps ≡ take i run → run ≡ asked ps ++ drop i run
+pub asked_rest : (run : List Request) (ps : List Pair) (i : ℕ) → requests_of ps ≡ take i run → run ≡ requests_of ps ++ drop i run
 asked_rest run ps i e = sym (take-append-drop i run) ∙ ap (λ x. x ++ drop i run) (sym e)
 
 -- the answers to one more front are written
-pub told_more : (a b d : Option (List ℕ)) (ps qs : List Pair) (text : List Answer) → Appends a b (answers_text (told ps)) → text ≡ [] ++ told qs
-    → Appends b d (answers_text text) → Appends a d (answers_text (told (ps ++ qs)))
+pub told_more : (a b d : Option (List ℕ)) (ps qs : List Pair) (text : List Answer) → Appends a b (answers_text (answers_of ps)) → text ≡ [] ++ answers_of qs
+    → Appends b d (answers_text text) → Appends a d (answers_text (answers_of (ps ++ qs)))
 told_more a b d ps qs text p e q =
     let P : List ℕ → Type 0 = λ x. Appends a d x in
     let Q : List Answer → Type 0 = λ x. Appends b d (answers_text x) in
-    subst P (sym (told_both ps qs)) (Appends-trans a b d (answers_text (told ps)) (answers_text (told qs)) p (subst Q e q))
+    subst P (sym (told_both ps qs)) (Appends-trans a b d (answers_text (answers_of ps)) (answers_text (answers_of qs)) p (subst Q e q))
 
 -- or a front of them
-pub told_part : (a b d : Option (List ℕ)) (ps qs : List Pair) (text : List Answer) (n : ℕ) → Appends a b (answers_text (told ps)) → text ≡ [] ++ told qs
-    → Appends b d (take n (answers_text text)) → Appends a d (take (length (answers_text (told ps)) + n) (answers_text (told (ps ++ qs))))
+pub told_part : (a b d : Option (List ℕ)) (ps qs : List Pair) (text : List Answer) (n : ℕ) → Appends a b (answers_text (answers_of ps)) → text ≡ [] ++ answers_of qs
+    → Appends b d (take n (answers_text text)) → Appends a d (take (length (answers_text (answers_of ps)) + n) (answers_text (answers_of (ps ++ qs))))
 told_part a b d ps qs text n p e q =
     let P : List ℕ → Type 0 = λ x. Appends a d x in
     let Q : List Answer → Type 0 = λ x. Appends b d (take n (answers_text x)) in
-    let cut : answers_text (told ps) ++ take n (answers_text (told qs)) ≡ take (length (answers_text (told ps)) + n) (answers_text (told (ps ++ qs))) =
-    sym (take-append-add (answers_text (told ps)) (answers_text (told qs)) n)
-    ∙ ap (take (length (answers_text (told ps)) + n)) (sym (told_both ps qs)) in
-    subst P cut (Appends-trans a b d (answers_text (told ps)) (take n (answers_text (told qs))) p (subst Q e q))
+    let cut : answers_text (answers_of ps) ++ take n (answers_text (answers_of qs)) ≡ take (length (answers_text (answers_of ps)) + n) (answers_text (answers_of (ps ++ qs))) =
+    sym (take-append-add (answers_text (answers_of ps)) (answers_text (answers_of qs)) n)
+    ∙ ap (take (length (answers_text (answers_of ps)) + n)) (sym (told_both ps qs)) in
+    subst P cut (Appends-trans a b d (answers_text (answers_of ps)) (take n (answers_text (answers_of qs))) p (subst Q e q))
 
 pub all_taken : (text : List ℕ) → text ≡ take (length text) text
 all_taken text = sym (take-length text)
@@ -49,7 +49,7 @@ handed_on (Err v) e h = ap (λ x. Err x) h
 
 -- asking stopped at a front of the run
 pub AsksRun-cut : (r : Result Unit End) (e : End) (rs more : List Request) (ps : List Pair) (written : List ℕ) (n : ℕ) → r ≡ Err e
-    → IsCut e → rs ≡ asked ps ++ more → written ≡ take n (answers_text (told ps)) → AsksRun rs ps written r
+    → IsCut e → rs ≡ requests_of ps ++ more → written ≡ take n (answers_text (answers_of ps)) → AsksRun rs ps written r
 AsksRun-cut r e rs more ps written n i h f w =
     let P : Result Unit End → Type 0 = λ x. AsksRun rs ps written x in
     subst P (sym i) (h, (more, f), (n, w))

@@ -8,7 +8,7 @@ use Rattle.iova_range.specs.declared.limits.TheConstants.{MAX_SESSION_READS}
 use Rattle.iova_text.specs.Lines.{IsUnended}
 use Rattle.iova_proto.specs.Requests.{IsRequest}
 use Rattle.iova_proto.specs.declared.request.Request.{Request}
-use Rattle.iova_session.specs.Pairs.{Pair, asked, told, requests_text, answers_text}
+use Rattle.iova_session.specs.Pairs.{Pair, requests_of, answers_of, requests_text, answers_text}
 use Rattle.iova_session.specs.Sessions.{bad_line, too_many, HasNoBye, StopsAtBye, EndsInBye, BeginsWith, IsLastLine, EndsSo, Serves, ServesWithin, ends_at}
 use Rattle.iova_session.specs.Rounds.{IsLines, AllAnswered, Gathers, IsCut, AsksRun}
 use Rattle.iova_session.specs.declared.end.End.{End}
@@ -61,8 +61,8 @@ Serves-cut here used next piece w rs stop new qs end l h b =
     let t = gathered here used next piece rs stop new h in
     let n = b.2.0 in
     let rest = requests_text b.1.0 ++ t.0 in
-    let text = answers_text (told qs) in
-    let start = begins_front here (next ++ piece) t.0 rs (asked qs) b.1.0 b.1.1 l t.2 t.1 in
+    let text = answers_text (answers_of qs) in
+    let start = begins_front here (next ++ piece) t.0 rs (requests_of qs) b.1.0 b.1.1 l t.2 t.1 in
     let P : End → Type 0 = λ x. Serves here (next ++ piece) qs w 0 x in
     elim b.0 [
       | inl a ↦ subst P (sym a) (record {
@@ -75,33 +75,33 @@ Serves-cut here used next piece w rs stop new qs end l h b =
     ]
 
 pub AllAnswered-more : (here used : ℕ) (next piece w : List ℕ) (rs : List Request) (new : Option (List ℕ)) (qs : List Pair)
-    → Gathers here next piece rs used stops.More new → asked qs ≡ rs → w ≡ answers_text (told qs)
+    → Gathers here next piece rs used stops.More new → requests_of qs ≡ rs → w ≡ answers_text (answers_of qs)
     → (n : List ℕ) × AllAnswered (next ++ piece) qs n w × IsUnended n × (new ≡ Some n)
 AllAnswered-more here used next piece w rs new qs h e f =
     let P : List Request → Type 0 = λ x. IsLines (next ++ piece) x h.1.0 in
     (h.1.0, record { lines = subst P (sym e) h.1.1; byes = subst HasNoBye (sym e) h.0; answered = f }, h.1.2, h.1.3)
 
 pub AllAnswered-full : (here used : ℕ) (next piece w : List ℕ) (rs : List Request) (new : Option (List ℕ)) (qs : List Pair)
-    → Gathers here next piece rs used stops.Full new → asked qs ≡ rs → w ≡ answers_text (told qs)
+    → Gathers here next piece rs used stops.Full new → requests_of qs ≡ rs → w ≡ answers_text (answers_of qs)
     → AllAnswered (next ++ take used piece) qs [] w
 AllAnswered-full here used next piece w rs new qs h e f =
     let P : List Request → Type 0 = λ x. IsLines (next ++ take used piece) x [] in
     record { lines = subst P (sym e) h.1; byes = subst HasNoBye (sym e) h.0; answered = f }
 
 pub Serves-bye : (here used : ℕ) (next piece w : List ℕ) (rs : List Request) (new : Option (List ℕ)) (qs : List Pair) → length rs ≤ here
-    → Gathers here next piece rs used stops.Bye new → asked qs ≡ rs → w ≡ answers_text (told qs)
+    → Gathers here next piece rs used stops.Bye new → requests_of qs ≡ rs → w ≡ answers_text (answers_of qs)
     → Serves here (next ++ piece) qs w 0 ends.Bye
 Serves-bye here used next piece w rs new qs l h e f = record {
   rest = drop used piece;
-  requests = begins_all here (next ++ piece) (drop used piece) rs (asked qs) e l (StopsAtBye-last rs h.0) (IsLines-cut next piece rs used h.1);
+  requests = begins_all here (next ++ piece) (drop used piece) rs (requests_of qs) e l (StopsAtBye-last rs h.0) (IsLines-cut next piece rs used h.1);
   few = omega arith;
   says = (subst EndsInBye (sym e) h.0, f);
 }
 
 -- a line of its own ends a session, or the link fails in it
 pub Serves-refused : (most bound reads : ℕ) (bytes rest v line : List ℕ) (qs : List Pair) (a b : Option (List ℕ)) (end result : End) → reads ≤ bound
-    → BeginsWith most bytes (asked qs) rest → v ≡ answers_text (told qs) → IsLastLine most bound (asked qs) rest reads line
-    → EndsSo most bound (asked qs) rest reads (answers_text (told qs)) (v ++ line) end
+    → BeginsWith most bytes (requests_of qs) rest → v ≡ answers_text (answers_of qs) → IsLastLine most bound (requests_of qs) rest reads line
+    → EndsSo most bound (requests_of qs) rest reads (answers_text (answers_of qs)) (v ++ line) end
     → ((result ≡ end) × Appends a b line) ⊎ ((result ≡ ends.LinkFault) × ((n : ℕ) × Appends a b (take n line)))
     → (w : List ℕ) × Appends a b w × ServesWithin most bound bytes qs (v ++ w) reads result
 Serves-refused most bound reads bytes rest v line qs a b end result few start e last says (inl t) =
@@ -121,24 +121,24 @@ Serves-refused most bound reads bytes rest v line qs a b end result few start e 
     )
 
 pub Serves-bad : (here used : ℕ) (next piece w : List ℕ) (rs : List Request) (new : Option (List ℕ)) (qs : List Pair) (a b : Option (List ℕ)) (end : End)
-    → length rs ≤ here → Gathers here next piece rs used stops.Bad new → asked qs ≡ rs → w ≡ answers_text (told qs)
+    → length rs ≤ here → Gathers here next piece rs used stops.Bad new → requests_of qs ≡ rs → w ≡ answers_text (answers_of qs)
     → ((end ≡ ends.BadLine) × Appends a b bad_line) ⊎ ((end ≡ ends.LinkFault) × ((n : ℕ) × Appends a b (take n bad_line)))
     → (v : List ℕ) × Appends a b v × Serves here (next ++ piece) qs (w ++ v) 0 end
 Serves-bad here used next piece w rs new qs a b end l h e f t =
     let none = subst HasNoBye (sym e) h.0 in
     Serves-refused here MAX_SESSION_READS 0 (next ++ piece) h.1.0 w bad_line qs a b ends.BadLine end (omega arith)
-    (begins_all here (next ++ piece) h.1.0 rs (asked qs) e l (StopsAtBye-none rs h.0) h.1.1) f
+    (begins_all here (next ++ piece) h.1.0 rs (requests_of qs) e l (StopsAtBye-none rs h.0) h.1.1) f
     (inr (inl (refl, none, h.1.2))) (none, h.1.2, ap (λ x. x ++ bad_line) f) t
 
 pub Serves-limit : (here used : ℕ) (next piece w : List ℕ) (rs : List Request) (new : Option (List ℕ)) (qs : List Pair) (a b : Option (List ℕ)) (end : End)
-    → length rs ≤ here → Gathers here next piece rs used stops.Limit new → asked qs ≡ rs → w ≡ answers_text (told qs)
+    → length rs ≤ here → Gathers here next piece rs used stops.Limit new → requests_of qs ≡ rs → w ≡ answers_text (answers_of qs)
     → ((end ≡ ends.TooMany) × Appends a b too_many) ⊎ ((end ≡ ends.LinkFault) × ((n : ℕ) × Appends a b (take n too_many)))
     → (v : List ℕ) × Appends a b v × Serves here (next ++ piece) qs (w ++ v) 0 end
 Serves-limit here used next piece w rs new qs a b end l h e f t =
     let none = subst HasNoBye (sym e) h.0 in
-    let all : length (asked qs) ≡ here = ap length e ∙ h.1 in
+    let all : length (requests_of qs) ≡ here = ap length e ∙ h.1 in
     Serves-refused here MAX_SESSION_READS 0 (next ++ piece) h.2.0 w too_many qs a b ends.TooMany end (omega arith)
-    (begins_all here (next ++ piece) h.2.0 rs (asked qs) e l (StopsAtBye-none rs h.0) h.2.1) f
+    (begins_all here (next ++ piece) h.2.0 rs (requests_of qs) e l (StopsAtBye-none rs h.0) h.2.1) f
     (inr (inr (refl, none, inl (all, h.2.2)))) (none, inl (all, h.2.2), ap (λ x. x ++ too_many) f) t
 
 -- the part that is used, and the rest
@@ -172,7 +172,7 @@ AllAnswered-further at used kept piece next n w v ps qs h a b =
     ∙ ap (λ x. kept ++ x) (ap (λ x. take at piece ++ take used x) (all_after piece at) ∙ sym (take_plus piece at used h)) in
     subst P same (AllAnswered-then (kept ++ take at piece) (take used (take (length piece - at) (drop at piece))) next n w v ps qs a b)
 
-pub lengths : (ps qs : List Pair) (rs : List Request) (left here : ℕ) → length ps + here ≡ left → asked qs ≡ rs → length rs ≤ here
+pub lengths : (ps qs : List Pair) (rs : List Request) (left here : ℕ) → length ps + here ≡ left → requests_of qs ≡ rs → length rs ≤ here
     → length (ps ++ qs) + (here - length rs) ≡ left
 lengths ps qs rs left here e f h = omega (arith, length-append {A = Pair} ps qs, length-asked qs, ap length f, e, h)
 
@@ -191,8 +191,8 @@ Serves-fault most bound here reads taken next written ps l few a = record {
     [],
     length written,
     inl refl,
-    a.answered ∙ sym (take-length (answers_text (told ps))) ∙ ap (λ x. take (length x) (answers_text (told ps))) (sym a.answered)
-        ∙ ap (take (length written)) (sym (append-nil (answers_text (told ps)))),
+    a.answered ∙ sym (take-length (answers_text (answers_of ps))) ∙ ap (λ x. take (length x) (answers_text (answers_of ps))) (sym a.answered)
+        ∙ ap (take (length written)) (sym (append-nil (answers_text (answers_of ps)))),
   );
 }
 

@@ -7,7 +7,7 @@ use Rattle.iova_proto.specs.Requests.{request_text}
 use Rattle.iova_proto.specs.Answers.{answer_text}
 use Rattle.iova_proto.specs.declared.answer.Answer.{Answer}
 use Rattle.iova_proto.specs.declared.request.Request.{Request}
-use Rattle.iova_session.specs.Pairs.{Pair, asked, told, requests_text, answers_text}
+use Rattle.iova_session.specs.Pairs.{Pair, requests_of, answers_of, requests_text, answers_text}
 
 pub take_plus : {A : Type 0} (xs : List A) (i n : ℕ) → i ≤ length xs → take (i + n) xs ≡ take i xs ++ take n (drop i xs)
 take_plus {A} xs i n h =
@@ -54,42 +54,42 @@ answers_text-more xs i a h e =
     ap answers_text (take_more xs i a h ∙ ap (λ x. take i xs ++ x ∷ []) (sym e))
     ∙ answers_text-append (take i xs) (a ∷ []) ∙ ap (λ x. answers_text (take i xs) ++ x) (answers_text-one a)
 
-pub asked-append : (ps qs : List Pair) → asked (ps ++ qs) ≡ asked ps ++ asked qs
-unfolding asked
-asked-append [] qs = refl
-asked-append (p ∷ ps) qs = ap (λ x. p.request ∷ x) (asked-append ps qs)
+pub requests_of-append : (ps qs : List Pair) → requests_of (ps ++ qs) ≡ requests_of ps ++ requests_of qs
+unfolding requests_of
+requests_of-append [] qs = refl
+requests_of-append (p ∷ ps) qs = ap (λ x. p.request ∷ x) (requests_of-append ps qs)
 
-pub told-append : (ps qs : List Pair) → told (ps ++ qs) ≡ told ps ++ told qs
-unfolding told
-told-append [] qs = refl
-told-append (p ∷ ps) qs = ap (λ x. p.answer ∷ x) (told-append ps qs)
+pub answers_of-append : (ps qs : List Pair) → answers_of (ps ++ qs) ≡ answers_of ps ++ answers_of qs
+unfolding answers_of
+answers_of-append [] qs = refl
+answers_of-append (p ∷ ps) qs = ap (λ x. p.answer ∷ x) (answers_of-append ps qs)
 
-pub length-asked : (ps : List Pair) → length (asked ps) ≡ length ps
-unfolding asked
+pub length-asked : (ps : List Pair) → length (requests_of ps) ≡ length ps
+unfolding requests_of
 length-asked [] = refl
 length-asked (p ∷ ps) = ap (λ n. suc n) (length-asked ps)
 
-pub asked-nil : asked [] ≡ []
-unfolding asked
-asked-nil = refl
+pub requests_of-nil : requests_of [] ≡ []
+unfolding requests_of
+requests_of-nil = refl
 
-pub told-nil : told [] ≡ []
-unfolding told
-told-nil = refl
+pub answers_of-nil : answers_of [] ≡ []
+unfolding answers_of
+answers_of-nil = refl
 
-pub asked-one : (p : Pair) → asked (p ∷ []) ≡ p.request ∷ []
-unfolding asked
-asked-one p = refl
+pub requests_of-one : (p : Pair) → requests_of (p ∷ []) ≡ p.request ∷ []
+unfolding requests_of
+requests_of-one p = refl
 
-pub told-one : (p : Pair) → told (p ∷ []) ≡ p.answer ∷ []
-unfolding told
-told-one p = refl
+pub answers_of-one : (p : Pair) → answers_of (p ∷ []) ≡ p.answer ∷ []
+unfolding answers_of
+answers_of-one p = refl
 
-pub none_told : [] ≡ answers_text (told [])
-none_told = sym (ap answers_text told-nil ∙ answers_text-nil)
+pub none_told : [] ≡ answers_text (answers_of [])
+none_told = sym (ap answers_text answers_of-nil ∙ answers_text-nil)
 
-pub asked_both : (ps qs : List Pair) → requests_text (asked (ps ++ qs)) ≡ requests_text (asked ps) ++ requests_text (asked qs)
-asked_both ps qs = ap requests_text (asked-append ps qs) ∙ requests_text-append (asked ps) (asked qs)
+pub asked_both : (ps qs : List Pair) → requests_text (requests_of (ps ++ qs)) ≡ requests_text (requests_of ps) ++ requests_text (requests_of qs)
+asked_both ps qs = ap requests_text (requests_of-append ps qs) ∙ requests_text-append (requests_of ps) (requests_of qs)
 
-pub told_both : (ps qs : List Pair) → answers_text (told (ps ++ qs)) ≡ answers_text (told ps) ++ answers_text (told qs)
-told_both ps qs = ap answers_text (told-append ps qs) ∙ answers_text-append (told ps) (told qs)
+pub told_both : (ps qs : List Pair) → answers_text (answers_of (ps ++ qs)) ≡ answers_text (answers_of ps) ++ answers_text (answers_of qs)
+told_both ps qs = ap answers_text (answers_of-append ps qs) ∙ answers_text-append (answers_of ps) (answers_of qs)

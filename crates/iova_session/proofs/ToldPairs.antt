@@ -21,7 +21,7 @@ use Rattle.iova_keep.specs.Batches.{ToldOfAsks, TellsAsks, MovesTold, MayStop}
 use Rattle.iova_proto.specs.declared.answer.Answer.{Answer}
 use Rattle.iova_proto.specs.declared.request.Request.{Request}
 use Rattle.iova_proto.specs.declared.request.Request.TheVariants as request
-use Rattle.iova_session.specs.Pairs.{Pair, asked, told}
+use Rattle.iova_session.specs.Pairs.{Pair, requests_of, answers_of}
 use Rattle.iova_session.specs.Desks.{IsClientAnswer, answer_of_release, given_by, taken_by, given_in, taken_in, MovesBy, asks_in, ask_of, ask_then, answer_of, told_pairs, IsToldTo, AreTold, IsFirstAlone, IsAnswer, SessionState, AnswersRun}
 
 pub same_totals : (a b : Totals) → a.count ≡ b.count → a.frames ≡ b.frames → a.sum_lo ≡ b.sum_lo → a ≡ b
@@ -66,8 +66,8 @@ released_answers listed lo (unmapped.Freed r) is = is
 pub record FromBatch (rs : List Request) (xs : List Told) (held left : Totals) : Type 0 where
   pub each : AreTold rs xs
   pub short : length xs ≤ length rs
-  pub asked : asked (told_pairs rs xs) ≡ take (length xs) rs
-  pub told : told (told_pairs rs xs) ≡ map answer_of xs
+  pub asked : requests_of (told_pairs rs xs) ≡ take (length xs) rs
+  pub told : answers_of (told_pairs rs xs) ≡ map answer_of xs
   pub shares : MovesBy (given_in (told_pairs rs xs)) (taken_in (told_pairs rs xs)) held left
 
 none_taken : {A : Type 0} (rs : List A) → [] ≡ take 0 rs
@@ -75,7 +75,7 @@ none_taken rs = search rules
 
 from_next : (r : Request) (o : Option Ask) → ask_of r ≡ o → (rs : List Request) (x : Told) (xs : List Told) (held left : Totals)
     → ((mid : Totals) → ToldOfAsks (asks_in rs) xs mid left → FromBatch rs xs mid left) → ToldOfAsks (ask_then o (asks_in rs)) (x ∷ xs) held left → FromBatch (r ∷ rs) (x ∷ xs) held left
-unfolding asked told given_in taken_in
+unfolding requests_of answers_of given_in taken_in
 from_next r None e rs x xs held left next h = absurd h
 from_next r (Some a) e rs x xs held left next h =
     let more = next h.0 h.3 in
@@ -88,7 +88,7 @@ from_next r (Some a) e rs x xs held left next h =
     }
 
 pub from_batch : (rs : List Request) (xs : List Told) (held left : Totals) → ToldOfAsks (asks_in rs) xs held left → FromBatch rs xs held left
-unfolding asked told given_in taken_in
+unfolding requests_of answers_of given_in taken_in
 from_batch rs [] held left h = record { each = tt; short = omega arith; asked = none_taken rs; told = refl; shares = no_move held left h.1 }
 from_batch [] (x ∷ xs) held left h = absurd h
 from_batch (r ∷ rs) (x ∷ xs) held left h = from_next r (ask_of r) refl rs x xs held left (λ mid t. from_batch rs xs mid left t) h
@@ -167,7 +167,7 @@ told_answers number (Some id) listed request.Bye x some h = absurd h
 
 -- nothing is asked
 pub none_asked : (rs : List Request) (s : SessionState) (answers : List Answer) (held : Totals) → AnswersRun rs 0 s s answers answers held held
-unfolding asked told given_in taken_in
+unfolding requests_of answers_of given_in taken_in
 none_asked rs s answers held = record {
   pairs = [];
   same = refl;
@@ -185,7 +185,7 @@ first_of (r ∷ rs) d some = search rules
 pub one_asked : (rs : List Request) (d : Request) (a : Answer) (s t : SessionState) (before later : List Answer) (held left : Totals) → 1 ≤ length rs
     → t.number ≡ s.number → t.pairs ≡ s.pairs ++ record { request = get_or rs 0 d; answer = a } ∷ [] → later ≡ before ++ a ∷ [] → MovesBy (given_by a) (taken_by a) held left
     → AnswersRun rs 1 s t before later held left
-unfolding asked told given_in taken_in
+unfolding requests_of answers_of given_in taken_in
 one_asked rs d a s t before later held left some same added more moved = record {
   pairs = record { request = get_or rs 0 d; answer = a } ∷ [];
   same = same;

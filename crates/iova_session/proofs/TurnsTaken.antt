@@ -4,7 +4,7 @@ use Rattle.std.specs.Io.KnownBytes.{Appends}
 use Rattle.std.specs.Prelude.{Result, Ok, Err}
 use Rattle.iova_model.specs.declared.totals.Totals.{Totals}
 use Rattle.iova_model.specs.Clients.{no_totals}
-use Rattle.iova_session.specs.Pairs.{Pair, asked, requests_text}
+use Rattle.iova_session.specs.Pairs.{Pair, requests_of, requests_text}
 use Rattle.iova_session.specs.Desks.{SessionState, MovesBy, given_in, taken_in}
 use Rattle.iova_session.specs.Sessions.{too_many, ServesWithin}
 use Rattle.iova_session.specs.Rounds.{AllAnswered, TakesPiece, CountsFault}
@@ -20,7 +20,7 @@ use Rattle.iova_session.proofs.ToldPairs.{same_totals, moves_on, given_join, tak
 go_on : (p : PausedState) (next bytes written : List ℕ) → p.kept ≡ Some next → AllAnswered bytes p.session.pairs next written
     → AllAnswered (bytes_taken p) p.session.pairs next (bytes_written p)
 go_on p next bytes written e a = record {
-  lines = record { good = a.lines.good; whole = ap (λ (o : Option (List ℕ)). requests_text (asked p.session.pairs) ++ kept_bytes o) e };
+  lines = record { good = a.lines.good; whole = ap (λ (o : Option (List ℕ)). requests_text (requests_of p.session.pairs) ++ kept_bytes o) e };
   byes = a.byes;
   answered = refl;
 }
@@ -92,7 +92,7 @@ takes_turn was session lines left pieces held end piece kept written ps (Ok u) m
       added = added;
       comes = subst (λ (x : Option End). ComesTo was now piece written x) (sym ended) (
         one,
-        ap (λ (o : Option (List ℕ)). requests_text (asked session.pairs) ++ kept_bytes o) t.3 ∙ sym all.lines.whole,
+        ap (λ (o : Option (List ℕ)). requests_text (requests_of session.pairs) ++ kept_bytes o) t.3 ∙ sym all.lines.whole,
         sym all.answered,
         record {
           next = t.0;

@@ -22,7 +22,7 @@ use Rattle.iova_proto.specs.declared.request.Request.{Request}
 use Rattle.iova_proto.specs.declared.request.Request.TheVariants as request
 use Rattle.iova_sink.specs.Calls.{Call, good_calls}
 use Rattle.iova_keep.specs.Batches.{IsToldOf}
-use Rattle.iova_session.specs.Pairs.{Pair, asked, told}
+use Rattle.iova_session.specs.Pairs.{Pair, requests_of, answers_of}
 
 -- The client of a session: the one that hello opened.
 abbrev pub next_client : Option ℕ → Answer → Option ℕ
@@ -238,6 +238,6 @@ pub record AnswersRun (rs : List Request) (count : ℕ) (was now : SessionState)
   pub pairs : List Pair
   pub same : now.number ≡ was.number
   pub added : now.pairs ≡ was.pairs ++ pairs
-  pub asked : asked pairs ≡ take count rs
-  pub told : later ≡ before ++ told pairs
+  pub asked : requests_of pairs ≡ take count rs
+  pub told : later ≡ before ++ answers_of pairs
   pub shares : MovesBy (given_in pairs) (taken_in pairs) old new

@@ -31,16 +31,15 @@ pub record IsAlone (seat : SeatState) (waiting : List ℕ) (s : State) : Type 0 
 abbrev pub StaysAlone : SeatState → SeatState → List ℕ → List ℕ → State → State → Type 0
 StaysAlone old new was waiting s t = IsAlone old was s → IsAlone new waiting t
 
--- There is room for the ranges of a client, without which the round is over before it begins. And
--- there are numbers for the flushes that full rings begin: a range is queued after each, so that
+-- There are numbers for the flushes that full rings begin: a range is queued after each, so that
 -- they are at most as many as the ranges that are held.
-pub record HasNumbers (space : ℕ) (s : State) : Type 0 where
-  pub room : MAX_HOLDINGS ≤ space
-  pub flushes : s.flushes.start + length (all_holdings s.clients) ≤ MAX_SERIAL
-
--- the numbers alone
 abbrev pub HasFlushNumbers : State → Type 0
 HasFlushNumbers s = s.flushes.start + length (all_holdings s.clients) ≤ MAX_SERIAL
+
+-- And there is room for the ranges of a client, without which the round is over before it begins.
+pub record HasNumbers (space : ℕ) (s : State) : Type 0 where
+  pub room : MAX_HOLDINGS ≤ space
+  pub flushes : HasFlushNumbers s
 
 -- a post where a client waits has room for its ranges, which its session took
 abbrev pub HasRoom : List ℕ → ℕ → Type 0

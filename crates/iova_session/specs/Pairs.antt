@@ -18,12 +18,12 @@ after_one (Some before) request answer =
     before.value ++ record { request = request; answer = answer.value } ∷ []
 
 -- the requests, in their order
-unfoldable pub asked : List Pair → List Request
-asked ps = map (λ p. p.request) ps
+unfoldable pub requests_of : List Pair → List Request
+requests_of ps = map (λ p. p.request) ps
 
 -- the answers, in their order
-unfoldable pub told : List Pair → List Answer
-told ps = map (λ p. p.answer) ps
+unfoldable pub answers_of : List Pair → List Answer
+answers_of ps = map (λ p. p.answer) ps
 
 -- the lines of these requests
 unfoldable pub requests_text : List Request → List ℕ
@@ -37,5 +37,5 @@ answers_text as_told = flat_map answer_text as_told
 -- answers after those before.
 abbrev pub AsksFront : ℕ → List Request → List Pair → List Pair → List Answer → List Answer → Type 0
 AsksFront n requests old new before answers =
-    (ps : List Pair) × (new ≡ old ++ ps) × (asked ps ≡ take n requests)
-    × (answers ≡ before ++ told ps)
+    (ps : List Pair) × (new ≡ old ++ ps) × (requests_of ps ≡ take n requests)
+    × (answers ≡ before ++ answers_of ps)

@@ -5,7 +5,7 @@ use Rattle.iova_text.specs.Lines.{IsUnended}
 use Rattle.iova_proto.specs.Feeds.{BeginsBad}
 use Rattle.iova_proto.specs.Requests.{IsRequest}
 use Rattle.iova_proto.specs.declared.request.Request.{Request}
-use Rattle.iova_session.specs.Pairs.{Pair, asked, told, requests_text, answers_text}
+use Rattle.iova_session.specs.Pairs.{Pair, requests_of, answers_of, requests_text, answers_text}
 use Rattle.iova_session.specs.Sessions.{HasNoBye, EndsInBye, BeginsRequest, Serves, failures_at}
 use Rattle.iova_session.specs.declared.end.End.{End}
 use Rattle.iova_session.specs.declared.end.End.TheVariants as ends
@@ -19,9 +19,9 @@ pub record IsLines (bytes : List ℕ) (rs : List Request) (next : List ℕ) : Ty
 
 -- so far all requests were asked, none of them bye, and all answers were written
 pub record AllAnswered (bytes : List ℕ) (ps : List Pair) (next written : List ℕ) : Type 0 where
-  pub lines : IsLines bytes (asked ps) next
-  pub byes : HasNoBye (asked ps)
-  pub answered : written ≡ answers_text (told ps)
+  pub lines : IsLines bytes (requests_of ps) next
+  pub byes : HasNoBye (requests_of ps)
+  pub answered : written ≡ answers_text (answers_of ps)
 
 -- What gathering gives after the bytes that are kept: the requests, how much of the piece they
 -- take, what is kept then.
@@ -46,10 +46,10 @@ IsCut end = (end ≡ ends.LinkFault) ⊎ (end ≡ ends.NoMemory)
 -- What asking a run of requests gives: all are asked and answered, or the first ones, and a front
 -- of the answers is written.
 abbrev pub AsksRun : List Request → List Pair → List ℕ → Result Unit End → Type 0
-AsksRun rs ps written (Ok u) = (asked ps ≡ rs) × (written ≡ answers_text (told ps))
+AsksRun rs ps written (Ok u) = (requests_of ps ≡ rs) × (written ≡ answers_text (answers_of ps))
 AsksRun rs ps written (Err end) =
-    IsCut end × ((more : List Request) × (rs ≡ asked ps ++ more))
-    × ((n : ℕ) × (written ≡ take n (answers_text (told ps))))
+    IsCut end × ((more : List Request) × (rs ≡ requests_of ps ++ more))
+    × ((n : ℕ) × (written ≡ take n (answers_text (answers_of ps))))
 
 -- how the failures of the link are counted where a part of a session answers this
 abbrev pub CountsFault : Result Unit End → ℕ → ℕ → Type 0

@@ -7,7 +7,7 @@ use Rattle.iova_proto.specs.Feeds.{BeginsBad}
 use Rattle.iova_proto.specs.Requests.{request_text, IsRequest}
 use Rattle.iova_proto.specs.declared.request.Request.{Request}
 use Rattle.iova_proto.specs.declared.request.Request.TheVariants as request
-use Rattle.iova_session.specs.Pairs.{Pair, asked, told, requests_text, answers_text}
+use Rattle.iova_session.specs.Pairs.{Pair, requests_of, answers_of, requests_text, answers_text}
 use Rattle.iova_session.specs.declared.end.End.{End}
 use Rattle.iova_session.specs.declared.end.End.TheVariants as ends
 
@@ -84,9 +84,10 @@ EndsSo most most_reads rs rest reads text written ends.NoMemory = (n : ℕ) × (
 pub record ServesWithin (most most_reads : ℕ) (taken : List ℕ) (ps : List Pair) (written : List ℕ)
     (reads : ℕ) (end : End) : Type 0 where
   pub rest : List ℕ
-  pub requests : BeginsWith most taken (asked ps) rest
+  pub requests : BeginsWith most taken (requests_of ps) rest
   pub few : reads ≤ most_reads
-  pub says : EndsSo most most_reads (asked ps) rest reads (answers_text (told ps)) written end
+  pub says : EndsSo most most_reads (requests_of ps) rest reads
+      (answers_text (answers_of ps)) written end
 
 -- the same where nobody says another bound of the reads
 abbrev pub Serves : ℕ → List ℕ → List Pair → List ℕ → ℕ → End → Type 0

@@ -6,7 +6,7 @@ use Rattle.iova_model.specs.Clients.{no_totals}
 use Rattle.iova_model.specs.Effects.{add_totals}
 use Rattle.iova_keep.specs.declared.ending.Ending.{Ending}
 use Rattle.iova_keep.specs.declared.ending.Ending.TheVariants as ending
-use Rattle.iova_session.specs.Pairs.{Pair, asked, told, requests_text, answers_text}
+use Rattle.iova_session.specs.Pairs.{Pair, requests_of, answers_of, requests_text, answers_text}
 use Rattle.iova_session.specs.Desks.{SessionState, MovesBy, given_in, taken_in}
 use Rattle.iova_session.specs.Sessions.{ServesWithin, failures_at}
 use Rattle.iova_session.specs.Rounds.{AllAnswered}
@@ -56,11 +56,11 @@ kept_bytes (Some next) = next
 
 -- of a session that has not ended, all bytes that it has taken
 abbrev pub bytes_taken : PausedState → List ℕ
-bytes_taken p = requests_text (asked p.session.pairs) ++ kept_bytes p.kept
+bytes_taken p = requests_text (requests_of p.session.pairs) ++ kept_bytes p.kept
 
 -- and all that it has written
 abbrev pub bytes_written : PausedState → List ℕ
-bytes_written p = answers_text (told p.session.pairs)
+bytes_written p = answers_text (answers_of p.session.pairs)
 
 -- A session goes on: all requests in the bytes that it has taken were asked and answered, none of
 -- them bye, and it is within its limits.

@@ -2,7 +2,7 @@
 //! their calls, desks that take runs of any length and refuse one, reads of many lines, the limits,
 //! and sockets.
 ghost use Rattle.std.specs.Prelude.{◌≡◌, ◌≤◌, ◌+◌, ◌++◌, List, None, length, vec_len, vec_capacity};
-ghost use Rattle.iova_session.specs.Pairs.{Pair, asked, told};
+ghost use Rattle.iova_session.specs.Pairs.{Pair, requests_of, answers_of};
 
 use crate::posts::repeated;
 use arrayvec::ArrayVec;
@@ -55,8 +55,8 @@ fn answer_of(request: Request) -> Answer {
 // Answers all of the requests, for whose answers there is room.
 fn answer_all(pairs: &mut Pairs, requests: &[Request], answers: &mut Vec<Answer>)
     requires { vec_len answers.old + length requests.now ≤ vec_capacity answers.old }
-    ensures { (ps : List Pair) × (pairs.new ≡ pairs.old ++ ps) × (asked ps ≡ requests.now)
-        × (answers.new.items ≡ answers.old.items ++ told ps) }
+    ensures { (ps : List Pair) × (pairs.new ≡ pairs.old ++ ps) × (requests_of ps ≡ requests.now)
+        × (answers.new.items ≡ answers.old.items ++ answers_of ps) }
 {
     for request in requests {
         let answer = answer_of(*request);
