@@ -36,6 +36,14 @@ alone = record {
   quiet = refl;
 }
 
+-- a new seat is alone at a new domain
+alone_at_first : IsAlone (new_seat 0) [] (new_domain (record { start = 1; last = 1023; profile = first_profile }) 2)
+alone_at_first = record {
+  holders = tt;
+  shares = record { count = omega arith; frames = omega arith; sum_lo = omega arith };
+  quiet = refl;
+}
+
 numbered : HasNumbers 4096 (domain [])
 numbered = record { room = omega arith; flushes = omega arith }
 
