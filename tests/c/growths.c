@@ -1,34 +1,10 @@
 /* Each growth is refused in turn, by a malloc and a realloc that count: then the call is refused by IOVA_NO_MEMORY or does without,
  * no frame is lost, the same call succeeds once there is memory, and at the end nothing is left. */
 #include "iova.h"
+#include "refusing.h"
 
 #include <inttypes.h>
 #include <stdio.h>
-
-static long growths, refuse_at, blocks;
-
-void *__real_malloc(size_t size);
-void *__real_realloc(void *block, size_t size);
-void __real_free(void *block);
-
-static int is_refused(void) { return ++growths == refuse_at; }
-
-void *__wrap_malloc(size_t size) {
-    void *block = is_refused() ? NULL : __real_malloc(size);
-    blocks += block != NULL;
-    return block;
-}
-
-void *__wrap_realloc(void *block, size_t size) {
-    void *moved = is_refused() ? NULL : __real_realloc(block, size);
-    blocks += block == NULL && moved != NULL;
-    return moved;
-}
-
-void __wrap_free(void *block) {
-    blocks -= block != NULL;
-    __real_free(block);
-}
 
 static long refusals;
 
