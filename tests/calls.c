@@ -1,17 +1,15 @@
-/* Stands between a program and its calls of the system, as a library in LD_PRELOAD: they move few bytes, fail or are counted, and
-   sleeps end when they are told to. What is wanted is said in environment variables, of which any may be left out:
+/* Stands between a program and its calls of the system, as a library in LD_PRELOAD: they move few bytes, fail or are
+   counted, and sleeps end when they are told to. What is wanted is said in environment variables, of which any may be
+   left out:
 
-   IN_MOST OUT_MOST WIRE_MOST      at most so many bytes in a read of standard input, in a write of standard output, and in a
-                                   receive or a send on a socket
-   IN_FAILS OUT_FAILS WIRE_FAILS   the number of the call of this kind that fails, counted from 1; of calls on sockets receives and
-                                   sends are counted together, and one on that of the first connection fails
-   EACH_WIRE_FAILS                 in the first connection the first call on its socket fails, in the second one the second, and
-                                   so on
-   SINK_FAILS                      the number of the write of a record, `inval ..`, that fails
-   SINK_FAILS_UNTIL                so do all behind it before there is a file with this path
-   OUT_TAKES_NONE                  a write that fails takes no byte, and there is no error
-   CALLS                           the file to which both counts, of reads and of writes, are written at the end
-   SLEEPS_UNTIL                    no sleep ends before there is a file with this path */
+   IN_MOST OUT_MOST WIRE_MOST      at most so many bytes in a read of standard input, in a write of standard output,
+                                   and in a receive or a send on a socket
+   IN_FAILS OUT_FAILS WIRE_FAILS   the number of the call of this kind that fails, counted from 1; of calls on sockets
+                                   receives and sends are counted together, and one on that of the first connection
+   fails SINK_FAILS                      the number of the write of a record, `inval ..`, that fails SINK_FAILS_UNTIL so
+   do all behind it before there is a file with this path OUT_TAKES_NONE                  a write that fails takes no
+   byte, and there is no error CALLS                           the file to which both counts, of reads and of writes,
+   are written at the end SLEEPS_UNTIL                    no sleep ends before there is a file with this path */
 #define _GNU_SOURCE
 #include <dlfcn.h>
 #include <errno.h>
@@ -26,9 +24,9 @@
 static atomic_long reads, writes, records, connections, wire_calls;
 
 /* The call of this name that the program would have made. */
-#define REAL(name)                                                                                                             \
-    static __typeof__(&name) real;                                                                                             \
-    if (real == NULL)                                                                                                          \
+#define REAL(name)                                                                                                     \
+    static __typeof__(&name) real;                                                                                     \
+    if (real == NULL)                                                                                                  \
     real = (__typeof__(&name))dlsym(RTLD_NEXT, #name)
 
 static long number(const char *name) {
@@ -55,7 +53,9 @@ ssize_t read(int file, void *bytes, size_t count) {
     return real(file, bytes, cut(count, "IN_MOST"));
 }
 
-static int is_record(const char *text, size_t count) { return count > 6 && memcmp(text + (text[0] == '\n'), "inval", 5) == 0; }
+static int is_record(const char *text, size_t count) {
+    return count > 6 && memcmp(text + (text[0] == '\n'), "inval", 5) == 0;
+}
 
 /* Whether the write of this record fails. */
 static int is_refused(void) {
@@ -77,7 +77,7 @@ ssize_t write(int file, const void *bytes, size_t count) {
 /* Whether this call on a socket fails. */
 static int is_cut_off(void) {
     long call = atomic_fetch_add(&wire_calls, 1) + 1;
-    return (connections == 1 && call == number("WIRE_FAILS")) || (getenv("EACH_WIRE_FAILS") != NULL && call == connections);
+    return connections == 1 && call == number("WIRE_FAILS");
 }
 
 static void connected(int done) {

@@ -1,5 +1,5 @@
-/* What a domain answers and tells at a few states, and each growth of a step refused in turn: what the step leaves then, and that
- * the same step succeeds once there is memory. */
+/* What a domain answers and tells at a few states, and each growth of a step refused in turn: what the step leaves
+ * then, and that the same step succeeds once there is memory. */
 #include "iova.h"
 #include "refusing.h"
 
@@ -14,8 +14,8 @@ static void fails(const char *what, const char *asked, const char *got, const ch
     bad = 1;
 }
 
-/* Steps as text, their numbers in the order of the call. What they are answered: the range's first frame and its length, the
- * number, nothing, or the refusal's name. */
+/* Steps as text, their numbers in the order of the call. What they are answered: the range's first frame and its
+ * length, the number, nothing, or the refusal's name. */
 struct row {
     const char *asked, *answered;
 };
@@ -95,7 +95,10 @@ static struct told tell(const char *what, iova_domain *domain) {
     iova_totals totals = iova_totals_of(domain);
     iova_bounds bounds = iova_bounds_of(domain);
     struct told told = {{0, counts.free, counts.reserved, counts.client, counts.magazine, counts.depot, counts.ring},
-                        counts.clients, totals.count, totals.sum_lo, counts.windows};
+                        counts.clients,
+                        totals.count,
+                        totals.sum_lo,
+                        counts.windows};
     uint64_t all = 0;
     for (int kind = IOVA_FREE; kind <= IOVA_AT_RING; kind++)
         all += told.frames[kind];
@@ -162,9 +165,9 @@ static void frames_at_all_six_kinds_of_place(iova_domain *domain) {
     if (memcmp(&told, &want, sizeof told) != 0 || !is_placed(domain, &told))
         fails("six places", "readers", "others", "six kinds");
     static const uint64_t places[][3] = {
-        {10, IOVA_RESERVED, 0},    {11, IOVA_FREE, 0},      {192, IOVA_AT_RING, 0},    {224, IOVA_AT_RING, 0},
-        {225, IOVA_FREE, 0},       {255, IOVA_AT_CLIENT, 1}, {256, IOVA_FREE, 0},      {257, IOVA_AT_CLIENT, 2},
-        {258, IOVA_AT_DEPOT, 0},   {384, IOVA_AT_DEPOT, 0}, {385, IOVA_AT_RING, 1},    {386, IOVA_AT_MAGAZINE, 1},
+        {10, IOVA_RESERVED, 0},     {11, IOVA_FREE, 0},       {192, IOVA_AT_RING, 0}, {224, IOVA_AT_RING, 0},
+        {225, IOVA_FREE, 0},        {255, IOVA_AT_CLIENT, 1}, {256, IOVA_FREE, 0},    {257, IOVA_AT_CLIENT, 2},
+        {258, IOVA_AT_DEPOT, 0},    {384, IOVA_AT_DEPOT, 0},  {385, IOVA_AT_RING, 1}, {386, IOVA_AT_MAGAZINE, 1},
         {511, IOVA_AT_MAGAZINE, 1},
     };
     for (size_t place = 0; place < sizeof places / sizeof places[0]; place++)
@@ -214,8 +217,8 @@ static void drained_into_the_magazines_of_who_drains(iova_domain *domain) {
     RUN("drained", domain, more);
 }
 
-/* A domain, rows, single frames of its first client that go through its ring into magazines of the second worker, and the step
- * whose growths are refused in turn: with each of them the frames are left so. */
+/* A domain, rows, single frames of its first client that go through its ring into magazines of the second worker, and
+ * the step whose growths are refused in turn: with each of them the frames are left so. */
 struct refused {
     const char *what;
     uint64_t start, last, workers;
@@ -225,20 +228,30 @@ struct refused {
     uint64_t left[3][7];
 };
 
-#define CACHED                                                                                                                 \
-    {"open 0 0", "1"}, {"alloc 0 1 1 3", "3 1"}, {"unmap 0 1 3", "3 1"}, {"begin", "1"}, {"end 1 1", ""}, { "drain 0 0", "1" }
+#define CACHED                                                                                                         \
+    {"open 0 0", "1"}, {"alloc 0 1 1 3", "3 1"}, {"unmap 0 1 3", "3 1"}, {"begin", "1"}, {"end 1 1", ""}, {            \
+        "drain 0 0", "1"                                                                                               \
+    }
 
 static const struct refused refusals[] = {
     /* in the ledger, before the caches are looked at: the frame comes from the magazine */
     {"ledger", 1, 3, 1, {CACHED, {"open 0 0", "2"}}, 0, {"alloc 0 2 1 3", "3 1"}, {{0, 2, 0, 0, 1}}},
     /* in the ledger, and in the first search, below 4 GiB */
-    {"first", 1, 1048675, 1, {{"open 0 1", "1"}}, 0, {"alloc 0 1 1 1048675", "1048575 1"}, {{0, 1048675}, {0, 1048675}}},
-    /* in the ledger, and in the second search, with the limit that was asked for: one is not `sac`, one asks for no more than 4
-       GiB, and for one nothing is free there */
+    {"first",
+     1,
+     1048675,
+     1,
+     {{"open 0 1", "1"}},
+     0,
+     {"alloc 0 1 1 1048675", "1048575 1"},
+     {{0, 1048675}, {0, 1048675}}},
+    /* in the ledger, and in the second search, with the limit that was asked for: one is not `sac`, one asks for no
+       more than 4 GiB, and for one nothing is free there */
     {"second", 1048570, 1048675, 1, {{"open 0 0", "1"}}, 0, {"alloc 0 1 1 1048675", "1048675 1"}, {{0, 106}, {0, 106}}},
     {"second", 1048570, 1048675, 1, {{"open 0 1", "1"}}, 0, {"alloc 0 1 1 1048575", "1048575 1"}, {{0, 106}, {0, 106}}},
     {"second", 1048576, 1048675, 1, {{"open 0 1", "1"}}, 0, {"alloc 0 1 1 1048675", "1048675 1"}, {{0, 100}, {0, 100}}},
-    /* worker 0 has nothing cached, so that the walk moves the depot's magazine to it; no entry fits, and the tree is asked */
+    /* worker 0 has nothing cached, so that the walk moves the depot's magazine to it; no entry fits, and the tree is
+       asked */
     {"moved", 1, 300, 2, {{"open 0 0", "1"}}, 255, {"alloc 0 1 1 45", "45 1"}, {{0, 45, 0, 0, 255}}},
     /* in the last search, after the caches were emptied */
     {"last", 1, 3, 1, {CACHED}, 0, {"alloc 0 1 2 3", "2 2"}, {{0, 3}}},
@@ -258,8 +271,8 @@ static void make(iova_domain *domain, const struct refused *row) {
     }
 }
 
-/* A step whose growth of this number is refused. Whether there was one: then the frames are left so, nobody has anything new, and
- * the same step with memory is answered so. */
+/* A step whose growth of this number is refused. Whether there was one: then the frames are left so, nobody has
+ * anything new, and the same step with memory is answered so. */
 static int is_tried(iova_domain *domain, const char *what, const struct row *step, long number, const uint64_t *left) {
     struct told before = tell(what, domain);
     refuse_at = growths + number;
@@ -277,7 +290,8 @@ static int is_tried(iova_domain *domain, const char *what, const struct row *ste
         fails(what, step->asked, got, "NoMemory");
     else if (left == NULL || memcmp(after.frames, left, sizeof after.frames) != 0)
         fails(what, step->asked, "other frames", "those that are left");
-    else if (after.clients != before.clients || after.count != before.count || after.sum_lo != before.sum_lo || after.windows != before.windows)
+    else if (after.clients != before.clients || after.count != before.count || after.sum_lo != before.sum_lo ||
+             after.windows != before.windows)
         fails(what, step->asked, "something new", "nothing new");
     run(what, domain, step, 1);
     return 1;
@@ -286,14 +300,16 @@ static int is_tried(iova_domain *domain, const char *what, const struct row *ste
 static void each_growth_of_a_step(iova_domain *domain) {
     for (const struct refused *row = refusals; row < refusals + sizeof refusals / sizeof refusals[0]; row++) {
         long number = 1;
-        for (make(domain, row); is_tried(domain, row->what, &row->step, number, number <= 3 ? row->left[number - 1] : NULL); number++)
+        for (make(domain, row);
+             is_tried(domain, row->what, &row->step, number, number <= 3 ? row->left[number - 1] : NULL); number++)
             make(domain, row);
         if (number > 3 || row->left[number - 1][1] != 0)
             fails(row->what, row->step.asked, "fewer growths", "as many as are said");
     }
 }
 
-/* Windows of 3 frames that are a frame apart, and then one of all; and clients: each growth is refused, and tried again. */
+/* Windows of 3 frames that are a frame apart, and then one of all; and clients: each growth is refused, and tried
+ * again. */
 static void growths_of_windows_and_clients(iova_domain *domain) {
     char asked[40], answered[24];
     struct row step = {asked, answered};

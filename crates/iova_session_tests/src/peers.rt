@@ -1,14 +1,8 @@
-//! Peers of every kind, with what goes to them and comes from them.
-use iova_range::range::Range;
-use iova_sink::channel::{Channel, ChannelFault, Standing};
+//! Peers of every kind, with what goes to them and comes from them. Over sockets they are seen on
+//! the program (tests/run_service, tests/run_links).
 use iova_sink::channel_sink::ChannelSink;
 use iova_sink::memory_channel::{MemoryChannel, Peer};
 use iova_sink::sink::Sink;
-use iova_sink::socket::SocketChannel;
-use std::fs;
-use std::io::{Read, Write};
-use std::os::unix::net::UnixListener;
-use std::test::Fail;
 
 /// Peers, the call of the channel that fails, how the calls for the numbers 1 and 2 went, and the
 /// bytes sent and received.
@@ -182,53 +176,4 @@ fn peers_of_every_kind(rt: HostRuntime) {
         assert_eq!(rt; sink.channel().received(), received);
         drop(sink);
     }
-}
-
-#[test]
-fn requests_in_pieces(rt: HostRuntime) -> Result<(), Fail> {
-    let mut ranges = Vec::with_capacity(rt.alloc(), 2)?;
-    ranges.push(Range::new(8, 4))?;
-    ranges.push(Range::new(1_048_576, 1))?;
-    let peers = [Peer {
-        says: &[b"", b"done reset 7\n", b"done gone 5\n"],
-        ends: false,
-    }];
-    let mut sink = ChannelSink::new(MemoryChannel::new(rt.alloc(), &peers, 3, 0));
-    assert_eq!(rt; sink.reset(7), Ok(()));
-    assert_eq!(rt; sink.gone(7, 5, &ranges), Ok(()));
-    assert_eq!(rt;
-        sink.channel().sent(),
-        b"reset 7\ngone 7 5 2\n8 4\n1048576 1\n".as_slice()
-    );
-    drop(sink);
-    Ok(())
-}
-
-#[test]
-fn a_peer_at_a_socket(rt: HostRuntime) -> Result<(), Fail> {
-    let _none = fs::remove_file(&rt, "peer.sock");
-    let listener = UnixListener::bind(&rt, "peer.sock")?;
-    let mut channel = SocketChannel::new(&rt, "peer.sock", 1);
-    assert_eq!(rt; channel.connect(), Ok(()));
-    let (mut peer, _address) = listener.accept()?;
-    assert_eq!(rt; channel.look(), Ok(Standing::Nothing));
-    assert_eq!(rt; channel.send(b"reset 7\n"), Ok(8));
-    let mut request = [0u8; 8];
-    peer.read_exact(&mut request)?;
-    assert_eq!(rt; request.as_slice(), b"reset 7\n".as_slice());
-    peer.write_all(b"ab")?;
-    let mut byte = [0u8];
-    assert_eq!(rt; channel.receive(&mut byte), Ok(1));
-    assert_eq!(rt; channel.look(), Ok(Standing::Bytes));
-    // it was read ahead, and nothing comes behind it
-    assert_eq!(rt; channel.receive(&mut byte), Ok(1));
-    assert_eq!(rt; byte, *b"b");
-    assert_eq!(rt; channel.receive(&mut byte), Err(ChannelFault));
-    drop(peer);
-    assert_eq!(rt; channel.look(), Ok(Standing::End));
-    channel.close();
-    assert_eq!(rt; channel.look(), Err(ChannelFault));
-    drop(listener);
-    fs::remove_file(&rt, "peer.sock")?;
-    Ok(())
 }

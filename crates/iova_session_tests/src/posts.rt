@@ -1,8 +1,8 @@
-//! Sessions at a post, over a book and under a lock: what they are answered however they are cut,
-//! links, sinks and growths that fail, clients that wait, and the limits.
+//! Sessions at a post, over a book and under a lock: what they are answered, links, sinks and growths
+//! that fail, and clients that wait. Cut anywhere, over links that fail at each call, and at the
+//! limits they are seen on the program (tests/run_links).
 use crate::fresh::{Seen, Setup, at_post};
 use crate::links::ByLines;
-use crate::session_files::SESSIONS;
 use iova_keep::ending::{Ending, Why};
 use iova_model::place::Place;
 use iova_model::totals::Totals;
@@ -314,47 +314,6 @@ static ROWS: [(&[u8], &[u8], Row); 15] = [
     ),
 ];
 
-/// Second lines of a session, what is answered to them, and how the session ends.
-static SECOND_LINES: [(&[u8], &[u8], End); 13] = [
-    (b"alloc 01 5\n", b"no 20 BadLine\n", End::BadLine),
-    (b"alloc 1 5\r\n", b"no 20 BadLine\n", End::BadLine),
-    (b"alloc  1 5\n", b"no 20 BadLine\n", End::BadLine),
-    (b"list \n", b"no 20 BadLine\n", End::BadLine),
-    (b"\n", b"no 20 BadLine\n", End::BadLine),
-    (
-        b"alloc 18446744073709551616 0\n",
-        b"no 20 BadLine\n",
-        End::BadLine,
-    ),
-    (
-        b"xxxxxxxxxxxxxxxxxxxxxxxxxxxxxxxxxxxxxxxxxxxxxxxxxxxxxxxxxxxxxxxxxxxxxxxxxxxxxxxxxxxxxxxxxxxxxxxxxxxxxxxxxxxxxxxxxxxxxxxxxxxxxxxx",
-        b"no 20 BadLine\n",
-        End::BadLine,
-    ),
-    (
-        b"xxxxxxxxxxxxxxxxxxxxxxxxxxxxxxxxxxxxxxxxxxxxxxxxxxxxxxxxxxxxxxxxxxxxxxxxxxxxxxxxxxxxxxxxxxxxxxxxxxxxxxxxxxxxxxxxxxxxxxxxxxxxxxxxx",
-        b"no 20 BadLine\n",
-        End::BadLine,
-    ),
-    (b"list", b"", End::Closed),
-    (
-        b"alloc 18446744073709551615 0\n",
-        b"no 2 TooBig\n",
-        End::Closed,
-    ),
-    (b"bye\nx\n", b"bye\n", End::Bye),
-    (
-        b"alloc 1 9\nlist\nbye\n",
-        b"given 9 1\nheld 1\n9 1\nbye\n",
-        End::Bye,
-    ),
-    (
-        b"alloc 1 9\nlist\nbye",
-        b"given 9 1\nheld 1\n9 1\n",
-        End::Closed,
-    ),
-];
-
 const HELLO: &[u8] = b"hello iova1 0 dac\n";
 
 /// A session that is given so many single frames and ends, the call of the sink that fails, what
@@ -379,14 +338,12 @@ pub(crate) fn repeated(alloc: Global, parts: &[(&[u8], u32)]) -> Result<Vec<u8>,
     Ok(text)
 }
 
-/// A session that was looked at, how many bytes it was answered, whether these are a front of the
-/// row's answers, and whether they end by them; and whether the sink wrote the row's records, and
-/// the domain recorded its steps.
+/// A session that was looked at, how many bytes it was answered, and whether they end by the row's
+/// answers; and whether the sink wrote the row's records, and the domain recorded its steps.
 #[derive(Clone, Copy)]
 struct Told {
     seen: Seen,
     length: usize,
-    is_front: bool,
     is_end: bool,
     is_sunk: bool,
     is_recorded: bool,
@@ -427,7 +384,6 @@ fn told_of(
     Some(Told {
         seen,
         length: sent.len(),
-        is_front: answers.starts_with(sent),
         is_end: sent.ends_with(answers),
         is_sunk: row.records == None || row.records == Some(recorded.0),
         is_recorded: is_recorded(row, setup, &seen, recorded.1),
@@ -593,29 +549,6 @@ fn sessions_are_answered(rt: HostRuntime) {
     for (input, answers, row) in &ROWS {
         check(&rt, rt.alloc(), row, (input, answers));
     }
-    for session in &SESSIONS {
-        let row = Row {
-            name: "a session of tests/sessions",
-            end: session.end,
-            ..SENT
-        };
-        check(&rt, rt.alloc(), &row, (session.input, session.answers));
-    }
-    for (line, text, end) in SECOND_LINES {
-        let row = Row {
-            name: "a second line",
-            cuts: &[1, 2, 7, 128, 5000],
-            end,
-            ..SENT
-        };
-        check_parts(
-            &rt,
-            rt.alloc(),
-            &row,
-            &[(HELLO, 1), (line, 1)],
-            &[(b"opened 1\n", 1), (text, 1)],
-        );
-    }
 }
 
 const DIES_ON: Setup = Setup {
@@ -666,243 +599,6 @@ fn clients_that_wait(rt: HostRuntime) {
         check_parts(&rt, rt.alloc(), &row, &input, &[]);
     }
     check_parts(&rt, rt.alloc(), &OVERLAP, &[(HELLO, 1), (ALLOC, 256)], &[]);
-}
-
-/// A link of this session fails at each of its calls in turn, until none is left. What was written
-/// is a front of the answers, or all of them; the client is ended, and told of once it is opened;
-/// nothing is the peer's any more.
-fn each_call_fails<R: Abort + Wait>(
-    rt: &R,
-    alloc: Global,
-    input: &[u8],
-    answers: &[u8],
-    most: usize,
-) {
-    let mut is_whole = false;
-    let mut is_opened = false;
-    for fail_at in 1..600 {
-        let row = Row {
-            fails_at: (fail_at, 0),
-            ..SENT
-        };
-        let Some(told) = look(rt, alloc, &row, (input, answers), &ON, most) else {
-            panic!(rt; "not served");
-        };
-        let client = told.seen.end.client;
-        let opened = client.is_some();
-        assert!(rt; told.is_front && (opened || told.length == 0));
-        assert!(rt; opened || !is_opened);
-        is_opened = opened;
-        compare_left(rt, &row, &told.seen);
-        assert_eq!(rt; queued(client).is_some(), opened);
-        if input == CUT_OFF {
-            assert_eq!(rt; queued(client).unwrap_or(0), told.seen.stat.ring);
-        }
-        if told.seen.end.end != End::LinkFault {
-            is_whole = told.length == answers.len();
-            break;
-        }
-    }
-    assert!(rt; is_whole && is_opened);
-}
-
-#[test]
-fn links_that_fail_at_each_call(rt: HostRuntime) {
-    for session in [&SESSIONS[4], &SESSIONS[11], &SESSIONS[7]] {
-        for most in [1, 7, 128] {
-            each_call_fails(&rt, rt.alloc(), session.input, session.answers, most);
-        }
-    }
-}
-
-/// A long session of requests of all kinds, most of them good: drawn by lot.
-const LONG: &[u8] = b"\
-    hello iova1 0 dac\nflush\nfree 38\nalloc 5 60\nalloc 3 62\nstat\nalloc 3 60\nalloc 0 61\nalloc 3 60\nalloc 8 63\n\
-    alloc 1 62\nalloc 6 63\nlist\nalloc 6 61\nfree 32\nfree 15\nfree 10\nalloc 3 62\nstat\nfree 36\nfree 50\nfree 30\n\
-    free 41\nfree 51\nhello iova1 0 sac\nalloc 7 63\nfree 43\nalloc 2 63\nalloc 8 63\nflush\nalloc 5 63\nfree 49\nfree 59\n\
-    alloc 2 62\nalloc 5 60\nfree 29\nfree 41\nflush\nalloc 8 63\nalloc 5 62\nlist\nalloc 1 63\nalloc 6 62\nfree 8\nflush\n\
-    hello iova1 1 sac\nalloc 8 63\nfree 59\nalloc 1 60\nstat\nfree 52\nalloc 2 60\nstat\nhello iova1 1 sac\nalloc 5 62\n\
-    alloc 5 60\nalloc 1 60\nfree 30\nfree 61\nlist\nstat\nfree 34\nhello iova1 0 sac\nstat\nalloc 7 60\nalloc 5 61\nflush\n\
-    alloc 1 60\nfree 63\nalloc 7 61\nfree 43\nstat\nalloc 2 63\nalloc 4 60\nfree 54\nalloc 7 61\nalloc 3 63\nlist\n\
-    alloc 7 61\nalloc 7 61\nfree 1\nalloc 4 63\nalloc 2 63\nalloc 6 63\nflush\nalloc 7 60\nalloc 5 60\nfree 19\nalloc 7 62\n\
-    stat\nlist\nalloc 2 63\nalloc 1 61\nfree 12\nalloc 2 63\nflush\nflush\nalloc 4 61\nalloc 5 62\nfree 13\nalloc 3 60\n";
-
-/// Answers that the long session has.
-static NAMES: [&[u8]; 8] = [
-    b"given ",
-    b"queued ",
-    b"held ",
-    b"flushed ",
-    b"stat ",
-    b"no 6 NoSpace",
-    b"no 8 NotHeld",
-    b"no 24 Twice",
-];
-
-/// Each front of this session is answered as it is where more of it comes, and by one answer more
-/// where it ends a line.
-fn fronts_are_answered<R: Abort + Wait>(
-    rt: &R,
-    alloc: Global,
-    input: &[u8],
-    answers: &[u8],
-    on: &Setup,
-) {
-    let mut longest = 0;
-    for n in 0..=input.len() {
-        for most in [1, 128] {
-            let front = &input[..n];
-            let Some(told) = look(rt, alloc, &SENT, (front, answers), on, most) else {
-                panic!(rt; "not served");
-            };
-            assert!(rt; told.seen.end.end == End::Closed);
-            assert!(rt; told.is_front, "{n} bytes");
-            let is_more = most == 1 && front.ends_with(b"\n");
-            assert_eq!(rt; told.length > longest, is_more, "{n} bytes");
-            longest = told.length;
-        }
-    }
-    assert!(rt; longest == answers.len());
-}
-
-/// Whether the session is answered so where so many lines come in a read, and none before those
-/// that came are answered.
-fn is_answered_by_lines<R: Wait>(
-    rt: &R,
-    alloc: Global,
-    input: &[u8],
-    answers: &[u8],
-    on: &Setup,
-    lines: usize,
-) -> bool {
-    let mut link = ByLines::new(input, lines);
-    let mut text = Vec::new(alloc);
-    let seen = at_post(rt, alloc, on, &mut link, &mut MemorySink::new(0), &mut text);
-    let is_served = match seen {
-        Ok(seen) => seen.end.end == End::Closed,
-        Err(_) => false,
-    };
-    is_served && link.sent.as_slice() == answers && link.answers == link.lines
-}
-
-/// What the session is answered where it comes at once. None for want of memory.
-fn answers_to<R: Wait>(rt: &R, alloc: Global, input: &[u8], on: &Setup) -> Option<Vec<u8>> {
-    let mut link = MemoryLink::new(alloc, input, 4096, 0);
-    let mut text = Vec::new(alloc);
-    let _seen = at_post(rt, alloc, on, &mut link, &mut MemorySink::new(0), &mut text);
-    match Vec::from_slice(alloc, link.sent()) {
-        Ok(answers) => Some(answers),
-        Err(_) => None,
-    }
-}
-
-/// The long session, however it comes.
-fn long_is_answered<R: Abort + Wait>(rt: &R, alloc: Global, answers: &[u8], on: &Setup) {
-    for name in NAMES {
-        assert!(rt; has(answers, name), "none is {name:?}");
-    }
-    fronts_are_answered(rt, alloc, LONG, answers, on);
-    for lines in [1, 16, 17, 40] {
-        assert!(rt;
-            is_answered_by_lines(rt, alloc, LONG, answers, on, lines),
-            "{lines} lines a read"
-        );
-    }
-}
-
-#[test]
-fn a_long_session(rt: HostRuntime) {
-    let on = Setup {
-        is_locked: false,
-        bounds: (1, 63),
-        ..ON
-    };
-    match answers_to(&rt, rt.alloc(), LONG, &on) {
-        Some(answers) => long_is_answered(&rt, rt.alloc(), answers.as_slice(), &on),
-        None => panic!(rt; "no memory"),
-    }
-}
-
-/// A session that asks for 300 single frames and frees them all.
-fn frees(alloc: Global) -> Result<Vec<u8>, AllocError> {
-    let mut text = repeated(alloc, &[(HELLO, 1), (ALLOC, 300)])?;
-    for n in 0..300u64 {
-        let line = format!(in alloc; "free {}\n", 4095 - n)?;
-        text.extend_from_slice(line.as_bytes())?;
-    }
-    Ok(text)
-}
-
-// `open`, and 300 steps of each kind; a ring has room for 255, so one `free` finds it full: two
-// unmaps are refused, one in the hold of its run and one before its flush, which is two steps.
-// `closeone` at the end.
-#[test]
-fn the_steps_of_a_full_ring(rt: HostRuntime) -> Result<(), AllocError> {
-    let alloc = rt.alloc();
-    let input = frees(alloc)?;
-    for most in [16, 4096] {
-        let mut link = MemoryLink::new(alloc, input.as_slice(), most, 0);
-        let mut text = Vec::new(alloc);
-        let setup = Setup {
-            pairs: 1000,
-            ..DIES_ON
-        };
-        let seen = at_post(
-            &rt,
-            alloc,
-            &setup,
-            &mut link,
-            &mut MemorySink::new(0),
-            &mut text,
-        );
-        assert!(rt;
-            matches!(seen, Ok(Seen { steps: 606, .. })),
-            "{most} bytes a read"
-        );
-    }
-    Ok(())
-}
-
-#[test]
-fn the_limits_of_a_session(rt: HostRuntime) {
-    let row = Row {
-        name: "the most requests",
-        cuts: &[2, 4096],
-        end: End::TooMany,
-        client: Some(None),
-        ..SENT
-    };
-    check_parts(
-        &rt,
-        rt.alloc(),
-        &row,
-        &[(b"flush\n", 65_537)],
-        &[(b"no 3 NoClient\n", 65_536), (b"no 21 TooMany\n", 1)],
-    );
-    let row = Row {
-        name: "the most ranges listed",
-        length: 9 + 4096 * 13 + 256 * (10 + 4096 * 7) + 14 + 4,
-        on: Setup {
-            bounds: (1, 8191),
-            ..ON
-        },
-        cuts: &[4096],
-        client: Some(Some(Ending::Ended(4096))),
-        ..SENT
-    };
-    let input: [(&[u8], u32); 4] = [
-        (HELLO, 1),
-        (b"alloc 1 8191\n", 4096),
-        (b"list\n", 257),
-        (b"bye\n", 1),
-    ];
-    check_parts(
-        &rt,
-        rt.alloc(),
-        &row,
-        &input,
-        &[(b"\n8191 1\nno 21 TooMany\nbye\n", 1)],
-    );
 }
 
 // Each of the requests that take memory comes twice.

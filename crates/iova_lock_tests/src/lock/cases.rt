@@ -43,14 +43,14 @@ pub(crate) struct Made {
 pub(crate) type Case = (Task, Made);
 
 /// The cases before this one are of a book and of the lock round one.
-pub(crate) const THREADS: usize = 14;
+pub(crate) const THREADS: usize = 15;
 
 /// Those from `THREADS` to this one are of the lock alone, and those behind it are run with each
 /// growth refused in turn.
-pub(crate) const GROWTHS: usize = 17;
+pub(crate) const GROWTHS: usize = 18;
 
 /// How many cases there are.
-pub(crate) const ALL: usize = 19;
+pub(crate) const ALL: usize = 20;
 
 const PLAIN: Made = Made {
     last: 4095,
@@ -98,11 +98,12 @@ pub(crate) fn case(no: usize) -> Case {
         10 => (Task::Rows(FREED_IN_A_BATCH), PLAIN),
         11 => (Task::Rows(RECORDED), WITH_ROOM),
         12 => (Task::Rows(RECORDED), WITH_LITTLE_ROOM),
-        13 => (Task::Random, WIDE),
-        14 => (Task::Workers, WIDE),
-        15 => (Task::Beside(ONE_FLUSH), PLAIN),
-        16 => (Task::Beside(ALL_FLUSHES), PLAIN),
-        17 => (Task::Growths, PLAIN),
+        13 => (Task::Rows(WAITING_BESIDE_A_FLUSH), PLAIN),
+        14 => (Task::Random, WIDE),
+        15 => (Task::Workers, WIDE),
+        16 => (Task::Beside(ONE_FLUSH), PLAIN),
+        17 => (Task::Beside(ALL_FLUSHES), PLAIN),
+        18 => (Task::Growths, PLAIN),
         _ => (Task::Growths, WITH_ROOM),
     }
 }
@@ -254,6 +255,18 @@ const WAITING: &[Row] = &[
         Seat,
         Always("seat (Totals { count: 0, frames: 0, sum_lo: 0 }, 1)"),
     ),
+    (0, Counts, Always("counts (0, 1, 2, 2)")),
+];
+
+// An end whose own flush ends well beside an older one that is in flight.
+const WAITING_BESIDE_A_FLUSH: &[Row] = &[
+    (0, Open(false), Always("opened Ok(1)")),
+    (0, Fill(1, 256, 0), Always("filled Ok(())")),
+    (0, Begin(1), Always("begun Some(Begun(1))")),
+    (0, EndClient(1), Always("ended Ok(Waiting(1, Overlap))")),
+    (0, Counts, Always("counts (1, 255, 2, 1)")),
+    (0, End(1), Always("flush Some(Ended)")),
+    (0, EndClient(1), Always("ended Ok(Ended(1))")),
     (0, Counts, Always("counts (0, 1, 2, 2)")),
 ];
 
