@@ -1,5 +1,5 @@
 //! The sessions of tests/sessions at one post, one after another, over a book: how each of them
-//! ends, and that the client that waits meanwhile is ended by the round after them.
+//! ends, and that the client that waits meanwhile is ended by the round behind them.
 ghost use Rattle.iova_keep.specs.Views.{AreBlanksOf};
 
 use crate::session_files::SESSIONS;
@@ -13,9 +13,8 @@ use iova_range::bounds::Bounds;
 use iova_range::profile::Profile;
 use iova_range::refusal::Refusal;
 use iova_session::memory_link::MemoryLink;
-use iova_session::one_by_one::serve_one_by_one;
+use iova_session::one_by_one::serve_one_by_one_then_retry;
 use iova_session::post::Post;
-use iova_session::retry::retry;
 use iova_session::run::SessionEnd;
 use iova_sink::memory::MemorySink;
 use std::alloc::Global;
@@ -49,16 +48,14 @@ const NOTHING: Totals = Totals {
     sum_lo: 0,
 };
 
-/// What the sessions came to: how many of them ended as they should, and how many ended; how many
-/// clients wait then, and what the domain's clients hold; and the same after a round of tries.
+/// What the sessions came to: how many of them ended as they should, and how many ended; and after
+/// the round of tries behind them how many clients wait, and what the domain's clients hold.
 #[derive(Clone, Copy)]
 struct Came {
     as_expected: usize,
     sessions: usize,
-    waiting: u64,
-    held: Totals,
     left: u64,
-    left_held: Totals,
+    held: Totals,
 }
 
 /// A link for each of the sessions.
@@ -84,8 +81,8 @@ fn count_expected(ends: &[SessionEnd]) -> usize {
     count
 }
 
-/// All sessions at this post, over these links, and then a round of tries with a sink that doesn't
-/// fail.
+/// All sessions at this post, over these links, and then a round of tries. The sink fails in its
+/// first call, which is that of the first client that holds a range.
 fn serve_all<C: Ledger, F: Ledger, S: Ledger, G: Ledger, K: Keep<C, F, S, G>>(
     alloc: Global,
     keeper: &mut K,
@@ -97,17 +94,12 @@ fn serve_all<C: Ledger, F: Ledger, S: Ledger, G: Ledger, K: Keep<C, F, S, G>>(
         return None;
     }
     let mut sink = MemorySink::new(1);
-    serve_one_by_one(alloc, links, keeper, post, &mut sink, ends);
-    let waiting = post.waiting.len() as u64;
-    let held = keeper.totals();
-    let left = retry(keeper, post, &mut MemorySink::new(0));
+    let left = serve_one_by_one_then_retry(alloc, links, keeper, post, &mut sink, ends);
     Some(Came {
         as_expected: count_expected(ends.as_slice()),
         sessions: ends.len(),
-        waiting,
-        held,
         left,
-        left_held: keeper.totals(),
+        held: keeper.totals(),
     })
 }
 
@@ -151,11 +143,6 @@ fn sessions_one_after_another(rt: HostRuntime) {
     };
     assert_eq!(rt; came.sessions, 12);
     assert_eq!(rt; came.as_expected, 12);
-    assert_eq!(rt; came.waiting, 1);
-    assert_eq!(rt;
-        (came.held.count, came.held.frames, came.held.sum_lo),
-        (1, 1, 9)
-    );
     assert_eq!(rt; came.left, 0);
-    assert!(rt; came.left_held == NOTHING);
+    assert!(rt; came.held == NOTHING);
 }
