@@ -1,15 +1,17 @@
 /* Stands between a program and its calls of the system, as a library in LD_PRELOAD: they move few bytes, fail or are
-   counted, and sleeps end when they are told to. What is wanted is said in environment variables, of which any may be
-   left out:
-
-   IN_MOST OUT_MOST WIRE_MOST      at most so many bytes in a read of standard input, in a write of standard output,
-                                   and in a receive or a send on a socket
-   IN_FAILS OUT_FAILS WIRE_FAILS   the number of the call of this kind that fails, counted from 1; of calls on sockets
-                                   receives and sends are counted together, and one on that of the first connection
-   fails SINK_FAILS                      the number of the write of a record, `inval ..`, that fails SINK_FAILS_UNTIL so
-   do all behind it before there is a file with this path OUT_TAKES_NONE                  a write that fails takes no
-   byte, and there is no error CALLS                           the file to which both counts, of reads and of writes,
-   are written at the end SLEEPS_UNTIL                    no sleep ends before there is a file with this path */
+ * counted, and sleeps end when they are told to. What is wanted is said in environment variables, of which any may be
+ * left out:
+ *
+ * - IN_MOST, OUT_MOST, WIRE_MOST: at most so many bytes in a read of standard input, in a write of standard output, and
+ *   in a receive or a send on a socket.
+ * - IN_FAILS, OUT_FAILS, WIRE_FAILS: the number of the call of this kind that fails, counted from 1. Of calls on sockets
+ *   receives and sends are counted together, and one on that of the first connection fails.
+ * - SINK_FAILS: the number of the write of a record, `inval ..`, that fails.
+ * - SINK_FAILS_UNTIL: so do all behind it, before there is a file with this path.
+ * - OUT_TAKES_NONE: a write that fails takes no byte, and there is no error.
+ * - CALLS: the file to which both counts, of reads and of writes, are written at the end.
+ * - SLEEPS_UNTIL: no sleep ends before there is a file with this path.
+ */
 #define _GNU_SOURCE
 #include <dlfcn.h>
 #include <errno.h>
@@ -27,7 +29,7 @@ static atomic_long reads, writes, records, connections, wire_calls;
 #define REAL(name)                                                                                                     \
     static __typeof__(&name) real;                                                                                     \
     if (real == NULL)                                                                                                  \
-    real = (__typeof__(&name))dlsym(RTLD_NEXT, #name)
+        real = (__typeof__(&name))dlsym(RTLD_NEXT, #name)
 
 static long number(const char *name) {
     const char *text = getenv(name);
