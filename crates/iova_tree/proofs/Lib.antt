@@ -7,7 +7,6 @@ mod Root
 mod Placed
 mod Taken
 mod Fits
-mod Searches
 mod Apart
 mod Allocated
 mod Absorbing

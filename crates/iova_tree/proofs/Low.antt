@@ -1,11 +1,13 @@
 -- How high a balanced tree stands.
-use Rattle.std.proofs.Common.{◌≡◌, ℕ, ◌+◌, ◌*◌, ◌/◌, ◌^◌, ◌<◌, ◌≤◌, max, Bool, true, false, List, ◌∷◌, ◌++◌, length, refl, arith, length-append}
+use Rattle.std.proofs.Common.{◌≡◌, ℕ, ◌+◌, ◌*◌, ◌/◌, ◌^◌, ◌<◌, ◌≤◌, max, Bool, true, false, List, ◌∷◌, ◌++◌, length, refl, subst, arith, length-append}
 use Rattle.std.specs.Prelude.{nat_le}
 use Rattle.std.proofs.lemmas.Nat.{pow-add}
 use Rattle.std.proofs.lemmas.Bool.Decides.{nat_tests}
 use Rattle.std.proofs.Math.Nat.{pow-le-pow_right}
 use Rattle.iova_tree.specs.Spans.{Span, IsLow}
-use Rattle.iova_tree.specs.Node.{DifferByAtMost}
+use Rattle.iova_tree.specs.Node.{DifferByAtMost, link_spans, link_height, IsSubtree}
+use Rattle.iova_tree.specs.declared.subtree.Link.{Link}
+use Rattle.iova_tree.specs.declared.subtree.Link.TheVariants.{Empty, Rooted}
 
 -- of the two sides the lower one has half of what the node needs, and so has the other
 pub low_node : (l : List Span) (k : Span) (r : List Span) (a b : ℕ) → DifferByAtMost 1 a b → IsLow l a → IsLow r b → IsLow (l ++ k ∷ r) (max a b + 1)
@@ -39,14 +41,21 @@ low_node l k r a b d p q = split (nat_le a b) refl
 power_mono : (i j : ℕ) → i ≤ j → 2 ^ i ≤ 2 ^ j
 power_mono i j le = pow-le-pow_right (omega arith) le
 
--- a tree of 2^40 ranges at most is lower than 2^31
-pub low_fits : (l : List Span) (h : ℕ) → IsLow l h → length l ≤ 2 ^ 40 → h < 2 ^ 31
+low_fits : (l : List Span) (h : ℕ) → IsLow l h → length l ≤ 2 ^ 40 → h < 2 ^ 7
 low_fits l h low few = split (nat_le h 81) refl
   where
-    split : (c : Bool) → nat_le h 81 ≡ c → h < 2 ^ 31
+    split : (c : Bool) → nat_le h 81 ≡ c → h < 2 ^ 7
     split true e = let le : h ≤ 81 = grind (arith, nat_tests) in omega arith
     split false e =
         let gt : 81 < h = grind (arith, nat_tests) in
         let g : 2 ^ 41 ≤ 2 ^ (h / 2) = power_mono 41 (h / 2) (omega arith) in
         let m : 2 ^ (h / 2) ≤ length l + 1 = low in
         absurd (omega arith)
+
+low_link : (link : Link) → IsSubtree link → IsLow (link_spans link) (link_height link)
+low_link (Empty height room) g = rw g.0 (omega arith)
+low_link (Rooted height room first end root) g = rw g.height_is g.low
+
+-- a subtree of 2^40 ranges at most is lower than 2^7
+pub low_tree : (link : Link) (v : List Span × ℕ) → (link_spans link, link_height link) ≡ v → IsSubtree link → length v.0 ≤ 2 ^ 40 → v.1 < 2 ^ 7
+low_tree link v e g few = low_fits v.0 v.1 (subst (λ (d : List Span × ℕ). IsLow d.0 d.1) e (low_link link g)) few

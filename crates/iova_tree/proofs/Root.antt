@@ -1,25 +1,28 @@
 -- What is known of a subtree once its root is a node.
-use Rattle.std.proofs.Common.{◌≡◌, ℕ, ◌<◌, List, ◌∷◌, ◌++◌, length, Option, Some, Box, sym, ap, ◌∙◌, subst, arith, length-append}
+use Rattle.std.proofs.Common.{◌≡◌, ℕ, ◌≤◌, List, ◌∷◌, Box, sym, ap, ◌∙◌, subst, arith}
 use Rattle.std.specs.declared.alloc.Global.{Global}
-use Rattle.iova_tree.specs.Spans.{Span, IsLow}
-use Rattle.iova_tree.specs.Node.{node_spans, node_height, node_summary, own_span, root_spans, IsSubtree, IsBalanced}
+use Rattle.iova_tree.specs.Spans.{Span, end_after}
+use Rattle.iova_tree.specs.Node.{node_spans, node_height, own_span, link_spans, link_height, IsSubtree, IsBalanced, IsSummedUp}
 use Rattle.iova_tree.specs.declared.subtree.Node.{Node}
-use Rattle.iova_tree.specs.declared.subtree.Summary.{Summary}
+use Rattle.iova_tree.specs.declared.subtree.Link.{Link}
+use Rattle.iova_tree.specs.declared.subtree.Link.TheVariants.{Rooted}
+use Rattle.iova_tree.proofs.Spans.{rising-back, rising-end, end_after-middle}
 
-pub record AtRoot (v : List Span × ℕ) (s : Summary) (n : Node) : Type 0 where
+pub record AtRoot (v : List Span × ℕ) (height room first end : ℕ) (n : Node) : Type 0 where
   pub spans : v.0 ≡ node_spans n
-  pub height : v.1 ≡ node_height n
-  pub balanced : IsBalanced 1 n
-  pub summary : s ≡ node_summary n
-  pub low : IsLow (node_spans n) (node_height n)
-  pub shorter : (length n.left.0 < length v.0) × (length n.right.0 < length v.0)
+  pub height_is : v.1 ≡ node_height n
+  pub summary : IsSummedUp height room first end n
+  pub end_some : 1 ≤ end
 
-sides_shorter : (l : List Span) (k : Span) (r : List Span) → (length l < length (l ++ k ∷ r)) × (length r < length (l ++ k ∷ r))
-sides_shorter l k r = omega (arith, length-append l (k ∷ r))
+ends_above : (n : Node) → IsBalanced 1 n → 1 ≤ end_after 0 (node_spans n)
+ends_above n b =
+    let back = rising-back 0 n.left.0 (own_span n ∷ n.right.0) b.rising in
+    let end = rising-end n.end n.right.0 back.2 in
+    rw (end_after-middle 0 n.left.0 (own_span n) n.right.0) (omega (arith, back.1))
 
-pub at_root : {root : Option (Box Node Global)} {s : Summary} {v : List Span × ℕ} {b : Box Node Global} → (root_spans root, s.height) ≡ v → IsSubtree s root → root ≡ Some b → AtRoot v s b.value
-at_root {root} {s} {v} {b} view_is good is =
-    let g = subst (IsSubtree s) is good in
-    let e : node_spans b.value ≡ v.0 = cc (ap root_spans is, ap (λ d. d.0) view_is) in
-    let h : s.height ≡ v.1 = ap (λ d. d.1) view_is in
-    record { spans = sym e; height = sym h ∙ ap (λ z. z.height) g.summary; balanced = g.balanced; summary = g.summary; low = g.low; shorter = rw (sym e) (sides_shorter b.value.left.0 (own_span b.value) b.value.right.0) }
+pub at_root : {link : Link} {v : List Span × ℕ} {height room first end : ℕ} {b : Box Node Global} → (link_spans link, link_height link) ≡ v → IsSubtree link → link ≡ Rooted height room first end b → AtRoot v height room first end b.value
+at_root {link} {v} {height} {room} {first} {end} {b} view_is good is =
+    let g = subst IsSubtree is good in
+    let e : node_spans b.value ≡ v.0 = cc (ap link_spans is, ap (λ d. d.0) view_is) in
+    let h : height ≡ v.1 = cc (ap link_height is, ap (λ d. d.1) view_is) in
+    record { spans = sym e; height_is = sym h ∙ g.height_is; summary = g; end_some = rw g.end_is (ends_above b.value g.balanced) }

@@ -2,7 +2,7 @@
 use Rattle.std.proofs.Common.{◌≡◌, ℕ, ◌+◌, ◌<◌, ◌≤◌, inl, inr, max, Bool, true, false, cond, ltb, List, [], ◌∷◌, ◌++◌, refl, ap, ◌∙◌, arith}
 use Rattle.std.proofs.lemmas.Bool.{lt-ltb}
 use Rattle.iova_tree.specs.Spans.{Span, IsRisingFrom, with_span, end_after, room_between, room_below, room_after, first_or, Holds}
-use Rattle.iova_tree.specs.Node.{node_spans, own_span, IsBalanced, TakesBelow, HasSameSummary, DifferByAtMost, IsHeightAfterRebalance}
+use Rattle.iova_tree.specs.Node.{node_spans, own_span, IsBalanced, TakesFirst, TakesBelow, HasSameSummary, DifferByAtMost, IsHeightAfterRebalance}
 use Rattle.iova_tree.specs.declared.subtree.Node.{Node}
 use Rattle.iova_tree.proofs.Spans.{rising-weaken, rising-front, rising-back, rising-end, with_span-left, with_span-right, with_span-later, room_between-middle, room_below-same, room_after-same}
 
@@ -86,7 +86,7 @@ with_middle e (x ∷ l) k r s =
 pub rising-around : (l : List Span) (k : Span) (r : List Span) → IsRisingFrom 0 (l ++ k ∷ r) → IsRisingFrom 0 (l ++ r)
 rising-around l k r s = rising-without 0 k (l ++ r) (rw (with_middle 0 l k r s) s)
 
-pub less_first : (n : Node) (l : List Span × ℕ) (x : Span) → IsBalanced 1 n → n.left.0 ≡ x ∷ l.0 → l.1 ≤ n.left.1 → n.left.1 ≤ l.1 + 1 → IsBalanced 2 (record n { left = l })
-less_first n l x b e h k =
+pub takes_first : (first n : Node) (l : List Span × ℕ) → IsBalanced 1 n → n.left.0 ≡ own_span first ∷ l.0 → l.1 ≤ n.left.1 → n.left.1 ≤ l.1 + 1 → TakesFirst first n (record n { left = l })
+takes_first first n l b e h k =
     let s = rw e at b.rising in
-    record { rising = rising-weaken 0 x.end _ (omega arith) s.2; level = (omega (arith, b.level.0, b.level.1), omega (arith, b.level.0, b.level.1)) }
+    record { spans = rw e refl; balanced = record { rising = rising-weaken 0 first.end _ (omega arith) s.2; level = (omega (arith, b.level.0, b.level.1), omega (arith, b.level.0, b.level.1)) }; settles = λ z w. settled_left n.left.1 n.right.1 l.1 z b.level h k w }

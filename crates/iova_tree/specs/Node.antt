@@ -1,11 +1,12 @@
 -- What a node and a subtree are seen as.
-use Rattle.std.specs.Prelude.{◌≡◌, ℕ, ◌+◌, ◌≤◌, max, Bool, false, ◌&&◌, List, [], ◌∷◌, ◌++◌, Option, Some, None}
+use Rattle.std.specs.Prelude.{◌≡◌, ℕ, ◌+◌, ◌^◌, ◌<◌, ◌≤◌, max, Bool, false, ◌&&◌, List, [], ◌∷◌, ◌++◌, Option, Some, None}
 use Rattle.std.proofs.Common.{Box}
 use Rattle.std.specs.declared.alloc.Global.{Global}
 use Rattle.iova_range.specs.Frames.{Frames, meets}
 use Rattle.iova_tree.specs.Spans.{Span, range_of_span, is_kind, IsRisingFrom, end_after, first_lo, room_between, with_span, IsLow}
 use Rattle.iova_tree.specs.declared.subtree.Node.{Node}
-use Rattle.iova_tree.specs.declared.subtree.Summary.{Summary}
+use Rattle.iova_tree.specs.declared.subtree.Link.{Link}
+use Rattle.iova_tree.specs.declared.subtree.Link.TheVariants.{Empty, Rooted}
 
 -- the range that the node holds itself
 abbrev pub own_span : Node → Span
@@ -21,10 +22,20 @@ node_spans n = n.left.0 ++ own_span n ∷ n.right.0
 abbrev pub node_height : Node → ℕ
 node_height n = max n.left.1 n.right.1 + 1
 
--- the ranges of a subtree in order
-abbrev pub root_spans : Option (Box Node Global) → List Span
-root_spans None = []
-root_spans (Some b) = node_spans b.value
+-- the ranges below a link, in order
+abbrev pub link_spans : Link → List Span
+link_spans (Empty height room) = []
+link_spans (Rooted height room first end root) = node_spans root.value
+
+-- how many nodes stand on one another below a link, as it tells
+abbrev pub link_height : Link → ℕ
+link_height (Empty height room) = height
+link_height (Rooted height room first end root) = height
+
+-- the most room between two neighbours below a link, as it tells
+abbrev pub link_room : Link → ℕ
+link_room (Empty height room) = room
+link_room (Rooted height room first end root) = room
 
 -- neither height is more than this above the other
 abbrev pub DifferByAtMost : ℕ → ℕ → ℕ → Type 0
@@ -39,28 +50,36 @@ pub record IsBalanced (by : ℕ) (n : Node) : Type 0 where
   pub rising : IsRisingFrom 0 (node_spans n)
   pub level : DifferByAtMost by n.left.1 n.right.1
 
--- the summary of a subtree with these ranges and this height
-abbrev pub summary_of_spans : List Span → ℕ → Summary
-summary_of_spans s h =
-    record { first = first_lo s; end = end_after 0 s; room = room_between s; height = h }
-
-abbrev pub node_summary : Node → Summary
-node_summary n = summary_of_spans (node_spans n) (node_height n)
-
--- the node is balanced, and the summary tells what lies below it
-pub record IsSummedUp (s : Summary) (n : Node) : Type 0 where
+-- the node is balanced, and these numbers tell what lies below it
+pub record IsSummedUp (height room first end : ℕ) (n : Node) : Type 0 where
   pub balanced : IsBalanced 1 n
-  pub summary : s ≡ node_summary n
+  pub height_is : height ≡ node_height n
+  pub room_is : room ≡ room_between (node_spans n)
+  pub first_is : first ≡ first_lo (node_spans n)
+  pub end_is : end ≡ end_after 0 (node_spans n)
   pub low : IsLow (node_spans n) (node_height n)
 
-abbrev pub IsSubtree : Summary → Option (Box Node Global) → Type 0
-IsSubtree s None = s ≡ summary_of_spans [] 0
-IsSubtree s (Some b) = IsSummedUp s b.value
+-- what each subtree's link keeps
+abbrev pub IsSubtree : Link → Type 0
+IsSubtree (Empty height room) = (height ≡ 0) × (room ≡ 0)
+IsSubtree (Rooted height room first end root) = IsSummedUp height room first end root.value
 
 -- the height h of what a node with sides l and r settles to
 abbrev pub IsHeightAfterRebalance : ℕ → ℕ → ℕ → Type 0
 IsHeightAfterRebalance l r h =
     (max l r ≤ h) × (h ≤ max l r + 1) × (DifferByAtMost 1 l r → h ≡ max l r + 1)
+
+-- there is a root, low and balanced by 2; what the link tells of it may be old
+abbrev pub IsUnsettled : Link → Type 0
+IsUnsettled (Empty height room) = ⊥
+IsUnsettled (Rooted height room first end root) =
+    IsBalanced 2 root.value × (node_height root.value < 2 ^ 7 + 2)
+
+-- the root of the link may settle to the height h
+abbrev pub IsSettledHeight : Link → ℕ → Type 0
+IsSettledHeight (Empty height room) h = ⊥
+IsSettledHeight (Rooted height room first end root) h =
+    IsHeightAfterRebalance root.value.left.1 root.value.right.1 h
 
 -- the new node is balanced, has the same ranges, and has a height that its old sides allow
 pub record Rebalances (n m : Node) : Type 0 where
@@ -100,6 +119,13 @@ pub record HasSameSummary (n m : Node) : Type 0 where
   pub height : node_height m ≡ node_height n
   pub room : room_between (node_spans m) ≡ room_between (node_spans n)
   pub balanced : IsBalanced 1 m
+
+-- the node m has the ranges of n but the first, which `first` has, and one level less at most
+pub record TakesFirst (first n m : Node) : Type 0 where
+  pub spans : node_spans n ≡ own_span first ∷ node_spans m
+  pub balanced : IsBalanced 2 m
+  pub settles : (h : ℕ) → IsHeightAfterRebalance m.left.1 m.right.1 h
+      → (h ≤ node_height n) × (node_height n ≤ h + 1)
 
 -- the node m has the ranges of n but x, and one level less at most
 pub record TakesBelow (x : Span) (n m : Node) : Type 0 where

@@ -2,12 +2,12 @@
 //! and end, how high they stand, and the greatest size that fits aligned into a gap between two
 //! neighbours: so a search enters no part of the tree in which nothing fits.
 ghost use Rattle.std.specs.Prelude.{◌≡◌, ◌+◌, ◌^◌, ◌<◌, ◌≤◌, max, [], ◌∷◌, ◌++◌, ◌-◌};
-ghost use Rattle.std.specs.Prelude.{true, false, ◌&&◌, length, IfOk, Some};
+ghost use Rattle.std.specs.Prelude.{true, false, ◌&&◌, length, IfOk, IfSome, IfNone, Some};
 ghost use Rattle.std.specs.Int.{IsPowerOfTwo};
 ghost use Rattle.iova_range.specs.Frames.{covers};
-ghost use Rattle.iova_tree.specs.Spans.{range_of_span, first_or, end_after, room_after, room_below, room_between, with_span, IsRisingFrom, Holds, IsLow};
+ghost use Rattle.iova_tree.specs.Spans.{range_of_span, first_lo, first_or, end_after, room_after, room_below, room_between, with_span, IsRisingFrom, Holds, IsLow};
 ghost use Rattle.iova_tree.specs.Fit.{IsWanted, place_before, place_behind, highest_between};
-ghost use Rattle.iova_tree.specs.Node.{node_summary, node_height, node_spans, own_span, IsSingle, IsBalanced, Rebalances, IsRootOf, PlacesBelow, HasSameSummary, TakesBelow, DifferByAtMost, HasSameHeightAndRoom, is_inserted_in, IsHeightOfBoth};
+ghost use Rattle.iova_tree.specs.Node.{node_height, node_spans, own_span, link_spans, link_height, link_room, IsSubtree, IsUnsettled, IsSettledHeight, IsSingle, IsBalanced, Rebalances, IsRootOf, PlacesBelow, HasSameSummary, TakesFirst, TakesBelow, DifferByAtMost, HasSameHeightAndRoom, is_inserted_in, IsHeightOfBoth};
 
 use crate::ranges::Ranges;
 use crate::room::room_with;
@@ -17,23 +17,33 @@ use std::alloc::{AllocError, Global};
 use std::marker::Model;
 use std::mem;
 
-/// What a link knows of the ranges below it: where the first begins and the last ends, the greatest
-/// size that fits aligned between two neighbours, and how many nodes stand on one another. All 0
-/// where there is none.
-#[derive(Clone, Copy, Drop)]
-struct Summary {
-    first: u64,
-    end: u64,
-    room: u32,
-    height: u32,
-}
-
 /// The ranges of a subtree.
 #[cycle(ranges)]
 #[derive(Drop)]
 pub struct Subtree {
-    summary: Summary,
-    root: Option<Box<Node>>,
+    link: Link,
+}
+
+/// The way to a node, and what is known of the ranges below: how many nodes stand on one another,
+/// the greatest size that fits aligned between two neighbours, where the first range begins and
+/// where the last ends.
+///
+/// Height and room lie in the eight bytes of the tag. They are 0 where there is no node, in the
+/// same place, so that they are read without a look at the tag.
+#[cycle(ranges)]
+#[derive(Drop)]
+enum Link {
+    Empty {
+        height: u8,
+        room: u32,
+    },
+    Rooted {
+        height: u8,
+        room: u32,
+        first: u64,
+        end: u64,
+        root: Box<Node>,
+    },
 }
 
 /// The frames from `lo` on and below `end`, which are a window or were inserted, between those of
@@ -48,17 +58,20 @@ pub struct Node {
     right: Subtree,
 }
 
+// What a range costs in memory, without what the heap adds.
+const _: () = prove!(size_of::<Node>() == 88);
+
 impl Model for Subtree {
     ghost use Rattle.std.specs.Prelude.{ℕ, List, length};
     ghost use Rattle.iova_tree.specs.Spans.{Span};
 
     ghost Value = { List Span × ℕ };
 
-    ghost use Rattle.iova_tree.specs.Node.{root_spans, IsSubtree};
+    ghost use Rattle.iova_tree.specs.Node.{link_spans, link_height, IsSubtree};
 
-    ghost view = { λ a. (root_spans a.root, a.summary.height) };
+    ghost view = { λ a. (link_spans a.link, link_height a.link) };
 
-    ghost invariant = { λ a. IsSubtree a.summary a.root };
+    ghost invariant = { λ a. IsSubtree a.link };
 
     ghost size = { λ d. length d.0 };
 
@@ -73,22 +86,18 @@ impl Subtree {
         ensures { result ≡ ([], 0) }
     {
         Subtree {
-            summary: Summary {
-                first: 0,
-                end: 0,
-                room: 0,
-                height: 0,
-            },
-            root: None,
+            link: Link::Empty { height: 0, room: 0 },
         }
     }
 
     #[inline]
-    fn height(&self) -> u32
+    fn height(&self) -> u8
         ensures is { result ≡ self.now.1 }
         ensures low { IsLow self.now.0 self.now.1 }
     {
-        self.summary.height
+        match &self.link {
+            Link::Empty { height, .. } | Link::Rooted { height, .. } => *height,
+        }
     }
 
     #[inline]
@@ -96,7 +105,7 @@ impl Subtree {
         ensures nothing { result ≡ true → self.now ≡ ([], 0) }
         ensures something { result ≡ false → 0 < length self.now.0 }
     {
-        self.summary.height == 0
+        matches!(&self.link, Link::Empty { .. })
     }
 
     // Where the lowest range begins, or `lo`.
@@ -104,10 +113,9 @@ impl Subtree {
     fn first_or(&self, lo: u64) -> u64
         ensures { result ≡ first_or lo self.now.0 }
     {
-        if self.summary.height == 0 {
-            lo
-        } else {
-            self.summary.first
+        match &self.link {
+            Link::Empty { .. } => lo,
+            Link::Rooted { first, .. } => *first,
         }
     }
 
@@ -116,10 +124,9 @@ impl Subtree {
     fn end_or(&self, end: u64) -> u64
         ensures { result ≡ end_after end self.now.0 }
     {
-        if self.summary.height == 0 {
-            end
-        } else {
-            self.summary.end
+        match &self.link {
+            Link::Empty { .. } => end,
+            Link::Rooted { end, .. } => *end,
         }
     }
 
@@ -128,7 +135,9 @@ impl Subtree {
     fn room(&self) -> u32
         ensures { result ≡ room_between self.now.0 }
     {
-        self.summary.room
+        match &self.link {
+            Link::Empty { room, .. } | Link::Rooted { room, .. } => *room,
+        }
     }
 
     // The greater of `known`, which is no less than the room between two neighbours, and of the
@@ -139,10 +148,9 @@ impl Subtree {
         requires between { room_between self.now.0 ≤ known }
         ensures { result ≡ max known (room_after end self.now.0) }
     {
-        if self.summary.height == 0 {
-            known
-        } else {
-            room_with(known, end, self.summary.first)
+        match &self.link {
+            Link::Empty { .. } => known,
+            Link::Rooted { first, .. } => room_with(known, end, *first),
         }
     }
 
@@ -153,10 +161,9 @@ impl Subtree {
         requires { room_between self.now.0 ≤ known }
         ensures { result ≡ max known (room_below lo self.now.0) }
     {
-        if self.summary.height == 0 {
-            known
-        } else {
-            room_with(known, self.summary.end, lo)
+        match &self.link {
+            Link::Empty { .. } => known,
+            Link::Rooted { end, .. } => room_with(known, *end, lo),
         }
     }
 
@@ -165,45 +172,52 @@ impl Subtree {
     fn place(&mut self, fresh: Box<Node>) -> bool
         requires single { IsSingle fresh.value }
         requires free { IsRisingFrom 0 (with_span (own_span fresh.value) self.old.0) }
-        requires height_fits { self.old.1 < 2 ^ 31 }
+        requires height_fits { self.old.1 < 2 ^ 7 }
         ensures spans { self.new.0 ≡ with_span (own_span fresh.value) self.old.0 }
         ensures not_lower { self.old.1 ≤ self.new.1 }
         ensures at_most_one_higher { self.new.1 ≤ self.old.1 + 1 }
         ensures same { result ≡ false → HasSameHeightAndRoom self.old self.new }
     {
-        let Some(node) = &mut self.root else {
-            self.summary = summary_of(&fresh);
-            self.root = Some(fresh);
+        let Link::Rooted {
+            first,
+            end,
+            root,
+            ..
+        } = &mut self.link
+        else {
+            *self = Subtree::of(fresh);
             return true;
         };
-        if !place_below(node, fresh) {
-            self.summary = summary_with(node, self.summary.room);
-            return false;
+        if place_below(root, fresh) {
+            return renew(&mut self.link);
         }
-        renew(node, &mut self.summary)
+        // for the proof: the node is low
+        let _height = root.height();
+        *first = root.first();
+        *end = root.last_end();
+        false
     }
 
     // Takes the lowest range's node out.
+    #[cycle(take_first)]
     fn take_first(&mut self) -> Box<Node>
         requires something { 0 < length self.old.0 }
-        requires height_fits { self.old.1 < 2 ^ 31 }
+        requires height_fits { self.old.1 < 2 ^ 7 }
         ensures first { self.old.0 ≡ own_span result.value ∷ self.new.0 }
         ensures not_higher { self.new.1 ≤ self.old.1 }
         ensures at_most_one_lower { self.old.1 ≤ self.new.1 + 1 }
     {
-        let Some(node) = &mut self.root else {
+        let Link::Rooted { root, .. } = &mut self.link else {
             unreachable!()
         };
-        if !node.left.is_empty() {
-            let first = node.left.take_first();
-            rebalance(node);
-            self.summary = summary_of(node);
+        if let Some(first) = take_first_below(root) {
+            let _ = renew(&mut self.link);
             return first;
         }
-        let Some(mut first) = mem::replace(&mut self.root, None) else {
+        let Subtree { link } = take_right(root);
+        let Link::Rooted { root: first, .. } = mem::replace(&mut self.link, link) else {
             unreachable!()
         };
-        *self = take_right(&mut first);
         first
     }
 
@@ -212,7 +226,7 @@ impl Subtree {
     #[cycle(take)]
     fn take(&mut self, lo: u64) -> (Box<Node>, bool)
         requires held { Holds lo self.old.0 }
-        requires height_fits { self.old.1 < 2 ^ 31 }
+        requires height_fits { self.old.1 < 2 ^ 7 }
         ensures begins { result.0.value.lo ≡ lo }
         ensures single { IsSingle result.0.value }
         ensures taken { self.old.0 ≡ with_span (own_span result.0.value) self.new.0 }
@@ -220,51 +234,51 @@ impl Subtree {
         ensures at_most_one_lower { self.old.1 ≤ self.new.1 + 1 }
         ensures same { result.1 ≡ false → HasSameHeightAndRoom self.old self.new }
     {
-        let Some(node) = &mut self.root else {
+        let Link::Rooted {
+            first,
+            end,
+            root,
+            ..
+        } = &mut self.link
+        else {
             unreachable!()
         };
-        if node.lo == lo {
-            let Subtree { summary, root } = take_sides(node);
-            self.summary = summary;
-            let Some(own) = mem::replace(&mut self.root, root) else {
+        if root.lo == lo {
+            let Subtree { link } = take_sides(root);
+            let Link::Rooted { root: own, .. } = mem::replace(&mut self.link, link) else {
                 unreachable!()
             };
             return (own, true);
         }
-        let (own, deep) = take_below(node, lo);
-        if !deep {
-            self.summary = summary_with(node, self.summary.room);
-            return (own, false);
+        let (own, deep) = take_below(root, lo);
+        if deep {
+            let changed = renew(&mut self.link);
+            return (own, changed);
         }
-        let changed = renew(node, &mut self.summary);
-        (own, changed)
+        // for the proof: the node is low
+        let _height = root.height();
+        *first = root.first();
+        *end = root.last_end();
+        (own, false)
     }
 
-    // The highest place between two neighbours.
+    // The highest place between two neighbours. A link below which nothing fits costs no call.
+    #[cycle(highest_within)]
+    #[inline(always)]
     fn highest_within(&self, wanted: &Wanted) -> Option<u64>
         requires { IsWanted wanted.now }
         ensures { result ≡ highest_between wanted.now self.now.0 }
     {
-        if (self.summary.room as u64) < wanted.size {
+        if (self.room() as u64) < wanted.size {
             return None;
         }
-        if wanted.cap <= self.summary.first {
-            return None;
-        }
-        let Some(node) = &self.root else {
+        let Link::Rooted { first, root, .. } = &self.link else {
             return None;
         };
-        let node: &Node = node;
-        if let Some(at) = node.right.highest_within(wanted) {
-            return Some(at);
+        if wanted.cap <= *first {
+            return None;
         }
-        if let Some(at) = node.right.place_before(node.end, wanted) {
-            return Some(at);
-        }
-        if let Some(at) = node.left.place_behind(node.lo, wanted) {
-            return Some(at);
-        }
-        node.left.highest_within(wanted)
+        root.highest_within(wanted)
     }
 
     // The place below the lowest range and above `from`.
@@ -273,10 +287,9 @@ impl Subtree {
         requires { IsPowerOfTwo wanted.now.align }
         ensures { result ≡ place_before wanted.now from self.now.0 }
     {
-        if self.summary.height == 0 {
-            None
-        } else {
-            place_in(from, self.summary.first.min(wanted.cap), wanted)
+        match &self.link {
+            Link::Empty { .. } => None,
+            Link::Rooted { first, .. } => place_in(from, (*first).min(wanted.cap), wanted),
         }
     }
 
@@ -286,29 +299,37 @@ impl Subtree {
         requires { IsPowerOfTwo wanted.now.align }
         ensures { result ≡ place_behind wanted.now self.now.0 lo }
     {
-        if self.summary.height == 0 {
-            None
-        } else {
-            place_in(self.summary.end, lo.min(wanted.cap), wanted)
+        match &self.link {
+            Link::Empty { .. } => None,
+            Link::Rooted { end, .. } => place_in(*end, lo.min(wanted.cap), wanted),
         }
     }
 
-    // The node at the root, with what the link knew of it.
+    // The node at the root.
+    #[inline]
     fn open(self) -> Option<Box<Node>>
         ensures { IsRootOf self result }
     {
-        self.root
+        match self.link {
+            Link::Empty { .. } => None,
+            Link::Rooted { root, .. } => Some(root),
+        }
     }
 
     // The subtree of a node.
     fn of(node: Box<Node>) -> Self
         requires balanced { IsBalanced 1 node.value }
-        requires height_fits { node_height node.value < 2 ^ 32 }
+        requires height_fits { node_height node.value < 2 ^ 8 }
         ensures { result ≡ (node_spans node.value, node_height node.value) }
     {
         Subtree {
-            summary: summary_of(&node),
-            root: Some(node),
+            link: Link::Rooted {
+                height: node.height(),
+                room: node.room(),
+                first: node.first(),
+                end: node.last_end(),
+                root: node,
+            },
         }
     }
 }
@@ -319,14 +340,14 @@ impl Ranges for Subtree {
     #[inline]
     fn insert(&mut self, fresh: Box<Node>) {
         // for the proof: a subtree of so many ranges is low
-        let _summary = &self.summary;
+        let _link = &self.link;
         let _ = self.place(fresh);
     }
 
     #[inline]
     fn remove(&mut self, lo: u64) -> Box<Node> {
         // for the proof: a subtree of so many ranges is low
-        let _summary = &self.summary;
+        let _link = &self.link;
         let (node, _) = self.take(lo);
         node
     }
@@ -347,10 +368,10 @@ impl Ranges for Subtree {
     }
 
     fn covers(&self, frame: u64) -> bool {
-        let Some(node) = &self.root else {
+        let Link::Rooted { root, .. } = &self.link else {
             return false;
         };
-        let node: &Node = node;
+        let node: &Node = root;
         if frame < node.lo {
             node.left.covers(frame)
         } else if frame < node.end {
@@ -361,16 +382,22 @@ impl Ranges for Subtree {
     }
 
     fn meets_inserted(&self, lo: u64, end: u64) -> bool {
-        if self.summary.end <= lo {
-            return false;
-        }
-        if end <= self.summary.first {
-            return false;
-        }
-        let Some(node) = &self.root else {
+        let Link::Rooted {
+            first,
+            end: last_end,
+            root,
+            ..
+        } = &self.link
+        else {
             return false;
         };
-        let node: &Node = node;
+        if *last_end <= lo {
+            return false;
+        }
+        if end <= *first {
+            return false;
+        }
+        let node: &Node = root;
         if node.is_taken(lo, end) {
             return true;
         }
@@ -441,6 +468,63 @@ impl Node {
     {
         !self.window && self.lo < end && lo < self.end
     }
+
+    // The highest place between two neighbours, of its ranges and those below.
+    #[cycle(highest_within)]
+    #[inline(never)]
+    fn highest_within(&self, wanted: &Wanted) -> Option<u64>
+        requires { IsWanted wanted.now }
+        ensures { result ≡ highest_between wanted.now (node_spans self.now) }
+    {
+        if let Some(at) = self.right.highest_within(wanted) {
+            return Some(at);
+        }
+        if let Some(at) = self.right.place_before(self.end, wanted) {
+            return Some(at);
+        }
+        if let Some(at) = self.left.place_behind(self.lo, wanted) {
+            return Some(at);
+        }
+        self.left.highest_within(wanted)
+    }
+
+    // How many nodes stand on one another, this one and those below.
+    #[inline]
+    fn height(&self) -> u8
+        requires balanced { IsBalanced 1 self.now }
+        requires fits { node_height self.now < 2 ^ 8 }
+        ensures is { result ≡ node_height self.now }
+        ensures low { IsLow (node_spans self.now) (node_height self.now) }
+    {
+        self.left.height().max(self.right.height()) + 1
+    }
+
+    // The most room between two neighbours.
+    #[inline]
+    fn room(&self) -> u32
+        requires { IsBalanced 1 self.now }
+        ensures { result ≡ room_between (node_spans self.now) }
+    {
+        let between = self.left.room().max(self.right.room());
+        let below = self.left.room_below(self.lo, between);
+        self.right.room_after(self.end, below)
+    }
+
+    // Where the lowest range begins.
+    #[inline]
+    fn first(&self) -> u64
+        ensures { result ≡ first_lo (node_spans self.now) }
+    {
+        self.left.first_or(self.lo)
+    }
+
+    // Where the highest range ends.
+    #[inline]
+    fn last_end(&self) -> u64
+        ensures { result ≡ end_after 0 (node_spans self.now) }
+    {
+        self.right.end_or(self.end)
+    }
 }
 
 /// Gives a node other frames, from `lo` on and below `end`.
@@ -451,36 +535,6 @@ pub fn stretch(node: &mut Box<Node>, lo: u64, end: u64)
     node.end = end;
 }
 
-#[inline]
-fn summary_of(node: &Node) -> Summary
-    requires balanced { IsBalanced 1 node.now }
-    requires height_fits { node_height node.now < 2 ^ 32 }
-    ensures is { result ≡ node_summary node.now }
-    ensures low { IsLow (node_spans node.now) (node_height node.now) }
-{
-    let between = node.left.room().max(node.right.room());
-    let below = node.left.room_below(node.lo, between);
-    let room = node.right.room_after(node.end, below);
-    summary_with(node, room)
-}
-
-// The summary of a node whose room is known.
-#[inline]
-fn summary_with(node: &Node, room: u32) -> Summary
-    requires balanced { IsBalanced 1 node.now }
-    requires height_fits { node_height node.now < 2 ^ 32 }
-    requires room { room ≡ room_between (node_spans node.now) }
-    ensures is { result ≡ node_summary node.now }
-    ensures low { IsLow (node_spans node.now) (node_height node.now) }
-{
-    Summary {
-        first: node.left.first_or(node.lo),
-        end: node.right.end_or(node.end),
-        room,
-        height: node.left.height().max(node.right.height()) + 1,
-    }
-}
-
 // Adds a node on one side; tells whether the room or the height of this node has changed.
 #[cycle(place)]
 #[inline]
@@ -488,7 +542,7 @@ fn place_below(node: &mut Node, fresh: Box<Node>) -> bool
     requires single { IsSingle fresh.value }
     requires free { IsRisingFrom 0 (with_span (own_span fresh.value) (node_spans node.old)) }
     requires balanced { IsBalanced 1 node.old }
-    requires height_fits { node_height node.old < 2 ^ 31 }
+    requires height_fits { node_height node.old < 2 ^ 7 }
     ensures placed { PlacesBelow (own_span fresh.value) node.old node.new }
     ensures same { result ≡ false → HasSameSummary node.old node.new }
 {
@@ -501,13 +555,29 @@ fn place_below(node: &mut Node, fresh: Box<Node>) -> bool
     }
 }
 
+// Takes the lowest range's node out of the lower side, where there is one.
+#[cycle(take_first)]
+#[inline]
+fn take_first_below(node: &mut Node) -> Option<Box<Node>>
+    requires balanced { IsBalanced 1 node.old }
+    requires height_fits { node_height node.old < 2 ^ 7 }
+    ensures some { IfSome result (λ first. TakesFirst first.value node.old node.new) }
+    ensures none { IfNone result ((node.new ≡ node.old) × (node.old.left ≡ ([], 0))) }
+{
+    if node.left.is_empty() {
+        None
+    } else {
+        Some(node.left.take_first())
+    }
+}
+
 // Takes a node out of one side; tells whether the room or the height of this node has changed.
 #[cycle(take)]
 #[inline]
 fn take_below(node: &mut Node, lo: u64) -> (Box<Node>, bool)
     requires held { Holds lo (node_spans node.old) }
     requires elsewhere { node.old.lo ≡ lo → ⊥ }
-    requires height_fits { node_height node.old < 2 ^ 31 }
+    requires height_fits { node_height node.old < 2 ^ 7 }
     requires balanced { IsBalanced 1 node.old }
     ensures begins { result.0.value.lo ≡ lo }
     ensures single { IsSingle result.0.value }
@@ -529,7 +599,7 @@ fn take_below(node: &mut Node, lo: u64) -> (Box<Node>, bool)
 #[inline(never)]
 fn take_sides(node: &mut Box<Node>) -> Subtree
     requires balanced { IsBalanced 1 node.old.value }
-    requires height_fits { node_height node.old.value < 2 ^ 31 }
+    requires height_fits { node_height node.old.value < 2 ^ 7 }
     ensures rest { node.new.value ≡ record node.old.value { left = ([], 0); right = ([], 0) } }
     ensures spans { result.0 ≡ node.old.value.left.0 ++ node.old.value.right.0 }
     ensures height { IsHeightOfBoth node.old.value.left.1 node.old.value.right.1 result.1 }
@@ -543,7 +613,7 @@ fn take_sides(node: &mut Box<Node>) -> Subtree
 fn join(left: Subtree, mut right: Subtree) -> Subtree
     requires rising { IsRisingFrom 0 (left.0 ++ right.0) }
     requires level { DifferByAtMost 1 left.1 right.1 }
-    requires height_fits { max left.1 right.1 < 2 ^ 31 }
+    requires height_fits { max left.1 right.1 < 2 ^ 7 }
     ensures spans { result.0 ≡ left.0 ++ right.0 }
     ensures height { IsHeightOfBoth left.1 right.1 result.1 }
 {
@@ -557,28 +627,42 @@ fn join(left: Subtree, mut right: Subtree) -> Subtree
     Subtree::of(next)
 }
 
-// Balances a node, and renews what its link knows of it; tells whether room or height are others.
+// Balances the node at the root, and renews what the link knows; tells whether the room or the
+// height has changed.
 #[inline(never)]
-fn renew(node: &mut Box<Node>, summary: &mut Summary) -> bool
-    requires balanced { IsBalanced 2 node.old.value }
-    requires height_fits { node_height node.old.value < 2 ^ 31 + 2 }
-    ensures rebalances { Rebalances node.old.value node.new.value }
-    ensures is { summary.new ≡ node_summary node.new.value }
-    ensures low { IsLow (node_spans node.new.value) (node_height node.new.value) }
-    ensures same { result ≡ false → (summary.new.height ≡ summary.old.height)
-        × (summary.new.room ≡ summary.old.room) }
+fn renew(link: &mut Link) -> bool
+    requires { IsUnsettled link.old }
+    ensures kept { IsSubtree link.new }
+    ensures spans { link_spans link.new ≡ link_spans link.old }
+    ensures height { IsSettledHeight link.old (link_height link.new) }
+    ensures same { result ≡ false → (link_height link.new ≡ link_height link.old)
+        × (link_room link.new ≡ link_room link.old) }
 {
-    rebalance(node);
-    let new = summary_of(node);
-    let changed = new.room != summary.room || new.height != summary.height;
-    *summary = new;
+    let Link::Rooted {
+        height,
+        room,
+        first,
+        end,
+        root,
+    } = link
+    else {
+        unreachable!()
+    };
+    rebalance(root);
+    let new_height = root.height();
+    let new_room = root.room();
+    let changed = new_room != *room || new_height != *height;
+    *height = new_height;
+    *room = new_room;
+    *first = root.first();
+    *end = root.last_end();
     changed
 }
 
 // Makes the heights of the sides differ by at most one.
 fn rebalance(node: &mut Box<Node>)
     requires balanced { IsBalanced 2 node.old.value }
-    requires height_fits { node_height node.old.value < 2 ^ 31 + 2 }
+    requires height_fits { node_height node.old.value < 2 ^ 7 + 2 }
     ensures { Rebalances node.old.value node.new.value }
 {
     if node.left.height() > node.right.height() + 1 {
@@ -592,7 +676,7 @@ fn rebalance(node: &mut Box<Node>)
 fn lean_left(node: &mut Box<Node>)
     requires balanced { IsBalanced 2 node.old.value }
     requires higher { node.old.value.left.1 ≡ node.old.value.right.1 + 2 }
-    requires height_fits { node_height node.old.value < 2 ^ 31 + 2 }
+    requires height_fits { node_height node.old.value < 2 ^ 7 + 2 }
     ensures { Rebalances node.old.value node.new.value }
 {
     let Some(mut left) = take_left(node).open() else {
@@ -621,7 +705,7 @@ fn lean_left(node: &mut Box<Node>)
 fn lean_right(node: &mut Box<Node>)
     requires balanced { IsBalanced 2 node.old.value }
     requires higher { node.old.value.right.1 ≡ node.old.value.left.1 + 2 }
-    requires height_fits { node_height node.old.value < 2 ^ 31 + 2 }
+    requires height_fits { node_height node.old.value < 2 ^ 7 + 2 }
     ensures { Rebalances node.old.value node.new.value }
 {
     let Some(mut right) = take_right(node).open() else {

@@ -1,33 +1,21 @@
-use Rattle.std.proofs.Common.{◌≡◌, sym, ap, ◌∙◌, arith}
+use Rattle.std.proofs.Common.{sym, ◌∙◌, arith}
 use Rattle.std.proofs.lemmas.Bool.Decides.{nat_tests}
-use Rattle.iova_tree.specs.Node.{node_spans}
-use Rattle.iova_tree.specs.Spans.{room_between}
 use Rattle.iova_tree.proofs.Root.{at_root}
 use Rattle.iova_tree.proofs.Placed.{free_left, free_right, places_left, places_right, same_left, same_right}
 use Rattle.iova_tree.proofs.subtree.+place.Goals as goal
 
-pub Subtree::place-invariant_of-self-then-not-place_below : goal.Subtree::place-invariant_of-self-then-not-place_below
-Subtree::place-invariant_of-self-then-not-place_below t c =
-    let p = c.place_below.ensures.same (cc) in
-    let e = rw c.deref-then-not-place_below.ensures at c.summary_with-self-inside.ensures in
-    record { balanced = p.balanced; summary = e.is; low = e.low }
-
-pub Subtree::place-summary_with-self-inside-requires : goal.Subtree::place-summary_with-self-inside-requires
-Subtree::place-summary_with-self-inside-requires t c =
-    let f = at_root c.self.view_is c.self.invariant c.in-Some.is in
+pub Subtree::place-invariant_of-self-2 : goal.Subtree::place-invariant_of-self-2
+Subtree::place-invariant_of-self-2 t c =
+    let f = at_root c.self.view_is c.self.invariant c.in-Rooted.is in
     let p = rw c.deref_mut.ensures.value at (c.place_below.ensures.same (cc)) in
-    let room : c.self.inside.summary.room ≡ room_between (node_spans c.in-Some.node.value) = ap (λ z. z.room) f.summary in
-    rw c.deref-then-not-place_below.ensures (record {
+    record {
       balanced = p.balanced;
-      height_fits = rw p.height (omega (arith, f.height, c.requires.height_fits));
-      room = room ∙ sym p.room;
-    })
-
-pub Subtree::place-returns-clause-not_lower : goal.Subtree::place-returns-clause-not_lower
-Subtree::place-returns-clause-not_lower t c =
-    let f = at_root c.self.view_is c.self.invariant c.in-Some.is in
-    let s = c.place_below.ensures.placed.settles _ c.renew.ensures.rebalances.height in
-    grind (arith, s, f.height, c.renew.ensures.is)
+      height_is = f.summary.height_is ∙ sym p.height;
+      room_is = f.summary.room_is ∙ sym p.room;
+      first_is = cc;
+      end_is = cc;
+      low = rw c.deref.ensures at c.height-height.ensures.low;
+    }
 
 pub place_below-place-requires : goal.place_below-place-requires
 place_below-place-requires t c = (grind arith, (c.requires.single, (free_left _ c.args.node.now (grind arith) c.requires.free, grind arith)))

@@ -1,28 +1,23 @@
 use Rattle.std.proofs.Common.{◌≡◌, ◌++◌, sym, ap, ◌∙◌, arith}
 use Rattle.std.proofs.lemmas.Bool.Decides.{nat_tests}
-use Rattle.iova_tree.specs.Node.{own_span, node_spans, root_spans}
-use Rattle.iova_tree.specs.Spans.{room_between}
+use Rattle.iova_tree.specs.Node.{own_span, link_spans}
 use Rattle.iova_tree.proofs.Root.{at_root}
 use Rattle.iova_tree.proofs.Taken.{held_left, held_right, rising-less, takes_left, takes_right, kept_left, kept_right, with_middle}
 use Rattle.iova_tree.proofs.subtree.+take.Goals.{take_below-then-deep, take_below-else-deep, take_below-then-deep-2, take_below-else-deep-2}
 use Rattle.iova_tree.proofs.subtree.+take.Goals as goal
 
-pub Subtree::take-invariant_of-self-then-not-deep : goal.Subtree::take-invariant_of-self-then-not-deep
-Subtree::take-invariant_of-self-then-not-deep t c =
-    let p = c.take_below-own.ensures.same (cc) in
-    let e = rw c.deref-then-not-deep.ensures at c.summary_with-self-inside.ensures in
-    record { balanced = p.balanced; summary = e.is; low = e.low }
-
-pub Subtree::take-summary_with-self-inside-requires : goal.Subtree::take-summary_with-self-inside-requires
-Subtree::take-summary_with-self-inside-requires t c =
-    let f = at_root c.self.view_is c.self.invariant c.in-Some.is in
+pub Subtree::take-invariant_of-self-2 : goal.Subtree::take-invariant_of-self-2
+Subtree::take-invariant_of-self-2 t c =
+    let f = at_root c.self.view_is c.self.invariant c.in-Rooted.is in
     let p = rw c.deref_mut.ensures.value at (c.take_below-own.ensures.same (cc)) in
-    let room : c.self.inside.summary.room ≡ room_between (node_spans c.in-Some.node.value) = ap (λ z. z.room) f.summary in
-    rw c.deref-then-not-deep.ensures (record {
+    record {
       balanced = p.balanced;
-      height_fits = rw p.height (omega (arith, f.height, c.requires.height_fits));
-      room = room ∙ sym p.room;
-    })
+      height_is = f.summary.height_is ∙ sym p.height;
+      room_is = f.summary.room_is ∙ sym p.room;
+      first_is = cc;
+      end_is = cc;
+      low = rw c.deref-2.ensures at c.height-height.ensures.low;
+    }
 
 pub take_below-take-gone-requires : goal.take_below-take-gone-requires
 take_below-take-gone-requires t c =
@@ -68,10 +63,10 @@ take_below-returns-after-deep-2-clause-same t c = λ h.
 
 pub Subtree::take-returns-then-deref-lo-clause-taken : goal.Subtree::take-returns-then-deref-lo-clause-taken
 Subtree::take-returns-then-deref-lo-clause-taken t c =
-    let f = at_root c.self.view_is c.self.invariant c.in-Some.is in
-    let n = c.in-Some.node.value in
-    let m = with_middle 0 n.left.0 (own_span n) n.right.0 f.balanced.rising in
+    let f = at_root c.self.view_is c.self.invariant c.in-Rooted.is in
+    let n = c.in-Rooted.root.value in
+    let m = with_middle 0 n.left.0 (own_span n) n.right.0 f.summary.balanced.rising in
     let e = c.take_sides.ensures in
-    let sides : root_spans c.replace.new.dest ≡ n.left.0 ++ n.right.0 = rw c.replace.ensures.after (ap (λ d. d.0) c.root.view_is ∙ e.spans) in
-    let own : c.in-Some-replace.own ≡ c.take_sides.new.node = cc (c.replace.ensures.value, c.in-Some-replace.is) in
+    let sides : link_spans c.replace.new.dest ≡ n.left.0 ++ n.right.0 = rw c.replace.ensures.after (ap (λ d. d.0) c.link.view_is ∙ e.spans) in
+    let own : c.in-Rooted-replace.own ≡ c.take_sides.new.node = cc (c.replace.ensures.value, c.in-Rooted-replace.is) in
     rw (f.spans, sides, own, e.rest) (sym m)

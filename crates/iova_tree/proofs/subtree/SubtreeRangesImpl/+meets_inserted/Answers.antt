@@ -2,29 +2,27 @@ use Rattle.std.proofs.Common.{◌≡◌, ◌-◌, ◌∷◌, ◌||◌, Bool, tru
 use Rattle.iova_range.specs.Frames.{Frames}
 use Rattle.iova_tree.specs.Node.{own_span}
 use Rattle.iova_tree.proofs.Root.{at_root}
-use Rattle.iova_tree.proofs.Searches.{told, told_end}
 use Rattle.iova_tree.proofs.Spans.{rising-back}
 use Rattle.iova_tree.proofs.Allocated.{none_meets_below, none_meets_above, meets_middle}
 use Rattle.iova_tree.proofs.subtree.SubtreeRangesImpl.+meets_inserted.Goals as goal
 
-pub returns-then-self-lo : goal.returns-then-self-lo
-returns-then-self-lo t c =
+pub returns-then-last_end-lo : goal.returns-then-last_end-lo
+returns-then-last_end-lo t c =
     let a : Frames = record { lo = c.args.lo; len = c.args.end - c.args.lo } in
-    let f = told _ _ c.args.self.now c.self.view_is c.self.invariant in
-    let e = told_end _ _ c.args.self.now c.self.view_is c.self.invariant in
-    sym (none_meets_below false 0 a c.args.self.now.0 f.rising (omega (arith, e, c.if-self-lo.true)))
+    let f = at_root c.self.view_is c.self.invariant c.in-Rooted.is in
+    rw f.spans (sym (none_meets_below false 0 a _ f.summary.balanced.rising (omega (arith, f.summary.end_is, c.if-last_end-lo.true))))
 
-pub returns-then-end-self : goal.returns-then-end-self
-returns-then-end-self t c =
+pub returns-then-end-first : goal.returns-then-end-first
+returns-then-end-first t c =
     let a : Frames = record { lo = c.args.lo; len = c.args.end - c.args.lo } in
-    let f = told _ _ c.args.self.now c.self.view_is c.self.invariant in
-    sym (none_meets_above false a c.args.self.now.0 f.rising (omega (arith, f.first, c.if-end-self.true, c.requires)))
+    let f = at_root c.self.view_is c.self.invariant c.in-Rooted.is in
+    rw f.spans (sym (none_meets_above false a _ f.summary.balanced.rising (omega (arith, f.summary.first_is, c.if-end-first.true, c.requires))))
 
 pub is_taken-requires : goal.is_taken-requires
 is_taken-requires t c =
-    let f = at_root c.self.view_is c.self.invariant c.in-Some.is in
-    let n = c.in-Some.node.value in
-    let back = rising-back 0 n.left.0 (own_span n ∷ n.right.0) f.balanced.rising in
+    let f = at_root c.self.view_is c.self.invariant c.in-Rooted.is in
+    let n = c.in-Rooted.root.value in
+    let back = rising-back 0 n.left.0 (own_span n ∷ n.right.0) f.summary.balanced.rising in
     rw c.deref-node.ensures (record { own = back.1; asked = c.requires })
 
 or_middle : (a b c : Bool) → b ≡ true → true ≡ (a || (b || c))
@@ -34,24 +32,24 @@ or_middle false b c e = sym (rw e refl)
 pub returns-then-is_taken : goal.returns-then-is_taken
 returns-then-is_taken t c =
     let a : Frames = record { lo = c.args.lo; len = c.args.end - c.args.lo } in
-    let f = at_root c.self.view_is c.self.invariant c.in-Some.is in
-    let n = c.in-Some.node.value in
+    let f = at_root c.self.view_is c.self.invariant c.in-Rooted.is in
+    let n = c.in-Rooted.root.value in
     let taken = rw c.deref-node.ensures at (sym c.is_taken.ensures ∙ c.if-is_taken.true) in
     rw f.spans (or_middle _ _ _ taken ∙ sym (meets_middle false a n.left.0 (own_span n) n.right.0))
 
 pub returns-then-meets_inserted : goal.returns-then-meets_inserted
 returns-then-meets_inserted t c =
     let a : Frames = record { lo = c.args.lo; len = c.args.end - c.args.lo } in
-    let f = at_root c.self.view_is c.self.invariant c.in-Some.is in
-    let n = c.in-Some.node.value in
+    let f = at_root c.self.view_is c.self.invariant c.in-Rooted.is in
+    let n = c.in-Rooted.root.value in
     let left = rw c.deref-node.ensures at (sym c.meets_inserted.ensures ∙ c.if-meets_inserted.true) in
     rw (f.spans, meets_middle false a n.left.0 (own_span n) n.right.0, left) c.if-meets_inserted.true
 
 pub returns-else-meets_inserted : goal.returns-else-meets_inserted
 returns-else-meets_inserted t c =
     let a : Frames = record { lo = c.args.lo; len = c.args.end - c.args.lo } in
-    let f = at_root c.self.view_is c.self.invariant c.in-Some.is in
-    let n = c.in-Some.node.value in
+    let f = at_root c.self.view_is c.self.invariant c.in-Rooted.is in
+    let n = c.in-Rooted.root.value in
     let left = rw c.deref-node.ensures at (sym c.meets_inserted.ensures ∙ c.if-meets_inserted.false) in
     let own = rw c.deref-node.ensures at (sym c.is_taken.ensures ∙ c.if-is_taken.false) in
     let right = rw c.deref-node.ensures at c.meets_inserted-else-meets_inserted.ensures in
