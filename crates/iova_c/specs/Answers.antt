@@ -1,5 +1,5 @@
 -- What C is answered, of each reply.
-use Rattle.std.specs.Prelude.{ℕ, ◌*◌, ◌^◌, ◌<◌}
+use Rattle.std.specs.Prelude.{ℕ, ◌*◌, ◌^◌, ◌<◌, ◌==◌, if◌then◌else◌}
 use Rattle.iova_model.specs.declared.step.Reply.{Reply}
 use Rattle.iova_model.specs.declared.step.Reply.TheVariants as reply
 use Rattle.iova_range.specs.Refusals.{refusal_number}
@@ -21,6 +21,12 @@ range_answer (reply.Begun number) = record { refused = 0; lo = 0; len = 0 }
 range_answer reply.Ended = record { refused = 0; lo = 0; len = 0 }
 range_answer (reply.Drained number) = record { refused = 0; lo = 0; len = 0 }
 range_answer (reply.Marked number) = record { refused = 0; lo = 0; len = 0 }
+
+-- an answer of a range from two numbers: a length of 0 has a refusal's number before it
+abbrev pub unpacked : ℕ × ℕ → RangeAnswer
+unpacked (first, len) =
+    if len == 0 then record { refused = first; lo = 0; len = 0 }
+    else record { refused = 0; lo = first; len = len }
 
 -- the number of a reply, 0 where it has none
 abbrev pub number_answer : Reply → NumberAnswer

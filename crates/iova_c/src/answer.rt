@@ -2,7 +2,7 @@
 //! then all others are 0.
 ghost use Rattle.std.specs.Prelude.{◌≡◌, ◌≤◌, ◌*◌, ◌+◌, ◌^◌};
 ghost use Rattle.iova_range.specs.Refusals.{refusal_number};
-ghost use Rattle.iova_c.specs.Answers.{range_answer, number_answer, word_answer, mapping_answer, HasAddresses};
+ghost use Rattle.iova_c.specs.Answers.{range_answer, unpacked, number_answer, word_answer, mapping_answer, HasAddresses};
 
 use crate::bytes::FRAME_BYTES;
 use iova_core::Reply;
@@ -152,6 +152,46 @@ pub fn of_range(reply: Reply) -> RangeAnswer
             lo: 0,
             len: 0,
         },
+    }
+}
+
+/// What `of_range` answers, in two numbers: the first frame and how many there are, or the number of
+/// the refusal and 0.
+pub fn pack(reply: Reply) -> (u64, u64)
+    ensures { unpacked result ≡ range_answer reply }
+{
+    match reply {
+        Reply::Reserved(range) | Reply::Given(range) | Reply::Queued(range) => {
+            (range.lo(), range.len())
+        }
+        Reply::Refused(refusal) => (number_of(refusal), 0),
+        Reply::Opened(_)
+        | Reply::Empty
+        | Reply::Begun(_)
+        | Reply::Ended
+        | Reply::Drained(_)
+        | Reply::Marked(_) => (0, 0),
+    }
+}
+
+/// What was packed.
+#[inline(always)]
+pub fn unpack(packed: (u64, u64)) -> RangeAnswer
+    ensures { result ≡ unpacked packed }
+{
+    let (first, len) = packed;
+    if len == 0 {
+        RangeAnswer {
+            refused: first,
+            lo: 0,
+            len: 0,
+        }
+    } else {
+        RangeAnswer {
+            refused: 0,
+            lo: first,
+            len,
+        }
     }
 }
 

@@ -1,8 +1,9 @@
 //! The nine steps of a slot's domain, in numbers.
 ghost use Rattle.std.specs.Prelude.{◌≡◌, ◌≢◌};
+ghost use Rattle.iova_c.specs.Answers.{unpacked};
 ghost use Rattle.iova_c.specs.Slots.{is_set, RangeStep, NumberStep, WordStep};
 
-use crate::answer::{NumberAnswer, RangeAnswer, of_number, of_range, of_word};
+use crate::answer::{NumberAnswer, RangeAnswer, of_number, of_range, of_word, pack, unpack};
 use crate::slot::{Slot, queues_at_once, step, step_elsewhere};
 use iova_core::Step;
 
@@ -40,16 +41,18 @@ pub fn unmap(slot: &mut Slot, worker: u64, client: u64, lo: u64) -> RangeAnswer
     if queues_at_once(slot, worker, client, lo) {
         of_range(step(slot, Step::Unmap { worker, client, lo }))
     } else {
-        unmap_elsewhere(slot, worker, client, lo)
+        unpack(unmap_elsewhere(slot, worker, client, lo))
     }
 }
 
-/// Out of line, so that the caller has no room for a reply, and nothing to keep.
+/// Out of line and answered in two registers, so that the caller has no room for a reply, and
+/// nothing to keep.
 #[inline(never)]
-fn unmap_elsewhere(slot: &mut Slot, worker: u64, client: u64, lo: u64) -> RangeAnswer
-    ensures { RangeStep slot.old.domain (Step.Unmap worker client lo) result slot.new.domain }
+fn unmap_elsewhere(slot: &mut Slot, worker: u64, client: u64, lo: u64) -> (u64, u64)
+    ensures { RangeStep slot.old.domain (Step.Unmap worker client lo) (unpacked result)
+        slot.new.domain }
 {
-    of_range(step_elsewhere(slot, Step::Unmap { worker, client, lo }))
+    pack(step_elsewhere(slot, Step::Unmap { worker, client, lo }))
 }
 
 pub fn begin(slot: &mut Slot) -> NumberAnswer

@@ -123,6 +123,12 @@ reach_all lo last rs x rises long le = record {
   behind = λ k d ge lt. absurd (omega arith);
 }
 
+pub reach_first : (lo : ℕ) (rs : List Frames) (x : Frames) → Rises 0 rs → lo < (get_or rs 0 x).lo → IsReach lo rs 0
+reach_first lo rs x rises above = record {
+  before = λ k d lt. absurd (omega arith);
+  behind = behind_one lo 0 rs x rises above;
+}
+
 pub insert_at_reach : (r : Frames) (rs : List Frames) (i : ℕ) → i ≤ length rs → IsReach r.lo rs i → insert rs i r ≡ insert_rising r rs
 insert_at_reach r rs i le h = insert_at_point r rs i le (
   (λ k d low high. let e : (get_or rs k d).lo ≤ r.lo = h.before k d high in grind (arith, nat_tests)),

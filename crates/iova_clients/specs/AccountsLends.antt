@@ -5,7 +5,7 @@ use Rattle.std.specs.Map.{set_value}
 use Rattle.iova_clients.specs.Registry.{is_serial}
 use Rattle.iova_clients.specs.Accounts.{Account}
 use Rattle.iova_clients.specs.contracts.ledgers.Ledgers.{the_row}
-use Rattle.iova_clients.specs.contracts.ledger.Ledger.{the_row as ledger_row}
+use Rattle.iova_clients.specs.contracts.ledger.ClientLedger.{the_row as ledger_row}
 
 -- once the borrow ends, the serial has the last account written through it
 abbrev pub LendsLedger : MutBor (List (ℕ × Account)) → ℕ → Option (MutBor Account) → Fml

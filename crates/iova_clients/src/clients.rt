@@ -5,7 +5,7 @@ ghost use Rattle.iova_model.specs.Clients.{new_client, client_with, client_of, b
 ghost use Rattle.iova_clients.specs.Registry.{empty_registry, spare_of, IsRegistry, open_refusal, room_refusal, CanBeGiven, held_at, lowest, count_held, flags_of, CanBeForgotten, IsHolder};
 
 use crate::flags::ClientFlags;
-use crate::ledger::Ledger;
+use crate::ledger::ClientLedger;
 use crate::ledgers::Ledgers;
 use crate::sums::Sums;
 use iova_model::step::ClientId;
@@ -96,7 +96,7 @@ impl Clients {
             return Err(Refusal::ClientsFull);
         }
         let id = self.serial + 1;
-        self.ledgers.push(id, Ledger::new(self.alloc, worker, sac))?;
+        self.ledgers.push(id, ClientLedger::new(self.alloc, worker, sac))?;
         self.serial = id;
         Ok(id)
     }

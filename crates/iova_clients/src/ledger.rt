@@ -15,14 +15,14 @@ use std::marker::Model;
 
 /// What is kept of a client, besides its serial. The holdings rise by first frame.
 #[derive(Drop)]
-pub(crate) struct Ledger {
+pub(crate) struct ClientLedger {
     worker: u64,
     sac: bool,
     closing: bool,
     holdings: Holdings,
 }
 
-impl Model for Ledger {
+impl Model for ClientLedger {
     ghost use Rattle.iova_clients.specs.Accounts.{Account};
 
     ghost Value = { Account };
@@ -54,8 +54,8 @@ fn reach_at_most(holdings: &[Range], lo: u64) -> usize
     end.min(holdings.len())
 }
 
-impl Ledger {
-    pub(crate) fn new(alloc: Global, worker: u64, sac: bool) -> Ledger
+impl ClientLedger {
+    pub(crate) fn new(alloc: Global, worker: u64, sac: bool) -> ClientLedger
         ensures { result ≡ record {
           worker = worker;
           sac = sac;
@@ -64,7 +64,7 @@ impl Ledger {
           spare = 0;
         } }
     {
-        Ledger {
+        ClientLedger {
             worker,
             sac,
             closing: false,
@@ -165,7 +165,8 @@ impl Ledger {
         holdings[..reach_at_most(holdings, lo)].partition_point(|held| held.lo() <= lo)
     }
 
-    /// How many holdings begin there or below. The last is looked at before they are searched.
+    /// How many holdings begin there or below. The last and the first are looked at before they are
+    /// searched.
     #[inline(always)]
     fn reach(&self, lo: u64) -> usize
         requires { Rises 0 self.now.holdings }
@@ -176,6 +177,9 @@ impl Ledger {
         let count = holdings.len();
         if count == 0 || holdings[count - 1].lo() <= lo {
             return count;
+        }
+        if lo < holdings[0].lo() {
+            return 0;
         }
         self.search(lo)
     }

@@ -8,7 +8,7 @@ ghost use Rattle.iova_model.specs.Fit.{is_covered};
 ghost use Rattle.iova_clients.specs.Registry.{is_serial};
 ghost use Rattle.iova_clients.specs.Accounts.{IsRemembered, is_newer_entry};
 
-use crate::ledger::Ledger;
+use crate::ledger::ClientLedger;
 use iova_range::refusal::Refusal;
 use slab::Slab;
 use std::alloc::Global;
@@ -19,7 +19,7 @@ use std::marker::Model;
 /// sees.
 #[derive(Drop)]
 pub(crate) struct Ledgers {
-    slab: Slab<Ledger>,
+    slab: Slab<ClientLedger>,
     keys: BTreeMap<u64, usize>,
     /// The serial that was looked up last to change its ledger, with its key. Most steps speak of
     /// the client of the step before, and each part of a step of the same one.
@@ -83,7 +83,7 @@ impl Ledgers {
     }
 
     /// The ledger of this serial.
-    pub(crate) fn get(&self, id: u64) -> Option<&Ledger>
+    pub(crate) fn get(&self, id: u64) -> Option<&ClientLedger>
         ensures { option_copied result ≡ lookup (is_serial id) self.now }
     {
         let key = key_of(&self.keys, self.last, id)?;
@@ -92,7 +92,7 @@ impl Ledgers {
 
     /// The ledger of this serial, where it is the one that was looked up last.
     #[inline(always)]
-    pub(crate) fn last(&self, id: u64) -> Option<&Ledger> {
+    pub(crate) fn last(&self, id: u64) -> Option<&ClientLedger> {
         if let Some((serial, key)) = self.last
             && serial == id
         {
@@ -103,7 +103,7 @@ impl Ledgers {
 
     /// The same, to change it. Nothing is written where it was looked up last.
     #[inline(always)]
-    pub(crate) fn get_mut(&mut self, id: u64) -> Option<&mut Ledger>
+    pub(crate) fn get_mut(&mut self, id: u64) -> Option<&mut ClientLedger>
         ensures* writes_back { sem 𝓛 (LendsLedger self.entry id result) }
         ensures value { option_copied_mut result ≡ lookup (is_serial id) self.old }
     {
@@ -117,7 +117,7 @@ impl Ledgers {
     }
 
     /// A ledger comes in, under a serial above all others. Refused by `NoMemory`.
-    pub(crate) fn push(&mut self, id: u64, ledger: Ledger) -> Result<(), Refusal>
+    pub(crate) fn push(&mut self, id: u64, ledger: ClientLedger) -> Result<(), Refusal>
         requires { AllByRecursion (λ e. e.0 < id) self.old }
         ensures ok { OnOk result (self.new ≡ self.old ++ (id, ledger) ∷ []) }
         ensures refused { IsOkUnless result Refusal.NoMemory }
@@ -136,7 +136,7 @@ impl Ledgers {
     }
 
     /// The ledger of this serial leaves.
-    pub(crate) fn remove(&mut self, id: u64) -> Option<Ledger>
+    pub(crate) fn remove(&mut self, id: u64) -> Option<ClientLedger>
         ensures value { result ≡ lookup (is_serial id) self.old }
         ensures left { self.new ≡ remove_entry (is_serial id) self.old }
     {

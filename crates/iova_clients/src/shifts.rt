@@ -61,7 +61,7 @@ pub(crate) fn insert_low(cells: &mut [Range], place: usize, range: Range)
     ensures { cells.new ≡ insert (drop 1 cells.old) place range }
 {
     let moved = &mut cells[..place + 1];
-    moved.rotate_left(1);
+    turn_down(moved);
     moved[place] = range;
 }
 

@@ -1,10 +1,11 @@
 -- A request, from what its calls say to what the definitions say.
-use Rattle.std.proofs.Common.{ℕ, ◌≡◌, ◌≢◌, ◌+◌, ◌^◌, ◌==◌, ◌<◌, ◌≤◌, Bool, true, false, cond, List, [], ◌∷◌, Some, None, refl, sym, ap, ◌∙◌, subst, arith, length, find, sum_by}
+use Rattle.std.proofs.Common.{ℕ, ◌≡◌, ◌≢◌, ◌⊎◌, inl, inr, ◌+◌, ◌^◌, ◌==◌, ◌<◌, ◌≤◌, Bool, true, false, cond, List, [], ◌∷◌, Some, None, refl, sym, ap, ◌∙◌, subst, arith, length, find, sum_by}
 use Rattle.std.specs.Prelude.{nat_le, nat_lt, option_map, IsSomeAnd}
 use Rattle.std.proofs.lemmas.Bool.Decides.{nat_tests}
 use Rattle.iova_range.specs.Frames.{Frames}
 use Rattle.iova_range.specs.Bounds.{Extent}
 use Rattle.iova_range.specs.Sizes.{need}
+use Rattle.iova_range.specs.declared.refusal.Refusal.{Refusal}
 use Rattle.iova_range.specs.declared.refusal.Refusal.TheVariants as refusal
 use Rattle.iova_model.specs.declared.step.Step.TheVariants as step
 use Rattle.iova_model.specs.declared.step.Point.{Point}
@@ -13,6 +14,7 @@ use Rattle.iova_model.specs.Clients.{Client, client_with, client_of, change_clie
 use Rattle.iova_model.specs.Laws.{StepsKeepValidity}
 use Rattle.iova_model.specs.State.{State}
 use Rattle.iova_model.specs.Valid.{IsValid}
+use Rattle.iova_model.specs.Next.{Next}
 use Rattle.iova_model.specs.Next as next
 use Rattle.iova_tree.specs.Space.{Space, RiseApart}
 use Rattle.iova_clients.specs.Registry.{Registry, room_refusal, CanBeGiven}
@@ -46,6 +48,30 @@ asked_from s w id frames known some few owner room =
     let one : (frames == 0) ≡ false = grind (arith, nat_tests) in
     let many : nat_lt 1048576 frames ≡ false = grind (arith, nat_tests) in
     (own.0, record { known = known; tests = rw (worker, one, many) refl; found = own.1.found; client = own.1.owned; room = rw own.1.found at room })
+
+starved_step : (s : State) (m : Point) (r : Refusal) (n : Next) (closing full : Bool)
+    → ((r ≡ refusal.NoMemory) × (next.first_refusal ((closing, refusal.Closing) ∷ (full, refusal.HoldingsFull) ∷ []) ≡ None)) ⊎ (next.first_refusal ((closing, refusal.Closing) ∷ (full, refusal.HoldingsFull) ∷ []) ≡ Some r)
+    → (r ≡ refusal.NoMemory → m ≡ point.Ledger)
+    → (next.unless ((closing, refusal.Closing) ∷ (full, refusal.HoldingsFull) ∷ (next.is_at point.Ledger m, refusal.NoMemory) ∷ []) s n).state ≡ s
+starved_step s m r n true full h memory = refl
+starved_step s m r n false true h memory = refl
+starved_step s m r n false false (inl h) memory = rw (memory h.0) refl
+starved_step s m r n false false (inr h) memory = absurd cc
+
+-- a request that finds no room in the ledger changes nothing
+pub starved_state : (s : State) (w id frames limit : ℕ) (m : Point) (r : Refusal) → w < s.workers → 1 ≤ frames → frames ≤ 1048576 → option_map (λ c. c.worker) (client_with id s.clients) ≡ Some w
+    → ((r ≡ refusal.NoMemory) × (room_refusal (client_with id s.clients) ≡ None)) ⊎ (room_refusal (client_with id s.clients) ≡ Some r) → (r ≡ refusal.NoMemory → m ≡ point.Ledger)
+    → (next.alloc s w id frames limit m).state ≡ s
+starved_state s w id frames limit m r known some few owner why memory =
+    let own = owner_is w (client_with id s.clients) owner in
+    let c = own.0 in
+    let worker : nat_le s.workers w ≡ false = grind (arith, nat_tests) in
+    let one : (frames == 0) ≡ false = grind (arith, nat_tests) in
+    let many : nat_lt 1048576 frames ≡ false = grind (arith, nat_tests) in
+    let n = next.give_from (next.walk s w c.sac (need frames) limit m) id (need frames) in
+    let refuses = rw own.1.found at why in
+    let state : (next.alloc_to (client_of w id s.clients) s w id (need frames) limit m).state ≡ s = rw own.1.owned (starved_step s m r n c.closing (nat_le 4096 (length c.holdings)) refuses memory) in
+    rw (worker, one, many) state
 
 not_full : (closing : Bool) (held : ℕ) → next.first_refusal ((closing, refusal.Closing) ∷ (nat_le 4096 held, refusal.HoldingsFull) ∷ []) ≡ None → held < 4096
 not_full true held h = absurd cc

@@ -11,6 +11,7 @@ mod Readers
 mod Reductions
 mod Reclaims
 mod Ties
+mod SmallSizes
 mod Tries
 mod Walks
 mod Windows

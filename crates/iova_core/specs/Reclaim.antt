@@ -1,9 +1,11 @@
 -- What a tree and the caches have together, and what a call moves between them and others.
-use Rattle.std.specs.Prelude.{ℕ, ◌≡◌, ◌+◌, ◌≤◌, List, sum_by}
+use Rattle.std.specs.Prelude.{ℕ, ◌≡◌, ◌+◌, ◌≤◌, List, [], ◌++◌, length, map, sum_by}
 use Rattle.iova_range.specs.Frames.{Frames}
 use Rattle.iova_range.specs.Sizes.{order_of}
 use Rattle.iova_model.specs.Caches.{put_range, put_all}
+use Rattle.iova_model.specs.declared.entry.Entry.{Entry}
 use Rattle.iova_model.specs.Effects.{cached_ranges}
+use Rattle.iova_model.specs.Flushes.{entry_range, flushed_front, unflushed_rest}
 use Rattle.iova_tree.specs.Space.{Space, IsSpace}
 use Rattle.iova_depot.specs.Cached.{Cached, IsCached, with_contents}
 
@@ -48,3 +50,14 @@ pub record Exchanges (tree tree' : Space) (caches caches' : Cached)
       (cached_ranges caches.caches) + sum_by weigh taken
       ≡ sum_by weigh tree.inserted + sum_by weigh (cached_ranges caches'.caches) + sum_by weigh
       given
+
+-- so many entries have gone from a ring to a worker's magazines, whose counts are below finish
+pub record IsDrained (tree tree' : Space) (c c' : Cached) (ring ring' : List Entry)
+    (w finish count : ℕ) : Type 0 where
+  pub out : List Entry
+  pub taken : ring ≡ out ++ ring'
+  pub flushed : flushed_front finish ring ≡ out ++ flushed_front finish ring'
+  pub left : unflushed_rest finish ring ≡ unflushed_rest finish ring'
+  pub counted : count ≡ length out
+  pub caches : c' ≡ with_ranges c w (map entry_range out)
+  pub exchange : Exchanges tree tree' c c' [] (map entry_range out)

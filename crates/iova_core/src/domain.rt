@@ -1,9 +1,9 @@
 //! A domain: its steps, one at a time and in runs, and its readers.
-ghost use Rattle.std.specs.Prelude.{◌≡◌, ◌≢◌, ◌≤◌, ◌<◌, ◌⊎◌, ◌^◌, ℕ, [], take, replicate, sum_by, find, length, Some, IfOk, OnOk, OnErr, IsErr, ◌↔◌, Err, option_map, option_copied};
+ghost use Rattle.std.specs.Prelude.{◌≡◌, ◌≢◌, ◌≤◌, ◌<◌, ◌⊎◌, ◌^◌, ℕ, [], take, replicate, sum_by, find, length, Some, IfOk, IfSome, OnOk, OnErr, IsErr, ◌↔◌, Err, option_map, option_copied};
 ghost use Rattle.iova_model.specs.Fit.{is_covered};
 ghost use Rattle.iova_model.specs.Clients.{Client, client_with, begins_at, newer_client, share_of, totals};
 ghost use Rattle.iova_range.specs.Frames.{covers};
-ghost use Rattle.iova_range.specs.Sizes.{need};
+ghost use Rattle.iova_range.specs.Sizes.{need, order_of};
 ghost use Rattle.iova_model.specs.State.{new_domain, counts, ring_holders, place_in};
 ghost use Rattle.iova_model.specs.Valid.{IsValid};
 ghost use Rattle.iova_model.specs.Promises.{Runs};
@@ -12,7 +12,7 @@ ghost use Rattle.iova_model.specs.Next.{next, reserve, open_client, alloc, unmap
 ghost use Rattle.iova_core.specs.Domain.{IsStepOf, place_inside, frames_in_rings};
 
 use crate::reclaim::{drain, drain_unless};
-use crate::walk::{Walked, is_at_hand, walk};
+use crate::walk::{Walked, is_at_hand, order_for, size_for, walk};
 use iova_clients::{ClientId, Clients};
 use iova_depot::caches::Caches;
 use iova_depot::spot::Spot;
@@ -27,10 +27,9 @@ use iova_model::place::{Counts, Place};
 use iova_model::step::{Point, Reply, Step};
 use iova_model::totals::Totals;
 use iova_range::bounds::Bounds;
-use iova_range::limits::{MAX_FRAMES, MAX_WORKERS};
+use iova_range::limits::{MAX_FRAMES, MAX_WORKERS, ORDERS};
 use iova_range::range::Range;
 use iova_range::refusal::Refusal;
-use iova_range::sizes::need;
 use iova_tree::tree::Tree;
 use std::alloc::Global;
 use std::marker::Model;
@@ -237,11 +236,12 @@ impl Domain {
         if frames > MAX_FRAMES {
             return refused(Refusal::TooBig);
         }
-        let size = need(frames);
-        if self.gives_at_once(worker, client, size, limit) {
-            self.alloc_here(worker, client, frames, size, limit)
+        let order = order_for(frames);
+        let size = size_for(frames, order);
+        if self.gives_at_once(worker, client, order, limit) {
+            self.alloc_here(worker, client, frames, size, order, limit)
         } else {
-            self.alloc_elsewhere(worker, client, frames, size, limit)
+            self.alloc_elsewhere(worker, client, frames, limit)
         }
     }
 
@@ -249,13 +249,18 @@ impl Domain {
     /// compiler then leaves out of `alloc_here` all that is called otherwise. Nothing is promised:
     /// either way the step is the same.
     #[inline(always)]
-    fn gives_at_once(&self, worker: u64, client: ClientId, size: u64, limit: u64) -> bool
+    fn gives_at_once(
+        &self,
+        worker: u64,
+        client: ClientId,
+        order: Option<u8>,
+        limit: u64,
+    ) -> bool
         requires worker { worker < self.now.workers }
-        requires some { 1 ≤ size }
-        requires bounded { size ≤ MAX_FRAMES }
+        requires order { IfSome order (λ order. order < ORDERS) }
     {
         match self.clients.sac_with_room(worker, client) {
-            Some(sac) => is_at_hand(&self.caches, worker as usize, sac, size, limit),
+            Some(sac) => is_at_hand(&self.caches, worker as usize, sac, order, limit),
             None => false,
         }
     }
@@ -267,23 +272,22 @@ impl Domain {
         worker: u64,
         client: ClientId,
         frames: u64,
-        size: u64,
         limit: u64,
     ) -> (Reply, Point)
         requires worker { worker < self.old.workers }
         requires some { 1 ≤ frames }
         requires bounded { frames ≤ MAX_FRAMES }
-        requires size { size ≡ need frames }
-        requires sized { 1 ≤ size }
-        requires fits { size ≤ MAX_FRAMES }
         ensures reply { result.0 ≡ (alloc self.old worker client frames limit result.1).reply }
         ensures state { self.new ≡ (alloc self.old worker client frames limit result.1).state }
         ensures point { result.1 ≢ Point.Never → result.0 ≡ Reply.Refused Refusal.NoMemory }
     {
-        self.alloc_here(worker, client, frames, size, limit)
+        let order = order_for(frames);
+        let size = size_for(frames, order);
+        self.alloc_here(worker, client, frames, size, order, limit)
     }
 
-    /// The step for `size` frames, for which the client asks by a number.
+    /// The step for `size` frames, which have this order or none, and for which the client asks by
+    /// a number.
     #[inline(always)]
     fn alloc_here(
         &mut self,
@@ -291,6 +295,7 @@ impl Domain {
         client: ClientId,
         frames: u64,
         size: u64,
+        order: Option<u8>,
         limit: u64,
     ) -> (Reply, Point)
         requires worker { worker < self.old.workers }
@@ -299,6 +304,7 @@ impl Domain {
         requires size { size ≡ need frames }
         requires sized { 1 ≤ size }
         requires fits { size ≤ MAX_FRAMES }
+        requires order { order ≡ order_of size }
         ensures reply { result.0 ≡ (alloc self.old worker client frames limit result.1).reply }
         ensures state { self.new ≡ (alloc self.old worker client frames limit result.1).state }
         ensures point { result.1 ≢ Point.Never → result.0 ≡ Reply.Refused Refusal.NoMemory }
@@ -318,6 +324,7 @@ impl Domain {
             worker as usize,
             flags.sac,
             size,
+            order,
             limit,
         ) {
             Walked::Placed(range) => (Reply::Given(self.clients.add(client, range)), Point::Never),
@@ -342,7 +349,7 @@ impl Domain {
     }
 
     /// Whether the client is that of the step before, its first holding begins there, and nothing
-    /// leaves the worker's ring. As for `alloc`, nothing is promised.
+    /// leaves the worker's ring. Nothing is promised: either way the step is the same.
     #[inline(always)]
     pub fn queues_at_once(&self, worker: u64, client: ClientId, lo: u64) -> bool {
         worker < self.workers()

@@ -1,15 +1,19 @@
 //! What goes back to a domain's tree and caches. The tree has all that is cached: a range that goes
 //! to a magazine stays in it, and is removed where it becomes free.
 
-ghost use Rattle.std.specs.Prelude.{◌≡◌, ◌≤◌, ◌<◌, ◌^◌, [], ◌∷◌, length, map, Some, IsTrue};
+ghost use Rattle.std.specs.Prelude.{◌≡◌, ◌≤◌, ◌<◌, ◌^◌, [], ◌∷◌, length, map, take, drop, Some, IsTrue};
+ghost use Rattle.std.specs.List.{AllByRecursion};
 ghost use Rattle.iova_range.specs.Sizes.{order_of};
 ghost use Rattle.iova_model.specs.Caches.{of_order, without_entries};
 ghost use Rattle.iova_model.specs.Flushes.{entry_range, flushed_front, unflushed_rest};
+ghost use Rattle.iova_model.specs.Valid.{IsRequestSizedEntry};
+ghost use Rattle.iova_flush.specs.Rings.{frame_count};
 ghost use Rattle.iova_tree.specs.Space.{IsSpace};
 ghost use Rattle.iova_depot.specs.Cached.{with_contents};
-ghost use Rattle.iova_core.specs.Reclaim.{HasAll, Frees, IsBacked, Exchanges, with_range, with_ranges};
+ghost use Rattle.iova_core.specs.Reclaim.{HasAll, Frees, IsBacked, IsDrained, Exchanges, with_range, with_ranges};
 
 use iova_depot::caches::Caches;
+use iova_flush::Entry;
 use iova_flush::ring::Ring;
 use iova_mag::magazine::Magazine;
 use iova_range::limits::{MAX_ENTRIES, MAX_FRAMES, ORDERS};
@@ -128,6 +132,36 @@ pub fn drain_unless(
     drain_flushed(tree, caches, ring, w, finish)
 }
 
+/// Puts the first entries of a row whose counts are below `finish` into the magazines of worker `w`,
+/// up to one that is not. It answers how many there were, and how many frames they have.
+#[inline]
+fn put_row(
+    tree: &mut Tree,
+    caches: &mut Caches,
+    row: &[Entry],
+    w: usize,
+    finish: u64,
+) -> (usize, u64)
+    requires worker { w < caches.old.workers }
+    requires room { length row.now ≤ MAX_ENTRIES }
+    requires sized { AllByRecursion IsRequestSizedEntry row.now }
+    requires backed { IsBacked tree.old caches.old (map entry_range row.now) }
+    ensures within { result.0 ≤ length row.now }
+    ensures frames { result.1 ≡ frame_count (take result.0 row.now) }
+    ensures drained { IsDrained tree.old tree.new caches.old caches.new row.now
+        (drop result.0 row.now) w finish result.0 }
+{
+    let mut count = 0;
+    let mut frames = 0;
+    while count < row.len() && row[count].count < finish {
+        let Entry { lo, len, .. } = row[count];
+        put_back(tree, caches, w, Range::new(lo, len));
+        frames += len;
+        count += 1;
+    }
+    (count, frames)
+}
+
 /// The same, where there is such an entry.
 #[inline(never)]
 fn drain_flushed(
@@ -151,6 +185,11 @@ fn drain_flushed(
     while let Some(entry) = ring.take_flushed(finish) {
         put_back(tree, caches, w, Range::new(entry.lo, entry.len));
         count += 1;
+        // those behind it that stand in a row leave the ring at once
+        let (row, _) = ring.as_slices();
+        let (taken, frames) = put_row(tree, caches, row, w, finish);
+        ring.drop_oldest(taken, frames);
+        count += taken as u64;
     }
     count
 }

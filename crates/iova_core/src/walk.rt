@@ -1,11 +1,11 @@
 //! The walk of a request: the caches, the tree, and the tree again once the caches are emptied.
 
-ghost use Rattle.std.specs.Prelude.{◌≡◌, ◌≢◌, ◌≤◌, ◌<◌, [], Bool, Some, IsTrue, IsFalse, IfSome, IfNone, OnSome};
+ghost use Rattle.std.specs.Prelude.{◌≡◌, ◌≢◌, ◌≤◌, ◌<◌, ◌^◌, [], Bool, Some, IsTrue, IsFalse, IfSome, IfNone, OnSome};
 ghost use Rattle.iova_model.specs.Fit.{best};
 ghost use Rattle.iova_model.specs.State.{State};
 ghost use Rattle.iova_model.specs.Next as next;
 ghost use Rattle.iova_model.specs.declared.step.Point.TheVariants.{First, Second};
-ghost use Rattle.iova_range.specs.Sizes.{order_of};
+ghost use Rattle.iova_range.specs.Sizes.{need, order_of};
 ghost use Rattle.iova_tree.specs.Space.{IsSpace, ranges_of};
 ghost use Rattle.iova_depot.specs.Cached.{IsCached, with_contents};
 ghost use Rattle.iova_core.specs.Reclaim.{IsBacked, Exchanges};
@@ -14,7 +14,7 @@ ghost use Rattle.iova_core.specs.Walk.{get_cached, Places, ArePartsOf, Comes, po
 use crate::reclaim::empty;
 use iova_depot::caches::Caches;
 use iova_model::step::Point;
-use iova_range::limits::{MAX_FRAMES, SAC_LIMIT};
+use iova_range::limits::{MAX_FRAMES, ORDERS, SAC_LIMIT};
 use iova_range::range::Range;
 use iova_range::sizes::order_of;
 use iova_tree::tree::Tree;
@@ -28,6 +28,42 @@ pub enum Walked {
     Nowhere,
     /// The growth at this point was refused.
     OutOfMemory(Point),
+}
+
+/// The most frames of a range that has an order.
+const MOST_CACHED: u64 = 1 << (ORDERS - 1);
+
+/// The order of what a request for `frames` frames is given, where it has one: `need(frames)` is a
+/// power of two up to 32 frames, and has no order above.
+#[inline(always)]
+pub fn order_for(frames: u64) -> Option<u8>
+    requires some { 1 ≤ frames }
+    requires bounded { frames ≤ MAX_FRAMES }
+    ensures is { result ≡ order_of (need frames) }
+    ensures order { IfSome result (λ order. (order < ORDERS) × (need frames ≡ 2 ^ order)) }
+    ensures none { IfNone result (need frames ≡ frames) }
+{
+    if frames > MOST_CACHED {
+        return None;
+    }
+    Some((64 - (frames - 1).leading_zeros()) as u8)
+}
+
+/// What a request for `frames` frames is given, whose order is that of `order_for`.
+#[inline(always)]
+pub fn size_for(frames: u64, order: Option<u8>) -> u64
+    requires some { 1 ≤ frames }
+    requires bounded { frames ≤ MAX_FRAMES }
+    requires order { IfSome order (λ order. (order < ORDERS) × (need frames ≡ 2 ^ order)) }
+    requires none { IfNone order (need frames ≡ frames) }
+    ensures is { result ≡ need frames }
+    ensures some { 1 ≤ result }
+    ensures bounded { result ≤ MAX_FRAMES }
+{
+    match order {
+        Some(order) => 1 << order,
+        None => frames,
+    }
 }
 
 /// Asks the caches of worker `w`.
@@ -62,12 +98,11 @@ fn first_limit(sac: bool, limit: u64) -> u64
 /// Whether the walk takes the newest entry of worker `w`'s loaded magazine, and comes to nothing
 /// else.
 #[inline(always)]
-pub fn is_at_hand(caches: &Caches, w: usize, sac: bool, size: u64, limit: u64) -> bool
+pub fn is_at_hand(caches: &Caches, w: usize, sac: bool, order: Option<u8>, limit: u64) -> bool
     requires worker { w < caches.now.workers }
-    requires some { 1 ≤ size }
-    requires bounded { size ≤ MAX_FRAMES }
+    requires order { IfSome order (λ order. order < ORDERS) }
 {
-    match order_of(size) {
+    match order {
         Some(order) => caches.gives_newest(w, order, first_limit(sac, limit)),
         None => false,
     }
@@ -76,10 +111,15 @@ pub fn is_at_hand(caches: &Caches, w: usize, sac: bool, size: u64, limit: u64) -
 /// Asks the caches of worker `w`, where the newest entry of its loaded magazine is given. Else
 /// None, and nothing changes.
 #[inline(always)]
-fn from_loaded(caches: &mut Caches, w: usize, size: u64, limit: u64) -> Option<u64>
+fn from_loaded(
+    caches: &mut Caches,
+    w: usize,
+    size: u64,
+    order: Option<u8>,
+    limit: u64,
+) -> Option<u64>
     requires worker { w < caches.old.workers }
-    requires some { 1 ≤ size }
-    requires bounded { size ≤ MAX_FRAMES }
+    requires order { order ≡ order_of size }
     ensures value { IfSome result (λ lo.
         (get_cached caches.old.caches w size limit (order_of size)).0 ≡ Some lo) }
     ensures left { OnSome result
@@ -88,17 +128,24 @@ fn from_loaded(caches: &mut Caches, w: usize, size: u64, limit: u64) -> Option<u
     ensures none { IfNone result (caches.new ≡ caches.old) }
     ensures cached { IsCached caches.old → IsCached caches.new }
 {
-    let order = order_of(size)?;
-    caches.get_newest(w, order, limit)
+    caches.get_newest(w, order?, limit)
 }
 
 /// One try as `try_once`, where the newest entry of worker `w`'s loaded magazine is given. Else
 /// None, and nothing changes.
 #[inline(always)]
-fn try_loaded(tree: &Tree, caches: &mut Caches, w: usize, size: u64, limit: u64) -> Option<Range>
+fn try_loaded(
+    tree: &Tree,
+    caches: &mut Caches,
+    w: usize,
+    size: u64,
+    order: Option<u8>,
+    limit: u64,
+) -> Option<Range>
     requires worker { w < caches.old.workers }
     requires some { 1 ≤ size }
     requires bounded { size ≤ MAX_FRAMES }
+    requires order { order ≡ order_of size }
     requires backed { IsBacked tree.now caches.old [] }
     ensures comes { IfSome result (λ r. (s : State) (emptying : Bool) (here : Point)
         → ArePartsOf tree.now caches.old.caches s
@@ -109,7 +156,7 @@ fn try_loaded(tree: &Tree, caches: &mut Caches, w: usize, size: u64, limit: u64)
         (placed_ranges (Walked.Placed r)) []) }
     ensures none { IfNone result (caches.new ≡ caches.old) }
 {
-    match from_loaded(caches, w, size, limit) {
+    match from_loaded(caches, w, size, order, limit) {
         Some(lo) => Some(Range::new(lo, size)),
         None => None,
     }
@@ -175,7 +222,7 @@ fn try_once(
 
 /// The walk of a request: for a client that is `sac`, one try below 4 GiB that empties nothing,
 /// where the limit is above that; then one with the limit that was asked for. What a loaded
-/// magazine gives first is taken here, and all else is out of line.
+/// magazine gives first is taken here, and all else is out of line. `order` is that of the size.
 #[inline(always)]
 pub fn walk(
     tree: &mut Tree,
@@ -183,11 +230,13 @@ pub fn walk(
     w: usize,
     sac: bool,
     size: u64,
+    order: Option<u8>,
     limit: u64,
 ) -> Walked
     requires worker { w < caches.old.workers }
     requires some { 1 ≤ size }
     requires bounded { size ≤ MAX_FRAMES }
+    requires order { order ≡ order_of size }
     requires backed { IsBacked tree.old caches.old [] }
     ensures comes { (s : State) → ArePartsOf tree.old caches.old.caches s
         → Comes (next.walk s w sac size limit (point_of result)) result caches.new.caches }
@@ -195,7 +244,7 @@ pub fn walk(
     ensures point { point_of result ≢ Point.Ledger }
     ensures backed { Exchanges tree.old tree.new caches.old caches.new (placed_ranges result) [] }
 {
-    match try_loaded(tree, caches, w, size, first_limit(sac, limit)) {
+    match try_loaded(tree, caches, w, size, order, first_limit(sac, limit)) {
         Some(range) => Walked::Placed(range),
         None => walk_on(tree, caches, w, sac, size, limit),
     }

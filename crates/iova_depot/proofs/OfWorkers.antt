@@ -55,10 +55,10 @@ of_no_hit profile ws ds m d n w o limit p q g b value miss =
 
 pub of_put : (profile p_profile : Capacities) (ws : List WorkerCache) (ds : List Stored) (m d n w o lo : ℕ) (p q : WorkerCache)
     → Becomes profile ws ds m d n w o p q (pair_of (put p_profile (shelf_of (cache_of p o)) lo)) → HasRoom p_profile (cache_of p o)
-    → MoreInMagazines profile ws ds m d (min n (w * 6 + o)) w q (1 * 2 ^ o % 18446744073709551616)
+    → MoreInMagazines profile ws ds m d 0 w q (1 * 2 ^ o % 18446744073709551616)
 of_put profile p_profile ws ds m d n w o lo p q b room =
     let counts = entries_in-put p_profile (cache_of p o) lo room in
-    more-worker profile ws ds m d n (min n (w * 6 + o)) w o p q _ 1 _ b.inside b.in_workers b.in_orders b.was b.is b.sound (one_shifted o b.in_orders) (omega arith) (omega arith) (omega arith) (omega arith)
+    more-worker profile ws ds m d n 0 w o p q _ 1 _ b.inside b.in_workers b.in_orders b.was b.is b.sound (one_shifted o b.in_orders) (omega arith) (omega arith) (omega arith) (omega arith)
 
 pub of_renew : (profile : Capacities) (ws : List WorkerCache) (ds : List Stored) (m d n w o len : ℕ) (p q : WorkerCache) (magazine : Magazine)
     → Becomes profile ws ds m d n w o p q (record { loaded = []; previous = (cache_of p o).previous }) → magazine ≡ record { profile = p.profile; entries = (cache_of p o).loaded }

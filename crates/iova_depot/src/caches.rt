@@ -338,7 +338,8 @@ impl Caches {
             return false;
         }
         self.in_magazines += 1 << order;
-        self.first_filled = self.first_filled.min(w * ORDERS + order as usize);
+        // a put seeks no place: the next `take_any` begins at the first
+        self.first_filled = 0;
         true
     }
 

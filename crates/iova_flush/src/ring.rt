@@ -1,14 +1,14 @@
 //! The flush ring of one worker.
-ghost use Rattle.std.specs.Prelude.{◌≡◌, ◌≤◌, ◌<◌, ◌*◌, ◌↔◌, [], ◌∷◌, ◌++◌, length, IsTrue, IsErr, IsOkUnless, IfOk, IfErr, OnOk, OnErr, IfSome, IfNone, MatchOption};
+ghost use Rattle.std.specs.Prelude.{◌≡◌, ◌≤◌, ◌<◌, ◌*◌, ◌↔◌, [], ◌∷◌, ◌++◌, take, drop, length, IsTrue, IsErr, IsOkUnless, IfOk, IfErr, OnOk, OnErr, IfSome, IfNone, MatchOption};
 ghost use Rattle.std.specs.List.{list_any, AllByRecursion};
 ghost use Rattle.iova_range.specs.Frames.{covers};
 ghost use Rattle.iova_model.specs.Flushes.{entry_range, flushed_front, unflushed_rest};
 ghost use Rattle.iova_model.specs.Valid.{IsRequestSizedEntry};
-ghost use Rattle.iova_flush.specs.Rings.{frame_count, OldestWaits};
+ghost use Rattle.iova_flush.specs.Rings.{frame_count, oldest_count, OldestWaits};
 
 use crate::Entry;
 use circular_buffer::HeapCircularBuffer;
-use iova_range::limits::{MAX_ENTRIES, MAX_FRAMES, RING_SLOTS};
+use iova_range::limits::{MAX_ENTRIES, MAX_FRAMES};
 use iova_range::refusal::Refusal;
 use std::alloc::Global;
 use std::marker::Model;
@@ -19,7 +19,13 @@ use std::marker::Model;
 pub struct Ring {
     entries: HeapCircularBuffer<Entry>,
     frames: u64,
+    /// The count of the oldest entry: most calls look at nothing else. `NO_ENTRY` where there is
+    /// no entry.
+    oldest: u64,
 }
+
+/// A count that no flush comes to.
+const NO_ENTRY: u64 = u64::MAX;
 
 /// What it has is let go, which is proved here once for every crate above.
 impl Drop for Ring {
@@ -27,6 +33,7 @@ impl Drop for Ring {
         let Ring {
             entries: _,
             frames: _,
+            oldest: _,
         } = self;
     }
 }
@@ -40,7 +47,7 @@ impl Model for Ring {
 
     ghost view = { λ r. r.entries.items };
 
-    ghost invariant = { λ r. IsRingKept r.entries.capacity r.frames r.entries.items };
+    ghost invariant = { λ r. IsRingKept r.entries.capacity r.frames r.oldest r.entries.items };
 }
 
 impl Ring {
@@ -50,10 +57,14 @@ impl Ring {
         ensures empty { IfOk result (λ ring. ring ≡ []) }
         ensures refused { IsOkUnless result Refusal.NoMemory }
     {
-        let Ok(entries) = HeapCircularBuffer::with_capacity(alloc, RING_SLOTS) else {
+        let Ok(entries) = HeapCircularBuffer::with_capacity(alloc, MAX_ENTRIES) else {
             return Err(Refusal::NoMemory);
         };
-        Ok(Ring { entries, frames: 0 })
+        Ok(Ring {
+            entries,
+            frames: 0,
+            oldest: NO_ENTRY,
+        })
     }
 
     /// Puts the entry last; its length is 1 to 1,048,576 frames. Exactly where there are 255
@@ -70,11 +81,12 @@ impl Ring {
         ensures returned { IfErr result (λ back. back ≡ entry) }
         ensures unchanged { OnErr result (self.new ≡ self.old) }
     {
-        if self.is_full() {
-            return Err(entry);
-        }
-        let _ = self.entries.try_push_back(entry);
+        let is_first = self.entries.is_empty();
+        self.entries.try_push_back(entry)?;
         self.frames += entry.len;
+        if is_first {
+            self.oldest = entry.count;
+        }
         Ok(())
     }
 
@@ -95,13 +107,35 @@ impl Ring {
         ensures rest { unflushed_rest finish self.new ≡ unflushed_rest finish self.old }
         ensures left { IfNone result (unflushed_rest finish self.new ≡ self.new) }
     {
-        match self.entries.front() {
-            Some(entry) if entry.count < finish => {
-                self.frames -= entry.len;
-                self.entries.pop_front()
-            }
-            _ => None,
+        if self.waits(finish) {
+            return None;
         }
+        let entry = self.entries.pop_front()?;
+        self.frames -= entry.len;
+        self.oldest = oldest_of(&self.entries);
+        Some(entry)
+    }
+
+    /// The entries, oldest first, in two slices.
+    #[inline]
+    pub fn as_slices(&self) -> (&[Entry], &[Entry])
+        ensures is { result.0.now ++ result.1.now ≡ self.now }
+        ensures sized { AllByRecursion IsRequestSizedEntry self.now }
+        ensures bounded { length self.now ≤ MAX_ENTRIES }
+    {
+        self.entries.as_slices()
+    }
+
+    /// Takes the `count` oldest entries out, which have so many frames together.
+    #[inline]
+    pub fn drop_oldest(&mut self, count: usize, frames: u64)
+        requires there { count ≤ length self.old }
+        requires frames { frames ≡ frame_count (take count self.old) }
+        ensures { self.new ≡ drop count self.old }
+    {
+        self.entries.truncate_front(self.entries.len() - count);
+        self.frames -= frames;
+        self.oldest = oldest_of(&self.entries);
     }
 
     /// Whether the oldest entry waits, or there is none: then `take_flushed` takes nothing.
@@ -111,11 +145,7 @@ impl Ring {
         ensures none { IsTrue result → flushed_front finish self.now ≡ [] }
         ensures all { IsTrue result → unflushed_rest finish self.now ≡ self.now }
     {
-        let oldest = self.entries.front();
-        match oldest {
-            Some(entry) => entry.count >= finish,
-            None => true,
-        }
+        finish <= self.oldest
     }
 
     /// How many entries there are, at most 255.
@@ -160,6 +190,17 @@ impl Ring {
         ensures { result ≡ list_any (λ e. covers frame (entry_range e)) self.now }
     {
         self.entries.iter().any(|entry| has(entry, frame))
+    }
+}
+
+// The count of the oldest entry, or `NO_ENTRY`.
+#[inline]
+fn oldest_of(entries: &HeapCircularBuffer<Entry>) -> u64
+    ensures { result ≡ oldest_count entries.now.items }
+{
+    match entries.front() {
+        Some(entry) => entry.count,
+        None => NO_ENTRY,
     }
 }
 

@@ -12,10 +12,10 @@ pub record Pair : Type 0 where
   pub answer : Answer
 
 -- one pair more
-abbrev pub after_one : Option (Snapshot (List Pair)) → Request → Snapshot Answer → List Pair
+abbrev pub after_one : Option (Snapshot (List Pair)) → Snapshot Request → Snapshot Answer → List Pair
 after_one None request answer = []
 after_one (Some before) request answer =
-    before.value ++ record { request = request; answer = answer.value } ∷ []
+    before.value ++ record { request = request.value; answer = answer.value } ∷ []
 
 -- the requests, in their order
 unfoldable pub requests_of : List Pair → List Request

@@ -7,11 +7,11 @@ use std::marker::Model;
 use std::snapshot::Snapshot;
 
 /// What a desk was asked, oldest first, each with its answer. Contracts see it as a list. It takes
-/// no memory: each pair keeps what was before it as a snapshot, which no code reads.
+/// no memory: each pair is kept, with what was before it, as snapshots, which no code reads.
 #[derive(Drop)]
 pub struct Pairs {
     before: Option<Snapshot<Pairs>>,
-    request: Request,
+    request: Snapshot<Request>,
     answer: Snapshot<Answer>,
 }
 
@@ -37,7 +37,7 @@ impl Pairs {
     {
         Pairs {
             before: None,
-            request: Request::Bye,
+            request: Snapshot::of(&Request::Bye),
             answer: Snapshot::of(&Answer::Bye),
         }
     }
@@ -48,7 +48,7 @@ impl Pairs {
     {
         let before = Snapshot::of(self);
         self.before = Some(before);
-        self.request = request;
+        self.request = Snapshot::of(&request);
         self.answer = Snapshot::of(answer);
     }
 }

@@ -80,6 +80,7 @@ impl Session {
     }
 
     /// A request more, which was answered so.
+    #[inline(always)]
     pub(crate) fn add(&mut self, request: Request, answer: &Answer)
         requires { IsAnswer self.old.number self.old.client self.old.listed request answer.now }
         ensures { self.new ≡ record {
@@ -98,6 +99,7 @@ impl Session {
 }
 
 /// The session's client after this answer.
+#[inline(always)]
 fn next_client(client: Option<ClientId>, answer: &Answer) -> Option<ClientId>
     ensures { result ≡ the_next_client client answer.now }
 {
@@ -108,6 +110,7 @@ fn next_client(client: Option<ClientId>, answer: &Answer) -> Option<ClientId>
 }
 
 /// How many ranges the answer lists.
+#[inline(always)]
 fn count_listed(answer: &Answer) -> u64
     ensures { result ≡ listed_in answer.now }
 {

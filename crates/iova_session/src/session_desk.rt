@@ -9,7 +9,7 @@ ghost use Rattle.iova_session.specs.Leading.{LeadsFrom, GoesOn};
 use crate::asking::{ask_alone, ask_first};
 use crate::desk::Desk;
 use crate::session::Session;
-use crate::together::{LastBatch, ask_together, push};
+use crate::together::{LastBatch, ask_together, tell};
 use iova_keep::keep::Keep;
 use iova_keep::seat::Seat;
 use iova_proto::answer::Answer;
@@ -227,8 +227,7 @@ pub(crate) fn ask_front<C: Ledger, F: Ledger, S: Ledger, G: Ledger, K: Keep<C, F
         }
     };
     last.stopped = is_freed(&answer);
-    session.add(requests[0], &answer);
-    push(answers, answer);
+    tell(session, requests[0], answer, answers);
     Ok(1)
 }
 

@@ -3,7 +3,7 @@ ghost use Rattle.std.specs.Prelude.{◌≡◌, ◌+◌, ◌≤◌, ◌++◌, ◌
 ghost use Rattle.iova_sink.specs.Calls.{Call};
 ghost use Rattle.iova_keep.specs.Views.{WhereKnown, MovesSharesAlone};
 ghost use Rattle.iova_session.specs.Leading.{GoesOn, IsSame};
-ghost use Rattle.iova_session.specs.Desks.{SessionState, ask_of as the_ask_of, asks_in, answer_of as the_answer_of, told_pairs, AreTold, IsFirstAlone, AnswersRun};
+ghost use Rattle.iova_session.specs.Desks.{SessionState, ask_of as the_ask_of, asks_in, answer_of as the_answer_of, told_pairs, AreTold, IsAnswer, IsFirstAlone, AnswersRun, next_client, count_listed};
 
 use crate::session::Session;
 use iova_keep::ask::{Ask, Told};
@@ -142,19 +142,6 @@ fn ask_of(request: Request) -> Option<Ask>
     }
 }
 
-/// What was told as an answer.
-#[inline(always)]
-fn answer_of(told: &Told) -> Answer
-    ensures { result ≡ the_answer_of told.now }
-{
-    match told {
-        Told::Given(range) => Answer::Given(*range),
-        Told::Queued(range) => Answer::Queued(*range),
-        Told::Stat(stat) => Answer::Stat(*stat),
-        Told::Refused(refusal) => Answer::Refused(*refusal),
-    }
-}
-
 /// Notes and answers the requests at the front, as they were told.
 fn tell_all(session: &mut Session, requests: &[Request], told: &[Told], answers: &mut Vec<Answer>)
     requires client { IsSome session.old.client }
@@ -167,14 +154,43 @@ fn tell_all(session: &mut Session, requests: &[Request], told: &[Told], answers:
     ensures kept { vec_capacity answers.old ≤ vec_capacity answers.new }
 {
     for (i, told) in told.iter().enumerate() {
-        let answer = answer_of(told);
-        session.add(requests[i], &answer);
-        push(answers, answer);
+        let request = requests[i];
+        // an answer is put together where it is written, with no room of its own
+        match told {
+            Told::Given(range) => tell(session, request, Answer::Given(*range), answers),
+            Told::Queued(range) => tell(session, request, Answer::Queued(*range), answers),
+            Told::Stat(stat) => tell(session, request, Answer::Stat(*stat), answers),
+            Told::Refused(refusal) => tell(session, request, Answer::Refused(*refusal), answers),
+        }
     }
 }
 
+/// Notes and answers a request.
+#[inline(always)]
+pub(crate) fn tell(
+    session: &mut Session,
+    request: Request,
+    answer: Answer,
+    answers: &mut Vec<Answer>,
+)
+    requires is { IsAnswer session.old.number session.old.client session.old.listed request answer }
+    requires room { vec_len answers.old + 1 ≤ vec_capacity answers.old }
+    ensures session { session.new ≡ record {
+      number = session.old.number;
+      client = next_client session.old.client answer;
+      listed = session.old.listed + count_listed answer;
+      pairs = session.old.pairs ++ record { request = request; answer = answer } ∷ [];
+    } }
+    ensures answers { answers.new.items ≡ answers.old.items ++ answer ∷ [] }
+    ensures kept { vec_capacity answers.old ≤ vec_capacity answers.new }
+{
+    session.add(request, &answer);
+    push(answers, answer);
+}
+
 /// Appends the answer, for which there is room.
-pub(crate) fn push(answers: &mut Vec<Answer>, answer: Answer)
+#[inline(always)]
+fn push(answers: &mut Vec<Answer>, answer: Answer)
     requires { vec_len answers.old + 1 ≤ vec_capacity answers.old }
     ensures items { answers.new.items ≡ answers.old.items ++ answer ∷ [] }
     ensures kept { vec_capacity answers.old ≤ vec_capacity answers.new }

@@ -1,8 +1,9 @@
-use Rattle.std.proofs.Common.{[], ◌∷◌, map, length, ap, sym, ◌∙◌, arith}
+use Rattle.std.proofs.Common.{◌≡◌, [], ◌∷◌, ◌++◌, map, drop, length, length-append, length-drop, ap, sym, ◌∙◌, arith}
+use Rattle.std.proofs.lemmas.List.{map-append, drop-append-le}
 use Rattle.iova_model.specs.Flushes.{entry_range}
 use Rattle.iova_core.specs.Reclaim.{IsBacked}
 use Rattle.iova_core.proofs.Reclaims.{has_low, backed_has, backed_first}
-use Rattle.iova_core.proofs.Drains.{drained_none, drained_backed, drained_few, drained_next, drained_out}
+use Rattle.iova_core.proofs.Drains.{drained_none, drained_backed, drained_few, drained_next, drained_row, drained_out, backed_front, sized_front}
 use Rattle.iova_core.proofs.reclaim.drain_flushed.Goals as goal
 
 pub loop-entry-init : goal.loop-entry-init
@@ -28,15 +29,39 @@ put_back-requires-clause-backed c =
 pub overflow_add-count : goal.overflow_add-count
 overflow_add-count c = let few = drained_few _ _ _ _ _ _ _ _ _ c.loop-entry.invariant c.requires.room in omega (arith, few)
 
+pub put_row-taken-requires-clause-worker : goal.put_row-taken-requires-clause-worker
+put_row-taken-requires-clause-worker c = omega (arith, c.requires.worker, c.loop-entry.invariant.exchange.workers, c.put_back.ensures.backed.workers)
+
+pub put_row-taken-requires-clause-sized : goal.put_row-taken-requires-clause-sized
+put_row-taken-requires-clause-sized c = sized_front _ _ _ c.as_slices.ensures.is c.as_slices.ensures.sized
+
+pub put_row-taken-requires-clause-backed : goal.put_row-taken-requires-clause-backed
+put_row-taken-requires-clause-backed c =
+    let one = drained_next _ _ _ _ _ _ _ _ _ c.loop-entry.invariant c.put_back.new.tree c.put_back.new.caches c.in-Some.entry c.take_flushed.new.self
+        c.in-Some.ensures.oldest c.in-Some.ensures.next c.in-Some.ensures.rest (rw c.new.ensures at c.put_back.ensures.caches) (rw c.new.ensures at c.put_back.ensures.backed) in
+    let left = drained_backed _ _ _ _ _ _ _ _ _ one c.requires.backed in
+    backed_front _ _ _ (map entry_range c.as_slices.result.0.now) (map entry_range c.as_slices.result.1.now) left
+        (ap (map entry_range) (sym c.as_slices.ensures.is) ∙ map-append entry_range c.as_slices.result.0.now c.as_slices.result.1.now)
+
+pub overflow_add-count-in-Some : goal.overflow_add-count-in-Some
+overflow_add-count-in-Some c =
+    let few = drained_few _ _ _ _ _ _ _ _ _ c.loop-entry.invariant c.requires.room in
+    omega (arith, few, c.put_row-taken.ensures.within, c.as_slices.ensures.bounded, ap length c.as_slices.ensures.is, length-append c.as_slices.result.0.now c.as_slices.result.1.now)
+
 pub loop-entry-smaller : goal.loop-entry-smaller
-loop-entry-smaller c = omega (arith, ap length c.in-Some.ensures.oldest)
+loop-entry-smaller c =
+    omega (arith, ap length c.in-Some.ensures.oldest, ap length c.drop_oldest.ensures, length-drop c.put_row-taken.result.0 c.take_flushed.new.self)
 
 pub loop-entry-preserved : goal.loop-entry-preserved
 loop-entry-preserved c =
-    let e = c.in-Some.entry in
-    let now = rw c.new.ensures at c.put_back.ensures.caches in
-    let ex = rw c.new.ensures at c.put_back.ensures.backed in
-    drained_next _ _ _ _ _ _ _ _ _ c.loop-entry.invariant c.put_back.new.tree c.put_back.new.caches e c.take_flushed.new.self c.in-Some.ensures.oldest c.in-Some.ensures.next c.in-Some.ensures.rest now ex
+    let one = drained_next _ _ _ _ _ _ _ _ _ c.loop-entry.invariant c.put_back.new.tree c.put_back.new.caches c.in-Some.entry c.take_flushed.new.self
+        c.in-Some.ensures.oldest c.in-Some.ensures.next c.in-Some.ensures.rest (rw c.new.ensures at c.put_back.ensures.caches) (rw c.new.ensures at c.put_back.ensures.backed) in
+    let row = c.as_slices.result.0.now in
+    let rest = c.as_slices.result.1.now in
+    let all = drained_row _ _ _ _ _ _ _ _ _ one c.put_row-taken.new.tree c.put_row-taken.new.caches row _ rest _ (sym c.as_slices.ensures.is) c.put_row-taken.ensures.drained in
+    let left : drop c.put_row-taken.result.0 row ++ rest ≡ c.drop_oldest.new.self =
+        sym (drop-append-le c.put_row-taken.result.0 row rest c.put_row-taken.ensures.within) ∙ (ap (drop c.put_row-taken.result.0) c.as_slices.ensures.is ∙ sym c.drop_oldest.ensures) in
+    rw left at all
 
 pub returns-clause-count : goal.returns-clause-count
 returns-clause-count c =

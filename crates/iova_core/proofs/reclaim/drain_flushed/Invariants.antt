@@ -1,5 +1,5 @@
 use Rattle.std.proofs.Common.{length}
-use Rattle.iova_core.proofs.Drains.{IsDrained}
+use Rattle.iova_core.specs.Reclaim.{IsDrained}
 use Rattle.iova_core.proofs.reclaim.drain_flushed.Given as goal
 
 -- so many entries have left the ring

@@ -29,8 +29,8 @@ returns-clause-ok g c =
       | in-Some+in_ok-count-in-Some+else-count-gt0 w ↦
           ap (λ (v : Vec Answer Global). v.items) w.answers-is ∙ (w.in_ok-count-in-Some.ensures.none (omega (arith, w.if-count-gt0.false))).1 ∙ c.try_reserve.ensures.items
     ] in
-    let added = rw s at c.add.ensures in
-    one_asked c.args.requests.now _ c.match-client.answer _ _ _ _ _ _ c.requires.some (ap (λ (x : SessionState). x.number) added) (ap (λ (x : SessionState). x.pairs) added) (rw a at c.push.ensures.items) moved
+    let added = rw s at c.tell.ensures.session in
+    one_asked c.args.requests.now _ c.match-client.answer _ _ _ _ _ _ c.requires.some (ap (λ (x : SessionState). x.number) added) (ap (λ (x : SessionState). x.pairs) added) (rw a at c.tell.ensures.answers) moved
 
 pub returns-then-is_err-clause-leads : goal.returns-then-is_err-clause-leads
 returns-then-is_err-clause-leads g c = goes_nowhere _ c.args.session.now _ _ _ _ _ _ refl refl (same_state _)
@@ -42,12 +42,12 @@ returns-in_err-count-in-Some-clause-leads g c =
 
 pub returns-clause-leads : goal.returns-clause-leads
 returns-clause-leads g c =
-    let added = ap (λ (x : SessionState). x.pairs) c.add.ensures in
+    let added = ap (λ (x : SessionState). x.pairs) c.tell.ensures.session in
     elim c.match-client.branch [
       | in-None w ↦
           let more = rw (w.session-is, w.answer-is) at added in
           rw (w.keeper-is, w.seat-is, w.sink-is)
-          (first_goes _ _ c.args.session.now c.add.new.self _ w.ask_first-answer.result c.args.seat.now w.ask_first-answer.new.seat _ _ _
+          (first_goes _ _ c.args.session.now c.tell.new.session _ w.ask_first-answer.result c.args.seat.now w.ask_first-answer.new.seat _ _ _
           c.requires.number (sym c.client-client.ensures.value ∙ w.in-None.is) more
           (record { worker = ap (λ (x : SeatState). x.worker) w.ask_first-answer.ensures.seat; shares = w.ask_first-answer.ensures.shares })
           w.ask_first-answer.ensures.does)
@@ -55,7 +55,7 @@ returns-clause-leads g c =
           let n = w.in_ok-count-in-Some.ensures.none (omega (arith, w.if-count-gt0.false)) in
           let more = rw (w.session-is, n.0, w.answer-is) at added in
           rw (w.keeper-is, w.seat-is, w.sink-is)
-          (alone_goes _ _ _ _ w.in-Some.id w.listed.result c.args.session.now c.add.new.self _ w.ask_alone-answer.result c.args.seat.now w.ask_together.new.seat w.ask_alone-answer.new.seat _ _ _ _ _
+          (alone_goes _ _ _ _ w.in-Some.id w.listed.result c.args.session.now c.tell.new.session _ w.ask_alone-answer.result c.args.seat.now w.ask_together.new.seat w.ask_alone-answer.new.seat _ _ _ _ _
           (ap (λ (i : Identity). i.strict) w.ask_together.ensures.same) (ap (λ (i : Identity). i.number) w.ask_together.ensures.same) n.2 n.3
           c.requires.number (sym c.client-client.ensures.value ∙ w.in-Some.is) (sym (w.listed.ensures.value ∙ ap (λ (x : SessionState). x.listed) n.0)) more
           (record { worker = w.ask_alone-answer.ensures.place.worker; shares = w.ask_alone-answer.ensures.shares })

@@ -1,10 +1,12 @@
 use Rattle.std.proofs.Common.{◌≡◌, ◌<◌, refl, sym, ap, ◌∙◌}
 use Rattle.iova_model.specs.Next.{Next}
+use Rattle.iova_model.specs.State.{State}
+use Rattle.iova_clients.specs.Registry.{Registry}
 use Rattle.iova_core.specs.Domain.{Parts, state_of}
 use Rattle.iova_core.specs.declared.walk.Walked.TheVariants as found
-use Rattle.iova_core.proofs.Outcomes.{refuses_ok, looked_up, looked_up_sac}
+use Rattle.iova_core.proofs.Outcomes.{refuses_ok, refuses_err, looked_up, looked_up_sac}
 use Rattle.iova_core.proofs.Queues.{domain_backed}
-use Rattle.iova_core.proofs.Allocs.{asked_from, alloc_is, walked_state, domain_walked, found_low, found_new, given_state, domain_given}
+use Rattle.iova_core.proofs.Allocs.{asked_from, starved_state, alloc_is, walked_state, domain_walked, found_low, found_new, given_state, domain_given}
 use Rattle.iova_core.proofs.domain.Domain.alloc_here.Goals as goal
 
 pub walk-requires-clause-backed : goal.walk-requires-clause-backed
@@ -139,3 +141,29 @@ returns-in-OutOfMemory-clause-state c =
     let mark : c.in-Some.flags.sac ≡ asked.0.sac = looked_up_sac c.args.worker _ c.in-Some.flags asked.0 c.in-Some.ensures.is asked.1.found in
     let comes = rw (mark, c.requires.size) at c.in-OutOfMemory.ensures.comes in
     rw (← c.self.view_is) (sym (ap (λ (n : Next). n.state) (alloc_is p c.self.invariant c.args.worker c.args.client c.args.frames c.args.limit asked.0 asked.1 c.walk.new.tree c.walk.new.caches (found.OutOfMemory c.in-OutOfMemory.point) comes c.in-OutOfMemory.ensures.point c.in-OutOfMemory.ensures.backed) ∙ walked_state p c.self.invariant c.args.worker c.args.client c.args.frames c.args.limit asked.0 asked.1 c.walk.new.tree c.walk.new.caches (found.OutOfMemory c.in-OutOfMemory.point) comes c.in-OutOfMemory.ensures.point c.in-OutOfMemory.ensures.backed c.room.new.self listed kept))
+
+pub returns-in-Err-clause-state : goal.returns-in-Err-clause-state
+returns-in-Err-clause-state c =
+    let p : Parts = record { tree = c.self.inside.tree; clients = c.self.inside.clients; cached = c.self.inside.caches; rings = c.self.inside.rings.items; flushes = c.self.inside.flights; reserved = c.self.inside.reserved } in
+    let s = state_of p in
+    let known : c.args.worker < p.cached.workers = rw (← c.self.view_is) at c.requires.worker in
+    let same = c.in-Some.ensures.unchanged in
+    let owner = looked_up c.args.worker _ c.in-Some.flags c.in-Some.ensures.is in
+    let why = refuses_err _ c.room.result c.in-Err.refusal (record { refused = c.room.ensures.refused; accepted = c.room.ensures.accepted }) c.in-Err.is in
+    let why_here = rw same at why in
+    let made : Registry → State = λ x. state_of (record p { clients = x }) in
+    let none = starved_state s c.args.worker c.args.client c.args.frames c.args.limit c.refused_at.result.1 c.in-Err.refusal known c.requires.some c.requires.bounded owner why_here c.refused_at.ensures.memory in
+    rw (← c.self.view_is) (ap made (c.in-Err.ensures.unchanged ∙ same) ∙ sym none)
+
+pub returns-in-OutOfMemory-clause-reply : goal.returns-in-OutOfMemory-clause-reply
+returns-in-OutOfMemory-clause-reply c =
+    let p : Parts = record { tree = c.self.inside.tree; clients = c.self.inside.clients; cached = c.self.inside.caches; rings = c.self.inside.rings.items; flushes = c.self.inside.flights; reserved = c.self.inside.reserved } in
+    let s = state_of p in
+    let known : c.args.worker < p.cached.workers = rw (← c.self.view_is) at c.requires.worker in
+    let same = c.in-Some.ensures.unchanged in
+    let owner = looked_up c.args.worker _ c.in-Some.flags c.in-Some.ensures.is in
+    let room = rw same at (refuses_ok _ c.room.result c.in-Ok.field-0 (record { refused = c.room.ensures.refused; accepted = c.room.ensures.accepted }) c.in-Ok.is) in
+    let asked = asked_from s c.args.worker c.args.client c.args.frames known c.requires.some c.requires.bounded owner room in
+    let mark : c.in-Some.flags.sac ≡ asked.0.sac = looked_up_sac c.args.worker _ c.in-Some.flags asked.0 c.in-Some.ensures.is asked.1.found in
+    let comes = rw (mark, c.requires.size) at c.in-OutOfMemory.ensures.comes in
+    rw (← c.self.view_is) (sym (ap (λ (n : Next). n.reply) (alloc_is p c.self.invariant c.args.worker c.args.client c.args.frames c.args.limit asked.0 asked.1 c.walk.new.tree c.walk.new.caches (found.OutOfMemory c.in-OutOfMemory.point) comes c.in-OutOfMemory.ensures.point c.in-OutOfMemory.ensures.backed)))

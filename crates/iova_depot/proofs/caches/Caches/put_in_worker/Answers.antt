@@ -14,7 +14,7 @@ pub invariant_of-self-2 : goal.invariant_of-self-2
 invariant_of-self-2 c =
     let worker : c.args.w < length c.self.inside.workers.items = rw (← c.self.view_is) at c.requires.worker in
     let b = becomes _ _ _ _ _ _ _ _ _ _ _ c.self.invariant worker c.requires.order c.index_mut-worker.ensures.value c.if-not-try_put.ensures.done c.if-not-try_put.ensures.sound in
-    rw c.min-self-inside.ensures (of_put _ c.index_mut-worker.result.now.profile _ _ _ _ _ _ _ c.args.lo _ _ b (c.if-not-try_put.ensures.room.0 refl)).inside
+    (of_put _ c.index_mut-worker.result.now.profile _ _ _ _ _ _ _ c.args.lo _ _ b (c.if-not-try_put.ensures.room.0 refl)).inside
 
 pub returns-clause-done : goal.returns-clause-done
 returns-clause-done c =

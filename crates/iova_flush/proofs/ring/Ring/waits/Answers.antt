@@ -1,15 +1,15 @@
-use Rattle.std.proofs.Common.{rules}
-use Rattle.iova_flush.proofs.RingSteps.{flushed-waits, unflushed-waits}
+use Rattle.std.proofs.Common.{arith}
+use Rattle.std.proofs.lemmas.Bool.Decides.{nat_tests}
+use Rattle.iova_flush.proofs.RingSteps.{oldest-waits, waits-oldest, flushed-waits, unflushed-waits}
 use Rattle.iova_flush.proofs.ring.Ring.waits.Goals as goal
 
-pub returns-in-Some-clause-none : goal.returns-in-Some-clause-none
-returns-in-Some-clause-none c = λ least. flushed-waits c.args.finish c.args.self.now (search rules)
+pub returns-clause-is : goal.returns-clause-is
+returns-clause-is c =
+    (λ is. oldest-waits c.args.finish c.self.invariant c.self.view_is (grind (arith, nat_tests)),
+     λ waits. let le = waits-oldest c.args.finish c.ranges.finish.fits c.self.invariant c.self.view_is waits in grind (arith, nat_tests))
 
-pub returns-in-Some-clause-all : goal.returns-in-Some-clause-all
-returns-in-Some-clause-all c = λ least. unflushed-waits c.args.finish c.args.self.now (search rules)
+pub returns-clause-none : goal.returns-clause-none
+returns-clause-none c = λ is. flushed-waits c.args.finish c.args.self.now (oldest-waits c.args.finish c.self.invariant c.self.view_is (grind (arith, nat_tests)))
 
-pub returns-in-None-clause-none : goal.returns-in-None-clause-none
-returns-in-None-clause-none c = λ least. flushed-waits c.args.finish c.args.self.now (search rules)
-
-pub returns-in-None-clause-all : goal.returns-in-None-clause-all
-returns-in-None-clause-all c = λ least. unflushed-waits c.args.finish c.args.self.now (search rules)
+pub returns-clause-all : goal.returns-clause-all
+returns-clause-all c = λ is. unflushed-waits c.args.finish c.args.self.now (oldest-waits c.args.finish c.self.invariant c.self.view_is (grind (arith, nat_tests)))

@@ -2,7 +2,7 @@ use Rattle.std.proofs.Common.{◌≡◌, ◌∙◌, arith}
 use Rattle.iova_model.specs.Clients.{insert_rising}
 use Rattle.iova_clients.proofs.Rising.{insert_at_reach}
 use Rattle.iova_clients.proofs.AccountLemmas.{same_account}
-use Rattle.iova_clients.proofs.ledger.Ledger.add.Goals as goal
+use Rattle.iova_clients.proofs.ledger.ClientLedger.add.Goals as goal
 
 pub returns : goal.returns
 returns c =

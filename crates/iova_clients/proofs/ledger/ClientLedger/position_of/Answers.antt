@@ -2,7 +2,7 @@ use Rattle.std.proofs.Common.{◌≡◌, ◌≢◌, ◌<◌, ◌+◌, get_or, le
 use Rattle.iova_range.specs.Frames.{Frames}
 use Rattle.iova_clients.specs.Registry.{IsReach}
 use Rattle.iova_clients.proofs.Rising.{none_reached, none_last}
-use Rattle.iova_clients.proofs.ledger.Ledger.position_of.Goals as goal
+use Rattle.iova_clients.proofs.ledger.ClientLedger.position_of.Goals as goal
 
 pub returns-in_err-place-clause-none : goal.returns-in_err-place-clause-none
 returns-in_err-place-clause-none c =

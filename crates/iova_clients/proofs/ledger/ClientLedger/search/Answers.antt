@@ -5,7 +5,7 @@ use Rattle.std.proofs.lemmas.List.{length-take-le}
 use Rattle.iova_range.specs.Frames.{Frames}
 use Rattle.iova_model.specs.Valid.{Rises}
 use Rattle.iova_clients.proofs.Rising.{Rises-non_decreasing, Rises-take, reach_is}
-use Rattle.iova_clients.proofs.ledger.Ledger.search.Goals as goal
+use Rattle.iova_clients.proofs.ledger.ClientLedger.search.Goals as goal
 
 pub returns-clause-reached : goal.returns-clause-reached
 returns-clause-reached c =

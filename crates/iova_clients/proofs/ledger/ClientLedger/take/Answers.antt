@@ -2,7 +2,7 @@ use Rattle.std.proofs.Common.{◌≡◌, Some, sym, ap, ◌∙◌}
 use Rattle.iova_model.specs.Clients.{remove_at}
 use Rattle.iova_clients.proofs.Rising.{find_at, remove_at_place}
 use Rattle.iova_clients.proofs.AccountLemmas.{same_account}
-use Rattle.iova_clients.proofs.ledger.Ledger.take.Goals as goal
+use Rattle.iova_clients.proofs.ledger.ClientLedger.take.Goals as goal
 
 pub returns-clause-value : goal.returns-clause-value
 returns-clause-value c =

@@ -1,6 +1,6 @@
 use Rattle.std.proofs.Common.{Some, sym, ap, ◌∙◌}
 use Rattle.iova_clients.proofs.Rising.{find_at}
-use Rattle.iova_clients.proofs.ledger.Ledger.holding.Goals as goal
+use Rattle.iova_clients.proofs.ledger.ClientLedger.holding.Goals as goal
 
 pub returns : goal.returns
 returns c =
