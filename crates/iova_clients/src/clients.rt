@@ -96,7 +96,8 @@ impl Clients {
             return Err(Refusal::ClientsFull);
         }
         let id = self.serial + 1;
-        self.ledgers.push(id, ClientLedger::new(self.alloc, worker, sac))?;
+        self.ledgers
+            .push(id, ClientLedger::new(self.alloc, worker, sac))?;
         self.serial = id;
         Ok(id)
     }

@@ -43,6 +43,9 @@ small_size n lt = step (nat_lt (order_by_digits n) 6) refl (need (n + 1) == 2 ^ 
 pub order_of_power : (o : ℕ) → o < 6 → order_of (2 ^ o) ≡ Some o
 order_of_power o lt = each_order (λ o. order_of (2 ^ o) ≡ Some o) refl refl refl refl refl refl o lt
 
--- what has an order has one of the six
+-- what has an order is two to the power of one of the six
 pub order_low : (size o : ℕ) → order_of size ≡ Some o → o < 6
 order_low size o is = grind (arith, nat_tests)
+
+pub order_power : (size o : ℕ) → order_of size ≡ Some o → size ≡ 2 ^ o
+order_power size o is = grind (arith, nat_tests)

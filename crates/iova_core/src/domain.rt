@@ -1,5 +1,5 @@
 //! A domain: its steps, one at a time and in runs, and its readers.
-ghost use Rattle.std.specs.Prelude.{◌≡◌, ◌≢◌, ◌≤◌, ◌<◌, ◌⊎◌, ◌^◌, ℕ, [], take, replicate, sum_by, find, length, Some, IfOk, IfSome, OnOk, OnErr, IsErr, ◌↔◌, Err, option_map, option_copied};
+ghost use Rattle.std.specs.Prelude.{◌≡◌, ◌≢◌, ◌≤◌, ◌<◌, ◌⊎◌, ◌^◌, ℕ, [], take, replicate, sum_by, find, length, Some, IfOk, IfSome, IsTrue, OnOk, OnErr, IsErr, ◌↔◌, Err, option_map, option_copied};
 ghost use Rattle.iova_model.specs.Fit.{is_covered};
 ghost use Rattle.iova_model.specs.Clients.{Client, client_with, begins_at, newer_client, share_of, totals};
 ghost use Rattle.iova_range.specs.Frames.{covers};
@@ -12,7 +12,7 @@ ghost use Rattle.iova_model.specs.Next.{next, reserve, open_client, alloc, unmap
 ghost use Rattle.iova_core.specs.Domain.{IsStepOf, place_inside, frames_in_rings};
 
 use crate::reclaim::{drain, drain_unless};
-use crate::walk::{Walked, is_at_hand, order_for, size_for, walk};
+use crate::walk::{Walked, is_at_hand, is_cached, order_for, order_of_need, size_for, walk};
 use iova_clients::{ClientId, Clients};
 use iova_depot::caches::Caches;
 use iova_depot::spot::Spot;
@@ -227,40 +227,30 @@ impl Domain {
         ensures state { self.new ≡ (alloc self.old worker client frames limit result.1).state }
         ensures point { result.1 ≢ Point.Never → result.0 ≡ Reply.Refused Refusal.NoMemory }
     {
-        if worker >= self.workers() {
-            return refused(Refusal::NoWorker);
+        if is_cached(frames) {
+            let order = order_of_need(frames);
+            let size = 1 << order;
+            if self.gives_at_once(worker, client, order, size, limit) {
+                return self.alloc_here(worker, client, frames, size, Some(order), limit);
+            }
         }
-        if frames == 0 {
-            return refused(Refusal::Zero);
-        }
-        if frames > MAX_FRAMES {
-            return refused(Refusal::TooBig);
-        }
-        let order = order_for(frames);
-        let size = size_for(frames, order);
-        if self.gives_at_once(worker, client, order, limit) {
-            self.alloc_here(worker, client, frames, size, order, limit)
-        } else {
-            self.alloc_elsewhere(worker, client, frames, limit)
-        }
+        self.alloc_elsewhere(worker, client, frames, limit)
     }
 
-    /// Whether the client is that of the step before, and a magazine gives a range at once. The
-    /// compiler then leaves out of `alloc_here` all that is called otherwise. Nothing is promised:
-    /// either way the step is the same.
+    /// Whether the client is that of the step before, and a magazine of this order, 0 to 5, gives a
+    /// range at once, of `size` frames. The compiler then leaves out of `alloc_here` all that is
+    /// called otherwise. Where it isn't so the step is the same.
     #[inline(always)]
-    fn gives_at_once(
-        &self,
-        worker: u64,
-        client: ClientId,
-        order: Option<u8>,
-        limit: u64,
-    ) -> bool
-        requires worker { worker < self.now.workers }
-        requires order { IfSome order (λ order. order < ORDERS) }
+    fn gives_at_once(&self, worker: u64, client: ClientId, order: u8, size: u64, limit: u64) -> bool
+        requires order { order < ORDERS }
+        requires size { size ≡ 2 ^ order }
+        ensures worker { IsTrue result → worker < self.now.workers }
     {
+        if worker >= self.workers() {
+            return false;
+        }
         match self.clients.sac_with_room(worker, client) {
-            Some(sac) => is_at_hand(&self.caches, worker as usize, sac, order, limit),
+            Some(sac) => is_at_hand(&self.caches, worker as usize, sac, order, size, limit),
             None => false,
         }
     }
@@ -274,13 +264,19 @@ impl Domain {
         frames: u64,
         limit: u64,
     ) -> (Reply, Point)
-        requires worker { worker < self.old.workers }
-        requires some { 1 ≤ frames }
-        requires bounded { frames ≤ MAX_FRAMES }
         ensures reply { result.0 ≡ (alloc self.old worker client frames limit result.1).reply }
         ensures state { self.new ≡ (alloc self.old worker client frames limit result.1).state }
         ensures point { result.1 ≢ Point.Never → result.0 ≡ Reply.Refused Refusal.NoMemory }
     {
+        if worker >= self.workers() {
+            return refused(Refusal::NoWorker);
+        }
+        if frames == 0 {
+            return refused(Refusal::Zero);
+        }
+        if frames > MAX_FRAMES {
+            return refused(Refusal::TooBig);
+        }
         let order = order_for(frames);
         let size = size_for(frames, order);
         self.alloc_here(worker, client, frames, size, order, limit)

@@ -31,7 +31,27 @@ pub enum Walked {
 }
 
 /// The most frames of a range that has an order.
-const MOST_CACHED: u64 = 1 << (ORDERS - 1);
+pub const MOST_CACHED: u64 = 1 << (ORDERS - 1);
+
+/// Whether what a request for so many frames is given has an order.
+#[inline(always)]
+pub fn is_cached(frames: u64) -> bool
+    ensures { IsTrue result → (1 ≤ frames) × (frames ≤ MOST_CACHED) }
+{
+    frames != 0 && frames <= MOST_CACHED
+}
+
+/// The order of what a request for 1 to 32 frames is given.
+#[inline(always)]
+pub fn order_of_need(frames: u64) -> u8
+    requires some { 1 ≤ frames }
+    requires few { frames ≤ MOST_CACHED }
+    ensures is { order_of (need frames) ≡ Some result }
+    ensures low { result < ORDERS }
+    ensures size { need frames ≡ 2 ^ result }
+{
+    (64 - (frames - 1).leading_zeros()) as u8
+}
 
 /// The order of what a request for `frames` frames is given, where it has one: `need(frames)` is a
 /// power of two up to 32 frames, and has no order above.
@@ -46,7 +66,7 @@ pub fn order_for(frames: u64) -> Option<u8>
     if frames > MOST_CACHED {
         return None;
     }
-    Some((64 - (frames - 1).leading_zeros()) as u8)
+    Some(order_of_need(frames))
 }
 
 /// What a request for `frames` frames is given, whose order is that of `order_for`.
@@ -98,14 +118,12 @@ fn first_limit(sac: bool, limit: u64) -> u64
 /// Whether the walk takes the newest entry of worker `w`'s loaded magazine, and comes to nothing
 /// else.
 #[inline(always)]
-pub fn is_at_hand(caches: &Caches, w: usize, sac: bool, order: Option<u8>, limit: u64) -> bool
+pub fn is_at_hand(caches: &Caches, w: usize, sac: bool, order: u8, size: u64, limit: u64) -> bool
     requires worker { w < caches.now.workers }
-    requires order { IfSome order (λ order. order < ORDERS) }
+    requires order { order < ORDERS }
+    requires size { size ≡ 2 ^ order }
 {
-    match order {
-        Some(order) => caches.gives_newest(w, order, first_limit(sac, limit)),
-        None => false,
-    }
+    caches.gives_newest(w, order, size, first_limit(sac, limit))
 }
 
 /// Asks the caches of worker `w`, where the newest entry of its loaded magazine is given. Else
@@ -128,7 +146,7 @@ fn from_loaded(
     ensures none { IfNone result (caches.new ≡ caches.old) }
     ensures cached { IsCached caches.old → IsCached caches.new }
 {
-    caches.get_newest(w, order?, limit)
+    caches.get_newest(w, order?, size, limit)
 }
 
 /// One try as `try_once`, where the newest entry of worker `w`'s loaded magazine is given. Else

@@ -136,28 +136,30 @@ impl Caches {
     }
 
     /// Whether worker `w`'s loaded magazine of this order, 0 to 5, has a newest entry, whose range
-    /// has no frame above `limit`: `get` then gives it.
+    /// has no frame above `limit`: `get` then gives it. A range of the order has `size` frames.
     #[inline(always)]
-    pub fn gives_newest(&self, w: usize, order: u8, limit: u64) -> bool
+    pub fn gives_newest(&self, w: usize, order: u8, size: u64, limit: u64) -> bool
         requires worker { w < self.now.workers }
         requires order { order < ORDERS }
+        requires size { size ≡ 2 ^ order }
         ensures { IsTrue result → GivesNewest (cache_at self.now.caches w order) limit (2 ^ order) }
     {
-        self.workers[w].gives_newest(order, limit)
+        self.workers[w].gives_newest(order, size, limit)
     }
 
     /// Gets as `get` does, where loaded's newest entry is given. Else None, and nothing changes.
     #[inline(always)]
-    pub fn get_newest(&mut self, w: usize, order: u8, limit: u64) -> Option<u64>
+    pub fn get_newest(&mut self, w: usize, order: u8, size: u64, limit: u64) -> Option<u64>
         requires worker { w < self.old.workers }
         requires order { order < ORDERS }
+        requires size { size ≡ 2 ^ order }
         ensures value { IfSome result (λ lo.
             (get (shelf_at self.old.caches w order) limit (2 ^ order)).0 ≡ Some lo) }
         ensures left { OnSome result (self.new ≡ after_get self.old w order limit) }
         ensures none { IfNone result (self.new ≡ self.old) }
         ensures sound { IsCached self.old → IsCached self.new }
     {
-        if !self.gives_newest(w, order, limit) {
+        if !self.gives_newest(w, order, size, limit) {
             return None;
         }
         self.get(w, order, limit)

@@ -86,11 +86,12 @@ impl Pair {
     }
 
     #[inline(always)]
-    fn gives_newest(&self, order: u8, limit: u64) -> bool
-        requires { order < ORDERS }
+    fn gives_newest(&self, order: u8, size: u64, limit: u64) -> bool
+        requires order { order < ORDERS }
+        requires size { size ≡ 2 ^ order }
         ensures { IsTrue result → GivesNewest self.now.cache limit (2 ^ order) }
     {
-        self.loaded.gives_newest(limit, 1 << order)
+        self.loaded.gives_newest(limit, size)
     }
 
     fn load(&mut self, magazine: Magazine)
@@ -243,13 +244,14 @@ impl WorkerCache {
     }
 
     /// Whether loaded of this order, 0 to 5, has a newest entry, whose range has no frame above
-    /// `limit`: `try_get` then gives it.
+    /// `limit`: `try_get` then gives it. A range of the order has `size` frames.
     #[inline(always)]
-    pub fn gives_newest(&self, order: u8, limit: u64) -> bool
-        requires { order < ORDERS }
+    pub fn gives_newest(&self, order: u8, size: u64, limit: u64) -> bool
+        requires order { order < ORDERS }
+        requires size { size ≡ 2 ^ order }
         ensures { IsTrue result → GivesNewest (cache_of self.now order) limit (2 ^ order) }
     {
-        self.pairs[order as usize].gives_newest(order, limit)
+        self.pairs[order as usize].gives_newest(order, size, limit)
     }
 
     /// Makes a magazine of the same profile loaded, where both of this order, 0 to 5, are empty

@@ -38,10 +38,10 @@ put_row-taken-requires-clause-sized c = sized_front _ _ _ c.as_slices.ensures.is
 pub put_row-taken-requires-clause-backed : goal.put_row-taken-requires-clause-backed
 put_row-taken-requires-clause-backed c =
     let one = drained_next _ _ _ _ _ _ _ _ _ c.loop-entry.invariant c.put_back.new.tree c.put_back.new.caches c.in-Some.entry c.take_flushed.new.self
-        c.in-Some.ensures.oldest c.in-Some.ensures.next c.in-Some.ensures.rest (rw c.new.ensures at c.put_back.ensures.caches) (rw c.new.ensures at c.put_back.ensures.backed) in
+    c.in-Some.ensures.oldest c.in-Some.ensures.next c.in-Some.ensures.rest (rw c.new.ensures at c.put_back.ensures.caches) (rw c.new.ensures at c.put_back.ensures.backed) in
     let left = drained_backed _ _ _ _ _ _ _ _ _ one c.requires.backed in
     backed_front _ _ _ (map entry_range c.as_slices.result.0.now) (map entry_range c.as_slices.result.1.now) left
-        (ap (map entry_range) (sym c.as_slices.ensures.is) ∙ map-append entry_range c.as_slices.result.0.now c.as_slices.result.1.now)
+    (ap (map entry_range) (sym c.as_slices.ensures.is) ∙ map-append entry_range c.as_slices.result.0.now c.as_slices.result.1.now)
 
 pub overflow_add-count-in-Some : goal.overflow_add-count-in-Some
 overflow_add-count-in-Some c =
@@ -55,12 +55,12 @@ loop-entry-smaller c =
 pub loop-entry-preserved : goal.loop-entry-preserved
 loop-entry-preserved c =
     let one = drained_next _ _ _ _ _ _ _ _ _ c.loop-entry.invariant c.put_back.new.tree c.put_back.new.caches c.in-Some.entry c.take_flushed.new.self
-        c.in-Some.ensures.oldest c.in-Some.ensures.next c.in-Some.ensures.rest (rw c.new.ensures at c.put_back.ensures.caches) (rw c.new.ensures at c.put_back.ensures.backed) in
+    c.in-Some.ensures.oldest c.in-Some.ensures.next c.in-Some.ensures.rest (rw c.new.ensures at c.put_back.ensures.caches) (rw c.new.ensures at c.put_back.ensures.backed) in
     let row = c.as_slices.result.0.now in
     let rest = c.as_slices.result.1.now in
     let all = drained_row _ _ _ _ _ _ _ _ _ one c.put_row-taken.new.tree c.put_row-taken.new.caches row _ rest _ (sym c.as_slices.ensures.is) c.put_row-taken.ensures.drained in
     let left : drop c.put_row-taken.result.0 row ++ rest ≡ c.drop_oldest.new.self =
-        sym (drop-append-le c.put_row-taken.result.0 row rest c.put_row-taken.ensures.within) ∙ (ap (drop c.put_row-taken.result.0) c.as_slices.ensures.is ∙ sym c.drop_oldest.ensures) in
+    sym (drop-append-le c.put_row-taken.result.0 row rest c.put_row-taken.ensures.within) ∙ (ap (drop c.put_row-taken.result.0) c.as_slices.ensures.is ∙ sym c.drop_oldest.ensures) in
     rw left at all
 
 pub returns-clause-count : goal.returns-clause-count
