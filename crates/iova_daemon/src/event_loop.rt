@@ -101,6 +101,10 @@ where
         post
     }
 
+    fn roster(&self) -> &Roster {
+        self.roster
+    }
+
     fn take_room(&self, _places: usize) -> bool {
         true
     }
