@@ -10,10 +10,10 @@ pub mod aside;
 mod crossing;
 mod event_loop;
 mod flusher;
-mod guests;
 mod meanwhile;
 mod pool;
 mod roster;
+mod session_table;
 mod threads;
 mod worker;
 
@@ -24,9 +24,9 @@ use crate::crossing::{
     turns_are_sync,
 };
 use crate::event_loop::Gear;
-use crate::guests::{EVENTS, LISTENER, WAKE};
 use crate::pool::Pool;
 use crate::roster::Roster;
+use crate::session_table::{EVENTS, LISTENER, WAKE};
 use crate::worker::WorkerContext;
 use flusher::{Busy, Flusher};
 use iova_keep::keep::Keep;
