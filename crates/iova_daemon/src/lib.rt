@@ -18,7 +18,7 @@ mod threads;
 mod worker;
 
 use crate::admission::Admission;
-use crate::aside::{Aside, Look, NothingAside};
+use crate::aside::{Aside, NothingAside};
 use crate::crossing::{
     admissions_are_sync, domains_are_sync, gears_are_send, pools_are_sync, posts_are_send,
     turns_are_sync,
