@@ -3,8 +3,8 @@ ghost use Rattle.std.specs.Prelude.{◌≡◌};
 
 use crate::admission::{Admission, Admitted};
 use crate::aside::{Aside, Look};
-use crate::guests::{Came, Guest, Hall, PIECE};
 use crate::roster::Roster;
+use crate::session_table::{ConnectedSession, PIECE, SessionTable, TurnOutcome};
 use crate::threads::Work;
 use crate::worker::{WorkerContext, go_aside, tell, try_again};
 use iova_keep::keep::Keep;
@@ -77,20 +77,20 @@ where
             sink: NotingSink::new(sink, self.notices),
             room,
         };
-        let mut hall = Hall::new(self.alloc, poll, events, bench.post.seat.worker());
+        let mut table = SessionTable::new(self.alloc, poll, events, bench.post.seat.worker());
         if *self.roster.gate.lock(self.rt) {
             let slot = self.roster.begin();
             let mut told = 0;
             let mut piece = [0; PIECE];
             'turns: for _ in self.rt.forever() {
-                let is_over = go_round(self, &mut hall, &mut bench, &mut piece);
+                let is_over = go_round(self, &mut table, &mut bench, &mut piece);
                 told = tell(self.rt, self.roster, slot, told, &bench.post.waiting);
                 if is_over {
                     break 'turns;
                 }
             }
         }
-        drop(hall);
+        drop(table);
         self.roster.end();
         let Bench {
             keeper: _,
@@ -99,6 +99,10 @@ where
             room: _,
         } = bench;
         post
+    }
+
+    fn roster(&self) -> &Roster {
+        self.roster
     }
 
     fn take_room(&self, _places: usize) -> bool {
@@ -126,7 +130,7 @@ where
 /// the clock. Whether all is over.
 fn go_round<R, N, C, F, S, G, K, O, D, X>(
     lent: &WorkerContext<&R, &N, K, &O, &Roster, &Admission, &X>,
-    hall: &mut Hall,
+    table: &mut SessionTable,
     bench: &mut Bench<C, F, S, G, K, D>,
     piece: &mut [u8],
 ) -> bool
@@ -142,17 +146,17 @@ where
     D: Sink,
     ensures { bench.new.post.seat.worker ≡ bench.old.post.seat.worker }
 {
-    hall.wait(lent.accept.patience().turn, !bench.post.waiting.is_empty());
+    table.wait(lent.accept.patience().turn, !bench.post.waiting.is_empty());
     if lent.accept.is_shut() {
-        end_all(lent, hall, bench);
+        end_all(lent, table, bench);
     }
-    admit_all(lent, hall, bench);
-    'serving: for at in 0..hall.ready_count() {
-        turn(lent, hall, bench, at, piece);
+    admit_all(lent, table, bench);
+    'serving: for at in 0..table.ready_count() {
+        turn(lent, table, bench, at, piece);
     }
-    hall.end_round();
-    look_at_clock(lent, hall, bench);
-    let is_over = hall.is_over();
+    table.end_round();
+    look_at_clock(lent, table, bench);
+    let is_over = table.is_over();
     if is_over {
         try_again(
             lent.roster,
@@ -167,7 +171,7 @@ where
 /// Accepts links for the worker, as long as it is the one that is to have the next.
 fn admit_all<R, N, C, F, S, G, K, O, D, X>(
     lent: &WorkerContext<&R, &N, K, &O, &Roster, &Admission, &X>,
-    hall: &mut Hall,
+    table: &mut SessionTable,
     bench: &mut Bench<C, F, S, G, K, D>,
 )
 where
@@ -181,55 +185,55 @@ where
     O: Door,
     ensures { bench.new.post.seat.worker ≡ bench.old.post.seat.worker }
 {
-    if !hall.is_called || hall.is_closed {
+    if !table.is_called || table.is_closed {
         return;
     }
-    hall.is_called = false;
+    table.is_called = false;
     let (rt, roster, admission) = (lent.rt, lent.roster, lent.admission);
     'admitting: for _ in 0..MAX_WAITING {
-        match admission.admit(rt, roster, lent.accept, hall.worker) {
+        match admission.admit(rt, roster, lent.accept, table.worker) {
             Admitted::Stream(stream, session) => {
-                roster.begin_session(hall.worker);
-                if let Err(end) = seat(lent.alloc, roster, hall, bench, stream, session) {
-                    leave(lent, hall, session, end);
+                roster.begin_session(table.worker);
+                if let Err(end) = seat(lent.alloc, roster, table, bench, stream, session) {
+                    leave(lent, table, session, end);
                 }
             }
             Admitted::Nothing => return,
             Admitted::Failed(error) => {
                 let pause = lent.accept.note_failed(&error);
                 if let Ok(now) = rt.monotonic() {
-                    hall.failed = Some((now, pause));
+                    table.failed = Some((now, pause));
                 }
                 return;
             }
             Admitted::End => {
-                hall.is_closed = true;
+                table.is_closed = true;
                 return;
             }
         }
     }
-    hall.is_called = true;
+    table.is_called = true;
 }
 
 /// Begins a session of this number over a connection. Refused by the end that it has come to.
 fn seat<C: Ledger, F: Ledger, S: Ledger, G: Ledger, K: Keep<C, F, S, G>, D>(
     alloc: Global,
     roster: &Roster,
-    hall: &mut Hall,
+    table: &mut SessionTable,
     bench: &mut Bench<C, F, S, G, K, D>,
     stream: UnixStream,
     session: u64,
 ) -> Result<(), End>
     ensures { bench.new.post.seat.worker ≡ bench.old.post.seat.worker }
 {
-    if !make_room(&mut bench.post, hall.guests.len().saturating_add(1)) {
+    if !make_room(&mut bench.post, table.sessions.len().saturating_add(1)) {
         return Err(End::NoMemory);
     }
     let Ok(link) = QueuedLink::new(alloc, stream) else {
         return Err(End::LinkFault);
     };
     let paused = PausedSession::new(bench.keeper.number(), roster.limits());
-    if hall.seat(link, paused, session) {
+    if table.seat(link, paused, session) {
         Ok(())
     } else {
         Err(End::NoMemory)
@@ -239,13 +243,13 @@ fn seat<C: Ledger, F: Ledger, S: Ledger, G: Ledger, K: Keep<C, F, S, G>, D>(
 /// A session of this number has ended, and its link is closed.
 fn leave<R: Wait, N: Log, K, O, X>(
     lent: &WorkerContext<&R, &N, K, &O, &Roster, &Admission, &X>,
-    hall: &mut Hall,
+    table: &mut SessionTable,
     session: u64,
     end: End,
 ) {
-    lent.roster.end_session(hall.worker);
-    if lent.admission.leave(lent.rt, lent.roster, hall.worker) {
-        hall.is_called = true;
+    lent.roster.end_session(table.worker);
+    if lent.admission.leave(lent.rt, lent.roster, table.worker) {
+        table.is_called = true;
     }
     note_end(lent.notices, session, end);
 }
@@ -253,7 +257,7 @@ fn leave<R: Wait, N: Log, K, O, X>(
 /// Gives the session that is ready at this place its turn.
 fn turn<R, N, C, F, S, G, K, O, D, X>(
     lent: &WorkerContext<&R, &N, K, &O, &Roster, &Admission, &X>,
-    hall: &mut Hall,
+    table: &mut SessionTable,
     bench: &mut Bench<C, F, S, G, K, D>,
     at: usize,
     piece: &mut [u8],
@@ -270,50 +274,50 @@ where
     D: Sink,
     ensures { bench.new.post.seat.worker ≡ bench.old.post.seat.worker }
 {
-    let Some(key) = hall.ready_at(at) else {
+    let Some(key) = table.ready_at(at) else {
         return;
     };
-    let Some(guest) = hall.guest(key) else {
+    let Some(connected) = table.connected(key) else {
         return;
     };
-    match go_on(lent.accept, guest, piece, bench) {
-        Came::Nothing => hall.go_on(key, false),
-        Came::More => hall.go_on(key, true),
-        Came::End(end) => end_session(lent, hall, bench, key, end),
+    match go_on(lent.accept, connected, piece, bench) {
+        TurnOutcome::Nothing => table.go_on(key, false),
+        TurnOutcome::More => table.go_on(key, true),
+        TurnOutcome::End(end) => end_session(lent, table, bench, key, end),
     }
 }
 
 /// Sends what waits to be sent, and takes the next piece of the session's stream.
 fn go_on<C: Ledger, F: Ledger, S: Ledger, G: Ledger, K: Keep<C, F, S, G>, O: Door, D: Sink>(
     door: &O,
-    guest: &mut Guest,
+    connected: &mut ConnectedSession,
     room: &mut [u8],
     bench: &mut Bench<C, F, S, G, K, D>,
-) -> Came
+) -> TurnOutcome
     ensures { bench.new.post.seat.worker ≡ bench.old.post.seat.worker }
 {
-    if guest.link.is_behind() {
-        if !guest.link.send_on() {
-            return Came::End(End::LinkFault);
+    if connected.link.is_behind() {
+        if !connected.link.send_on() {
+            return TurnOutcome::End(End::LinkFault);
         }
-        guest.idle = 0;
-        if guest.link.is_behind() {
-            return Came::Nothing;
+        connected.idle = 0;
+        if connected.link.is_behind() {
+            return TurnOutcome::Nothing;
         }
     }
-    if let Some(end) = guest.end {
-        return Came::End(end);
+    if let Some(end) = connected.end {
+        return TurnOutcome::End(end);
     }
-    match guest.link.look(room) {
-        Found::Nothing => Came::Nothing,
-        Found::Interrupted => Came::More,
-        Found::End => Came::End(End::Closed),
-        Found::Fault => Came::End(End::LinkFault),
+    match connected.link.look(room) {
+        Found::Nothing => TurnOutcome::Nothing,
+        Found::Interrupted => TurnOutcome::More,
+        Found::End => TurnOutcome::End(End::Closed),
+        Found::Fault => TurnOutcome::End(End::LinkFault),
         Found::Bytes(n) => {
-            guest.idle = 0;
+            connected.idle = 0;
             match room.get(..n) {
-                Some(piece) => take(door, guest, piece, bench, n == room.len()),
-                None => Came::End(End::LinkFault),
+                Some(piece) => take(door, connected, piece, bench, n == room.len()),
+                None => TurnOutcome::End(End::LinkFault),
             }
         }
     }
@@ -322,31 +326,32 @@ fn go_on<C: Ledger, F: Ledger, S: Ledger, G: Ledger, K: Keep<C, F, S, G>, O: Doo
 /// Takes a piece of the session's stream, behind which there may be more.
 fn take<C: Ledger, F: Ledger, S: Ledger, G: Ledger, K: Keep<C, F, S, G>, O: Door, D: Sink>(
     door: &O,
-    guest: &mut Guest,
+    connected: &mut ConnectedSession,
     piece: &[u8],
     bench: &mut Bench<C, F, S, G, K, D>,
     has_more: bool,
-) -> Came
+) -> TurnOutcome
     ensures { bench.new.post.seat.worker ≡ bench.old.post.seat.worker }
 {
     door.count(piece);
     // every session here was begun with the number of the one domain that is served
-    if guest.paused.number() != bench.keeper.number() {
-        return Came::End(End::LinkFault);
+    if connected.paused.number() != bench.keeper.number() {
+        return TurnOutcome::End(End::LinkFault);
     }
     let end = resume(
-        &mut guest.paused,
+        &mut connected.paused,
         piece,
-        &mut guest.link,
+        &mut connected.link,
         &mut bench.keeper,
         &mut bench.post,
         &mut bench.sink,
         &mut bench.room,
     );
     match end {
-        Some(end) => Came::End(end),
-        None if (has_more || guest.is_closing) && !guest.link.is_behind() => Came::More,
-        None => Came::Nothing,
+        Some(end) => TurnOutcome::End(end),
+        None if (has_more || connected.is_closing) && !connected.link.is_behind() =>
+            TurnOutcome::More,
+        None => TurnOutcome::Nothing,
     }
 }
 
@@ -354,7 +359,7 @@ fn take<C: Ledger, F: Ledger, S: Ledger, G: Ledger, K: Keep<C, F, S, G>, O: Door
 /// is sent. What can't be done yet is tried again.
 fn end_session<R, N, C, F, S, G, K, O, D, X>(
     lent: &WorkerContext<&R, &N, K, &O, &Roster, &Admission, &X>,
-    hall: &mut Hall,
+    table: &mut SessionTable,
     bench: &mut Bench<C, F, S, G, K, D>,
     key: usize,
     end: End,
@@ -371,38 +376,38 @@ where
     D: Sink,
     ensures { bench.new.post.seat.worker ≡ bench.old.post.seat.worker }
 {
-    let Some(guest) = hall.guests.get_mut(key) else {
+    let Some(connected) = table.sessions.get_mut(key) else {
         return;
     };
-    guest.end = Some(end);
-    if !guest.is_gone {
+    connected.end = Some(end);
+    if !connected.is_gone {
         let gone = depart(
-            &guest.paused,
+            &connected.paused,
             &mut bench.keeper,
             &mut bench.post,
             &mut bench.sink,
         );
-        guest.is_gone = gone.is_some();
+        connected.is_gone = gone.is_some();
     }
-    if !guest.is_gone {
-        hall.is_owed = true;
+    if !connected.is_gone {
+        table.is_owed = true;
         return;
     }
-    let lingers = guest.link.is_behind() && end != End::LinkFault && !lent.accept.is_shut();
+    let lingers = connected.link.is_behind() && end != End::LinkFault && !lent.accept.is_shut();
     if lingers {
-        hall.go_on(key, false);
-    } else if let Some(guest) = hall.guests.try_remove(key) {
-        let session = guest.session;
+        table.go_on(key, false);
+    } else if let Some(connected) = table.sessions.try_remove(key) {
+        let session = connected.session;
         // so there are never more connections than sessions
-        drop(guest);
-        leave(lent, hall, session, end);
+        drop(connected);
+        leave(lent, table, session, end);
     }
 }
 
 /// Ends all sessions: the daemon stops.
 fn end_all<R, N, C, F, S, G, K, O, D, X>(
     lent: &WorkerContext<&R, &N, K, &O, &Roster, &Admission, &X>,
-    hall: &mut Hall,
+    table: &mut SessionTable,
     bench: &mut Bench<C, F, S, G, K, D>,
 )
 where
@@ -419,9 +424,9 @@ where
 {
     lent.accept.shut();
     lent.admission.end(lent.rt);
-    hall.is_closed = true;
-    'ending: for key in 0..hall.guests.capacity() {
-        end_session(lent, hall, bench, key, End::Closed);
+    table.is_closed = true;
+    'ending: for key in 0..table.sessions.capacity() {
+        end_session(lent, table, bench, key, End::Closed);
     }
 }
 
@@ -429,7 +434,7 @@ where
 /// and accepts again after a failure.
 fn look_at_clock<R, N, C, F, S, G, K, O, D, X>(
     lent: &WorkerContext<&R, &N, K, &O, &Roster, &Admission, &X>,
-    hall: &mut Hall,
+    table: &mut SessionTable,
     bench: &mut Bench<C, F, S, G, K, D>,
 )
 where
@@ -445,36 +450,36 @@ where
     ensures { bench.new.post.seat.worker ≡ bench.old.post.seat.worker }
 {
     let patience = lent.accept.patience();
-    let is_waited = !bench.post.waiting.is_empty() || hall.is_owed;
-    if patience.turn.is_none() && !is_waited && hall.failed.is_none() {
+    let is_waited = !bench.post.waiting.is_empty() || table.is_owed;
+    if patience.turn.is_none() && !is_waited && table.failed.is_none() {
         return;
     }
     let Ok(now) = lent.rt.monotonic() else {
         return;
     };
-    if let Some((since, pause)) = hall.failed
+    if let Some((since, pause)) = table.failed
         && now.saturating_sub(since) >= pause
     {
-        hall.failed = None;
-        hall.is_called = true;
+        table.failed = None;
+        table.is_called = true;
     }
-    if is_waited && now.saturating_sub(hall.tried) >= Duration::from_millis(RETRY_PAUSE) {
-        hall.tried = now;
+    if is_waited && now.saturating_sub(table.tried) >= Duration::from_millis(RETRY_PAUSE) {
+        table.tried = now;
         try_again(
             lent.roster,
             &mut bench.keeper,
             &mut bench.post,
             &mut bench.sink,
         );
-        end_owed(lent, hall, bench);
+        end_owed(lent, table, bench);
     }
     if let Some(turn) = patience.turn
-        && now.saturating_sub(hall.looked) >= turn
+        && now.saturating_sub(table.looked) >= turn
     {
-        hall.looked = now;
-        'looking: for key in 0..hall.guests.capacity() {
-            if hall.is_idle(key, patience.turns) {
-                end_session(lent, hall, bench, key, End::LinkFault);
+        table.looked = now;
+        'looking: for key in 0..table.sessions.capacity() {
+            if table.is_idle(key, patience.turns) {
+                end_session(lent, table, bench, key, End::LinkFault);
             }
         }
     }
@@ -483,7 +488,7 @@ where
 /// Tries the clients again whose end couldn't be tried.
 fn end_owed<R, N, C, F, S, G, K, O, D, X>(
     lent: &WorkerContext<&R, &N, K, &O, &Roster, &Admission, &X>,
-    hall: &mut Hall,
+    table: &mut SessionTable,
     bench: &mut Bench<C, F, S, G, K, D>,
 )
 where
@@ -498,10 +503,10 @@ where
     D: Sink,
     ensures { bench.new.post.seat.worker ≡ bench.old.post.seat.worker }
 {
-    hall.is_owed = false;
-    'owing: for key in 0..hall.guests.capacity() {
-        if let Some(end) = hall.owed_at(key) {
-            end_session(lent, hall, bench, key, end);
+    table.is_owed = false;
+    'owing: for key in 0..table.sessions.capacity() {
+        if let Some(end) = table.owed_at(key) {
+            end_session(lent, table, bench, key, end);
         }
     }
 }

@@ -1,7 +1,7 @@
 //! A daemon's threads: a slot for each post, and a flusher beside them.
 #![tactic(auto)]
 
-ghost use Rattle.std.specs.Prelude.{◌≡◌, ◌+◌, ◌≤◌, IfOk, IfErr, map, vec_len, slice_get};
+ghost use Rattle.std.specs.Prelude.{◌≡◌, ◌+◌, ◌≤◌, Ok, Err, IfOk, IfErr, map, vec_len, slice_get};
 ghost use Rattle.std.specs.Option.{ForSome};
 ghost use Rattle.iova_daemon.specs.Serving.{IsServeRefusal};
 
@@ -10,23 +10,23 @@ pub mod aside;
 mod crossing;
 mod event_loop;
 mod flusher;
-mod guests;
 mod meanwhile;
 mod pool;
 mod roster;
+mod session_table;
 mod threads;
 mod worker;
 
 use crate::admission::Admission;
-use crate::aside::{Aside, Look, NothingAside};
+use crate::aside::{Aside, NothingAside};
 use crate::crossing::{
     admissions_are_sync, domains_are_sync, gears_are_send, pools_are_sync, posts_are_send,
     turns_are_sync,
 };
 use crate::event_loop::Gear;
-use crate::guests::{EVENTS, LISTENER, WAKE};
 use crate::pool::Pool;
 use crate::roster::Roster;
+use crate::session_table::{EVENTS, LISTENER, WAKE};
 use crate::worker::WorkerContext;
 use flusher::{Busy, Flusher};
 use iova_keep::keep::Keep;
@@ -50,7 +50,7 @@ use std::rt::Clock;
 use std::sync::Wait;
 use std::sync::ledger::Ledger;
 use std::thread::Threads;
-use threads::run_all;
+use threads::{Work, run_all};
 
 /// What serving leaves.
 #[derive(Drop)]
@@ -192,89 +192,42 @@ where
     ensures shared { IfOk result (λ s. s.shared ≡ shared) }
     ensures refusal { IfErr result IsServeRefusal }
 {
-    // for the proof: that threads may share the domain
+    // for the proof: what threads may share
     domains_are_sync::<Q, C, F, S, G>();
-    let served = serve_kept::<R, N, C, F, S, G, &Shared<Q, C, F, S, G>, L, A, D, P, X>(
-        service, &shared, posts, sinks, accept, pause,
-    );
-    match served {
-        Ok(posts) => Ok(Served { shared, posts }),
-        Err(refusal) => {
-            drop(shared);
-            Err(refusal)
-        }
-    }
-}
-
-/// The same on a domain that is kept elsewhere: gives the posts back.
-fn serve_kept<R, N, C, F, S, G, K, L, A, D, P, X>(
-    service: &Service<'_, R, N, X>,
-    keeper: K,
-    posts: Vec<Post<C, F, S, G>>,
-    sinks: Vec<D>,
-    accept: &A,
-    pause: P,
-) -> Result<Vec<Post<C, F, S, G>>, Refusal>
-where
-    R: Threads + Wait + Clock + Sync,
-    N: Log + Sync,
-    C: Ledger + Send + Sync,
-    F: Ledger + Send + Sync,
-    S: Ledger + Send + Sync,
-    G: Ledger + Send + Sync,
-    K: Keep<C, F, S, G> + Look + Copy + Sync + Drop,
-    L: Link + Send + Drop,
-    A: Accept<L> + Sync,
-    D: Sink + Send + Drop,
-    P: Pause + Drop,
-    X: Aside + Sync,
-    requires some { 1 ≤ vec_len posts }
-    requires sinks { vec_len sinks ≡ vec_len posts + 1 }
-    requires parts { ForSome (slice_get posts.items 0) (λ p. 2 ≤ p.seat.tally.parts) }
-    ensures posts { IfOk result (λ v. map (λ p. p.seat.worker) v.items
-        ≡ map (λ p. p.seat.worker) posts.items) }
-    ensures refusal { IfErr result IsServeRefusal }
-{
-    // for the proof: what a worker has may go to its thread
-    posts_are_send::<C, F, S, G>();
     turns_are_sync();
     pools_are_sync::<L>();
-    let rt = service.rt;
-    let mut posts = posts;
     let mut sinks = sinks;
     let Some(sink) = sinks.pop() else {
         unreachable!()
     };
     let roster = Roster::new(service.alloc, service.serving, posts.len() as u64);
     let pool: Pool<L> = Pool::new(service.alloc);
-    let mut flusher = Flusher {
-        rt,
-        notices: service.notices,
-        keeper,
-        tally: posts[0].seat.tally().split(),
-        sink,
-        pause,
-        roster: &roster,
-        busy: Busy::new(),
-    };
     let lent = WorkerContext {
-        rt,
+        rt: service.rt,
         alloc: service.alloc,
         notices: service.notices,
-        keeper,
+        keeper: &shared,
         accept,
         roster: &roster,
         admission: &pool,
         aside: service.aside,
     };
-    run_all::<
+    let served = serve_kept::<
         R,
-        WorkerContext<&R, &N, K, &A, &Roster, &Pool<L>, &X>,
-        Post<C, F, S, G>,
-        D,
+        N,
+        C,
+        F,
+        S,
+        G,
+        &Shared<Q, C, F, S, G>,
+        WorkerContext<&R, &N, &Shared<Q, C, F, S, G>, &A, &Roster, &Pool<L>, &X>,
         L,
-        Flusher<'_, R, N, K, G, D, P>,
-    >(rt, &lent, posts, sinks, &roster, &mut flusher)
+        D,
+        D,
+        P,
+        X,
+    >(service, &shared, &lent, posts, sinks, sink, pause);
+    give_back(shared, served)
 }
 
 /// Serves sessions on the domain as `serve_sessions` does, but more of them than there are posts:
@@ -321,62 +274,19 @@ where
     ensures shared { IfOk result (λ s. s.shared ≡ shared) }
     ensures refusal { IfErr result IsServeRefusal }
 {
-    // for the proof: that threads may share the domain
+    // for the proof: what threads may share, and what goes to them
     domains_are_sync::<Q, C, F, S, G>();
-    let served = serve_kept_in_turns::<R, N, C, F, S, G, &Shared<Q, C, F, S, G>, O, D, P, X>(
-        service, &shared, posts, sinks, door, pause,
-    );
-    match served {
-        Ok(posts) => Ok(Served { shared, posts }),
-        Err(refusal) => {
-            drop(shared);
-            Err(refusal)
-        }
-    }
-}
-
-/// The same on a domain that is kept elsewhere: gives the posts back.
-fn serve_kept_in_turns<R, N, C, F, S, G, K, O, D, P, X>(
-    service: &Service<'_, R, N, X>,
-    keeper: K,
-    posts: Vec<Post<C, F, S, G>>,
-    sinks: Vec<D>,
-    door: &O,
-    pause: P,
-) -> Result<Vec<Post<C, F, S, G>>, Refusal>
-where
-    R: Threads + Wait + Clock + Dial + Sync,
-    N: Log + Sync,
-    C: Ledger + Send + Sync,
-    F: Ledger + Send + Sync,
-    S: Ledger + Send + Sync,
-    G: Ledger + Send + Sync,
-    K: Keep<C, F, S, G> + Look + Copy + Sync + Drop,
-    O: Door + Sync,
-    D: Sink + Send + Drop,
-    P: Pause + Drop,
-    X: Aside + Sync,
-    requires some { 1 ≤ vec_len posts }
-    requires sinks { vec_len sinks ≡ vec_len posts + 1 }
-    requires parts { ForSome (slice_get posts.items 0) (λ p. 2 ≤ p.seat.tally.parts) }
-    ensures posts { IfOk result (λ v. map (λ p. p.seat.worker) v.items
-        ≡ map (λ p. p.seat.worker) posts.items) }
-    ensures refusal { IfErr result IsServeRefusal }
-{
-    // for the proof: what a worker has may go to its thread
-    posts_are_send::<C, F, S, G>();
-    gears_are_send::<D, Poll, Events, RunRoom>();
     turns_are_sync();
     admissions_are_sync();
-    let rt = service.rt;
-    let mut posts = posts;
+    gears_are_send::<D, Poll, Events, RunRoom>();
     let mut sinks = sinks;
     let Some(sink) = sinks.pop() else {
         unreachable!()
     };
-    let (gears, wakers) = match gears_of(rt, service.alloc, door, sinks) {
+    let (gears, wakers) = match gears_of(service.rt, service.alloc, door, sinks) {
         Ok(made) => made,
         Err(refusal) => {
+            drop(shared);
             drop(posts);
             drop(sink);
             drop(pause);
@@ -385,34 +295,101 @@ where
     };
     let roster = Roster::new(service.alloc, service.serving, posts.len() as u64);
     let admission = Admission::new(wakers);
-    let mut flusher = Flusher {
-        rt,
-        notices: service.notices,
-        keeper,
-        tally: posts[0].seat.tally().split(),
-        sink,
-        pause,
-        roster: &roster,
-        busy: Busy::new(),
-    };
     let lent = WorkerContext {
-        rt,
+        rt: service.rt,
         alloc: service.alloc,
         notices: service.notices,
-        keeper,
+        keeper: &shared,
         accept: door,
         roster: &roster,
         admission: &admission,
         aside: service.aside,
     };
-    run_all::<
+    let served = serve_kept::<
         R,
-        WorkerContext<&R, &N, K, &O, &Roster, &Admission, &X>,
-        Post<C, F, S, G>,
-        Gear<D, Poll, Events, RunRoom>,
+        N,
+        C,
+        F,
+        S,
+        G,
+        &Shared<Q, C, F, S, G>,
+        WorkerContext<&R, &N, &Shared<Q, C, F, S, G>, &O, &Roster, &Admission, &X>,
         (),
-        Flusher<'_, R, N, K, G, D, P>,
-    >(rt, &lent, posts, gears, &roster, &mut flusher)
+        Gear<D, Poll, Events, RunRoom>,
+        D,
+        P,
+        X,
+    >(service, &shared, &lent, posts, gears, sink, pause);
+    give_back(shared, served)
+}
+
+/// Serves at the posts with what their threads are lent and given, and flushes beside them with
+/// this sink: gives the posts back.
+fn serve_kept<R, N, C, F, S, G, K, W, L, E, D, P, X>(
+    service: &Service<'_, R, N, X>,
+    keeper: K,
+    lent: &W,
+    posts: Vec<Post<C, F, S, G>>,
+    gears: Vec<E>,
+    sink: D,
+    pause: P,
+) -> Result<Vec<Post<C, F, S, G>>, Refusal>
+where
+    R: Threads + Wait,
+    N: Log,
+    C: Ledger + Send + Sync,
+    F: Ledger + Send + Sync,
+    S: Ledger + Send + Sync,
+    G: Ledger + Send + Sync,
+    K: Keep<C, F, S, G> + Drop,
+    W: Work<Post<C, F, S, G>, E, L> + Sync,
+    E: Send + Drop,
+    D: Sink + Drop,
+    P: Pause + Drop,
+    requires some { 1 ≤ vec_len posts }
+    requires gears { vec_len posts ≤ vec_len gears }
+    requires parts { ForSome (slice_get posts.items 0) (λ p. 2 ≤ p.seat.tally.parts) }
+    ensures posts { IfOk result (λ v. map (λ p. p.seat.worker) v.items
+        ≡ map (λ p. p.seat.worker) posts.items) }
+    ensures refusal { IfErr result IsServeRefusal }
+{
+    // for the proof: what a worker has may go to its thread
+    posts_are_send::<C, F, S, G>();
+    let mut posts = posts;
+    let mut flusher = Flusher {
+        rt: service.rt,
+        notices: service.notices,
+        keeper,
+        tally: posts[0].seat.tally().split(),
+        sink,
+        pause,
+        roster: lent.roster(),
+        busy: Busy::new(),
+    };
+    run_all::<R, W, Post<C, F, S, G>, E, L, Flusher<'_, R, N, K, G, D, P>>(
+        service.rt,
+        lent,
+        posts,
+        gears,
+        &mut flusher,
+    )
+}
+
+/// The domain, and the posts where nothing was refused.
+fn give_back<Q: Drop, C: Ledger, F: Ledger, S: Ledger, G: Ledger>(
+    shared: Shared<Q, C, F, S, G>,
+    posts: Result<Vec<Post<C, F, S, G>>, Refusal>,
+) -> Result<Served<Q, C, F, S, G>, Refusal>
+    ensures served { IfOk result (λ s. (s.shared ≡ shared) × (posts ≡ Ok s.posts)) }
+    ensures refusal { IfErr result (λ e. posts ≡ Err e) }
+{
+    match posts {
+        Ok(posts) => Ok(Served { shared, posts }),
+        Err(refusal) => {
+            drop(shared);
+            Err(refusal)
+        }
+    }
 }
 
 /// What each worker's thread has beside its post, and what wakes it. Refused by `NoMemory`, and by

@@ -1,8 +1,8 @@
 //! Sessions that begin at a post whose clients wait: these are tried again meanwhile.
 ghost use Rattle.std.specs.Prelude.{◌≡◌, ◌≤◌, None, IfOk, IfSome, length};
 
-use crate::guests::PIECE;
 use crate::roster::Roster;
+use crate::session_table::PIECE;
 use crate::worker::{tell, try_again};
 use iova_keep::keep::Keep;
 use iova_range::limits::RETRY_PAUSE;

@@ -25,6 +25,9 @@ pub(crate) trait Work<P: Place, D, L> {
     fn work(&self, place: P, sink: D) -> P
         ensures { P.worker result ≡ P.worker place };
 
+    /// The roster of the workers.
+    fn roster(&self) -> &Roster;
+
     /// Takes the room that so many places need beside their own. Whether it was had.
     fn take_room(&self, places: usize) -> bool;
 
@@ -70,7 +73,6 @@ pub(crate) fn run_all<R, W, P, D, L, B>(
     lent: &W,
     places: Vec<P>,
     sinks: Vec<D>,
-    roster: &Roster,
     beside: &mut B,
 ) -> Result<Vec<P>, Refusal>
 where
@@ -90,7 +92,7 @@ where
             requires { vec_len places ≤ vec_len sinks }
             ensures places { IfOk result (λ v. map P.worker v.items ≡ map P.worker places.items) }
             ensures refusal { IfErr result IsServeRefusal }
-        { run_in(scope, rt, lent, places, sinks, roster, beside) },
+        { run_in(scope, rt, lent, places, sinks, beside) },
     )
 }
 
@@ -101,7 +103,6 @@ fn run_in<'s, E, R, W, P, D, L, B>(
     lent: &'s W,
     places: Vec<P>,
     sinks: Vec<D>,
-    roster: &Roster,
     beside: &mut B,
 ) -> Result<Vec<P>, Refusal>
 where
@@ -129,7 +130,7 @@ where
         return Err(Refusal::NoMemory);
     }
     // started workers wait for the gate until all are started
-    let mut gate = roster.gate.lock(rt);
+    let mut gate = lent.roster().gate.lock(rt);
     let all = start_all::<E, W, P, D, L>(scope, lent, places, sinks, &mut started);
     let aside = if all {
         start_aside::<E, W, P, D, L>(scope, lent)

@@ -141,6 +141,10 @@ where
         post
     }
 
+    fn roster(&self) -> &Roster {
+        self.roster
+    }
+
     fn take_room(&self, places: usize) -> bool {
         self.admission.take_room(self.rt, places)
     }

@@ -1,5 +1,5 @@
 //! How busy workers are, and which of them the next session goes to.
-ghost use Rattle.std.specs.Prelude.{◌≡◌, ◌<◌, IfSome, IfNone, All, slice_get};
+ghost use Rattle.std.specs.Prelude.{◌≡◌, ◌%◌, IfSome, IfNone, All, slice_get};
 ghost use Rattle.std.specs.Option.{ForSome};
 ghost use Rattle.iova_links.specs.Loads.{IsFewest};
 ghost use Rattle.iova_range.specs.declared.limits.TheConstants.{MAX_WORKERS};
@@ -15,7 +15,7 @@ pub struct Load {
 
 /// The place of a worker.
 pub fn place_of(worker: u64) -> usize
-    ensures { result < MAX_WORKERS }
+    ensures { result ≡ worker % MAX_WORKERS }
 {
     (worker % MAX_WORKERS) as usize
 }

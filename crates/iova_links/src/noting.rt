@@ -1,4 +1,6 @@
 //! A sink whose failures are notices.
+ghost use Rattle.std.specs.Prelude.{◌≡◌};
+
 use iova_range::range::Range;
 use iova_session::end::End;
 use iova_sink::sink::{Sink, SinkFault};
@@ -13,7 +15,10 @@ pub struct NotingSink<'a, D, N> {
 
 impl<'a, D, N> NotingSink<'a, D, N> {
     /// This sink, with notices told here.
-    pub fn new(sink: D, notices: &'a N) -> NotingSink<'a, D, N> {
+    pub fn new(sink: D, notices: &'a N) -> NotingSink<'a, D, N>
+        ensures sink { result.sink ≡ sink }
+        ensures notices { result.notices ≡ notices.entry }
+    {
         NotingSink { sink, notices }
     }
 }

@@ -1,4 +1,7 @@
 //! Pauses of a daemon.
+ghost use Rattle.std.specs.Prelude.{◌≡◌, IfSome, IfNone};
+ghost use Rattle.std.specs.Ordering.{ord_min};
+
 use iova_range::limits::FLUSH_PAUSE;
 use std::rt::Clock;
 use std::thread;
@@ -8,7 +11,10 @@ use std::time::Duration;
 const LOOK_PAUSE: u64 = 100;
 
 /// The shorter of two times; none is without an end.
-pub fn shorter(limit: Option<Duration>, time: Duration) -> Duration {
+pub fn shorter(limit: Option<Duration>, time: Duration) -> Duration
+    ensures limit { IfSome limit (λ l. result ≡ ord_min ⟦<Duration as Ord>⟧.cmp l time) }
+    ensures none { IfNone limit (result ≡ time) }
+{
     match limit {
         Some(limit) => limit.min(time),
         None => time,

@@ -1,5 +1,6 @@
 //! A link over a socket, which a daemon's stop ends.
 ghost use Rattle.std.specs.Prelude.{◌≡◌, ◌≤◌, ◌<◌, IfOk, IfSome, length};
+ghost use Rattle.memchr.specs.Find.{places, is_byte};
 
 use crate::signals::Signals;
 use iova_range::limits::STOP_PAUSE;
@@ -276,12 +277,14 @@ fn is_to_be_tried_again(called: &io::Result<usize>, left: &mut u64) -> bool {
 fn count_read(signals: &Signals, read: &io::Result<usize>, buf: &[u8]) {
     if let Ok(n) = read {
         if let Some(piece) = buf.get(..*n) {
-            count_lines(signals, piece);
+            signals.count_requests(count_lines(piece));
         }
     }
 }
 
-/// Counts the lines that came.
-pub fn count_lines(signals: &Signals, piece: &[u8]) {
-    signals.count_requests(memchr_iter(b'\n', piece).count() as u64);
+/// How many lines end in these bytes: one at each newline.
+pub fn count_lines(piece: &[u8]) -> u64
+    ensures { result ≡ length (places (is_byte 10) piece.now) }
+{
+    memchr_iter(b'\n', piece).count() as u64
 }

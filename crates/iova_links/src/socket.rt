@@ -204,7 +204,7 @@ impl<'a, R: AllocGlobal + Dial + Wait, N: Log> Door for SocketAccept<'a, R, N> {
     fn count(&self, piece: &[u8]) {
         // without a control socket nobody can ask how many there were
         if self.patience.turn.is_some() {
-            count_lines(self.signals, piece);
+            self.signals.count_requests(count_lines(piece));
         }
     }
 

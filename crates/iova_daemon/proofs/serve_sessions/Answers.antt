@@ -1,13 +1,13 @@
 use denote.Param.Send.{shr_sync, sendable}
 use Rattle.iova_daemon.proofs.Sends.{WorkerContext-sync}
-use Rattle.iova_daemon.proofs.serve_kept.Goals as goal
+use Rattle.iova_daemon.proofs.serve_sessions.Goals as goal
 
 -- threads may share what they are lent
-pub run_all-requires-sync-W : goal.run_all-requires-sync-W
-run_all-requires-sync-W g c κs within =
-    let keeper = c.type_bounds.sync-K in
+pub serve_kept-served-requires-sync-W : goal.serve_kept-served-requires-sync-W
+serve_kept-served-requires-sync-W g c κs within =
+    let domain = c.domains_are_sync.ensures in
     let turns = c.turns_are_sync.ensures in
-    let pool = c.pools_are_sync.ensures in
+    let admission = c.pools_are_sync.ensures in
     let runtime = c.type_bounds.sync-R in
     let notices = c.type_bounds.sync-N in
     let accept = c.type_bounds.sync-A in

@@ -29,7 +29,7 @@ const FIRST: usize = 2;
 
 /// What a turn came to.
 #[derive(Clone, Copy)]
-pub(crate) enum Came {
+pub(crate) enum TurnOutcome {
     /// The session waits.
     Nothing,
     /// There may be more.
@@ -40,7 +40,7 @@ pub(crate) enum Came {
 
 /// A session that takes turns with others.
 #[derive(Drop)]
-pub(crate) struct Guest {
+pub(crate) struct ConnectedSession {
     pub link: QueuedLink,
     pub paused: PausedSession,
     /// Its number.
@@ -61,8 +61,8 @@ pub(crate) struct Guest {
 
 /// The sessions of a worker, which of them are ready for a turn, and the times of what is due.
 #[derive(Drop)]
-pub(crate) struct Hall {
-    pub guests: Slab<Guest>,
+pub(crate) struct SessionTable {
+    pub sessions: Slab<ConnectedSession>,
     pub worker: u64,
     /// Somebody may stand at the listener, or no session is to come.
     pub is_called: bool,
@@ -81,11 +81,11 @@ pub(crate) struct Hall {
     later: Vec<usize>,
 }
 
-impl Hall {
+impl SessionTable {
     /// No session. The listener is looked at first.
-    pub(crate) fn new(alloc: Global, poll: Poll, events: Events, worker: u64) -> Hall {
-        Hall {
-            guests: Slab::new(alloc),
+    pub(crate) fn new(alloc: Global, poll: Poll, events: Events, worker: u64) -> SessionTable {
+        SessionTable {
+            sessions: Slab::new(alloc),
             worker,
             is_called: true,
             is_closed: false,
@@ -102,7 +102,7 @@ impl Hall {
 
     /// Whether no session is served, and none is to come.
     pub(crate) fn is_over(&self) -> bool {
-        self.is_closed && self.guests.is_empty()
+        self.is_closed && self.sessions.is_empty()
     }
 
     /// Waits until a session or the listener has something, no longer than this; not at all while a
@@ -111,7 +111,7 @@ impl Hall {
         let limit = self.limit(turn, is_waited);
         // a wait that fails has found nothing
         let _ = self.poll.poll(&mut self.events, limit);
-        if mark(&self.events, &mut self.guests, &mut self.ready) {
+        if mark(&self.events, &mut self.sessions, &mut self.ready) {
             self.is_called = true;
         }
     }
@@ -142,10 +142,10 @@ impl Hall {
     }
 
     /// The session at this key, which takes its turn.
-    pub(crate) fn guest(&mut self, key: usize) -> Option<&mut Guest> {
-        let guest = self.guests.get_mut(key)?;
-        guest.is_ready = false;
-        Some(guest)
+    pub(crate) fn connected(&mut self, key: usize) -> Option<&mut ConnectedSession> {
+        let connected = self.sessions.get_mut(key)?;
+        connected.is_ready = false;
+        Some(connected)
     }
 
     /// All that were ready had their turns.
@@ -156,10 +156,10 @@ impl Hall {
 
     /// The session at this key had its turn. Whether it is ready for another one.
     pub(crate) fn go_on(&mut self, key: usize, has_more: bool) {
-        if let Some(guest) = self.guests.get_mut(key) {
-            watch(self.poll.registry(), guest, key);
+        if let Some(connected) = self.sessions.get_mut(key) {
+            watch(self.poll.registry(), connected, key);
             if has_more {
-                call(guest, key, &mut self.later);
+                call(connected, key, &mut self.later);
             }
         }
     }
@@ -167,10 +167,10 @@ impl Hall {
     /// A turn of patience more has gone by without anything of the session at this key. Whether
     /// there were so many of them.
     pub(crate) fn is_idle(&mut self, key: usize, most: u64) -> bool {
-        match self.guests.get_mut(key) {
-            Some(guest) => {
-                guest.idle = guest.idle.saturating_add(1);
-                guest.idle >= most
+        match self.sessions.get_mut(key) {
+            Some(connected) => {
+                connected.idle = connected.idle.saturating_add(1);
+                connected.idle >= most
             }
             None => false,
         }
@@ -178,20 +178,20 @@ impl Hall {
 
     /// The end of the session at this key, whose client's end is to be tried still.
     pub(crate) fn owed_at(&self, key: usize) -> Option<End> {
-        match self.guests.get(key) {
-            Some(guest) if !guest.is_gone => guest.end,
+        match self.sessions.get(key) {
+            Some(connected) if !connected.is_gone => connected.end,
             _ => None,
         }
     }
 
     /// A session more, of this number. False where memory or the system refuses it.
     pub(crate) fn seat(&mut self, link: QueuedLink, paused: PausedSession, session: u64) -> bool {
-        let most = self.guests.len().saturating_add(1);
+        let most = self.sessions.len().saturating_add(1);
         if self.ready.try_reserve(most).is_err() || self.later.try_reserve(most).is_err() {
             return false;
         }
         let descriptor = link.descriptor();
-        let guest = Guest {
+        let connected = ConnectedSession {
             link,
             paused,
             session,
@@ -202,7 +202,7 @@ impl Hall {
             is_ready: false,
             is_watched_for_room: false,
         };
-        let Ok(key) = self.guests.insert(guest) else {
+        let Ok(key) = self.sessions.insert(connected) else {
             return false;
         };
         let token = Token(key.saturating_add(FIRST));
@@ -211,7 +211,7 @@ impl Hall {
             .registry()
             .register(&mut SourceFd(&descriptor), token, Interest::READABLE);
         if registered.is_err() {
-            let _ = self.guests.try_remove(key);
+            let _ = self.sessions.try_remove(key);
         }
         registered.is_ok()
     }
@@ -219,16 +219,16 @@ impl Hall {
 
 /// Puts the sessions that something came for on the list of those that are ready. Whether there was
 /// anything else.
-fn mark(events: &Events, guests: &mut Slab<Guest>, ready: &mut Vec<usize>) -> bool {
+fn mark(events: &Events, sessions: &mut Slab<ConnectedSession>, ready: &mut Vec<usize>) -> bool {
     let mut is_called = false;
     for event in events.iter() {
         match event.token().0.checked_sub(FIRST) {
-            Some(key) => if let Some(guest) = guests.get_mut(key) {
+            Some(key) => if let Some(connected) = sessions.get_mut(key) {
                 // told once, with what came before it
                 if event.is_read_closed() {
-                    guest.is_closing = true;
+                    connected.is_closing = true;
                 }
-                call(guest, key, ready);
+                call(connected, key, ready);
             },
             None => is_called = true,
         }
@@ -237,16 +237,16 @@ fn mark(events: &Events, guests: &mut Slab<Guest>, ready: &mut Vec<usize>) -> bo
 }
 
 /// Puts the session at this key on the list, which has room for it, where it isn't there.
-fn call(guest: &mut Guest, key: usize, list: &mut Vec<usize>) {
-    if !guest.is_ready && list.push(key).is_ok() {
-        guest.is_ready = true;
+fn call(connected: &mut ConnectedSession, key: usize, list: &mut Vec<usize>) {
+    if !connected.is_ready && list.push(key).is_ok() {
+        connected.is_ready = true;
     }
 }
 
 /// Watches the session's link for what it needs next: room while bytes wait to be sent, else bytes.
-fn watch(registry: &Registry, guest: &mut Guest, key: usize) {
-    let is_behind = guest.link.is_behind();
-    if is_behind == guest.is_watched_for_room {
+fn watch(registry: &Registry, connected: &mut ConnectedSession, key: usize) {
+    let is_behind = connected.link.is_behind();
+    if is_behind == connected.is_watched_for_room {
         return;
     }
     let interest = if is_behind {
@@ -255,11 +255,11 @@ fn watch(registry: &Registry, guest: &mut Guest, key: usize) {
         Interest::READABLE
     };
     let token = Token(key.saturating_add(FIRST));
-    let descriptor = guest.link.descriptor();
+    let descriptor = connected.link.descriptor();
     if registry
         .reregister(&mut SourceFd(&descriptor), token, interest)
         .is_ok()
     {
-        guest.is_watched_for_room = is_behind;
+        connected.is_watched_for_room = is_behind;
     }
 }

@@ -1,0 +1,15 @@
+use denote.Param.Send.{shr_sync, sendable}
+use Rattle.iova_daemon.proofs.Sends.{WorkerContext-sync}
+use Rattle.iova_daemon.proofs.serve_in_turns.Goals as goal
+
+-- threads may share what they are lent
+pub serve_kept-served-requires-sync-W : goal.serve_kept-served-requires-sync-W
+serve_kept-served-requires-sync-W g c κs within =
+    let domain = c.domains_are_sync.ensures in
+    let turns = c.turns_are_sync.ensures in
+    let admission = c.admissions_are_sync.ensures in
+    let runtime = c.type_bounds.sync-R in
+    let notices = c.type_bounds.sync-N in
+    let accept = c.type_bounds.sync-O in
+    let aside = c.type_bounds.sync-X in
+    search (WorkerContext-sync, shr_sync, sendable) depth 20
