@@ -29,7 +29,10 @@ pub fn look_at_limit<R: AllocGlobal + Files<File = File>, N: Log>(
         && allowed < wanted
     {
         let how = "set ulimit -n, or LimitNOFILE of the unit";
-        warn!(notices; target: "", "{clients} clients want {wanted} descriptors, and {allowed} are allowed: {how}");
+        warn!(
+            notices; target: "",
+            "{clients} clients want {wanted} descriptors, and {allowed} are allowed: {how}"
+        );
     }
 }
 
