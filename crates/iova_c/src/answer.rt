@@ -155,8 +155,8 @@ pub fn of_range(reply: Reply) -> RangeAnswer
     }
 }
 
-/// What `of_range` answers, in two numbers: the first frame and how many there are, or the number of
-/// the refusal and 0.
+/// What `of_range` answers, in two numbers: the first frame and how many there are, or the number
+/// of the refusal and 0.
 pub fn pack(reply: Reply) -> (u64, u64)
     ensures { unpacked result ≡ range_answer reply }
 {

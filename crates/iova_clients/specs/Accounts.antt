@@ -10,8 +10,8 @@ pub record Row : Type 0 where
   pub ranges : List Frames
   pub spare : ℕ
 
--- What a `ClientLedger` is seen as: a client but for its serial, and how many more holdings fit without
--- memory
+-- What a `ClientLedger` is seen as: a client but for its serial, and how many more holdings fit
+-- without memory
 pub record Account : Type 0 where
   pub worker : ℕ
   pub sac : Bool

@@ -132,8 +132,8 @@ pub fn drain_unless(
     drain_flushed(tree, caches, ring, w, finish)
 }
 
-/// Puts the first entries of a row whose counts are below `finish` into the magazines of worker `w`,
-/// up to one that is not. It answers how many there were, and how many frames they have.
+/// Puts the first entries of a row whose counts are below `finish` into the magazines of worker
+/// `w`, up to one that is not. It answers how many there were, and how many frames they have.
 #[inline]
 fn put_row(
     tree: &mut Tree,
