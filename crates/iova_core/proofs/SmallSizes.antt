@@ -1,16 +1,17 @@
 -- What a request for at most 32 frames is given, by trying each number; and the order of a size.
-use Rattle.std.proofs.Common.{ℕ, zero, suc, ◌≡◌, ◌+◌, ◌-◌, ◌^◌, ◌<◌, ◌==◌, Bool, true, false, ◌&&◌, nat_lt, cond, Option, None, Some, find, refl, sym, ap, ◌∙◌, subst, arith}
+use Rattle.std.proofs.Common.{ℕ, zero, suc, ◌≡◌, ◌+◌, ◌-◌, ◌*◌, ◌^◌, ◌≤◌, ◌<◌, ◌==◌, Bool, true, false, ◌&&◌, nat_lt, cond, Option, None, Some, refl, arith}
 use Rattle.std.specs.Int.Count.{count_leading_zeros}
 use Rattle.std.proofs.lemmas.Bool.Decides.{nat_tests}
 use Rattle.iova_range.specs.Sizes.{need, order_of}
 use Rattle.iova_range.proofs.Powers.{each_order}
 
--- the order that the highest digit of one frame less gives
+-- the order that the highest digit of twice the frames, less one, gives
 abbrev pub order_by_digits : ℕ → ℕ
-order_by_digits n = 64 - count_leading_zeros 64 n
+order_by_digits frames = 63 - count_leading_zeros 64 (2 * frames - 1)
 
+-- it is that of what a request for one frame more is given
 abbrev is_right : ℕ → Bool
-is_right n = nat_lt (order_by_digits n) 6 && (need (n + 1) == 2 ^ order_by_digits n)
+is_right n = nat_lt (order_by_digits (suc n)) 6 && (need (suc n) == 2 ^ order_by_digits (suc n))
 
 abbrev all_below : (ℕ → Bool) → ℕ → Bool
 all_below test zero = true
@@ -31,21 +32,22 @@ tried : all_below is_right 32 ≡ true
 unfolding count_leading_zeros
 tried = refl
 
-pub small_size : (n : ℕ) → n < 32 → (order_by_digits n < 6) × (need (n + 1) ≡ 2 ^ order_by_digits n)
-small_size n lt = step (nat_lt (order_by_digits n) 6) refl (need (n + 1) == 2 ^ order_by_digits n) refl (at_below is_right 32 n tried lt)
+low_and_right : (n : ℕ) → n < 32
+    → (order_by_digits (suc n) < 6) × (need (suc n) ≡ 2 ^ order_by_digits (suc n))
+low_and_right n lt = step (nat_lt (order_by_digits (suc n)) 6) refl
+    (need (suc n) == 2 ^ order_by_digits (suc n)) refl (at_below is_right 32 n tried lt)
   where
-    step : (a : Bool) → nat_lt (order_by_digits n) 6 ≡ a → (b : Bool) → (need (n + 1) == 2 ^ order_by_digits n) ≡ b → (a && b) ≡ true
-        → (order_by_digits n < 6) × (need (n + 1) ≡ 2 ^ order_by_digits n)
+    step : (a : Bool) → nat_lt (order_by_digits (suc n)) 6 ≡ a
+        → (b : Bool) → (need (suc n) == 2 ^ order_by_digits (suc n)) ≡ b → (a && b) ≡ true
+        → (order_by_digits (suc n) < 6) × (need (suc n) ≡ 2 ^ order_by_digits (suc n))
     step true low true same both = (grind (arith, nat_tests), grind (arith, nat_tests))
     step true low false same both = absurd cc
     step false low b same both = absurd cc
 
+pub small_size : (frames : ℕ) → 1 ≤ frames → frames ≤ 32
+    → (order_by_digits frames < 6) × (need frames ≡ 2 ^ order_by_digits frames)
+small_size zero some few = absurd (omega arith)
+small_size (suc n) some few = low_and_right n (omega arith)
+
 pub order_of_power : (o : ℕ) → o < 6 → order_of (2 ^ o) ≡ Some o
 order_of_power o lt = each_order (λ o. order_of (2 ^ o) ≡ Some o) refl refl refl refl refl refl o lt
-
--- what has an order is two to the power of one of the six
-pub order_low : (size o : ℕ) → order_of size ≡ Some o → o < 6
-order_low size o is = grind (arith, nat_tests)
-
-pub order_power : (size o : ℕ) → order_of size ≡ Some o → size ≡ 2 ^ o
-order_power size o is = grind (arith, nat_tests)

@@ -234,6 +234,23 @@ impl Domain {
                 return self.alloc_here(worker, client, frames, size, Some(order), limit);
             }
         }
+        self.alloc_otherwise(worker, client, frames, limit)
+    }
+
+    /// `alloc_elsewhere`, in a function of its own: the place of what a call out of line answers is
+    /// cleared where the function that calls begins, which is then none that has all at hand.
+    #[inline(always)]
+    fn alloc_otherwise(
+        &mut self,
+        worker: u64,
+        client: ClientId,
+        frames: u64,
+        limit: u64,
+    ) -> (Reply, Point)
+        ensures reply { result.0 ≡ (alloc self.old worker client frames limit result.1).reply }
+        ensures state { self.new ≡ (alloc self.old worker client frames limit result.1).state }
+        ensures point { result.1 ≢ Point.Never → result.0 ≡ Reply.Refused Refusal.NoMemory }
+    {
         self.alloc_elsewhere(worker, client, frames, limit)
     }
 
@@ -340,8 +357,18 @@ impl Domain {
         if self.queues_at_once(worker, client, lo) {
             self.unmap_here(worker, client, lo)
         } else {
-            self.unmap_elsewhere(worker, client, lo)
+            self.unmap_otherwise(worker, client, lo)
         }
+    }
+
+    /// `unmap_elsewhere`, as `alloc_otherwise` is `alloc_elsewhere`.
+    #[inline(always)]
+    fn unmap_otherwise(&mut self, worker: u64, client: ClientId, lo: u64) -> (Reply, Point)
+        ensures reply { result.0 ≡ (unmap self.old worker client lo).reply }
+        ensures state { self.new ≡ (unmap self.old worker client lo).state }
+        ensures point { result.1 ≡ Point.Never }
+    {
+        self.unmap_elsewhere(worker, client, lo)
     }
 
     /// Whether the client is that of the step before, its first holding begins there, and nothing

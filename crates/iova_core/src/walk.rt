@@ -1,6 +1,6 @@
 //! The walk of a request: the caches, the tree, and the tree again once the caches are emptied.
 
-ghost use Rattle.std.specs.Prelude.{◌≡◌, ◌≢◌, ◌≤◌, ◌<◌, ◌^◌, [], Bool, Some, IsTrue, IsFalse, IfSome, IfNone, OnSome};
+ghost use Rattle.std.specs.Prelude.{◌≡◌, ◌≢◌, ◌≤◌, ◌<◌, ◌^◌, [], Bool, Some, ◌↔◌, IsTrue, IsFalse, IfSome, IfNone, OnSome};
 ghost use Rattle.iova_model.specs.Fit.{best};
 ghost use Rattle.iova_model.specs.State.{State};
 ghost use Rattle.iova_model.specs.Next as next;
@@ -36,7 +36,7 @@ pub const MOST_CACHED: u64 = 1 << (ORDERS - 1);
 /// Whether what a request for so many frames is given has an order.
 #[inline(always)]
 pub fn is_cached(frames: u64) -> bool
-    ensures { IsTrue result → (1 ≤ frames) × (frames ≤ MOST_CACHED) }
+    ensures { IsTrue result ↔ ((1 ≤ frames) × (frames ≤ MOST_CACHED)) }
 {
     frames != 0 && frames <= MOST_CACHED
 }
@@ -50,7 +50,7 @@ pub fn order_of_need(frames: u64) -> u8
     ensures low { result < ORDERS }
     ensures size { need frames ≡ 2 ^ result }
 {
-    (64 - (frames - 1).leading_zeros()) as u8
+    (63 - (2 * frames - 1).leading_zeros()) as u8
 }
 
 /// The order of what a request for `frames` frames is given, where it has one: `need(frames)` is a
