@@ -467,6 +467,16 @@ impl<C: Ledger, F: Ledger, S: Ledger, G: Ledger> Book<C, F, S, G> {
         if self.recorded.share_is_within(seat.worker(), seat.held()) {
             return true;
         }
+        self.covers_otherwise(seat, step)
+    }
+
+    /// `covers_range`, in a function of its own: the step is then copied for that call alone.
+    #[inline(always)]
+    fn covers_otherwise(&self, seat: &Seat<C, F, S, G>, step: Step) -> bool
+        ensures yes { result ≡ true → (r : Frames) → to_queue self.now.state step ≡ Some r
+            → Covers seat.now.held r }
+        ensures none { result ≡ false → IsShort seat.now.held (to_queue self.now.state step) }
+    {
         self.covers_range(seat, step)
     }
 

@@ -61,6 +61,18 @@ impl Lines {
                 return Fed::Request(request, piece.len() - behind.len());
             }
         }
+        self.feed_otherwise(piece)
+    }
+
+    /// `feed_any`, in a function of its own: the place of what a call out of line answers is
+    /// cleared where the function that calls begins, which is then not `feed`.
+    #[inline(always)]
+    fn feed_otherwise(&mut self, piece: &[u8]) -> Fed
+        ensures fed { IfSome self.old (λ kept. Feeds kept piece.now result self.new) }
+        ensures bad { self.old ≡ None → (result ≡ Fed.Bad) × (self.new ≡ None) }
+        ensures only { (kept : List ℕ) (other : F) (next : Option (List ℕ)) → self.old ≡ Some kept
+            → Feeds kept piece.now other next → (other ≡ result) × (next ≡ self.new) }
+    {
         self.feed_any(piece)
     }
 

@@ -192,7 +192,7 @@ impl RecordedDomain {
         let Some(log) = &mut self.log else {
             return answer.0;
         };
-        log.store(step, answer.1, answer.0);
+        log.keep(step, answer.1, answer.0);
         answer.0
     }
 
@@ -337,6 +337,15 @@ impl RecordedDomain {
 }
 
 impl Recording {
+    /// `store`, in a function of its own: the step is then copied for that call alone.
+    #[inline(always)]
+    fn keep(&mut self, step: Step, point: Point, reply: Reply)
+        ensures { StoresPair self.old (record { step = step; point = point; reply = reply })
+            self.new }
+    {
+        self.store(step, point, reply);
+    }
+
     /// Stores a step, the growth in it that was refused, and its reply where there is room, and
     /// else records no more. Out of line, so that it costs a domain without a log nothing but the
     /// question.

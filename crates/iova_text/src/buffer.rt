@@ -122,6 +122,18 @@ fn put_pair<const CAP: usize>(out: &mut ArrayVec<u8, CAP>, n: u64)
     out.push(PAIRS[at + 1]);
 }
 
+/// The same as `put`, of a word that the caller names: its bytes are then a store or two, with no
+/// question of whether they lie in `out`.
+#[inline(always)]
+fn put_word<const CAP: usize>(out: &mut ArrayVec<u8, CAP>, word: &[u8])
+    requires { length out.old.items + length word.now ≤ CAP }
+    ensures items { out.new.items ≡ out.old.items ++ word.now }
+{
+    for byte in word {
+        out.push(*byte);
+    }
+}
+
 /// Appends the word, and two numbers with a space before each, for which there is room.
 #[inline(always)]
 pub fn put_two_numbers<const CAP: usize>(out: &mut ArrayVec<u8, CAP>, word: &[u8], a: u64, b: u64)
@@ -129,7 +141,7 @@ pub fn put_two_numbers<const CAP: usize>(out: &mut ArrayVec<u8, CAP>, word: &[u8
     ensures items { out.new.items ≡ out.old.items ++ numbers_line word.now (a ∷ b ∷ []) }
     ensures longer { length out.new.items ≤ length out.old.items + length word.now + 42 }
 {
-    put(out, word);
+    put_word(out, word);
     put_spaced(out, a, b);
 }
 

@@ -30,8 +30,8 @@ invariant_of-self-2 c =
     let s = c.self.inside in
     let m = c.step_at-answer in
     let p : Pair = record { step = c.args.step; point = m.result.1; reply = m.result.0 } in
-    let stored : Stores s.log p (Some c.store.new.self) = rw c.in-Some.is c.store.ensures in
-    recorded_goes_on s.domain m.new.self c.args.step m.result.1 m.result.0 s.log (Some c.store.new.self) c.steps_keep_the_domain.ensures c.self.invariant m.ensures.reply m.ensures.state stored
+    let stored : Stores s.log p (Some c.keep.new.self) = rw c.in-Some.is c.keep.ensures in
+    recorded_goes_on s.domain m.new.self c.args.step m.result.1 m.result.0 s.log (Some c.keep.new.self) c.steps_keep_the_domain.ensures c.self.invariant m.ensures.reply m.ensures.state stored
 
 pub returns-clause-takes : goal.returns-clause-takes
 returns-clause-takes c =
@@ -39,14 +39,14 @@ returns-clause-takes c =
     rw (← c.self.view_is) (takes c.self.inside.domain c.args.step m.result.1 m.result.0 m.new.self m.ensures.reply m.ensures.state)
 
 pub returns-clause-stores : goal.returns-clause-stores
-returns-clause-stores c = rw (← c.self.view_is, c.in-Some.is) (c.step_at-answer.result.1, c.store.ensures)
+returns-clause-stores c = rw (← c.self.view_is, c.in-Some.is) (c.step_at-answer.result.1, c.keep.ensures)
 
 pub returns-clause-goes_on : goal.returns-clause-goes_on
 returns-clause-goes_on c =
     let m = c.step_at-answer in
     let p : Pair = record { step = c.args.step; point = m.result.1; reply = m.result.0 } in
-    let stored : Stores c.self.inside.log p (Some c.store.new.self) = rw c.in-Some.is c.store.ensures in
-    rw (← c.self.view_is) (stores_goes_on c.self.inside.log (Some c.store.new.self) p stored)
+    let stored : Stores c.self.inside.log p (Some c.keep.new.self) = rw c.in-Some.is c.keep.ensures in
+    rw (← c.self.view_is) (stores_goes_on c.self.inside.log (Some c.keep.new.self) p stored)
 
 pub returns-clause-known : goal.returns-clause-known
 returns-clause-known c =
