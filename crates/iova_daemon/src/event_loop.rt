@@ -36,9 +36,9 @@ pub(crate) struct Gear<D, W, E, M> {
     pub room: M,
 }
 
-/// Where the sessions of a worker take turns.
+/// What the sessions of a worker have in their turns: all have the same post, sink and room.
 #[derive(Drop)]
-struct Bench<C: Ledger, F: Ledger, S: Ledger, G: Ledger, K, D> {
+struct TurnContext<C: Ledger, F: Ledger, S: Ledger, G: Ledger, K, D> {
     keeper: K,
     post: Post<C, F, S, G>,
     sink: D,
@@ -71,20 +71,20 @@ where
             events,
             room,
         } = sink;
-        let mut bench = Bench {
+        let mut turns = TurnContext {
             keeper: self.keeper,
             post: place,
             sink: NotingSink::new(sink, self.notices),
             room,
         };
-        let mut table = SessionTable::new(self.alloc, poll, events, bench.post.seat.worker());
+        let mut table = SessionTable::new(self.alloc, poll, events, turns.post.seat.worker());
         if *self.roster.gate.lock(self.rt) {
             let slot = self.roster.begin();
             let mut told = 0;
             let mut piece = [0; PIECE];
             'turns: for _ in self.rt.forever() {
-                let is_over = go_round(self, &mut table, &mut bench, &mut piece);
-                told = tell(self.rt, self.roster, slot, told, &bench.post.waiting);
+                let is_over = go_round(self, &mut table, &mut turns, &mut piece);
+                told = tell(self.rt, self.roster, slot, told, &turns.post.waiting);
                 if is_over {
                     break 'turns;
                 }
@@ -92,12 +92,12 @@ where
         }
         drop(table);
         self.roster.end();
-        let Bench {
+        let TurnContext {
             keeper: _,
             post,
             sink: _,
             room: _,
-        } = bench;
+        } = turns;
         post
     }
 
@@ -129,9 +129,9 @@ where
 /// Waits for events, gives each session that has something to do one turn, and does what is due by
 /// the clock. Whether all is over.
 fn go_round<R, N, C, F, S, G, K, O, D, X>(
-    lent: &WorkerContext<&R, &N, K, &O, &Roster, &Admission, &X>,
+    context: &WorkerContext<&R, &N, K, &O, &Roster, &Admission, &X>,
     table: &mut SessionTable,
-    bench: &mut Bench<C, F, S, G, K, D>,
+    turns: &mut TurnContext<C, F, S, G, K, D>,
     piece: &mut [u8],
 ) -> bool
 where
@@ -144,25 +144,25 @@ where
     K: Keep<C, F, S, G>,
     O: Door,
     D: Sink,
-    ensures { bench.new.post.seat.worker ≡ bench.old.post.seat.worker }
+    ensures { turns.new.post.seat.worker ≡ turns.old.post.seat.worker }
 {
-    table.wait(lent.accept.patience().turn, !bench.post.waiting.is_empty());
-    if lent.accept.is_shut() {
-        end_all(lent, table, bench);
+    table.wait(context.accept.patience().turn, !turns.post.waiting.is_empty());
+    if context.accept.is_shut() {
+        end_all(context, table, turns);
     }
-    admit_all(lent, table, bench);
+    admit_all(context, table, turns);
     'serving: for at in 0..table.ready_count() {
-        turn(lent, table, bench, at, piece);
+        turn(context, table, turns, at, piece);
     }
     table.end_round();
-    look_at_clock(lent, table, bench);
+    look_at_clock(context, table, turns);
     let is_over = table.is_over();
     if is_over {
         try_again(
-            lent.roster,
-            &mut bench.keeper,
-            &mut bench.post,
-            &mut bench.sink,
+            context.roster,
+            &mut turns.keeper,
+            &mut turns.post,
+            &mut turns.sink,
         );
     }
     is_over
@@ -170,9 +170,9 @@ where
 
 /// Accepts links for the worker, as long as it is the one that is to have the next.
 fn admit_all<R, N, C, F, S, G, K, O, D, X>(
-    lent: &WorkerContext<&R, &N, K, &O, &Roster, &Admission, &X>,
+    context: &WorkerContext<&R, &N, K, &O, &Roster, &Admission, &X>,
     table: &mut SessionTable,
-    bench: &mut Bench<C, F, S, G, K, D>,
+    turns: &mut TurnContext<C, F, S, G, K, D>,
 )
 where
     R: Wait + Clock,
@@ -183,24 +183,24 @@ where
     G: Ledger,
     K: Keep<C, F, S, G>,
     O: Door,
-    ensures { bench.new.post.seat.worker ≡ bench.old.post.seat.worker }
+    ensures { turns.new.post.seat.worker ≡ turns.old.post.seat.worker }
 {
     if !table.is_called || table.is_closed {
         return;
     }
     table.is_called = false;
-    let (rt, roster, admission) = (lent.rt, lent.roster, lent.admission);
+    let (rt, roster, admission) = (context.rt, context.roster, context.admission);
     'admitting: for _ in 0..MAX_WAITING {
-        match admission.admit(rt, roster, lent.accept, table.worker) {
+        match admission.admit(rt, roster, context.accept, table.worker) {
             Admitted::Stream(stream, session) => {
                 roster.begin_session(table.worker);
-                if let Err(end) = seat(lent.alloc, roster, table, bench, stream, session) {
-                    leave(lent, table, session, end);
+                if let Err(end) = seat(context.alloc, roster, table, turns, stream, session) {
+                    leave(context, table, session, end);
                 }
             }
             Admitted::Nothing => return,
             Admitted::Failed(error) => {
-                let pause = lent.accept.note_failed(&error);
+                let pause = context.accept.note_failed(&error);
                 if let Ok(now) = rt.monotonic() {
                     table.failed = Some((now, pause));
                 }
@@ -220,19 +220,19 @@ fn seat<C: Ledger, F: Ledger, S: Ledger, G: Ledger, K: Keep<C, F, S, G>, D>(
     alloc: Global,
     roster: &Roster,
     table: &mut SessionTable,
-    bench: &mut Bench<C, F, S, G, K, D>,
+    turns: &mut TurnContext<C, F, S, G, K, D>,
     stream: UnixStream,
     session: u64,
 ) -> Result<(), End>
-    ensures { bench.new.post.seat.worker ≡ bench.old.post.seat.worker }
+    ensures { turns.new.post.seat.worker ≡ turns.old.post.seat.worker }
 {
-    if !make_room(&mut bench.post, table.sessions.len().saturating_add(1)) {
+    if !make_room(&mut turns.post, table.sessions.len().saturating_add(1)) {
         return Err(End::NoMemory);
     }
     let Ok(link) = QueuedLink::new(alloc, stream) else {
         return Err(End::LinkFault);
     };
-    let paused = PausedSession::new(bench.keeper.number(), roster.limits());
+    let paused = PausedSession::new(turns.keeper.number(), roster.limits());
     if table.seat(link, paused, session) {
         Ok(())
     } else {
@@ -242,23 +242,23 @@ fn seat<C: Ledger, F: Ledger, S: Ledger, G: Ledger, K: Keep<C, F, S, G>, D>(
 
 /// A session of this number has ended, and its link is closed.
 fn leave<R: Wait, N: Log, K, O, X>(
-    lent: &WorkerContext<&R, &N, K, &O, &Roster, &Admission, &X>,
+    context: &WorkerContext<&R, &N, K, &O, &Roster, &Admission, &X>,
     table: &mut SessionTable,
     session: u64,
     end: End,
 ) {
-    lent.roster.end_session(table.worker);
-    if lent.admission.leave(lent.rt, lent.roster, table.worker) {
+    context.roster.end_session(table.worker);
+    if context.admission.leave(context.rt, context.roster, table.worker) {
         table.is_called = true;
     }
-    note_end(lent.notices, session, end);
+    note_end(context.notices, session, end);
 }
 
 /// Gives the session that is ready at this place its turn.
 fn turn<R, N, C, F, S, G, K, O, D, X>(
-    lent: &WorkerContext<&R, &N, K, &O, &Roster, &Admission, &X>,
+    context: &WorkerContext<&R, &N, K, &O, &Roster, &Admission, &X>,
     table: &mut SessionTable,
-    bench: &mut Bench<C, F, S, G, K, D>,
+    turns: &mut TurnContext<C, F, S, G, K, D>,
     at: usize,
     piece: &mut [u8],
 )
@@ -272,7 +272,7 @@ where
     K: Keep<C, F, S, G>,
     O: Door,
     D: Sink,
-    ensures { bench.new.post.seat.worker ≡ bench.old.post.seat.worker }
+    ensures { turns.new.post.seat.worker ≡ turns.old.post.seat.worker }
 {
     let Some(key) = table.ready_at(at) else {
         return;
@@ -280,10 +280,10 @@ where
     let Some(connected) = table.connected(key) else {
         return;
     };
-    match go_on(lent.accept, connected, piece, bench) {
+    match go_on(context.accept, connected, piece, turns) {
         TurnOutcome::Nothing => table.go_on(key, false),
         TurnOutcome::More => table.go_on(key, true),
-        TurnOutcome::End(end) => end_session(lent, table, bench, key, end),
+        TurnOutcome::End(end) => end_session(context, table, turns, key, end),
     }
 }
 
@@ -292,9 +292,9 @@ fn go_on<C: Ledger, F: Ledger, S: Ledger, G: Ledger, K: Keep<C, F, S, G>, O: Doo
     door: &O,
     connected: &mut ConnectedSession,
     room: &mut [u8],
-    bench: &mut Bench<C, F, S, G, K, D>,
+    turns: &mut TurnContext<C, F, S, G, K, D>,
 ) -> TurnOutcome
-    ensures { bench.new.post.seat.worker ≡ bench.old.post.seat.worker }
+    ensures { turns.new.post.seat.worker ≡ turns.old.post.seat.worker }
 {
     if connected.link.is_behind() {
         if !connected.link.send_on() {
@@ -316,7 +316,7 @@ fn go_on<C: Ledger, F: Ledger, S: Ledger, G: Ledger, K: Keep<C, F, S, G>, O: Doo
         Found::Bytes(n) => {
             connected.idle = 0;
             match room.get(..n) {
-                Some(piece) => take(door, connected, piece, bench, n == room.len()),
+                Some(piece) => take(door, connected, piece, turns, n == room.len()),
                 None => TurnOutcome::End(End::LinkFault),
             }
         }
@@ -328,24 +328,24 @@ fn take<C: Ledger, F: Ledger, S: Ledger, G: Ledger, K: Keep<C, F, S, G>, O: Door
     door: &O,
     connected: &mut ConnectedSession,
     piece: &[u8],
-    bench: &mut Bench<C, F, S, G, K, D>,
+    turns: &mut TurnContext<C, F, S, G, K, D>,
     has_more: bool,
 ) -> TurnOutcome
-    ensures { bench.new.post.seat.worker ≡ bench.old.post.seat.worker }
+    ensures { turns.new.post.seat.worker ≡ turns.old.post.seat.worker }
 {
     door.count(piece);
     // every session here was begun with the number of the one domain that is served
-    if connected.paused.number() != bench.keeper.number() {
+    if connected.paused.number() != turns.keeper.number() {
         return TurnOutcome::End(End::LinkFault);
     }
     let end = resume(
         &mut connected.paused,
         piece,
         &mut connected.link,
-        &mut bench.keeper,
-        &mut bench.post,
-        &mut bench.sink,
-        &mut bench.room,
+        &mut turns.keeper,
+        &mut turns.post,
+        &mut turns.sink,
+        &mut turns.room,
     );
     match end {
         Some(end) => TurnOutcome::End(end),
@@ -358,9 +358,9 @@ fn take<C: Ledger, F: Ledger, S: Ledger, G: Ledger, K: Keep<C, F, S, G>, O: Door
 /// Ends the client of the session at this key, and then the session, once what its link has to send
 /// is sent. What can't be done yet is tried again.
 fn end_session<R, N, C, F, S, G, K, O, D, X>(
-    lent: &WorkerContext<&R, &N, K, &O, &Roster, &Admission, &X>,
+    context: &WorkerContext<&R, &N, K, &O, &Roster, &Admission, &X>,
     table: &mut SessionTable,
-    bench: &mut Bench<C, F, S, G, K, D>,
+    turns: &mut TurnContext<C, F, S, G, K, D>,
     key: usize,
     end: End,
 )
@@ -374,7 +374,7 @@ where
     K: Keep<C, F, S, G>,
     O: Door,
     D: Sink,
-    ensures { bench.new.post.seat.worker ≡ bench.old.post.seat.worker }
+    ensures { turns.new.post.seat.worker ≡ turns.old.post.seat.worker }
 {
     let Some(connected) = table.sessions.get_mut(key) else {
         return;
@@ -383,9 +383,9 @@ where
     if !connected.is_gone {
         let gone = depart(
             &connected.paused,
-            &mut bench.keeper,
-            &mut bench.post,
-            &mut bench.sink,
+            &mut turns.keeper,
+            &mut turns.post,
+            &mut turns.sink,
         );
         connected.is_gone = gone.is_some();
     }
@@ -393,22 +393,22 @@ where
         table.is_owed = true;
         return;
     }
-    let lingers = connected.link.is_behind() && end != End::LinkFault && !lent.accept.is_shut();
+    let lingers = connected.link.is_behind() && end != End::LinkFault && !context.accept.is_shut();
     if lingers {
         table.go_on(key, false);
     } else if let Some(connected) = table.sessions.try_remove(key) {
         let session = connected.session;
         // so there are never more connections than sessions
         drop(connected);
-        leave(lent, table, session, end);
+        leave(context, table, session, end);
     }
 }
 
 /// Ends all sessions: the daemon stops.
 fn end_all<R, N, C, F, S, G, K, O, D, X>(
-    lent: &WorkerContext<&R, &N, K, &O, &Roster, &Admission, &X>,
+    context: &WorkerContext<&R, &N, K, &O, &Roster, &Admission, &X>,
     table: &mut SessionTable,
-    bench: &mut Bench<C, F, S, G, K, D>,
+    turns: &mut TurnContext<C, F, S, G, K, D>,
 )
 where
     R: Wait,
@@ -420,22 +420,22 @@ where
     K: Keep<C, F, S, G>,
     O: Door,
     D: Sink,
-    ensures { bench.new.post.seat.worker ≡ bench.old.post.seat.worker }
+    ensures { turns.new.post.seat.worker ≡ turns.old.post.seat.worker }
 {
-    lent.accept.shut();
-    lent.admission.end(lent.rt);
+    context.accept.shut();
+    context.admission.end(context.rt);
     table.is_closed = true;
     'ending: for key in 0..table.sessions.capacity() {
-        end_session(lent, table, bench, key, End::Closed);
+        end_session(context, table, turns, key, End::Closed);
     }
 }
 
 /// Does what is due by the clock: looks for sessions that are idle, tries waiting clients again,
 /// and accepts again after a failure.
 fn look_at_clock<R, N, C, F, S, G, K, O, D, X>(
-    lent: &WorkerContext<&R, &N, K, &O, &Roster, &Admission, &X>,
+    context: &WorkerContext<&R, &N, K, &O, &Roster, &Admission, &X>,
     table: &mut SessionTable,
-    bench: &mut Bench<C, F, S, G, K, D>,
+    turns: &mut TurnContext<C, F, S, G, K, D>,
 )
 where
     R: Wait + Clock,
@@ -447,14 +447,14 @@ where
     K: Keep<C, F, S, G>,
     O: Door,
     D: Sink,
-    ensures { bench.new.post.seat.worker ≡ bench.old.post.seat.worker }
+    ensures { turns.new.post.seat.worker ≡ turns.old.post.seat.worker }
 {
-    let patience = lent.accept.patience();
-    let is_waited = !bench.post.waiting.is_empty() || table.is_owed;
+    let patience = context.accept.patience();
+    let is_waited = !turns.post.waiting.is_empty() || table.is_owed;
     if patience.turn.is_none() && !is_waited && table.failed.is_none() {
         return;
     }
-    let Ok(now) = lent.rt.monotonic() else {
+    let Ok(now) = context.rt.monotonic() else {
         return;
     };
     if let Some((since, pause)) = table.failed
@@ -466,12 +466,12 @@ where
     if is_waited && now.saturating_sub(table.tried) >= Duration::from_millis(RETRY_PAUSE) {
         table.tried = now;
         try_again(
-            lent.roster,
-            &mut bench.keeper,
-            &mut bench.post,
-            &mut bench.sink,
+            context.roster,
+            &mut turns.keeper,
+            &mut turns.post,
+            &mut turns.sink,
         );
-        end_owed(lent, table, bench);
+        end_owed(context, table, turns);
     }
     if let Some(turn) = patience.turn
         && now.saturating_sub(table.looked) >= turn
@@ -479,7 +479,7 @@ where
         table.looked = now;
         'looking: for key in 0..table.sessions.capacity() {
             if table.is_idle(key, patience.turns) {
-                end_session(lent, table, bench, key, End::LinkFault);
+                end_session(context, table, turns, key, End::LinkFault);
             }
         }
     }
@@ -487,9 +487,9 @@ where
 
 /// Tries the clients again whose end couldn't be tried.
 fn end_owed<R, N, C, F, S, G, K, O, D, X>(
-    lent: &WorkerContext<&R, &N, K, &O, &Roster, &Admission, &X>,
+    context: &WorkerContext<&R, &N, K, &O, &Roster, &Admission, &X>,
     table: &mut SessionTable,
-    bench: &mut Bench<C, F, S, G, K, D>,
+    turns: &mut TurnContext<C, F, S, G, K, D>,
 )
 where
     R: Wait,
@@ -501,12 +501,12 @@ where
     K: Keep<C, F, S, G>,
     O: Door,
     D: Sink,
-    ensures { bench.new.post.seat.worker ≡ bench.old.post.seat.worker }
+    ensures { turns.new.post.seat.worker ≡ turns.old.post.seat.worker }
 {
     table.is_owed = false;
     'owing: for key in 0..table.sessions.capacity() {
         if let Some(end) = table.owed_at(key) {
-            end_session(lent, table, bench, key, end);
+            end_session(context, table, turns, key, end);
         }
     }
 }

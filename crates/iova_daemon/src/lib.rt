@@ -202,7 +202,7 @@ where
     };
     let roster = Roster::new(service.alloc, service.serving, posts.len() as u64);
     let pool: Pool<L> = Pool::new(service.alloc);
-    let lent = WorkerContext {
+    let context = WorkerContext {
         rt: service.rt,
         alloc: service.alloc,
         notices: service.notices,
@@ -226,7 +226,7 @@ where
         D,
         P,
         X,
-    >(service, &shared, &lent, posts, sinks, sink, pause);
+    >(service, &shared, &context, posts, sinks, sink, pause);
     give_back(shared, served)
 }
 
@@ -295,7 +295,7 @@ where
     };
     let roster = Roster::new(service.alloc, service.serving, posts.len() as u64);
     let admission = Admission::new(wakers);
-    let lent = WorkerContext {
+    let context = WorkerContext {
         rt: service.rt,
         alloc: service.alloc,
         notices: service.notices,
@@ -319,7 +319,7 @@ where
         D,
         P,
         X,
-    >(service, &shared, &lent, posts, gears, sink, pause);
+    >(service, &shared, &context, posts, gears, sink, pause);
     give_back(shared, served)
 }
 
@@ -328,7 +328,7 @@ where
 fn serve_kept<R, N, C, F, S, G, K, W, L, E, D, P, X>(
     service: &Service<'_, R, N, X>,
     keeper: K,
-    lent: &W,
+    context: &W,
     posts: Vec<Post<C, F, S, G>>,
     gears: Vec<E>,
     sink: D,
@@ -363,12 +363,12 @@ where
         tally: posts[0].seat.tally().split(),
         sink,
         pause,
-        roster: lent.roster(),
+        roster: context.roster(),
         busy: Busy::new(),
     };
     run_all::<R, W, Post<C, F, S, G>, E, L, Flusher<'_, R, N, K, G, D, P>>(
         service.rt,
-        lent,
+        context,
         posts,
         gears,
         &mut flusher,

@@ -70,7 +70,7 @@ impl Promise<()> for Nothing {
 /// their order. Refused by `NoMemory` before one is started, and by `LinkFault` where one can't be.
 pub(crate) fn run_all<R, W, P, D, L, B>(
     rt: &R,
-    lent: &W,
+    context: &W,
     places: Vec<P>,
     sinks: Vec<D>,
     beside: &mut B,
@@ -92,7 +92,7 @@ where
             requires { vec_len places ≤ vec_len sinks }
             ensures places { IfOk result (λ v. map P.worker v.items ≡ map P.worker places.items) }
             ensures refusal { IfErr result IsServeRefusal }
-        { run_in(scope, rt, lent, places, sinks, beside) },
+        { run_in(scope, rt, context, places, sinks, beside) },
     )
 }
 
@@ -100,7 +100,7 @@ where
 fn run_in<'s, E, R, W, P, D, L, B>(
     scope: &Scope<'s, E>,
     rt: &R,
-    lent: &'s W,
+    context: &'s W,
     places: Vec<P>,
     sinks: Vec<D>,
     beside: &mut B,
@@ -126,14 +126,14 @@ where
     let Ok(mut started) = Vec::with_capacity(alloc, workers) else {
         return Err(Refusal::NoMemory);
     };
-    if !lent.take_room(workers) {
+    if !context.take_room(workers) {
         return Err(Refusal::NoMemory);
     }
     // started workers wait for the gate until all are started
-    let mut gate = lent.roster().gate.lock(rt);
-    let all = start_all::<E, W, P, D, L>(scope, lent, places, sinks, &mut started);
+    let mut gate = context.roster().gate.lock(rt);
+    let all = start_all::<E, W, P, D, L>(scope, context, places, sinks, &mut started);
     let aside = if all {
-        start_aside::<E, W, P, D, L>(scope, lent)
+        start_aside::<E, W, P, D, L>(scope, context)
     } else {
         None
     };
@@ -157,7 +157,7 @@ where
 /// Starts what is done aside, where there is anything to do. None where it can't be started.
 fn start_aside<'s, E, W, P, D, L>(
     scope: &Scope<'s, E>,
-    lent: &'s W,
+    context: &'s W,
 ) -> Option<Option<PromisedHandle<(), Nothing>>>
 where
     E: 's,
@@ -166,13 +166,13 @@ where
     D: Send + Drop + 's,
     L: 's,
 {
-    if !lent.is_wanted_aside() {
+    if !context.is_wanted_aside() {
         return Some(None);
     }
-    match scope.spawn_with(Nothing, move || lent.go_aside()) {
+    match scope.spawn_with(Nothing, move || context.go_aside()) {
         Ok(handle) => Some(Some(handle)),
         Err(error) => {
-            lent.cannot_go_aside(&io::Error::from(error));
+            context.cannot_go_aside(&io::Error::from(error));
             None
         }
     }
@@ -182,7 +182,7 @@ where
 /// that can't be.
 fn start_all<'s, E, W, P, D, L>(
     scope: &Scope<'s, E>,
-    lent: &'s W,
+    context: &'s W,
     places: Vec<P>,
     sinks: Vec<D>,
     started: &mut Vec<PromisedHandle<P, WorkerIs>>,
@@ -208,11 +208,11 @@ where
         let promise = WorkerIs(place.worker());
         let work = move || -> P
             ensures { P.worker result ≡ P.worker place }
-        { lent.work(place, sink) };
+        { context.work(place, sink) };
         let handle = match scope.spawn_with(promise, work) {
             Ok(handle) => handle,
             Err(error) => {
-                lent.cannot_start(promise.0, &io::Error::from(error));
+                context.cannot_start(promise.0, &io::Error::from(error));
                 return false;
             }
         };

@@ -23,6 +23,7 @@ mod act;
 mod cases;
 mod growths;
 mod random;
+mod releases;
 mod several;
 mod threads;
 

@@ -43,6 +43,26 @@ pub fn put_first_line<const CAP: usize>(answer: &Answer, out: &mut ArrayVec<u8, 
     ensures short { length out.new.items ≤ length out.old.items + MAX_FIRST_LINE }
 {
     match answer {
+        Answer::Given(range) => {
+            put_two_numbers(out, b"given", range.lo(), range.len());
+            out.push(b'\n');
+        }
+        Answer::Queued(range) => {
+            put_two_numbers(out, b"queued", range.lo(), range.len());
+            out.push(b'\n');
+        }
+        _ => put_any_line(answer, out),
+    }
+}
+
+/// The same, whatever was answered. Out of line: ranges are what is answered mostly.
+#[inline(never)]
+fn put_any_line<const CAP: usize>(answer: &Answer, out: &mut ArrayVec<u8, CAP>)
+    requires { length out.old.items + MAX_FIRST_LINE ≤ CAP }
+    ensures items { out.new.items ≡ out.old.items ++ first_line answer.now }
+    ensures short { length out.new.items ≤ length out.old.items + MAX_FIRST_LINE }
+{
+    match answer {
         Answer::Opened(serial) => put_numbers(out, b"opened", &[*serial]),
         Answer::Given(range) => put_two_numbers(out, b"given", range.lo(), range.len()),
         Answer::Queued(range) => put_two_numbers(out, b"queued", range.lo(), range.len()),

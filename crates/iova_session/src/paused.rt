@@ -71,11 +71,11 @@ impl Model for PausedSession {
         p.progress.left p.limits p.pieces p.held p.end) };
 }
 
-/// What a turn came to, and what it was lent.
+/// What a turn came to, and what it had access to.
 #[derive(Drop)]
 struct Turned<'a, C: Ledger, F: Ledger, S: Ledger, G: Ledger, K: Keep<C, F, S, G>, D: Sink> {
     taken: Result<(), End>,
-    lent: DomainAccess<'a, C, F, S, G, K, D>,
+    access: DomainAccess<'a, C, F, S, G, K, D>,
 }
 
 /// Room for a run of requests, which sessions that take turns are lent.
@@ -283,20 +283,20 @@ fn turn_at<C: Ledger, F: Ledger, S: Ledger, G: Ledger, L: Link, K: Keep<C, F, S,
     ensures same { K.identity keeper.new ≡ K.identity keeper.old }
     ensures place { KeepsPlace seat.old seat.new (D.calls sink.old) (D.calls sink.new) }
 {
-    let lent = DomainAccess { keeper, seat, sink };
+    let access = DomainAccess { keeper, seat, sink };
     let Turned {
         taken,
-        lent: DomainAccess {
+        access: DomainAccess {
             keeper: _,
             seat: _,
             sink: _,
         },
-    } = turn_lent::<C, F, S, G, L, K, D, Brand>(progress, piece, link, lent, room);
+    } = turn_with::<C, F, S, G, L, K, D, Brand>(progress, piece, link, access, room);
     taken
 }
 
-/// Takes the piece, and gives back what it was lent.
-fn turn_lent<
+/// Takes the piece, and gives back what it had access to.
+fn turn_with<
     'a,
     C: Ledger,
     F: Ledger,
@@ -310,21 +310,21 @@ fn turn_lent<
     progress: &mut Progress,
     piece: &[u8],
     link: &mut L,
-    lent: DomainAccess<'a, C, F, S, G, K, D>,
+    access: DomainAccess<'a, C, F, S, G, K, D>,
     room: &mut RunRoom,
 ) -> Turned<'a, C, F, S, G, K, D>
     requires lines { IsSome progress.old.lines }
     requires session { progress.old.session ≡ O.session }
     requires named { progress.old.session.number ≡ O.identity.number }
-    requires names { (lent.keeper.ghost_name ≡ O.keeper_name) × (lent.seat.ghost_name ≡ O.seat_name)
-        × (lent.sink.ghost_name ≡ O.sink_name) }
-    requires same { K.identity lent.keeper.now ≡ O.identity }
-    requires domain { K.domain lent.keeper.now ≡ O.domain }
-    requires seat { lent.seat.now ≡ O.seat }
-    requires calls { D.calls lent.sink.now ≡ O.calls }
-    ensures names { (result.lent.keeper.ghost_name ≡ lent.entry.keeper.ghost_name)
-        × (result.lent.seat.ghost_name ≡ lent.entry.seat.ghost_name)
-        × (result.lent.sink.ghost_name ≡ lent.entry.sink.ghost_name) }
+    requires names { (access.keeper.ghost_name ≡ O.keeper_name) × (access.seat.ghost_name ≡ O.seat_name)
+        × (access.sink.ghost_name ≡ O.sink_name) }
+    requires same { K.identity access.keeper.now ≡ O.identity }
+    requires domain { K.domain access.keeper.now ≡ O.domain }
+    requires seat { access.seat.now ≡ O.seat }
+    requires calls { D.calls access.sink.now ≡ O.calls }
+    ensures names { (result.access.keeper.ghost_name ≡ access.entry.keeper.ghost_name)
+        × (result.access.seat.ghost_name ≡ access.entry.seat.ghost_name)
+        × (result.access.sink.ghost_name ≡ access.entry.sink.ghost_name) }
     ensures turn { (kept : List ℕ) × (ps : List Pair) × (written : List ℕ)
         × (progress.old.lines ≡ Some kept)
         × (progress.new.session.pairs ≡ progress.old.session.pairs ++ ps)
@@ -332,14 +332,14 @@ fn turn_lent<
         × TakesPiece progress.old.left (kept ++ piece.now) ps written progress.new.left
         progress.new.lines
         result.taken
-        × MovesBy (given_in ps) (taken_in ps) lent.entry.seat.now.held
-        result.lent.seat.now.held }
-    ensures leads { ∥ WhereKnown (K.domain lent.entry.keeper.now)
-        (K.domain result.lent.keeper.now)
-        (GoesOn (K.identity lent.entry.keeper.now).strict progress.old.session progress.new.session
-        lent.entry.seat.now
-        result.lent.seat.now (D.calls lent.entry.sink.now) (D.calls result.lent.sink.now)) ∥₁ }
-    ensures others { WhereKnown (K.domain lent.entry.keeper.now) (K.domain result.lent.keeper.now)
+        × MovesBy (given_in ps) (taken_in ps) access.entry.seat.now.held
+        result.access.seat.now.held }
+    ensures leads { ∥ WhereKnown (K.domain access.entry.keeper.now)
+        (K.domain result.access.keeper.now)
+        (GoesOn (K.identity access.entry.keeper.now).strict progress.old.session progress.new.session
+        access.entry.seat.now
+        result.access.seat.now (D.calls access.entry.sink.now) (D.calls result.access.sink.now)) ∥₁ }
+    ensures others { WhereKnown (K.domain access.entry.keeper.now) (K.domain result.access.keeper.now)
         (KeepsOthers (client_after None progress.new.session.pairs)) }
     ensures named { progress.new.session.number ≡ progress.old.session.number }
     ensures answers { AreAnswers progress.new.session.number None 0 progress.new.session.pairs }
@@ -347,22 +347,22 @@ fn turn_lent<
     ensures reads { L.reads link.new ≡ L.reads link.old }
     ensures ends { L.ends link.new ≡ L.ends link.old }
     ensures failures { CountsFault result.taken (L.failures link.old) (L.failures link.new) }
-    ensures same { K.identity result.lent.keeper.now ≡ K.identity lent.entry.keeper.now }
-    ensures place { KeepsPlace lent.entry.seat.now result.lent.seat.now
-        (D.calls lent.entry.sink.now)
-        (D.calls result.lent.sink.now) }
+    ensures same { K.identity result.access.keeper.now ≡ K.identity access.entry.keeper.now }
+    ensures place { KeepsPlace access.entry.seat.now result.access.seat.now
+        (D.calls access.entry.sink.now)
+        (D.calls result.access.sink.now) }
 {
     // for the proof: whose holdings a step leaves, what the client is, and how many ranges it was
     // told in lists
     others_keep_their_holdings();
     progress.session.client();
-    let number = lent.keeper.number();
+    let number = access.keeper.number();
     let alloc = *room.last.told.allocator();
     let mut desk: TurnDesk<'a, C, F, S, G, K, D, O> = TurnDesk {
-        lent,
+        access,
         session: mem::replace(&mut progress.session, Session::new(number)),
         last: mem::replace(&mut room.last, LastBatch::new(alloc)),
-        opening: PhantomData,
+        start: PhantomData,
     };
     let taken = take_piece(
         link,
@@ -373,16 +373,16 @@ fn turn_lent<
         &mut room.answers,
     );
     let TurnDesk {
-        lent,
+        access,
         session,
         last,
-        opening: _,
+        start: _,
     } = desk;
     // for the proof: that its answers are those of its domain
     session.client();
     progress.session = session;
     room.last = last;
-    Turned { taken, lent }
+    Turned { taken, access }
 }
 
 /// Ends the client that the session opened, whatever ended the session. None where there is no room

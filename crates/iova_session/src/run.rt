@@ -44,16 +44,16 @@ pub struct SessionEnd {
     pub client: Option<Ending>,
 }
 
-/// What serving came to, and what it was lent.
+/// What serving came to, and what it had access to.
 #[derive(Drop)]
 struct ServedSession<'a, C: Ledger, F: Ledger, S: Ledger, G: Ledger, K: Keep<C, F, S, G>, D: Sink> {
     end: End,
     client: Option<ClientId>,
-    lent: DomainAccess<'a, C, F, S, G, K, D>,
+    access: DomainAccess<'a, C, F, S, G, K, D>,
 }
 
-/// Serves a session, and gives back what it was lent.
-fn serve_lent<
+/// Serves a session, and gives back what it had access to.
+fn serve_with<
     'a,
     C: Ledger,
     F: Ledger,
@@ -67,53 +67,53 @@ fn serve_lent<
     alloc: Global,
     limits: SessionLimits,
     link: &mut L,
-    lent: DomainAccess<'a, C, F, S, G, K, D>,
+    access: DomainAccess<'a, C, F, S, G, K, D>,
 ) -> ServedSession<'a, C, F, S, G, K, D>
-    requires names { (lent.keeper.ghost_name ≡ O.keeper_name) × (lent.seat.ghost_name ≡ O.seat_name)
-        × (lent.sink.ghost_name ≡ O.sink_name) }
-    requires same { K.identity lent.keeper.now ≡ O.identity }
-    requires domain { K.domain lent.keeper.now ≡ O.domain }
-    requires seat { lent.seat.now ≡ O.seat }
-    requires calls { D.calls lent.sink.now ≡ O.calls }
-    ensures names { (result.lent.keeper.ghost_name ≡ lent.entry.keeper.ghost_name)
-        × (result.lent.seat.ghost_name ≡ lent.entry.seat.ghost_name)
-        × (result.lent.sink.ghost_name ≡ lent.entry.sink.ghost_name) }
-    ensures same { K.identity result.lent.keeper.now ≡ K.identity lent.entry.keeper.now }
+    requires names { (access.keeper.ghost_name ≡ O.keeper_name) × (access.seat.ghost_name ≡ O.seat_name)
+        × (access.sink.ghost_name ≡ O.sink_name) }
+    requires same { K.identity access.keeper.now ≡ O.identity }
+    requires domain { K.domain access.keeper.now ≡ O.domain }
+    requires seat { access.seat.now ≡ O.seat }
+    requires calls { D.calls access.sink.now ≡ O.calls }
+    ensures names { (result.access.keeper.ghost_name ≡ access.entry.keeper.ghost_name)
+        × (result.access.seat.ghost_name ≡ access.entry.seat.ghost_name)
+        × (result.access.sink.ghost_name ≡ access.entry.sink.ghost_name) }
+    ensures same { K.identity result.access.keeper.now ≡ K.identity access.entry.keeper.now }
     ensures session { (taken : List ℕ) × (ps : List Pair) × (written : List ℕ) × (reads : ℕ)
         × Consumes (L.left link.old) (L.left link.new) taken
         × Appends (L.sent link.old) (L.sent link.new) written
         × (L.reads link.new ≡ L.reads link.old + reads)
         × ServesWithin limits.requests limits.reads taken ps written reads result.end
-        × AreAnswers (K.identity lent.entry.keeper.now).number None 0 ps
+        × AreAnswers (K.identity access.entry.keeper.now).number None 0 ps
         × (result.client ≡ client_after None ps)
-        × MovesBy (given_in ps) (taken_in ps) lent.entry.seat.now.held result.lent.seat.now.held
-        × ∥ WhereKnown (K.domain lent.entry.keeper.now) (K.domain result.lent.keeper.now)
-        (LeadsFrom (K.identity lent.entry.keeper.now).strict
-        (K.identity lent.entry.keeper.now).number ps
-        lent.entry.seat.now
-        result.lent.seat.now (D.calls lent.entry.sink.now) (D.calls result.lent.sink.now)) ∥₁ }
+        × MovesBy (given_in ps) (taken_in ps) access.entry.seat.now.held result.access.seat.now.held
+        × ∥ WhereKnown (K.domain access.entry.keeper.now) (K.domain result.access.keeper.now)
+        (LeadsFrom (K.identity access.entry.keeper.now).strict
+        (K.identity access.entry.keeper.now).number ps
+        access.entry.seat.now
+        result.access.seat.now (D.calls access.entry.sink.now) (D.calls result.access.sink.now)) ∥₁ }
     ensures failures { L.failures link.new ≡ L.failures link.old + failures_at result.end }
     ensures ends { L.ends link.new ≡ L.ends link.old + ends_at result.end }
-    ensures place { KeepsPlace lent.entry.seat.now result.lent.seat.now
-        (D.calls lent.entry.sink.now)
-        (D.calls result.lent.sink.now) }
+    ensures place { KeepsPlace access.entry.seat.now result.access.seat.now
+        (D.calls access.entry.sink.now)
+        (D.calls result.access.sink.now) }
 {
-    let session = Session::new(lent.keeper.number());
+    let session = Session::new(access.keeper.number());
     let mut desk: SessionDesk<'a, C, F, S, G, K, D, O> = SessionDesk {
-        lent,
+        access,
         session,
         last: LastBatch::new(alloc),
-        opening: PhantomData,
+        start: PhantomData,
     };
     let end = serve_within(alloc, limits, link, &mut desk);
     let client = desk.session.client();
     let SessionDesk {
-        lent,
+        access,
         session: _,
         last: _,
-        opening: _,
+        start: _,
     } = desk;
-    ServedSession { end, client, lent }
+    ServedSession { end, client, access }
 }
 
 /// Serves a session of the seat's worker, and gives how it ended and the client that it opened.
@@ -145,12 +145,12 @@ fn serve_at<C: Ledger, F: Ledger, S: Ledger, G: Ledger, K: Keep<C, F, S, G>, D: 
     let ServedSession {
         end,
         client,
-        lent: DomainAccess {
+        access: DomainAccess {
             keeper: _,
             seat: _,
             sink: _,
         },
-    } = serve_lent::<C, F, S, G, K, D, L, Brand>(
+    } = serve_with::<C, F, S, G, K, D, L, Brand>(
         alloc,
         limits,
         link,

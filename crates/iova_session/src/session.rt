@@ -91,21 +91,19 @@ impl Session {
         } }
     {
         let listed = self.listed + count_listed(answer);
-        let client = next_client(self.client, answer);
         self.log.add(request, answer);
         self.listed = listed;
-        self.client = client;
+        note_client(&mut self.client, answer);
     }
 }
 
-/// The session's client after this answer.
+/// Notes the session's client, where this answer opened it. Nothing is written otherwise.
 #[inline(always)]
-fn next_client(client: Option<ClientId>, answer: &Answer) -> Option<ClientId>
-    ensures { result ≡ the_next_client client answer.now }
+fn note_client(client: &mut Option<ClientId>, answer: &Answer)
+    ensures { client.new ≡ the_next_client client.old answer.now }
 {
-    match answer {
-        Answer::Opened(id) => Some(*id),
-        _ => client,
+    if let Answer::Opened(id) = answer {
+        *client = Some(*id);
     }
 }
 

@@ -63,7 +63,7 @@ impl SessionStart for Brand {
     ghost sink_name = { 0 };
 }
 
-/// What a session is lent.
+/// What a session has access to while it is served.
 #[derive(Drop)]
 pub(crate) struct DomainAccess<
     'a,
@@ -92,24 +92,24 @@ pub(crate) struct SessionDesk<
     D: Sink,
     O: SessionStart,
 > {
-    pub(crate) lent: DomainAccess<'a, C, F, S, G, K, D>,
+    pub(crate) access: DomainAccess<'a, C, F, S, G, K, D>,
     pub(crate) session: Session,
     pub(crate) last: LastBatch,
-    pub(crate) opening: PhantomData<O>,
-    ghost names: { (lent.keeper.ghost_name ≡ O.keeper_name) × (lent.seat.ghost_name ≡ O.seat_name)
-        × (lent.sink.ghost_name ≡ O.sink_name) },
+    pub(crate) start: PhantomData<O>,
+    ghost names: { (access.keeper.ghost_name ≡ O.keeper_name) × (access.seat.ghost_name ≡ O.seat_name)
+        × (access.sink.ghost_name ≡ O.sink_name) },
     ghost number: { session.number ≡ O.identity.number },
-    ghost same: { K.identity lent.keeper.now ≡ O.identity },
-    ghost leads: { ∥ WhereKnown O.domain (K.domain lent.keeper.now)
+    ghost same: { K.identity access.keeper.now ≡ O.identity },
+    ghost leads: { ∥ WhereKnown O.domain (K.domain access.keeper.now)
         (LeadsFrom O.identity.strict O.identity.number session.pairs
-        O.seat lent.seat.now O.calls (D.calls lent.sink.now)) ∥₁ },
+        O.seat access.seat.now O.calls (D.calls access.sink.now)) ∥₁ },
     ghost shares: { MovesBy (given_in session.pairs) (taken_in session.pairs) O.seat.held
-        lent.seat.now.held } by { MovesBy-prop (given_in session.pairs) (taken_in session.pairs)
-            O.seat.held lent.seat.now.held },
-    ghost worker: { lent.seat.now.worker ≡ O.seat.worker },
-    ghost parts: { lent.seat.now.tally.parts ≡ O.seat.tally.parts },
-    ghost tally: { lent.seat.now.tally.good + good_calls O.calls ≤ O.seat.tally.good + good_calls
-        (D.calls lent.sink.now) },
+        access.seat.now.held } by { MovesBy-prop (given_in session.pairs) (taken_in session.pairs)
+            O.seat.held access.seat.now.held },
+    ghost worker: { access.seat.now.worker ≡ O.seat.worker },
+    ghost parts: { access.seat.now.tally.parts ≡ O.seat.tally.parts },
+    ghost tally: { access.seat.now.tally.good + good_calls O.calls ≤ O.seat.tally.good + good_calls
+        (D.calls access.sink.now) },
 }
 
 impl<
@@ -129,8 +129,8 @@ impl<
         requests: &[Request],
         answers: &mut Vec<Answer>,
     ) -> Result<usize, Refusal> {
-        ask_lent(
-            &mut self.lent,
+        ask_with(
+            &mut self.access,
             &mut self.session,
             &mut self.last,
             requests,
@@ -139,9 +139,9 @@ impl<
     }
 }
 
-/// `ask_front` over what the session is lent.
-pub(crate) fn ask_lent<C: Ledger, F: Ledger, S: Ledger, G: Ledger, K: Keep<C, F, S, G>, D: Sink>(
-    lent: &mut DomainAccess<'_, C, F, S, G, K, D>,
+/// `ask_front` over what the session has access to.
+pub(crate) fn ask_with<C: Ledger, F: Ledger, S: Ledger, G: Ledger, K: Keep<C, F, S, G>, D: Sink>(
+    access: &mut DomainAccess<'_, C, F, S, G, K, D>,
     session: &mut Session,
     last: &mut LastBatch,
     requests: &[Request],
@@ -149,30 +149,30 @@ pub(crate) fn ask_lent<C: Ledger, F: Ledger, S: Ledger, G: Ledger, K: Keep<C, F,
 ) -> Result<usize, Refusal>
     requires some { 1 ≤ length requests.now }
     requires most { length requests.now ≤ MAX_RUN }
-    requires number { session.old.number ≡ (K.identity lent.old.keeper.now).number }
-    ensures names { (lent.new.keeper.ghost_name ≡ lent.old.keeper.ghost_name)
-        × (lent.new.seat.ghost_name ≡ lent.old.seat.ghost_name)
-        × (lent.new.sink.ghost_name ≡ lent.old.sink.ghost_name) }
-    ensures same { K.identity lent.new.keeper.now ≡ K.identity lent.old.keeper.now }
+    requires number { session.old.number ≡ (K.identity access.old.keeper.now).number }
+    ensures names { (access.new.keeper.ghost_name ≡ access.old.keeper.ghost_name)
+        × (access.new.seat.ghost_name ≡ access.old.seat.ghost_name)
+        × (access.new.sink.ghost_name ≡ access.old.sink.ghost_name) }
+    ensures same { K.identity access.new.keeper.now ≡ K.identity access.old.keeper.now }
     ensures after { (session.old.client ≡ client_after None session.old.pairs)
         × (session.old.listed ≡ listed_after 0 session.old.pairs) }
-    ensures leads { WhereKnown (K.domain lent.old.keeper.now) (K.domain lent.new.keeper.now)
-        (GoesOn (K.identity lent.old.keeper.now).strict session.old session.new lent.old.seat.now
-        lent.new.seat.now
-        (D.calls lent.old.sink.now) (D.calls lent.new.sink.now)) }
+    ensures leads { WhereKnown (K.domain access.old.keeper.now) (K.domain access.new.keeper.now)
+        (GoesOn (K.identity access.old.keeper.now).strict session.old session.new access.old.seat.now
+        access.new.seat.now
+        (D.calls access.old.sink.now) (D.calls access.new.sink.now)) }
     ensures count { IfOk result (λ n. (1 ≤ n) × (n ≤ length requests.now)) }
     ensures ok { IfOk result
         (λ n. AnswersRun requests.now n session.old session.new answers.old.items answers.new.items
-        lent.old.seat.now.held lent.new.seat.now.held) }
+        access.old.seat.now.held access.new.seat.now.held) }
     ensures err { IfErr result (λ e. (e ≡ Refusal.NoMemory) × (session.new ≡ session.old)
-        × (answers.new.items ≡ answers.old.items) × (lent.new.seat.now ≡ lent.old.seat.now)) }
-    ensures place { KeepsPlace lent.old.seat.now lent.new.seat.now (D.calls lent.old.sink.now)
-        (D.calls lent.new.sink.now) }
+        × (answers.new.items ≡ answers.old.items) × (access.new.seat.now ≡ access.old.seat.now)) }
+    ensures place { KeepsPlace access.old.seat.now access.new.seat.now (D.calls access.old.sink.now)
+        (D.calls access.new.sink.now) }
 {
     ask_front(
-        lent.keeper,
-        lent.seat,
-        lent.sink,
+        access.keeper,
+        access.seat,
+        access.sink,
         session,
         last,
         requests,

@@ -159,9 +159,32 @@ fn tell_all(session: &mut Session, requests: &[Request], told: &[Told], answers:
         match told {
             Told::Given(range) => tell(session, request, Answer::Given(*range), answers),
             Told::Queued(range) => tell(session, request, Answer::Queued(*range), answers),
-            Told::Stat(stat) => tell(session, request, Answer::Stat(*stat), answers),
-            Told::Refused(refusal) => tell(session, request, Answer::Refused(*refusal), answers),
+            _ => tell_any(session, request, told, answers),
         }
+    }
+}
+
+/// The same of a request, whatever was told. Out of line: ranges are what is told mostly.
+#[inline(never)]
+fn tell_any(session: &mut Session, request: Request, told: &Told, answers: &mut Vec<Answer>)
+    requires is { IsAnswer session.old.number session.old.client session.old.listed request
+        (the_answer_of told.now) }
+    requires room { vec_len answers.old + 1 ≤ vec_capacity answers.old }
+    ensures session { session.new ≡ record {
+      number = session.old.number;
+      client = next_client session.old.client (the_answer_of told.now);
+      listed = session.old.listed + count_listed (the_answer_of told.now);
+      pairs = session.old.pairs
+          ++ record { request = request; answer = the_answer_of told.now } ∷ [];
+    } }
+    ensures answers { answers.new.items ≡ answers.old.items ++ the_answer_of told.now ∷ [] }
+    ensures kept { vec_capacity answers.old ≤ vec_capacity answers.new }
+{
+    match told {
+        Told::Given(range) => tell(session, request, Answer::Given(*range), answers),
+        Told::Queued(range) => tell(session, request, Answer::Queued(*range), answers),
+        Told::Stat(stat) => tell(session, request, Answer::Stat(*stat), answers),
+        Told::Refused(refusal) => tell(session, request, Answer::Refused(*refusal), answers),
     }
 }
 
@@ -185,17 +208,5 @@ pub(crate) fn tell(
     ensures kept { vec_capacity answers.old ≤ vec_capacity answers.new }
 {
     session.add(request, &answer);
-    push(answers, answer);
-}
-
-/// Appends the answer, for which there is room.
-#[inline(always)]
-fn push(answers: &mut Vec<Answer>, answer: Answer)
-    requires { vec_len answers.old + 1 ≤ vec_capacity answers.old }
-    ensures items { answers.new.items ≡ answers.old.items ++ answer ∷ [] }
-    ensures kept { vec_capacity answers.old ≤ vec_capacity answers.new }
-{
-    let Ok(()) = answers.push(answer) else {
-        unreachable!();
-    };
+    answers.push_reserved(answer);
 }

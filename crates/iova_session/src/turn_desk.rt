@@ -8,7 +8,7 @@ ghost use Rattle.iova_session.specs.Turns.{MovesOn};
 
 use crate::desk::Desk;
 use crate::session::Session;
-use crate::session_desk::{DomainAccess, SessionStart, ask_lent};
+use crate::session_desk::{DomainAccess, SessionStart, ask_with};
 use crate::together::LastBatch;
 use iova_keep::keep::Keep;
 use iova_proto::answer::Answer;
@@ -32,26 +32,26 @@ pub(crate) struct TurnDesk<
     D: Sink,
     O: SessionStart,
 > {
-    pub(crate) lent: DomainAccess<'a, C, F, S, G, K, D>,
+    pub(crate) access: DomainAccess<'a, C, F, S, G, K, D>,
     pub(crate) session: Session,
     pub(crate) last: LastBatch,
-    pub(crate) opening: PhantomData<O>,
-    ghost names: { (lent.keeper.ghost_name ≡ O.keeper_name) × (lent.seat.ghost_name ≡ O.seat_name)
-        × (lent.sink.ghost_name ≡ O.sink_name) },
+    pub(crate) start: PhantomData<O>,
+    ghost names: { (access.keeper.ghost_name ≡ O.keeper_name) × (access.seat.ghost_name ≡ O.seat_name)
+        × (access.sink.ghost_name ≡ O.sink_name) },
     ghost number: { session.number ≡ O.identity.number },
-    ghost same: { K.identity lent.keeper.now ≡ O.identity },
+    ghost same: { K.identity access.keeper.now ≡ O.identity },
     ghost opened: { (O.session.number ≡ O.identity.number)
         × (O.session.client ≡ client_after None O.session.pairs)
         × (O.session.listed ≡ listed_after 0 O.session.pairs) },
-    ghost leads: { ∥ WhereKnown O.domain (K.domain lent.keeper.now)
-        (GoesOn O.identity.strict O.session session O.seat lent.seat.now O.calls
-        (D.calls lent.sink.now))
+    ghost leads: { ∥ WhereKnown O.domain (K.domain access.keeper.now)
+        (GoesOn O.identity.strict O.session session O.seat access.seat.now O.calls
+        (D.calls access.sink.now))
         ∥₁ },
-    ghost shares: { ∥ MovesOn O.session session O.seat.held lent.seat.now.held ∥₁ },
-    ghost worker: { lent.seat.now.worker ≡ O.seat.worker },
-    ghost parts: { lent.seat.now.tally.parts ≡ O.seat.tally.parts },
-    ghost tally: { lent.seat.now.tally.good + good_calls O.calls ≤ O.seat.tally.good + good_calls
-        (D.calls lent.sink.now) },
+    ghost shares: { ∥ MovesOn O.session session O.seat.held access.seat.now.held ∥₁ },
+    ghost worker: { access.seat.now.worker ≡ O.seat.worker },
+    ghost parts: { access.seat.now.tally.parts ≡ O.seat.tally.parts },
+    ghost tally: { access.seat.now.tally.good + good_calls O.calls ≤ O.seat.tally.good + good_calls
+        (D.calls access.sink.now) },
 }
 
 impl<
@@ -71,8 +71,8 @@ impl<
         requests: &[Request],
         answers: &mut Vec<Answer>,
     ) -> Result<usize, Refusal> {
-        ask_lent(
-            &mut self.lent,
+        ask_with(
+            &mut self.access,
             &mut self.session,
             &mut self.last,
             requests,

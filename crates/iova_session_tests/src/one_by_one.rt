@@ -51,7 +51,7 @@ const NOTHING: Totals = Totals {
 /// What the sessions came to: how many of them ended as they should, and how many ended; and after
 /// the round of tries behind them how many clients wait, and what the domain's clients hold.
 #[derive(Clone, Copy)]
-struct Came {
+struct Outcome {
     as_expected: usize,
     sessions: usize,
     left: u64,
@@ -89,13 +89,13 @@ fn serve_all<C: Ledger, F: Ledger, S: Ledger, G: Ledger, K: Keep<C, F, S, G>>(
     post: &mut Post<C, F, S, G>,
     links: &mut [MemoryLink<'static>],
     ends: &mut Vec<SessionEnd>,
-) -> Option<Came> {
+) -> Option<Outcome> {
     if ends.try_reserve(links.len()).is_err() {
         return None;
     }
     let mut sink = MemorySink::new(1);
     let left = serve_one_by_one_then_retry(alloc, links, keeper, post, &mut sink, ends);
-    Some(Came {
+    Some(Outcome {
         as_expected: count_expected(ends.as_slice()),
         sessions: ends.len(),
         left,
@@ -109,7 +109,7 @@ fn all_at<C: Ledger, F: Ledger, S: Ledger, G: Ledger, K: Keep<C, F, S, G> + Drop
     mut keeper: K,
     seat: Seat<C, F, S, G>,
     links: &mut [MemoryLink<'static>],
-) -> Option<Came> {
+) -> Option<Outcome> {
     let mut post = Post::new(alloc, seat);
     let mut ends = Vec::new(alloc);
     serve_all(alloc, &mut keeper, &mut post, links, &mut ends)
@@ -120,7 +120,7 @@ fn in_book<C: Ledger, F: Ledger, S: Ledger, G: Ledger>(
     alloc: Global,
     blanks: Blanks,
     links: &mut [MemoryLink<'static>],
-) -> Result<Option<Came>, Refusal>
+) -> Result<Option<Outcome>, Refusal>
     requires blanks { AreBlanksOf blanks C.Ledger F.Ledger S.Ledger G.Ledger 1 1 }
 {
     let bounds = Bounds::new_in(Profile::one(), 1, 1023)?;
@@ -131,18 +131,18 @@ fn in_book<C: Ledger, F: Ledger, S: Ledger, G: Ledger>(
     Ok(all_at(alloc, book, seat, links))
 }
 
-fn in_new_book(alloc: Global) -> Result<Option<Came>, Refusal> {
+fn in_new_book(alloc: Global) -> Result<Option<Outcome>, Refusal> {
     let mut links = links_of(alloc)?;
     in_book::<Brand, Brand, Brand, Brand>(alloc, Blanks::new(1, 1), &mut links)
 }
 
 #[test]
 fn sessions_one_after_another(rt: HostRuntime) {
-    let Ok(Some(came)) = in_new_book(rt.alloc()) else {
+    let Ok(Some(outcome)) = in_new_book(rt.alloc()) else {
         panic!(rt; "no memory");
     };
-    assert_eq!(rt; came.sessions, 12);
-    assert_eq!(rt; came.as_expected, 12);
-    assert_eq!(rt; came.left, 0);
-    assert!(rt; came.held == NOTHING);
+    assert_eq!(rt; outcome.sessions, 12);
+    assert_eq!(rt; outcome.as_expected, 12);
+    assert_eq!(rt; outcome.left, 0);
+    assert!(rt; outcome.held == NOTHING);
 }

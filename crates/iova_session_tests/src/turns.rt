@@ -52,7 +52,7 @@ const NOTHING: Totals = Totals {
 /// before they depart, what the end of each client came to, and what the seat and the domain hold
 /// then, and how many clients wait.
 #[derive(Clone, Copy)]
-struct Came {
+struct Outcome {
     ends: [Option<End>; 2],
     answered: [bool; 2],
     held: Totals,
@@ -84,7 +84,7 @@ fn both_at<C: Ledger, F: Ledger, S: Ledger, G: Ledger, K: Keep<C, F, S, G> + Dro
     alloc: Global,
     mut keeper: K,
     seat: Seat<C, F, S, G>,
-) -> Option<Came> {
+) -> Option<Outcome> {
     let mut post = Post::new(alloc, seat);
     let mut room = RunRoom::new(alloc)?;
     let mut sink = MemorySink::new(0);
@@ -124,7 +124,7 @@ fn both_at<C: Ledger, F: Ledger, S: Ledger, G: Ledger, K: Keep<C, F, S, G> + Dro
         depart(&first, &mut keeper, &mut post, &mut sink),
         depart(&second, &mut keeper, &mut post, &mut sink),
     ];
-    Some(Came {
+    Some(Outcome {
         ends: [first.end(), second.end()],
         answered: [first_link.sent() == FIRST, second_link.sent() == SECOND],
         held,
@@ -139,7 +139,7 @@ fn both_at<C: Ledger, F: Ledger, S: Ledger, G: Ledger, K: Keep<C, F, S, G> + Dro
 fn in_book<C: Ledger, F: Ledger, S: Ledger, G: Ledger>(
     alloc: Global,
     blanks: Blanks,
-) -> Result<Option<Came>, Refusal>
+) -> Result<Option<Outcome>, Refusal>
     requires blanks { AreBlanksOf blanks C.Ledger F.Ledger S.Ledger G.Ledger 1 1 }
 {
     let bounds = Bounds::new_in(Profile::one(), 1, 1023)?;
@@ -150,23 +150,23 @@ fn in_book<C: Ledger, F: Ledger, S: Ledger, G: Ledger>(
     Ok(both_at(alloc, book, seat))
 }
 
-fn in_new_book(alloc: Global) -> Result<Option<Came>, Refusal> {
+fn in_new_book(alloc: Global) -> Result<Option<Outcome>, Refusal> {
     in_book::<Brand, Brand, Brand, Brand>(alloc, Blanks::new(1, 1))
 }
 
 #[test]
 fn two_sessions_take_turns(rt: HostRuntime) {
-    let Ok(Some(came)) = in_new_book(rt.alloc()) else {
+    let Ok(Some(outcome)) = in_new_book(rt.alloc()) else {
         panic!(rt; "no memory");
     };
-    assert_eq!(rt; came.ends, [Some(End::Bye), None]);
-    assert_eq!(rt; came.answered, [true, true]);
-    assert_eq!(rt; came.held.count, 2);
-    assert_eq!(rt; came.held.frames, 3);
+    assert_eq!(rt; outcome.ends, [Some(End::Bye), None]);
+    assert_eq!(rt; outcome.answered, [true, true]);
+    assert_eq!(rt; outcome.held.count, 2);
+    assert_eq!(rt; outcome.held.frames, 3);
     assert_eq!(rt;
-        came.departed,
+        outcome.departed,
         [Some(Some(Ending::Ended(0))), Some(Some(Ending::Ended(2)))]
     );
-    assert!(rt; came.left == NOTHING && came.gathered == NOTHING);
-    assert_eq!(rt; came.waiting, 0);
+    assert!(rt; outcome.left == NOTHING && outcome.gathered == NOTHING);
+    assert_eq!(rt; outcome.waiting, 0);
 }

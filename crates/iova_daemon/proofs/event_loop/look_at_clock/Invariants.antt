@@ -2,4 +2,4 @@ use Rattle.std.proofs.Common.{◌≡◌}
 use Rattle.iova_daemon.proofs.event_loop.look_at_clock.Given as goal
 
 abbrev pub invariant-looking : goal.invariant-looking
-invariant-looking g l = l.bench.post.seat.worker ≡ l.initial.bench.post.seat.worker
+invariant-looking g l = l.turns.post.seat.worker ≡ l.initial.turns.post.seat.worker

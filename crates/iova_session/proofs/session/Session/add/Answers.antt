@@ -18,7 +18,7 @@ invariant_of-self c =
     let fits = list_fits c.self.inside.number c.self.inside.client c.self.inside.listed _ _ c.self.invariant.2 ok in
     let turn = rw (c.self.invariant.0, c.self.invariant.1) at ok in
     rw c.add.ensures (
-      c.next_client-client.ensures ∙ ap (λ x. next_client x c.args.answer.now) c.self.invariant.0 ∙ sym (client_after_more None c.self.inside.log p),
+      c.note_client.ensures ∙ ap (λ x. next_client x c.args.answer.now) c.self.invariant.0 ∙ sym (client_after_more None c.self.inside.log p),
       ap (λ n. c.self.inside.listed + n) c.count_listed.ensures ∙ ap (λ n. n + count_listed c.args.answer.now) c.self.invariant.1 ∙ sym (listed_after_more 0 c.self.inside.log p),
       rw c.count_listed.ensures fits,
       answers_more c.self.inside.number None 0 c.self.inside.log p c.self.invariant.3 turn,
