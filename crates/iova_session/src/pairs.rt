@@ -10,7 +10,7 @@ use std::snapshot::Snapshot;
 /// no memory: each pair is kept, with what was before it, as snapshots, which no code reads.
 #[derive(Drop)]
 pub struct Pairs {
-    before: Snapshot<Option<Snapshot<Pairs>>>,
+    before: Option<Snapshot<Pairs>>,
     request: Snapshot<Request>,
     answer: Snapshot<Answer>,
 }
@@ -36,7 +36,7 @@ impl Pairs {
         ensures { result ≡ [] }
     {
         Pairs {
-            before: Snapshot::of(&None),
+            before: None,
             request: Snapshot::of(&Request::Bye),
             answer: Snapshot::of(&Answer::Bye),
         }
@@ -47,7 +47,7 @@ impl Pairs {
         ensures { self.new ≡ self.old ++ record { request = request; answer = answer.now } ∷ [] }
     {
         let before = Snapshot::of(self);
-        self.before = Snapshot::of(&Some(before));
+        self.before = Some(before);
         self.request = Snapshot::of(&request);
         self.answer = Snapshot::of(answer);
     }
