@@ -552,7 +552,8 @@ impl Domain {
         }
     }
 
-    /// How many frames of the bounds are at each kind of place. All six are kept as numbers: no
+    /// How many frames of the bounds are at each kind of place. Of each worker a number of its ring
+    /// and the lengths of its 12 magazines are added up, and all else is kept as numbers: no
     /// holding, entry or range is looked at.
     pub fn counts(&self) -> Counts
         ensures { result ≡ counts self.now }

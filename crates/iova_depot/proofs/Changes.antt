@@ -11,7 +11,7 @@ use Rattle.iova_mag.specs.Workers.{WorkerCache, IsWorkerCache, AreEmpty, cache_o
 use Rattle.iova_depot.specs.Stored.{Stored}
 use Rattle.iova_depot.specs.Cached.{Cached, IsCached, with_worker_cache, with_depot}
 use Rattle.iova_depot.specs.Inside.{AreEmptyBelow, caches_of, AreCachesKept}
-use Rattle.iova_depot.proofs.Counts.{entries_in, entries_of, frames_of-with_worker_cache, frames_of-with_depot}
+use Rattle.iova_depot.proofs.Counts.{entries_of, frames_of-with_depot}
 
 -- what is seen of a worker, of a depot, and of all
 abbrev pub caches_in : WorkerCache → List Cache
@@ -23,8 +23,8 @@ lists_in d = d.lists
 abbrev pub all_seen : Capacities → List WorkerCache → List Stored → Cached
 all_seen profile ws ds = record { profile = profile; workers = length ws; caches = caches_of ws ds }
 
-pub cached : (profile : Capacities) (ws : List WorkerCache) (ds : List Stored) (m d n : ℕ) → AreCachesKept profile ws ds m d n → IsCached (all_seen profile ws ds)
-cached profile ws ds m d n s = record { profile = s.is_profile; some_worker = s.some_worker; few_workers = s.few_workers; caches = s.caches }
+pub cached : (profile : Capacities) (ws : List WorkerCache) (ds : List Stored) (d n : ℕ) → AreCachesKept profile ws ds d n → IsCached (all_seen profile ws ds)
+cached profile ws ds d n s = record { profile = s.is_profile; some_worker = s.some_worker; few_workers = s.few_workers; caches = s.caches }
 
 -- A worker.
 
@@ -36,13 +36,13 @@ pub cache_at-seen : (ws : List WorkerCache) (ds : List Stored) (w o : ℕ) (p : 
 cache_at-seen ws ds w o p lt is = ap (λ (cs : List Cache). slice_index_or cs o no_magazines) (caches_at ws w p lt is)
 
 -- it has six of them, and the profile of all
-pub orders_at : (profile : Capacities) (ws : List WorkerCache) (ds : List Stored) (m d n w : ℕ) → AreCachesKept profile ws ds m d n → w < length ws → length (slice_index_or (caches_of ws ds).workers w []) ≡ 6
-orders_at profile ws ds m d n w s lt =
+orders_at : (profile : Capacities) (ws : List WorkerCache) (ds : List Stored) (d n w : ℕ) → AreCachesKept profile ws ds d n → w < length ws → length (slice_index_or (caches_of ws ds).workers w []) ≡ 6
+orders_at profile ws ds d n w s lt =
     let k : length (map caches_in ws) ≡ length ws = s.caches.each_worker in
     (All-get_or (AreWorkerCaches profile) (map caches_in ws) w [] (omega arith) (All-from_recursion (AreWorkerCaches profile) (map caches_in ws) s.caches.magazines)).orders
 
-pub profile_at : (profile : Capacities) (ws : List WorkerCache) (ds : List Stored) (m d n w : ℕ) (p : WorkerCache) → AreCachesKept profile ws ds m d n → w < length ws → p ≡ slice_index_or ws w p → p.profile ≡ profile
-profile_at profile ws ds m d n w p s lt is =
+pub profile_at : (profile : Capacities) (ws : List WorkerCache) (ds : List Stored) (d n w : ℕ) (p : WorkerCache) → AreCachesKept profile ws ds d n → w < length ws → p ≡ slice_index_or ws w p → p.profile ≡ profile
+profile_at profile ws ds d n w p s lt is =
     ap (λ (p : WorkerCache). p.profile) is ∙ All-get_or (λ (p : WorkerCache). p.profile ≡ profile) ws w p lt s.same_in_workers
 
 -- other magazines of one order in it
@@ -88,22 +88,16 @@ empty-with_worker_cache n n' workers c w o cache in_workers in_orders s le empty
     at_worker v i v_lt i_lt below (inl e) = rw e (at_order i i_lt (rw e at below) (rw e at v_lt) (cases_eq i o))
     at_worker v i v_lt i_lt below (inr other) = rw (at_other_worker c w o v i cache other) (s.magazines v i v_lt i_lt (omega arith))
 
-count_follows : (m m' old new a b : ℕ) → new + a ≡ old + b → m ≡ old → m' + a ≡ m + b → m' ≡ new
-count_follows m m' old new a b e f g = omega arith
-
-pub inside-worker : (profile : Capacities) (ws : List WorkerCache) (ds : List Stored) (m d n m' n' w o : ℕ) (p q : WorkerCache) (cache : Cache) → AreCachesKept profile ws ds m d n
+pub inside-worker : (profile : Capacities) (ws : List WorkerCache) (ds : List Stored) (d n n' w o : ℕ) (p q : WorkerCache) (cache : Cache) → AreCachesKept profile ws ds d n
     → w < length ws → o < 6 → p ≡ slice_index_or ws w p → q ≡ with_cache p o cache → IsWorkerCache q
-    → m' + 2 ^ o * entries_in (cache_of p o) ≡ m + 2 ^ o * entries_in cache → n' ≤ n → (w * 6 + o < n' → AreEmpty cache)
-    → AreCachesKept profile (slice_set ws w q) ds m' d n'
-inside-worker profile ws ds m d n m' n' w o p q cache s lt o_lt is becomes sound counts le empty =
+    → n' ≤ n → (w * 6 + o < n' → AreEmpty cache) → AreCachesKept profile (slice_set ws w q) ds d n'
+inside-worker profile ws ds d n n' w o p q cache s lt o_lt is becomes sound le empty =
     let k : length (map caches_in ws) ≡ length ws = s.caches.each_worker in
     let w_lt : w < length (caches_of ws ds).workers = omega arith in
-    let in_orders : o < length (slice_index_or (caches_of ws ds).workers w []) = rw (orders_at profile ws ds m d n w s lt) o_lt in
-    let same : q.profile ≡ profile = ap (λ (p : WorkerCache). p.profile) becomes ∙ profile_at profile ws ds m d n w p s lt is in
+    let in_orders : o < length (slice_index_or (caches_of ws ds).workers w []) = rw (orders_at profile ws ds d n w s lt) o_lt in
+    let same : q.profile ≡ profile = ap (λ (p : WorkerCache). p.profile) becomes ∙ profile_at profile ws ds d n w p s lt is in
     let now = seen-set_worker ws ds w o p q cache lt is becomes in
     let l = length-set ws w q in
-    let frames = frames_of-with_worker_cache (caches_of ws ds) w o cache w_lt in_orders in
-    let counts' : m' + 2 ^ o * entries_in (cache_at (caches_of ws ds) w o) ≡ m + 2 ^ o * entries_in cache = rw (cache_at-seen ws ds w o p lt is) counts in
     record {
       is_profile = s.is_profile;
       some_worker = rw l s.some_worker;
@@ -117,7 +111,6 @@ inside-worker profile ws ds m d n m' n' w o p q cache s lt o_lt is becomes sound
         orders = s.caches.orders;
         depots = s.caches.depots;
       };
-      magazines = rw (ap (λ (c : Caches). c.workers) now) (count_follows m m' _ _ _ _ frames s.magazines counts');
       depot = s.depot;
       empty = rw (now, l) (empty-with_worker_cache n n' (length ws) (caches_of ws ds) w o cache w_lt in_orders s.empty le empty);
     }
@@ -127,16 +120,16 @@ inside-worker profile ws ds m d n m' n' w o p q cache s lt o_lt is becomes sound
 pub lists_at : (ds : List Stored) (o : ℕ) (p : Stored) → o < length ds → p ≡ slice_index_or ds o p → slice_index_or (map lists_in ds) o [] ≡ p.lists
 lists_at ds o p lt is = get_or-map lists_in ds o p [] lt ∙ ap lists_in (sym is)
 
-pub length-depots : (profile : Capacities) (ws : List WorkerCache) (ds : List Stored) (m d n : ℕ) → AreCachesKept profile ws ds m d n → length ds ≡ 6
-length-depots profile ws ds m d n s = sym (length-map ds lists_in) ∙ s.caches.orders
+pub length-depots : (profile : Capacities) (ws : List WorkerCache) (ds : List Stored) (d n : ℕ) → AreCachesKept profile ws ds d n → length ds ≡ 6
+length-depots profile ws ds d n s = sym (length-map ds lists_in) ∙ s.caches.orders
 
-pub depot_at-seen : (profile : Capacities) (ws : List WorkerCache) (ds : List Stored) (m d n o : ℕ) (p : Stored) → AreCachesKept profile ws ds m d n → o < 6 → p ≡ slice_index_or ds o p
+pub depot_at-seen : (profile : Capacities) (ws : List WorkerCache) (ds : List Stored) (d n o : ℕ) (p : Stored) → AreCachesKept profile ws ds d n → o < 6 → p ≡ slice_index_or ds o p
     → slice_index_or (caches_of ws ds).depots o [] ≡ p.lists
-depot_at-seen profile ws ds m d n o p s lt is = let k = length-depots profile ws ds m d n s in lists_at ds o p (omega arith) is
+depot_at-seen profile ws ds d n o p s lt is = let k = length-depots profile ws ds d n s in lists_at ds o p (omega arith) is
 
-pub depot_profile_at : (profile : Capacities) (ws : List WorkerCache) (ds : List Stored) (m d n o : ℕ) (p : Stored) → AreCachesKept profile ws ds m d n → o < 6 → p ≡ slice_index_or ds o p → p.profile ≡ profile
-depot_profile_at profile ws ds m d n o p s lt is =
-    let k = length-depots profile ws ds m d n s in
+pub depot_profile_at : (profile : Capacities) (ws : List WorkerCache) (ds : List Stored) (d n o : ℕ) (p : Stored) → AreCachesKept profile ws ds d n → o < 6 → p ≡ slice_index_or ds o p → p.profile ≡ profile
+depot_profile_at profile ws ds d n o p s lt is =
+    let k = length-depots profile ws ds d n s in
     ap (λ (p : Stored). p.profile) is ∙ All-get_or (λ (p : Stored). p.profile ≡ profile) ds o p (omega arith) s.same_in_depots
 
 pub seen-set_depot : (ws : List WorkerCache) (ds : List Stored) (o : ℕ) (q : Stored) → caches_of ws (slice_set ds o q) ≡ with_depot (caches_of ws ds) o q.lists
@@ -153,17 +146,20 @@ empty-with_depot n n' workers c o lists in_orders s le empty = record {
     at_order i i_lt below (inl e) = rw (e, get_or-set_same c.depots o lists [] in_orders) (empty (rw e at below))
     at_order i i_lt below (inr other) = rw (get_or-set_other c.depots o i lists [] other) (s.depots i i_lt (omega arith))
 
-pub inside-depot : (profile : Capacities) (ws : List WorkerCache) (ds : List Stored) (m d n d' n' o : ℕ) (p q : Stored) → AreCachesKept profile ws ds m d n
+count_follows : (d d' old new a b : ℕ) → new + a ≡ old + b → d ≡ old → d' + a ≡ d + b → d' ≡ new
+count_follows d d' old new a b e f g = omega arith
+
+pub inside-depot : (profile : Capacities) (ws : List WorkerCache) (ds : List Stored) (d n d' n' o : ℕ) (p q : Stored) → AreCachesKept profile ws ds d n
     → o < 6 → p ≡ slice_index_or ds o p → q.profile ≡ p.profile → IsDepot q.profile q.lists
     → d' + 2 ^ o * entries_of p.lists ≡ d + 2 ^ o * entries_of q.lists → n' ≤ n → (length ws * 6 + o < n' → q.lists ≡ [])
-    → AreCachesKept profile ws (slice_set ds o q) m d' n'
-inside-depot profile ws ds m d n d' n' o p q s o_lt is keeps sound counts le empty =
+    → AreCachesKept profile ws (slice_set ds o q) d' n'
+inside-depot profile ws ds d n d' n' o p q s o_lt is keeps sound counts le empty =
     let k : length (map lists_in ds) ≡ 6 = s.caches.orders in
     let lt : o < length (caches_of ws ds).depots = omega arith in
-    let same : q.profile ≡ profile = keeps ∙ depot_profile_at profile ws ds m d n o p s o_lt is in
+    let same : q.profile ≡ profile = keeps ∙ depot_profile_at profile ws ds d n o p s o_lt is in
     let now = seen-set_depot ws ds o q in
     let frames = frames_of-with_depot (caches_of ws ds) o q.lists lt in
-    let counts' : d' + 2 ^ o * entries_of (slice_index_or (caches_of ws ds).depots o []) ≡ d + 2 ^ o * entries_of q.lists = rw (depot_at-seen profile ws ds m d n o p s o_lt is) counts in
+    let counts' : d' + 2 ^ o * entries_of (slice_index_or (caches_of ws ds).depots o []) ≡ d + 2 ^ o * entries_of q.lists = rw (depot_at-seen profile ws ds d n o p s o_lt is) counts in
     record {
       is_profile = s.is_profile;
       some_worker = s.some_worker;
@@ -177,7 +173,6 @@ inside-depot profile ws ds m d n d' n' o p q s o_lt is keeps sound counts le emp
         depots = rw (map-set lists_in ds o q)
             (recursion_from_All (IsDepot profile) _ (All-set (IsDepot profile) (map lists_in ds) o q.lists (rw same at sound) (All-from_recursion (IsDepot profile) _ s.caches.depots)));
       };
-      magazines = s.magazines;
       depot = rw (ap (λ (c : Caches). c.depots) now) (count_follows d d' _ _ _ _ frames s.depot counts');
       empty = rw now (empty-with_depot n n' (length ws) (caches_of ws ds) o q.lists lt s.empty le empty);
     }

@@ -1,6 +1,6 @@
 -- What the ranges of holders weigh, for any weight, and how many frames they have; how that follows a change of one list.
 use Rattle.std.proofs.Common.{ℕ, zero, suc, ◌≡◌, ◌+◌, ◌*◌, ◌^◌, ◌<◌, ◌≤◌, List, [], ◌∷◌, ◌++◌, length, refl, sym, ap, ◌∙◌, arith, append_assoc, inl, inr}
-use Rattle.std.specs.Prelude.{slice_index_or, slice_set, sum_by}
+use Rattle.std.specs.Prelude.{drop, slice_index_or, slice_set, sum_by}
 use Rattle.std.specs.List.{AllByRecursion}
 use Rattle.std.proofs.lemmas.List.Sums.{sum_by-append, sum_by-cons, sum_by-le}
 use Rattle.std.proofs.lemmas.List.Elements.{All-from_recursion, All-weaker}
@@ -9,11 +9,12 @@ use Rattle.iova_range.specs.Frames.{Frames}
 use Rattle.iova_range.specs.Bounds.{Capacities, IsProfile}
 use Rattle.iova_model.specs.declared.place.Place.{Place}
 use Rattle.iova_model.specs.declared.place.Place.TheVariants as place
-use Rattle.iova_model.specs.Caches.{Cache, Caches, no_magazines, cache_at, of_order}
+use Rattle.iova_model.specs.Caches.{Cache, Caches, of_order}
 use Rattle.iova_model.specs.State.{Holder, at_place, cache_holders, magazine_holders, list_holders, depot_holders}
-use Rattle.iova_model.specs.Valid.{IsCache, AreWorkerCaches, IsDepotList, IsDepot, AreCaches}
+use Rattle.iova_model.specs.Valid.{IsDepotList, IsDepot, AreCaches}
 use Rattle.iova_model.specs.Effects.{frames_of}
-use Rattle.iova_depot.specs.Cached.{with_worker_cache, with_depot}
+use Rattle.iova_depot.specs.Cached.{with_depot}
+use Rattle.iova_depot.proofs.Found.{workers_from}
 
 -- what the ranges of holders weigh
 abbrev pub weight_of : (Frames → ℕ) → List Holder → ℕ
@@ -30,10 +31,7 @@ frames_in r = r.len
 pub frames_of-append : (xs ys : List Holder) → frames_of (xs ++ ys) ≡ frames_of xs + frames_of ys
 frames_of-append xs ys = weight_of-append frames_in xs ys
 
--- the entries of a cache, and of a depot
-abbrev pub entries_in : Cache → ℕ
-entries_in c = length c.loaded + length c.previous
-
+-- the entries of a depot
 abbrev pub entries_of : List (List ℕ) → ℕ
 entries_of lists = sum_by length lists
 
@@ -53,13 +51,6 @@ frames_of-at_place p o (lo ∷ los) =
 -- the holders of one order of a worker
 abbrev pub pair_holders : ℕ → ℕ → Cache → List Holder
 pair_holders w o c = at_place (place.Magazine w) (of_order o c.loaded) ++ at_place (place.Magazine w) (of_order o c.previous)
-
-pub frames_of-pair : (w o : ℕ) (c : Cache) → frames_of (pair_holders w o c) ≡ 2 ^ o * entries_in c
-frames_of-pair w o c =
-    let a = at_place (place.Magazine w) (of_order o c.loaded) in
-    let b = at_place (place.Magazine w) (of_order o c.previous) in
-    let p = place.Magazine w in
-    frames_of-append a b ∙ (rw (frames_of-at_place p o c.loaded, frames_of-at_place p o c.previous) (add_times (2 ^ o) (length c.loaded) (length c.previous)))
 
 pub frames_of-lists : (o : ℕ) (lists : List (List ℕ)) → frames_of (list_holders o lists) ≡ 2 ^ o * entries_of lists
 frames_of-lists o [] = grind arith
@@ -117,21 +108,11 @@ by_workers = record { none = λ k. refl; more = λ k cs rest. refl }
 pub by_depots : IsByPlace list_holders depot_holders
 by_depots = record { none = λ k. refl; more = λ k d rest. refl }
 
--- other magazines of one worker and one order
-join : (m m' p q a b : ℕ) → m' + p ≡ m + q → q + a ≡ p + b → m' + a ≡ m + b
-join m m' p q a b e f = omega arith
-
-pub frames_of-with_worker_cache : (c : Caches) (w o : ℕ) (cache : Cache) → w < length c.workers → o < length (slice_index_or c.workers w [])
-    → frames_of (magazine_holders 0 (with_worker_cache c w o cache).workers) + 2 ^ o * entries_in (cache_at c w o) ≡ frames_of (magazine_holders 0 c.workers) + 2 ^ o * entries_in cache
-frames_of-with_worker_cache c w o cache in_workers in_orders =
-    let cs = slice_index_or c.workers w [] in
-    let ds = slice_set cs o cache in
-    let outer = weight_of-set frames_in (λ w cs. cache_holders w 0 cs) magazine_holders by_workers 0 w c.workers [] cs ds in_workers refl in
-    let inner = weight_of-set frames_in (pair_holders (0 + w)) (cache_holders (0 + w)) (by_orders (0 + w)) 0 o cs no_magazines (cache_at c w o) cache in_orders refl in
-    let zero_first : 0 + o ≡ o = omega arith in
-    let inner' = rw (zero_first, frames_of-pair (0 + w) o (cache_at c w o), frames_of-pair (0 + w) o cache) at inner in
-    join (frames_of (magazine_holders 0 c.workers)) (frames_of (magazine_holders 0 (with_worker_cache c w o cache).workers)) (frames_of (cache_holders (0 + w) 0 cs)) (frames_of (cache_holders (0 + w) 0 ds))
-    (2 ^ o * entries_in (cache_at c w o)) (2 ^ o * entries_in cache) outer inner'
+-- those of one worker and of the workers after it
+pub frames_of-workers : (w : ℕ) (ws : List (List Cache)) (cs : List Cache) → w < length ws → slice_index_or ws w [] ≡ cs
+    → frames_of (magazine_holders w (drop w ws)) ≡ frames_of (cache_holders w 0 cs) + frames_of (magazine_holders (w + 1) (drop (w + 1) ws))
+frames_of-workers w ws cs lt at =
+    rw (workers_from w ws cs lt at) (frames_of-append (cache_holders w 0 cs) (magazine_holders (w + 1) (drop (w + 1) ws)))
 
 -- another depot of one order
 pub frames_of-with_depot : (c : Caches) (o : ℕ) (depot : List (List ℕ)) → o < length c.depots
@@ -141,7 +122,7 @@ frames_of-with_depot c o depot in_orders =
     let all = weight_of-set frames_in list_holders depot_holders by_depots 0 o c.depots [] (slice_index_or c.depots o []) depot in_orders refl in
     rw (zero_first, frames_of-lists o (slice_index_or c.depots o []), frames_of-lists o depot) at all
 
--- Both counts are small.
+-- The count of the depot is small.
 
 pub pow_of_order : (o : ℕ) → o < 6 → 2 ^ o ≤ 32
 pow_of_order zero lt = omega arith
@@ -167,26 +148,6 @@ sizes_of p (inr h) =
     let mag : p.mag ≡ 127 = ap (λ (p : Capacities). p.mag) h.1 in
     let depot : p.depot ≤ 32 = h.0 in
     record { some = omega arith; few = omega arith; shallow = depot }
-
-pair_bound : (p : Capacities) → AreSizes p → (w o : ℕ) (c : Cache) → o < 6 → IsCache p c → frames_of (pair_holders w o c) ≤ 8192
-pair_bound p sizes w o c lt is =
-    let l : length c.loaded ≤ p.mag = is.loaded in
-    let m : length c.previous ≤ p.mag = is.previous in
-    let n : entries_in c ≤ 256 = omega arith in
-    rw (frames_of-pair w o c) (mul-le-mul (pow_of_order o lt) n)
-
-worker_bound : (p : Capacities) → AreSizes p → (w : ℕ) (cs : List Cache) → AreWorkerCaches p cs → frames_of (cache_holders w 0 cs) ≤ 49152
-worker_bound p sizes w cs is =
-    let n : length cs ≡ 6 = is.orders in
-    let b = frames_of-bound (pair_holders w) (cache_holders w) (by_orders w) (IsCache p) 6 8192 (pair_bound p sizes w) 0 cs (omega arith) is.each in
-    rw n at b
-
-pub magazines_bound : (p : Capacities) (workers : ℕ) (c : Caches) → IsProfile p → workers ≤ 16 → AreCaches p workers c → frames_of (magazine_holders 0 c.workers) ≤ 786432
-magazines_bound p workers c profile few is =
-    let n : length c.workers ≡ workers = is.each_worker in
-    let b = frames_of-bound (λ w cs. cache_holders w 0 cs) magazine_holders by_workers (AreWorkerCaches p) workers 49152 (λ k cs lt. worker_bound p (sizes_of p profile) k cs) 0 c.workers (omega arith) is.magazines in
-    let b' = rw n at b in
-    omega arith
 
 pub entries_bound : (p : Capacities) → AreSizes p → (lists : List (List ℕ)) → IsDepot p lists → entries_of lists ≤ 4096
 entries_bound p sizes lists is =

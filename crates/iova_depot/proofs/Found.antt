@@ -81,7 +81,7 @@ append_assoc_holders : (xs ys zs : List Holder) → (xs ++ ys) ++ zs ≡ xs ++ (
 append_assoc_holders [] ys zs = refl
 append_assoc_holders (x ∷ xs) ys zs = ap (λ (hs : List Holder). x ∷ hs) (append_assoc_holders xs ys zs)
 
-workers_from : (w : ℕ) (ws : List (List Cache)) (cs : List Cache) → w < length ws → slice_index_or ws w [] ≡ cs → magazine_holders w (drop w ws) ≡ cache_holders w 0 cs ++ magazine_holders (w + 1) (drop (w + 1) ws)
+pub workers_from : (w : ℕ) (ws : List (List Cache)) (cs : List Cache) → w < length ws → slice_index_or ws w [] ≡ cs → magazine_holders w (drop w ws) ≡ cache_holders w 0 cs ++ magazine_holders (w + 1) (drop (w + 1) ws)
 workers_from w ws cs lt at = let head : drop w ws ≡ cs ∷ drop (w + 1) ws = rw (add-one, ← at) (drop-cons ws w [] lt) in rw head refl
 
 depots_from : (o : ℕ) (ds : List (List (List ℕ))) (lists : List (List ℕ)) → o < length ds → slice_index_or ds o [] ≡ lists → depot_holders o (drop o ds) ≡ list_holders o lists ++ depot_holders (o + 1) (drop (o + 1) ds)

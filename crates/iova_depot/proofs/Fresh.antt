@@ -1,11 +1,10 @@
 -- Caches with nothing in them are sound.
-use Rattle.std.proofs.Common.{ℕ, zero, suc, ◌≡◌, ◌+◌, ◌≤◌, List, [], ◌∷◌, refl, ap, arith}
+use Rattle.std.proofs.Common.{ℕ, zero, suc, ◌≡◌, ◌≤◌, List, [], ◌∷◌, refl, ap, arith}
 use Rattle.std.specs.Prelude.{map, replicate}
 use Rattle.std.proofs.lemmas.List.{length-map, length-replicate}
 use Rattle.std.proofs.lemmas.List.Elements.{All-replicate, recursion_from_All}
 use Rattle.iova_range.specs.Bounds.{Capacities, IsProfile}
 use Rattle.iova_model.specs.Caches.{Cache, no_magazines}
-use Rattle.iova_model.specs.State.{magazine_holders}
 use Rattle.iova_model.specs.Valid.{IsCache, AreWorkerCaches, IsDepot}
 use Rattle.iova_mag.specs.Workers.{WorkerCache, new_worker}
 use Rattle.iova_depot.specs.Stored.{Stored}
@@ -19,10 +18,6 @@ new_depot profile = record { profile = profile; lists = [] }
 map-replicate : {A B : Type 0} (f : A → B) (n : ℕ) (x : A) → map f (replicate n x) ≡ replicate n (f x)
 map-replicate f zero x = refl
 map-replicate f (suc n) x = ap (λ xs. f x ∷ xs) (map-replicate f n x)
-
-no_holders : (v n : ℕ) → magazine_holders v (replicate n (replicate 6 no_magazines)) ≡ []
-no_holders v zero = refl
-no_holders v (suc n) = no_holders (v + 1) n
 
 -- how they are seen
 seen_new : (profile : Capacities) (n : ℕ) → map caches_in (replicate n (new_worker profile)) ≡ replicate n (replicate 6 no_magazines)
@@ -42,7 +37,7 @@ six_caches p = record {
 empty_depot : (p : Capacities) → IsDepot p []
 empty_depot p = record { room = omega arith; each = tt }
 
-fresh_lists : (profile : Capacities) (n : ℕ) → IsProfile profile → 1 ≤ n → n ≤ 16 → AreCachesKept profile (replicate n (new_worker profile)) (replicate 6 (new_depot profile)) 0 0 0
+fresh_lists : (profile : Capacities) (n : ℕ) → IsProfile profile → 1 ≤ n → n ≤ 16 → AreCachesKept profile (replicate n (new_worker profile)) (replicate 6 (new_depot profile)) 0 0
 fresh_lists profile n is_profile some few =
     let len = length-replicate n (new_worker profile) in
     record {
@@ -57,10 +52,9 @@ fresh_lists profile n is_profile some few =
         orders = refl;
         depots = recursion_from_All (IsDepot profile) (replicate 6 []) (All-replicate (IsDepot profile) 6 [] (empty_depot profile));
       };
-      magazines = rw (seen_new profile n, no_holders 0 n) refl;
       depot = refl;
       empty = record { magazines = λ w o w_lt o_lt below. absurd (omega arith); depots = λ o o_lt below. absurd (omega arith) };
     }
 
-pub fresh : (profile : Capacities) (n : ℕ) (ws : List WorkerCache) (ds : List Stored) → IsProfile profile → 1 ≤ n → n ≤ 16 → ws ≡ replicate n (new_worker profile) → ds ≡ replicate 6 (new_depot profile) → AreCachesKept profile ws ds 0 0 0
+pub fresh : (profile : Capacities) (n : ℕ) (ws : List WorkerCache) (ds : List Stored) → IsProfile profile → 1 ≤ n → n ≤ 16 → ws ≡ replicate n (new_worker profile) → ds ≡ replicate 6 (new_depot profile) → AreCachesKept profile ws ds 0 0
 fresh profile n ws ds is_profile some few is_ws is_ds = rw (is_ws, is_ds) (fresh_lists profile n is_profile some few)

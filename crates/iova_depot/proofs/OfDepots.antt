@@ -30,30 +30,30 @@ entries_of-front lists more =
     omega arith
 
 -- the last magazine leaves
-pub of_pop : (profile : Capacities) (ws : List WorkerCache) (ds : List Stored) (m d n o len : ℕ) (p q : Stored) (magazine : Magazine) → AreCachesKept profile ws ds m d n
+pub of_pop : (profile : Capacities) (ws : List WorkerCache) (ds : List Stored) (d n o len : ℕ) (p q : Stored) (magazine : Magazine) → AreCachesKept profile ws ds d n
     → o < 6 → p ≡ slice_index_or ds o p → q ≡ record p { lists = front p.lists } → IsDepot q.profile q.lists
     → p.lists ≢ [] → magazine ≡ record { profile = p.profile; entries = last_or [] p.lists } → len ≡ length magazine.entries → IsMagazine magazine
-    → LessInDepot profile ws ds m d n o q (len * 2 ^ o % 18446744073709551616)
-of_pop profile ws ds m d n o len p q magazine s lt was is sound more value len_is whole =
+    → LessInDepot profile ws ds d n o q (len * 2 ^ o % 18446744073709551616)
+of_pop profile ws ds d n o len p q magazine s lt was is sound more value len_is whole =
     let small = magazine_small magazine whole in
     let last : len ≡ length (last_or [] p.lists) = len_is ∙ ap (λ (m : Magazine). length m.entries) value in
     let left : entries_of q.lists ≡ entries_of (front p.lists) = ap (λ (q : Stored). entries_of q.lists) is in
     let all = entries_of-front p.lists more in
-    less-depot profile ws ds m d n o p q len _ s lt was (ap (λ (q : Stored). q.profile) is) sound (shifted len o (omega arith) lt) (omega arith)
+    less-depot profile ws ds d n o p q len _ s lt was (ap (λ (q : Stored). q.profile) is) sound (shifted len o (omega arith) lt) (omega arith)
 
 -- a magazine comes last
-pub of_push : (profile : Capacities) (ws : List WorkerCache) (ds : List Stored) (m d n n' o len : ℕ) (p q : Stored) (magazine : Magazine) → AreCachesKept profile ws ds m d n
+pub of_push : (profile : Capacities) (ws : List WorkerCache) (ds : List Stored) (d n n' o len : ℕ) (p q : Stored) (magazine : Magazine) → AreCachesKept profile ws ds d n
     → o < 6 → p ≡ slice_index_or ds o p → q ≡ record p { lists = p.lists ++ magazine.entries ∷ [] } → IsDepot q.profile q.lists
-    → len ≡ length magazine.entries → IsMagazine magazine → n' ≤ n → n' ≤ length ws * 6 + o → MoreInDepot profile ws ds m d n' o q (len * 2 ^ o % 18446744073709551616)
-of_push profile ws ds m d n n' o len p q magazine s lt was is sound len_is whole le below =
+    → len ≡ length magazine.entries → IsMagazine magazine → n' ≤ n → n' ≤ length ws * 6 + o → MoreInDepot profile ws ds d n' o q (len * 2 ^ o % 18446744073709551616)
+of_push profile ws ds d n n' o len p q magazine s lt was is sound len_is whole le below =
     let small = magazine_small magazine whole in
     let now : entries_of q.lists ≡ entries_of p.lists + length magazine.entries = ap (λ (q : Stored). entries_of q.lists) is ∙ sum_by_push length p.lists magazine.entries in
-    more-depot profile ws ds m d n n' o p q len _ s lt was (ap (λ (q : Stored). q.profile) is) sound (shifted len o (omega arith) lt) (omega arith) (omega arith) le below
+    more-depot profile ws ds d n n' o p q len _ s lt was (ap (λ (q : Stored). q.profile) is) sound (shifted len o (omega arith) lt) (omega arith) (omega arith) le below
 
 -- before it is there, its frames can be added to the count
-pub count_fits : (profile : Capacities) (ws : List WorkerCache) (ds : List Stored) (m d n o len : ℕ) (magazine : Magazine) → AreCachesKept profile ws ds m d n
+pub count_fits : (profile : Capacities) (ws : List WorkerCache) (ds : List Stored) (d n o len : ℕ) (magazine : Magazine) → AreCachesKept profile ws ds d n
     → o < 6 → len ≡ length magazine.entries → IsMagazine magazine → d + len * 2 ^ o % 18446744073709551616 < 18446744073709551616
-count_fits profile ws ds m d n o len magazine s lt len_is whole =
+count_fits profile ws ds d n o len magazine s lt len_is whole =
     let small = magazine_small magazine whole in
     let frames = shifted len o (omega arith) lt in
     let few : len ≤ 128 = omega arith in
@@ -82,16 +82,16 @@ entries_of-takes lo old new t =
     let left : length t.left ≡ length (remove list t.takes.place) = ap length t.takes.others in
     rw t.others (without_one old t.place t.left (omega arith) (omega arith))
 
-pub of_take : (profile : Capacities) (ws : List WorkerCache) (ds : List Stored) (m d n o lo : ℕ) (p q : Stored) → AreCachesKept profile ws ds m d n
+pub of_take : (profile : Capacities) (ws : List WorkerCache) (ds : List Stored) (d n o lo : ℕ) (p q : Stored) → AreCachesKept profile ws ds d n
     → o < 6 → p ≡ slice_index_or ds o p → q.profile ≡ p.profile → IsDepot q.profile q.lists → TakesOutOfDepot lo p.lists q.lists
-    → LessInDepot profile ws ds m d n o q (1 * 2 ^ o % 18446744073709551616)
-of_take profile ws ds m d n o lo p q s lt was keeps sound takes =
-    less-depot profile ws ds m d n o p q 1 _ s lt was keeps sound (shifted 1 o (omega arith) lt) (entries_of-takes lo p.lists q.lists takes)
+    → LessInDepot profile ws ds d n o q (1 * 2 ^ o % 18446744073709551616)
+of_take profile ws ds d n o lo p q s lt was keeps sound takes =
+    less-depot profile ws ds d n o p q 1 _ s lt was keeps sound (shifted 1 o (omega arith) lt) (entries_of-takes lo p.lists q.lists takes)
 
 -- it was one of the shelf's
-pub takes_from_depot : (profile : Capacities) (ws : List WorkerCache) (ds : List Stored) (m d n o lo : ℕ) (p q : Stored) → AreCachesKept profile ws ds m d n
+pub takes_from_depot : (profile : Capacities) (ws : List WorkerCache) (ds : List Stored) (d n o lo : ℕ) (p q : Stored) → AreCachesKept profile ws ds d n
     → o < 6 → p ≡ slice_index_or ds o p → TakesOutOfDepot lo p.lists q.lists → TakesEntry o lo (caches_of ws ds) (caches_of ws (slice_set ds o q))
-takes_from_depot profile ws ds m d n o lo p q s lt was takes =
+takes_from_depot profile ws ds d n o lo p q s lt was takes =
     let all : Caches = caches_of ws ds in
     let cs = slice_index_or all.workers 0 [] in
     let here = cache_at all 0 o in
@@ -101,20 +101,20 @@ takes_from_depot profile ws ds m d n o lo p q s lt was takes =
     record {
       worker = 0;
       shelf = left;
-      takes = inr (inr (refl, refl, rw (depot_at-seen profile ws ds m d n o p s lt was) takes));
+      takes = inr (inr (refl, refl, rw (depot_at-seen profile ws ds d n o p s lt was) takes));
       others = seen-set_depot ws ds o q
           ∙ ap (λ (workers : List (List Cache)). let after : Caches = record { workers = workers; depots = slice_set all.depots o q.lists } in after) (sym same_workers);
     }
 
 -- a worker's empty magazines and the last one of the depot, as all is seen when that is loaded
-pub all_seen-reload : (profile : Capacities) (ws : List WorkerCache) (ds : List Stored) (m d n w o : ℕ) (p q : Stored) (u v : WorkerCache) (magazine : Magazine) → AreCachesKept profile ws ds m d n
+pub all_seen-reload : (profile : Capacities) (ws : List WorkerCache) (ds : List Stored) (d n w o : ℕ) (p q : Stored) (u v : WorkerCache) (magazine : Magazine) → AreCachesKept profile ws ds d n
     → w < length ws → o < 6 → p ≡ slice_index_or ds o p → q ≡ record p { lists = front p.lists } → magazine ≡ record { profile = p.profile; entries = last_or [] p.lists }
     → u ≡ slice_index_or ws w u → v ≡ with_cache u o (record { loaded = magazine.entries; previous = [] })
     → all_seen profile (slice_set ws w v) (slice_set ds o q)
     ≡ record { profile = profile; workers = length ws; caches = with_shelf (caches_of ws ds) w o (record { loaded = last_or [] (slice_index_or (caches_of ws ds).depots o []); previous = []; depot = front (slice_index_or (caches_of ws ds).depots o []) }) }
-all_seen-reload profile ws ds m d n w o p q u v magazine s lt o_lt was is value was_worker is_worker =
+all_seen-reload profile ws ds d n w o p q u v magazine s lt o_lt was is value was_worker is_worker =
     let lists = slice_index_or (caches_of ws ds).depots o [] in
-    let at : lists ≡ p.lists = depot_at-seen profile ws ds m d n o p s o_lt was in
+    let at : lists ≡ p.lists = depot_at-seen profile ws ds d n o p s o_lt was in
     let left : q.lists ≡ front lists = ap (λ (q : Stored). q.lists) is ∙ ap front (sym at) in
     let entries : magazine.entries ≡ last_or [] lists = ap (λ (m : Magazine). m.entries) value ∙ ap (λ (ls : List (List ℕ)). last_or [] ls) (sym at) in
     let all : Caches = caches_of ws ds in

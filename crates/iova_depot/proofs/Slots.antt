@@ -129,15 +129,14 @@ all_empty profile slot workers c sound le s =
         map_same _ (slice_index_or c.workers w []) no_magazines (λ o o_lt. are_none (cache_at c w o) (s.magazines w o (omega arith) (omega arith) (omega arith)))
 
 -- another first slot
-pub with_first : (profile : Capacities) (ws : List WorkerCache) (ds : List Stored) (m d n n' : ℕ) → AreCachesKept profile ws ds m d n → AreEmptyBelow n' (length ws) (caches_of ws ds) → AreCachesKept profile ws ds m d n'
-with_first profile ws ds m d n n' s empty = record {
+pub with_first : (profile : Capacities) (ws : List WorkerCache) (ds : List Stored) (d n n' : ℕ) → AreCachesKept profile ws ds d n → AreEmptyBelow n' (length ws) (caches_of ws ds) → AreCachesKept profile ws ds d n'
+with_first profile ws ds d n n' s empty = record {
   is_profile = s.is_profile;
   some_worker = s.some_worker;
   few_workers = s.few_workers;
   same_in_workers = s.same_in_workers;
   same_in_depots = s.same_in_depots;
   caches = s.caches;
-  magazines = s.magazines;
   depot = s.depot;
   empty = empty;
 }
@@ -151,8 +150,8 @@ first_kept profile ws ds n o lo old new seen_is same s takes =
     subst (λ (c : Cached). AreEmptyBelow n c.workers c.caches) (sym seen_is) now
 
 -- and where there is none
-pub nothing_left : (profile : Capacities) (ws : List WorkerCache) (ds : List Stored) (m d n slot : ℕ) (old now : Cached) → AreCachesKept profile ws ds m d n → all_seen profile ws ds ≡ old → now ≡ old
+pub nothing_left : (profile : Capacities) (ws : List WorkerCache) (ds : List Stored) (d n slot : ℕ) (old now : Cached) → AreCachesKept profile ws ds d n → all_seen profile ws ds ≡ old → now ≡ old
     → AreEmptyBelow slot now.workers now.caches → (length ws + 1) * 6 ≤ slot → without_entries old.caches ≡ old.caches
-nothing_left profile ws ds m d n slot old now s seen_is same empty le =
+nothing_left profile ws ds d n slot old now s seen_is same empty le =
     let before : AreEmptyBelow slot (length ws) (caches_of ws ds) = subst (λ (c : Cached). AreEmptyBelow slot c.workers c.caches) (same ∙ sym seen_is) empty in
     rw (← seen_is) (all_empty profile slot (length ws) (caches_of ws ds) s.caches le before)

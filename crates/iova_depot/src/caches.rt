@@ -26,7 +26,6 @@ pub struct Caches {
     profile: Profile,
     workers: Vec<WorkerCache>,
     depots: Vec<Depot>,
-    in_magazines: u64,
     in_depot: u64,
     first_filled: usize,
 }
@@ -38,7 +37,6 @@ impl Drop for Caches {
             profile: _,
             workers: _,
             depots: _,
-            in_magazines: _,
             in_depot: _,
             first_filled: _,
         } = self;
@@ -60,7 +58,7 @@ impl Model for Caches {
     } };
 
     ghost invariant = { λ c. AreCachesKept
-        c.profile c.workers.items c.depots.items c.in_magazines c.in_depot c.first_filled };
+        c.profile c.workers.items c.depots.items c.in_depot c.first_filled };
 }
 
 impl Caches {
@@ -91,7 +89,6 @@ impl Caches {
             profile,
             workers,
             depots,
-            in_magazines: 0,
             in_depot: 0,
             first_filled: 0,
         })
@@ -233,14 +230,18 @@ impl Caches {
     }
 
     /// How many frames are in magazines of the workers, and how many in the depot, together fewer
-    /// than 2^21. Both are kept, and nothing is counted.
-    #[inline]
+    /// than 2^21. The lengths of all magazines of the workers are looked at, 12 of each worker, and
+    /// no entry is; those in the depot are kept as a number.
     pub fn frames(&self) -> (u64, u64)
         ensures magazines { result.0 ≡ frames_of (magazine_holders 0 self.now.caches.workers) }
         ensures depot { result.1 ≡ frames_of (depot_holders 0 self.now.caches.depots) }
         ensures few { result.0 + result.1 < 2 ^ 21 }
     {
-        (self.in_magazines, self.in_depot)
+        let mut in_magazines = 0;
+        for w in 0..self.workers.len() {
+            in_magazines += self.workers[w].frames();
+        }
+        (in_magazines, self.in_depot)
     }
 
     /// Where a cached range has the frame: the first such place, the magazines by worker and then
@@ -272,11 +273,7 @@ impl Caches {
         ensures sound { IsCached self.new }
     {
         let worker = &mut self.workers[w];
-        let found = worker.try_get(order, limit);
-        if let Got::Hit(_) = found {
-            self.in_magazines -= 1 << order;
-        }
-        found
+        worker.try_get(order, limit)
     }
 
     /// Where both of worker `w`'s magazines are empty: loads the depot's last one, and gets from
@@ -315,9 +312,7 @@ impl Caches {
         let Some(magazine) = depot.pop() else {
             return false;
         };
-        let frames = (magazine.len() as u64) << order;
-        self.in_depot -= frames;
-        self.in_magazines += frames;
+        self.in_depot -= (magazine.len() as u64) << order;
         self.first_filled = self.first_filled.min(w * ORDERS + order as usize);
         let worker = &mut self.workers[w];
         worker.load(order, magazine);
@@ -339,7 +334,6 @@ impl Caches {
         if !worker.try_put(order, lo) {
             return false;
         }
-        self.in_magazines += 1 << order;
         // a put seeks no place: the next `take_any` begins at the first
         self.first_filled = 0;
         true
@@ -377,9 +371,7 @@ impl Caches {
         ensures sound { IsCached self.new }
     {
         let worker = &mut self.workers[w];
-        let magazine = worker.renew(order);
-        self.in_magazines -= (magazine.len() as u64) << order;
-        magazine
+        worker.renew(order)
     }
 
     /// Stores a magazine that isn't empty in this order's depot, or gives it back where that has as
@@ -439,9 +431,7 @@ impl Caches {
         ensures sound { IsCached self.new }
     {
         let worker = &mut self.workers[w];
-        let lo = worker.take_newest(order)?;
-        self.in_magazines -= 1 << order;
-        Some(lo)
+        worker.take_newest(order)
     }
 
     fn take_from_depot(&mut self, order: u8) -> Option<u64>

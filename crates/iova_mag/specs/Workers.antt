@@ -1,5 +1,5 @@
 -- One worker's magazines.
-use Rattle.std.specs.Prelude.{ℕ, ◌≡◌, ◌-◌, ◌<◌, ◌≤◌, ◌&&◌, ◌||◌, Bool, List, [], length, replicate, Option, Some, None, if◌then◌else◌, slice_get, slice_index_or, slice_set, ◌⊎◌}
+use Rattle.std.specs.Prelude.{ℕ, ◌≡◌, ◌+◌, ◌-◌, ◌*◌, ◌^◌, ◌<◌, ◌≤◌, ◌&&◌, ◌||◌, Bool, List, [], length, replicate, Option, Some, None, if◌then◌else◌, slice_get, slice_index_or, slice_set, ◌⊎◌}
 use Rattle.std.specs.List.{list_any}
 use Rattle.iova_range.specs.Frames.{covers}
 use Rattle.iova_range.specs.Bounds.{Capacities, IsProfile}
@@ -59,6 +59,10 @@ abbrev pub has_frame : ℕ → ℕ → Cache → Bool
 has_frame frame order c =
     list_any (covers frame) (of_order order c.loaded)
     || list_any (covers frame) (of_order order c.previous)
+
+-- how many frames the ranges of this order have that the entries begin
+abbrev pub frames_in : ℕ → Cache → ℕ
+frames_in order c = (length c.loaded + length c.previous) * 2 ^ order
 
 -- neither has an entry
 abbrev pub AreEmpty : Cache → Type 0

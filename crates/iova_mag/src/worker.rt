@@ -1,13 +1,14 @@
 //! The magazines of one worker: a loaded and a previous one for each order.
-ghost use Rattle.std.specs.Prelude.{◌≡◌, ◌-◌, ◌<◌, ◌^◌, ◌↔◌, ◌||◌, ℕ, [], length, replicate, IsTrue, IfOk, IsErr};
+ghost use Rattle.std.specs.Prelude.{◌≡◌, ◌-◌, ◌≤◌, ◌<◌, ◌^◌, ◌↔◌, ◌||◌, ℕ, [], length, replicate, IsTrue, IfOk, IsErr};
 ghost use Rattle.std.specs.Bool.{OnTrue, OnFalse};
 ghost use Rattle.std.specs.List.{list_any};
 ghost use Rattle.iova_range.specs.Bounds.{first_profile};
 ghost use Rattle.iova_range.specs.Frames.{covers};
 ghost use Rattle.iova_model.specs.State.{cache_holders};
 ghost use Rattle.iova_model.specs.Valid.{IsCache};
+ghost use Rattle.iova_model.specs.Effects.{frames_of};
 ghost use Rattle.iova_mag.specs.Magazines.{magazine_of};
-ghost use Rattle.iova_mag.specs.Workers.{IsWorkerCache, new_pair, new_worker, cache_of, with_cache, cache_after_get, cache_after_put, renewed_cache, has_frame, AreEmpty, AreFull, HasRoom, GivesNewest, got_from, newest, without_newest};
+ghost use Rattle.iova_mag.specs.Workers.{IsWorkerCache, new_pair, new_worker, cache_of, with_cache, cache_after_get, cache_after_put, renewed_cache, has_frame, frames_in, AreEmpty, AreFull, HasRoom, GivesNewest, got_from, newest, without_newest};
 
 use crate::magazine::Magazine;
 use iova_range::limits::ORDERS;
@@ -157,6 +158,14 @@ impl Pair {
         ensures { result ≡ has_frame frame order self.now.cache }
     {
         self.loaded.has_frame(frame, order) || self.previous.has_frame(frame, order)
+    }
+
+    fn frames(&self, order: u8) -> u64
+        requires { order < ORDERS }
+        ensures is { result ≡ frames_in order self.now.cache }
+        ensures few { result ≤ 2 ^ 13 }
+    {
+        ((self.loaded.len() + self.previous.len()) as u64) << order
     }
 }
 
@@ -327,6 +336,20 @@ impl WorkerCache {
             }
         }
         false
+    }
+
+    /// How many frames the ranges have that their entries begin, fewer than 2^16. The lengths of
+    /// the 12 magazines are looked at, and no entry is.
+    pub fn frames(&self) -> u64
+        ensures is { (worker : ℕ) → result
+            ≡ frames_of (cache_holders worker 0 self.now.caches) }
+        ensures few { result < 2 ^ 16 }
+    {
+        let mut frames = 0;
+        for order in 0..ORDERS {
+            frames += self.pairs[order].frames(order as u8);
+        }
+        frames
     }
 }
 

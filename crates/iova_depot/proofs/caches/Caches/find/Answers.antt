@@ -27,7 +27,7 @@ loop-w-preserved c =
 
 pub returns-then-has_frame-2 : goal.returns-then-has_frame-2
 returns-then-has_frame-2 c =
-    let six = length-depots _ _ _ _ _ _ c.self.invariant in
+    let six = length-depots _ _ _ _ _ c.self.invariant in
     let lt : c.loop-order.order < length c.self.inside.depots.items = omega arith in
     let n = length-map c.self.inside.depots.items lists_in in
     let seen : c.loop-order.order < length (map lists_in c.self.inside.depots.items) = omega arith in
@@ -37,7 +37,7 @@ returns-then-has_frame-2 c =
 
 pub loop-order-preserved : goal.loop-order-preserved
 loop-order-preserved c =
-    let six = length-depots _ _ _ _ _ _ c.self.invariant in
+    let six = length-depots _ _ _ _ _ c.self.invariant in
     let lt : c.loop-order.order < length c.self.inside.depots.items = omega arith in
     let n = length-map c.self.inside.depots.items lists_in in
     let seen : c.loop-order.order < length (map lists_in c.self.inside.depots.items) = omega arith in

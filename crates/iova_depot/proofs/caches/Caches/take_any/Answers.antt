@@ -7,7 +7,7 @@ use Rattle.iova_depot.proofs.caches.Caches.take_any.Goals as goal
 
 pub invariant_of-self : goal.invariant_of-self
 invariant_of-self c =
-    with_first _ _ _ _ _ _ _ c.self-in-loop-slot.invariant
+    with_first _ _ _ _ _ _ c.self-in-loop-slot.invariant
     (first_kept _ _ _ _ _ _ _ _ c.self-in-loop-slot.view_is c.take_from.ensures.same c.loop-slot.invariant.empty c.in-Some.ensures.taken)
 
 pub returns-in-Some-clause-emptied : goal.returns-in-Some-clause-emptied
@@ -19,7 +19,7 @@ pub returns-clause-taken : goal.returns-clause-taken
 returns-clause-taken c =
     let len : vec_len c.self.inside.workers ≡ length c.self.inside.workers.items = omega (arith, c.self.inside.workers.ok.0) in
     let all : (length c.self.inside.workers.items + 1) * 6 ≤ c.loop-slot.slot = omega arith in (
-      nothing_left _ _ _ _ _ _ _ _ _ c.self.invariant c.self.view_is c.loop-slot.invariant.same c.loop-slot.invariant.empty all,
+      nothing_left _ _ _ _ _ _ _ _ c.self.invariant c.self.view_is c.loop-slot.invariant.same c.loop-slot.invariant.empty all,
       ap (λ (seen : Cached). seen.caches) (c.self-2.view_is ∙ c.loop-slot.invariant.same),
     )
 
