@@ -386,7 +386,7 @@ impl Clients {
     pub fn totals(&self) -> Totals
         ensures { result ≡ totals self.now.clients }
     {
-        self.sums.all
+        self.sums.all()
     }
 
     /// The totals over all holdings of the clients that this worker, 0 to 15, opened.
