@@ -340,7 +340,8 @@ fn turn_with<
         progress.new.session access.entry.seat.now result.access.seat.now
         (D.calls access.entry.sink.now) (D.calls result.access.sink.now)) ∥₁ }
     ensures others { WhereKnown (K.domain access.entry.keeper.now)
-        (K.domain result.access.keeper.now) (KeepsOthers (client_after None progress.new.session.pairs)) }
+        (K.domain result.access.keeper.now)
+        (KeepsOthers (client_after None progress.new.session.pairs)) }
     ensures named { progress.new.session.number ≡ progress.old.session.number }
     ensures answers { AreAnswers progress.new.session.number None 0 progress.new.session.pairs }
     ensures left { L.left link.new ≡ L.left link.old }
