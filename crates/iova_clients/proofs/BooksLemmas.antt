@@ -15,7 +15,9 @@ use Rattle.iova_clients.specs.Books.{AreSumsOf}
 use Rattle.iova_clients.proofs.TotalsLemmas.{totals_by, is_of, is_from, totals-by, share_of-by, totals_split, totals_behind, totals_given, totals_taken, totals_kept, totals_passed_by, totals_forgotten, totals_push, totals_have_room, Leaves-include, Leaves-without}
 
 -- each worker's totals are as they were
-sums_same : (cs ds : List Client) (s : Sums) → ((w : ℕ) → totals_by (is_of w) ds ≡ totals_by (is_of w) cs) → AreSumsOf cs s → AreSumsOf ds s
+sums_same : (cs ds : List Client) (s : Sums)
+    → ((w : ℕ) → totals_by (is_of w) ds ≡ totals_by (is_of w) cs)
+    → AreSumsOf cs s → AreSumsOf ds s
 sums_same cs ds s each h = record {
   workers = h.workers;
   shares = λ w lt. h.shares w lt ∙ (share_of-by w cs ∙ (sym (each w) ∙ sym (share_of-by w ds)));
@@ -28,7 +30,8 @@ sums_moved : (change : Totals → Totals) (worker : ℕ) (cs ds : List Client) (
     → ((w : ℕ) → w ≢ worker → totals_by (is_of w) ds ≡ totals_by (is_of w) cs)
     → AreSumsOf cs s → AreSumsOf ds t
 sums_moved change worker cs ds s t lt moved mine others h = record {
-  workers = ap length moved ∙ (length-set s.shares worker (change (share_at worker s.shares)) ∙ h.workers);
+  workers = ap length moved
+      ∙ (length-set s.shares worker (change (share_at worker s.shares)) ∙ h.workers);
   shares = λ w w_lt. ap (share_at w) moved ∙ step w w_lt (w == worker) refl;
 }
   where
@@ -51,7 +54,8 @@ same_worker c = grind (arith, nat_tests)
 pub sums_kept : (id : ℕ) (f : Client → Client) (c : Client) (cs : List Client) (s : Sums) → client_with id cs ≡ Some c
     → (f c).worker ≡ c.worker → (f c).holdings ≡ c.holdings → AreSumsOf cs s → AreSumsOf (change_client id f cs) s
 sums_kept id f c cs s q worker holdings h =
-    sums_same cs (change_client id f cs) s (λ w. totals_kept (is_of w) id f c cs q (ap (λ x. x == w) worker) holdings) h
+    sums_same cs (change_client id f cs) s
+    (λ w. totals_kept (is_of w) id f c cs q (ap (λ x. x == w) worker) holdings) h
 
 pub sums_given : (id : ℕ) (r : Frames) (c : Client) (cs : List Client) (s t : Sums) → client_with id cs ≡ Some c → c.worker < 16
     → t.shares ≡ with_share c.worker (with_one r) s.shares

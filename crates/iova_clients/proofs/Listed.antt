@@ -266,56 +266,73 @@ find_here at p e es a some holds = rw (some, holds) refl
 pub own_key : (at : ℕ → Option Account) (key : ℕ) (o : Option ℕ) → o ≡ Some key → IsKeyFor at key o
 own_key at key o own = rw own refl
 
-sought : (at : ℕ → Option Account) (key : ℕ) (o : Option ℕ) → IsKeyFor at key o → at key ≡ found at o
+sought : (at : ℕ → Option Account) (key : ℕ) (o : Option ℕ) → IsKeyFor at key o
+    → at key ≡ found at o
 sought at key None h = h
 sought at key (Some own) h = ap at (sym h)
 
 -- at the key that is remembered stands what the serial has
-pub remembered_at : (at : ℕ → Option Account) (id : ℕ) (es : List (ℕ × ℕ)) (last : ℕ × ℕ) → AreKeyed at es
-    → IsRemembered at es last → last.0 ≡ id → at last.1 ≡ lookup (is_serial id) (listed_accounts at es)
+pub remembered_at : (at : ℕ → Option Account) (id : ℕ) (es : List (ℕ × ℕ)) (last : ℕ × ℕ)
+    → AreKeyed at es → IsRemembered at es last → last.0 ≡ id
+    → at last.1 ≡ lookup (is_serial id) (listed_accounts at es)
 remembered_at at id es last keyed h same =
     let key : IsKeyFor at last.1 (lookup (is_serial id) es) = rw same at h in
-    sought at last.1 (lookup (is_serial id) es) key ∙ sym (lookup-listed_accounts at (is_serial id) es keyed)
+    sought at last.1 (lookup (is_serial id) es) key
+    ∙ sym (lookup-listed_accounts at (is_serial id) es keyed)
 
-key_step : (at : ℕ → Option Account) (key : ℕ) (a : Account) (o : Option ℕ) → IsKeyFor at key o → at key ≡ Some a → o ≡ Some key
+key_step : (at : ℕ → Option Account) (key : ℕ) (a : Account) (o : Option ℕ) → IsKeyFor at key o
+    → at key ≡ Some a → o ≡ Some key
 key_step at key a None h some = absurd (let bad : None ≡ Some a = sym h ∙ some in cc)
 key_step at key a (Some own) h some = ap (λ k. Some k) h
 
 -- and where an account stands there, the key is the serial's own
-pub remembered_key : (at : ℕ → Option Account) (a : Account) (id : ℕ) (es : List (ℕ × ℕ)) (last : ℕ × ℕ)
-    → IsRemembered at es last → last.0 ≡ id → at last.1 ≡ Some a → lookup (is_serial id) es ≡ Some last.1
+pub remembered_key : (at : ℕ → Option Account) (a : Account) (id : ℕ) (es : List (ℕ × ℕ))
+    (last : ℕ × ℕ) → IsRemembered at es last → last.0 ≡ id → at last.1 ≡ Some a
+    → lookup (is_serial id) es ≡ Some last.1
 remembered_key at a id es last h same some =
     let key : IsKeyFor at last.1 (lookup (is_serial id) es) = rw same at h in
     key_step at last.1 a (lookup (is_serial id) es) key some
 
--- What is remembered stays as a serial leaves: where it is this one, its key has no account any more.
+-- What is remembered stays as a serial leaves. Where it is this one, its key has no account now.
 
-vacant_step : (b : Bool) (at new : ℕ → Option Account) (k key : ℕ) → (k == key) ≡ b → new key ≡ None
-    → ((other : ℕ) → other ≢ key → new other ≡ at other) → at k ≡ None → new k ≡ None
-vacant_step true at new k key is gone kept none = let same : k ≡ key = grind (arith, nat_tests) in ap new same ∙ gone
-vacant_step false at new k key is gone kept none = let ne : k ≢ key = grind (arith, nat_tests) in kept k ne ∙ none
+vacant_step : (b : Bool) (at new : ℕ → Option Account) (k key : ℕ) → (k == key) ≡ b
+    → new key ≡ None → ((other : ℕ) → other ≢ key → new other ≡ at other)
+    → at k ≡ None → new k ≡ None
+vacant_step true at new k key is gone kept none =
+    let same : k ≡ key = grind (arith, nat_tests) in
+    ap new same ∙ gone
+vacant_step false at new k key is gone kept none =
+    let ne : k ≢ key = grind (arith, nat_tests) in
+    kept k ne ∙ none
 
-key_kept : (at new : ℕ → Option Account) (k key : ℕ) (o : Option ℕ) → new key ≡ None → ((other : ℕ) → other ≢ key → new other ≡ at other)
+key_kept : (at new : ℕ → Option Account) (k key : ℕ) (o : Option ℕ)
+    → new key ≡ None → ((other : ℕ) → other ≢ key → new other ≡ at other)
     → IsKeyFor at k o → IsKeyFor new k o
 key_kept at new k key None gone kept h = vacant_step (k == key) at new k key refl gone kept h
 key_kept at new k key (Some own) gone kept h = h
 
-left_step : (b : Bool) (at new : ℕ → Option Account) (k key : ℕ) (o : Option ℕ) → (b ≡ true → o ≡ Some key)
-    → new key ≡ None → ((other : ℕ) → other ≢ key → new other ≡ at other) → IsKeyFor at k o → IsKeyFor new k (cond b None o)
+left_step : (b : Bool) (at new : ℕ → Option Account) (k key : ℕ) (o : Option ℕ)
+    → (b ≡ true → o ≡ Some key)
+    → new key ≡ None → ((other : ℕ) → other ≢ key → new other ≡ at other)
+    → IsKeyFor at k o → IsKeyFor new k (cond b None o)
 left_step true at new k key o mine gone kept h =
     let own : key ≡ k = rw (mine refl) at h in
     ap new (sym own) ∙ gone
 left_step false at new k key o mine gone kept h = key_kept at new k key o gone kept h
 
-pub remembered_removed : (at new : ℕ → Option Account) (id key : ℕ) (es fs : List (ℕ × ℕ)) (last : ℕ × ℕ) → IsRemembered at es last
-    → lookup (is_at (nat_cmp id)) es ≡ Some key
-    → ((q : ℕ) → lookup (is_at (nat_cmp q)) fs ≡ cond (is_at (nat_cmp id) q) None (lookup (is_at (nat_cmp q)) es))
-    → new key ≡ None → ((other : ℕ) → other ≢ key → new other ≡ at other) → IsRemembered new fs last
+pub remembered_removed : (at new : ℕ → Option Account) (id key : ℕ) (es fs : List (ℕ × ℕ))
+    (last : ℕ × ℕ) → IsRemembered at es last → lookup (is_at (nat_cmp id)) es ≡ Some key
+    → ((q : ℕ) → lookup (is_at (nat_cmp q)) fs
+    ≡ cond (is_at (nat_cmp id) q) None (lookup (is_at (nat_cmp q)) es))
+    → new key ≡ None → ((other : ℕ) → other ≢ key → new other ≡ at other)
+    → IsRemembered new fs last
 remembered_removed at new id key es fs last h was left gone kept =
     let test = is_serial id last.0 in
-    let before : lookup (is_serial last.0) fs ≡ cond test None (lookup (is_serial last.0) es) =
-    sym (lookup_at last.0 fs) ∙ (left last.0 ∙ rw (is_at-is_serial id last.0, lookup_at last.0 es) refl) in
-    let mine : test ≡ true → lookup (is_serial last.0) es ≡ Some key = λ is.
+    let own = lookup (is_serial last.0) es in
+    let now : lookup (is_serial last.0) fs ≡ cond test None own =
+    sym (lookup_at last.0 fs)
+    ∙ (left last.0 ∙ rw (is_at-is_serial id last.0, lookup_at last.0 es) refl) in
+    let mine : test ≡ true → own ≡ Some key = λ is.
     let same : last.0 ≡ id = grind (arith, nat_tests) in
     rw same (sym (lookup_at id es) ∙ was) in
-    rw before (left_step test at new last.1 key (lookup (is_serial last.0) es) mine gone kept h)
+    rw now (left_step test at new last.1 key own mine gone kept h)

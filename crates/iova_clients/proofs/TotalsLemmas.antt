@@ -74,7 +74,8 @@ filter_all (c ∷ cs) =
     rw passes (ap (λ xs. c ∷ xs) (filter_all cs))
 
 pub totals-by : (cs : List Client) → totals cs ≡ totals_by (is_from 0) cs
-totals-by cs = sym (ap (λ xs. totals_of (all_holdings xs)) (filter_all cs)) ∙ totals_of-by (is_from 0) cs
+totals-by cs =
+    sym (ap (λ xs. totals_of (all_holdings xs)) (filter_all cs)) ∙ totals_of-by (is_from 0) cs
 
 pub share_of-by : (worker : ℕ) (cs : List Client) → share_of worker cs ≡ totals_by (is_of worker) cs
 share_of-by worker cs = totals_of-by (is_of worker) cs
@@ -112,7 +113,8 @@ sum_split w m (c ∷ cs) =
     omega (arith, passing_split w m c, sum_split w m cs)
 
 pub totals_split : (w : ℕ) (cs : List Client)
-    → totals_by (is_from w) cs ≡ add_totals (totals_by (is_of w) cs) (totals_by (is_from (suc w)) cs)
+    → totals_by (is_from w) cs
+    ≡ add_totals (totals_by (is_of w) cs) (totals_by (is_from (suc w)) cs)
 totals_split w cs =
     same_totals _ _ _ _ _ _
     (sum_split w count_of cs) (sum_split w frames_of cs) (sum_split w sum_lo_of cs)
@@ -132,7 +134,8 @@ pub totals_behind : (w : ℕ) (cs : List Client) → AllByRecursion (IsClient w)
     → totals_by (is_from w) cs ≡ no_totals
 totals_behind w cs each =
     same_totals _ _ _ _ _ _
-    (sum_behind w count_of cs each) (sum_behind w frames_of cs each) (sum_behind w sum_lo_of cs each)
+    (sum_behind w count_of cs each) (sum_behind w frames_of cs each)
+    (sum_behind w sum_lo_of cs each)
 
 -- A sum over the clients, as one of them changes.
 

@@ -7,7 +7,9 @@ pub returns-then-serial-id : goal.returns-then-serial-id
 returns-then-serial-id c =
     let i = c.self.inside in
     rw (← c.self.view_is)
-    (c.get.ensures ∙ remembered_at (at_key i.slab) c.args.id i.keys.entries i.last c.self.invariant.keyed c.self.invariant.remembered c.if-serial-id.true)
+    (c.get.ensures
+    ∙ remembered_at (at_key i.slab) c.args.id i.keys.entries i.last c.self.invariant.keyed
+    c.self.invariant.remembered c.if-serial-id.true)
 
 pub returns-in_err-key : goal.returns-in_err-key
 returns-in_err-key c =
@@ -19,4 +21,7 @@ pub returns : goal.returns
 returns c =
     let i = c.self.inside in
     let some = sym c.get-2.ensures.value ∙ sym c.in_ok-key.ensures in
-    rw (← c.self.view_is) (c.get-3.ensures ∙ sym (get_listed (at_key i.slab) c.args.id i.keys.entries (Some c.in_ok-key.key) c.self.invariant.keyed some))
+    rw (← c.self.view_is)
+    (c.get-3.ensures
+    ∙ sym (get_listed (at_key i.slab) c.args.id i.keys.entries (Some c.in_ok-key.key)
+    c.self.invariant.keyed some))

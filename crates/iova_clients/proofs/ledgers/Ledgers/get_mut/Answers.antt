@@ -10,26 +10,34 @@ use Rattle.iova_clients.proofs.ledgers.Ledgers.get_mut.Goals as goal
 pub returns-in_err-ledger : goal.returns-in_err-ledger
 returns-in_err-ledger c =
     let i = c.self.inside in
-    let none = c.in_err-ledger.ensures.value ∙ remembered_at (at_key i.slab) c.args.id i.keys.entries i.last c.self.invariant.keyed c.self.invariant.remembered c.if-serial-id.true in
+    let none =
+    c.in_err-ledger.ensures.value
+    ∙ remembered_at (at_key i.slab) c.args.id i.keys.entries i.last c.self.invariant.keyed
+    c.self.invariant.remembered c.if-serial-id.true in
     rw (c.from_residual.ensures, ← c.self.view_is) (refl, record { writes_back = tt; value = none })
 
 pub invariant_of-self-lent : goal.invariant_of-self-lent
 invariant_of-self-lent c =
     λ w. let i = c.self.inside in
     let key = i.last.1 in
-    let here = remembered_key (at_key i.slab) c.in_ok-ledger.ledger.now c.args.id i.keys.entries i.last c.self.invariant.remembered c.if-serial-id.true (sym c.in_ok-ledger.ensures.value) in
+    let here =
+    remembered_key (at_key i.slab) c.in_ok-ledger.ledger.now c.args.id i.keys.entries i.last
+    c.self.invariant.remembered c.if-serial-id.true (sym c.in_ok-ledger.ensures.value) in
     let there = found_some (at_key i.slab) (is_serial c.args.id) key i.keys.entries c.self.invariant.keyed here in
     let updates = Updates-with_value i.slab key w there in
     record {
       keyed = keyed_set (at_key i.slab) (at_key (with_value i.slab key w)) key w i.keys.entries c.self.invariant.keyed updates.changed updates.others;
-      remembered = rw c.if-serial-id.true (own_key (at_key (with_value i.slab key w)) key (lookup (is_serial c.args.id) i.keys.entries) here);
+      remembered = rw c.if-serial-id.true
+          (own_key (at_key (with_value i.slab key w)) key (lookup (is_serial c.args.id) i.keys.entries) here);
     }
 
 pub returns-then-serial-id : goal.returns-then-serial-id
 returns-then-serial-id c =
     let i = c.self.inside in
     let key = i.last.1 in
-    let here = remembered_key (at_key i.slab) c.in_ok-ledger.ledger.now c.args.id i.keys.entries i.last c.self.invariant.remembered c.if-serial-id.true (sym c.in_ok-ledger.ensures.value) in
+    let here =
+    remembered_key (at_key i.slab) c.in_ok-ledger.ledger.now c.args.id i.keys.entries i.last
+    c.self.invariant.remembered c.if-serial-id.true (sym c.in_ok-ledger.ensures.value) in
     let there = found_some (at_key i.slab) (is_serial c.args.id) key i.keys.entries c.self.invariant.keyed here in
     let written = λ (w : Account).
     let updates = Updates-with_value i.slab key w there in
@@ -60,7 +68,8 @@ invariant_of-self-lent-2 c =
     let updates = Updates-with_value i.slab key w there in
     record {
       keyed = keyed_set (at_key i.slab) (at_key (with_value i.slab key w)) key w i.keys.entries c.self.invariant.keyed updates.changed updates.others;
-      remembered = rw c.in_ok-key.ensures.last (own_key (at_key (with_value i.slab key w)) key (lookup (is_serial c.args.id) i.keys.entries) here);
+      remembered = rw c.in_ok-key.ensures.last
+          (own_key (at_key (with_value i.slab key w)) key (lookup (is_serial c.args.id) i.keys.entries) here);
     }
 
 pub returns : goal.returns

@@ -11,7 +11,8 @@ pub invariant_of-self : goal.invariant_of-self
 invariant_of-self c = rw c.reserve.ensures.rest_kept c.self.invariant
 
 pub invariant_of-self-in_default-insert : goal.invariant_of-self-in_default-insert
-invariant_of-self-in_default-insert c = rw (c.in_default-insert.ensures.err, c.reserve.ensures.rest_kept) c.self.invariant
+invariant_of-self-in_default-insert c =
+    rw (c.in_default-insert.ensures.err, c.reserve.ensures.rest_kept) c.self.invariant
 
 pub invariant_of-self-2 : goal.invariant_of-self-2
 invariant_of-self-2 c =
@@ -25,7 +26,8 @@ invariant_of-self-2 c =
       keyed = rw c.in-Ok-insert.ensures.entries
           (keyed_pushed (at_key c.reserve.new.self) (at_key c.insert_reserved.new.self) c.args.id key c.args.ledger i.keys.entries keyed below
           c.vacant_key-key.ensures.vacant updates.changed updates.others);
-      remembered = own_key (at_key c.insert_reserved.new.self) key (lookup (is_serial c.args.id) c.insert.new.self.entries)
+      remembered = own_key (at_key c.insert_reserved.new.self) key
+          (lookup (is_serial c.args.id) c.insert.new.self.entries)
           (sym (lookup_at c.args.id c.insert.new.self.entries) ∙ c.in-Ok-insert.ensures.updates.1);
     }
 

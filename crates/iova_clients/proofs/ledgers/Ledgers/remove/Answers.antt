@@ -12,8 +12,10 @@ invariant_of-self-2 c =
       keyed = rw (c.remove.ensures.entries, remove_entry_at)
           (keyed_removed (at_key i.slab) (at_key c.try_remove.new.self) (is_serial c.args.id) c.in_ok-key.key i.keys.entries
           c.self.invariant.keyed (sym (lookup_at c.args.id i.keys.entries) ∙ sym c.in_ok-key.ensures.value) c.try_remove.ensures.updates.others);
-      remembered = remembered_removed (at_key i.slab) (at_key c.try_remove.new.self) c.args.id c.in_ok-key.key i.keys.entries c.remove.new.self.entries i.last
-          c.self.invariant.remembered (sym c.in_ok-key.ensures.value) c.remove.ensures.updates.0 c.try_remove.ensures.updates.changed c.try_remove.ensures.updates.others;
+      remembered = remembered_removed (at_key i.slab) (at_key c.try_remove.new.self) c.args.id
+          c.in_ok-key.key i.keys.entries c.remove.new.self.entries i.last c.self.invariant.remembered
+          (sym c.in_ok-key.ensures.value) c.remove.ensures.updates.0
+          c.try_remove.ensures.updates.changed c.try_remove.ensures.updates.others;
     }
 
 pub returns-clause-value : goal.returns-clause-value
