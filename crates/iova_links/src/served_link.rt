@@ -1,5 +1,5 @@
 //! A link over a socket, which a daemon's stop ends.
-ghost use Rattle.std.specs.Prelude.{◌≡◌, ◌≤◌, ◌<◌, IfOk, IfSome, length};
+ghost use Rattle.std.specs.Prelude.{◌≡◌, ◌≤◌, ◌<◌, ℕ, IfOk, IfSome, length};
 ghost use Rattle.memchr.specs.Find.{places, is_byte};
 
 use crate::signals::Signals;
@@ -7,7 +7,7 @@ use iova_range::limits::STOP_PAUSE;
 use iova_session::link::{Link, LinkFault};
 use iova_sink::count::Count;
 use iova_sink::device::bytes_taken;
-use iova_sink::soon::{Looks, read_from};
+use iova_sink::soon::{Looks, read_from, receive};
 use memchr::memchr_iter;
 use std::io;
 use std::io::{ErrorKind, Write};
@@ -117,15 +117,23 @@ impl<'a, R: Wait> Link for ServedLink<'a, R> {
 
     fn read(&mut self, buf: &mut [u8]) -> Result<usize, LinkFault> {
         self.reads.up();
-        let read = received(
-            self.rt,
-            self.signals,
-            self.patience,
-            &self.stream,
-            &mut self.looks,
-            &mut self.left,
-            buf,
-        );
+        let read = match read_at_hand(self.signals, &self.stream, &mut self.looks, buf) {
+            AtHand::Read(n) => {
+                note_lines(self.signals, self.patience, n, buf);
+                self.left = self.patience.turns;
+                Ok(n)
+            }
+            AtHand::Failed(error) if is_failure(error, &mut self.left) => Err(LinkFault),
+            AtHand::Failed(_) | AtHand::Nothing => received(
+                self.rt,
+                self.signals,
+                self.patience,
+                &self.stream,
+                &mut self.looks,
+                &mut self.left,
+                buf,
+            ),
+        };
         let Ok(n) = read else {
             self.failed.up();
             return Err(LinkFault);
@@ -168,7 +176,54 @@ impl<'a, R: Wait> Link for ServedLink<'a, R> {
     }
 }
 
+/// What a read comes to without a turn of its own.
+#[derive(Clone, Copy)]
+enum AtHand {
+    /// So many bytes, 0 at the end.
+    Read(usize),
+    /// The call failed; the number of the system's error.
+    Failed(i32),
+    /// Nothing is at hand, or the daemon stops.
+    Nothing,
+}
+
+/// Reads what is at hand; where it isn't the only link, what comes in a turn. The quick way of a
+/// read: no more is made on it than the numbers of bytes and of an error.
+#[inline(always)]
+fn read_at_hand(signals: &Signals, stream: &UnixStream, looks: &mut Looks, buf: &mut [u8]) -> AtHand
+    ensures { (n : ℕ) → result ≡ AtHand.Read n → n ≤ length buf.old }
+{
+    if signals.is_stopping() {
+        return AtHand::Nothing;
+    }
+    if signals.is_alone() {
+        return match looks.look(stream, buf) {
+            Some(n) => AtHand::Read(n),
+            None => AtHand::Nothing,
+        };
+    }
+    match receive(stream, buf) {
+        Ok(n) => AtHand::Read(n),
+        Err(error) => AtHand::Failed(error),
+    }
+}
+
+/// Whether a read that failed so isn't made again.
+#[inline(never)]
+fn is_failure(error: i32, left: &mut u64) -> bool {
+    !is_to_be_tried_again(&Err(io::Error::from_raw_os_error(error)), left)
+}
+
+/// Counts the lines of what was read: without a control socket nobody can ask how many there were.
+#[inline(always)]
+fn note_lines(signals: &Signals, patience: Patience, n: usize, buf: &[u8]) {
+    if patience.turn.is_some() {
+        count_read(signals, n, buf);
+    }
+}
+
 /// Reads what comes within the patience: nothing once the daemon stops.
+#[inline(never)]
 fn received<R: Wait>(
     rt: &R,
     signals: &Signals,
@@ -177,12 +232,14 @@ fn received<R: Wait>(
     looks: &mut Looks,
     left: &mut u64,
     buf: &mut [u8],
-) -> io::Result<usize>
+) -> Result<usize, LinkFault>
     ensures { IfOk result (λ n. n ≤ length buf.old) }
 {
     for _ in rt.forever() {
-        if let Some(n) = read_once(signals, patience, stream, looks, left, buf)? {
-            return Ok(n);
+        match read_once(signals, patience, stream, looks, left, buf) {
+            Ok(Some(n)) => return Ok(n),
+            Ok(None) => {}
+            Err(_) => return Err(LinkFault),
         }
     }
     unreachable!()
@@ -231,9 +288,8 @@ fn read_once(
     if is_to_be_tried_again(&read, left) {
         return Ok(None);
     }
-    // without a control socket nobody can ask how many there were
-    if patience.turn.is_some() {
-        count_read(signals, &read, buf);
+    if let Ok(n) = read {
+        note_lines(signals, patience, n, buf);
     }
     *left = patience.turns;
     Ok(Some(read?))
@@ -274,11 +330,9 @@ fn is_to_be_tried_again(called: &io::Result<usize>, left: &mut u64) -> bool {
 }
 
 /// Counts the lines that were read.
-fn count_read(signals: &Signals, read: &io::Result<usize>, buf: &[u8]) {
-    if let Ok(n) = read {
-        if let Some(piece) = buf.get(..*n) {
-            signals.count_requests(count_lines(piece));
-        }
+fn count_read(signals: &Signals, n: usize, buf: &[u8]) {
+    if let Some(piece) = buf.get(..n) {
+        signals.count_requests(count_lines(piece));
     }
 }
 

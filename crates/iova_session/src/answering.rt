@@ -152,8 +152,11 @@ fn put_lines(answers: &[Answer], text: &mut ArrayVec<u8, RUN_TEXT>) -> bool
     requires { text.old.items ≡ [] }
     ensures { IsTrue result → text.new.items ≡ answers_text answers.now }
 {
+    if answers.len() > MAX_RUN {
+        return false;
+    }
     for answer in answers {
-        if text.len() + MAX_FIRST_LINE > RUN_TEXT || !is_one_line(answer) {
+        if !is_one_line(answer) {
             return false;
         }
         put_first_line(answer, text);

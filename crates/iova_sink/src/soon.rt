@@ -1,5 +1,5 @@
 //! Reads of what a peer sends soon: it is looked for a while before the thread sleeps.
-ghost use Rattle.std.specs.Prelude.{◌≤◌, IfOk, length};
+ghost use Rattle.std.specs.Prelude.{◌≤◌, IfOk, IfSome, length};
 
 use libc::net::{MSG_DONTWAIT, recv};
 use std::hint::spin_loop;
@@ -55,6 +55,23 @@ impl Looks {
         };
     }
 
+    /// Looks once, where it is looked now, and gives how many bytes stood there: 0 at the end. None
+    /// where nothing stood there or the call failed, and `read` tells then which.
+    #[inline(always)]
+    pub fn look(&mut self, stream: &UnixStream, buffer: &mut [u8]) -> Option<usize>
+        ensures { IfSome result (λ n. n ≤ length buffer.new) }
+    {
+        if self.count() == 0 {
+            return None;
+        }
+        let read = unsafe { recv(stream.as_raw_fd(), buffer, MSG_DONTWAIT) };
+        if read < 0 {
+            return None;
+        }
+        self.note(true);
+        Some(read as usize)
+    }
+
     /// Reads what comes next: looks for it, and then waits as long as the socket's own limit says.
     pub fn read(&mut self, stream: &UnixStream, buffer: &mut [u8]) -> io::Result<usize>
         ensures { IfOk result (λ n. n ≤ length buffer.new) }
@@ -91,6 +108,19 @@ fn is_awaited(done: &io::Result<usize>) -> bool {
     match done {
         Ok(_) => false,
         Err(error) => error.kind() == ErrorKind::WouldBlock,
+    }
+}
+
+/// Reads what comes next, and waits for it. Where that fails, the number of the system's error.
+#[inline(always)]
+pub fn receive(stream: &UnixStream, buffer: &mut [u8]) -> Result<usize, i32>
+    ensures { IfOk result (λ n. n ≤ length buffer.new) }
+{
+    let read = unsafe { recv(stream.as_raw_fd(), buffer, 0) };
+    if read < 0 {
+        Err(os::errno())
+    } else {
+        Ok(read as usize)
     }
 }
 
