@@ -74,7 +74,7 @@ fn run_shared<
             let (seats, ended) = threads::beside_flusher(rt, alloc, keeper, seats);
             (seats, ended, Vec::new(alloc))
         }
-        Task::Beside(beside) => {
+        Task::BesideFlushes(beside) => {
             let seat = seats.pop().expect(rt, "a seat");
             let seat = threads::beside_flushes(rt, alloc, keeper, seat, beside);
             assert!(rt; seats.push(seat).is_ok());

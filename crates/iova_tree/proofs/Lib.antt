@@ -2,7 +2,7 @@ mod Rooms
 mod Multiples
 mod Spans
 mod Low
-mod Turns
+mod Rotations
 mod Root
 mod Placed
 mod Taken

@@ -177,13 +177,13 @@ module _ (w : Wanted) (start : ℕ) (x : Span) (l : List Span) (h : IsWanted w) 
 -- A node beside others.
 
 -- the ranges are those of the node and the others
-pub record Beside (v : List Span) (x : Span) (l : List Span) : Type 0 where
+pub record IsOneWithOthers (v : List Span) (x : Span) (l : List Span) : Type 0 where
   pub is : v ≡ with_span x l
   pub rising : IsRisingFrom 0 (with_span x l)
   pub some : x.lo < x.end
   pub more : length v ≡ length l + 1
 
-pub beside : {newest : Option (Box Node Global)} {l v : List Span} {b : Box Node Global} → with_newest newest l ≡ v → StandsBeside newest l → newest ≡ Some b → Beside v (own_span b.value) l
+pub beside : {newest : Option (Box Node Global)} {l v : List Span} {b : Box Node Global} → with_newest newest l ≡ v → StandsBeside newest l → newest ≡ Some b → IsOneWithOthers v (own_span b.value) l
 beside {newest} {l} {v} {b} view_is good is =
     let x = own_span b.value in
     let g = subst (λ (o : Option (Box Node Global)). StandsBeside o l) is good in

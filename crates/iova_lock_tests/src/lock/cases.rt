@@ -22,11 +22,11 @@ pub(crate) enum Task {
     /// Each seat works in a thread of its own, beside a flusher.
     Workers,
     /// Rows of a seat beside flushes that wait in their sinks.
-    Beside(&'static Beside),
+    BesideFlushes(&'static FlushesInFlight),
 }
 
 /// So many flushes, and rows before they begin, while all are in flight, and after them.
-pub(crate) struct Beside {
+pub(crate) struct FlushesInFlight {
     pub(crate) flushes: u64,
     pub(crate) before: &'static [Row],
     pub(crate) beside: &'static [Row],
@@ -105,8 +105,8 @@ pub(crate) fn case(no: usize) -> Case {
         13 => (Task::Rows(WAITING_BESIDE_A_FLUSH), PLAIN),
         14 => (Task::Random, WIDE),
         15 => (Task::Workers, WIDE),
-        16 => (Task::Beside(ONE_FLUSH), PLAIN),
-        17 => (Task::Beside(ALL_FLUSHES), PLAIN),
+        16 => (Task::BesideFlushes(ONE_FLUSH), PLAIN),
+        17 => (Task::BesideFlushes(ALL_FLUSHES), PLAIN),
         18 => (Task::Growths, PLAIN),
         _ => (Task::Growths, WITH_ROOM),
     }
@@ -446,7 +446,7 @@ closeone 0 1
 ";
 
 // A request is given beside a flush, and another flush fails beside it: its credit is owed.
-const ONE_FLUSH: &Beside = &Beside {
+const ONE_FLUSH: &FlushesInFlight = &FlushesInFlight {
     flushes: 1,
     before: &[(0, Open(false), Always("opened Ok(1)"))],
     beside: &[
@@ -461,7 +461,7 @@ const ONE_FLUSH: &Beside = &Beside {
 };
 
 // With a full ring and all flushes in flight no other one begins. Then the ring is emptied.
-const ALL_FLUSHES: &Beside = &Beside {
+const ALL_FLUSHES: &FlushesInFlight = &FlushesInFlight {
     flushes: 32,
     before: &[
         (0, Open(false), Always("opened Ok(1)")),

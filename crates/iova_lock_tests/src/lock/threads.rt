@@ -1,7 +1,7 @@
 //! Seats in threads of their own: beside a flusher, and beside flushes that wait in their sinks.
 
 use crate::lock::act;
-use crate::lock::cases::Beside;
+use crate::lock::cases::FlushesInFlight;
 use iova_keep::calls;
 use iova_keep::keep::Keep;
 use iova_keep::seat::{Seat, Tally};
@@ -139,7 +139,7 @@ fn ask_beside<C: Ledger, F: Ledger, S: Ledger, G: Ledger, K: Keep<C, F, S, G> + 
     alloc: Global,
     keeper: K,
     seat: Seat<C, F, S, G>,
-    case: &Beside,
+    case: &FlushesInFlight,
     open: &Flag,
 ) -> Seat<C, F, S, G> {
     let mut keeper = keeper;
@@ -165,7 +165,13 @@ pub(crate) fn beside_flushes<
     G: Ledger + Send + Sync,
     K: Keep<C, F, S, G> + Copy + Send + Sync,
     R: Threads + Wait + Sync + Abort,
->(rt: &R, alloc: Global, keeper: K, seat: Seat<C, F, S, G>, case: &Beside) -> Seat<C, F, S, G> {
+>(
+    rt: &R,
+    alloc: Global,
+    keeper: K,
+    seat: Seat<C, F, S, G>,
+    case: &FlushesInFlight,
+) -> Seat<C, F, S, G> {
     let mut keeper = keeper;
     let mut seat = seat;
     act::run(rt, alloc, &mut keeper, &mut seat, false, case.before);

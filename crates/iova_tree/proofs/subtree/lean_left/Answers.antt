@@ -1,6 +1,6 @@
 use Rattle.std.proofs.Common.{◌≡◌, ap, arith}
 use Rattle.iova_tree.specs.Node.{node_spans}
-use Rattle.iova_tree.proofs.Turns.{inner_left, inner_right}
+use Rattle.iova_tree.proofs.Rotations.{inner_left, inner_right}
 use Rattle.iova_tree.proofs.subtree.lean_left.Goals as goal
 
 pub of-requires-clause-balanced : goal.of-requires-clause-balanced
