@@ -2,4 +2,3 @@ pub mod Faults
 pub mod Answers
 pub mod Outcomes
 pub mod Plans
-pub mod Sinks

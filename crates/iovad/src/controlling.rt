@@ -1,5 +1,5 @@
 //! A daemon asked over its control socket.
-use crate::cause::tell_cause;
+use iova_files::cause::tell_cause;
 use crate::fault::Fault;
 use iova_command::control_word::ControlWord;
 use iova_range::limits::CONTROL_TIMEOUT;

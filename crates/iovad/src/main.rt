@@ -3,24 +3,18 @@
 #![tactic(auto)]
 
 mod answer;
-mod cause;
 mod checking;
 mod control;
 mod controlling;
 mod daemon;
-mod descriptors;
 mod fault;
-mod listening;
 mod metrics;
-mod notices;
 mod outcome;
-mod record_file;
 mod regions;
 mod replaying;
 mod sessions;
-mod sinks;
 
-use cause::tell_cause;
+use iova_files::cause::tell_cause;
 use checking::check_planned;
 use controlling::control;
 use daemon::{seat_count, serve};
