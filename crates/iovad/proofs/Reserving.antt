@@ -7,12 +7,10 @@ use Rattle.iova_model.specs.declared.step.Reply.TheVariants as reply
 use Rattle.iova_model.specs.State.{State}
 use Rattle.iova_keep.specs.Steps.{Takes}
 use Rattle.iova_lock.specs.Books.{BookState}
-use Rattle.iova_regions.specs.declared.fault.RegionsFault.{RegionsFault}
-use Rattle.iova_regions.specs.declared.fault.RegionsFault.TheVariants as regions
 use Rattle.iova_command.specs.declared.plan.Plan.{Plan}
-use Rattle.iovad.specs.declared.fault.Fault.{Fault}
-use Rattle.iovad.specs.declared.fault.Fault.TheVariants as fault
-use Rattle.iovad.specs.Faults.{IsFaultOfRegions}
+use Rattle.iova_tools.specs.declared.fault.Fault.{Fault}
+use Rattle.iova_tools.specs.declared.fault.Fault.TheVariants as fault
+use Rattle.iova_tools.specs.Faults.{IsFaultOfRegions}
 use Rattle.iovad.specs.Plans.{IsFaultOfServing, IsReserved, ReservesAll}
 
 -- one window, by its first and its last frame
@@ -37,13 +35,6 @@ reserved_more w ws a b c first more = record {
   number = more.number ∙ first.number;
   strict = more.strict ∙ first.strict;
 }
-
--- how reading regions ends
-pub of_read : (f : RegionsFault) (name : Bor (List ℕ)) (told : Fault) → ((line : ℕ) → f ≡ regions.Line line → told ≡ fault.RegionsRefused line)
-    → (f ≡ regions.Read → told ≡ fault.CannotRead name) → (f ≡ regions.NoMemory → told ≡ fault.NoMemory) → IsFaultOfRegions name told
-of_read (regions.Line n) name told refused unread memory = rw (refused n refl) tt
-of_read regions.Read name told refused unread memory = rw (unread refl) refl
-of_read regions.NoMemory name told refused unread memory = rw (memory refl) tt
 
 -- it may end serving so
 pub of_regions : (plan : Plan) (name : Bor (List ℕ)) (f : Fault) → plan.regions ≡ Some name → IsFaultOfRegions name f → IsFaultOfServing plan f

@@ -1,4 +1,1 @@
-pub mod Faults
-pub mod Answers
-pub mod Outcomes
 pub mod Plans

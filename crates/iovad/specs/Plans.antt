@@ -12,8 +12,8 @@ use Rattle.iova_keep.specs.Views.{SeatState, seats_in_turn}
 use Rattle.iova_lock.specs.Books.{BookState, SharedState, new_book}
 use Rattle.iova_command.specs.declared.plan.Plan.{Plan}
 use Rattle.iova_session.specs.declared.session_limits.SessionLimits.{SessionLimits}
-use Rattle.iovad.specs.declared.fault.Fault.{Fault}
-use Rattle.iovad.specs.declared.fault.Fault.TheVariants as fault
+use Rattle.iova_tools.specs.declared.fault.Fault.{Fault}
+use Rattle.iova_tools.specs.declared.fault.Fault.TheVariants as fault
 
 -- the profile of a plan: the second where it has a depot
 abbrev pub profile_of : Option ℕ → Capacities
