@@ -7,12 +7,13 @@ mod daemon;
 mod metrics;
 mod sessions;
 
-use daemon::{seat_count, serve};
+use daemon::serve;
 use iova_command::asked::Asked;
 use iova_command::plan::Plan;
 use iova_command::words::{asked, words};
 use iova_keep::ledgers::Blanks;
 use iova_links::dial::Dial;
+use iova_planned::seats::seat_count;
 use iova_tools::asking::ask_at;
 use iova_tools::checking::check_planned;
 use iova_tools::controlling::control;

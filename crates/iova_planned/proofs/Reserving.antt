@@ -1,17 +1,12 @@
--- Windows that are reserved one after another, and what reading regions may end in.
-use Rattle.std.proofs.Common.{ℕ, ◌≡◌, ◌∙◌, ◌+◌, ◌-◌, List, [], ◌∷◌, Some, None, arith, refl, sym, ap, subst}
-use Rattle.std.specs.Borrow.{Bor}
+-- Windows that are reserved one after another.
+use Rattle.std.proofs.Common.{ℕ, ◌≡◌, ◌∙◌, ◌+◌, ◌-◌, List, [], ◌∷◌, arith, refl, sym, subst}
 use Rattle.iova_range.specs.Frames.{Frames}
 use Rattle.iova_model.specs.declared.step.Step.TheVariants as step
 use Rattle.iova_model.specs.declared.step.Reply.TheVariants as reply
 use Rattle.iova_model.specs.State.{State}
 use Rattle.iova_keep.specs.Steps.{Takes}
 use Rattle.iova_lock.specs.Books.{BookState}
-use Rattle.iova_command.specs.declared.plan.Plan.{Plan}
-use Rattle.iova_tools.specs.declared.fault.Fault.{Fault}
-use Rattle.iova_tools.specs.declared.fault.Fault.TheVariants as fault
-use Rattle.iova_tools.specs.Faults.{IsFaultOfRegions}
-use Rattle.iovad.specs.Plans.{IsFaultOfServing, IsReserved, ReservesAll}
+use Rattle.iova_planned.specs.Plans.{IsReserved, ReservesAll}
 
 -- one window, by its first and its last frame
 reserved_one : (w got : Frames) (hi : ℕ) (s t : State) → hi + 1 ≡ w.lo + w.len → Takes s (step.Reserve w.lo hi) (reply.Reserved got) t
@@ -35,18 +30,3 @@ reserved_more w ws a b c first more = record {
   number = more.number ∙ first.number;
   strict = more.strict ∙ first.strict;
 }
-
--- it may end serving so
-pub of_regions : (plan : Plan) (name : Bor (List ℕ)) (f : Fault) → plan.regions ≡ Some name → IsFaultOfRegions name f → IsFaultOfServing plan f
-of_regions plan name (fault.CannotRead path) named is = named ∙ ap Some (sym is)
-of_regions plan name (fault.RegionsRefused line) named is = λ none. let bad : Some name ≡ None = sym named ∙ none in absurd cc
-of_regions plan name fault.NoMemory named is = tt
-of_regions plan name (fault.Words usage) named is = absurd is
-of_regions plan name fault.StartAboveLast named is = absurd is
-of_regions plan name fault.LastAboveProfile named is = absurd is
-of_regions plan name (fault.TraceRefused line) named is = absurd is
-of_regions plan name (fault.LogRefused line) named is = absurd is
-of_regions plan name fault.Found named is = absurd is
-of_regions plan name fault.CannotWrite named is = absurd is
-of_regions plan name fault.SocketFault named is = absurd is
-of_regions plan name fault.CannotOpenSink named is = absurd is
