@@ -8,7 +8,7 @@ use Rattle.std.specs.Cmp.{nat_cmp_is}
 use Rattle.std.specs.declared.cmp.Ordering.TheVariants.{Greater}
 use Rattle.std.proofs.lemmas.Bool.Decides.{nat_tests}
 use Rattle.iova_clients.specs.Registry.{is_serial}
-use Rattle.iova_clients.specs.Accounts.{Account, entry_of, listed_accounts, IsApart, AreKeyed, IsRemembered}
+use Rattle.iova_clients.specs.Accounts.{Account, entry_of, listed_accounts, IsApart, AreKeyed, IsKeyFor, IsRemembered}
 
 -- The map's test of a key is the serial's.
 
@@ -260,8 +260,79 @@ pub find_here : (at : ℕ → Option Account) (p : ℕ × Account → Bool) (e :
     → find p (listed_accounts at (e ∷ es)) ≡ Some (e.0, a)
 find_here at p e es a some holds = rw (some, holds) refl
 
--- what was looked up last is at its key
-pub remembered_at : (serial key id : ℕ) (es : List (ℕ × ℕ)) (last : Option (ℕ × ℕ)) → IsRemembered last es → last ≡ Some (serial, key) → serial ≡ id → lookup (is_serial id) es ≡ Some key
-remembered_at serial key id es last h is same =
-    let known : IsRemembered (Some (serial, key)) es = rw is at h in
-    rw same at known
+-- What is remembered.
+
+-- a serial's own key is a key for it
+pub own_key : (at : ℕ → Option Account) (key : ℕ) (o : Option ℕ) → o ≡ Some key → IsKeyFor at key o
+own_key at key o own = rw own refl
+
+sought : (at : ℕ → Option Account) (key : ℕ) (o : Option ℕ) → IsKeyFor at key o
+    → at key ≡ found at o
+sought at key None h = h
+sought at key (Some own) h = ap at (sym h)
+
+-- at the key that is remembered stands what the serial has
+pub remembered_at : (at : ℕ → Option Account) (id : ℕ) (es : List (ℕ × ℕ)) (last : ℕ × ℕ)
+    → AreKeyed at es → IsRemembered at es last → last.0 ≡ id
+    → at last.1 ≡ lookup (is_serial id) (listed_accounts at es)
+remembered_at at id es last keyed h same =
+    let key : IsKeyFor at last.1 (lookup (is_serial id) es) = rw same at h in
+    sought at last.1 (lookup (is_serial id) es) key
+    ∙ sym (lookup-listed_accounts at (is_serial id) es keyed)
+
+key_step : (at : ℕ → Option Account) (key : ℕ) (a : Account) (o : Option ℕ) → IsKeyFor at key o
+    → at key ≡ Some a → o ≡ Some key
+key_step at key a None h some = absurd (let bad : None ≡ Some a = sym h ∙ some in cc)
+key_step at key a (Some own) h some = ap (λ k. Some k) h
+
+-- and where an account stands there, the key is the serial's own
+pub remembered_key : (at : ℕ → Option Account) (a : Account) (id : ℕ) (es : List (ℕ × ℕ))
+    (last : ℕ × ℕ) → IsRemembered at es last → last.0 ≡ id → at last.1 ≡ Some a
+    → lookup (is_serial id) es ≡ Some last.1
+remembered_key at a id es last h same some =
+    let key : IsKeyFor at last.1 (lookup (is_serial id) es) = rw same at h in
+    key_step at last.1 a (lookup (is_serial id) es) key some
+
+-- What is remembered stays as a serial leaves. Where it is this one, its key has no account now.
+
+vacant_step : (b : Bool) (at new : ℕ → Option Account) (k key : ℕ) → (k == key) ≡ b
+    → new key ≡ None → ((other : ℕ) → other ≢ key → new other ≡ at other)
+    → at k ≡ None → new k ≡ None
+vacant_step true at new k key is gone kept none =
+    let same : k ≡ key = grind (arith, nat_tests) in
+    ap new same ∙ gone
+vacant_step false at new k key is gone kept none =
+    let ne : k ≢ key = grind (arith, nat_tests) in
+    kept k ne ∙ none
+
+key_kept : (at new : ℕ → Option Account) (k key : ℕ) (o : Option ℕ)
+    → new key ≡ None → ((other : ℕ) → other ≢ key → new other ≡ at other)
+    → IsKeyFor at k o → IsKeyFor new k o
+key_kept at new k key None gone kept h = vacant_step (k == key) at new k key refl gone kept h
+key_kept at new k key (Some own) gone kept h = h
+
+left_step : (b : Bool) (at new : ℕ → Option Account) (k key : ℕ) (o : Option ℕ)
+    → (b ≡ true → o ≡ Some key)
+    → new key ≡ None → ((other : ℕ) → other ≢ key → new other ≡ at other)
+    → IsKeyFor at k o → IsKeyFor new k (cond b None o)
+left_step true at new k key o mine gone kept h =
+    let own : key ≡ k = rw (mine refl) at h in
+    ap new (sym own) ∙ gone
+left_step false at new k key o mine gone kept h = key_kept at new k key o gone kept h
+
+pub remembered_removed : (at new : ℕ → Option Account) (id key : ℕ) (es fs : List (ℕ × ℕ))
+    (last : ℕ × ℕ) → IsRemembered at es last → lookup (is_at (nat_cmp id)) es ≡ Some key
+    → ((q : ℕ) → lookup (is_at (nat_cmp q)) fs
+    ≡ cond (is_at (nat_cmp id) q) None (lookup (is_at (nat_cmp q)) es))
+    → new key ≡ None → ((other : ℕ) → other ≢ key → new other ≡ at other)
+    → IsRemembered new fs last
+remembered_removed at new id key es fs last h was left gone kept =
+    let test = is_serial id last.0 in
+    let own = lookup (is_serial last.0) es in
+    let now : lookup (is_serial last.0) fs ≡ cond test None own =
+    sym (lookup_at last.0 fs)
+    ∙ (left last.0 ∙ rw (is_at-is_serial id last.0, lookup_at last.0 es) refl) in
+    let mine : test ≡ true → own ≡ Some key = λ is.
+    let same : last.0 ≡ id = grind (arith, nat_tests) in
+    rw same (sym (lookup_at id es) ∙ was) in
+    rw now (left_step test at new last.1 key own mine gone kept h)

@@ -1,11 +1,13 @@
 -- The totals over some clients, as one of them changes, comes or goes.
 use Rattle.std.proofs.Common.{◌≡◌, ℕ, suc, ◌+◌, ◌*◌, ◌^◌, ◌≤◌, ◌==◌, Bool, true, false, cond, List, [], ◌∷◌, ◌++◌, length, None, Some, find, filter, sum_by, refl, sym, ap, ◌∙◌, arith, length-append}
-use Rattle.std.specs.Prelude.{nat_lt}
+use Rattle.std.specs.Prelude.{nat_le, nat_lt}
 use Rattle.std.specs.List.{AllByRecursion}
+use Rattle.std.proofs.lemmas.Bool.Decides.{nat_tests}
 use Rattle.std.proofs.lemmas.List.Sums.{sum_by-cons, sum_by-append}
 use Rattle.iova_range.specs.Frames.{Frames}
 use Rattle.iova_model.specs.declared.totals.Totals.{Totals}
-use Rattle.iova_model.specs.Clients.{Client, has_id, client_with, change_client, without_client, insert_rising, begins_at, remove_at, with_holding, without_holding, totals_of, all_holdings, totals, share_of}
+use Rattle.iova_model.specs.Clients.{Client, has_id, client_with, change_client, without_client, insert_rising, begins_at, remove_at, with_holding, without_holding, totals_of, no_totals, all_holdings, totals, share_of}
+use Rattle.iova_model.specs.Effects.{add_totals}
 use Rattle.iova_model.specs.Valid.{IsClient}
 use Rattle.iova_clients.specs.Registry.{Registry, IsBelowTop, HoldsLow, IsRegistry}
 use Rattle.iova_clients.proofs.Kept.{length-insert_rising}
@@ -58,21 +60,82 @@ sum_passing g p (c ∷ cs) = step (p c) (sum_passing g p cs) ∙ sym (sum_by-con
 totals_of-by : (p : Client → Bool) (cs : List Client) → totals_of (all_holdings (filter p cs)) ≡ totals_by p cs
 totals_of-by p cs = same_totals _ _ _ _ _ _ (count_passing p cs) (sum_passing (λ r. r.len) p cs) (sum_passing (λ r. r.lo) p cs)
 
-abbrev pub everyone : Client → Bool
-everyone c = true
-
 abbrev pub is_of : ℕ → Client → Bool
 is_of worker c = c.worker == worker
 
-filter_everyone : (cs : List Client) → filter everyone cs ≡ cs
-filter_everyone [] = refl
-filter_everyone (c ∷ cs) = ap (λ xs. c ∷ xs) (filter_everyone cs)
+-- of this worker or of one behind it; so all are from worker 0
+abbrev pub is_from : ℕ → Client → Bool
+is_from worker c = nat_le worker c.worker
 
-pub totals-by : (cs : List Client) → totals cs ≡ totals_by everyone cs
-totals-by cs = sym (ap (λ xs. totals_of (all_holdings xs)) (filter_everyone cs)) ∙ totals_of-by everyone cs
+filter_all : (cs : List Client) → filter (is_from 0) cs ≡ cs
+filter_all [] = refl
+filter_all (c ∷ cs) =
+    let passes : nat_le 0 c.worker ≡ true = grind (arith, nat_tests) in
+    rw passes (ap (λ xs. c ∷ xs) (filter_all cs))
+
+pub totals-by : (cs : List Client) → totals cs ≡ totals_by (is_from 0) cs
+totals-by cs =
+    sym (ap (λ xs. totals_of (all_holdings xs)) (filter_all cs)) ∙ totals_of-by (is_from 0) cs
 
 pub share_of-by : (worker : ℕ) (cs : List Client) → share_of worker cs ≡ totals_by (is_of worker) cs
 share_of-by worker cs = totals_of-by (is_of worker) cs
+
+-- The clients of a worker, and of those behind it.
+
+passing_split : (w : ℕ) (m : Client → ℕ) (c : Client)
+    → passing (is_from w) m c ≡ passing (is_of w) m c + passing (is_from (suc w)) m c
+passing_split w m c = step (c.worker == w) refl
+  where
+    other : (b : Bool) → nat_le (suc w) c.worker ≡ b → (c.worker == w) ≡ false
+        → passing (is_from w) m c ≡ passing (is_of w) m c + passing (is_from (suc w)) m c
+    other true is ne =
+        let from : nat_le w c.worker ≡ true = grind (arith, nat_tests) in
+        rw (is, ne, from) (omega arith)
+    other false is ne =
+        let before : nat_le w c.worker ≡ false = grind (arith, nat_tests) in
+        rw (is, ne, before) refl
+
+    step : (b : Bool) → (c.worker == w) ≡ b
+        → passing (is_from w) m c ≡ passing (is_of w) m c + passing (is_from (suc w)) m c
+    step true is =
+        let from : nat_le w c.worker ≡ true = grind (arith, nat_tests) in
+        let last : nat_le (suc w) c.worker ≡ false = grind (arith, nat_tests) in
+        rw (is, from, last) (omega arith)
+    step false is = other (nat_le (suc w) c.worker) refl is
+
+sum_split : (w : ℕ) (m : Client → ℕ) (cs : List Client) → sum_by (passing (is_from w) m) cs
+    ≡ sum_by (passing (is_of w) m) cs + sum_by (passing (is_from (suc w)) m) cs
+sum_split w m [] = refl
+sum_split w m (c ∷ cs) =
+    let a = sum_by-cons (passing (is_from w) m) c cs in
+    let b = sum_by-cons (passing (is_of w) m) c cs in
+    let d = sum_by-cons (passing (is_from (suc w)) m) c cs in
+    omega (arith, passing_split w m c, sum_split w m cs)
+
+pub totals_split : (w : ℕ) (cs : List Client)
+    → totals_by (is_from w) cs
+    ≡ add_totals (totals_by (is_of w) cs) (totals_by (is_from (suc w)) cs)
+totals_split w cs =
+    same_totals _ _ _ _ _ _
+    (sum_split w count_of cs) (sum_split w frames_of cs) (sum_split w sum_lo_of cs)
+
+sum_behind : (w : ℕ) (m : Client → ℕ) (cs : List Client) → AllByRecursion (IsClient w) cs
+    → sum_by (passing (is_from w) m) cs ≡ 0
+sum_behind w m [] each = refl
+sum_behind w m (c ∷ cs) each =
+    let lt = each.0.worker in
+    let none : nat_le w c.worker ≡ false = grind (arith, nat_tests) in
+    let now : passing (is_from w) m c ≡ 0 = rw none refl in
+    let a = sum_by-cons (passing (is_from w) m) c cs in
+    omega (arith, sum_behind w m cs each.1)
+
+-- behind the last worker there is no client
+pub totals_behind : (w : ℕ) (cs : List Client) → AllByRecursion (IsClient w) cs
+    → totals_by (is_from w) cs ≡ no_totals
+totals_behind w cs each =
+    same_totals _ _ _ _ _ _
+    (sum_behind w count_of cs each) (sum_behind w frames_of cs each)
+    (sum_behind w sum_lo_of cs each)
 
 -- A sum over the clients, as one of them changes.
 

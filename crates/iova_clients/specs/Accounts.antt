@@ -46,15 +46,23 @@ abbrev pub AreKeyed : (ℕ → Option Account) → List (ℕ × ℕ) → Type 0
 AreKeyed at [] = Unit {0}
 AreKeyed at (e ∷ es) = IsSome (at e.1) × IsApart e.1 es × AreKeyed at es
 
--- the serial that was looked up last has this key
-abbrev pub IsRemembered : Option (ℕ × ℕ) → List (ℕ × ℕ) → Type 0
-IsRemembered None keys = Unit {0}
-IsRemembered (Some e) keys = lookup (is_serial e.0) keys ≡ Some e.1
+-- where a serial has a key, it is this one, and where it has none, no account is at this one
+abbrev pub IsKeyFor : (ℕ → Option Account) → ℕ → Option ℕ → Type 0
+IsKeyFor at key None = at key ≡ None
+IsKeyFor at key (Some own) = own ≡ key
 
-pub record AreLedgers (at : ℕ → Option Account) (keys : List (ℕ × ℕ))
-    (last : Option (ℕ × ℕ)) : Type 0 where
+-- the serial that is remembered is sought at the key beside it
+abbrev pub IsRemembered : (ℕ → Option Account) → List (ℕ × ℕ) → ℕ × ℕ → Type 0
+IsRemembered at keys last = IsKeyFor at last.1 (lookup (is_serial last.0) keys)
+
+-- what is remembered once this serial was sought, and had this key or none
+abbrev pub last_after : ℕ → Option ℕ → ℕ × ℕ → ℕ × ℕ
+last_after serial None last = last
+last_after serial (Some key) last = (serial, key)
+
+pub record AreLedgers (at : ℕ → Option Account) (keys : List (ℕ × ℕ)) (last : ℕ × ℕ) : Type 0 where
   pub keyed : AreKeyed at keys
-  pub remembered : IsRemembered last keys
+  pub remembered : IsRemembered at keys last
 
 -- the client of this serial and account
 abbrev pub client_at : ℕ × Account → Client

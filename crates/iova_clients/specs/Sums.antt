@@ -5,6 +5,11 @@ use Rattle.iova_model.specs.declared.totals.Totals.{Totals}
 use Rattle.iova_model.specs.Clients.{totals_of, no_totals}
 use Rattle.iova_model.specs.Effects.{add_totals}
 
+-- some totals, added up
+abbrev pub added : List Totals → Totals
+added [] = no_totals
+added (t ∷ ts) = add_totals t (added ts)
+
 -- with one holding more, and with one less
 abbrev pub with_one : Frames → Totals → Totals
 with_one r t = add_totals t (totals_of (r ∷ []))

@@ -213,8 +213,8 @@ impl Clients {
         self.ledgers.newer(worker, than)
     }
 
-    /// Whether the client is first sought a place below 4 GiB, where it was looked up last, is one
-    /// of this worker, and has room for one holding more.
+    /// Whether the client is first sought a place below 4 GiB, where it was looked up or opened
+    /// last, is one of this worker, and has room for one holding more.
     #[inline(always)]
     pub fn sac_with_room(&self, worker: u64, id: ClientId) -> Option<bool> {
         let ledger = self.ledgers.last(id)?;
@@ -225,8 +225,8 @@ impl Clients {
         }
     }
 
-    /// Whether the client was looked up last, is one of this worker, isn't closing, and its first
-    /// holding begins there.
+    /// Whether the client was looked up or opened last, is one of this worker, isn't closing, and
+    /// its first holding begins there.
     #[inline(always)]
     pub fn holds_first(&self, worker: u64, id: ClientId, lo: u64) -> bool {
         match self.ledgers.last(id) {
@@ -235,8 +235,8 @@ impl Clients {
         }
     }
 
-    /// Whether the client was looked up last, and a holding that begins there comes behind all its
-    /// others.
+    /// Whether the client was looked up or opened last, and a holding that begins there comes
+    /// behind all its others.
     #[inline(always)]
     fn adds_last(&self, id: ClientId, lo: u64) -> bool {
         match self.ledgers.last(id) {
@@ -386,7 +386,7 @@ impl Clients {
     pub fn totals(&self) -> Totals
         ensures { result ≡ totals self.now.clients }
     {
-        self.sums.all
+        self.sums.all()
     }
 
     /// The totals over all holdings of the clients that this worker, 0 to 15, opened.

@@ -6,7 +6,7 @@ ghost use Rattle.std.specs.List.{AllByRecursion};
 ghost use Rattle.std.specs.Map.{lookup, remove_entry};
 ghost use Rattle.iova_model.specs.Fit.{is_covered};
 ghost use Rattle.iova_clients.specs.Registry.{is_serial};
-ghost use Rattle.iova_clients.specs.Accounts.{IsRemembered, is_newer_entry};
+ghost use Rattle.iova_clients.specs.Accounts.{last_after, is_newer_entry};
 
 use crate::ledger::ClientLedger;
 use iova_range::refusal::Refusal;
@@ -21,9 +21,11 @@ use std::marker::Model;
 pub(crate) struct Ledgers {
     slab: Slab<ClientLedger>,
     keys: BTreeMap<u64, usize>,
-    /// The serial that was looked up last to change its ledger, with its key. Most steps speak of
-    /// the client of the step before, and each part of a step of the same one.
-    last: Option<(u64, usize)>,
+    /// A serial, with the key to look under for its ledger: its own key, and where no client has
+    /// the serial, one under which nothing stands. It is the serial that was looked up last to
+    /// change its ledger, or that came in since. Most steps speak of the client of the step before,
+    /// and each part of a step of the same one.
+    last: (u64, usize),
 }
 
 impl Model for Ledgers {
@@ -38,27 +40,14 @@ impl Model for Ledgers {
     ghost invariant = { λ l. AreLedgers (get l.slab) l.keys.entries l.last };
 }
 
-/// The key of this serial.
-#[inline]
-fn key_of(keys: &BTreeMap<u64, usize>, last: Option<(u64, usize)>, id: u64) -> Option<usize>
-    requires { IsRemembered last keys.now.entries }
-    ensures { result ≡ lookup (is_serial id) keys.now.entries }
-{
-    match last {
-        Some((serial, key)) if serial == id => Some(key),
-        _ => keys.get(&id).copied(),
-    }
-}
-
-/// The key of this serial, whichever was looked up last. It is remembered.
+/// The key of this serial, whichever is remembered. Where it has one, both are remembered.
 #[inline(never)]
-fn look_up(keys: &BTreeMap<u64, usize>, last: &mut Option<(u64, usize)>, id: u64) -> Option<usize>
-    requires { IsRemembered last.old keys.now.entries }
+fn look_up(keys: &BTreeMap<u64, usize>, last: &mut (u64, usize), id: u64) -> Option<usize>
     ensures value { result ≡ lookup (is_serial id) keys.now.entries }
-    ensures remembered { IsRemembered last.new keys.now.entries }
+    ensures last { last.new ≡ last_after id result last.old }
 {
     let key = keys.get(&id).copied()?;
-    *last = Some((id, key));
+    *last = (id, key);
     Some(key)
 }
 
@@ -71,7 +60,7 @@ impl Ledgers {
         Ledgers {
             slab: Slab::new(alloc),
             keys: BTreeMap::new(alloc),
-            last: None,
+            last: (0, 0),
         }
     }
 
@@ -86,31 +75,34 @@ impl Ledgers {
     pub(crate) fn get(&self, id: u64) -> Option<&ClientLedger>
         ensures { option_copied result ≡ lookup (is_serial id) self.now }
     {
-        let key = key_of(&self.keys, self.last, id)?;
+        let (serial, key) = self.last;
+        if serial == id {
+            return self.slab.get(key);
+        }
+        let key = self.keys.get(&id).copied()?;
         self.slab.get(key)
     }
 
-    /// The ledger of this serial, where it is the one that was looked up last.
+    /// The ledger of this serial, where it is the one that was looked up, or came in, last.
     #[inline(always)]
     pub(crate) fn last(&self, id: u64) -> Option<&ClientLedger> {
-        if let Some((serial, key)) = self.last
-            && serial == id
-        {
-            return Some(&self.slab[key]);
+        let (serial, key) = self.last;
+        if serial == id {
+            return self.slab.get(key);
         }
         None
     }
 
-    /// The same, to change it. Nothing is written where it was looked up last.
+    /// The ledger of this serial, to change it. Nothing is written where it is remembered.
     #[inline(always)]
     pub(crate) fn get_mut(&mut self, id: u64) -> Option<&mut ClientLedger>
         ensures* writes_back { sem 𝓛 (LendsLedger self.entry id result) }
         ensures value { option_copied_mut result ≡ lookup (is_serial id) self.old }
     {
-        if let Some((serial, key)) = self.last
-            && serial == id
-        {
-            return Some(&mut self.slab[key]);
+        let (serial, key) = self.last;
+        if serial == id {
+            let ledger = self.slab.get_mut(key)?;
+            return Some(ledger);
         }
         let key = look_up(&self.keys, &mut self.last, id)?;
         Some(&mut self.slab[key])
@@ -131,7 +123,7 @@ impl Ledgers {
             return Err(Refusal::NoMemory);
         };
         self.slab.insert_reserved(ledger);
-        self.last = None;
+        self.last = (id, key);
         Ok(())
     }
 
@@ -140,11 +132,8 @@ impl Ledgers {
         ensures value { result ≡ lookup (is_serial id) self.old }
         ensures left { self.new ≡ remove_entry (is_serial id) self.old }
     {
-        self.last = None;
-        match self.keys.remove(&id) {
-            Some(key) => self.slab.try_remove(key),
-            None => None,
-        }
+        let key = self.keys.remove(&id)?;
+        self.slab.try_remove(key)
     }
 
     /// The serial of the first ledger with a holding that has the frame.

@@ -1,7 +1,7 @@
-//! The totals that are kept as numbers.
+//! The workers' shares of the totals, kept as numbers.
 ghost use Rattle.std.specs.Prelude.{◌≡◌, ◌<◌, ◌≤◌, ◌+◌, ◌^◌, replicate, length};
 ghost use Rattle.iova_model.specs.Clients.{no_totals};
-ghost use Rattle.iova_clients.specs.Sums.{with_one, without_one, share_at, with_share, HaveRoom, Include};
+ghost use Rattle.iova_clients.specs.Sums.{added, with_one, without_one, share_at, with_share, HaveRoom, Include};
 
 use iova_model::totals::Totals;
 use iova_range::limits::MAX_WORKERS;
@@ -13,10 +13,9 @@ const NO_TOTALS: Totals = Totals {
     sum_lo: 0,
 };
 
-/// The totals over all holdings, and over those of each worker's clients.
+/// The totals over the holdings of each worker's clients.
 #[derive(Drop)]
 pub(crate) struct Sums {
-    pub(crate) all: Totals,
     pub(crate) shares: [Totals; MAX_WORKERS as usize],
 }
 
@@ -48,13 +47,28 @@ fn without_one(range: Range, totals: Totals) -> Totals
 impl Sums {
     /// Of no holdings.
     pub(crate) fn new() -> Sums
-        ensures all { result.all ≡ no_totals }
-        ensures shares { result.shares ≡ replicate MAX_WORKERS no_totals }
+        ensures { result.shares ≡ replicate MAX_WORKERS no_totals }
     {
         Sums {
-            all: NO_TOTALS,
             shares: [NO_TOTALS; MAX_WORKERS as usize],
         }
+    }
+
+    /// All workers' together: the shares are added up at each call, and no other call pays for it.
+    #[inline]
+    pub(crate) fn all(&self) -> Totals
+        requires { HaveRoom (added self.now.shares) }
+        ensures { result ≡ added self.now.shares }
+    {
+        let mut all = NO_TOTALS;
+        for share in self.shares.iter() {
+            all = Totals {
+                count: all.count + share.count,
+                frames: all.frames + share.frames,
+                sum_lo: all.sum_lo + share.sum_lo,
+            };
+        }
+        all
     }
 
     /// One worker's.
@@ -71,13 +85,10 @@ impl Sums {
     pub(crate) fn add(&mut self, worker: u64, range: Range)
         requires worker { worker < MAX_WORKERS }
         requires low { range.lo + range.len ≤ 2 ^ 40 }
-        requires all_room { HaveRoom self.old.all }
-        requires share_room { HaveRoom (share_at worker self.old.shares) }
-        ensures all { self.new.all ≡ with_one range self.old.all }
-        ensures shares { self.new.shares ≡ with_share worker (with_one range) self.old.shares }
+        requires room { HaveRoom (share_at worker self.old.shares) }
+        ensures { self.new.shares ≡ with_share worker (with_one range) self.old.shares }
     {
         let place = worker as usize;
-        self.all = with_one(range, self.all);
         self.shares[place] = with_one(range, self.shares[place]);
     }
 
@@ -85,13 +96,10 @@ impl Sums {
     #[inline(always)]
     pub(crate) fn remove(&mut self, worker: u64, range: Range)
         requires worker { worker < MAX_WORKERS }
-        requires in_all { Include range self.old.all }
-        requires in_share { Include range (share_at worker self.old.shares) }
-        ensures all { self.new.all ≡ without_one range self.old.all }
-        ensures shares { self.new.shares ≡ with_share worker (without_one range) self.old.shares }
+        requires held { Include range (share_at worker self.old.shares) }
+        ensures { self.new.shares ≡ with_share worker (without_one range) self.old.shares }
     {
         let place = worker as usize;
-        self.all = without_one(range, self.all);
         self.shares[place] = without_one(range, self.shares[place]);
     }
 }

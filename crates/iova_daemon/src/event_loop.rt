@@ -146,7 +146,10 @@ where
     D: Sink,
     ensures { turns.new.post.seat.worker ≡ turns.old.post.seat.worker }
 {
-    table.wait(context.accept.patience().turn, !turns.post.waiting.is_empty());
+    table.wait(
+        context.accept.patience().turn,
+        !turns.post.waiting.is_empty(),
+    );
     if context.accept.is_shut() {
         end_all(context, table, turns);
     }
@@ -248,7 +251,10 @@ fn leave<R: Wait, N: Log, K, O, X>(
     end: End,
 ) {
     context.roster.end_session(table.worker);
-    if context.admission.leave(context.rt, context.roster, table.worker) {
+    if context
+        .admission
+        .leave(context.rt, context.roster, table.worker)
+    {
         table.is_called = true;
     }
     note_end(context.notices, session, end);

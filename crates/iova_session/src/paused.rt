@@ -316,8 +316,8 @@ fn turn_with<
     requires lines { IsSome progress.old.lines }
     requires session { progress.old.session ≡ O.session }
     requires named { progress.old.session.number ≡ O.identity.number }
-    requires names { (access.keeper.ghost_name ≡ O.keeper_name) × (access.seat.ghost_name ≡ O.seat_name)
-        × (access.sink.ghost_name ≡ O.sink_name) }
+    requires names { (access.keeper.ghost_name ≡ O.keeper_name)
+        × (access.seat.ghost_name ≡ O.seat_name) × (access.sink.ghost_name ≡ O.sink_name) }
     requires same { K.identity access.keeper.now ≡ O.identity }
     requires domain { K.domain access.keeper.now ≡ O.domain }
     requires seat { access.seat.now ≡ O.seat }
@@ -336,10 +336,11 @@ fn turn_with<
         result.access.seat.now.held }
     ensures leads { ∥ WhereKnown (K.domain access.entry.keeper.now)
         (K.domain result.access.keeper.now)
-        (GoesOn (K.identity access.entry.keeper.now).strict progress.old.session progress.new.session
-        access.entry.seat.now
-        result.access.seat.now (D.calls access.entry.sink.now) (D.calls result.access.sink.now)) ∥₁ }
-    ensures others { WhereKnown (K.domain access.entry.keeper.now) (K.domain result.access.keeper.now)
+        (GoesOn (K.identity access.entry.keeper.now).strict progress.old.session
+        progress.new.session access.entry.seat.now result.access.seat.now
+        (D.calls access.entry.sink.now) (D.calls result.access.sink.now)) ∥₁ }
+    ensures others { WhereKnown (K.domain access.entry.keeper.now)
+        (K.domain result.access.keeper.now)
         (KeepsOthers (client_after None progress.new.session.pairs)) }
     ensures named { progress.new.session.number ≡ progress.old.session.number }
     ensures answers { AreAnswers progress.new.session.number None 0 progress.new.session.pairs }

@@ -69,8 +69,8 @@ fn serve_with<
     link: &mut L,
     access: DomainAccess<'a, C, F, S, G, K, D>,
 ) -> ServedSession<'a, C, F, S, G, K, D>
-    requires names { (access.keeper.ghost_name ≡ O.keeper_name) × (access.seat.ghost_name ≡ O.seat_name)
-        × (access.sink.ghost_name ≡ O.sink_name) }
+    requires names { (access.keeper.ghost_name ≡ O.keeper_name)
+        × (access.seat.ghost_name ≡ O.seat_name) × (access.sink.ghost_name ≡ O.sink_name) }
     requires same { K.identity access.keeper.now ≡ O.identity }
     requires domain { K.domain access.keeper.now ≡ O.domain }
     requires seat { access.seat.now ≡ O.seat }
@@ -90,8 +90,8 @@ fn serve_with<
         × ∥ WhereKnown (K.domain access.entry.keeper.now) (K.domain result.access.keeper.now)
         (LeadsFrom (K.identity access.entry.keeper.now).strict
         (K.identity access.entry.keeper.now).number ps
-        access.entry.seat.now
-        result.access.seat.now (D.calls access.entry.sink.now) (D.calls result.access.sink.now)) ∥₁ }
+        access.entry.seat.now result.access.seat.now
+        (D.calls access.entry.sink.now) (D.calls result.access.sink.now)) ∥₁ }
     ensures failures { L.failures link.new ≡ L.failures link.old + failures_at result.end }
     ensures ends { L.ends link.new ≡ L.ends link.old + ends_at result.end }
     ensures place { KeepsPlace access.entry.seat.now result.access.seat.now
@@ -113,7 +113,11 @@ fn serve_with<
         last: _,
         start: _,
     } = desk;
-    ServedSession { end, client, access }
+    ServedSession {
+        end,
+        client,
+        access,
+    }
 }
 
 /// Serves a session of the seat's worker, and gives how it ended and the client that it opened.

@@ -96,8 +96,8 @@ pub(crate) struct SessionDesk<
     pub(crate) session: Session,
     pub(crate) last: LastBatch,
     pub(crate) start: PhantomData<O>,
-    ghost names: { (access.keeper.ghost_name ≡ O.keeper_name) × (access.seat.ghost_name ≡ O.seat_name)
-        × (access.sink.ghost_name ≡ O.sink_name) },
+    ghost names: { (access.keeper.ghost_name ≡ O.keeper_name)
+        × (access.seat.ghost_name ≡ O.seat_name) × (access.sink.ghost_name ≡ O.sink_name) },
     ghost number: { session.number ≡ O.identity.number },
     ghost same: { K.identity access.keeper.now ≡ O.identity },
     ghost leads: { ∥ WhereKnown O.domain (K.domain access.keeper.now)
@@ -157,8 +157,8 @@ pub(crate) fn ask_with<C: Ledger, F: Ledger, S: Ledger, G: Ledger, K: Keep<C, F,
     ensures after { (session.old.client ≡ client_after None session.old.pairs)
         × (session.old.listed ≡ listed_after 0 session.old.pairs) }
     ensures leads { WhereKnown (K.domain access.old.keeper.now) (K.domain access.new.keeper.now)
-        (GoesOn (K.identity access.old.keeper.now).strict session.old session.new access.old.seat.now
-        access.new.seat.now
+        (GoesOn (K.identity access.old.keeper.now).strict session.old session.new
+        access.old.seat.now access.new.seat.now
         (D.calls access.old.sink.now) (D.calls access.new.sink.now)) }
     ensures count { IfOk result (λ n. (1 ≤ n) × (n ≤ length requests.now)) }
     ensures ok { IfOk result

@@ -36,8 +36,8 @@ pub(crate) struct TurnDesk<
     pub(crate) session: Session,
     pub(crate) last: LastBatch,
     pub(crate) start: PhantomData<O>,
-    ghost names: { (access.keeper.ghost_name ≡ O.keeper_name) × (access.seat.ghost_name ≡ O.seat_name)
-        × (access.sink.ghost_name ≡ O.sink_name) },
+    ghost names: { (access.keeper.ghost_name ≡ O.keeper_name)
+        × (access.seat.ghost_name ≡ O.seat_name) × (access.sink.ghost_name ≡ O.sink_name) },
     ghost number: { session.number ≡ O.identity.number },
     ghost same: { K.identity access.keeper.now ≡ O.identity },
     ghost opened: { (O.session.number ≡ O.identity.number)

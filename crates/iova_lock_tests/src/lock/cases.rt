@@ -5,8 +5,8 @@ use crate::lock::act::Row;
 use crate::lock::act::Want::*;
 use crate::lock::random::LAST;
 use crate::lock::releases::{
-    RELEASED, RELEASED_AT_A_FULL_RING, RELEASED_BESIDE_A_FLUSH, RELEASED_WITHOUT_A_FLUSH,
-    RELEASED_WITH_A_FAULT, RELEASED_WITH_A_SECOND_FAULT,
+    RELEASED, RELEASED_AT_A_FULL_RING, RELEASED_BESIDE_A_FLUSH, RELEASED_WITH_A_FAULT,
+    RELEASED_WITH_A_SECOND_FAULT, RELEASED_WITHOUT_A_FLUSH,
 };
 use iova_keep::ask::Ask;
 

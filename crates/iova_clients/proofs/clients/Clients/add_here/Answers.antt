@@ -6,7 +6,7 @@ use Rattle.iova_clients.specs.Accounts.{Account, client_at, clients_at}
 use Rattle.iova_clients.specs.Sums.{with_share, with_one}
 use Rattle.iova_clients.proofs.Changed.{client_some, changed-at, spare_at, spare_same, lookup-set_here, lookup-set_other, found_mut, client_known, mut_there}
 use Rattle.iova_clients.proofs.Kept.{client_is, client_is_low, IsRegistry-changed, IsClient-given, all_inserted}
-use Rattle.iova_clients.proofs.BooksLemmas.{sums_given, all_have_room, share_has_room}
+use Rattle.iova_clients.proofs.BooksLemmas.{sums_given, share_has_room}
 use Rattle.iova_clients.proofs.clients.Clients.add_here.Goals as goal
 
 pub unwrap-ledger-requires : goal.unwrap-ledger-requires
@@ -36,11 +36,8 @@ add-requires-2-clause-worker c =
     let found = found_mut c.get_mut.result c.unwrap-ledger.result _ c.get_mut.ensures.value c.unwrap-ledger.ensures in
     rw (c.worker-worker.ensures, c.add.ensures) (client_is c.args.id es a _ refl c.self.invariant.registry found).worker
 
-pub add-requires-2-clause-all_room : goal.add-requires-2-clause-all_room
-add-requires-2-clause-all_room c = all_have_room _ c.self.inside.sums c.self.invariant.registry c.self.invariant.sums
-
-pub add-requires-2-clause-share_room : goal.add-requires-2-clause-share_room
-add-requires-2-clause-share_room c =
+pub add-requires-2-clause-room : goal.add-requires-2-clause-room
+add-requires-2-clause-room c =
     let es = c.self.inside.ledgers in
     let a = c.unwrap-ledger.result.now in
     let found = found_mut c.get_mut.result c.unwrap-ledger.result _ c.get_mut.ensures.value c.unwrap-ledger.ensures in
@@ -61,11 +58,11 @@ invariant_of-self c =
     let low = client_is_low id es a _ refl c.self.invariant.registry found in
     let clients = changed-at id (with_holding r) a w es found (ap (λ x. client_at (id, x)) (sym c.add.ensures)) in
     let shares : c.add-2.new.self.shares ≡ with_share a.worker (with_one r) c.self.inside.sums.shares =
-    rw (c.worker-worker.ensures, c.add.ensures) at c.add-2.ensures.shares in
+    rw (c.worker-worker.ensures, c.add.ensures) at c.add-2.ensures in
     record {
       registry = IsRegistry-changed id (with_holding r) (client_at (id, a)) _ _ c.self.invariant.registry client refl
           (IsClient-given r (client_at (id, a)) is can.room can.new c.requires.sized) (all_inserted IsBelowTop r a.holdings c.requires.low low) clients refl;
-      sums = rw clients (sums_given id r (client_at (id, a)) (clients_at es) c.self.inside.sums c.add-2.new.self client is.worker c.add-2.ensures.all shares c.self.invariant.sums);
+      sums = rw clients (sums_given id r (client_at (id, a)) (clients_at es) c.self.inside.sums c.add-2.new.self client is.worker shares c.self.invariant.sums);
     }
 
 pub returns-clause-clients : goal.returns-clause-clients

@@ -9,7 +9,7 @@ use Rattle.iova_clients.specs.Accounts.{Account, client_at, clients_at}
 use Rattle.iova_clients.specs.Sums.{with_share, without_one}
 use Rattle.iova_clients.proofs.Changed.{client_some, client_none, changed-at, set_value_same, spare_at, spare_same, lookup-set_here, lookup-set_other, found_mut, refused_at, none_mut}
 use Rattle.iova_clients.proofs.Kept.{client_is, client_is_low, IsRegistry-changed, IsClient-taken, all_removed}
-use Rattle.iova_clients.proofs.BooksLemmas.{sums_taken, all_include, share_includes}
+use Rattle.iova_clients.proofs.BooksLemmas.{sums_taken, share_includes}
 use Rattle.iova_clients.proofs.clients.Clients.take.Goals as goal
 
 pub returns-in_err-ledger-clause-value : goal.returns-in_err-ledger-clause-value
@@ -69,17 +69,8 @@ remove-requires-clause-worker c =
     let now : c.take.new.self ≡ record a { holdings = remove_at c.args.lo a.holdings; spare = a.spare + 1 } = rw taken at c.take.ensures.some in
     rw (c.worker-worker.ensures, now) (client_is c.args.id es a _ refl c.self.invariant.registry found).worker
 
-pub remove-requires-clause-in_all : goal.remove-requires-clause-in_all
-remove-requires-clause-in_all c =
-    let es = c.self.inside.ledgers in
-    let a = c.in_ok-ledger.ledger.now in
-    let found = found_mut c.get_mut.result c.in_ok-ledger.ledger _ c.get_mut.ensures.value (c.ok_or.ensures.ok_part ∙ ap (λ r. result_ok r) c.in_ok-ledger.was) in
-    let taken : c.take.result ≡ Some c.in_ok-range.range = c.ok_or-2.ensures.ok_part ∙ ap (λ r. result_ok r) c.in_ok-range.was in
-    let held : find (begins_at c.args.lo) a.holdings ≡ Some c.in_ok-range.range = sym c.take.ensures.value ∙ taken in
-    all_include c.args.id c.args.lo c.in_ok-range.range (client_at (c.args.id, a)) (clients_at es) c.self.inside.sums (client_some c.args.id es a found) held c.self.invariant.sums
-
-pub remove-requires-clause-in_share : goal.remove-requires-clause-in_share
-remove-requires-clause-in_share c =
+pub remove-requires-clause-held : goal.remove-requires-clause-held
+remove-requires-clause-held c =
     let es = c.self.inside.ledgers in
     let a = c.in_ok-ledger.ledger.now in
     let found = found_mut c.get_mut.result c.in_ok-ledger.ledger _ c.get_mut.ensures.value (c.ok_or.ensures.ok_part ∙ ap (λ r. result_ok r) c.in_ok-ledger.was) in
@@ -106,11 +97,11 @@ invariant_of-self-2 c =
     let low = client_is_low id es a _ refl c.self.invariant.registry found in
     let clients = changed-at id (without_holding lo) a c.take.new.self es found (ap (λ x. client_at (id, x)) (sym now)) in
     let shares : c.remove.new.self.shares ≡ with_share a.worker (without_one r) c.self.inside.sums.shares =
-    rw (c.worker-worker.ensures, now) at c.remove.ensures.shares in
+    rw (c.worker-worker.ensures, now) at c.remove.ensures in
     record {
       registry = IsRegistry-changed id (without_holding lo) (client_at (id, a)) _ _ c.self.invariant.registry client refl
           (IsClient-taken lo (client_at (id, a)) is) (all_removed IsBelowTop lo a.holdings low) clients refl;
-      sums = rw clients (sums_taken id lo r (client_at (id, a)) (clients_at es) c.self.inside.sums c.remove.new.self client is.worker held c.remove.ensures.all shares c.self.invariant.sums);
+      sums = rw clients (sums_taken id lo r (client_at (id, a)) (clients_at es) c.self.inside.sums c.remove.new.self client is.worker held shares c.self.invariant.sums);
     }
 
 pub returns-clause-value : goal.returns-clause-value

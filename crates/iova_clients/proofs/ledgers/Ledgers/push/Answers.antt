@@ -1,18 +1,18 @@
 use Rattle.std.proofs.Common.{◌≡◌, ◌∙◌, ◌<◌, [], ◌∷◌, ◌++◌, ap, sym}
 use Rattle.std.specs.List.{AllByRecursion}
+use Rattle.std.specs.Map.{lookup}
 use Rattle.slab.specs.Slab.{get as at_key}
+use Rattle.iova_clients.specs.Registry.{is_serial}
 use Rattle.iova_clients.specs.Accounts.{listed_accounts, AreKeyed}
-use Rattle.iova_clients.proofs.Listed.{listed_pushed, keyed_pushed}
+use Rattle.iova_clients.proofs.Listed.{lookup_at, own_key, listed_pushed, keyed_pushed}
 use Rattle.iova_clients.proofs.ledgers.Ledgers.push.Goals as goal
 
 pub invariant_of-self : goal.invariant_of-self
-invariant_of-self c = record { keyed = rw c.reserve.ensures.rest_kept c.self.invariant.keyed; remembered = c.self.invariant.remembered }
+invariant_of-self c = rw c.reserve.ensures.rest_kept c.self.invariant
 
 pub invariant_of-self-in_default-insert : goal.invariant_of-self-in_default-insert
-invariant_of-self-in_default-insert c = record {
-  keyed = rw (c.in_default-insert.ensures.err, c.reserve.ensures.rest_kept) c.self.invariant.keyed;
-  remembered = rw c.in_default-insert.ensures.err c.self.invariant.remembered;
-}
+invariant_of-self-in_default-insert c =
+    rw (c.in_default-insert.ensures.err, c.reserve.ensures.rest_kept) c.self.invariant
 
 pub invariant_of-self-2 : goal.invariant_of-self-2
 invariant_of-self-2 c =
@@ -26,7 +26,9 @@ invariant_of-self-2 c =
       keyed = rw c.in-Ok-insert.ensures.entries
           (keyed_pushed (at_key c.reserve.new.self) (at_key c.insert_reserved.new.self) c.args.id key c.args.ledger i.keys.entries keyed below
           c.vacant_key-key.ensures.vacant updates.changed updates.others);
-      remembered = tt;
+      remembered = own_key (at_key c.insert_reserved.new.self) key
+          (lookup (is_serial c.args.id) c.insert.new.self.entries)
+          (sym (lookup_at c.args.id c.insert.new.self.entries) ∙ c.in-Ok-insert.ensures.updates.1);
     }
 
 pub returns-clause-ok : goal.returns-clause-ok
