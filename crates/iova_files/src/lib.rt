@@ -7,4 +7,5 @@ pub mod descriptors;
 pub mod listening;
 pub mod notices;
 pub mod record_file;
+pub mod sharing;
 pub mod sinks;

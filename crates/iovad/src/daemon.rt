@@ -1,5 +1,5 @@
 //! A daemon: the sessions of a plan, served on a socket, and the report of what they leave.
-ghost use Rattle.std.specs.Prelude.{◌≡◌, ◌<◌, ◌≤◌, ◌+◌, None, Err, IfErr, IfOk, IfSome, map, length, unwrap_or, vec_len};
+ghost use Rattle.std.specs.Prelude.{◌≡◌, ◌<◌, ◌≤◌, ◌+◌, None, Err, IfErr, IfOk, map, length, unwrap_or, vec_len};
 ghost use Rattle.iova_keep.specs.Views.{AreBlanksOf};
 ghost use Rattle.iova_command.specs.declared.plan.Plan.{Plan};
 ghost use Rattle.iova_planned.specs.Plans.{AreNewSeats, seat_count};
@@ -15,12 +15,13 @@ use iova_files::descriptors::look_at_limit;
 use iova_files::listening::{Access, is_free, listen, remove};
 use iova_files::notices::{CountedConsole, Notices};
 use iova_files::record_file::RecordFile;
+use iova_files::sharing::{share_all, sinks_in_turn};
 use iova_files::sinks::{DaemonSink, SinkPlace, open_sink};
 use iova_keep::keep::Keep;
 use iova_keep::ledgers::Blanks;
 use iova_links::accept::Accept;
 use iova_links::dial::{Dial, UnixNet};
-use iova_links::locked_sink::{LockedSink, SharedSink};
+use iova_links::locked_sink::SharedSink;
 use iova_links::pause::Ticks;
 use iova_links::served_link::{Patience, ServedLink};
 use iova_links::signals::Signals;
@@ -42,7 +43,6 @@ use iova_tools::fault::Fault;
 use iova_tools::outcome::print_domain;
 use iova_tools::regions::add_regions;
 use log::{Log, Logged, info};
-use std::alloc::Global;
 use std::fs::File;
 use std::io;
 use std::net::Net;
@@ -484,47 +484,6 @@ where
         Ok(served) => Ok(served),
         Err(refusal) => Err(refusal),
     }
-}
-
-/// Each of these sinks, for posts to share. None for want of memory.
-fn share_all<D: Drop>(alloc: Global, sinks: Vec<D>) -> Option<Vec<SharedSink<D>>>
-    ensures { IfSome result (λ v. vec_len v ≡ vec_len sinks) }
-{
-    let Ok(mut held) = Vec::with_capacity(alloc, sinks.len()) else {
-        return None;
-    };
-    for sink in sinks {
-        let Ok(()) = held.push(SharedSink::new(sink)) else {
-            unreachable!();
-        };
-    }
-    Some(held)
-}
-
-/// A sink for each of so many posts, and one for the flusher. The last of those that are held is
-/// the flusher's; the others are those of the workers, whose posts come in turn and share them.
-/// None for want of memory.
-fn sinks_in_turn<'a, R, D>(
-    rt: &'a R,
-    alloc: Global,
-    held: &'a [SharedSink<D>],
-    posts: usize,
-) -> Option<Vec<LockedSink<'a, R, D>>>
-    requires { 2 ≤ length held.now }
-    ensures { IfSome result (λ v. vec_len v ≡ posts + 1) }
-{
-    let workers = held.len() - 1;
-    let mut sinks = Vec::new(alloc);
-    for at in 0..posts {
-        let sink = LockedSink::new(rt, &held[at % workers]);
-        if sinks.push(sink).is_err() {
-            return None;
-        }
-    }
-    if sinks.push(LockedSink::new(rt, &held[workers])).is_err() {
-        return None;
-    }
-    Some(sinks)
 }
 
 /// How long a session's peer is waited for: in short turns, where the daemon may be asked to stop
