@@ -1,2 +1,2 @@
 mod Gathering
-mod Reserving
+mod Reading

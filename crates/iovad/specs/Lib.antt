@@ -1,5 +1,1 @@
-pub mod Faults
-pub mod Answers
-pub mod Outcomes
 pub mod Plans
-pub mod Sinks

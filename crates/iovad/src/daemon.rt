@@ -1,49 +1,48 @@
 //! A daemon: the sessions of a plan, served on a socket, and the report of what they leave.
-ghost use Rattle.std.specs.Prelude.{◌≡◌, ◌<◌, ◌≤◌, ◌+◌, ◌↔◌, [], ◌∷◌, None, Err, IfErr, IfOk, IfSome, map, length, unwrap_or, vec_len};
-ghost use Rattle.iova_range.specs.declared.limits.TheConstants.{MAX_CLIENTS, SEAT_PARTS};
-ghost use Rattle.iova_keep.specs.Views.{AreBlanksOf, IsReserveRefusal, seats_in_turn};
+ghost use Rattle.std.specs.Prelude.{◌≡◌, ◌<◌, ◌≤◌, ◌+◌, None, Err, IfErr, IfOk, map, length, unwrap_or, vec_len};
+ghost use Rattle.iova_keep.specs.Views.{AreBlanksOf};
 ghost use Rattle.iova_command.specs.declared.plan.Plan.{Plan};
-ghost use Rattle.iovad.specs.Plans.{AreNewSeats, AreOfAllSeats, IsAboveProfile, IsBoundsOf, IsFaultOfServing, IsReserved, planned_book, planned_limits, seat_count, steps_of};
+ghost use Rattle.iova_planned.specs.Plans.{AreNewSeats, seat_count};
+ghost use Rattle.iovad.specs.Plans.{AreOfAllSeats, IsAboveProfile, IsBoundsOf, IsFaultOfServing, planned_limits};
 
 use crate::control::Control;
-use crate::descriptors::look_at_limit;
-use crate::fault::Fault;
-use crate::listening::{Access, is_free, listen, remove};
-use crate::notices::{CountedConsole, Notices};
-use crate::outcome::print_domain;
-use crate::record_file::RecordFile;
-use crate::regions::add_regions;
-use crate::sinks::{DaemonSink, SinkPlace, open_sink};
 use iova_command::plan::Plan;
 use iova_command::plan_words::PlanWords;
 use iova_command::words::VERSION;
 use iova_core::domain::Domain;
 use iova_daemon::{Served, Service, Serving, serve_in_turns, serve_sessions};
+use iova_files::descriptors::look_at_limit;
+use iova_files::listening::{Access, is_free, listen, remove};
+use iova_files::notices::{CountedConsole, Notices};
+use iova_files::record_file::RecordFile;
+use iova_files::sharing::{share_all, sinks_in_turn};
+use iova_files::sinks::{DaemonSink, SinkPlace, open_sink};
 use iova_keep::keep::Keep;
 use iova_keep::ledgers::Blanks;
-use iova_keep::seat::Seat;
 use iova_links::accept::Accept;
 use iova_links::dial::{Dial, UnixNet};
-use iova_links::locked_sink::{LockedSink, SharedSink};
+use iova_links::locked_sink::SharedSink;
 use iova_links::pause::Ticks;
 use iova_links::served_link::{Patience, ServedLink};
 use iova_links::signals::Signals;
 use iova_links::socket::SocketAccept;
-use iova_lock::book::Book;
 use iova_lock::shared::Shared;
+use iova_planned::domain::new_domain;
+use iova_planned::seats::clients_of;
 use iova_range::bounds::Bounds;
-use iova_range::limits::{RECORDED_STEPS, STOP_PAUSE};
+use iova_range::limits::STOP_PAUSE;
 use iova_range::profile::Profile;
-use iova_range::range::Range;
 use iova_range::refusal::Refusal;
 use iova_regions::region::Counted;
 use iova_regions::windows::Windows;
 use iova_session::end_post::end_post;
-use iova_session::post::{Post, posts_at, seats_of};
+use iova_session::post::{Post, seats_of};
 use iova_session::session_limits::SessionLimits;
 use iova_sink::sink::Sink;
+use iova_tools::fault::Fault;
+use iova_tools::outcome::print_domain;
+use iova_tools::regions::add_regions;
 use log::{Log, Logged, info};
-use std::alloc::Global;
 use std::fs::File;
 use std::io;
 use std::net::Net;
@@ -487,47 +486,6 @@ where
     }
 }
 
-/// Each of these sinks, for posts to share. None for want of memory.
-fn share_all<D: Drop>(alloc: Global, sinks: Vec<D>) -> Option<Vec<SharedSink<D>>>
-    ensures { IfSome result (λ v. vec_len v ≡ vec_len sinks) }
-{
-    let Ok(mut held) = Vec::with_capacity(alloc, sinks.len()) else {
-        return None;
-    };
-    for sink in sinks {
-        let Ok(()) = held.push(SharedSink::new(sink)) else {
-            unreachable!();
-        };
-    }
-    Some(held)
-}
-
-/// A sink for each of so many posts, and one for the flusher. The last of those that are held is
-/// the flusher's; the others are those of the workers, whose posts come in turn and share them.
-/// None for want of memory.
-fn sinks_in_turn<'a, R, D>(
-    rt: &'a R,
-    alloc: Global,
-    held: &'a [SharedSink<D>],
-    posts: usize,
-) -> Option<Vec<LockedSink<'a, R, D>>>
-    requires { 2 ≤ length held.now }
-    ensures { IfSome result (λ v. vec_len v ≡ posts + 1) }
-{
-    let workers = held.len() - 1;
-    let mut sinks = Vec::new(alloc);
-    for at in 0..posts {
-        let sink = LockedSink::new(rt, &held[at % workers]);
-        if sinks.push(sink).is_err() {
-            return None;
-        }
-    }
-    if sinks.push(LockedSink::new(rt, &held[workers])).is_err() {
-        return None;
-    }
-    Some(sinks)
-}
-
 /// How long a session's peer is waited for: in short turns, where the daemon may be asked to stop
 /// or a session may be idle for so long only.
 fn patience_of(plan: &Plan<'_>) -> Patience {
@@ -714,7 +672,7 @@ fn bounds_of(plan: &Plan<'_>) -> Result<Bounds, Fault<'static>>
 
 /// The windows of the plan: those that are named, and those of its reserved regions, of whatever
 /// kind. Refused as these are.
-#[tactic(auto, using(crate::proofs::Reserving::of_regions))]
+#[tactic(auto, using(crate::proofs::Reading::of_regions))]
 fn windows_of<'a, R>(rt: &R, plan: &Plan<'a>, bounds: Bounds) -> Result<Windows, Fault<'a>>
 where
     R: Runtime + AllocGlobal + Files<File = File>,
@@ -728,181 +686,6 @@ where
     match add_regions(rt, path, Counted::All, bounds, &mut windows) {
         Ok(()) => Ok(windows),
         Err(fault) => Err(fault),
-    }
-}
-
-/// The plan's domain under a lock, and a post at each of its seats. None for want of memory.
-fn new_domain<'a, R, C, F, S, G>(
-    rt: &'a R,
-    plan: &Plan<'_>,
-    bounds: Bounds,
-    windows: &Windows,
-    blanks: Blanks,
-) -> Option<(Shared<&'a R, C, F, S, G>, Vec<Post<C, F, S, G>>)>
-where
-    R: AllocGlobal,
-    C: Ledger,
-    F: Ledger,
-    S: Ledger,
-    G: Ledger,
-    requires blanks { AreBlanksOf blanks C.Ledger F.Ledger S.Ledger G.Ledger
-        (seat_count plan.now) plan.now.workers }
-    ensures number { IfSome result (λ r. r.0.number ≡ plan.now.domain) }
-    ensures workers { IfSome result (λ r. r.0.workers ≡ plan.now.workers) }
-    ensures seats { IfSome result (λ r. AreNewSeats r.0 (map (λ p. p.seat) r.1.items)) }
-{
-    match reserved_book(rt.alloc(), plan, bounds, windows, blanks) {
-        Some((book, seats)) => posted(rt.alloc(), Shared::over(rt, book), seats),
-        None => None,
-    }
-}
-
-/// The plan's new domain, in which these windows are reserved, and its seats. None for want of
-/// memory.
-fn reserved_book<C: Ledger, F: Ledger, S: Ledger, G: Ledger>(
-    alloc: Global,
-    plan: &Plan<'_>,
-    bounds: Bounds,
-    windows: &Windows,
-    blanks: Blanks,
-) -> Option<(Book<C, F, S, G>, Vec<Seat<C, F, S, G>>)>
-    requires blanks { AreBlanksOf blanks C.Ledger F.Ledger S.Ledger G.Ledger
-        (seat_count plan.now) plan.now.workers }
-    ensures reserved { IfSome result (λ r. IsReserved windows.now (planned_book plan.now bounds)
-        r.0) }
-    ensures workers { IfSome result (λ r. r.0.state.workers ≡ plan.now.workers) }
-    ensures seats { IfSome result (λ r. r.1.items
-        ≡ seats_in_turn SEAT_PARTS plan.now.workers (seat_count plan.now)) }
-{
-    let Some((mut book, seats)) = book_of(alloc, plan, bounds, blanks) else {
-        return None;
-    };
-    match reserve_all(&mut book, windows.ranges()) {
-        Ok(()) => Some((book, seats)),
-        Err(_) => {
-            drop(seats);
-            drop(book);
-            None
-        }
-    }
-}
-
-/// Reserves these windows in the book, in their order, up to the first one that is refused.
-#[tactic(auto, using(crate::proofs::Reserving::reserved_more))]
-fn reserve_all<C: Ledger, F: Ledger, S: Ledger, G: Ledger>(
-    book: &mut Book<C, F, S, G>,
-    windows: &[Range],
-) -> Result<(), Refusal>
-    ensures reserved { IfOk result (λ u. IsReserved windows.now book.old book.new) }
-    ensures refused { IfErr result IsReserveRefusal }
-    ensures workers { book.new.state.workers ≡ book.old.state.workers }
-{
-    let Some((window, more)) = windows.split_first() else {
-        return Ok(());
-    };
-    reserve(book, *window)?;
-    reserve_all(book, more)
-}
-
-/// Reserves this window in the book.
-#[tactic(auto, using(crate::proofs::Reserving::reserved_window))]
-fn reserve<C: Ledger, F: Ledger, S: Ledger, G: Ledger>(
-    book: &mut Book<C, F, S, G>,
-    window: Range,
-) -> Result<(), Refusal>
-    ensures reserved { IfOk result (λ u. IsReserved (window ∷ []) book.old book.new) }
-    ensures refused { IfErr result IsReserveRefusal }
-    ensures workers { book.new.state.workers ≡ book.old.state.workers }
-{
-    // for the proof: a domain keeps its workers
-    book.is_kept();
-    let reserved = Keep::<C, F, S, G>::reserve(book, window.lo(), window.hi());
-    book.is_kept();
-    match reserved {
-        Ok(_window) => Ok(()),
-        Err(refusal) => Err(refusal),
-    }
-}
-
-/// The plan's new domain, recorded and strict where the plan says so, and its seats. None for want
-/// of memory.
-fn book_of<C: Ledger, F: Ledger, S: Ledger, G: Ledger>(
-    alloc: Global,
-    plan: &Plan<'_>,
-    bounds: Bounds,
-    blanks: Blanks,
-) -> Option<(Book<C, F, S, G>, Vec<Seat<C, F, S, G>>)>
-    requires blanks { AreBlanksOf blanks C.Ledger F.Ledger S.Ledger G.Ledger
-        (seat_count plan.now) plan.now.workers }
-    ensures { IfSome result (λ r. (r.0 ≡ planned_book plan.now bounds)
-        × (r.1.items ≡ seats_in_turn SEAT_PARTS plan.now.workers (seat_count plan.now))) }
-{
-    let pairs = match plan.record {
-        Some(_) => Some(most_steps(plan)),
-        None => None,
-    };
-    let made = Book::seated(
-        alloc,
-        plan.domain,
-        bounds,
-        plan.workers,
-        seat_count(plan),
-        pairs,
-        blanks,
-    );
-    match made {
-        Ok((book, seats)) => if plan.strict {
-            Some((book.strict(), seats))
-        } else {
-            Some((book, seats))
-        },
-        Err(_) => None,
-    }
-}
-
-/// How many seats there are at the plan's domain: one for each worker, and where clients don't take
-/// turns one for each client that is served at a time.
-pub fn seat_count(plan: &Plan<'_>) -> u64
-    ensures is { result ≡ seat_count plan.now }
-    ensures enough { plan.now.workers ≤ result }
-    ensures most { result ≤ MAX_CLIENTS }
-{
-    if plan.turns {
-        plan.workers
-    } else {
-        clients_of(plan).max(plan.workers)
-    }
-}
-
-/// How many clients are served at a time.
-fn clients_of(plan: &Plan<'_>) -> u64
-    ensures is { result ≡ unwrap_or plan.now.clients plan.now.workers }
-    ensures most { result ≤ MAX_CLIENTS }
-{
-    plan.clients.unwrap_or(plan.workers)
-}
-
-/// How many steps are recorded, where a record is wanted.
-fn most_steps(plan: &Plan<'_>) -> usize
-    ensures { result ≡ steps_of plan.now.record_steps }
-{
-    plan.record_steps.unwrap_or(RECORDED_STEPS) as usize
-}
-
-/// The domain, and a post at each seat. None for want of memory.
-fn posted<Q: Drop, C: Ledger, F: Ledger, S: Ledger, G: Ledger>(
-    alloc: Global,
-    shared: Shared<Q, C, F, S, G>,
-    seats: Vec<Seat<C, F, S, G>>,
-) -> Option<(Shared<Q, C, F, S, G>, Vec<Post<C, F, S, G>>)>
-    ensures { IfSome result (λ r. (r.0 ≡ shared) × (map (λ p. p.seat) r.1.items ≡ seats.items)) }
-{
-    match posts_at(alloc, seats) {
-        Some(posts) => Some((shared, posts)),
-        None => {
-            drop(shared);
-            None
-        }
     }
 }
 

@@ -2,45 +2,28 @@
 //! such a service.
 #![tactic(auto)]
 
-mod answer;
-mod cause;
-mod checking;
 mod control;
-mod controlling;
 mod daemon;
-mod descriptors;
-mod fault;
-mod listening;
 mod metrics;
-mod notices;
-mod outcome;
-mod record_file;
-mod regions;
-mod replaying;
 mod sessions;
-mod sinks;
 
-use cause::tell_cause;
-use checking::check_planned;
-use controlling::control;
-use daemon::{seat_count, serve};
-use fault::Fault;
-use iova_ask::ask_lines;
-use iova_ask::terminal::ask_by_hand;
+use daemon::serve;
 use iova_command::asked::Asked;
 use iova_command::plan::Plan;
 use iova_command::words::{asked, words};
 use iova_keep::ledgers::Blanks;
 use iova_links::dial::Dial;
-use iova_session::socket_link::SocketLink;
+use iova_planned::seats::seat_count;
+use iova_tools::asking::ask_at;
+use iova_tools::checking::check_planned;
+use iova_tools::controlling::control;
+use iova_tools::fault::Fault;
+use iova_tools::replaying::replay;
 use log::Log;
-use replaying::replay;
 use std::fs::File;
-use std::io;
 use std::io::IsTerminal;
 use std::marker::Brand;
 use std::net::Net;
-use std::os::unix::net::UnixStream;
 use std::process::ExitCode;
 use std::rt::{Files, Runtime};
 use std::sync::Wait;
@@ -87,37 +70,4 @@ where
 {
     let seats = seat_count(plan);
     serve::<R, Brand, Brand, Brand, Brand>(rt, plan, Blanks::new(seats, plan.workers))
-}
-
-/// Asks the lines of standard input of the socket at this path, and prints the answers: by hand
-/// with prompts, and with what refusals mean.
-fn ask_at<R>(rt: &R, path: &str, is_by_hand: bool) -> Result<(), Fault<'static>>
-where
-    R: Runtime + AllocGlobal + Net + Log,
-{
-    match UnixStream::connect(rt, path) {
-        Ok(stream) => ask_over(rt, SocketLink::new(stream), is_by_hand),
-        Err(error) => {
-            tell_cause(rt, "connect", path, &error);
-            Err(Fault::SocketFault)
-        }
-    }
-}
-
-/// The same over this link.
-fn ask_over<R: Runtime + AllocGlobal>(
-    rt: &R,
-    link: SocketLink,
-    is_by_hand: bool,
-) -> Result<(), Fault<'static>> {
-    let mut link = link;
-    let asked = if is_by_hand {
-        ask_by_hand(rt, &mut link)
-    } else {
-        ask_lines(rt.alloc(), &mut rt.reader(), &mut io::writer(rt), &mut link)
-    };
-    match asked {
-        Ok(_sent) => Ok(()),
-        Err(fault) => Err(Fault::of_ask(fault)),
-    }
 }

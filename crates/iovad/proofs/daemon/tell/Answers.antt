@@ -1,8 +1,8 @@
 use Rattle.std.proofs.Common.{◌≡◌, ◌⊎◌, inl, inr, Result, Ok, Err}
 use Rattle.std.specs.Prelude.{⊤, IfErr}
 use Rattle.iova_command.specs.declared.plan.Plan.{Plan}
-use Rattle.iovad.specs.declared.fault.Fault.{Fault}
-use Rattle.iovad.specs.declared.fault.Fault.TheVariants as fault
+use Rattle.iova_tools.specs.declared.fault.Fault.{Fault}
+use Rattle.iova_tools.specs.declared.fault.Fault.TheVariants as fault
 use Rattle.iovad.specs.Plans.{IsFaultOfServing}
 use Rattle.iovad.proofs.daemon.tell.Goals as goal
 

@@ -3,8 +3,8 @@ use Rattle.std.specs.Prelude.{ℕ, ◌≡◌, List, ◌++◌, Option, Some, None
 use Rattle.std.specs.Borrow.{Bor}
 use Rattle.iova_command.specs.declared.usage.WordsFault.{WordsFault}
 use Rattle.iova_command.specs.declared.usage.WordsFault.TheVariants as words
-use Rattle.iovad.specs.declared.fault.Fault.{Fault}
-use Rattle.iovad.specs.declared.fault.Fault.TheVariants as fault
+use Rattle.iova_tools.specs.declared.fault.Fault.{Fault}
+use Rattle.iova_tools.specs.declared.fault.Fault.TheVariants as fault
 
 -- the one line of a fault, without its LF; what is not understood, and help, are told in the words
 -- of the command line; that a log has findings is told by these alone, and by the status

@@ -4,8 +4,8 @@ use Rattle.std.specs.Io.KnownBytes.{Appends}
 use Rattle.iova_model.specs.State.{State}
 use Rattle.iova_report.specs.Report.{report_text}
 use Rattle.iova_text.specs.Words.{numbers_line}
-use Rattle.iovad.specs.declared.fault.Fault.{Fault}
-use Rattle.iovad.specs.declared.fault.Fault.TheVariants as fault
+use Rattle.iova_tools.specs.declared.fault.Fault.{Fault}
+use Rattle.iova_tools.specs.declared.fault.Fault.TheVariants as fault
 
 -- a line with the domain's number, and the report of the domain
 abbrev pub domain_text : ℕ → State → List ℕ

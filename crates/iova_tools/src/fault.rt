@@ -1,7 +1,7 @@
 //! What keeps a run from its end, the line that it says then, and the status.
 ghost use Rattle.std.specs.Prelude.{◌≡◌, ◌⊎◌, ℕ, codes};
 ghost use Rattle.std.specs.Process.{exit_status};
-ghost use Rattle.iovad.specs.Faults.{IfUnread, IsFaultOfWords, fault_text, fault_status};
+ghost use Rattle.iova_tools.specs.Faults.{IfUnread, IsFaultOfWords, fault_text, fault_status};
 
 use iova_ask::fault::AskFault;
 use iova_check::fault::CheckFault;

@@ -27,7 +27,7 @@ pub enum EitherSink<A, B> {
 }
 
 impl<A: Sink, B: Sink> Sink for EitherSink<A, B> {
-    ghost use Rattle.iovad.specs.Sinks.{either_calls};
+    ghost use Rattle.iova_files.specs.Sinks.{either_calls};
 
     ghost calls = { either_calls A.calls B.calls };
 

@@ -1,8 +1,8 @@
 //! A trace replayed as the words ask for it.
 use crate::answer::answer;
-use crate::cause::tell_cause;
 use crate::fault::Fault;
 use iova_command::words::STANDARD_INPUT;
+use iova_files::cause::tell_cause;
 use iova_trace::log::{Log, LogWriter, NoLog};
 use std::fs::File;
 use std::io;

@@ -1,6 +1,6 @@
 //! What a daemon prints at its end.
 ghost use Rattle.std.specs.Prelude.{◌≡◌, ◌⊎◌, [], IfErr, OnOk};
-ghost use Rattle.iovad.specs.Outcomes.{PrintsDomain, domain_text};
+ghost use Rattle.iova_tools.specs.Outcomes.{PrintsDomain, domain_text};
 
 use crate::fault::Fault;
 use iova_core::domain::Domain;

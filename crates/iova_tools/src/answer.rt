@@ -1,5 +1,5 @@
 //! A replay, its log, and the report after it.
-ghost use Rattle.iovad.specs.Answers.{ReplaysAndReports, Follows, Reports};
+ghost use Rattle.iova_tools.specs.Answers.{ReplaysAndReports, Follows, Reports};
 
 use iova_core::domain::Domain;
 use iova_report::report;

@@ -1,7 +1,7 @@
 //! A daemon asked over its control socket.
-use crate::cause::tell_cause;
 use crate::fault::Fault;
 use iova_command::control_word::ControlWord;
+use iova_files::cause::tell_cause;
 use iova_range::limits::CONTROL_TIMEOUT;
 use log::{Log, error};
 use memchr::{memchr, memchr_iter};

@@ -1,5 +1,5 @@
 use Rattle.std.proofs.Common.{◌≡◌, vec_len}
-use Rattle.iovad.proofs.daemon.sinks_in_turn.Given as goal
+use Rattle.iova_files.proofs.sharing.sinks_in_turn.Given as goal
 
 abbrev pub invariant-loop-at : goal.invariant-loop-at
 invariant-loop-at g l = vec_len l.sinks ≡ l.at

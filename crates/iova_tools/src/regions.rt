@@ -1,6 +1,6 @@
 //! A group's reserved regions, read from the file that the words name.
 ghost use Rattle.std.specs.Prelude.{IfErr};
-ghost use Rattle.iovad.specs.Faults.{IsFaultOfRegions};
+ghost use Rattle.iova_tools.specs.Faults.{IsFaultOfRegions};
 
 use crate::fault::Fault;
 use iova_command::words::STANDARD_INPUT;
@@ -36,7 +36,7 @@ where
 }
 
 /// The same from this reader.
-#[tactic(auto, using(crate::proofs::Reserving::of_read))]
+#[tactic(auto, using(crate::proofs::Reading::of_read))]
 fn read_from<'a, I: Read>(
     alloc: Global,
     reader: &mut I,

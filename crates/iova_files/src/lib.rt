@@ -1,0 +1,11 @@
+//! The files and sockets of a daemon: what it listens on, the sinks that it calls, the file of its
+//! record, and where its notices go. It starts no thread, and knows of no domain.
+#![tactic(auto)]
+
+pub mod cause;
+pub mod descriptors;
+pub mod listening;
+pub mod notices;
+pub mod record_file;
+pub mod sharing;
+pub mod sinks;

@@ -1,0 +1,28 @@
+//! How many seats a plan's domain has.
+ghost use Rattle.std.specs.Prelude.{◌≡◌, ◌≤◌, unwrap_or};
+ghost use Rattle.iova_range.specs.declared.limits.TheConstants.{MAX_CLIENTS};
+ghost use Rattle.iova_planned.specs.Plans.{seat_count};
+
+use iova_command::plan::Plan;
+
+/// How many seats there are at the plan's domain: one for each worker, and where clients don't take
+/// turns one for each client that is served at a time.
+pub fn seat_count(plan: &Plan<'_>) -> u64
+    ensures is { result ≡ seat_count plan.now }
+    ensures enough { plan.now.workers ≤ result }
+    ensures most { result ≤ MAX_CLIENTS }
+{
+    if plan.turns {
+        plan.workers
+    } else {
+        clients_of(plan).max(plan.workers)
+    }
+}
+
+/// How many clients are served at a time.
+pub fn clients_of(plan: &Plan<'_>) -> u64
+    ensures is { result ≡ unwrap_or plan.now.clients plan.now.workers }
+    ensures most { result ≤ MAX_CLIENTS }
+{
+    plan.clients.unwrap_or(plan.workers)
+}

@@ -1,0 +1,44 @@
+//! Lines of standard input, asked of a daemon.
+use crate::fault::Fault;
+use iova_ask::ask_lines;
+use iova_ask::terminal::ask_by_hand;
+use iova_files::cause::tell_cause;
+use iova_session::socket_link::SocketLink;
+use log::Log;
+use std::io;
+use std::net::Net;
+use std::os::unix::net::UnixStream;
+use std::rt::Runtime;
+
+/// Asks the lines of standard input of the socket at this path, and prints the answers: by hand
+/// with prompts, and with what refusals mean.
+pub fn ask_at<R>(rt: &R, path: &str, is_by_hand: bool) -> Result<(), Fault<'static>>
+where
+    R: Runtime + AllocGlobal + Net + Log,
+{
+    match UnixStream::connect(rt, path) {
+        Ok(stream) => ask_over(rt, SocketLink::new(stream), is_by_hand),
+        Err(error) => {
+            tell_cause(rt, "connect", path, &error);
+            Err(Fault::SocketFault)
+        }
+    }
+}
+
+/// The same over this link.
+fn ask_over<R: Runtime + AllocGlobal>(
+    rt: &R,
+    link: SocketLink,
+    is_by_hand: bool,
+) -> Result<(), Fault<'static>> {
+    let mut link = link;
+    let asked = if is_by_hand {
+        ask_by_hand(rt, &mut link)
+    } else {
+        ask_lines(rt.alloc(), &mut rt.reader(), &mut io::writer(rt), &mut link)
+    };
+    match asked {
+        Ok(_sent) => Ok(()),
+        Err(fault) => Err(Fault::of_ask(fault)),
+    }
+}
