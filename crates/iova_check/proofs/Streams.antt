@@ -1,8 +1,7 @@
 -- One piece of a log after another.
-use Rattle.std.proofs.Common.{ℕ, ◌≡◌, inl, inr, true, false, List, [], ◌∷◌, ◌++◌, Option, None, Result, Ok, Err, length, take, drop, refl, sym, ap, ◌∙◌, subst, append_assoc, append-nil, take-append-drop}
-use Rattle.std.specs.Prelude.{OnErr, OnOk}
+use Rattle.std.proofs.Common.{ℕ, ◌≡◌, inl, inr, true, false, List, [], ◌∷◌, ◌++◌, Option, None, Result, Ok, Err, take, drop, refl, sym, ap, ◌∙◌, subst, append_assoc, append-nil, take-append-drop}
+use Rattle.std.specs.Prelude.{OnErr, OnOk, IfErr}
 use Rattle.std.proofs.lemmas.Bool.{cases_Bool}
-use Rattle.std.proofs.lemmas.List.{take_at}
 use Rattle.std.proofs.KnownBytes.{Appends-trans, Appends-nil, Consumes-trans, Consumes-nil, Consumes-kept}
 use Rattle.std.specs.Io.KnownBytes.{Appends, Consumes, Keeps, IsAtEnd}
 use Rattle.iova_check.specs.declared.source.Form.{Form}
@@ -462,7 +461,12 @@ piece_goes source input mid left output filled full p q piece more s consumes ap
 pub err_is : {A : Type 0} (e f : CheckFault) → ◌≡◌ {A = Result A CheckFault} (Err e) (Err f) → e ≡ f
 err_is e f same = cc
 
--- what a vector has after bytes were read into its slice
-pub read_back : (len : ℕ) (new old slice : List ℕ) → length new ≡ length slice → slice ≡ old → len ≡ length old
-    → take len (new ++ drop (length new) old) ≡ new
-read_back len new old slice same is all = take_at new (drop (length new) old) len (same ∙ (ap length is ∙ sym all))
+-- an answer that is returned as it is
+
+pub on_ok : (r : Result Unit CheckFault) {P : Type 0} → ((u : Unit) → r ≡ Ok u → P) → OnOk r P
+on_ok (Ok u) h = h u refl
+on_ok (Err e) h = tt
+
+pub if_err : (r : Result Unit CheckFault) {P : CheckFault → Type 0} → ((e : CheckFault) → r ≡ Err e → P e) → IfErr r P
+if_err (Ok u) h = tt
+if_err (Err e) h = h e refl
