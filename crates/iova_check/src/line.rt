@@ -114,14 +114,18 @@ fn event_of(verb: Verb, arguments: &[u8]) -> Option<Event>
             None => None,
         },
         Verb::Begin => {
-            let (no, scope) = next_number(arguments)?;
+            let Some((no, scope)) = next_number(arguments) else {
+                return None;
+            };
             match scope_of(scope) {
                 Some(range) => Some(Event::Begin { no, range }),
                 None => None,
             }
         }
         Verb::End => {
-            let (no, outcome) = next_number(arguments)?;
+            let Some((no, outcome)) = next_number(arguments) else {
+                return None;
+            };
             match outcome_of(outcome) {
                 Some(ok) => Some(Event::End { no, ok }),
                 None => None,
