@@ -3,6 +3,11 @@ use Rattle.iova_check.specs.declared.fault.CheckFault.TheVariants.{NoMemory}
 use Rattle.iova_check.proofs.Streams.{nothing_told, err_is}
 use Rattle.iova_check.proofs.run.run.Goals as goal
 
+pub returns-in_err-input : goal.returns-in_err-input
+returns-in_err-input g c =
+    let p = err_from_is_err_and c.from_residual.result c.from_residual.ensures.1 in
+    rw (p.1, p.2) (nothing_told c.args.source.now (g.R.Read.remaining c.args.reader.now) (g.W.Write.contents c.args.writer.now))
+
 pub returns-in_err-progress : goal.returns-in_err-progress
 returns-in_err-progress g c =
     let p = err_from_is_err_and c.from_residual-in_err-progress.result c.from_residual-in_err-progress.ensures.1 in

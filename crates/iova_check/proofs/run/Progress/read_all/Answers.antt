@@ -1,7 +1,7 @@
 use Rattle.std.proofs.Common.{[], arith, take}
 use Rattle.std.proofs.lemmas.Result.{err_from_is_err_and}
 use Rattle.std.proofs.KnownBytes.{Appends-nil, Consumes-nil, Keeps-refl}
-use Rattle.iova_check.proofs.Streams.{on_ok, if_err, read_fails, input_ends, input_stops, piece_stops, piece_goes}
+use Rattle.iova_check.proofs.Streams.{read_fails, end_goes, end_stops, piece_stops, piece_goes}
 use Rattle.iova_check.proofs.run.Progress.read_all.Goals as goal
 
 pub loop-init : goal.loop-init
@@ -27,20 +27,18 @@ returns-in_err-len-clause-stopped g c =
 pub returns-in-0-clause-ended : goal.returns-in-0-clause-ended
 returns-in-0-clause-ended g c =
     let read = c.in_ok-len.ensures in
-    on_ok c.end_line.result (λ u is answer closes.
-    input_ends c.args.source.now (g.R.Read.remaining c.args.reader.now) (g.R.Read.remaining c.loop.reader) (g.R.Read.remaining c.read_some.new.reader)
+    end_goes c.args.source.now (g.R.Read.remaining c.args.reader.now) (g.R.Read.remaining c.loop.reader) (g.R.Read.remaining c.read_some.new.reader)
     (g.W.Write.contents c.args.writer.now) (g.W.Write.contents c.loop.writer) (g.W.Write.contents c.end_line.new.writer)
-    c.loop.self c.end_line.new.self c.in_ok-len.len c.read_some.new.buffer c.end_line.result u answer
-    c.loop.invariant.so_far read.ok c.in-0.is (read.end c.in-0.is) is c.end_line.ensures.other c.end_line.ensures.last closes)
+    c.loop.self c.end_line.new.self c.in_ok-len.len c.read_some.new.buffer c.end_line.result
+    c.loop.invariant.so_far read.ok c.in-0.is (read.end c.in-0.is) c.end_line.ensures.other c.end_line.ensures.last
 
 pub returns-in-0-clause-stopped : goal.returns-in-0-clause-stopped
 returns-in-0-clause-stopped g c =
     let read = c.in_ok-len.ensures in
-    if_err c.end_line.result (λ e is.
-    input_stops c.args.source.now (g.R.Read.remaining c.args.reader.now) (g.R.Read.remaining c.loop.reader) (g.R.Read.remaining c.read_some.new.reader)
+    end_stops c.args.source.now (g.R.Read.remaining c.args.reader.now) (g.R.Read.remaining c.loop.reader) (g.R.Read.remaining c.read_some.new.reader)
     (g.W.Write.contents c.args.writer.now) (g.W.Write.contents c.loop.writer) (g.W.Write.contents c.end_line.new.writer)
-    c.loop.self c.end_line.new.self c.in_ok-len.len c.read_some.new.buffer c.end_line.result e
-    c.loop.invariant.so_far read.ok c.in-0.is (read.end c.in-0.is) is c.end_line.ensures.other c.end_line.ensures.last)
+    c.loop.self c.end_line.new.self c.in_ok-len.len c.read_some.new.buffer c.end_line.result
+    c.loop.invariant.so_far read.ok c.in-0.is (read.end c.in-0.is) c.end_line.ensures.other c.end_line.ensures.last
 
 pub returns-in_err-check_piece-in_default-clause-stopped : goal.returns-in_err-check_piece-in_default-clause-stopped
 returns-in_err-check_piece-in_default-clause-stopped g c =
