@@ -12,3 +12,4 @@ mod Streams
 mod LineSteps
 mod NextLines
 mod CountedFrames
+mod Appends

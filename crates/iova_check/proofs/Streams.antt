@@ -1,8 +1,7 @@
 -- One piece of a log after another.
-use Rattle.std.proofs.Common.{ℕ, ◌≡◌, inl, inr, true, false, List, [], ◌∷◌, ◌++◌, Option, None, Result, Ok, Err, length, take, drop, refl, sym, ap, ◌∙◌, subst, append_assoc, append-nil, take-append-drop}
-use Rattle.std.specs.Prelude.{OnErr, OnOk}
+use Rattle.std.proofs.Common.{ℕ, ◌≡◌, inl, inr, true, false, List, [], ◌∷◌, ◌++◌, Option, None, Result, Ok, Err, take, drop, refl, sym, ap, ◌∙◌, subst, append_assoc, append-nil, take-append-drop}
+use Rattle.std.specs.Prelude.{OnErr, OnOk, IfErr}
 use Rattle.std.proofs.lemmas.Bool.{cases_Bool}
-use Rattle.std.proofs.lemmas.List.{take_at}
 use Rattle.std.proofs.KnownBytes.{Appends-trans, Appends-nil, Consumes-trans, Consumes-nil, Consumes-kept}
 use Rattle.std.specs.Io.KnownBytes.{Appends, Consumes, Keeps, IsAtEnd}
 use Rattle.iova_check.specs.declared.source.Form.{Form}
@@ -391,7 +390,7 @@ IsLastRead source filled full p q ended =
     (more : List ℕ) × Appends filled full more × Outcome source p (10 ∷ []) more q ended × OnOk ended (q.findings.items ≡ [])
 
 -- the input ends, whatever of a line has come
-pub input_ends : (source : Source) (input mid left output filled full : Option (List ℕ)) (p q : Progress) (n : ℕ) (buffer : List ℕ)
+input_ends : (source : Source) (input mid left output filled full : Option (List ℕ)) (p q : Progress) (n : ℕ) (buffer : List ℕ)
     (ended : Result Unit CheckFault) (u : Unit) (r : Result Checker CheckFault)
     → SoFar source input mid output filled p → Consumes mid left (take n buffer) → n ≡ 0 → IsAtEnd left → ended ≡ Ok u
     → (is_last source.form p.line.items ≡ false → (ended ≡ Ok tt) × (q ≡ p) × (full ≡ filled))
@@ -415,7 +414,7 @@ input_ends source input mid left output filled full p q n buffer ended u r s con
           subst F (sym same.2) (read_ends source input mid left output filled p n buffer r s consumes no_bytes end (λ taken written st. here taken written st s.none not))
     ]
 
-pub input_stops : (source : Source) (input mid left output filled full : Option (List ℕ)) (p q : Progress) (n : ℕ) (buffer : List ℕ)
+input_stops : (source : Source) (input mid left output filled full : Option (List ℕ)) (p q : Progress) (n : ℕ) (buffer : List ℕ)
     (ended : Result Unit CheckFault) (e : CheckFault)
     → SoFar source input mid output filled p → Consumes mid left (take n buffer) → n ≡ 0 → IsAtEnd left → ended ≡ Err e
     → (is_last source.form p.line.items ≡ false → (ended ≡ Ok tt) × (q ≡ p) × (full ≡ filled))
@@ -432,6 +431,28 @@ input_stops source input mid left output filled full p q n buffer ended e s cons
   where
     fails : (x : Result Unit CheckFault) (f : CheckFault) → x ≡ Err f → x ≡ Ok tt → Checks source input left output full (Err e)
     fails x f a b = let no : ◌≡◌ {A = Result Unit CheckFault} (Err f) (Ok tt) = sym a ∙ b in absurd cc
+
+-- the input ends, and what the end of a line comes to is returned: it is the answer, or the end of what was taken has one
+
+pub end_goes : (source : Source) (input mid left output filled full : Option (List ℕ)) (p q : Progress) (n : ℕ) (buffer : List ℕ) (ended : Result Unit CheckFault)
+    → SoFar source input mid output filled p → Consumes mid left (take n buffer) → n ≡ 0 → IsAtEnd left
+    → (is_last source.form p.line.items ≡ false → (ended ≡ Ok tt) × (q ≡ p) × (full ≡ filled))
+    → (is_last source.form p.line.items ≡ true → IsLastRead source filled full p q ended)
+    → OnOk ended ((r : Result Checker CheckFault)
+    → ((taken written : List ℕ) → Stands source taken written q → q.findings.items ≡ [] → is_last source.form q.line.items ≡ false → Closes source taken written r)
+    → Checks source input left output full r)
+end_goes source input mid left output filled full p q n buffer (Ok u) s consumes no_bytes end other last =
+    λ r closes. input_ends source input mid left output filled full p q n buffer (Ok u) u r s consumes no_bytes end refl other last closes
+end_goes source input mid left output filled full p q n buffer (Err e) s consumes no_bytes end other last = tt
+
+pub end_stops : (source : Source) (input mid left output filled full : Option (List ℕ)) (p q : Progress) (n : ℕ) (buffer : List ℕ) (ended : Result Unit CheckFault)
+    → SoFar source input mid output filled p → Consumes mid left (take n buffer) → n ≡ 0 → IsAtEnd left
+    → (is_last source.form p.line.items ≡ false → (ended ≡ Ok tt) × (q ≡ p) × (full ≡ filled))
+    → (is_last source.form p.line.items ≡ true → IsLastRead source filled full p q ended)
+    → IfErr ended (λ e. Checks source input left output full (Err e))
+end_stops source input mid left output filled full p q n buffer (Ok u) s consumes no_bytes end other last = tt
+end_stops source input mid left output filled full p q n buffer (Err e) s consumes no_bytes end other last =
+    input_stops source input mid left output filled full p q n buffer (Err e) e s consumes no_bytes end refl other last
 
 pub piece_stops : (source : Source) → (input mid left output filled full : Option (List ℕ)) (p : Progress) (piece more : List ℕ) (e : CheckFault)
     → SoFar source input mid output filled p → Consumes mid left piece → Appends filled full more → Stops source p piece more e
@@ -461,8 +482,3 @@ piece_goes source input mid left output filled full p q piece more s consumes ap
 -- two faults that are returned alike
 pub err_is : {A : Type 0} (e f : CheckFault) → ◌≡◌ {A = Result A CheckFault} (Err e) (Err f) → e ≡ f
 err_is e f same = cc
-
--- what a vector has after bytes were read into its slice
-pub read_back : (len : ℕ) (new old slice : List ℕ) → length new ≡ length slice → slice ≡ old → len ≡ length old
-    → take len (new ++ drop (length new) old) ≡ new
-read_back len new old slice same is all = take_at new (drop (length new) old) len (same ∙ (ap length is ∙ sym all))

@@ -1,12 +1,12 @@
 //! What is counted of a log.
-ghost use Rattle.std.specs.Prelude.{◌≡◌, ◌+◌, IfOk, OnErr};
+ghost use Rattle.std.specs.Prelude.{◌≡◌, ◌+◌, ℕ, IfOk, IfSome, OnErr};
 ghost use Rattle.iova_check.specs.Counting.{IsCounted, counts_after};
 
 use crate::event::Event;
 use iova_range::refusal::Refusal;
 
 /// How many lines of each kind there were, and how many findings.
-#[derive(Clone, Copy, Debug, PartialEq, Eq)]
+#[derive(Clone, Copy)]
 pub struct Counts {
     /// The lines `map`.
     pub maps: u64,
@@ -45,28 +45,45 @@ impl Counts {
         ensures counted { IfOk result (λ counts. counts ≡ counts_after self event.now findings) }
         ensures refused { OnErr result (result ≡ Err Refusal.NoMemory) }
     {
-        let mut counts = self;
-        counts.findings = sum(counts.findings, findings)?;
-        match event {
-            Event::Map(_) => counts.maps = sum(counts.maps, 1)?,
-            Event::Unmap(_) => counts.unmaps = sum(counts.unmaps, 1)?,
-            Event::Use(_) => counts.uses = sum(counts.uses, 1)?,
-            Event::Begin { no: _, range: _ } | Event::Flush(_) => {
-                counts.flushes = sum(counts.flushes, 1)?;
-            }
-            Event::End { no: _, ok: _ } => {}
-            Event::Other => counts.others = sum(counts.others, 1)?,
+        let Some(counts) = self.with_event(event) else {
+            return Err(Refusal::NoMemory);
+        };
+        match counts.findings.checked_add(findings) {
+            Some(findings) => Ok(Counts { findings, ..counts }),
+            None => Err(Refusal::NoMemory),
         }
-        Ok(counts)
     }
-}
 
-fn sum(a: u64, b: u64) -> Result<u64, Refusal>
-    ensures sum { IfOk result (λ n. n ≡ a + b) }
-    ensures refused { OnErr result (result ≡ Err Refusal.NoMemory) }
-{
-    match a.checked_add(b) {
-        Some(n) => Ok(n),
-        None => Err(Refusal::NoMemory),
+    /// With a line more, whose findings are not counted. None where its count has no number.
+    fn with_event(self, event: &Event) -> Option<Counts>
+        ensures { IfSome result (λ counts. (found : ℕ)
+            → record counts { findings = counts.findings + found }
+            ≡ counts_after self event.now found) }
+    {
+        match event {
+            Event::Map(_) => match self.maps.checked_add(1) {
+                Some(maps) => Some(Counts { maps, ..self }),
+                None => None,
+            },
+            Event::Unmap(_) => match self.unmaps.checked_add(1) {
+                Some(unmaps) => Some(Counts { unmaps, ..self }),
+                None => None,
+            },
+            Event::Use(_) => match self.uses.checked_add(1) {
+                Some(uses) => Some(Counts { uses, ..self }),
+                None => None,
+            },
+            Event::Begin { no: _, range: _ } | Event::Flush(_) => {
+                match self.flushes.checked_add(1) {
+                    Some(flushes) => Some(Counts { flushes, ..self }),
+                    None => None,
+                }
+            }
+            Event::End { no: _, ok: _ } => Some(self),
+            Event::Other => match self.others.checked_add(1) {
+                Some(others) => Some(Counts { others, ..self }),
+                None => None,
+            },
+        }
     }
 }

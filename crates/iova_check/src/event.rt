@@ -2,7 +2,7 @@
 use iova_range::range::Range;
 
 /// What a line says. Its ranges end below frame 2^64 - 1; the number of a flush is any number.
-#[derive(Clone, Copy, Debug, PartialEq, Eq)]
+#[derive(Clone, Copy)]
 pub enum Event {
     /// The frames were mapped for a device.
     Map(Range),

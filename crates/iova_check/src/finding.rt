@@ -6,7 +6,7 @@ ghost use Rattle.iova_check.specs.Findings.{since_of};
 use crate::stage::Stage;
 
 /// What is wrong with frames of a line.
-#[derive(Clone, Copy, Debug, PartialEq, Eq)]
+#[derive(Clone, Copy)]
 pub enum Kind {
     /// They are out of the bounds.
     Outside,
@@ -25,7 +25,7 @@ pub enum Kind {
 }
 
 /// Frames in a row of which one thing is wrong.
-#[derive(Clone, Copy, Debug, PartialEq, Eq)]
+#[derive(Clone, Copy)]
 pub struct Run {
     /// The first frame.
     pub lo: u64,
@@ -36,7 +36,7 @@ pub struct Run {
 }
 
 /// What is wrong at a line.
-#[derive(Clone, Copy, Debug, PartialEq, Eq)]
+#[derive(Clone, Copy)]
 pub enum Finding {
     /// Something with its frames.
     Frames { kind: Kind, run: Run },

@@ -13,7 +13,7 @@ use iova_range::range::Range;
 use iova_text::words::{first_word, next_number, three_numbers, two_numbers};
 
 /// The first word of a line that is not the header.
-#[derive(Clone, Copy, Debug, PartialEq, Eq)]
+#[derive(Clone, Copy)]
 pub enum Verb {
     /// `map <lo> <len>`.
     Map,
@@ -28,7 +28,7 @@ pub enum Verb {
 }
 
 /// What the first line of a log says: the first and the last frame that may be mapped.
-#[derive(Clone, Copy, Debug, PartialEq, Eq)]
+#[derive(Clone, Copy)]
 pub struct Header {
     /// The first frame, at least 1.
     pub first: u64,
@@ -64,7 +64,9 @@ pub fn read_header(line: &[u8]) -> Option<Header>
     if word != b"iovalog".as_slice() {
         return None;
     }
-    let (version, first, last) = three_numbers(numbers)?;
+    let Some((version, first, last)) = three_numbers(numbers) else {
+        return None;
+    };
     if version != 1 || first == 0 || first > last || last > WIDE_TOP {
         return None;
     }
@@ -99,27 +101,35 @@ fn event_of(verb: Verb, arguments: &[u8]) -> Option<Event>
         → result ≡ Some e }
 {
     match verb {
-        Verb::Map => {
-            let range = range_of(arguments)?;
-            Some(Event::Map(range))
-        }
-        Verb::Unmap => {
-            let range = range_of(arguments)?;
-            Some(Event::Unmap(range))
-        }
-        Verb::Use => {
-            let range = range_of(arguments)?;
-            Some(Event::Use(range))
-        }
+        Verb::Map => match range_of(arguments) {
+            Some(range) => Some(Event::Map(range)),
+            None => None,
+        },
+        Verb::Unmap => match range_of(arguments) {
+            Some(range) => Some(Event::Unmap(range)),
+            None => None,
+        },
+        Verb::Use => match range_of(arguments) {
+            Some(range) => Some(Event::Use(range)),
+            None => None,
+        },
         Verb::Begin => {
-            let (no, scope) = next_number(arguments)?;
-            let range = scope_of(scope)?;
-            Some(Event::Begin { no, range })
+            let Some((no, scope)) = next_number(arguments) else {
+                return None;
+            };
+            match scope_of(scope) {
+                Some(range) => Some(Event::Begin { no, range }),
+                None => None,
+            }
         }
         Verb::End => {
-            let (no, outcome) = next_number(arguments)?;
-            let ok = outcome_of(outcome)?;
-            Some(Event::End { no, ok })
+            let Some((no, outcome)) = next_number(arguments) else {
+                return None;
+            };
+            match outcome_of(outcome) {
+                Some(ok) => Some(Event::End { no, ok }),
+                None => None,
+            }
         }
     }
 }
@@ -146,8 +156,10 @@ fn scope_of(text: &[u8]) -> Option<Option<Range>>
     if text.is_empty() {
         return Some(None);
     }
-    let range = range_of(text)?;
-    Some(Some(range))
+    match range_of(text) {
+        Some(range) => Some(Some(range)),
+        None => None,
+    }
 }
 
 fn outcome_of(text: &[u8]) -> Option<bool>

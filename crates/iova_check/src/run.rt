@@ -97,16 +97,10 @@ fn run<R: Read, W: Write, N: Write>(
 {
     let mut input: Vec<u8> = vec![in alloc; 0u8; BUFFER]?;
     let mut progress = Progress::new(alloc, source)?;
-    for _ in 0..u64::MAX {
-        match read_some(reader, &mut input)? {
-            0 => {
-                progress.end_line(source, writer, notices)?;
-                return progress.finish();
-            }
-            len => progress.check_piece(&input[..len], source, writer, notices)?,
-        }
+    match progress.read_all(&mut input, source, reader, writer, notices) {
+        Ok(()) => progress.finish(),
+        Err(fault) => Err(fault),
     }
-    Err(CheckFault::ReadFault)
 }
 
 /// Checks a log, and writes its counts after the findings. It gives whether there is a finding.
@@ -146,7 +140,6 @@ pub fn write_counts<W: Write>(
 }
 
 /// How far a check has come.
-#[derive(Drop)]
 struct Progress {
     alloc: Global,
     /// What is known of the lines: nothing before the header of a log.
@@ -157,8 +150,22 @@ struct Progress {
     findings: Vec<u8>,
 }
 
+/// What it has is let go, which is proved here once for every exit.
+impl Drop for Progress {
+    fn drop(self) {
+        let Progress {
+            alloc: _,
+            checker: _,
+            line: _,
+            findings: _,
+        } = self;
+    }
+}
+
 impl Progress {
-    ghost use Rattle.std.specs.Prelude.{List, false, true, ◌++◌};
+    ghost use Rattle.std.specs.Prelude.{List, Result, false, true, ◌++◌};
+    ghost use Rattle.iova_check.specs.declared.fault.CheckFault.{CheckFault};
+    ghost use Rattle.iova_check.specs.declared.checker.Checker.{Checker};
     ghost use Rattle.iova_text.specs.Lines.{HasNoLf, whole_line};
     ghost use Rattle.iova_check.specs.Progress.{Stands, number_at, IsKeptOf, IsFront, Goes, TakesBytes, Outcome, Closes, is_last};
 
@@ -186,6 +193,38 @@ impl Progress {
             Some(checker) => checker.tracker.line,
             None => 1,
         }
+    }
+
+    /// Takes a text to its end, and writes the findings of its lines. What the check comes to then
+    /// is what `finish` says.
+    fn read_all<R: Read, W: Write, N: Write>(
+        &mut self,
+        buffer: &mut [u8],
+        source: &Source<'_>,
+        reader: &mut R,
+        writer: &mut W,
+        notices: &mut N,
+    ) -> Result<(), CheckFault>
+        requires room { 0 < length buffer.old }
+        requires begun { Stands source.now [] [] self.old }
+        requires none { self.old.findings.items ≡ [] }
+        ensures ended { OnOk result ((answer : Result Checker CheckFault)
+            → ((taken written : List ℕ) → Stands source.now taken written self.new
+            → self.new.findings.items ≡ []
+            → is_last source.now.form self.new.line.items ≡ false
+            → Closes source.now taken written answer)
+            → Checks source.now (R.remaining reader.old) (R.remaining reader.new)
+            (W.contents writer.old) (W.contents writer.new) answer) }
+        ensures stopped { IfErr result (λ e. Checks source.now (R.remaining reader.old)
+            (R.remaining reader.new) (W.contents writer.old) (W.contents writer.new) (Err e)) }
+    {
+        for _ in 0..u64::MAX {
+            match read_some(reader, buffer)? {
+                0 => return self.end_line(source, writer, notices),
+                len => self.check_piece(&buffer[..len], source, writer, notices)?,
+            }
+        }
+        Err(CheckFault::ReadFault)
     }
 
     /// Takes the next bytes, and writes the findings of the lines that they end.

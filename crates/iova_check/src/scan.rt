@@ -57,7 +57,9 @@ pub fn find_cut(stages: &Stages, lo: u64, to: u64) -> Option<Run>
     if !joined(stages, to) {
         return None;
     }
-    let since = Kind::Overlap.told(stages.stage(to - 1))?;
+    let Some(since) = Kind::Overlap.told(stages.stage(to - 1)) else {
+        return None;
+    };
     let start = last_start(stages, since, lo, to);
     Some(Run {
         lo: start,

@@ -5,7 +5,7 @@ ghost use Rattle.iova_check.specs.History.{with_change};
 use iova_range::range::Range;
 
 /// Where a frame stands after some lines of a log. Lines are told by their number, counted from 1.
-#[derive(Clone, Copy, Debug, PartialEq, Eq)]
+#[derive(Clone, Copy, PartialEq, Eq)]
 pub enum Stage {
     /// No device can reach it.
     Free,
@@ -17,7 +17,7 @@ pub enum Stage {
 }
 
 /// A flush that has begun and has not ended.
-#[derive(Clone, Copy, Debug, PartialEq, Eq)]
+#[derive(Clone, Copy)]
 pub struct Flight {
     /// The line at which it began.
     pub line: u64,
@@ -26,7 +26,7 @@ pub struct Flight {
 }
 
 /// What a line does to its frames.
-#[derive(Clone, Copy, Debug, PartialEq, Eq)]
+#[derive(Clone, Copy)]
 pub enum Change {
     /// This line maps them.
     Mapped(u64),

@@ -177,12 +177,21 @@ impl Stages {
             → get nat_cmp self.new.marks q ≡ get nat_cmp self.old.marks q) }
     {
         if let Stage::Stale(_) = stage {
-            self.stale.insert(at)?;
-            self.marks.insert(at, stage)?;
-            return Ok(());
+            return self.mark_stale(at, stage);
         }
         self.marks.insert(at, stage)?;
         let _was_stale = self.stale.remove(&at);
+        Ok(())
+    }
+
+    /// The same of a stage that tells stale, so that the index has it first.
+    fn mark_stale(&mut self, at: u64, stage: Stage) -> Result<(), AllocError>
+        ensures marked { OnOk result (get nat_cmp self.new.marks at ≡ Some stage) }
+        ensures others { OnOk result ((q : ℕ) → q ≢ at
+            → get nat_cmp self.new.marks q ≡ get nat_cmp self.old.marks q) }
+    {
+        self.stale.insert(at)?;
+        self.marks.insert(at, stage)?;
         Ok(())
     }
 

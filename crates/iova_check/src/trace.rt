@@ -149,9 +149,10 @@ fn frames_of(words: &Seven<'_>) -> Option<Range>
         (hex_after (codes "0x") words.now.c.now) }
     ensures reach { IfSome result (λ r. IsRange r) }
 {
-    let start = hex_after(b"iova=0x", words.a)?;
-    let behind = hex_after(b"0x", words.c)?;
-    frames_between(start, behind)
+    match (hex_after(b"iova=0x", words.a), hex_after(b"0x", words.c)) {
+        (Some(start), Some(behind)) => frames_between(start, behind),
+        _ => None,
+    }
 }
 
 fn frames_between(start: u64, behind: u64) -> Option<Range>
@@ -304,9 +305,15 @@ fn seven_words(line: &[u8]) -> Option<Seven<'_>>
         ∷ w.b.now ∷ w.c.now ∷ w.d.now ∷ w.e.now ∷ [])) }
     ensures none { IfNone result (length (spaced_words line.now) < 7) }
 {
-    let (line, b, c, d, e) = four_words(line)?;
-    let (line, about, a) = two_words(line)?;
-    let (_, name) = last_word(line)?;
+    let Some((line, b, c, d, e)) = four_words(line) else {
+        return None;
+    };
+    let Some((line, about, a)) = two_words(line) else {
+        return None;
+    };
+    let Some((_, name)) = last_word(line) else {
+        return None;
+    };
     Some(Seven {
         name,
         about,
@@ -323,8 +330,12 @@ fn four_words(line: &[u8]) -> Option<(&[u8], &[u8], &[u8], &[u8], &[u8])>
         ++ p.1.now ∷ p.2.now ∷ p.3.now ∷ p.4.now ∷ []) }
     ensures none { IfNone result (length (spaced_words line.now) < 4) }
 {
-    let (line, c, d) = two_words(line)?;
-    let (line, a, b) = two_words(line)?;
+    let Some((line, c, d)) = two_words(line) else {
+        return None;
+    };
+    let Some((line, a, b)) = two_words(line) else {
+        return None;
+    };
     Some((line, a, b, c, d))
 }
 
@@ -333,8 +344,12 @@ fn two_words(line: &[u8]) -> Option<(&[u8], &[u8], &[u8])>
         (λ p. spaced_words line.now ≡ spaced_words p.0.now ++ p.1.now ∷ p.2.now ∷ []) }
     ensures none { IfNone result (length (spaced_words line.now) < 2) }
 {
-    let (line, b) = last_word(line)?;
-    let (line, a) = last_word(line)?;
+    let Some((line, b)) = last_word(line) else {
+        return None;
+    };
+    let Some((line, a)) = last_word(line) else {
+        return None;
+    };
     Some((line, a, b))
 }
 
