@@ -4,17 +4,22 @@ ghost use Rattle.iova_check.specs.declared.fault.CheckFault.TheVariants.{NoMemor
 
 use iova_text::{read, write};
 use std::alloc::AllocError;
+use thiserror::Error;
 
 /// Why the bytes of a log are not checked to their end.
-#[derive(Clone, Copy)]
+#[derive(Clone, Copy, Debug, Error)]
 pub enum CheckFault {
     /// The line with this number, counted from 1, is no line of a log.
+    #[error("log refused at line {0}")]
     BadLog(u64),
     /// A growth was refused memory.
+    #[error("no memory")]
     NoMemory,
     /// A read failed, or there were too many.
+    #[error("the input cannot be read")]
     ReadFault,
     /// A write failed, or took nothing.
+    #[error("the output cannot be written")]
     WriteFault,
 }
 
