@@ -22,7 +22,7 @@ const SPACES: [u8; NUMBER] = [b' '; NUMBER];
 
 /// Eight lines of a name and a number: the lines of each kind, the frames that are mapped and stale
 /// at the end, the findings, and the lines of the log, its header among them. Names are left in 10
-/// places, numbers right in 20. Our own form.
+/// places, numbers right in 20.
 pub fn summary(checker: &Checker) -> ArrayVec<u8, ROOM>
     ensures { result.items ≡ summary_text checker.now }
 {

@@ -16,7 +16,7 @@ use iova_range::refusal::Refusal;
 use std::alloc::Global;
 use std::marker::Model;
 
-/// The clients of a domain, each with its holdings, and the totals over them. It is all our own.
+/// The clients of a domain, each with its holdings, and the totals over them.
 ///
 /// Contracts see a `Registry`: the clients by rising serial, the last serial given, and how many
 /// more holdings each client can be given without memory (its spare). Holdings are ranges of page

@@ -89,7 +89,7 @@ pub fn read_header(line: &[u8]) -> Option<Header>
 }
 
 /// Appends the step's line with its LF: each step is one that a line may say. Refused by
-/// `NoMemory`, which appends nothing and comes only where `out` has to grow. Our own form.
+/// `NoMemory`, which appends nothing and comes only where `out` has to grow.
 pub fn write_step(step: &Step, out: &mut Vec<u8>) -> Result<(), Refusal>
     ensures ok { OnOk result (out.new.items ≡ out.old.items ++ (step_text step.now ++ 10 ∷ [])) }
     ensures step { IsStep step.now }
@@ -105,7 +105,7 @@ pub fn write_step(step: &Step, out: &mut Vec<u8>) -> Result<(), Refusal>
 }
 
 /// Appends the header's line with its LF. Refused by `NoMemory`, which appends nothing and comes
-/// only where `out` has to grow. Our own form.
+/// only where `out` has to grow.
 pub fn write_header(bounds: &Bounds, workers: u64, out: &mut Vec<u8>) -> Result<(), Refusal>
     ensures ok { OnOk result (out.new.items ≡ out.old.items
         ++ (header_text bounds.now workers ++ 10 ∷ [])) }

@@ -29,7 +29,7 @@ const SPACES: [u8; NUMBER] = [b' '; NUMBER];
 /// place, the clients, their holdings, and the start count, the finish count, what is owed and the
 /// flights of the flushes), then a line for each window, rising, with its first and its last frame.
 /// Names are left in 10 places, numbers right in 20. Refused by `NoMemory`, which appends nothing
-/// and comes only where `out` has to grow. Our own form.
+/// and comes only where `out` has to grow.
 #[tactic(auto, unfolding(crate::specs::Report::report_text))]
 pub fn report(domain: &Domain, out: &mut Vec<u8>) -> Result<(), Refusal>
     ensures ok { OnOk result (out.new.items ≡ out.old.items ++ report_text domain.now) }

@@ -12,7 +12,7 @@ use std::alloc::Global;
 use std::io::Write;
 
 /// Prints a line with the domain's number, and the domain's report. Refused by `NoMemory`, with
-/// nothing written, and by `CannotWrite`. Our own form.
+/// nothing written, and by `CannotWrite`.
 pub fn print_domain<W: Write>(
     alloc: Global,
     number: u64,

@@ -11,7 +11,7 @@ use iova_text::buffer::{LineBuffer, append, put, put_numbers, put_refusal, put_t
 pub const MAX_REPLY: usize = 64;
 
 /// Appends the reply's line with its LF, at most 64 bytes, for which there is room. It takes no
-/// memory. Our own form.
+/// memory.
 pub fn put_reply(reply: &Reply, out: &mut LineBuffer)
     requires { length out.old.items + MAX_REPLY ≤ MAX_LINE }
     ensures items { out.new.items ≡ out.old.items ++ reply_text reply.now }
@@ -33,7 +33,7 @@ pub fn put_reply(reply: &Reply, out: &mut LineBuffer)
 }
 
 /// Appends the reply's line with its LF. Refused by `NoMemory`, which appends nothing and comes
-/// only where `out` has to grow. Our own form.
+/// only where `out` has to grow.
 pub fn write_reply(reply: &Reply, out: &mut Vec<u8>) -> Result<(), Refusal>
     ensures ok { OnOk result (out.new.items ≡ out.old.items ++ reply_text reply.now) }
     ensures err { OnErr result ((result ≡ Err Refusal.NoMemory) × (out.new.items ≡ out.old.items)) }
