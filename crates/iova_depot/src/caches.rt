@@ -186,9 +186,9 @@ impl Caches {
     }
 
     /// Puts as `put` does, where one of worker `w`'s two magazines of this order has room. False
-    /// exactly where both are full, and nothing changes: `put` then stores one of them. An answer of
-    /// `put` is as large as a magazine, and a caller's place for it is cleared at each call, which
-    /// costs more than all else that a put does.
+    /// exactly where both are full, and nothing changes: `put` then stores one of them. An answer
+    /// of `put` is as large as a magazine, and a caller's place for it is cleared at each call,
+    /// which costs more than all else that a put does.
     #[inline]
     pub fn try_put(&mut self, w: usize, order: u8, lo: u64) -> bool
         requires worker { w < self.old.workers }
