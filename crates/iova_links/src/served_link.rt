@@ -8,10 +8,13 @@ use iova_session::link::{Link, LinkFault};
 use iova_sink::count::Count;
 use iova_sink::device::bytes_taken;
 use iova_sink::soon::{Looks, read_from, receive};
+use libc::EAGAIN;
+use libc::net::{MSG_DONTWAIT, recv};
 use memchr::memchr_iter;
 use std::io;
 use std::io::{ErrorKind, Write};
 use std::marker::Model;
+use std::os::fd::AsRawFd;
 use std::os::unix::net::UnixStream;
 use std::sync::Wait;
 use std::time::Duration;
@@ -117,7 +120,7 @@ impl<'a, R: Wait> Link for ServedLink<'a, R> {
 
     fn read(&mut self, buf: &mut [u8]) -> Result<usize, LinkFault> {
         self.reads.up();
-        let read = match read_at_hand(self.signals, &self.stream, &mut self.looks, buf) {
+        let read = match read_at_hand(self.signals, &self.stream, buf) {
             AtHand::Read(n) => {
                 note_lines(self.signals, self.patience, n, buf);
                 self.left = self.patience.turns;
@@ -190,21 +193,36 @@ enum AtHand {
 /// Reads what is at hand; where it isn't the only link, what comes in a turn. The quick way of a
 /// read: no more is made on it than the numbers of bytes and of an error.
 #[inline(always)]
-fn read_at_hand(signals: &Signals, stream: &UnixStream, looks: &mut Looks, buf: &mut [u8]) -> AtHand
+fn read_at_hand(signals: &Signals, stream: &UnixStream, buf: &mut [u8]) -> AtHand
     ensures { (n : ℕ) → result ≡ AtHand.Read n → n ≤ length buf.old }
 {
     if signals.is_stopping() {
         return AtHand::Nothing;
     }
     if signals.is_alone() {
-        return match looks.look(stream, buf) {
-            Some(n) => AtHand::Read(n),
-            None => AtHand::Nothing,
+        return match receive_now(stream, buf) {
+            Ok(n) => AtHand::Read(n),
+            Err(error) if error == EAGAIN => AtHand::Nothing,
+            Err(error) => AtHand::Failed(error),
         };
     }
     match receive(stream, buf) {
         Ok(n) => AtHand::Read(n),
         Err(error) => AtHand::Failed(error),
+    }
+}
+
+/// Reads what stands in the connection, and doesn't wait. Where that fails, the number of the
+/// system's error: `EAGAIN` where nothing stands there.
+#[inline(always)]
+fn receive_now(stream: &UnixStream, buffer: &mut [u8]) -> Result<usize, i32>
+    ensures { IfOk result (λ n. n ≤ length buffer.new) }
+{
+    let read = unsafe { recv(stream.as_raw_fd(), buffer, MSG_DONTWAIT) };
+    if read < 0 {
+        Err(os::errno())
+    } else {
+        Ok(read as usize)
     }
 }
 
