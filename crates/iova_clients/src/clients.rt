@@ -1,7 +1,8 @@
 //! The clients of a domain.
 ghost use Rattle.std.specs.Prelude.{◌≡◌, ◌≢◌, ◌+◌, ◌-◌, ◌^◌, ◌<◌, ◌≤◌, ℕ, [], ◌∷◌, ◌++◌, find, length, option_map, option_copied, option_and_then, IfOk, OnOk, OnErr, Ok, Err, IsOkUnless, IfSome, IfNone, IsSomeAnd, All, IsTrue, ◌↔◌, false};
 ghost use Rattle.iova_model.specs.Fit.{is_covered};
-ghost use Rattle.iova_model.specs.Clients.{new_client, client_with, client_of, begins_at, change_client, without_client, with_holding, without_holding, with_mark, newer_client, totals, share_of};
+ghost use Rattle.iova_model.specs.Effects.{unmapped_of};
+ghost use Rattle.iova_model.specs.Clients.{new_client, client_with, client_of, change_client, without_client, with_holding, without_holding, with_mark, newer_client, totals, share_of};
 ghost use Rattle.iova_clients.specs.Registry.{empty_registry, spare_of, IsRegistry, open_refusal, room_refusal, CanBeGiven, held_at, lowest, count_held, flags_of, CanBeForgotten, IsHolder};
 
 use crate::flags::ClientFlags;
@@ -185,12 +186,20 @@ impl Clients {
         self.ledgers.get(id)?.holdings().first().copied()
     }
 
-    /// The client's holding that begins at `lo`, where it has one: a look-up and a binary search.
-    pub fn holding(&self, id: ClientId, lo: u64) -> Option<Range>
-        ensures { result ≡ option_and_then (λ c. find (begins_at lo) c.holdings)
-            (client_with id self.now.clients) }
+    /// The holding that begins at `lo`, of a client of this worker that isn't closing: a look-up
+    /// and a binary search.
+    pub fn to_unmap(&self, worker: u64, id: ClientId, lo: u64) -> Option<Range>
+        ensures { result ≡ option_and_then (unmapped_of lo)
+            (client_of worker id self.now.clients) }
     {
-        self.ledgers.get(id)?.holding(lo)
+        let ledger = self.ledgers.get(id)?;
+        if worker != ledger.worker() {
+            return None;
+        }
+        if ledger.is_closing() {
+            return None;
+        }
+        ledger.holding(lo)
     }
 
     /// The first client, by serial, that has a holding with the frame. This looks through all

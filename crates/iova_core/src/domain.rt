@@ -640,13 +640,10 @@ impl Domain {
     fn to_unmap(&self, worker: u64, client: ClientId, lo: u64) -> Option<Range>
         ensures { result ≡ to_queue self.now (Step.Unmap worker client lo) }
     {
-        if worker >= self.workers()
-            || self.clients.owner(client) != Some(worker)
-            || self.clients.is_closing(client) != Some(false)
-        {
+        if worker >= self.workers() {
             return None;
         }
-        self.clients.holding(client, lo)
+        self.clients.to_unmap(worker, client, lo)
     }
 
     /// The lowest holding of a client of this worker.

@@ -9,7 +9,8 @@ use iova_sink::count::Count;
 use iova_sink::device::bytes_taken;
 use iova_sink::soon::{Looks, read_from, receive};
 use libc::EAGAIN;
-use libc::net::{MSG_DONTWAIT, recv};
+use libc::net::{MSG_DONTWAIT, MSG_NOSIGNAL, POLLIN, poll, recv, send};
+use libc::types::pollfd;
 use memchr::memchr_iter;
 use std::io;
 use std::io::{ErrorKind, Write};
@@ -29,19 +30,25 @@ pub struct Patience {
     pub turns: u64,
 }
 
+/// From so many bytes on what a read found is a run of several requests.
+const RUN_BYTES: usize = 64;
+
 /// A connected Unix socket that a daemon serves. A read that finds no byte, and a write that finds
 /// no room, are made again turn after turn, until there were as many as its patience has. One that
 /// is interrupted is made again too, and takes no turn: an interruption is no failure of this link.
 /// A short read makes one turn, and the next read goes on with the count. A read of a daemon that
 /// stops finds the end. Where it is the only link, it looks a while for what comes before it
-/// sleeps. Contracts see the numbers of its reads, its failures and the reads that found the end;
-/// what bytes come and go, no contract can say.
+/// sleeps; where links are few, it waits by a poll behind a run of requests. Contracts see the
+/// numbers of its reads, its failures and the reads that found the end; what bytes come and go, no
+/// contract can say.
 pub struct ServedLink<'a, R> {
     rt: &'a R,
     signals: &'a Signals,
     patience: Patience,
     stream: UnixStream,
     looks: Looks,
+    /// Whether the last read found a run of several requests.
+    in_runs: bool,
     /// How many turns its peer may still be silent.
     left: u64,
     reads: Count,
@@ -58,6 +65,7 @@ impl<'a, R> Drop for ServedLink<'a, R> {
             patience: _,
             stream: _,
             looks: _,
+            in_runs: _,
             left: _,
             reads: _,
             failed: _,
@@ -97,6 +105,7 @@ impl<'a, R> ServedLink<'a, R> {
             patience,
             stream,
             looks: Looks::new(),
+            in_runs: false,
             left: patience.turns,
             reads: Count::new(),
             failed: Count::new(),
@@ -120,9 +129,16 @@ impl<'a, R: Wait> Link for ServedLink<'a, R> {
 
     fn read(&mut self, buf: &mut [u8]) -> Result<usize, LinkFault> {
         self.reads.up();
-        let read = match read_at_hand(self.signals, &self.stream, buf) {
+        let read = match read_at_hand(
+            self.signals,
+            self.patience,
+            &self.stream,
+            self.in_runs,
+            buf,
+        ) {
             AtHand::Read(n) => {
                 note_lines(self.signals, self.patience, n, buf);
+                self.in_runs = n >= RUN_BYTES;
                 self.left = self.patience.turns;
                 Ok(n)
             }
@@ -168,8 +184,18 @@ impl<'a, R: Wait> Link for ServedLink<'a, R> {
     }
 
     fn write(&mut self, bytes: &[u8]) -> Result<usize, LinkFault> {
-        let written = sent(self.rt, self.signals, self.patience, &self.stream, bytes);
-        match bytes_taken(written, bytes.len()) {
+        let written = match send_now(&self.stream, bytes) {
+            Ok(n) if n > 0 => Some(n),
+            sent => sent_behind(
+                self.rt,
+                self.signals,
+                self.patience,
+                &self.stream,
+                sent,
+                bytes,
+            ),
+        };
+        match written {
             Some(n) => Ok(n),
             None => {
                 self.failed.up();
@@ -193,7 +219,13 @@ enum AtHand {
 /// Reads what is at hand; where it isn't the only link, what comes in a turn. The quick way of a
 /// read: no more is made on it than the numbers of bytes and of an error.
 #[inline(always)]
-fn read_at_hand(signals: &Signals, stream: &UnixStream, buf: &mut [u8]) -> AtHand
+fn read_at_hand(
+    signals: &Signals,
+    patience: Patience,
+    stream: &UnixStream,
+    in_runs: bool,
+    buf: &mut [u8],
+) -> AtHand
     ensures { (n : ℕ) → result ≡ AtHand.Read n → n ≤ length buf.old }
 {
     if signals.is_stopping() {
@@ -206,9 +238,46 @@ fn read_at_hand(signals: &Signals, stream: &UnixStream, buf: &mut [u8]) -> AtHan
             Err(error) => AtHand::Failed(error),
         };
     }
+    if in_runs && signals.are_few() {
+        if let Err(error) = wait_for(stream, patience.turn) {
+            return AtHand::Failed(error);
+        }
+    }
     match receive(stream, buf) {
         Ok(n) => AtHand::Read(n),
         Err(error) => AtHand::Failed(error),
+    }
+}
+
+/// Waits until something stands in the connection, for a turn at most. Where nothing came,
+/// `EAGAIN`; where the call failed, the number of the system's error.
+///
+/// A peer that reads its answers wakes whoever waits in a read of the other end, though nothing has
+/// come: of bytes taken from a socket the system tells its other end by the queue at which a read
+/// waits too. A poll is told only of what it asks for. It is one call more, and pays where the peer
+/// has a run of answers to go through before it asks again.
+#[inline(never)]
+fn wait_for(stream: &UnixStream, turn: Option<Duration>) -> Result<(), i32> {
+    let mut asked = [pollfd {
+        fd: stream.as_raw_fd(),
+        events: POLLIN,
+        revents: 0,
+    }];
+    let ready = poll(&mut asked, milliseconds_of(turn));
+    if ready < 0 {
+        Err(os::errno())
+    } else if ready == 0 {
+        Err(EAGAIN)
+    } else {
+        Ok(())
+    }
+}
+
+/// The time of a poll that lasts a turn, in milliseconds; -1 where it has no end.
+fn milliseconds_of(turn: Option<Duration>) -> i32 {
+    match turn {
+        Some(turn) => i32::try_from(turn.as_millis()).unwrap_or(i32::MAX),
+        None => -1,
     }
 }
 
@@ -313,22 +382,46 @@ fn read_once(
     Ok(Some(read?))
 }
 
-/// Writes what finds room within the patience, and nothing more once the daemon stops and there is
-/// none.
-fn sent<R: Wait>(
+/// Writes what finds room in a turn. Where that fails, the number of the system's error.
+#[inline(always)]
+fn send_now(stream: &UnixStream, bytes: &[u8]) -> Result<usize, i32>
+    ensures { IfOk result (λ n. n ≤ length bytes.now) }
+{
+    let sent = unsafe { send(stream.as_raw_fd(), bytes, MSG_NOSIGNAL) };
+    if sent < 0 {
+        Err(os::errno())
+    } else {
+        Ok(sent as usize)
+    }
+}
+
+/// Writes what finds room within the patience, behind a call that came to this, and nothing more
+/// once the daemon stops and there is none. None where a call failed, or took none of some bytes.
+#[inline(never)]
+fn sent_behind<R: Wait>(
     rt: &R,
     signals: &Signals,
     patience: Patience,
     mut stream: &UnixStream,
+    sent: Result<usize, i32>,
     bytes: &[u8],
-) -> io::Result<usize>
-    ensures { IfOk result (λ n. n ≤ length bytes.now) }
+) -> Option<usize>
+    requires { IfOk sent (λ n. n ≤ length bytes.now) }
+    ensures bound { IfSome result (λ n. n ≤ length bytes.now) }
+    ensures some { IfSome result (λ n. 0 < length bytes.now → 0 < n) }
 {
+    let written = match sent {
+        Ok(n) => Ok(n),
+        Err(error) => Err(io::Error::from_raw_os_error(error)),
+    };
     let mut left = patience.turns;
+    if signals.is_stopping() || !is_to_be_tried_again(&written, &mut left) {
+        return bytes_taken(written, bytes.len());
+    }
     for _ in rt.forever() {
         let written = stream.write(bytes);
         if signals.is_stopping() || !is_to_be_tried_again(&written, &mut left) {
-            return written;
+            return bytes_taken(written, bytes.len());
         }
     }
     unreachable!()

@@ -5,6 +5,7 @@ use std::sync::atomic::{AtomicU64, Ordering};
 /// Whether the daemon is asked to stop, and what was counted so far. Threads share it. A count
 /// begins anew behind 2^64 - 1.
 pub struct Signals {
+    processors: u64,
     hurry: Hurry,
     requests: AtomicU64,
     notices: AtomicU64,
@@ -15,6 +16,7 @@ pub struct Signals {
 impl Drop for Signals {
     fn drop(self) {
         let Signals {
+            processors: _,
             hurry: _,
             requests: _,
             notices: _,
@@ -24,9 +26,11 @@ impl Drop for Signals {
 }
 
 impl Signals {
-    /// Nobody has asked for a stop, and nothing is counted.
-    pub fn new() -> Signals {
+    /// Nobody has asked for a stop, and nothing is counted. The daemon's threads have so many
+    /// processors; 0 where that isn't known.
+    pub fn new(processors: u64) -> Signals {
         Signals {
+            processors,
             hurry: Hurry::new(),
             requests: AtomicU64::new(0),
             notices: AtomicU64::new(0),
@@ -62,6 +66,11 @@ impl Signals {
     /// Whether there is one link alone.
     pub fn is_alone(&self) -> bool {
         self.links.load(Ordering::Relaxed) == 1
+    }
+
+    /// Whether there are at most as many links as processors, so that the thread of each finds one.
+    pub fn are_few(&self) -> bool {
+        self.links.load(Ordering::Relaxed) <= self.processors
     }
 
     /// So many requests came.

@@ -24,8 +24,9 @@ pub(crate) enum Stop {
 }
 
 /// The requests whose lines stand at the front of the piece, at most 16 and at most `left`. Gives
-/// how many bytes of the piece they take, and why there are no more. Copies no line that lies whole
-/// in the piece.
+/// how many bytes of the piece they take, and why there are no more. Where the piece ends with the
+/// line of the last one, there are no more even if they are 16. Copies no line that lies whole in
+/// the piece.
 pub(crate) fn take_requests(
     lines: &mut Lines,
     piece: &[u8],
@@ -54,6 +55,9 @@ pub(crate) fn take_requests(
                 run.push(request);
                 if is_bye(request) {
                     return (used, Stop::Bye);
+                }
+                if used == piece.len() {
+                    return (used, Stop::More);
                 }
                 if run.len() == MAX_RUN {
                     return (used, Stop::Full);

@@ -1,5 +1,5 @@
 //! Reads of what a peer sends soon: it is looked for a while before the thread sleeps.
-ghost use Rattle.std.specs.Prelude.{◌≤◌, IfOk, IfSome, length};
+ghost use Rattle.std.specs.Prelude.{◌≤◌, IfOk, length};
 
 use libc::net::{MSG_DONTWAIT, recv};
 use std::hint::spin_loop;
@@ -53,23 +53,6 @@ impl Looks {
         } else {
             self.vain + 1
         };
-    }
-
-    /// Looks once, where it is looked now, and gives how many bytes stood there: 0 at the end. None
-    /// where nothing stood there or the call failed, and `read` tells then which.
-    #[inline(always)]
-    pub fn look(&mut self, stream: &UnixStream, buffer: &mut [u8]) -> Option<usize>
-        ensures { IfSome result (λ n. n ≤ length buffer.new) }
-    {
-        if self.count() == 0 {
-            return None;
-        }
-        let read = unsafe { recv(stream.as_raw_fd(), buffer, MSG_DONTWAIT) };
-        if read < 0 {
-            return None;
-        }
-        self.note(true);
-        Some(read as usize)
     }
 
     /// Reads what comes next: looks for it, and then waits as long as the socket's own limit says.

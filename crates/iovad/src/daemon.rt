@@ -50,7 +50,7 @@ use std::os::unix::net::UnixListener;
 use std::rt::{Clock, Files, Runtime};
 use std::sync::Wait;
 use std::sync::ledger::Ledger;
-use std::thread::Threads;
+use std::thread::{Threads, available_parallelism};
 use std::time::Duration;
 
 /// What each part of a daemon's run uses.
@@ -94,7 +94,7 @@ where
 {
     let bounds = bounds_of(plan)?;
     let windows = windows_of(rt, plan, bounds)?;
-    let signals = Signals::new();
+    let signals = Signals::new(processors(rt));
     let notices = Logged::new(rt, plan.log_level, CountedConsole::new(rt, &signals));
     tell_start(&notices, plan, &windows);
     look_at_limit(rt, &notices, clients_of(plan), plan.workers);
@@ -102,6 +102,14 @@ where
     match made {
         Some((shared, posts)) => serve_domain(rt, plan, &notices, &signals, shared, posts),
         None => Err(Fault::NoMemory),
+    }
+}
+
+/// How many processors the daemon's threads have; 0 where the system doesn't tell.
+fn processors<R: Threads>(rt: &R) -> u64 {
+    match available_parallelism(rt) {
+        Ok(count) => count.get() as u64,
+        Err(_) => 0,
     }
 }
 

@@ -2,10 +2,12 @@ use Rattle.std.proofs.Common.{◌≡◌, ◌+◌, ◌-◌, ◌≤◌, ◌++◌, 
 use Rattle.std.specs.Prelude.{Option, None}
 use Rattle.iova_proto.specs.Feeds.{Feeds}
 use Rattle.iova_proto.specs.declared.fed.Fed.TheVariants as fed
-use Rattle.iova_session.specs.Rounds.{Gathers}
+use Rattle.std.proofs.Math.Seq.{take-length}
+use Rattle.iova_session.specs.Rounds.{Gathers, IsLines}
 use Rattle.iova_session.specs.declared.gathering.Stop.TheVariants as stops
 use Rattle.iova_session.proofs.Byes.{HasNoBye-nil, EndsInBye-one}
 use Rattle.iova_session.proofs.Gathered.{IsLines-none, IsLines-rest, IsLines-one, begins_request, no_bye_more}
+use Rattle.iova_session.proofs.Taken.{IsUnended-none}
 use Rattle.iova_session.proofs.gathering.take_requests.Goals as goal
 
 some_kept : (o : Option (List ℕ)) → IsSome o → (k : List ℕ) × (o ≡ Some k)
@@ -58,6 +60,24 @@ returns-then-is_bye-clause-gathered c =
       rw c.push.ensures.items one,
       IsLines-one inv.kept c.args.piece.now inv.next c.gathering.run.items after c.in-Request.request c.gathering.used c.in-Request.more
           inv.used inv.lines f.spells c.push.ensures.items,
+    )
+
+pub returns-then-used-piece-clause-gathered : goal.returns-then-used-piece-clause-gathered
+returns-then-used-piece-clause-gathered c =
+    let inv = c.gathering.invariant in
+    let piece = c.args.piece.now in
+    let used = c.gathering.used + c.in-Request.more in
+    let rest = take (length piece - c.gathering.used) (drop c.gathering.used piece) in
+    let after = c.push.new.self.items in
+    let f : Feeds inv.next rest (fed.Request c.in-Request.request c.in-Request.more) c.feed.new.self = rw inv.now at c.in-Request.ensures.fed in
+    let P : List ℕ → Type 0 = λ kept. Gathers c.args.left kept piece after used stops.More c.feed.new.self in
+    let all : take used piece ≡ piece = ap (λ n. take n piece) (c.if-used-piece.true) ∙ take-length piece in
+    let lines = IsLines-one inv.kept piece inv.next c.gathering.run.items after c.in-Request.request c.gathering.used c.in-Request.more
+    inv.used inv.lines f.spells c.push.ensures.items in
+    let Q : List ℕ → Type 0 = λ bytes. IsLines (inv.kept ++ bytes) after [] in
+    if_kept c.args.lines.now inv.kept P inv.began (
+      no_bye_more c.gathering.run.items after c.in-Request.request inv.none (λ e. let t = c.is_bye.ensures.1 e in cc) c.push.ensures.items,
+      ([], subst Q all lines, IsUnended-none, f.next_is),
     )
 
 pub returns-then-len-eq-MAX_RUN-clause-gathered : goal.returns-then-len-eq-MAX_RUN-clause-gathered
