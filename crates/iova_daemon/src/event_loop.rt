@@ -2,12 +2,13 @@
 ghost use Rattle.std.specs.Prelude.{◌≡◌};
 
 use crate::admission::{Admission, Admitted};
-use crate::aside::{Aside, Look};
 use crate::roster::Roster;
 use crate::session_table::{ConnectedSession, PIECE, SessionTable, TurnOutcome};
 use crate::threads::Work;
 use crate::worker::{WorkerContext, go_aside, tell, try_again};
 use iova_keep::keep::Keep;
+use iova_keep::look::Look;
+use iova_links::aside::Aside;
 use iova_links::door::Door;
 use iova_links::noting::{NotingSink, note_end};
 use iova_links::queued_link::{Found, QueuedLink};

@@ -6,7 +6,6 @@ ghost use Rattle.std.specs.Option.{ForSome};
 ghost use Rattle.iova_daemon.specs.Serving.{IsServeRefusal};
 
 mod admission;
-pub mod aside;
 mod crossing;
 mod event_loop;
 mod flusher;
@@ -18,7 +17,6 @@ mod threads;
 mod worker;
 
 use crate::admission::Admission;
-use crate::aside::{Aside, NothingAside};
 use crate::crossing::{
     admissions_are_sync, domains_are_sync, gears_are_send, pools_are_sync, posts_are_send,
     turns_are_sync,
@@ -31,6 +29,7 @@ use crate::worker::WorkerContext;
 use flusher::{Busy, Flusher};
 use iova_keep::keep::Keep;
 use iova_links::accept::Accept;
+use iova_links::aside::{Aside, NothingAside};
 use iova_links::dial::{Dial, UnixNet};
 use iova_links::door::Door;
 use iova_links::pause::Pause;

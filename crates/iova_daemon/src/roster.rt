@@ -1,6 +1,6 @@
 //! What the threads of a daemon share beside its domain and the pool of its slots.
 use crate::Serving;
-use crate::aside::{Figures, Standing};
+use iova_links::aside::{Figures, Standing};
 use iova_model::step::ClientId;
 use iova_range::limits::MAX_WORKERS;
 use iova_session::session_limits::SessionLimits;

@@ -1,13 +1,14 @@
 //! A slot of a worker: sessions at one post, one after another.
 ghost use Rattle.std.specs.Prelude.{◌≡◌};
 
-use crate::aside::{Aside, Look};
 use crate::meanwhile::{begin_in_pieces, serve_meanwhile};
 use crate::pool::{Accepted, Pool, Turn};
 use crate::roster::{Roster, Stands};
 use crate::threads::{Place, Work};
 use iova_keep::keep::Keep;
+use iova_keep::look::Look;
 use iova_links::accept::Accept;
+use iova_links::aside::Aside;
 use iova_links::noting::{NotingSink, note_end};
 use iova_model::step::ClientId;
 use iova_range::limits::RETRY_PAUSE;

@@ -8,6 +8,7 @@ pub mod closing;
 pub mod ending;
 pub mod keep;
 pub mod ledgers;
+pub mod look;
 pub mod release;
 pub mod seat;
 pub mod unmapped;

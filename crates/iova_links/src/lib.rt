@@ -1,9 +1,10 @@
 //! What a daemon's sessions come over and call: sockets and their links, sinks that posts share,
-//! and which worker is the least busy; pauses, and what asks for a stop. It starts no thread, and
-//! knows of no domain.
+//! and which worker is the least busy; pauses, what asks for a stop, and what is done beside the
+//! sessions. It starts no thread, and knows of no domain.
 #![tactic(auto)]
 
 pub mod accept;
+pub mod aside;
 pub mod dial;
 pub mod door;
 pub mod loads;

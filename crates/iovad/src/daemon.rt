@@ -5,10 +5,10 @@ ghost use Rattle.iova_command.specs.declared.plan.Plan.{Plan};
 ghost use Rattle.iova_planned.specs.Plans.{AreNewSeats, seat_count};
 ghost use Rattle.iovad.specs.Plans.{AreOfAllSeats, IsAboveProfile, IsBoundsOf, IsFaultOfServing, planned_limits};
 
-use crate::control::Control;
 use iova_command::plan::Plan;
 use iova_command::plan_words::PlanWords;
 use iova_command::words::VERSION;
+use iova_control::control::Control;
 use iova_core::domain::Domain;
 use iova_daemon::{Served, Service, Serving, serve_in_turns, serve_sessions};
 use iova_files::descriptors::look_at_limit;

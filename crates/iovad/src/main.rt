@@ -2,10 +2,7 @@
 //! such a service.
 #![tactic(auto)]
 
-mod control;
 mod daemon;
-mod metrics;
-mod sessions;
 
 use daemon::serve;
 use iova_command::asked::Asked;

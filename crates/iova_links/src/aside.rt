@@ -1,10 +1,6 @@
 //! What is done beside the sessions of a daemon and its flusher.
-use iova_lock::shared::Shared;
+use iova_keep::look::Look;
 use iova_model::step::ClientId;
-use iova_range::range::Range;
-use iova_range::refusal::Refusal;
-use std::sync::Wait;
-use std::sync::ledger::Ledger;
 
 /// How a daemon stands, but for its domain.
 #[derive(Clone, Copy, Debug, PartialEq, Eq)]
@@ -27,50 +23,6 @@ pub trait Standing {
 
     /// Whether this client's session has ended, and its end waits.
     fn waits(&self, client: ClientId) -> bool;
-}
-
-/// A domain that is looked at beside its sessions.
-pub trait Look {
-    /// Appends the domain's report, as it is in one hold of the lock. Refused by `NoMemory`.
-    fn look(&self, out: &mut Vec<u8>) -> Result<(), Refusal>;
-
-    /// The first client that the worker opened behind this serial, with its ranges appended, in one
-    /// hold of the lock. Refused by `NoMemory`.
-    fn client(
-        &self,
-        worker: u64,
-        behind: ClientId,
-        ranges: &mut Vec<Range>,
-    ) -> Result<Option<ClientId>, Refusal>;
-
-    /// Whether steps are still recorded.
-    fn is_recording(&self) -> bool;
-
-    /// How many steps are recorded.
-    fn steps(&self) -> u64;
-}
-
-impl<Q: Wait, C: Ledger, F: Ledger, S: Ledger, G: Ledger> Look for &Shared<Q, C, F, S, G> {
-    fn look(&self, out: &mut Vec<u8>) -> Result<(), Refusal> {
-        self.report(out)
-    }
-
-    fn client(
-        &self,
-        worker: u64,
-        behind: ClientId,
-        ranges: &mut Vec<Range>,
-    ) -> Result<Option<ClientId>, Refusal> {
-        self.newer(worker, behind, ranges)
-    }
-
-    fn is_recording(&self) -> bool {
-        self.recording()
-    }
-
-    fn steps(&self) -> u64 {
-        Shared::steps(self)
-    }
 }
 
 /// What is done on a thread of its own, from the start of the first session to the end of the last

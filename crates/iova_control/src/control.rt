@@ -4,7 +4,8 @@ ghost use Rattle.std.specs.Prelude.{◌≤◌, length};
 use crate::metrics::put_metrics;
 use crate::sessions::put_sessions;
 use arrayvec::ArrayVec;
-use iova_daemon::aside::{Aside, Look, Standing};
+use iova_keep::look::Look;
+use iova_links::aside::{Aside, Standing};
 use iova_links::signals::Signals;
 use iova_range::limits::{
     CONTROL_PAUSE, CONTROL_READS, MAX_CONTROL_SILENCE, MAX_CONTROLS, MAX_LINE,

@@ -1,6 +1,7 @@
 //! What is counted of a daemon, in the text form that Prometheus reads.
 use crate::control::Pad;
-use iova_daemon::aside::{Figures, Look};
+use iova_keep::look::Look;
+use iova_links::aside::Figures;
 use iova_links::signals::Signals;
 use std::alloc::AllocError;
 use std::str;

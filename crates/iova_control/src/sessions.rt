@@ -1,5 +1,6 @@
 //! The sessions that a daemon serves, told a line each.
-use iova_daemon::aside::{Look, Standing};
+use iova_keep::look::Look;
+use iova_links::aside::Standing;
 use iova_range::limits::MAX_CLIENTS;
 use iova_range::range::Range;
 use std::alloc::{AllocError, Global};
