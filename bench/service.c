@@ -8,8 +8,9 @@
                                                        and the 99th of 100 of a write's way there and back, how many of
                                                        100 requests were refused since a ring was full, and the longest
                                                        way.
-   service floor PATH CLIENTS                          a server with a thread for each of so many clients, which answers
-                                                       each line by its first letter, always by the same line. */
+   service floor PATH CLIENTS [NANOSECONDS]            a server with a thread for each of so many clients, which answers
+                                                       each line by its first letter, always by the same line. With a time
+                                                       it spends so long on each read besides, under no lock. */
 #define _GNU_SOURCE
 #include <pthread.h>
 #include <stdio.h>
@@ -159,6 +160,13 @@ static void run_load(int clients) {
 }
 
 static int listener;
+static double spent; /* seconds a read, besides */
+
+static void spend(void) {
+  if (spent > 0)
+    for (double end = now() + spent; now() < end;)
+      ;
+}
 
 /* The least that an answer to a line takes: the line's first letter says which. */
 static void *serve(void *arg) {
@@ -185,6 +193,7 @@ static void *serve(void *arg) {
         starts = end != 0;
         p = end ? end + 1 : in + n;
       }
+      spend();
       send_all(fd, out, len);
     }
     close(fd);
@@ -203,8 +212,9 @@ int main(int argc, char **words) {
     run_load(atoi(words[3]));
     return 0;
   }
-  if (argc == 4 && !strcmp(words[1], "floor")) {
+  if ((argc == 4 || argc == 5) && !strcmp(words[1], "floor")) {
     path = words[2];
+    spent = argc == 5 ? atof(words[4]) * 1e-9 : 0;
     struct sockaddr_un a = address();
     unlink(path);
     listener = socket(AF_UNIX, SOCK_STREAM, 0);
@@ -215,6 +225,6 @@ int main(int argc, char **words) {
       pthread_create(&thread, 0, serve, 0);
     serve(0);
   }
-  fprintf(stderr, "usage: service load PATH CLIENTS IN_FLIGHT REQUESTS iova|ping, or service floor PATH CLIENTS\n");
+  fprintf(stderr, "usage: service load PATH CLIENTS IN_FLIGHT REQUESTS iova|ping, or service floor PATH CLIENTS [NANOSECONDS]\n");
   return 2;
 }
