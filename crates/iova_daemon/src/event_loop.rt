@@ -80,16 +80,7 @@ where
         };
         let mut table = SessionTable::new(self.alloc, poll, events, turns.post.seat.worker());
         if *self.roster.gate.lock(self.rt) {
-            let slot = self.roster.begin();
-            let mut told = 0;
-            let mut piece = [0; PIECE];
-            'turns: for _ in self.rt.forever() {
-                let is_over = go_round(self, &mut table, &mut turns, &mut piece);
-                told = tell(self.rt, self.roster, slot, told, &turns.post.waiting);
-                if is_over {
-                    break 'turns;
-                }
-            }
+            serve_rounds(self, &mut table, &mut turns);
         }
         drop(table);
         self.roster.end();
@@ -127,6 +118,36 @@ where
     }
 }
 
+/// Goes round until all is over, and tells after each round which clients wait.
+fn serve_rounds<R, N, C, F, S, G, K, O, D, X>(
+    context: &WorkerContext<&R, &N, K, &O, &Roster, &Admission, &X>,
+    table: &mut SessionTable,
+    turns: &mut TurnContext<C, F, S, G, K, D>,
+)
+where
+    R: Wait + Clock,
+    N: Log,
+    C: Ledger,
+    F: Ledger,
+    S: Ledger,
+    G: Ledger,
+    K: Keep<C, F, S, G>,
+    O: Door,
+    D: Sink,
+    ensures { turns.new.post.seat.worker ≡ turns.old.post.seat.worker }
+{
+    let slot = context.roster.begin();
+    let mut told = 0;
+    let mut piece = [0; PIECE];
+    'rounds: for _ in context.rt.forever() {
+        let is_over = go_round(context, table, turns, &mut piece);
+        told = tell(context.rt, context.roster, slot, told, &turns.post.waiting);
+        if is_over {
+            return;
+        }
+    }
+}
+
 /// Waits for events, gives each session that has something to do one turn, and does what is due by
 /// the clock. Whether all is over.
 fn go_round<R, N, C, F, S, G, K, O, D, X>(
@@ -155,9 +176,7 @@ where
         end_all(context, table, turns);
     }
     admit_all(context, table, turns);
-    'serving: for at in 0..table.ready_count() {
-        turn(context, table, turns, at, piece);
-    }
+    serve_ready(context, table, turns, piece);
     table.end_round();
     look_at_clock(context, table, turns);
     let is_over = table.is_over();
@@ -170,6 +189,30 @@ where
         );
     }
     is_over
+}
+
+/// Gives each session that has something to do one turn.
+fn serve_ready<R, N, C, F, S, G, K, O, D, X>(
+    context: &WorkerContext<&R, &N, K, &O, &Roster, &Admission, &X>,
+    table: &mut SessionTable,
+    turns: &mut TurnContext<C, F, S, G, K, D>,
+    piece: &mut [u8],
+)
+where
+    R: Wait,
+    N: Log,
+    C: Ledger,
+    F: Ledger,
+    S: Ledger,
+    G: Ledger,
+    K: Keep<C, F, S, G>,
+    O: Door,
+    D: Sink,
+    ensures { turns.new.post.seat.worker ≡ turns.old.post.seat.worker }
+{
+    'serving: for at in 0..table.ready_count() {
+        turn(context, table, turns, at, piece);
+    }
 }
 
 /// Accepts links for the worker, as long as it is the one that is to have the next.
@@ -464,14 +507,8 @@ where
     let Ok(now) = context.rt.monotonic() else {
         return;
     };
-    if let Some((since, pause)) = table.failed
-        && now.saturating_sub(since) >= pause
-    {
-        table.failed = None;
-        table.is_called = true;
-    }
-    if is_waited && now.saturating_sub(table.tried) >= Duration::from_millis(RETRY_PAUSE) {
-        table.tried = now;
+    table.accept_again(now);
+    if is_waited && table.is_to_try(now) {
         try_again(
             context.roster,
             &mut turns.keeper,
@@ -481,13 +518,34 @@ where
         end_owed(context, table, turns);
     }
     if let Some(turn) = patience.turn
-        && now.saturating_sub(table.looked) >= turn
+        && table.is_to_look(now, turn)
     {
-        table.looked = now;
-        'looking: for key in 0..table.sessions.capacity() {
-            if table.is_idle(key, patience.turns) {
-                end_session(context, table, turns, key, End::LinkFault);
-            }
+        end_idle(context, table, turns, patience.turns);
+    }
+}
+
+/// Ends the sessions that have been idle for so many turns.
+fn end_idle<R, N, C, F, S, G, K, O, D, X>(
+    context: &WorkerContext<&R, &N, K, &O, &Roster, &Admission, &X>,
+    table: &mut SessionTable,
+    turns: &mut TurnContext<C, F, S, G, K, D>,
+    most: u64,
+)
+where
+    R: Wait,
+    N: Log,
+    C: Ledger,
+    F: Ledger,
+    S: Ledger,
+    G: Ledger,
+    K: Keep<C, F, S, G>,
+    O: Door,
+    D: Sink,
+    ensures { turns.new.post.seat.worker ≡ turns.old.post.seat.worker }
+{
+    'looking: for key in 0..table.sessions.capacity() {
+        if table.is_idle(key, most) {
+            end_session(context, table, turns, key, End::LinkFault);
         }
     }
 }

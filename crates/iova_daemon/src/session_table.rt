@@ -176,6 +176,37 @@ impl SessionTable {
         }
     }
 
+    /// Is called again for the next link, where it has been put off for long enough after an accept
+    /// that failed.
+    pub(crate) fn accept_again(&mut self, now: Duration) {
+        if let Some((since, pause)) = self.failed
+            && now.saturating_sub(since) >= pause
+        {
+            self.failed = None;
+            self.is_called = true;
+        }
+    }
+
+    /// Whether clients that wait are to be tried again: a second after the last try. Then they are
+    /// tried now.
+    pub(crate) fn is_to_try(&mut self, now: Duration) -> bool {
+        let is_due = now.saturating_sub(self.tried) >= Duration::from_millis(RETRY_PAUSE);
+        if is_due {
+            self.tried = now;
+        }
+        is_due
+    }
+
+    /// Whether idle sessions are to be looked for: a turn after the last look. Then they are looked
+    /// for now.
+    pub(crate) fn is_to_look(&mut self, now: Duration, turn: Duration) -> bool {
+        let is_due = now.saturating_sub(self.looked) >= turn;
+        if is_due {
+            self.looked = now;
+        }
+        is_due
+    }
+
     /// The end of the session at this key, whose client's end is to be tried still.
     pub(crate) fn owed_at(&self, key: usize) -> Option<End> {
         match self.sessions.get(key) {

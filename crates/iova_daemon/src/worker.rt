@@ -12,6 +12,7 @@ use iova_links::aside::Aside;
 use iova_links::noting::{NotingSink, note_end};
 use iova_model::step::ClientId;
 use iova_range::limits::RETRY_PAUSE;
+use iova_session::end::End;
 use iova_session::link::Link;
 use iova_session::post::Post;
 use iova_session::retry::retry;
@@ -61,82 +62,13 @@ where
     D: Sink + Drop,
     X: Aside,
 {
-    /// Waits at the gate, and then serves sessions at the post until none is to come. Its waiting
-    /// clients are tried again before each wait in the pool, no later than a second after the last
-    /// try while it waits there, and during a session too: whoever waits then has waited since
-    /// before it.
+    /// Waits at the gate, and then serves sessions at the post until none is to come.
     fn work(&self, place: Post<C, F, S, G>, sink: D) -> Post<C, F, S, G> {
         let mut post = place;
         let mut keeper = self.keeper;
         let mut sink = NotingSink::new(sink, self.notices);
         if *self.roster.gate.lock(self.rt) {
-            let worker = post.seat.worker();
-            let slot = self.roster.begin();
-            let mut told = 0;
-            'turns: for _ in self.rt.forever() {
-                try_again(self.roster, &mut keeper, &mut post, &mut sink);
-                told = tell(self.rt, self.roster, slot, told, &post.waiting);
-                if self.accept.has_ended() {
-                    self.accept.close();
-                    self.admission.end(self.rt);
-                    break 'turns;
-                }
-                match next::<R, L, A>(
-                    self.rt,
-                    self.roster,
-                    self.admission,
-                    self.accept,
-                    worker,
-                    told,
-                ) {
-                    Turn::Serve(accepted) => {
-                        let Accepted { mut link, session } = accepted;
-                        self.roster.begin_session(worker);
-                        let in_pieces = begin_in_pieces(
-                            self.alloc,
-                            keeper.number(),
-                            self.roster.limits(),
-                            &mut post,
-                            slot,
-                            told,
-                        );
-                        let end = match in_pieces {
-                            Some(mut pieces) => {
-                                let end = serve_meanwhile(
-                                    self.rt,
-                                    self.roster,
-                                    &mut link,
-                                    &mut keeper,
-                                    &mut post,
-                                    &mut sink,
-                                    &mut pieces,
-                                );
-                                told = pieces.told;
-                                end
-                            }
-                            None => {
-                                run_session_within(
-                                    self.alloc,
-                                    self.roster.limits(),
-                                    &mut link,
-                                    &mut keeper,
-                                    &mut post,
-                                    &mut sink,
-                                )
-                                .end
-                            }
-                        };
-                        // so there are never more connections than sessions
-                        drop(link);
-                        told = tell(self.rt, self.roster, slot, told, &post.waiting);
-                        self.roster.end_session(worker);
-                        self.admission.leave(self.rt, self.roster, worker);
-                        note_end(self.notices, session, end);
-                    }
-                    Turn::End => break 'turns,
-                    Turn::Lead(_) | Turn::Again => {}
-                }
-            }
+            serve_slot(self, &mut keeper, &mut post, &mut sink);
         }
         self.roster.end();
         post
@@ -164,6 +96,119 @@ where
 
     fn cannot_go_aside(&self, error: &io::Error) {
         error!(self.notices; target: "", "thread aside: {error}");
+    }
+}
+
+/// Serves sessions at the post until none is to come. Its waiting clients are tried again before each
+/// wait in the pool, no later than a second after the last try while it waits there, and during a
+/// session too: whoever waits then has waited since before it.
+fn serve_slot<R, N, C, F, S, G, K, L, A, D, X>(
+    context: &WorkerContext<&R, &N, K, &A, &Roster, &Pool<L>, &X>,
+    keeper: &mut K,
+    post: &mut Post<C, F, S, G>,
+    sink: &mut D,
+)
+where
+    R: Wait + Clock,
+    N: Log,
+    C: Ledger,
+    F: Ledger,
+    S: Ledger,
+    G: Ledger,
+    K: Keep<C, F, S, G>,
+    L: Link + Drop,
+    A: Accept<L>,
+    D: Sink,
+    ensures { post.new.seat.worker ≡ post.old.seat.worker }
+{
+    let (rt, roster) = (context.rt, context.roster);
+    let slot = roster.begin();
+    let mut told = 0;
+    'turns: for _ in rt.forever() {
+        try_again(roster, keeper, post, sink);
+        told = tell(rt, roster, slot, told, &post.waiting);
+        let worker = post.seat.worker();
+        match next::<R, L, A>(rt, roster, context.admission, context.accept, worker, told) {
+            Turn::Serve(accepted) =>
+                told = serve_accepted(context, keeper, post, sink, accepted, slot, told),
+            Turn::End => return,
+            Turn::Lead(_) | Turn::Again => {}
+        }
+    }
+}
+
+/// Serves a session at the post, whose slot has told of so many waiting clients; gives of how many it
+/// has told then.
+fn serve_accepted<R, N, C, F, S, G, K, L, A, D, X>(
+    context: &WorkerContext<&R, &N, K, &A, &Roster, &Pool<L>, &X>,
+    keeper: &mut K,
+    post: &mut Post<C, F, S, G>,
+    sink: &mut D,
+    accepted: Accepted<L>,
+    slot: u64,
+    told: u64,
+) -> u64
+where
+    R: Wait + Clock,
+    N: Log,
+    C: Ledger,
+    F: Ledger,
+    S: Ledger,
+    G: Ledger,
+    K: Keep<C, F, S, G>,
+    L: Link + Drop,
+    A: Accept<L>,
+    D: Sink,
+    ensures { post.new.seat.worker ≡ post.old.seat.worker }
+{
+    let Accepted { mut link, session } = accepted;
+    let (rt, roster) = (context.rt, context.roster);
+    let worker = post.seat.worker();
+    roster.begin_session(worker);
+    let (end, told) = serve_link(context, keeper, post, sink, &mut link, slot, told);
+    // so there are never more connections than sessions
+    drop(link);
+    let told = tell(rt, roster, slot, told, &post.waiting);
+    roster.end_session(worker);
+    context.admission.leave(rt, roster, worker);
+    note_end(context.notices, session, end);
+    told
+}
+
+/// Serves the session of this link, in pieces where clients wait at the post.
+fn serve_link<R, N, C, F, S, G, K, L, A, D, X>(
+    context: &WorkerContext<&R, &N, K, &A, &Roster, &Pool<L>, &X>,
+    keeper: &mut K,
+    post: &mut Post<C, F, S, G>,
+    sink: &mut D,
+    link: &mut L,
+    slot: u64,
+    told: u64,
+) -> (End, u64)
+where
+    R: Wait + Clock,
+    N: Log,
+    C: Ledger,
+    F: Ledger,
+    S: Ledger,
+    G: Ledger,
+    K: Keep<C, F, S, G>,
+    L: Link + Drop,
+    A: Accept<L>,
+    D: Sink,
+    ensures { post.new.seat.worker ≡ post.old.seat.worker }
+{
+    let (alloc, roster) = (context.alloc, context.roster);
+    let number = keeper.number();
+    match begin_in_pieces(alloc, number, roster.limits(), post, slot, told) {
+        Some(mut pieces) => {
+            let end = serve_meanwhile(context.rt, roster, link, keeper, post, sink, &mut pieces);
+            (end, pieces.told)
+        }
+        None => {
+            let ended = run_session_within(alloc, roster.limits(), link, keeper, post, sink);
+            (ended.end, told)
+        }
     }
 }
 
@@ -214,7 +259,7 @@ pub(crate) fn tell<R: Wait>(
 }
 
 /// What a slot of this worker, of which so many clients wait, does next: it waits in the pool, and
-/// accepts a link where it is to lead.
+/// accepts a link where it is to lead. Where no link is to come, the pool ends.
 fn next<R: Wait + Clock, L: Drop, A: Accept<L>>(
     rt: &R,
     roster: &Roster,
@@ -223,6 +268,11 @@ fn next<R: Wait + Clock, L: Drop, A: Accept<L>>(
     worker: u64,
     waiting: u64,
 ) -> Turn<L> {
+    if accept.has_ended() {
+        accept.close();
+        pool.end(rt);
+        return Turn::End;
+    }
     match pool.wait(rt, roster, worker, limit_of(waiting)) {
         Turn::Lead(session) => lead(rt, roster, pool, accept, worker, session, waiting),
         turn => turn,

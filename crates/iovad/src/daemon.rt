@@ -180,13 +180,37 @@ where
         net: &net,
         place: SinkPlace::of(rt, plan),
     };
-    match serve_links(&run, plan, shared, posts) {
+    serve_run(&run, plan, shared, posts)
+}
+
+/// The same, with what lasts as long as the run.
+fn serve_run<'a, R, C, F, S, G>(
+    run: &Running<'a, R>,
+    plan: &Plan<'_>,
+    shared: Shared<&'a R, C, F, S, G>,
+    posts: Vec<Post<C, F, S, G>>,
+) -> Result<(), Fault<'static>>
+where
+    R: Runtime + AllocGlobal + Net + Dial + Threads + Wait + Sync + Files<File = File>,
+    C: Ledger + Send + Sync,
+    F: Ledger + Send + Sync,
+    S: Ledger + Send + Sync,
+    G: Ledger + Send + Sync,
+    requires posts { AreNewSeats shared (map (λ p. p.seat) posts.items) }
+    ensures { IfErr result (IsFaultOfServing plan.now) }
+{
+    match serve_links(run, plan, shared, posts) {
         Ok((Served { shared, posts }, record)) => {
-            info!(notices; target: "", "all sessions have ended");
-            finish(&run, plan, shared, posts, record)
+            tell_end(run.notices);
+            finish(run, plan, shared, posts, record)
         }
         Err(why) => Err(why.fault()),
     }
+}
+
+/// Tells that nobody is served any more.
+fn tell_end<R: Clock + Eprint>(notices: &Notices<'_, R>) {
+    info!(notices; target: "", "all sessions have ended");
 }
 
 /// Opens what the plan names, and serves its sessions. The posts that come back are those of all
