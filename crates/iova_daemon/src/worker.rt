@@ -99,9 +99,9 @@ where
     }
 }
 
-/// Serves sessions at the post until none is to come. Its waiting clients are tried again before each
-/// wait in the pool, no later than a second after the last try while it waits there, and during a
-/// session too: whoever waits then has waited since before it.
+/// Serves sessions at the post until none is to come. Its waiting clients are tried again before
+/// each wait in the pool, no later than a second after the last try while it waits there, and
+/// during a session too: whoever waits then has waited since before it.
 fn serve_slot<R, N, C, F, S, G, K, L, A, D, X>(
     context: &WorkerContext<&R, &N, K, &A, &Roster, &Pool<L>, &X>,
     keeper: &mut K,
@@ -129,16 +129,17 @@ where
         told = tell(rt, roster, slot, told, &post.waiting);
         let worker = post.seat.worker();
         match next::<R, L, A>(rt, roster, context.admission, context.accept, worker, told) {
-            Turn::Serve(accepted) =>
-                told = serve_accepted(context, keeper, post, sink, accepted, slot, told),
+            Turn::Serve(accepted) => told = serve_accepted(
+                context, keeper, post, sink, accepted, slot, told,
+            ),
             Turn::End => return,
             Turn::Lead(_) | Turn::Again => {}
         }
     }
 }
 
-/// Serves a session at the post, whose slot has told of so many waiting clients; gives of how many it
-/// has told then.
+/// Serves a session at the post, whose slot has told of so many waiting clients; gives of how many
+/// it has told then.
 fn serve_accepted<R, N, C, F, S, G, K, L, A, D, X>(
     context: &WorkerContext<&R, &N, K, &A, &Roster, &Pool<L>, &X>,
     keeper: &mut K,
