@@ -1,13 +1,13 @@
 -- Holdings that rise by first frame, and the places that a binary search finds in them.
-use Rattle.std.proofs.Common.{◌≡◌, ◌≢◌, ℕ, zero, suc, ◌+◌, ◌<◌, ◌≤◌, ◌==◌, Bool, true, false, List, [], ◌∷◌, length, insert, remove, find, get_or, None, Some, refl, sym, ap, arith, take, ◌∙◌}
+use Rattle.std.proofs.Common.{◌≡◌, ◌≢◌, ℕ, zero, suc, ◌+◌, ◌<◌, ◌≤◌, ◌==◌, Bool, true, false, List, [], ◌∷◌, length, insert, remove, find, get_or, None, Some, refl, sym, ap, arith, take, drop, ◌-◌, ◌∙◌}
 use Rattle.std.specs.Prelude.{nat_lt, nat_le}
 use Rattle.std.specs.List.Sorted.{IsNonDecreasingBy, IsPartitionPoint}
 use Rattle.std.proofs.lemmas.Bool.Decides.{nat_tests}
-use Rattle.std.proofs.lemmas.List.{get_or-take, get_or_default, length-take-le}
+use Rattle.std.proofs.lemmas.List.{get_or-take, get_or-drop, get_or_default, length-take-le, length-drop}
 use Rattle.iova_range.specs.Frames.{Frames}
 use Rattle.iova_model.specs.Clients.{insert_rising, begins_at, remove_at}
 use Rattle.iova_model.specs.Valid.{Rises}
-use Rattle.iova_clients.specs.Registry.{AllBehind, IsReach}
+use Rattle.iova_clients.specs.Registry.{AllBefore, AllBehind, IsReach, at_most}
 
 -- a later start asks more
 pub Rises-from : (low high : ℕ) (rs : List Frames) → low ≤ high → Rises high rs → Rises low rs
@@ -92,6 +92,13 @@ behind_one lo place rs x rises above k d le within =
     let here : lo < (get_or rs place d).lo = rw same at above in
     let up : (get_or rs place d).lo ≤ (get_or rs k d).lo = Rises-non_decreasing 0 rs rises place k d le within in omega arith
 
+-- before one that begins at a frame or below, and with it, all do
+pub before_one : (lo place : ℕ) (rs : List Frames) (x : Frames) → Rises 0 rs → place < length rs → (get_or rs place x).lo ≤ lo → AllBefore (place + 1) lo rs
+before_one lo place rs x rises within le k d lt =
+    let same : get_or rs place x ≡ get_or rs place d = get_or_default rs place x d within in
+    let here : (get_or rs place d).lo ≤ lo = rw same at le in
+    let up : (get_or rs k d).lo ≤ (get_or rs place d).lo = Rises-non_decreasing 0 rs rises k place d (omega arith) within in omega arith
+
 pub reach_is : (lo n p : ℕ) (rs : List Frames) → n ≤ length rs → AllBehind n lo rs → p ≤ n
     → IsPartitionPoint (λ (x : Frames). nat_le x.lo lo ≡ true) (λ (x : Frames). nat_le x.lo lo ≡ false) (take n rs) p → IsReach lo rs p
 reach_is lo n p rs within far le point = record {
@@ -157,3 +164,98 @@ pub Rises-take : (from n : ℕ) (rs : List Frames) → Rises from rs → Rises f
 Rises-take from zero rs h = tt
 Rises-take from (suc n) [] h = tt
 Rises-take from (suc n) (r ∷ rs) h = (h.0, Rises-take (r.lo + 1) n rs h.1)
+
+pub Rises-drop : (from n : ℕ) (rs : List Frames) → Rises from rs → Rises 0 (drop n rs)
+Rises-drop from zero rs h = Rises-from 0 from rs (omega arith) h
+Rises-drop from (suc n) [] h = tt
+Rises-drop from (suc n) (r ∷ rs) h = Rises-drop (r.lo + 1) n rs h.1
+
+-- How many begin at a frame or below, counted.
+
+pub none_at_most : (lo from : ℕ) (rs : List Frames) → lo < from → Rises from rs → at_most lo rs ≡ []
+none_at_most lo from [] lt h = refl
+none_at_most lo from (r ∷ rs) lt h =
+    let first : from ≤ r.lo = h.0 in
+    let above : nat_le r.lo lo ≡ false = grind (arith, nat_tests) in
+    rw above (none_at_most lo (r.lo + 1) rs (omega arith) h.1)
+
+pub counted_below : (lo from : ℕ) (rs : List Frames) (k : ℕ) (d : Frames) → Rises from rs → k < length (at_most lo rs) → (get_or rs k d).lo ≤ lo
+counted_below lo from [] k d h lt = absurd (omega arith)
+counted_below lo from (r ∷ rs) k d h lt = step (λ j less. counted_below lo (r.lo + 1) rs j d h.1 less) k lt (nat_le r.lo lo) refl
+  where
+    step : ((j : ℕ) → j < length (at_most lo rs) → (get_or rs j d).lo ≤ lo) → (k : ℕ) → k < length (at_most lo (r ∷ rs))
+        → (b : Bool) → nat_le r.lo lo ≡ b → (get_or (r ∷ rs) k d).lo ≤ lo
+    step later zero lt true is = grind (arith, nat_tests)
+    step later (suc k) lt true is = later k (let more : suc k < suc (length (at_most lo rs)) = rw is at lt in omega arith)
+    step later k lt false is =
+        let none : at_most lo rs ≡ [] = none_at_most lo (r.lo + 1) rs (grind (arith, nat_tests)) h.1 in
+        let less : k < length (at_most lo rs) = rw is at lt in
+        let few : k < 0 = rw none at less in absurd (omega arith)
+
+pub counted_above : (lo from : ℕ) (rs : List Frames) (k : ℕ) (d : Frames) → Rises from rs → length (at_most lo rs) ≤ k → k < length rs → lo < (get_or rs k d).lo
+counted_above lo from [] k d h ge lt = absurd (omega arith)
+counted_above lo from (r ∷ rs) k d h ge lt = step (λ j more less. counted_above lo (r.lo + 1) rs j d h.1 more less) k ge lt (nat_le r.lo lo) refl
+  where
+    step : ((j : ℕ) → length (at_most lo rs) ≤ j → j < length rs → lo < (get_or rs j d).lo) → (k : ℕ) → length (at_most lo (r ∷ rs)) ≤ k
+        → k < length (r ∷ rs) → (b : Bool) → nat_le r.lo lo ≡ b → lo < (get_or (r ∷ rs) k d).lo
+    step later zero ge lt true is = let less : suc (length (at_most lo rs)) ≤ 0 = rw is at ge in absurd (omega arith)
+    step later (suc k) ge lt true is = later k (let more : suc (length (at_most lo rs)) ≤ suc k = rw is at ge in omega arith) (omega arith)
+    step later k ge lt false is =
+        let above : lo < r.lo = grind (arith, nat_tests) in
+        let up : r.lo ≤ (get_or (r ∷ rs) k d).lo = get_or-Rises r.lo (r ∷ rs) k d (omega arith, h.1) lt in omega arith
+
+pub at_most_few : (lo : ℕ) (rs : List Frames) → length (at_most lo rs) ≤ length rs
+at_most_few lo [] = omega arith
+at_most_few lo (r ∷ rs) = step (at_most_few lo rs) (nat_le r.lo lo) refl
+  where
+    step : length (at_most lo rs) ≤ length rs → (b : Bool) → nat_le r.lo lo ≡ b → length (at_most lo (r ∷ rs)) ≤ length (r ∷ rs)
+    step few true is = rw is (omega (arith, few))
+    step few false is = rw is (omega (arith, few))
+
+pub near_within : (lo begin end : ℕ) (rs : List Frames) → begin ≤ end → end ≤ length rs → begin + length (at_most lo (take (end - begin) (drop begin rs))) ≤ end
+near_within lo begin end rs order within =
+    let dropped : length (drop begin rs) ≡ length rs - begin = length-drop begin rs in
+    let long : length (take (end - begin) (drop begin rs)) ≡ end - begin = length-take-le (end - begin) (drop begin rs) (omega arith) in
+    let few : length (at_most lo (take (end - begin) (drop begin rs))) ≤ length (take (end - begin) (drop begin rs)) = at_most_few lo (take (end - begin) (drop begin rs)) in
+    omega (arith, few, long, order)
+
+-- between two places, before which all begin there or below, and from which on none does
+pub reach_near : (lo begin end : ℕ) (rs : List Frames) → Rises 0 rs → begin ≤ end → end ≤ length rs → AllBefore begin lo rs → AllBehind end lo rs
+    → IsReach lo rs (begin + length (at_most lo (take (end - begin) (drop begin rs))))
+reach_near lo begin end rs rises order within before behind = record {
+  before = λ k d lt. low k d lt (nat_lt k begin) refl;
+  behind = λ k d ge lt. high k d ge lt (nat_lt k end) refl;
+}
+  where
+    near : List Frames
+    near = take (end - begin) (drop begin rs)
+
+    rising : Rises 0 near
+    rising = Rises-take 0 (end - begin) (drop begin rs) (Rises-drop 0 begin rs rises)
+
+    at : (j : ℕ) (d : Frames) → j < end - begin → get_or near j d ≡ get_or rs (begin + j) d
+    at j d lt = get_or-take (end - begin) (drop begin rs) j d lt ∙ get_or-drop begin rs j d
+
+    long : length near ≡ end - begin
+    long = length-take-le (end - begin) (drop begin rs) (let e : length (drop begin rs) ≡ length rs - begin = length-drop begin rs in omega arith)
+
+    most : length (at_most lo near) ≤ end - begin
+    most = let e : length (at_most lo near) ≤ length near = at_most_few lo near in omega (arith, e, long)
+
+    low : (k : ℕ) (d : Frames) → k < begin + length (at_most lo near) → (b : Bool) → nat_lt k begin ≡ b → (get_or rs k d).lo ≤ lo
+    low k d lt true is = before k d (grind (arith, nat_tests))
+    low k d lt false is =
+        let ge : begin ≤ k = grind (arith, nat_tests) in
+        let here : (get_or near (k - begin) d).lo ≤ lo = counted_below lo 0 near (k - begin) d rising (omega arith) in
+        let same : get_or near (k - begin) d ≡ get_or rs (begin + (k - begin)) d = at (k - begin) d (omega (arith, most)) in
+        let place : begin + (k - begin) ≡ k = omega arith in
+        rw (← place, ← same) here
+
+    high : (k : ℕ) (d : Frames) → begin + length (at_most lo near) ≤ k → k < length rs → (b : Bool) → nat_lt k end ≡ b → lo < (get_or rs k d).lo
+    high k d ge lt false is = behind k d (grind (arith, nat_tests)) lt
+    high k d ge lt true is =
+        let less : k < end = grind (arith, nat_tests) in
+        let here : lo < (get_or near (k - begin) d).lo = counted_above lo 0 near (k - begin) d rising (omega arith) (omega (arith, long)) in
+        let same : get_or near (k - begin) d ≡ get_or rs (begin + (k - begin)) d = at (k - begin) d (omega arith) in
+        let place : begin + (k - begin) ≡ k = omega arith in
+        rw (← place, ← same) here

@@ -1,5 +1,5 @@
 -- What `Clients` are seen as, and what refuses a call of theirs.
-use Rattle.std.specs.Prelude.{ℕ, ◌≡◌, ◌==◌, ◌+◌, ◌^◌, ◌<◌, ◌≤◌, Bool, true, nat_le, List, [], ◌∷◌, length, Option, Some, None, Result, Err, unwrap_or, find, option_map, ok_or, slice_get, slice_index_or}
+use Rattle.std.specs.Prelude.{ℕ, ◌≡◌, ◌==◌, ◌+◌, ◌^◌, ◌<◌, ◌≤◌, Bool, true, nat_le, List, [], ◌∷◌, length, Option, Some, None, Result, Err, unwrap_or, find, filter, option_map, ok_or, slice_get, slice_index_or}
 use Rattle.std.specs.List.{AllByRecursion}
 use Rattle.std.specs.Map.{lookup}
 use Rattle.iova_range.specs.declared.limits.TheConstants.{MAX_WORKERS, MAX_CLIENTS, MAX_HOLDINGS, MAX_SERIAL}
@@ -68,6 +68,15 @@ abbrev pub held_at : ℕ → Option Client → Result Frames Refusal
 held_at lo None = Err refusal.NoClient
 held_at lo (Some c) = ok_or (find (begins_at lo) c.holdings) refusal.NotHeld
 
+-- those that begin at `lo` or below
+abbrev pub at_most : ℕ → List Frames → List Frames
+at_most lo holdings = filter (λ (r : Frames). nat_le r.lo lo) holdings
+
+-- the holdings before this place begin at `lo` or below
+abbrev pub AllBefore : ℕ → ℕ → List Frames → Type 0
+AllBefore place lo holdings =
+    (k : ℕ) (d : Frames) → k < place → (slice_index_or holdings k d).lo ≤ lo
+
 -- the holdings from this place on begin above `lo`
 abbrev pub AllBehind : ℕ → ℕ → List Frames → Type 0
 AllBehind place lo holdings =
@@ -75,7 +84,7 @@ AllBehind place lo holdings =
 
 -- those before this place begin at `lo` or below, and the others above
 pub record IsReach (lo : ℕ) (holdings : List Frames) (place : ℕ) : Type 0 where
-  pub before : (k : ℕ) (d : Frames) → k < place → (slice_index_or holdings k d).lo ≤ lo
+  pub before : AllBefore place lo holdings
   pub behind : AllBehind place lo holdings
 
 -- the holding that begins there is at this place

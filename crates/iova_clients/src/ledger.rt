@@ -3,7 +3,7 @@ ghost use Rattle.std.specs.Prelude.{◌≡◌, ◌≤◌, ◌-◌, false, true, 
 ghost use Rattle.iova_model.specs.Fit.{is_covered};
 ghost use Rattle.iova_model.specs.Clients.{begins_at};
 ghost use Rattle.iova_model.specs.Valid.{Rises};
-ghost use Rattle.iova_clients.specs.Registry.{room_refusal, IsPlaceOf, IsReach, AllBehind};
+ghost use Rattle.iova_clients.specs.Registry.{room_refusal, IsPlaceOf, IsReach, AllBefore, AllBehind, at_most};
 ghost use Rattle.iova_clients.specs.Accounts.{client_at, with_held, without_held};
 
 use crate::holdings::Holdings;
@@ -39,6 +39,10 @@ impl Model for ClientLedger {
 /// The least number of holdings that are searched.
 const NEAR: usize = 128;
 
+/// How many holdings are compared with a frame one after another, with no step that the processor
+/// has to guess: half of the guesses in a search by halves are wrong.
+const COMPARED: usize = 16;
+
 /// A number of holdings from the first on, after which none begins there or below. New holdings
 /// come in front, so the first ones are looked at before all are.
 #[inline]
@@ -52,6 +56,42 @@ fn reach_at_most(holdings: &[Range], lo: u64) -> usize
         end *= 2;
     }
     end.min(holdings.len())
+}
+
+/// Between which places the first holding stands that begins behind `lo`, at most 16 of them: those
+/// before the first place begin at `lo` or below, those from the second place on behind it.
+#[inline]
+fn narrow(holdings: &[Range], lo: u64) -> (usize, usize)
+    requires { Rises 0 holdings.now }
+    ensures order { result.0 ≤ result.1 }
+    ensures within { result.1 ≤ length holdings.now }
+    ensures before { AllBefore result.0 lo holdings.now }
+    ensures behind { AllBehind result.1 lo holdings.now }
+{
+    let mut begin = 0;
+    let mut end = reach_at_most(holdings, lo);
+    while end - begin > COMPARED {
+        let middle = begin + (end - begin) / 2;
+        if holdings[middle].lo() <= lo {
+            begin = middle + 1;
+        } else {
+            end = middle;
+        }
+    }
+    (begin, end)
+}
+
+/// How many of the holdings begin at `lo` or below. No test decides what is done next: what is
+/// compared is added up.
+#[inline]
+fn count_at_most(holdings: &[Range], lo: u64) -> usize
+    ensures { result ≡ length (at_most lo holdings.now) }
+{
+    let mut count = 0;
+    for held in holdings {
+        count += if held.lo() <= lo { 1 } else { 0 };
+    }
+    count
 }
 
 impl ClientLedger {
@@ -162,7 +202,8 @@ impl ClientLedger {
         ensures reached { IsReach lo self.now.holdings result }
     {
         let holdings = self.holdings.as_slice();
-        holdings[..reach_at_most(holdings, lo)].partition_point(|held| held.lo() <= lo)
+        let (begin, end) = narrow(holdings, lo);
+        begin + count_at_most(&holdings[begin..end], lo)
     }
 
     /// How many holdings begin there or below. The last and the first are looked at before they are

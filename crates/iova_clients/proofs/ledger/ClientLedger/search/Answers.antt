@@ -1,20 +1,34 @@
-use Rattle.std.proofs.Common.{rules, of_calls, ◌≡◌, ◌≤◌, take, arith}
-use Rattle.std.specs.Prelude.{nat_le}
-use Rattle.std.proofs.lemmas.List.Sorted.{IsPartitionPoint-from_clause, IsPartitionedBy-leb}
-use Rattle.std.proofs.lemmas.List.{length-take-le}
-use Rattle.iova_range.specs.Frames.{Frames}
+use Rattle.std.proofs.Common.{◌+◌, ◌-◌, ◌≡◌, ◌≤◌, length, take, drop, arith}
 use Rattle.iova_model.specs.Valid.{Rises}
-use Rattle.iova_clients.proofs.Rising.{Rises-non_decreasing, Rises-take, reach_is}
+use Rattle.iova_clients.specs.Registry.{at_most}
+use Rattle.iova_clients.proofs.Rising.{reach_near, near_within}
 use Rattle.iova_clients.proofs.ledger.ClientLedger.search.Goals as goal
+
+pub overflow_add-result : goal.overflow_add-result
+overflow_add-result c =
+    let rs = c.as_slice-holdings.result.now in
+    let begin = c.narrow-begin.result.0 in
+    let end = c.narrow-begin.result.1 in
+    let counted : c.count_at_most.result ≡ length (at_most c.args.lo (take (end - begin) (drop begin rs))) = c.count_at_most.ensures in
+    let few : begin + c.count_at_most.result ≤ end = rw counted (near_within c.args.lo begin end rs c.narrow-begin.ensures.order c.narrow-begin.ensures.within) in
+    omega (arith, few)
+
+pub returns-clause-within : goal.returns-clause-within
+returns-clause-within c =
+    let rs = c.as_slice-holdings.result.now in
+    let begin = c.narrow-begin.result.0 in
+    let end = c.narrow-begin.result.1 in
+    let same : rs ≡ c.self.inside.holdings.ranges = c.as_slice-holdings.ensures in
+    let counted : c.count_at_most.result ≡ length (at_most c.args.lo (take (end - begin) (drop begin rs))) = c.count_at_most.ensures in
+    let few : begin + c.count_at_most.result ≤ end = rw counted (near_within c.args.lo begin end rs c.narrow-begin.ensures.order c.narrow-begin.ensures.within) in
+    rw (← c.self.view_is, ← same) (omega (arith, few, c.narrow-begin.ensures.within))
 
 pub returns-clause-reached : goal.returns-clause-reached
 returns-clause-reached c =
     let rs = c.as_slice-holdings.result.now in
-    let n = c.reach_at_most.result in
+    let begin = c.narrow-begin.result.0 in
+    let end = c.narrow-begin.result.1 in
     let same : rs ≡ c.self.inside.holdings.ranges = c.as_slice-holdings.ensures in
     let started : Rises 0 c.self.inside.holdings.ranges = rw (← c.self.view_is) at c.requires in
-    let rises : Rises 0 (take n rs) = Rises-take 0 n rs (rw same started) in
-    let parted = IsPartitionedBy-leb (λ (x : Frames). x.lo) (take n rs) c.args.lo (Rises-non_decreasing 0 (take n rs) rises) in
-    let point = IsPartitionPoint-from_clause (λ (x : Frames). nat_le x.lo c.args.lo) _ _ c.partition_point.ensures.partitioned parted (λ a r q k. search (rules, of_calls)) in
-    let few : c.partition_point.result ≤ n = omega (arith, c.partition_point.ensures.bound, length-take-le n rs c.reach_at_most.ensures.within) in
-    rw (← c.self.view_is, ← same) (reach_is c.args.lo n c.partition_point.result rs c.reach_at_most.ensures.within c.reach_at_most.ensures.behind few point)
+    let counted : c.count_at_most.result ≡ length (at_most c.args.lo (take (end - begin) (drop begin rs))) = c.count_at_most.ensures in
+    rw (← c.self.view_is, ← same, counted) (reach_near c.args.lo begin end rs (rw (← same) at started) c.narrow-begin.ensures.order c.narrow-begin.ensures.within c.narrow-begin.ensures.before c.narrow-begin.ensures.behind)
