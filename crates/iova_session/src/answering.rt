@@ -67,6 +67,7 @@ pub(crate) fn ask_all<L: Link, D: Desk>(
 {
     let mut asked = 0;
     'asking: while asked < run.len() {
+        // nothing, but where the last run's answers were not told
         room.answers.clear();
         match desk.ask_run(&run[asked..], &mut room.answers) {
             Ok(n) => asked += n,
@@ -78,6 +79,8 @@ pub(crate) fn ask_all<L: Link, D: Desk>(
             &mut room.text,
             &mut room.lists,
         )?;
+        // while they are in the processor's cache, which they leave before the next run
+        room.answers.clear();
     }
     Ok(())
 }
