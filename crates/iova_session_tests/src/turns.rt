@@ -1,5 +1,6 @@
 //! Sessions that take turns at one post, over a book: each is answered its own requests, wherever
 //! its bytes are cut, and nobody holds anything once both have departed.
+ghost use Rattle.std.specs.Prelude.{◌≤◌};
 ghost use Rattle.iova_keep.specs.Views.{AreBlanksOf};
 
 use iova_keep::ending::Ending;
@@ -12,7 +13,6 @@ use iova_range::bounds::Bounds;
 use iova_range::profile::Profile;
 use iova_range::refusal::Refusal;
 use iova_session::end::End;
-use iova_session::link::Link;
 use iova_session::memory_link::MemoryLink;
 use iova_session::paused::{PausedSession, RunRoom, depart, resume};
 use iova_session::post::Post;
@@ -62,21 +62,110 @@ struct Outcome {
     waiting: usize,
 }
 
+/// A session, and the link that it is answered over.
+#[derive(Drop)]
+struct Side<'a> {
+    paused: PausedSession,
+    link: MemoryLink<'a>,
+}
+
+impl<'a> Side<'a> {
+    /// A session of the domain of this number, whose link takes so many bytes at a time.
+    fn new(alloc: Global, number: u64, most: usize) -> Side<'a>
+        requires { 1 ≤ most }
+    {
+        Side {
+            paused: PausedSession::new(number, SessionLimits::usual()),
+            link: MemoryLink::new(alloc, b"", most, 0),
+        }
+    }
+}
+
 /// A turn of a session. Whether it is one of the keeper's domain.
-fn turn<C: Ledger, F: Ledger, S: Ledger, G: Ledger, L: Link, K: Keep<C, F, S, G>, D: Sink>(
-    paused: &mut PausedSession,
+fn turn<C: Ledger, F: Ledger, S: Ledger, G: Ledger, K: Keep<C, F, S, G>, D: Sink>(
+    side: &mut Side<'_>,
     piece: &[u8],
-    link: &mut L,
     keeper: &mut K,
     post: &mut Post<C, F, S, G>,
     sink: &mut D,
     room: &mut RunRoom,
 ) -> bool {
-    if paused.number() != keeper.number() {
+    if side.paused.number() != keeper.number() {
         return false;
     }
-    resume(paused, piece, link, keeper, post, sink, room);
+    resume(
+        &mut side.paused,
+        piece,
+        &mut side.link,
+        keeper,
+        post,
+        sink,
+        room,
+    );
     true
+}
+
+/// All turns. Whether each was one of the keeper's domain.
+fn take_turns<C: Ledger, F: Ledger, S: Ledger, G: Ledger, K: Keep<C, F, S, G>, D: Sink>(
+    first: &mut Side<'_>,
+    second: &mut Side<'_>,
+    keeper: &mut K,
+    post: &mut Post<C, F, S, G>,
+    sink: &mut D,
+    room: &mut RunRoom,
+) -> bool {
+    let mut taken = true;
+    for (is_second, piece) in TURNS {
+        taken = taken
+            && if is_second {
+                turn(second, piece, keeper, post, sink, room)
+            } else {
+                turn(first, piece, keeper, post, sink, room)
+            };
+    }
+    taken
+}
+
+/// Both sessions depart: what they came to.
+fn depart_both<C: Ledger, F: Ledger, S: Ledger, G: Ledger, K: Keep<C, F, S, G>, D: Sink>(
+    first: &Side<'_>,
+    second: &Side<'_>,
+    keeper: &mut K,
+    post: &mut Post<C, F, S, G>,
+    sink: &mut D,
+) -> Outcome {
+    let held = post.seat.held();
+    let departed = [
+        depart(&first.paused, keeper, post, sink),
+        depart(&second.paused, keeper, post, sink),
+    ];
+    Outcome {
+        ends: [first.paused.end(), second.paused.end()],
+        answered: [first.link.sent() == FIRST, second.link.sent() == SECOND],
+        held,
+        departed,
+        left: post.seat.held(),
+        gathered: keeper.totals(),
+        waiting: post.waiting.len(),
+    }
+}
+
+/// Both sessions, at this post.
+fn both_over<C: Ledger, F: Ledger, S: Ledger, G: Ledger, K: Keep<C, F, S, G>>(
+    alloc: Global,
+    keeper: &mut K,
+    post: &mut Post<C, F, S, G>,
+    room: &mut RunRoom,
+) -> Option<Outcome> {
+    let mut sink = MemorySink::new(0);
+    let number = keeper.number();
+    let mut first = Side::new(alloc, number, 4096);
+    let mut second = Side::new(alloc, number, 5);
+    if take_turns(&mut first, &mut second, keeper, post, &mut sink, room) {
+        Some(depart_both(&first, &second, keeper, post, &mut sink))
+    } else {
+        None
+    }
 }
 
 /// Both sessions, at the post of this seat.
@@ -85,54 +174,9 @@ fn both_at<C: Ledger, F: Ledger, S: Ledger, G: Ledger, K: Keep<C, F, S, G> + Dro
     mut keeper: K,
     seat: Seat<C, F, S, G>,
 ) -> Option<Outcome> {
-    let mut post = Post::new(alloc, seat);
     let mut room = RunRoom::new(alloc)?;
-    let mut sink = MemorySink::new(0);
-    let number = keeper.number();
-    let mut first = PausedSession::new(number, SessionLimits::usual());
-    let mut second = PausedSession::new(number, SessionLimits::usual());
-    let mut first_link = MemoryLink::new(alloc, b"", 4096, 0);
-    let mut second_link = MemoryLink::new(alloc, b"", 5, 0);
-    for (is_second, piece) in TURNS {
-        let taken = if is_second {
-            turn(
-                &mut second,
-                piece,
-                &mut second_link,
-                &mut keeper,
-                &mut post,
-                &mut sink,
-                &mut room,
-            )
-        } else {
-            turn(
-                &mut first,
-                piece,
-                &mut first_link,
-                &mut keeper,
-                &mut post,
-                &mut sink,
-                &mut room,
-            )
-        };
-        if !taken {
-            return None;
-        }
-    }
-    let held = post.seat.held();
-    let departed = [
-        depart(&first, &mut keeper, &mut post, &mut sink),
-        depart(&second, &mut keeper, &mut post, &mut sink),
-    ];
-    Some(Outcome {
-        ends: [first.end(), second.end()],
-        answered: [first_link.sent() == FIRST, second_link.sent() == SECOND],
-        held,
-        departed,
-        left: post.seat.held(),
-        gathered: keeper.totals(),
-        waiting: post.waiting.len(),
-    })
+    let mut post = Post::new(alloc, seat);
+    both_over(alloc, &mut keeper, &mut post, &mut room)
 }
 
 /// The same over a book of a fresh domain 0 with frames 1 to 1023 and one worker.
