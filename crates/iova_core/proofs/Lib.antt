@@ -11,7 +11,6 @@ mod Readers
 mod Reductions
 mod Reclaims
 mod Ties
-mod SmallSizes
 mod Tries
 mod Walks
 mod Windows

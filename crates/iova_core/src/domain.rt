@@ -12,7 +12,7 @@ ghost use Rattle.iova_model.specs.Next.{next, reserve, open_client, alloc, unmap
 ghost use Rattle.iova_core.specs.Domain.{IsStepOf, place_inside, frames_in_rings};
 
 use crate::reclaim::{drain, drain_unless};
-use crate::walk::{Walked, is_at_hand, is_cached, order_for, order_of_need, size_for, walk};
+use crate::walk::{Walked, is_at_hand, walk};
 use iova_clients::{ClientId, Clients};
 use iova_depot::caches::Caches;
 use iova_depot::spot::Spot;
@@ -30,6 +30,7 @@ use iova_range::bounds::Bounds;
 use iova_range::limits::{MAX_FRAMES, MAX_WORKERS, ORDERS};
 use iova_range::range::Range;
 use iova_range::refusal::Refusal;
+use iova_range::sizes::{is_cached, order_for, order_of_need, size_for};
 use iova_tree::tree::Tree;
 use std::alloc::Global;
 use std::marker::Model;

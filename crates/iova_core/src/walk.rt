@@ -1,11 +1,11 @@
 //! The walk of a request: the caches, the tree, and the tree again once the caches are emptied.
 
-ghost use Rattle.std.specs.Prelude.{◌≡◌, ◌≢◌, ◌≤◌, ◌<◌, ◌^◌, [], Bool, Some, ◌↔◌, IsTrue, IsFalse, IfSome, IfNone, OnSome};
+ghost use Rattle.std.specs.Prelude.{◌≡◌, ◌≢◌, ◌≤◌, ◌<◌, ◌^◌, [], Bool, Some, IsTrue, IsFalse, IfSome, IfNone, OnSome};
 ghost use Rattle.iova_model.specs.Fit.{best};
 ghost use Rattle.iova_model.specs.State.{State};
 ghost use Rattle.iova_model.specs.Next as next;
 ghost use Rattle.iova_model.specs.declared.step.Point.TheVariants.{First, Second};
-ghost use Rattle.iova_range.specs.Sizes.{need, order_of};
+ghost use Rattle.iova_range.specs.Sizes.{order_of};
 ghost use Rattle.iova_tree.specs.Space.{IsSpace, ranges_of};
 ghost use Rattle.iova_depot.specs.Cached.{IsCached, with_contents};
 ghost use Rattle.iova_core.specs.Reclaim.{IsBacked, Exchanges};
@@ -28,62 +28,6 @@ pub enum Walked {
     Nowhere,
     /// The growth at this point was refused.
     OutOfMemory(Point),
-}
-
-/// The most frames of a range that has an order.
-pub const MOST_CACHED: u64 = 1 << (ORDERS - 1);
-
-/// Whether what a request for so many frames is given has an order.
-#[inline(always)]
-pub fn is_cached(frames: u64) -> bool
-    ensures { IsTrue result ↔ ((1 ≤ frames) × (frames ≤ MOST_CACHED)) }
-{
-    frames != 0 && frames <= MOST_CACHED
-}
-
-/// The order of what a request for 1 to 32 frames is given.
-#[inline(always)]
-pub fn order_of_need(frames: u64) -> u8
-    requires some { 1 ≤ frames }
-    requires few { frames ≤ MOST_CACHED }
-    ensures is { order_of (need frames) ≡ Some result }
-    ensures low { result < ORDERS }
-    ensures size { need frames ≡ 2 ^ result }
-{
-    (63 - (2 * frames - 1).leading_zeros()) as u8
-}
-
-/// The order of what a request for `frames` frames is given, where it has one: `need(frames)` is a
-/// power of two up to 32 frames, and has no order above.
-#[inline(always)]
-pub fn order_for(frames: u64) -> Option<u8>
-    requires some { 1 ≤ frames }
-    requires bounded { frames ≤ MAX_FRAMES }
-    ensures is { result ≡ order_of (need frames) }
-    ensures order { IfSome result (λ order. (order < ORDERS) × (need frames ≡ 2 ^ order)) }
-    ensures none { IfNone result (need frames ≡ frames) }
-{
-    if frames > MOST_CACHED {
-        return None;
-    }
-    Some(order_of_need(frames))
-}
-
-/// What a request for `frames` frames is given, whose order is that of `order_for`.
-#[inline(always)]
-pub fn size_for(frames: u64, order: Option<u8>) -> u64
-    requires some { 1 ≤ frames }
-    requires bounded { frames ≤ MAX_FRAMES }
-    requires order { IfSome order (λ order. (order < ORDERS) × (need frames ≡ 2 ^ order)) }
-    requires none { IfNone order (need frames ≡ frames) }
-    ensures is { result ≡ need frames }
-    ensures some { 1 ≤ result }
-    ensures bounded { result ≤ MAX_FRAMES }
-{
-    match order {
-        Some(order) => 1 << order,
-        None => frames,
-    }
 }
 
 /// Asks the caches of worker `w`.

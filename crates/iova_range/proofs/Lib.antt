@@ -1,2 +1,3 @@
 pub mod Powers
+mod SmallSizes
 mod Examples

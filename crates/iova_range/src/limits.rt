@@ -23,6 +23,9 @@ pub const MAX_FRAMES: u64 = 1_048_576;
 /// (`IOVA_RANGE_CACHE_MAX_SIZE` of Linux 5.15 `include/linux/iova.h`).
 pub const ORDERS: usize = 6;
 
+/// The most frames of a range that has an order.
+pub const MOST_CACHED: u64 = 1 << (ORDERS - 1);
+
 /// How many slots a flush ring has (`IOVA_FQ_SIZE` of Linux 5.15 `include/linux/iova.h`).
 pub const RING_SLOTS: usize = 256;
 

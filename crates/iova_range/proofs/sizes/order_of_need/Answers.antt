@@ -1,7 +1,7 @@
 use Rattle.std.proofs.Common.{ap, ◌∙◌, arith}
 use Rattle.iova_range.specs.Sizes.{order_of}
-use Rattle.iova_core.proofs.SmallSizes.{small_size, order_of_power}
-use Rattle.iova_core.proofs.walk.order_of_need.Goals as goal
+use Rattle.iova_range.proofs.SmallSizes.{small_size, order_of_power}
+use Rattle.iova_range.proofs.sizes.order_of_need.Goals as goal
 
 pub returns-clause-low : goal.returns-clause-low
 returns-clause-low c =
