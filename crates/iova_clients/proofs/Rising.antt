@@ -7,7 +7,7 @@ use Rattle.std.proofs.lemmas.List.{get_or-take, get_or-drop, get_or_default, len
 use Rattle.iova_range.specs.Frames.{Frames}
 use Rattle.iova_model.specs.Clients.{insert_rising, begins_at, remove_at}
 use Rattle.iova_model.specs.Valid.{Rises}
-use Rattle.iova_clients.specs.Registry.{AllBefore, AllBehind, IsReach, at_most}
+use Rattle.iova_clients.specs.Registry.{AllBefore, AllBehind, IsReach, beginning_at_most}
 
 -- a later start asks more
 pub Rises-from : (low high : ℕ) (rs : List Frames) → low ≤ high → Rises high rs → Rises low rs
@@ -172,56 +172,56 @@ Rises-drop from (suc n) (r ∷ rs) h = Rises-drop (r.lo + 1) n rs h.1
 
 -- How many begin at a frame or below, counted.
 
-pub none_at_most : (lo from : ℕ) (rs : List Frames) → lo < from → Rises from rs → at_most lo rs ≡ []
+pub none_at_most : (lo from : ℕ) (rs : List Frames) → lo < from → Rises from rs → beginning_at_most lo rs ≡ []
 none_at_most lo from [] lt h = refl
 none_at_most lo from (r ∷ rs) lt h =
     let first : from ≤ r.lo = h.0 in
     let above : nat_le r.lo lo ≡ false = grind (arith, nat_tests) in
     rw above (none_at_most lo (r.lo + 1) rs (omega arith) h.1)
 
-pub counted_below : (lo from : ℕ) (rs : List Frames) (k : ℕ) (d : Frames) → Rises from rs → k < length (at_most lo rs) → (get_or rs k d).lo ≤ lo
+pub counted_below : (lo from : ℕ) (rs : List Frames) (k : ℕ) (d : Frames) → Rises from rs → k < length (beginning_at_most lo rs) → (get_or rs k d).lo ≤ lo
 counted_below lo from [] k d h lt = absurd (omega arith)
 counted_below lo from (r ∷ rs) k d h lt = step (λ j less. counted_below lo (r.lo + 1) rs j d h.1 less) k lt (nat_le r.lo lo) refl
   where
-    step : ((j : ℕ) → j < length (at_most lo rs) → (get_or rs j d).lo ≤ lo) → (k : ℕ) → k < length (at_most lo (r ∷ rs))
+    step : ((j : ℕ) → j < length (beginning_at_most lo rs) → (get_or rs j d).lo ≤ lo) → (k : ℕ) → k < length (beginning_at_most lo (r ∷ rs))
         → (b : Bool) → nat_le r.lo lo ≡ b → (get_or (r ∷ rs) k d).lo ≤ lo
     step later zero lt true is = grind (arith, nat_tests)
-    step later (suc k) lt true is = later k (let more : suc k < suc (length (at_most lo rs)) = rw is at lt in omega arith)
+    step later (suc k) lt true is = later k (let more : suc k < suc (length (beginning_at_most lo rs)) = rw is at lt in omega arith)
     step later k lt false is =
-        let none : at_most lo rs ≡ [] = none_at_most lo (r.lo + 1) rs (grind (arith, nat_tests)) h.1 in
-        let less : k < length (at_most lo rs) = rw is at lt in
+        let none : beginning_at_most lo rs ≡ [] = none_at_most lo (r.lo + 1) rs (grind (arith, nat_tests)) h.1 in
+        let less : k < length (beginning_at_most lo rs) = rw is at lt in
         let few : k < 0 = rw none at less in absurd (omega arith)
 
-pub counted_above : (lo from : ℕ) (rs : List Frames) (k : ℕ) (d : Frames) → Rises from rs → length (at_most lo rs) ≤ k → k < length rs → lo < (get_or rs k d).lo
+pub counted_above : (lo from : ℕ) (rs : List Frames) (k : ℕ) (d : Frames) → Rises from rs → length (beginning_at_most lo rs) ≤ k → k < length rs → lo < (get_or rs k d).lo
 counted_above lo from [] k d h ge lt = absurd (omega arith)
 counted_above lo from (r ∷ rs) k d h ge lt = step (λ j more less. counted_above lo (r.lo + 1) rs j d h.1 more less) k ge lt (nat_le r.lo lo) refl
   where
-    step : ((j : ℕ) → length (at_most lo rs) ≤ j → j < length rs → lo < (get_or rs j d).lo) → (k : ℕ) → length (at_most lo (r ∷ rs)) ≤ k
+    step : ((j : ℕ) → length (beginning_at_most lo rs) ≤ j → j < length rs → lo < (get_or rs j d).lo) → (k : ℕ) → length (beginning_at_most lo (r ∷ rs)) ≤ k
         → k < length (r ∷ rs) → (b : Bool) → nat_le r.lo lo ≡ b → lo < (get_or (r ∷ rs) k d).lo
-    step later zero ge lt true is = let less : suc (length (at_most lo rs)) ≤ 0 = rw is at ge in absurd (omega arith)
-    step later (suc k) ge lt true is = later k (let more : suc (length (at_most lo rs)) ≤ suc k = rw is at ge in omega arith) (omega arith)
+    step later zero ge lt true is = let less : suc (length (beginning_at_most lo rs)) ≤ 0 = rw is at ge in absurd (omega arith)
+    step later (suc k) ge lt true is = later k (let more : suc (length (beginning_at_most lo rs)) ≤ suc k = rw is at ge in omega arith) (omega arith)
     step later k ge lt false is =
         let above : lo < r.lo = grind (arith, nat_tests) in
         let up : r.lo ≤ (get_or (r ∷ rs) k d).lo = get_or-Rises r.lo (r ∷ rs) k d (omega arith, h.1) lt in omega arith
 
-pub at_most_few : (lo : ℕ) (rs : List Frames) → length (at_most lo rs) ≤ length rs
+pub at_most_few : (lo : ℕ) (rs : List Frames) → length (beginning_at_most lo rs) ≤ length rs
 at_most_few lo [] = omega arith
 at_most_few lo (r ∷ rs) = step (at_most_few lo rs) (nat_le r.lo lo) refl
   where
-    step : length (at_most lo rs) ≤ length rs → (b : Bool) → nat_le r.lo lo ≡ b → length (at_most lo (r ∷ rs)) ≤ length (r ∷ rs)
+    step : length (beginning_at_most lo rs) ≤ length rs → (b : Bool) → nat_le r.lo lo ≡ b → length (beginning_at_most lo (r ∷ rs)) ≤ length (r ∷ rs)
     step few true is = rw is (omega (arith, few))
     step few false is = rw is (omega (arith, few))
 
-pub near_within : (lo begin end : ℕ) (rs : List Frames) → begin ≤ end → end ≤ length rs → begin + length (at_most lo (take (end - begin) (drop begin rs))) ≤ end
+pub near_within : (lo begin end : ℕ) (rs : List Frames) → begin ≤ end → end ≤ length rs → begin + length (beginning_at_most lo (take (end - begin) (drop begin rs))) ≤ end
 near_within lo begin end rs order within =
     let dropped : length (drop begin rs) ≡ length rs - begin = length-drop begin rs in
     let long : length (take (end - begin) (drop begin rs)) ≡ end - begin = length-take-le (end - begin) (drop begin rs) (omega arith) in
-    let few : length (at_most lo (take (end - begin) (drop begin rs))) ≤ length (take (end - begin) (drop begin rs)) = at_most_few lo (take (end - begin) (drop begin rs)) in
+    let few : length (beginning_at_most lo (take (end - begin) (drop begin rs))) ≤ length (take (end - begin) (drop begin rs)) = at_most_few lo (take (end - begin) (drop begin rs)) in
     omega (arith, few, long, order)
 
 -- between two places, before which all begin there or below, and from which on none does
 pub reach_near : (lo begin end : ℕ) (rs : List Frames) → Rises 0 rs → begin ≤ end → end ≤ length rs → AllBefore begin lo rs → AllBehind end lo rs
-    → IsReach lo rs (begin + length (at_most lo (take (end - begin) (drop begin rs))))
+    → IsReach lo rs (begin + length (beginning_at_most lo (take (end - begin) (drop begin rs))))
 reach_near lo begin end rs rises order within before behind = record {
   before = λ k d lt. low k d lt (nat_lt k begin) refl;
   behind = λ k d ge lt. high k d ge lt (nat_lt k end) refl;
@@ -239,10 +239,10 @@ reach_near lo begin end rs rises order within before behind = record {
     long : length near ≡ end - begin
     long = length-take-le (end - begin) (drop begin rs) (let e : length (drop begin rs) ≡ length rs - begin = length-drop begin rs in omega arith)
 
-    most : length (at_most lo near) ≤ end - begin
-    most = let e : length (at_most lo near) ≤ length near = at_most_few lo near in omega (arith, e, long)
+    most : length (beginning_at_most lo near) ≤ end - begin
+    most = let e : length (beginning_at_most lo near) ≤ length near = at_most_few lo near in omega (arith, e, long)
 
-    low : (k : ℕ) (d : Frames) → k < begin + length (at_most lo near) → (b : Bool) → nat_lt k begin ≡ b → (get_or rs k d).lo ≤ lo
+    low : (k : ℕ) (d : Frames) → k < begin + length (beginning_at_most lo near) → (b : Bool) → nat_lt k begin ≡ b → (get_or rs k d).lo ≤ lo
     low k d lt true is = before k d (grind (arith, nat_tests))
     low k d lt false is =
         let ge : begin ≤ k = grind (arith, nat_tests) in
@@ -251,7 +251,7 @@ reach_near lo begin end rs rises order within before behind = record {
         let place : begin + (k - begin) ≡ k = omega arith in
         rw (← place, ← same) here
 
-    high : (k : ℕ) (d : Frames) → begin + length (at_most lo near) ≤ k → k < length rs → (b : Bool) → nat_lt k end ≡ b → lo < (get_or rs k d).lo
+    high : (k : ℕ) (d : Frames) → begin + length (beginning_at_most lo near) ≤ k → k < length rs → (b : Bool) → nat_lt k end ≡ b → lo < (get_or rs k d).lo
     high k d ge lt false is = behind k d (grind (arith, nat_tests)) lt
     high k d ge lt true is =
         let less : k < end = grind (arith, nat_tests) in

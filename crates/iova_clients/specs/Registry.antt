@@ -69,8 +69,8 @@ held_at lo None = Err refusal.NoClient
 held_at lo (Some c) = ok_or (find (begins_at lo) c.holdings) refusal.NotHeld
 
 -- those that begin at `lo` or below
-abbrev pub at_most : ℕ → List Frames → List Frames
-at_most lo holdings = filter (λ (r : Frames). nat_le r.lo lo) holdings
+abbrev pub beginning_at_most : ℕ → List Frames → List Frames
+beginning_at_most lo holdings = filter (λ (r : Frames). nat_le r.lo lo) holdings
 
 -- the holdings before this place begin at `lo` or below
 abbrev pub AllBefore : ℕ → ℕ → List Frames → Type 0

@@ -1,9 +1,9 @@
 //! The ledger of one client.
-ghost use Rattle.std.specs.Prelude.{◌≡◌, ◌≤◌, ◌-◌, false, true, [], find, length, Some, Err, OnOk, OnErr, OnSome, IfSome, IfNone, None, IsOkUnless};
+ghost use Rattle.std.specs.Prelude.{◌≡◌, ◌≤◌, ◌+◌, ◌-◌, false, true, [], find, length, Some, Err, OnOk, OnErr, OnSome, IfSome, IfNone, None, IsOkUnless};
 ghost use Rattle.iova_model.specs.Fit.{is_covered};
 ghost use Rattle.iova_model.specs.Clients.{begins_at};
 ghost use Rattle.iova_model.specs.Valid.{Rises};
-ghost use Rattle.iova_clients.specs.Registry.{room_refusal, IsPlaceOf, IsReach, AllBefore, AllBehind, at_most};
+ghost use Rattle.iova_clients.specs.Registry.{room_refusal, IsPlaceOf, IsReach, AllBefore, AllBehind, beginning_at_most};
 ghost use Rattle.iova_clients.specs.Accounts.{client_at, with_held, without_held};
 
 use crate::holdings::Holdings;
@@ -58,12 +58,13 @@ fn reach_at_most(holdings: &[Range], lo: u64) -> usize
     end.min(holdings.len())
 }
 
-/// Between which places the first holding stands that begins behind `lo`, at most 16 of them: those
-/// before the first place begin at `lo` or below, those from the second place on behind it.
+/// Two places, with at most 16 holdings from the first up to the second: those before the first
+/// begin at `lo` or below, those from the second on behind it.
 #[inline]
 fn narrow(holdings: &[Range], lo: u64) -> (usize, usize)
     requires { Rises 0 holdings.now }
     ensures order { result.0 ≤ result.1 }
+    ensures few { result.1 ≤ result.0 + COMPARED }
     ensures within { result.1 ≤ length holdings.now }
     ensures before { AllBefore result.0 lo holdings.now }
     ensures behind { AllBehind result.1 lo holdings.now }
@@ -85,7 +86,7 @@ fn narrow(holdings: &[Range], lo: u64) -> (usize, usize)
 /// compared is added up.
 #[inline]
 fn count_at_most(holdings: &[Range], lo: u64) -> usize
-    ensures { result ≡ length (at_most lo holdings.now) }
+    ensures { result ≡ length (beginning_at_most lo holdings.now) }
 {
     let mut count = 0;
     for held in holdings {
