@@ -1,5 +1,5 @@
 //! The files and sockets of a daemon: what it listens on, the sinks that it calls, the file of its
-//! record, and where its notices go. It starts no thread, and knows of no domain.
+//! record, and where its notices go. It starts no thread, and has no domain.
 #![tactic(auto)]
 
 pub mod cause;

@@ -1,6 +1,6 @@
 //! What a daemon's sessions come over and call: sockets and their links, sinks that posts share,
 //! and which worker is the least busy; pauses, what asks for a stop, and what is done beside the
-//! sessions. It starts no thread, and knows of no domain.
+//! sessions. It starts no thread, and has no domain.
 #![tactic(auto)]
 
 pub mod accept;

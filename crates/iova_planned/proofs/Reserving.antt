@@ -6,7 +6,7 @@ use Rattle.iova_model.specs.declared.step.Reply.TheVariants as reply
 use Rattle.iova_model.specs.State.{State}
 use Rattle.iova_keep.specs.Steps.{Takes}
 use Rattle.iova_lock.specs.Books.{BookState}
-use Rattle.iova_planned.specs.Plans.{IsReserved, ReservesAll}
+use Rattle.iova_planned.specs.PlannedDomains.{IsReserved, ReservesAll}
 
 -- one window, by its first and its last frame
 reserved_one : (w got : Frames) (hi : ℕ) (s t : State) → hi + 1 ≡ w.lo + w.len → Takes s (step.Reserve w.lo hi) (reply.Reserved got) t

@@ -2,7 +2,7 @@
 ghost use Rattle.std.specs.Prelude.{◌≡◌, [], ◌∷◌, IfErr, IfOk, IfSome, map};
 ghost use Rattle.iova_range.specs.declared.limits.TheConstants.{SEAT_PARTS};
 ghost use Rattle.iova_keep.specs.Views.{AreBlanksOf, IsReserveRefusal, seats_in_turn};
-ghost use Rattle.iova_planned.specs.Plans.{AreNewSeats, IsReserved, planned_book, seat_count, steps_of};
+ghost use Rattle.iova_planned.specs.PlannedDomains.{AreNewSeats, IsReserved, planned_book, seat_count, steps_of};
 
 use crate::seats::seat_count;
 use iova_command::plan::Plan;

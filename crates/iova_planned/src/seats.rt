@@ -1,7 +1,7 @@
 //! How many seats a plan's domain has.
 ghost use Rattle.std.specs.Prelude.{◌≡◌, ◌≤◌, unwrap_or};
 ghost use Rattle.iova_range.specs.declared.limits.TheConstants.{MAX_CLIENTS};
-ghost use Rattle.iova_planned.specs.Plans.{seat_count};
+ghost use Rattle.iova_planned.specs.PlannedDomains.{seat_count};
 
 use iova_command::plan::Plan;
 

@@ -2,7 +2,7 @@
 ghost use Rattle.std.specs.Prelude.{◌≡◌, ◌<◌, ◌≤◌, ◌+◌, None, Err, IfErr, IfOk, map, length, unwrap_or, vec_len};
 ghost use Rattle.iova_keep.specs.Views.{AreBlanksOf};
 ghost use Rattle.iova_command.specs.declared.plan.Plan.{Plan};
-ghost use Rattle.iova_planned.specs.Plans.{AreNewSeats, seat_count};
+ghost use Rattle.iova_planned.specs.PlannedDomains.{AreNewSeats, seat_count};
 ghost use Rattle.iovad.specs.Plans.{AreOfAllSeats, IsAboveProfile, IsBoundsOf, IsFaultOfServing, planned_limits};
 
 use iova_command::plan::Plan;
