@@ -9,3 +9,4 @@ pub mod notices;
 pub mod record_file;
 pub mod sharing;
 pub mod sinks;
+pub mod standard;

@@ -8,6 +8,7 @@ use daemon::serve;
 use iova_command::asked::Asked;
 use iova_command::plan::Plan;
 use iova_command::words::{asked, words};
+use iova_files::standard::hold_closed_streams;
 use iova_keep::ledgers::Blanks;
 use iova_links::dial::Dial;
 use iova_planned::seats::seat_count;
@@ -27,6 +28,7 @@ use std::sync::Wait;
 use std::thread::Threads;
 
 fn main(rt: HostRuntime) -> ExitCode {
+    hold_closed_streams(&rt);
     let words = match words(&rt) {
         Ok(words) => words,
         Err(fault) => return Fault::from(fault).tell(&rt),

@@ -1,0 +1,24 @@
+//! The standard streams that the program was started without.
+use std::fs::File;
+use std::os::fd::{AsRawFd, IntoRawFd, RawFd};
+use std::rt::Files;
+
+/// The number of standard error, the last of the three streams.
+const STANDARD_ERROR: RawFd = 2;
+
+/// What takes a stream's number: a folder is neither read nor written, as a stream that is closed.
+const ROOT: &str = "/";
+
+/// Takes the numbers of the standard streams that are closed, so that no file and no socket gets
+/// one: what is printed or told would be written there. It comes before anything is opened.
+pub fn hold_closed_streams<R: Files<File = File>>(rt: &R) {
+    for _ in 0..=STANDARD_ERROR {
+        match File::open(rt, ROOT) {
+            Ok(file) if file.as_raw_fd() <= STANDARD_ERROR => {
+                // it stays open until the program ends
+                let _ = file.into_raw_fd();
+            }
+            _ => return,
+        }
+    }
+}
