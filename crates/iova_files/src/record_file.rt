@@ -1,4 +1,4 @@
-//! The file of a record.
+//! The file of a record, and files that are opened beside another one.
 use crate::cause::tell_cause;
 use log::Log;
 use std::fs::{File, OpenOptions};
@@ -16,14 +16,14 @@ pub struct RecordFile<'a> {
 
 impl<'a> RecordFile<'a> {
     /// The file at this path, with what stands in it. None, which is told, where it can't be opened
-    /// for writing, or is the file at `other`.
+    /// for writing, or is the plain file at one of the other paths.
     pub fn open<R: Files<File = File>, N: Log>(
         rt: &R,
         notices: &N,
         path: &'a str,
-        other: &str,
+        others: &[&str],
     ) -> Option<RecordFile<'a>> {
-        match opened(rt, path, other) {
+        match open_beside(rt, path, others) {
             Ok(file) => Some(RecordFile { path, file }),
             Err(error) => {
                 tell_cause(notices, "open", path, &error);
@@ -45,17 +45,19 @@ impl<'a> RecordFile<'a> {
     }
 }
 
-/// The file at this path, which is made where it isn't there. Refused where it is the one at the
-/// other path.
-fn opened<R: Files<File = File>>(rt: &R, path: &str, other: &str) -> io::Result<File> {
+/// The file at this path, open for writing, with what stands in it. It is made where it isn't
+/// there. `AlreadyExists` where it is the plain file at one of the other paths.
+pub fn open_beside<R: Files<File = File>>(rt: &R, path: &str, others: &[&str]) -> io::Result<File> {
     let file = OpenOptions::new().write(true).create(true).open(rt, path)?;
-    if is_at(rt, &file, other) {
-        return Err(io::Error::from(ErrorKind::AlreadyExists));
+    for other in others {
+        if is_at(rt, &file, other) {
+            return Err(io::Error::from(ErrorKind::AlreadyExists));
+        }
     }
     Ok(file)
 }
 
-/// Whether this file is the one at this path.
+/// Whether this file is the plain one at this path.
 fn is_at<R: Files<File = File>>(rt: &R, file: &File, path: &str) -> bool {
     let Ok(this) = file.metadata() else {
         return false;

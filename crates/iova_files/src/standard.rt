@@ -1,4 +1,5 @@
-//! The standard streams that the program was started without.
+//! Standard input by its path, and the standard streams that the program was started without.
+use iova_command::words::STANDARD_INPUT;
 use std::fs::File;
 use std::os::fd::{AsRawFd, IntoRawFd, RawFd};
 use std::rt::Files;
@@ -8,6 +9,18 @@ const STANDARD_ERROR: RawFd = 2;
 
 /// What takes a stream's number: a folder is neither read nor written, as a stream that is closed.
 const ROOT: &str = "/";
+
+/// Where standard input is.
+const INPUT_PATH: &str = "/dev/stdin";
+
+/// The path of the input of this name: `-` is standard input.
+pub fn path_of_input(name: &str) -> &str {
+    if name == STANDARD_INPUT {
+        INPUT_PATH
+    } else {
+        name
+    }
+}
 
 /// Takes the numbers of the standard streams that are closed, so that no file and no socket gets
 /// one: what is printed or told would be written there. It comes before anything is opened.

@@ -3,6 +3,8 @@ use crate::answer::answer;
 use crate::fault::Fault;
 use iova_command::words::STANDARD_INPUT;
 use iova_files::cause::tell_cause;
+use iova_files::record_file::open_beside;
+use iova_files::standard::path_of_input;
 use iova_trace::log::{Log, LogWriter, NoLog};
 use std::fs::File;
 use std::io;
@@ -13,7 +15,7 @@ use std::rt::{Files, Runtime};
 const BUFFER: usize = 65_536;
 
 /// Replays the trace of this name to standard output, and writes its log to a file where one is
-/// named, which is created or emptied before the trace is opened.
+/// named, which is created or emptied before the trace is opened, and may not be the trace's own.
 pub fn replay<'a, R>(
     rt: &R,
     path: &'a str,
@@ -26,13 +28,23 @@ where
     let Some(name) = log else {
         return replay_trace(rt, path, has_report, &mut NoLog);
     };
-    match File::create(rt, name) {
+    match create_log(rt, name, path) {
         Ok(file) => replay_to(rt, path, has_report, file),
         Err(error) => {
             tell_cause(rt, "open", name, &error);
             Err(Fault::CannotWrite)
         }
     }
+}
+
+/// The file of this name, created or emptied. `AlreadyExists` where it is the trace's own, which
+/// stays as it is.
+fn create_log<R: Files<File = File>>(rt: &R, name: &str, trace: &str) -> io::Result<File> {
+    let file = open_beside(rt, name, &[path_of_input(trace)])?;
+    if file.metadata()?.is_file() {
+        file.set_len(0)?;
+    }
+    Ok(file)
 }
 
 /// The same, with its log to this file.

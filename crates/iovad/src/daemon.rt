@@ -17,6 +17,7 @@ use iova_files::notices::{CountedConsole, Notices};
 use iova_files::record_file::RecordFile;
 use iova_files::sharing::{share_all, sinks_in_turn};
 use iova_files::sinks::{DaemonSink, SinkPlace, open_sink};
+use iova_files::standard::path_of_input;
 use iova_keep::keep::Keep;
 use iova_keep::ledgers::Blanks;
 use iova_links::accept::Accept;
@@ -592,7 +593,8 @@ fn open_all<'a, 'p, R: AllocGlobal + Clock + Eprint + Net + Dial + Files<File = 
     }
 }
 
-/// The record's file, where one is wanted. Refused by `CannotWrite`.
+/// The record's file, where one is wanted. Refused by `CannotWrite`, also where it is the sink's or
+/// the regions' file.
 fn open_record<'a, 'p, R: Clock + Eprint + Files<File = File>>(
     run: &Running<'a, R>,
     plan: &Plan<'p>,
@@ -600,7 +602,11 @@ fn open_record<'a, 'p, R: Clock + Eprint + Files<File = File>>(
     let Some(path) = plan.record else {
         return Ok(None);
     };
-    match RecordFile::open(run.rt, run.notices, path, plan.sink) {
+    let regions = match plan.regions {
+        Some(name) => path_of_input(name),
+        None => plan.sink,
+    };
+    match RecordFile::open(run.rt, run.notices, path, &[plan.sink, regions]) {
         Some(file) => Ok(Some(file)),
         None => Err(Hindrance::CannotWrite),
     }
