@@ -7,6 +7,9 @@ use std::os::unix::fs::MetadataExt;
 use std::rt::Files;
 use std::{fs, io};
 
+/// What is told of a file that is one of the others.
+const IN_USE: &str = "this run uses it already";
+
 /// The file that a record is written to, open from a daemon's start to its end.
 #[derive(Drop)]
 pub struct RecordFile<'a> {
@@ -51,7 +54,7 @@ pub fn open_beside<R: Files<File = File>>(rt: &R, path: &str, others: &[&str]) -
     let file = OpenOptions::new().write(true).create(true).open(rt, path)?;
     for other in others {
         if is_at(rt, &file, other) {
-            return Err(io::Error::from(ErrorKind::AlreadyExists));
+            return Err(io::Error::new(ErrorKind::AlreadyExists, IN_USE));
         }
     }
     Ok(file)

@@ -1,4 +1,6 @@
 //! Standard input by its path, and the standard streams that the program was started without.
+ghost use Rattle.std.specs.Prelude.{◌≡◌, ◌≢◌, codes};
+
 use iova_command::words::STANDARD_INPUT;
 use std::fs::File;
 use std::os::fd::{AsRawFd, IntoRawFd, RawFd};
@@ -14,7 +16,10 @@ const ROOT: &str = "/";
 const INPUT_PATH: &str = "/dev/stdin";
 
 /// The path of the input of this name: `-` is standard input.
-pub fn path_of_input(name: &str) -> &str {
+pub fn path_of_input(name: &str) -> &str
+    ensures standard { name.now ≡ codes "-" → result.now ≡ codes "/dev/stdin" }
+    ensures named { name.now ≢ codes "-" → result.now ≡ name.now }
+{
     if name == STANDARD_INPUT {
         INPUT_PATH
     } else {

@@ -604,6 +604,7 @@ fn open_record<'a, 'p, R: Clock + Eprint + Files<File = File>>(
     };
     let regions = match plan.regions {
         Some(name) => path_of_input(name),
+        // there is none: the sink once more
         None => plan.sink,
     };
     match RecordFile::open(run.rt, run.notices, path, &[plan.sink, regions]) {
