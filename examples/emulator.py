@@ -1,9 +1,9 @@
 #!/usr/bin/env python3
 """A device emulator behind the daemon: it answers the daemon's requests, so no address comes back too early.
 
-    examples/emulator.py SINK SOCKET [MAPPINGS [SEED]]
+    examples/emulator.py PEER SOCKET [MAPPINGS [SEED]]
 
-The device listens at SINK, which is the daemon's --sink. It has a page table, which drivers write, and an IOTLB, which it
+The device listens at PEER, which is the daemon's --peer. It has a page table, which drivers write, and an IOTLB, which it
 fills from the page table as it uses addresses. Four drivers at a time, clients of the daemon at SOCKET, ask for addresses,
 map them, have the device use them, unmap and free them; most die before they have come so far. After MAPPINGS mappings what
 waits is flushed, the daemon is led to its end, and counts are printed. Two are 0 where all is well: `stale`, uses through a

@@ -1,17 +1,25 @@
 # Completion of iovad's words for bash; bin/completion makes it.
 _iovad() {
-  local word=${COMP_WORDS[COMP_CWORD]} before=${COMP_WORDS[COMP_CWORD - 1]} words='' files=''
+  local word=${COMP_WORDS[COMP_CWORD]} before=${COMP_WORDS[COMP_CWORD - 1]} words='' files='' at place=0
   COMPREPLY=()
-  case $COMP_CWORD:${COMP_WORDS[1]}:$before in
-    1:*) words='replay serve control ask check help --help --version' ;;
-    *:replay:--log | *:serve:--socket | *:serve:--sink | *:serve:--record | *:serve:--reserved-regions | *:serve:--control | *:check:--reserved-regions) files=yes ;;
-    *:serve:--workers | *:serve:--clients | *:serve:--domain | *:serve:--start | *:serve:--last | *:serve:--sessions | *:serve:--session-requests | *:serve:--idle | *:serve:--depot | *:serve:--record-steps | *:serve:--reserve | *:serve:--sink-timeout | *:check:--first | *:check:--last | *:check:--did) return ;;
+  for ((at = 2; at < COMP_CWORD; at++)); do
+    case ${COMP_WORDS[1]}:${COMP_WORDS[at]} in
+      ask:--timeout | check:--did | check:--first | check:--last | check:--reserved-regions | control:--timeout | replay:--log | serve:--clients | serve:--control | serve:--depot | serve:--domain | serve:--idle | serve:--last | serve:--log-level | serve:--peer | serve:--peer-wait | serve:--record | serve:--record-steps | serve:--reserve | serve:--reserved-regions | serve:--session-requests | serve:--sessions | serve:--sink | serve:--sink-timeout | serve:--socket | serve:--start | serve:--workers) at=$((at + 1)) ;;
+      *:-?*) ;;
+      *) place=$((place + 1)) ;;
+    esac
+  done
+  [ $COMP_CWORD -gt 1 ] || place=first
+  case $place:${COMP_WORDS[1]}:$before in
+    first:*) words='replay serve control ask check help --help --version' ;;
+    *:replay:--log | *:serve:--socket | *:serve:--peer | *:serve:--sink | *:serve:--record | *:serve:--reserved-regions | *:serve:--control | *:check:--reserved-regions) files=yes ;;
+    *:serve:--workers | *:serve:--clients | *:serve:--domain | *:serve:--start | *:serve:--last | *:serve:--peer-wait | *:serve:--sessions | *:serve:--session-requests | *:serve:--idle | *:serve:--depot | *:serve:--record-steps | *:serve:--reserve | *:serve:--sink-timeout | *:control:--timeout | *:ask:--timeout | *:check:--first | *:check:--last | *:check:--did) return ;;
     *:serve:--log-level) words='error warn info debug' ;;
     *:replay:*) words='--report --log --help' files=yes ;;
-    *:serve:*) words='--socket --workers --clients --domain --start --last --sink --sessions --session-requests --idle --depot --strict --record --record-steps --reserve --reserved-regions --sink-timeout --log-level --control --turns --help' ;;
-    2:control:*) words='--help' files=yes ;;
-    3:control:*) words='report sessions metrics stop' ;;
-    *:ask:*) words='--help' files=yes ;;
+    *:serve:*) words='--socket --workers --clients --domain --start --last --peer --sink --peer-wait --sessions --session-requests --idle --depot --strict --record --record-steps --reserve --reserved-regions --sink-timeout --log-level --control --help' ;;
+    0:control:*) words='--timeout --help' files=yes ;;
+    1:control:*) words='report sessions metrics stop'; [[ $word != -* ]] || words='--timeout --help' ;;
+    *:ask:*) words='--timeout --help' files=yes ;;
     *:check:*) words='--quiet --first --last --reserved-regions --ftrace --did --help' files=yes ;;
     *:help:*) words='replay serve control ask check' ;;
   esac

@@ -1,8 +1,21 @@
 # Completion of iovad's words for fish; bin/completion makes it.
-function __iovad_is -d 'The command, and how many words stand there'
+function __iovad_is -d 'The command, and which of its places it is'
     set -l words (commandline -opc)
     test (count $words) -ge 2; and test $words[2] = $argv[1]; or return 1
-    test (count $argv) -lt 2; or test (count $words) -eq $argv[2]
+    test (count $argv) -lt 2; and return 0
+    set -l place 0
+    set -l is_value 0
+    set -e words[1..2]
+    for word in $words
+        if test $is_value = 1
+            set is_value 0
+        else if string match -qr '^--(clients|control|depot|did|domain|first|idle|last|log|log-level|peer|peer-wait|record|record-steps|reserve|reserved-regions|session-requests|sessions|sink|sink-timeout|socket|start|timeout|workers)$' -- $word
+            set is_value 1
+        else if not string match -q -- '-?*' $word
+            set place (math $place + 1)
+        end
+    end
+    test $place -eq $argv[2]
 end
 complete -c iovad -f
 complete -c iovad -s h -l help -d 'prints help'
@@ -22,7 +35,9 @@ complete -c iovad -n '__iovad_is serve' -l clients -x -d 'how many clients are s
 complete -c iovad -n '__iovad_is serve' -l domain -x -d 'the number of the domain, 0 to 7'
 complete -c iovad -n '__iovad_is serve' -l start -x -d 'the first frame that may be given'
 complete -c iovad -n '__iovad_is serve' -l last -x -d 'the last frame that may be given'
-complete -c iovad -n '__iovad_is serve' -l sink -r -F -d 'the socket of a peer that answers, or a file for records'
+complete -c iovad -n '__iovad_is serve' -l peer -r -F -d 'the socket of a peer that answers'
+complete -c iovad -n '__iovad_is serve' -l sink -r -F -d 'a file for records, which no device answers'
+complete -c iovad -n '__iovad_is serve' -l peer-wait -x -d 'the seconds that the peer is waited for at the start'
 complete -c iovad -n '__iovad_is serve' -l sessions -x -d 'how many sessions are served'
 complete -c iovad -n '__iovad_is serve' -l session-requests -x -d 'the most requests of a session'
 complete -c iovad -n '__iovad_is serve' -l idle -x -d 'the seconds after which a silent session ends'
@@ -35,9 +50,10 @@ complete -c iovad -n '__iovad_is serve' -l reserved-regions -r -F -d 'the reserv
 complete -c iovad -n '__iovad_is serve' -l sink-timeout -x -d 'the seconds that a peer has to answer'
 complete -c iovad -n '__iovad_is serve' -l log-level -x -a 'error warn info debug' -d 'which notices are told'
 complete -c iovad -n '__iovad_is serve' -l control -r -F -d 'the path of the control socket'
-complete -c iovad -n '__iovad_is serve' -l turns -d 'has the clients of a worker take turns on one thread'
-complete -c iovad -n '__iovad_is control 2' -F
-complete -c iovad -n '__iovad_is control 3' -a 'report sessions metrics stop'
+complete -c iovad -n '__iovad_is control' -l timeout -x -d 'the seconds that a connection and the answer are waited for'
+complete -c iovad -n '__iovad_is control 0' -F
+complete -c iovad -n '__iovad_is control 1' -a 'report sessions metrics stop'
+complete -c iovad -n '__iovad_is ask' -l timeout -x -d 'the seconds that a connection and each answer are waited for'
 complete -c iovad -n '__iovad_is ask' -F
 complete -c iovad -n '__iovad_is check' -l quiet -d 'prints the counts alone'
 complete -c iovad -n '__iovad_is check' -l first -x -d 'the first frame that may be mapped'

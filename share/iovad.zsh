@@ -31,7 +31,9 @@ _iovad() {
             '--domain[the number of the domain, 0 to 7]:domain: ' \
             '--start[the first frame that may be given]:start: ' \
             '--last[the last frame that may be given]:last: ' \
-            '--sink[the socket of a peer that answers, or a file for records]:sink:_files' \
+            '--peer[the socket of a peer that answers]:peer:_files' \
+            '--sink[a file for records, which no device answers]:sink:_files' \
+            '--peer-wait[the seconds that the peer is waited for at the start]:peer-wait: ' \
             '--sessions[how many sessions are served]:sessions: ' \
             '--session-requests[the most requests of a session]:session-requests: ' \
             '--idle[the seconds after which a silent session ends]:idle: ' \
@@ -43,16 +45,17 @@ _iovad() {
             '--reserved-regions[the reserved_regions of a group]:reserved-regions:_files' \
             '--sink-timeout[the seconds that a peer has to answer]:sink-timeout: ' \
             '--log-level[which notices are told]:log-level:(error warn info debug)' \
-            '--control[the path of the control socket]:control:_files' \
-            '--turns[has the clients of a worker take turns on one thread]'
+            '--control[the path of the control socket]:control:_files'
           ;;
         control)
           _arguments '(- *)'{-h,--help}'[prints help]' \
+            '--timeout[the seconds that a connection and the answer are waited for]:timeout: ' \
             '1:word:_files' \
             '2:word:(report sessions metrics stop)'
           ;;
         ask)
           _arguments '(- *)'{-h,--help}'[prints help]' \
+            '--timeout[the seconds that a connection and each answer are waited for]:timeout: ' \
             '1:word:_files'
           ;;
         check)

@@ -2,7 +2,7 @@
  *
  *     broker ADDRESS SINK DRIVERS LAST LOG
  *
- * The daemon comes to the Unix socket SINK, its --sink, in as many connections as it likes. Drivers come to the Unix
+ * The daemon comes to the Unix socket SINK, its --peer, in as many connections as it likes. Drivers come to the Unix
  * socket DRIVERS, where each message is one request, and is answered by one or two:
  *
  *     map CLIENT FIRST FRAMES         with the memory's file descriptor   mapped

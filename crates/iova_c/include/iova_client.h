@@ -19,8 +19,20 @@
  * wait, or by iovad_send.
  *
  * Every answer is a struct whose field `error` is 0, or says why nothing was done; then all the rest is 0. After
- * IOVAD_BROKEN, IOVAD_ENDED and IOVAD_MALFORMED the session is lost: each further call answers the same, and what is
- * left is iovad_close. The daemon takes back what a lost session held.
+ * IOVAD_BROKEN, IOVAD_ENDED, IOVAD_MALFORMED and IOVAD_TIMED_OUT the session is lost: each further call answers the
+ * same at once, and what is left is iovad_close. The daemon takes back what a lost session held.
+ *
+ * iovad_open waits as long as it takes: where the daemon serves as many clients as it may, until one of them ends.
+ * iovad_open_within waits for so many milliseconds, and iovad_within bounds the answers behind it. An answer that comes
+ * too late would be taken for that to the next request, so no request follows a time-out: close, and open anew.
+ *
+ * A program with a loop of its own polls the descriptor of iovad_session_fd for what can be read:
+ *
+ *   iovad_ask_alloc(&session, 3, UINT64_MAX);
+ *   iovad_send(&session);
+ *   .. poll(2) says that iovad_session_fd(&session) can be read ..
+ *   while (iovad_has_answer(&session))
+ *       .. iovad_take_alloc(&session), which doesn't wait ..
  *
  * A session is used by one thread at a time. It has at most 65,536 requests: then it ends, and the next one is opened.
  * No signal is raised by a daemon that is gone, and a call that a signal interrupts goes on.
@@ -29,10 +41,13 @@
 #define IOVA_CLIENT_H
 
 #include <errno.h>
+#include <poll.h>
 #include <stddef.h>
 #include <stdint.h>
 #include <string.h>
 #include <sys/socket.h>
+#include <sys/time.h>
+#include <sys/times.h>
 #include <sys/un.h>
 #include <unistd.h>
 
@@ -53,7 +68,8 @@ enum iovad_error {
     IOVAD_MALFORMED = 104, /* what came is no answer to what was asked */
     IOVAD_FULL = 105,      /* 16 requests are in flight: take an answer first */
     IOVAD_BUSY = 106,      /* a call that waits, while requests are in flight: take their answers first */
-    IOVAD_NOT_ASKED = 107  /* no such request is the next whose answer comes */
+    IOVAD_NOT_ASKED = 107, /* no such request is the next whose answer comes */
+    IOVAD_TIMED_OUT = 108  /* no connection, or no answer, within the time: errno is ETIMEDOUT */
 };
 
 /* The answer to `hello`: the client's number. */
@@ -91,6 +107,8 @@ typedef struct iovad_counts {
 typedef struct iovad_session {
     int fd;
     uint64_t lost; /* the error by which it is lost, or 0 */
+    int within; /* the milliseconds that an answer may take; below 0: as long as it takes */
+    int64_t until, first_until; /* when the time ends of the call that waits, and of the next one; 0: not begun */
     unsigned first, in_flight, sent; /* the requests whose answers weren't taken, in a circle, and how many were sent */
     unsigned char asked[IOVAD_IN_FLIGHT];
     size_t unsent; /* bytes of `out` */
@@ -108,7 +126,7 @@ static inline const char *iovad_error_name(uint64_t error) {
         "TooMany",   "BadTrace", "NoDomain",    "Twice",       "BadProfile",
     };
     static const char *const own[] = {"BadPath", "NoDaemon", "Broken", "Ended",
-                                      "Malformed", "Full", "Busy", "NotAsked"};
+                                      "Malformed", "Full", "Busy", "NotAsked", "TimedOut"};
     if (error < sizeof refusals / sizeof refusals[0])
         return refusals[error];
     if (error >= IOVAD_BAD_PATH && error - IOVAD_BAD_PATH < sizeof own / sizeof own[0])
@@ -129,6 +147,44 @@ enum iovad_own_kind {
 };
 
 static inline uint64_t iovad_own_lose(iovad_session *session, uint64_t error) { return session->lost = error; }
+
+/* The milliseconds of a clock that only rises, in steps of 10 on Linux. Strict C11 has times, and no clock_gettime. */
+static inline int64_t iovad_own_now(void) {
+    struct tms spent;
+    long second = sysconf(_SC_CLK_TCK);
+    return (int64_t)times(&spent) * 1000 / (second > 0 ? second : 100) + 1;
+}
+
+static inline uint64_t iovad_own_late(iovad_session *session) {
+    errno = ETIMEDOUT;
+    return iovad_own_lose(session, IOVAD_TIMED_OUT);
+}
+
+/* What is left of the time of the call that waits, from when it first waits: milliseconds, or -1 without an end. */
+static inline int iovad_own_left(iovad_session *session) {
+    int64_t now;
+    if (session->within < 0)
+        return -1;
+    now = iovad_own_now();
+    if (session->until == 0)
+        session->until = now + session->within;
+    return session->until > now ? (int)(session->until - now) : 0;
+}
+
+/* Waits until the descriptor can be read or written, where the time has an end; else the read or write waits itself. */
+static inline uint64_t iovad_own_wait(iovad_session *session, short what) {
+    while (session->within >= 0) {
+        struct pollfd polled = {session->fd, what, 0};
+        int count = poll(&polled, 1, iovad_own_left(session));
+        if (count > 0)
+            return 0;
+        if (count == 0)
+            return iovad_own_late(session);
+        if (errno != EINTR)
+            return iovad_own_lose(session, IOVAD_BROKEN);
+    }
+    return 0;
+}
 
 /* Room for a request that is put into `out`, or NULL with the error. */
 static inline char *iovad_own_ask(iovad_session *session, enum iovad_own_kind kind, uint64_t *error) {
@@ -180,16 +236,19 @@ static inline uint64_t iovad_own_request(iovad_session *session, enum iovad_own_
     return iovad_own_asked(session, at);
 }
 
-/* Sends what was asked and not sent. */
-static inline uint64_t iovad_send(iovad_session *session) {
+static inline uint64_t iovad_own_send(iovad_session *session) {
+    int flags = MSG_NOSIGNAL | (session->within < 0 ? 0 : MSG_DONTWAIT);
     size_t sent = 0;
     if (session->lost)
         return session->lost;
     while (sent < session->unsent) {
-        ssize_t count = send(session->fd, session->out + sent, session->unsent - sent, MSG_NOSIGNAL);
+        ssize_t count = send(session->fd, session->out + sent, session->unsent - sent, flags);
         if (count > 0)
             sent += (size_t)count;
-        else if (count == 0 || errno != EINTR)
+        else if (count < 0 && session->within >= 0 && (errno == EAGAIN || errno == EWOULDBLOCK)) {
+            if (iovad_own_wait(session, POLLOUT))
+                return session->lost;
+        } else if (count == 0 || errno != EINTR)
             return iovad_own_lose(session, IOVAD_BROKEN);
     }
     session->unsent = 0;
@@ -197,8 +256,15 @@ static inline uint64_t iovad_send(iovad_session *session) {
     return 0;
 }
 
-/* Reads what has come behind the bytes that are at hand. */
-static inline uint64_t iovad_own_read(iovad_session *session) {
+/* Sends what was asked and not sent. */
+static inline uint64_t iovad_send(iovad_session *session) {
+    session->until = 0;
+    return iovad_own_send(session);
+}
+
+/* Reads what has come behind the bytes that are at hand, and waits for it. With `has_none` it doesn't wait, and
+ * `*has_none` is 1 where there was nothing. */
+static inline uint64_t iovad_own_read(iovad_session *session, int *has_none) {
     if (session->at == session->end)
         session->at = session->end = 0;
     if (session->at > 0 && session->end == sizeof session->in) {
@@ -209,13 +275,21 @@ static inline uint64_t iovad_own_read(iovad_session *session) {
     if (session->end == sizeof session->in)
         return iovad_own_lose(session, IOVAD_MALFORMED); /* no answer has so long a line */
     for (;;) {
-        ssize_t count = recv(session->fd, session->in + session->end, sizeof session->in - session->end, 0);
+        ssize_t count;
+        if (!has_none && iovad_own_wait(session, POLLIN))
+            return session->lost;
+        count = recv(session->fd, session->in + session->end, sizeof session->in - session->end,
+                     has_none ? MSG_DONTWAIT : 0);
         if (count > 0) {
             session->end += (size_t)count;
             return 0;
         }
         if (count == 0)
             return iovad_own_lose(session, IOVAD_ENDED);
+        if (has_none && (errno == EAGAIN || errno == EWOULDBLOCK)) {
+            *has_none = 1;
+            return 0;
+        }
         if (errno != EINTR)
             return iovad_own_lose(session, IOVAD_BROKEN);
     }
@@ -233,7 +307,7 @@ static inline const char *iovad_own_line(iovad_session *session, const char **li
             return end;
         }
         seen = session->end - session->at;
-        if ((session->unsent && (*error = iovad_send(session))) || (*error = iovad_own_read(session)))
+        if ((session->unsent && (*error = iovad_own_send(session))) || (*error = iovad_own_read(session, NULL)))
             return NULL;
         seen += session->at;
     }
@@ -278,7 +352,9 @@ static inline uint64_t iovad_own_take(iovad_session *session, enum iovad_own_kin
         return session->lost;
     if (session->in_flight == 0 || session->asked[session->first] != (unsigned char)kind)
         return IOVAD_NOT_ASKED;
-    if (session->sent == 0 && iovad_send(session))
+    session->until = session->first_until;
+    session->first_until = 0;
+    if (session->sent == 0 && iovad_own_send(session))
         return session->lost;
     end = iovad_own_line(session, &at, &error);
     if (!end)
@@ -305,19 +381,54 @@ static inline uint64_t iovad_own_take(iovad_session *session, enum iovad_own_kin
     return at == end ? 0 : iovad_own_lose(session, IOVAD_MALFORMED);
 }
 
-/* A session over a connection that there is. */
+/* A session over a connection that there is, whose answers are waited for as long as it takes. */
 static inline void iovad_over(iovad_session *session, int fd) {
     session->fd = fd;
     session->lost = 0;
+    session->within = -1;
+    session->until = session->first_until = 0;
     session->first = session->in_flight = session->sent = 0;
     session->unsent = session->at = session->end = 0;
 }
 
-/* Connects to the daemon at the path. IOVAD_BAD_PATH, IOVAD_NO_DAEMON. Then `hello` is to be asked. */
-static inline uint64_t iovad_connect(iovad_session *session, const char *path) {
+/* From now on each call waits at most so many milliseconds for its answer; below 0, as long as it takes. A flush, a
+ * free in a strict domain and one at a full ring may take as long as the daemon's `--sink-timeout`. */
+static inline void iovad_within(iovad_session *session, int milliseconds) {
+    session->within = milliseconds < 0 ? -1 : milliseconds;
+}
+
+/* The descriptor of a session, to be polled and no more: it can be read where an answer has come, or the end. -1 where
+ * the session is closed. */
+static inline int iovad_session_fd(const iovad_session *session) { return session->fd; }
+
+/* 1 where the next answer is at hand, of a list its first line, so that taking it doesn't wait; what has come is read
+ * for that, and nothing is waited for. 1 too where the session is lost, which the next take tells. 0 else, and where
+ * nothing was sent: iovad_send sends what was asked. */
+static inline int iovad_has_answer(iovad_session *session) {
+    int has_none = 0;
+    while (!session->lost && session->sent > 0 && !has_none) {
+        if (memchr(session->in + session->at, '\n', session->end - session->at))
+            return 1;
+        iovad_own_read(session, &has_none);
+    }
+    return session->lost != 0;
+}
+
+static inline void iovad_own_bound(int fd, int seconds, int microseconds) {
+    struct timeval time;
+    time.tv_sec = seconds;
+    time.tv_usec = microseconds;
+    setsockopt(fd, SOL_SOCKET, SO_SNDTIMEO, &time, sizeof time);
+}
+
+/* Connects to the daemon at the path, within so many milliseconds; below 0, as long as it takes, which is long where
+ * the daemon's queue is full. IOVAD_BAD_PATH, IOVAD_NO_DAEMON, IOVAD_TIMED_OUT. Then `hello` is to be asked: each answer
+ * has as long, or what iovad_within says. */
+static inline uint64_t iovad_connect_within(iovad_session *session, const char *path, int milliseconds) {
     struct sockaddr_un to;
     size_t length = strlen(path);
     iovad_over(session, -1);
+    iovad_within(session, milliseconds);
     if (length == 0 || length >= sizeof to.sun_path)
         return iovad_own_lose(session, IOVAD_BAD_PATH);
     memset(&to, 0, sizeof to);
@@ -326,16 +437,31 @@ static inline uint64_t iovad_connect(iovad_session *session, const char *path) {
     session->fd = socket(AF_UNIX, SOCK_STREAM | SOCK_CLOEXEC, 0);
     if (session->fd < 0)
         return iovad_own_lose(session, IOVAD_NO_DAEMON);
-    while (connect(session->fd, (const struct sockaddr *)(const void *)&to, sizeof to) != 0) {
-        int why = errno;
+    for (;;) {
+        int why, left = iovad_own_left(session);
+        /* how long a full queue is waited for is the time of a send, of which 0 is no end */
+        if (left >= 0)
+            iovad_own_bound(session->fd, left / 1000, left > 0 ? left % 1000 * 1000 : 1);
+        if (connect(session->fd, (const struct sockaddr *)(const void *)&to, sizeof to) == 0) {
+            if (left >= 0)
+                iovad_own_bound(session->fd, 0, 0);
+            return 0;
+        }
+        why = errno;
         if (why == EINTR)
             continue;
         close(session->fd);
         session->fd = -1;
+        if (left >= 0 && (why == EAGAIN || why == EWOULDBLOCK))
+            return iovad_own_late(session);
         errno = why;
         return iovad_own_lose(session, IOVAD_NO_DAEMON);
     }
-    return 0;
+}
+
+/* The same without an end of the time. */
+static inline uint64_t iovad_connect(iovad_session *session, const char *path) {
+    return iovad_connect_within(session, path, -1);
 }
 
 /* Ends a session, in whatever state it is: the daemon closes the client, and all that it holds waits for a flush. */
@@ -478,17 +604,26 @@ static inline iovad_opened iovad_hello(iovad_session *session, uint64_t domain, 
     return iovad_take_hello(session);
 }
 
-/* Connects, and opens a client. Where that fails the session is closed. */
-static inline iovad_opened iovad_open(iovad_session *session, const char *path, uint64_t domain, uint64_t sac) {
-    iovad_opened opened = {iovad_connect(session, path), 0};
-    if (!opened.error)
+/* Connects, and opens a client, both within so many milliseconds; below 0, as long as it takes. Each answer behind it
+ * has as long, or what iovad_within says. Where it fails the session is closed. */
+static inline iovad_opened iovad_open_within(iovad_session *session, const char *path, uint64_t domain, uint64_t sac,
+                                             int milliseconds) {
+    iovad_opened opened = {iovad_connect_within(session, path, milliseconds), 0};
+    if (!opened.error) {
+        session->first_until = session->until;
         opened = iovad_hello(session, domain, sac);
+    }
     if (opened.error) {
         int why = errno;
         iovad_close(session);
         errno = why;
     }
     return opened;
+}
+
+/* The same without an end of the time. */
+static inline iovad_opened iovad_open(iovad_session *session, const char *path, uint64_t domain, uint64_t sac) {
+    return iovad_open_within(session, path, domain, sac, -1);
 }
 
 static inline iovad_range iovad_alloc(iovad_session *session, uint64_t frames, uint64_t limit) {

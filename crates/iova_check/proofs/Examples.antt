@@ -4,6 +4,7 @@ use Rattle.std.proofs.Common.{◌≡◌, true, false, List, [], ◌∷◌, Some,
 use Rattle.iova_range.specs.Frames.{Frames}
 use Rattle.iova_check.specs.declared.event.Event.{Event}
 use Rattle.iova_check.specs.declared.event.Event.TheVariants.{Map, Unmap, Use, Begin, End, Flush, Other}
+use Rattle.iova_check.specs.declared.event.OtherLine.TheVariants.{Plain}
 use Rattle.iova_check.specs.declared.stage.Stage.TheVariants.{Free, Mapped, Stale}
 use Rattle.iova_check.specs.History.{stage_of, flight_of}
 use Rattle.iova_check.specs.Trace.{says_lost}
@@ -14,7 +15,7 @@ at lo len = record { lo = lo; len = len }
 
 -- line 1 says nothing, line 2 maps the frames 8 to 11, and line 3 unmaps 8 and 9
 abbrev unmapped : List Event
-unmapped = Unmap (at 8 2) ∷ Map (at 8 4) ∷ Other ∷ []
+unmapped = Unmap (at 8 2) ∷ Map (at 8 4) ∷ Other Plain ∷ []
 
 nothing_is_mapped : stage_of [] 8 ≡ Free
 nothing_is_mapped = refl
@@ -82,7 +83,7 @@ flushed_at_once_of_its_frames_alone = refl
 flushed_at_once_before_the_unmap : stage_of (Unmap (at 8 2) ∷ Flush None ∷ Map (at 8 4) ∷ []) 8 ≡ Stale 3
 flushed_at_once_before_the_unmap = refl
 
-other_lines_change_nothing : stage_of (Other ∷ unmapped) 8 ≡ Stale 3
+other_lines_change_nothing : stage_of (Other Plain ∷ unmapped) 8 ≡ Stale 3
 other_lines_change_nothing = refl
 
 -- lines of a kernel's trace that say that events were lost, or don't

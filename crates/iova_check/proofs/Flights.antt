@@ -55,7 +55,7 @@ flight_is (event.Map r ∷ past) number = kept (event.Map r) past number (flight
 flight_is (event.Unmap r ∷ past) number = kept (event.Unmap r) past number (flight_of past number) refl (λ f. refl) (flight_is past number)
 flight_is (event.Use r ∷ past) number = kept (event.Use r) past number (flight_of past number) refl (λ f. refl) (flight_is past number)
 flight_is (event.Flush range ∷ past) number = kept (event.Flush range) past number (flight_of past number) refl (λ f. refl) (flight_is past number)
-flight_is (event.Other ∷ past) number = kept event.Other past number (flight_of past number) refl (λ f. refl) (flight_is past number)
+flight_is (event.Other what ∷ past) number = kept (event.Other what) past number (flight_of past number) refl (λ f. refl) (flight_is past number)
 flight_is (event.Begin begun range ∷ past) number =
     let e = event.Begin begun range in
     let now : Flight = record { line = next_line past; range = range } in

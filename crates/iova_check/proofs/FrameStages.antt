@@ -22,7 +22,7 @@ maps_apart f (event.Use r) h = absurd cc
 maps_apart f (event.Begin number range) h = absurd cc
 maps_apart f (event.End number ok) h = absurd cc
 maps_apart f (event.Flush range) h = absurd cc
-maps_apart f event.Other h = absurd cc
+maps_apart f (event.Other what) h = absurd cc
 
 -- the line that unmaps is another than one that maps
 other_line : (past : List Event) (f n m : ℕ) → IsLine (maps f) past n → IsLine (unmaps f) past m → n ≡ m → ⊥
@@ -253,7 +253,7 @@ begins_of number f (event.Use r) h = absurd cc
 begins_of number f (event.Begin begun range) h = (and_parts (begun == number) (has f range) h).0
 begins_of number f (event.End ended ok) h = absurd cc
 begins_of number f (event.Flush range) h = absurd cc
-begins_of number f event.Other h = absurd cc
+begins_of number f (event.Other what) h = absurd cc
 
 line_of : (number f : ℕ) (past : List Event) (n : ℕ) → IsLine (begins number f) past n → IsLine (is_of number) past n
 line_of number f [] n h = absurd cc
@@ -366,7 +366,7 @@ stage_is (event.Begin number range ∷ past) f = stage_kept (event.Begin number 
 stage_is (event.End number true ∷ past) f = ended_well past f number (flight_of past number) (stage_of past f) (flight_is past number) (stage_is past f)
 stage_is (event.End number false ∷ past) f = stage_kept (event.End number false) past f (stage_of past f) refl refl (λ number. refl) refl (stage_is past f)
 stage_is (event.Flush range ∷ past) f = flushed_at_once past f range (stage_of past f) (stage_is past f)
-stage_is (event.Other ∷ past) f = stage_kept event.Other past f (stage_of past f) refl refl (λ number. refl) refl (stage_is past f)
+stage_is (event.Other what ∷ past) f = stage_kept (event.Other what) past f (stage_of past f) refl refl (λ number. refl) refl (stage_is past f)
 
 pub stages_are_told : StagesAreTold
 stages_are_told past f = record {

@@ -7,6 +7,7 @@ mod Marks
 mod AllowedFrames
 mod TraceWords
 mod HexDigits
+mod DecimalDigits
 mod Reuses
 mod Streams
 mod LineSteps

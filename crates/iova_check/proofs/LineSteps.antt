@@ -6,6 +6,7 @@ use Rattle.std.proofs.lemmas.Bool.{and_parts, and_from}
 use Rattle.iova_check.specs.declared.allowed.Asked.{Asked}
 use Rattle.iova_check.specs.declared.event.Event.{Event}
 use Rattle.iova_check.specs.declared.event.Event.TheVariants.{Other}
+use Rattle.iova_check.specs.declared.event.OtherLine.TheVariants.{Plain}
 use Rattle.iova_check.specs.declared.checker.Checker.{Checker}
 use Rattle.iova_check.specs.declared.fault.CheckFault.TheVariants as fault
 use Rattle.iova_check.specs.declared.run.Progress.{Progress}
@@ -119,7 +120,7 @@ trace_grows source domain e line is one says l h =
 -- the header
 
 header_lines : Source → ℕ → ℕ → List ℕ → Lines
-header_lines source first last line = record { bounds = bounds_asked source.asked first last; past = Other ∷ []; text = whole_line line }
+header_lines source first last line = record { bounds = bounds_asked source.asked first last; past = Other Plain ∷ []; text = whole_line line }
 
 header_good : (source : Source) (first last : ℕ) (line : List ℕ) → source.form ≡ form.Log → IsHeader first last → line ≡ header_text first last
     → AreLines source (header_lines source first last line)
@@ -151,7 +152,7 @@ gathered_more text written before after more is appended =
 pub header_taken : (source : Source) (p q : Progress) (line : List ℕ) (first last : ℕ) (fresh c : Checker) → source.form ≡ form.Log
     → p.line.items ≡ [] → p.checker ≡ None → IsHeader first last → line ≡ header_text first last
     → q.line.items ≡ p.line.items → q.checker ≡ Some c → HasChecked (bounds_asked source.asked first last) [] fresh []
-    → ChecksNext fresh Other p.findings.items c q.findings.items → Goes source p (whole_line line) [] q
+    → ChecksNext fresh (Other Plain) p.findings.items c q.findings.items → Goes source p (whole_line line) [] q
 unfolding header_lines
 header_taken source p q line first last fresh c log empty none header spelled kept checker known next taken written st =
     let lines = no_lines st.lines p.checker st.text none st.checked in
@@ -170,7 +171,7 @@ header_taken source p q line first last fresh c log empty none header spelled ke
       kept = no_rest source.form q.line.items (kept ∙ empty);
       opened = open_log source.form q.checker log;
       checked = (let P : Option Checker → Type 0 = λ x. IsChecked (Some l) x (st.text ++ more) in
-          let Q : List ℕ → Type 0 = λ x. HasChecked (bounds_asked source.asked first last) (Other ∷ []) c (x ++ more) in
+          let Q : List ℕ → Type 0 = λ x. HasChecked (bounds_asked source.asked first last) (Other Plain ∷ []) c (x ++ more) in
           subst P (sym checker) (subst Q (sym lines.1) (next.checks (bounds_asked source.asked first last) [] [] known)));
       gathered = gathered_more st.text written p.findings.items q.findings.items more st.gathered next.appended;
     }

@@ -11,7 +11,9 @@ use Rattle.iova_check.specs.declared.stage.Stage.TheVariants as stage
 use Rattle.iova_check.specs.declared.stage.Change.TheVariants as change
 use Rattle.iova_check.specs.History.{with_change}
 use Rattle.iova_check.specs.Marks.{stage_by, before_by}
-use Rattle.iova_check.specs.StaleIndex.{is_stale}
+use Rattle.iova_check.specs.declared.finding.Kind.TheVariants as kind
+use Rattle.iova_check.specs.Findings.{since_of}
+use Rattle.iova_check.specs.StageIndex.{is_stale, is_free}
 
 -- at a mark
 pub shown_at : (mark : ℕ → Option Stage) (k : ℕ) (s : Stage) → mark k ≡ Some s → stage_by mark k ≡ s
@@ -145,3 +147,43 @@ unstale_along mark k (suc f) here le none = elim (cases_eq k (suc f)) [
   | inr other ↦ unmarked (mark (suc f)) (stage_by mark f) (none (suc f) (omega arith) (omega arith))
       (unstale_along mark k f here (omega arith) (λ q lt le. none q lt (omega arith)))
 ]
+
+-- The same of what is free
+
+unmarked_free : (o : Option Stage) (s : Stage) → (o ≢ Some stage.Free) → is_free s ≡ false → is_free (unwrap_or o s) ≡ false
+unmarked_free None s none before = before
+unmarked_free (Some stage.Free) s none before = absurd (none refl)
+unmarked_free (Some (stage.Mapped since)) s none before = refl
+unmarked_free (Some (stage.Stale since)) s none before = refl
+
+-- no frame is free from one that is not up to the next mark that tells it
+pub unfree_along : (mark : ℕ → Option Stage) (k f : ℕ) → is_free (stage_by mark k) ≡ false → k ≤ f
+    → ((q : ℕ) → k < q → q ≤ f → mark q ≢ Some stage.Free) → is_free (stage_by mark f) ≡ false
+unfree_along mark k zero here le none = let zero_is : 0 ≡ k = omega arith in ap (λ (x : ℕ). is_free (stage_by mark x)) zero_is ∙ here
+unfree_along mark k (suc f) here le none = elim (cases_eq k (suc f)) [
+  | inl same ↦ ap (λ (x : ℕ). is_free (stage_by mark x)) (sym same) ∙ here
+  | inr other ↦ unmarked_free (mark (suc f)) (stage_by mark f) (none (suc f) (omega arith) (omega arith))
+      (unfree_along mark k f here (omega arith) (λ q lt le. none q lt (omega arith)))
+]
+
+-- What a kind tells of a stage, and whether the stage is stale or free
+
+pub not_stale : (s : Stage) → since_of kind.Stale s ≡ None → is_stale s ≡ false
+not_stale stage.Free h = refl
+not_stale (stage.Mapped since) h = refl
+not_stale (stage.Stale since) h = absurd cc
+
+pub stale_untold : (s : Stage) → is_stale s ≡ false → since_of kind.Stale s ≡ None
+stale_untold stage.Free h = refl
+stale_untold (stage.Mapped since) h = refl
+stale_untold (stage.Stale since) h = absurd cc
+
+pub not_free : (s : Stage) → since_of kind.Wild s ≡ None → is_free s ≡ false
+not_free stage.Free h = absurd cc
+not_free (stage.Mapped since) h = refl
+not_free (stage.Stale since) h = refl
+
+pub free_untold : (s : Stage) → is_free s ≡ false → since_of kind.Wild s ≡ None
+free_untold stage.Free h = absurd cc
+free_untold (stage.Mapped since) h = refl
+free_untold (stage.Stale since) h = refl

@@ -17,19 +17,19 @@ use Rattle.iova_check.specs.Checking.{ChecksNext}
 
 counted_more : (past : List Event) (e : Event) (found n : ℕ) (c : Counts) → IsCounted past found c → IsCounted (e ∷ past) (found + n) (counts_after c e n)
 counted_more past (event.Map r) found n c h =
-    record { maps = omega (arith, h.maps); unmaps = omega (arith, h.unmaps); flushes = omega (arith, h.flushes); uses = omega (arith, h.uses); others = omega (arith, h.others); findings = omega (arith, h.findings) }
+    record { maps = omega (arith, h.maps); unmaps = omega (arith, h.unmaps); flushes = omega (arith, h.flushes); uses = omega (arith, h.uses); others = omega (arith, h.others); lost = omega (arith, h.lost); too_long = omega (arith, h.too_long); findings = omega (arith, h.findings) }
 counted_more past (event.Unmap r) found n c h =
-    record { maps = omega (arith, h.maps); unmaps = omega (arith, h.unmaps); flushes = omega (arith, h.flushes); uses = omega (arith, h.uses); others = omega (arith, h.others); findings = omega (arith, h.findings) }
+    record { maps = omega (arith, h.maps); unmaps = omega (arith, h.unmaps); flushes = omega (arith, h.flushes); uses = omega (arith, h.uses); others = omega (arith, h.others); lost = omega (arith, h.lost); too_long = omega (arith, h.too_long); findings = omega (arith, h.findings) }
 counted_more past (event.Use r) found n c h =
-    record { maps = omega (arith, h.maps); unmaps = omega (arith, h.unmaps); flushes = omega (arith, h.flushes); uses = omega (arith, h.uses); others = omega (arith, h.others); findings = omega (arith, h.findings) }
+    record { maps = omega (arith, h.maps); unmaps = omega (arith, h.unmaps); flushes = omega (arith, h.flushes); uses = omega (arith, h.uses); others = omega (arith, h.others); lost = omega (arith, h.lost); too_long = omega (arith, h.too_long); findings = omega (arith, h.findings) }
 counted_more past (event.Begin number range) found n c h =
-    record { maps = omega (arith, h.maps); unmaps = omega (arith, h.unmaps); flushes = omega (arith, h.flushes); uses = omega (arith, h.uses); others = omega (arith, h.others); findings = omega (arith, h.findings) }
+    record { maps = omega (arith, h.maps); unmaps = omega (arith, h.unmaps); flushes = omega (arith, h.flushes); uses = omega (arith, h.uses); others = omega (arith, h.others); lost = omega (arith, h.lost); too_long = omega (arith, h.too_long); findings = omega (arith, h.findings) }
 counted_more past (event.End number ok) found n c h =
-    record { maps = omega (arith, h.maps); unmaps = omega (arith, h.unmaps); flushes = omega (arith, h.flushes); uses = omega (arith, h.uses); others = omega (arith, h.others); findings = omega (arith, h.findings) }
+    record { maps = omega (arith, h.maps); unmaps = omega (arith, h.unmaps); flushes = omega (arith, h.flushes); uses = omega (arith, h.uses); others = omega (arith, h.others); lost = omega (arith, h.lost); too_long = omega (arith, h.too_long); findings = omega (arith, h.findings) }
 counted_more past (event.Flush range) found n c h =
-    record { maps = omega (arith, h.maps); unmaps = omega (arith, h.unmaps); flushes = omega (arith, h.flushes); uses = omega (arith, h.uses); others = omega (arith, h.others); findings = omega (arith, h.findings) }
-counted_more past event.Other found n c h =
-    record { maps = omega (arith, h.maps); unmaps = omega (arith, h.unmaps); flushes = omega (arith, h.flushes); uses = omega (arith, h.uses); others = omega (arith, h.others); findings = omega (arith, h.findings) }
+    record { maps = omega (arith, h.maps); unmaps = omega (arith, h.unmaps); flushes = omega (arith, h.flushes); uses = omega (arith, h.uses); others = omega (arith, h.others); lost = omega (arith, h.lost); too_long = omega (arith, h.too_long); findings = omega (arith, h.findings) }
+counted_more past (event.Other what) found n c h =
+    record { maps = omega (arith, h.maps); unmaps = omega (arith, h.unmaps); flushes = omega (arith, h.flushes); uses = omega (arith, h.uses); others = omega (arith, h.others); lost = omega (arith, h.lost); too_long = omega (arith, h.too_long); findings = omega (arith, h.findings) }
 
 pub checks_next : (old new : Checker) (e : Event) (before after : List ℕ) (told : List (Option Finding)) → new.allowed ≡ old.allowed
     → after ≡ before ++ findings_text old.tracker.line told

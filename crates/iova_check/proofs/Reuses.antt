@@ -94,4 +94,4 @@ breaks_told past bounds flights (event.Use r) fs h = tt
 breaks_told past bounds flights (event.Begin number range) fs h = tt
 breaks_told past bounds flights (event.End number ok) fs h = tt
 breaks_told past bounds flights (event.Flush range) fs h = tt
-breaks_told past bounds flights event.Other fs h = tt
+breaks_told past bounds flights (event.Other what) fs h = tt

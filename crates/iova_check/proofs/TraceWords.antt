@@ -7,8 +7,9 @@ use Rattle.std.proofs.lemmas.Bool.{and_from, cond-true, cond-false, cases_Bool, 
 use Rattle.std.proofs.lemmas.List.{take_more, get_or-drop, get_or-take}
 use Rattle.iova_text.proofs.Cuts.{cut_at}
 use Rattle.iova_check.specs.declared.event.Event.TheVariants as event
+use Rattle.iova_check.specs.declared.event.OtherLine.TheVariants as other
 use Rattle.iova_text.specs.Reading.{stops, is_not_space}
-use Rattle.iova_check.specs.Trace.{word_at_front, from_blank, spaced_words, last_seven, said_by, event_said}
+use Rattle.iova_check.specs.Trace.{word_at_front, from_blank, spaced_words, last_seven, said_by, line_said, event_said}
 
 -- the word at the front of a line, and what stands from the first blank on
 
@@ -112,7 +113,7 @@ seven_last before n p a b c d e =
     let len : length (before ++ ws) - 7 ≡ length before = omega (arith, length-append before ws) in
     ap (λ (k : ℕ). drop k (before ++ ws)) len ∙ drop-append_seam before ws
 
-few : (domain : Option ℕ) (ws : List (List ℕ)) → length ws < 7 → said_by domain ws ≡ event.Other
+few : (domain : Option ℕ) (ws : List (List ℕ)) → length ws < 7 → said_by domain ws ≡ event.Other other.Plain
 few domain [] lt = refl
 few domain (a ∷ []) lt = refl
 few domain (a ∷ b ∷ []) lt = refl
@@ -122,13 +123,13 @@ few domain (a ∷ b ∷ c ∷ d ∷ e ∷ []) lt = refl
 few domain (a ∷ b ∷ c ∷ d ∷ e ∷ f ∷ []) lt = refl
 few domain (a ∷ b ∷ c ∷ d ∷ e ∷ f ∷ g ∷ ws) lt = absurd (omega arith)
 
-pub too_few : (domain : Option ℕ) (ws : List (List ℕ)) → length ws < 7 → said_by domain (last_seven ws) ≡ event.Other
+pub too_few : (domain : Option ℕ) (ws : List (List ℕ)) → length ws < 7 → said_by domain (last_seven ws) ≡ event.Other other.Plain
 too_few domain ws lt =
     let none : length ws - 7 ≡ 0 = omega arith in
     ap (λ (k : ℕ). said_by domain (drop k ws)) none ∙ few domain ws lt
 
 -- nothing is read of a long line
-pub long_says : (domain : Option ℕ) (line : List ℕ) → 1024 ≤ length line → event_said domain line ≡ event.Other
+pub long_says : (domain : Option ℕ) (line : List ℕ) → 1024 ≤ length line → event_said domain line ≡ event.Other other.TooLong
 long_says domain line long =
-    cond-false (nat_lt (length line) 1024) (said_by domain (last_seven (spaced_words line))) event.Other
+    cond-false (nat_lt (length line) 1024) (line_said domain line) (event.Other other.TooLong)
     (false_from_ne_true (nat_lt (length line) 1024) (λ is. let lt : length line < 1024 = ltb-true (length line) 1024 is in absurd (omega arith)))

@@ -2,11 +2,25 @@
 use Rattle.std.specs.Prelude.{ℕ, zero, suc, ◌≡◌, ◌+◌, ◌-◌, ◌^◌, Bool, true, false, List, [], ◌∷◌, Option, is_some, if◌then◌else◌}
 use Rattle.iova_check.specs.declared.event.Event.{Event}
 use Rattle.iova_check.specs.declared.event.Event.TheVariants as event
+use Rattle.iova_check.specs.declared.event.OtherLine.{OtherLine}
+use Rattle.iova_check.specs.declared.event.OtherLine.TheVariants as other
 use Rattle.iova_check.specs.declared.finding.Finding.{Finding}
 use Rattle.iova_check.specs.declared.finding.Kind.{Kind}
 use Rattle.iova_check.specs.declared.stage.Stage.{Stage}
 use Rattle.iova_check.specs.Findings.{since_of}
 use Rattle.iova_check.specs.declared.counts.Counts.{Counts}
+
+-- the line says that events were lost
+abbrev pub tells_lost : OtherLine → Bool
+tells_lost other.Plain = false
+tells_lost other.Lost = true
+tells_lost other.TooLong = false
+
+-- it is too long to be read
+abbrev pub is_long : OtherLine → Bool
+is_long other.Plain = false
+is_long other.Lost = false
+is_long other.TooLong = true
 
 -- with a line more, of which so many findings are told
 abbrev pub counts_after : Counts → Event → ℕ → Counts
@@ -17,6 +31,8 @@ counts_after c (event.Map r) found =
       flushes = c.flushes;
       uses = c.uses;
       others = c.others;
+      lost = c.lost;
+      too_long = c.too_long;
       findings = c.findings + found;
     }
 counts_after c (event.Unmap r) found =
@@ -26,6 +42,8 @@ counts_after c (event.Unmap r) found =
       flushes = c.flushes;
       uses = c.uses;
       others = c.others;
+      lost = c.lost;
+      too_long = c.too_long;
       findings = c.findings + found;
     }
 counts_after c (event.Use r) found =
@@ -35,6 +53,8 @@ counts_after c (event.Use r) found =
       flushes = c.flushes;
       uses = c.uses + 1;
       others = c.others;
+      lost = c.lost;
+      too_long = c.too_long;
       findings = c.findings + found;
     }
 counts_after c (event.Begin number range) found =
@@ -44,6 +64,8 @@ counts_after c (event.Begin number range) found =
       flushes = c.flushes + 1;
       uses = c.uses;
       others = c.others;
+      lost = c.lost;
+      too_long = c.too_long;
       findings = c.findings + found;
     }
 counts_after c (event.End number ok) found =
@@ -53,6 +75,8 @@ counts_after c (event.End number ok) found =
       flushes = c.flushes;
       uses = c.uses;
       others = c.others;
+      lost = c.lost;
+      too_long = c.too_long;
       findings = c.findings + found;
     }
 counts_after c (event.Flush range) found =
@@ -62,15 +86,19 @@ counts_after c (event.Flush range) found =
       flushes = c.flushes + 1;
       uses = c.uses;
       others = c.others;
+      lost = c.lost;
+      too_long = c.too_long;
       findings = c.findings + found;
     }
-counts_after c event.Other found =
+counts_after c (event.Other what) found =
     record {
       maps = c.maps;
       unmaps = c.unmaps;
       flushes = c.flushes;
       uses = c.uses;
       others = c.others + 1;
+      lost = c.lost + (if tells_lost what then 1 else 0);
+      too_long = c.too_long + (if is_long what then 1 else 0);
       findings = c.findings + found;
     }
 
@@ -81,7 +109,7 @@ is_map (event.Use r) = false
 is_map (event.Begin number range) = false
 is_map (event.End number ok) = false
 is_map (event.Flush range) = false
-is_map event.Other = false
+is_map (event.Other what) = false
 
 abbrev pub is_unmap : Event → Bool
 is_unmap (event.Map r) = false
@@ -90,7 +118,7 @@ is_unmap (event.Use r) = false
 is_unmap (event.Begin number range) = false
 is_unmap (event.End number ok) = false
 is_unmap (event.Flush range) = false
-is_unmap event.Other = false
+is_unmap (event.Other what) = false
 
 abbrev pub is_use : Event → Bool
 is_use (event.Map r) = false
@@ -99,7 +127,7 @@ is_use (event.Use r) = true
 is_use (event.Begin number range) = false
 is_use (event.End number ok) = false
 is_use (event.Flush range) = false
-is_use event.Other = false
+is_use (event.Other what) = false
 
 -- a flush begins at it
 abbrev pub is_flush : Event → Bool
@@ -109,7 +137,7 @@ is_flush (event.Use r) = false
 is_flush (event.Begin number range) = true
 is_flush (event.End number ok) = false
 is_flush (event.Flush range) = true
-is_flush event.Other = false
+is_flush (event.Other what) = false
 
 abbrev pub is_other : Event → Bool
 is_other (event.Map r) = false
@@ -118,7 +146,27 @@ is_other (event.Use r) = false
 is_other (event.Begin number range) = false
 is_other (event.End number ok) = false
 is_other (event.Flush range) = false
-is_other event.Other = true
+is_other (event.Other what) = true
+
+-- it says that events were lost
+abbrev pub is_lost : Event → Bool
+is_lost (event.Map r) = false
+is_lost (event.Unmap r) = false
+is_lost (event.Use r) = false
+is_lost (event.Begin number range) = false
+is_lost (event.End number ok) = false
+is_lost (event.Flush range) = false
+is_lost (event.Other what) = tells_lost what
+
+-- it was too long to be read
+abbrev pub is_too_long : Event → Bool
+is_too_long (event.Map r) = false
+is_too_long (event.Unmap r) = false
+is_too_long (event.Use r) = false
+is_too_long (event.Begin number range) = false
+is_too_long (event.End number ok) = false
+is_too_long (event.Flush range) = false
+is_too_long (event.Other what) = is_long what
 
 -- how many lines pass
 abbrev pub count_lines : (Event → Bool) → List Event → ℕ
@@ -132,6 +180,8 @@ pub record IsCounted (past : List Event) (found : ℕ) (c : Counts) : Type 0 whe
   pub flushes : c.flushes ≡ count_lines is_flush past
   pub uses : c.uses ≡ count_lines is_use past
   pub others : c.others ≡ count_lines is_other past
+  pub lost : c.lost ≡ count_lines is_lost past
+  pub too_long : c.too_long ≡ count_lines is_too_long past
   pub findings : c.findings ≡ found
 
 -- how many of three there are

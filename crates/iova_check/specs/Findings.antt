@@ -146,7 +146,7 @@ AreFindings bounds at flights (event.Begin number range) fs =
 AreFindings bounds at flights (event.End number ok) fs =
     fs ≡ flush_told number (not (is_some (flights number)))
 AreFindings bounds at flights (event.Flush range) fs = fs ≡ None ∷ None ∷ None ∷ []
-AreFindings bounds at flights event.Other fs = fs ≡ None ∷ None ∷ None ∷ []
+AreFindings bounds at flights (event.Other what) fs = fs ≡ None ∷ None ∷ None ∷ []
 
 -- The promise
 
@@ -178,4 +178,4 @@ TellsBreaks past (event.Use r) fs = Unit {0}
 TellsBreaks past (event.Begin number range) fs = Unit {0}
 TellsBreaks past (event.End number ok) fs = Unit {0}
 TellsBreaks past (event.Flush range) fs = Unit {0}
-TellsBreaks past event.Other fs = Unit {0}
+TellsBreaks past (event.Other what) fs = Unit {0}

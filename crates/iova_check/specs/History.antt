@@ -31,7 +31,7 @@ IsInReach (event.Use r) = IsRange r
 IsInReach (event.Begin number range) = IsScope range
 IsInReach (event.End number ok) = Unit {0}
 IsInReach (event.Flush range) = IsScope range
-IsInReach event.Other = Unit {0}
+IsInReach (event.Other what) = Unit {0}
 
 -- the frame is one of a flush's
 abbrev pub has : ℕ → Option Frames → Bool
@@ -49,7 +49,7 @@ flight_after line (event.Begin begun range) number was =
     if begun == number then Some (record { line = line; range = range }) else was
 flight_after line (event.End ended ok) number was = if ended == number then None else was
 flight_after line (event.Flush range) number was = was
-flight_after line event.Other number was = was
+flight_after line (event.Other what) number was = was
 
 abbrev pub flight_of : List Event → ℕ → Option Flight
 flight_of [] number = None
@@ -88,7 +88,7 @@ stage_after line flights (event.End number true) f was = flushed_by (flights num
 stage_after line flights (event.End number false) f was = was
 stage_after line flights (event.Flush range) f was =
     flushed_by (Some (record { line = line; range = range })) f was
-stage_after line flights event.Other f was = was
+stage_after line flights (event.Other what) f was = was
 
 abbrev pub stage_of : List Event → ℕ → Stage
 stage_of [] f = stage.Free

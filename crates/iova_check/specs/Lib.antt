@@ -11,7 +11,7 @@ pub mod Output
 pub mod Checking
 pub mod Logs
 pub mod Runs
-pub mod StaleIndex
+pub mod StageIndex
 pub mod Progress
 pub mod Summary
 pub mod Trace

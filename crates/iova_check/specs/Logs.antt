@@ -5,6 +5,7 @@ use Rattle.std.specs.List.{AllByRecursion}
 use Rattle.iova_text.specs.Lines.{HasNoLf, whole_line, IsOverlong, BeginsOdd}
 use Rattle.iova_check.specs.declared.event.Event.{Event}
 use Rattle.iova_check.specs.declared.event.Event.TheVariants.{Other}
+use Rattle.iova_check.specs.declared.event.OtherLine.TheVariants.{Plain}
 use Rattle.iova_check.specs.declared.allowed.Asked.{Asked}
 use Rattle.iova_check.specs.Bounds.{Bounds, bounds_asked}
 use Rattle.iova_check.specs.declared.source.Form.{Form}
@@ -34,7 +35,7 @@ pub record IsLog (asked : Asked) (l : Lines) : Type 0 where
   pub header : IsHeader first last
   pub good : AllByRecursion IsEvent events
   pub under : l.bounds ≡ bounds_asked asked first last
-  pub say : l.past ≡ events ++ Other ∷ []
+  pub say : l.past ≡ events ++ Other Plain ∷ []
   pub are : l.text ≡ whole_line (header_text first last) ++ events_text events
 
 -- the bytes are lines, each of which says its event

@@ -23,7 +23,7 @@ maps f (event.Use r) = false
 maps f (event.Begin number range) = false
 maps f (event.End number ok) = false
 maps f (event.Flush range) = false
-maps f event.Other = false
+maps f (event.Other what) = false
 
 -- it unmaps the frame
 abbrev pub unmaps : ℕ → Event → Bool
@@ -33,7 +33,7 @@ unmaps f (event.Use r) = false
 unmaps f (event.Begin number range) = false
 unmaps f (event.End number ok) = false
 unmaps f (event.Flush range) = false
-unmaps f event.Other = false
+unmaps f (event.Other what) = false
 
 -- a flush of this number begins, which has the frame
 abbrev pub begins : ℕ → ℕ → Event → Bool
@@ -43,7 +43,7 @@ begins number f (event.Use r) = false
 begins number f (event.Begin begun range) = begun == number && has f range
 begins number f (event.End ended ok) = false
 begins number f (event.Flush range) = false
-begins number f event.Other = false
+begins number f (event.Other what) = false
 
 -- a flush of this number ends well
 abbrev pub ends_well : ℕ → Event → Bool
@@ -54,7 +54,7 @@ ends_well number (event.Begin begun range) = false
 ends_well number (event.End ended true) = ended == number
 ends_well number (event.End ended false) = false
 ends_well number (event.Flush range) = false
-ends_well number event.Other = false
+ends_well number (event.Other what) = false
 
 -- a flush of this number begins or ends
 abbrev pub is_of : ℕ → Event → Bool
@@ -64,7 +64,7 @@ is_of number (event.Use r) = false
 is_of number (event.Begin begun range) = begun == number
 is_of number (event.End ended ok) = ended == number
 is_of number (event.Flush range) = false
-is_of number event.Other = false
+is_of number (event.Other what) = false
 
 -- it is a whole flush, which has the frame
 abbrev pub flushes : ℕ → Event → Bool
@@ -74,7 +74,7 @@ flushes f (event.Use r) = false
 flushes f (event.Begin number range) = false
 flushes f (event.End number ok) = false
 flushes f (event.Flush range) = has f range
-flushes f event.Other = false
+flushes f (event.Other what) = false
 
 abbrev pub IsLine : (Event → Bool) → List Event → ℕ → Type 0
 IsLine passes past n = is_line passes past n ≡ true

@@ -25,7 +25,7 @@ verb_of (event.Use r) = Some verb.Use
 verb_of (event.Begin number range) = Some verb.Begin
 verb_of (event.End number ok) = Some verb.End
 verb_of (event.Flush range) = None
-verb_of event.Other = None
+verb_of (event.Other what) = None
 
 abbrev pub word_of : Option Verb → List ℕ
 word_of None = []
@@ -51,7 +51,7 @@ arguments_of (event.Use r) = range_words r
 arguments_of (event.Begin number range) = decimal number ∷ scope_words range
 arguments_of (event.End number ok) = decimal number ∷ outcome_text ok ∷ []
 arguments_of (event.Flush range) = []
-arguments_of event.Other = []
+arguments_of (event.Other what) = []
 
 -- an event's line without its LF
 abbrev pub event_text : Event → List ℕ
@@ -65,7 +65,7 @@ IsEvent (event.Use r) = IsRange r
 IsEvent (event.Begin number range) = (number < 2 ^ 64) × IsScope range
 IsEvent (event.End number ok) = number < 2 ^ 64
 IsEvent (event.Flush range) = ⊥
-IsEvent event.Other = ⊥
+IsEvent (event.Other what) = ⊥
 
 -- The header
 

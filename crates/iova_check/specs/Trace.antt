@@ -6,6 +6,7 @@ use Rattle.std.specs.Str.{bytes_eq}
 use Rattle.iova_range.specs.Frames.{Frames}
 use Rattle.iova_check.specs.declared.event.Event.{Event}
 use Rattle.iova_check.specs.declared.event.Event.TheVariants as event
+use Rattle.iova_check.specs.declared.event.OtherLine.TheVariants as other
 
 -- Words
 
@@ -71,6 +72,32 @@ are_digits (Some digits) = nat_le 1 (length digits) && list_all is_ascii_digit d
 abbrev pub are_digits_after : List ℕ → List ℕ → Bool
 are_digits_after prefix word = are_digits (after prefix word)
 
+abbrev pub decimal_digit : ℕ → Option ℕ
+decimal_digit b = if nat_le 48 b && nat_le b 57 then Some (b - 48) else None
+
+-- what digits behind a number make of it
+abbrev pub decimal_more : ℕ → Option ℕ → Option ℕ
+decimal_more n None = None
+decimal_more n (Some digit) = Some (n * 10 + digit)
+
+abbrev pub decimal_from : Option ℕ → List ℕ → Option ℕ
+decimal_from None digits = None
+decimal_from (Some n) [] = Some n
+decimal_from (Some n) (b ∷ digits) = decimal_from (decimal_more n (decimal_digit b)) digits
+
+-- of 1 to 19 digits
+abbrev pub decimal_number : List ℕ → Option ℕ
+decimal_number digits =
+    if nat_le 1 (length digits) && nat_le (length digits) 19 then decimal_from (Some 0) digits
+    else None
+
+abbrev pub number_of : Option (List ℕ) → Option ℕ
+number_of None = None
+number_of (Some digits) = decimal_number digits
+
+abbrev pub number_after : List ℕ → List ℕ → Option ℕ
+number_after prefix word = number_of (after prefix word)
+
 -- Maps and unmaps
 
 -- the frames, of 4,096 bytes each, of the bytes from `start` on and before `behind`: none where
@@ -79,6 +106,11 @@ abbrev pub frames_between : ℕ → ℕ → Option Frames
 frames_between start behind =
     if nat_lt start behind then Some (record
     { lo = start / 4096; len = ((behind - 1) / 4096 - start / 4096) + 1 }) else None
+
+-- those of so many bytes from `start` on: none where the byte behind them has no address of 64 bits
+abbrev pub frames_within : ℕ → ℕ → Option Frames
+frames_within start size =
+    if nat_lt (start + size) (2 ^ 64) then frames_between start (start + size) else None
 
 abbrev pub frames_of : Option ℕ → Option ℕ → Option Frames
 frames_of None behind = None
@@ -92,19 +124,26 @@ mapped_frames a b c d e =
     && are_digits_after (codes "size=") e)
     then frames_of (hex_after (codes "iova=0x") a) (hex_after (codes "0x") c) else None
 
--- iova=0x<hex> - 0x<hex> size=<digits> unmapped_size=<digits>
+abbrev pub frames_from : Option ℕ → Option ℕ → Option Frames
+frames_from None size = None
+frames_from (Some start) None = None
+frames_from (Some start) (Some size) = frames_within start size
+
+-- iova=0x<hex> - 0x<hex> size=<digits> unmapped_size=<number>: what was unmapped, which may be less
+-- than what was asked for, or more
 abbrev pub unmapped_frames : List ℕ → List ℕ → List ℕ → List ℕ → List ℕ → Option Frames
 unmapped_frames a b c d e =
-    if bytes_eq b (codes "-") && (are_digits_after (codes "size=") d
-    && are_digits_after (codes "unmapped_size=") e)
-    then frames_of (hex_after (codes "iova=0x") a) (hex_after (codes "0x") c) else None
+    if bytes_eq b (codes "-") && (is_some (hex_after (codes "0x") c)
+    && are_digits_after (codes "size=") d)
+    then frames_from (hex_after (codes "iova=0x") a) (number_after (codes "unmapped_size=") e)
+    else None
 
 abbrev pub map_said : Option Frames → Event
-map_said None = event.Other
+map_said None = event.Other other.Plain
 map_said (Some r) = event.Map r
 
 abbrev pub unmap_said : Option Frames → Event
-unmap_said None = event.Other
+unmap_said None = event.Other other.Plain
 unmap_said (Some r) = event.Unmap r
 
 -- Flushes
@@ -125,20 +164,22 @@ paged_frames q1 =
 abbrev pub flush_at : Option ℕ → ℕ → ℕ → ℕ → Event
 flush_at domain granularity number q1 =
     if granularity == 1 then event.Flush None
-    else (if is_other_domain domain number then event.Other
+    else (if is_other_domain domain number then event.Other other.Plain
     else (if granularity == 2 then event.Flush None
-    else (if granularity == 3 then event.Flush (Some (paged_frames q1)) else event.Other)))
+    else (if granularity == 3 then event.Flush (Some (paged_frames q1))
+    else event.Other other.Plain)))
 
 abbrev pub flush_of : Option ℕ → Option ℕ → Option ℕ → Event
-flush_of domain None q1 = event.Other
-flush_of domain (Some q0) None = event.Other
+flush_of domain None q1 = event.Other other.Plain
+flush_of domain (Some q0) None = event.Other other.Plain
 flush_of domain (Some q0) (Some q1) = flush_at domain ((q0 / 16) % 4) ((q0 / 65536) % 65536) q1
 
 -- 0x<hex> four times, behind the name of a unit
 abbrev pub flush_said : Option ℕ → List ℕ → List ℕ → List ℕ → List ℕ → Event
 flush_said domain b c d e =
     if is_some (hex_after (codes "0x") d) && is_some (hex_after (codes "0x") e)
-    then flush_of domain (hex_after (codes "0x") b) (hex_after (codes "0x") c) else event.Other
+    then flush_of domain (hex_after (codes "0x") b) (hex_after (codes "0x") c)
+    else event.Other other.Plain
 
 -- Lines
 
@@ -154,18 +195,11 @@ event_from domain name about a b c d e =
     && bytes_eq about (codes "IOMMU:") then unmap_said (unmapped_frames a b c d e)
     else (if is_either (codes "qi_submit:") (codes "intel_iommu:qi_submit:") name
     && bytes_eq about (codes "iotlb_inv") then flush_said domain b c d e
-    else event.Other))
+    else event.Other other.Plain))
 
 abbrev pub said_by : Option ℕ → List (List ℕ) → Event
 said_by domain (name ∷ about ∷ a ∷ b ∷ c ∷ d ∷ e ∷ []) = event_from domain name about a b c d e
-said_by domain words = event.Other
-
--- what a line says, which is without its LF, where flushes of this domain count, or of each: of a
--- line that has at most 1,024 bytes with its LF its last seven words say it
-abbrev pub event_said : Option ℕ → List ℕ → Event
-event_said domain line =
-    if nat_lt (length line) 1024 then said_by domain
-    (last_seven (spaced_words line)) else event.Other
+said_by domain words = event.Other other.Plain
 
 -- Lost events
 
@@ -185,3 +219,17 @@ is_lost_behind (Some bytes) =
 -- a line, which is without its LF, says that events were lost: CPU:<digits> [LOST <digits> EVENTS]
 abbrev pub says_lost : List ℕ → Bool
 says_lost line = nat_lt (length line) 1024 && is_lost_behind (after (codes "CPU:") line)
+
+-- What a line says
+
+-- of a line that is not too long its last seven words say it, or that events were lost
+abbrev pub line_said : Option ℕ → List ℕ → Event
+line_said domain line =
+    if is_lost_behind (after (codes "CPU:") line) then event.Other other.Lost
+    else said_by domain (last_seven (spaced_words line))
+
+-- what a line says, which is without its LF, where flushes of this domain count, or of each: one of
+-- more than 1,024 bytes with its LF is too long to be read
+abbrev pub event_said : Option ℕ → List ℕ → Event
+event_said domain line =
+    if nat_lt (length line) 1024 then line_said domain line else event.Other other.TooLong

@@ -2,7 +2,7 @@
 ghost use Rattle.std.specs.Prelude.{◌≡◌, ◌+◌, ℕ, IfOk, IfSome, OnErr};
 ghost use Rattle.iova_check.specs.Counting.{IsCounted, counts_after};
 
-use crate::event::Event;
+use crate::event::{Event, OtherLine};
 use iova_range::refusal::Refusal;
 
 /// How many lines of each kind there were, and how many findings.
@@ -18,12 +18,17 @@ pub struct Counts {
     pub uses: u64,
     /// The lines that say nothing of frames or flushes, a log's header among them.
     pub others: u64,
+    /// Of these the lines that say that events were lost.
+    pub lost: u64,
+    /// Of these the lines that were too long to be read.
+    pub too_long: u64,
     /// The findings.
     pub findings: u64,
 }
 
 impl Counts {
     ghost use Rattle.std.specs.Prelude.{[]};
+    ghost use Rattle.iova_check.specs.declared.event.Event.TheVariants.{Other as IsOther};
 
     /// Of no lines.
     pub fn new() -> Counts
@@ -35,6 +40,8 @@ impl Counts {
             flushes: 0,
             uses: 0,
             others: 0,
+            lost: 0,
+            too_long: 0,
             findings: 0,
         }
     }
@@ -80,8 +87,33 @@ impl Counts {
                 }
             }
             Event::End { no: _, ok: _ } => Some(self),
-            Event::Other => match self.others.checked_add(1) {
-                Some(others) => Some(Counts { others, ..self }),
+            Event::Other(what) => self.with_other(*what),
+        }
+    }
+
+    /// With a line more that says nothing. None where its count has no number.
+    fn with_other(self, what: OtherLine) -> Option<Counts>
+        ensures { IfSome result (λ counts. (found : ℕ)
+            → record counts { findings = counts.findings + found }
+            ≡ counts_after self (IsOther what) found) }
+    {
+        let others = self.others.checked_add(1)?;
+        match what {
+            OtherLine::Plain => Some(Counts { others, ..self }),
+            OtherLine::Lost => match self.lost.checked_add(1) {
+                Some(lost) => Some(Counts {
+                    others,
+                    lost,
+                    ..self
+                }),
+                None => None,
+            },
+            OtherLine::TooLong => match self.too_long.checked_add(1) {
+                Some(too_long) => Some(Counts {
+                    others,
+                    too_long,
+                    ..self
+                }),
                 None => None,
             },
         }

@@ -17,6 +17,17 @@ pub enum Event {
     /// A flush of these frames began at this line and ended well, or of every frame. No line of a
     /// log says it.
     Flush(Option<Range>),
-    /// Nothing of frames or flushes: a log's header, or a line that is passed over.
-    Other,
+    /// Nothing of frames or flushes.
+    Other(OtherLine),
+}
+
+/// A line that says nothing of frames or flushes.
+#[derive(Clone, Copy)]
+pub enum OtherLine {
+    /// A log's header, or a line that is passed over.
+    Plain,
+    /// Events were lost before it: the kernel's buffer was full.
+    Lost,
+    /// It is too long to be read, so it may be a map's.
+    TooLong,
 }

@@ -10,6 +10,8 @@ pub mod fault;
 pub mod finding;
 pub mod law;
 pub mod line;
+pub mod notice;
+pub mod reason;
 pub mod run;
 pub mod scan;
 pub mod source;

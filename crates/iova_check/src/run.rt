@@ -9,15 +9,17 @@ ghost use Rattle.iova_check.specs.Runs.{Checks, Counts, ChecksAndCounts};
 
 use crate::allowed::{Allowed, Asked};
 use crate::checker::Checker;
-use crate::event::Event;
+use crate::event::{Event, OtherLine};
 use crate::fault::CheckFault;
 use crate::line::{read_event, read_header};
+use crate::notice::{tell_of_trace, tell_overlong, tell_refused};
+use crate::reason::{Reason, other_form, why_no_event, why_no_header};
 use crate::source::{Form, Source};
 use crate::summary::summary;
-use crate::trace::{read_trace_line, tells_lost};
+use crate::trace::read_trace_line;
 use arrayvec::ArrayVec;
 use iova_range::limits::{MAX_LINE, MAX_TRACE_LINE, WIDE_TOP};
-use iova_text::buffer::{put, put_number};
+use iova_text::buffer::put;
 use iova_text::line::cut_line;
 use iova_text::read::read_some;
 use iova_text::write::write_all;
@@ -28,9 +30,6 @@ use std::io::{Read, Write};
 /// How many bytes are read, or gathered before they are written.
 const BUFFER: usize = 65_536;
 
-/// Room for a notice of the longest line, in bytes.
-const NOTICE: usize = 1_051;
-
 /// Checks a log under the bounds of its header, or those that are asked for in their place, and
 /// without the windows: reads its lines, and writes a line for each finding. It gives what is known
 /// after the last line. One line is kept at a time, and findings are written before each read, so
@@ -38,14 +37,15 @@ const NOTICE: usize = 1_051;
 ///
 /// The answer is the fault of the earliest line. `BadLog` where a line is none of a log's, or where
 /// the input ends in a line without LF or has no line; the findings of the lines before it are
-/// written. `ReadFault` where a read fails, an interruption too; the findings of all whole lines
-/// are written. `WriteFault` where a write fails or takes nothing, and `NoMemory`: some first bytes
-/// of the findings are written.
-pub fn check<R: Read, W: Write>(
+/// written, and why it is none is told to `notices`, with its text. `ReadFault` where a read fails,
+/// an interruption too; the findings of all whole lines are written. `WriteFault` where a write
+/// fails or takes nothing, and `NoMemory`: some first bytes of the findings are written.
+pub fn check<R: Read, W: Write, N: Write>(
     alloc: Global,
     asked: &Asked<'_>,
     reader: &mut R,
     writer: &mut W,
+    notices: &mut N,
 ) -> Result<Checker, CheckFault>
     ensures { Checks (record { form = Form.Log; asked = asked.now }) (R.remaining reader.old)
         (R.remaining reader.new)
@@ -55,14 +55,16 @@ pub fn check<R: Read, W: Write>(
         form: Form::Log,
         asked: *asked,
     };
-    run(alloc, &source, reader, writer, &mut io::sink())
+    run(alloc, &source, reader, writer, notices)
 }
 
 /// Checks a kernel's trace as a log is checked, under the bounds that are asked for, else from
 /// frame 0 to frame 2^40 - 1. Of its flushes of a domain those of `domain` count, or all. No line
 /// is refused: one that says nothing of frames or flushes is passed over, as is one of more than
 /// 1,024 bytes with its LF, and a last line needs no LF. A line that says that events were lost is
-/// told to `notices` with its number before the next one is taken; what fails there is passed over.
+/// told to `notices` with its number before the next one is taken, and so are the first one that is
+/// too long to be read and a first line that shows that the text is no trace as it stands. What
+/// fails there is passed over.
 ///
 /// Refused as a log is, without `BadLog`.
 pub fn check_trace<R: Read, W: Write, N: Write>(
@@ -98,7 +100,10 @@ fn run<R: Read, W: Write, N: Write>(
     let mut input: Vec<u8> = vec![in alloc; 0u8; BUFFER]?;
     let mut progress = Progress::new(alloc, source)?;
     match progress.read_all(&mut input, source, reader, writer, notices) {
-        Ok(()) => progress.finish(),
+        Ok(()) => {
+            progress.tell_end(notices);
+            progress.finish()
+        }
         Err(fault) => Err(fault),
     }
 }
@@ -115,7 +120,7 @@ pub fn check_and_count<R: Read, W: Write>(
         (R.remaining reader.old) (R.remaining reader.new)
         (W.contents writer.old) (W.contents writer.new) result }
 {
-    let checked = check(alloc, asked, reader, writer);
+    let checked = check(alloc, asked, reader, writer, &mut io::sink());
     let told = write_counts(&checked, writer);
     drop(checked);
     told
@@ -245,7 +250,7 @@ impl Progress {
             rest = behind;
             self.tell_line(end, source, writer, notices)?;
         }
-        let kept = self.keep_part(rest, source);
+        let kept = self.keep_part(rest, source, notices);
         self.write_findings(writer)?;
         kept
     }
@@ -304,19 +309,24 @@ impl Progress {
         if self.line.is_empty() {
             return self.run_line(end, source, notices);
         }
-        self.keep_part(end, source)?;
+        self.keep_part(end, source, notices)?;
         let line = std::mem::take(&mut self.line);
         self.run_line(line.as_slice(), source, notices)
     }
 
     /// Keeps what has come of a line.
-    fn keep_part(&mut self, bytes: &[u8], source: &Source<'_>) -> Result<(), CheckFault>
+    fn keep_part<N: Write>(
+        &mut self,
+        bytes: &[u8],
+        source: &Source<'_>,
+        notices: &mut N,
+    ) -> Result<(), CheckFault>
         requires { HasNoLf bytes.now }
         ensures takes { TakesBytes source.now self.old bytes.now self.new result }
         ensures findings { self.new.findings.items ≡ self.old.findings.items }
     {
         match source.form {
-            Form::Log => self.keep_all(bytes),
+            Form::Log => self.keep_all(bytes, notices),
             Form::Trace(_) => {
                 self.keep_front(bytes);
                 Ok(())
@@ -325,14 +335,16 @@ impl Progress {
     }
 
     /// Keeps what has come of a log's line. One of 128 bytes without an LF is refused.
-    fn keep_all(&mut self, bytes: &[u8]) -> Result<(), CheckFault>
+    fn keep_all<N: Write>(&mut self, bytes: &[u8], notices: &mut N) -> Result<(), CheckFault>
         requires { HasNoLf bytes.now }
         ensures takes { (source : Source) → source.form ≡ Form.Log
             → TakesBytes source self.old bytes.now self.new result }
         ensures findings { self.new.findings.items ≡ self.old.findings.items }
     {
         if self.line.len() + bytes.len() >= MAX_LINE {
-            return Err(CheckFault::BadLog(self.number()));
+            let number = self.number();
+            tell_overlong(number, &self.line, bytes, notices);
+            return Err(CheckFault::BadLog(number));
         }
         let _fits = self.line.try_extend_from_slice(bytes);
         Ok(())
@@ -362,13 +374,18 @@ impl Progress {
         ensures findings { OnErr result (self.new.findings.items ≡ self.old.findings.items) }
     {
         match source.form {
-            Form::Log => self.run_log_line(line, source),
+            Form::Log => self.run_log_line(line, source, notices),
             Form::Trace(domain) => self.run_trace_line(line, domain, notices),
         }
     }
 
     /// Takes a whole line of a log, the header first.
-    fn run_log_line(&mut self, line: &[u8], source: &Source<'_>) -> Result<(), CheckFault>
+    fn run_log_line<N: Write>(
+        &mut self,
+        line: &[u8],
+        source: &Source<'_>,
+        notices: &mut N,
+    ) -> Result<(), CheckFault>
         requires log { source.now.form ≡ Form.Log }
         requires fresh { self.old.line.items ≡ [] }
         ensures takes { HasNoLf line.now → TakesBytes source.now self.old (whole_line line.now)
@@ -377,9 +394,10 @@ impl Progress {
     {
         let number = self.number();
         let Some(checker) = &mut self.checker else {
-            return self.run_header(line, source);
+            return self.run_header(line, source, notices);
         };
         let Some(event) = read_event(line) else {
+            tell_refused(number, why_no_event(line), line, notices);
             return Err(CheckFault::BadLog(number));
         };
         match checker.check(event, &mut self.findings) {
@@ -388,7 +406,12 @@ impl Progress {
         }
     }
 
-    fn run_header(&mut self, line: &[u8], source: &Source<'_>) -> Result<(), CheckFault>
+    fn run_header<N: Write>(
+        &mut self,
+        line: &[u8],
+        source: &Source<'_>,
+        notices: &mut N,
+    ) -> Result<(), CheckFault>
         requires log { source.now.form ≡ Form.Log }
         requires fresh { self.old.line.items ≡ [] }
         requires first { self.old.checker ≡ None }
@@ -397,12 +420,13 @@ impl Progress {
         ensures findings { OnErr result (self.new.findings.items ≡ self.old.findings.items) }
     {
         let Some(header) = read_header(line) else {
+            tell_refused(1, why_no_header(line), line, notices);
             return Err(CheckFault::BadLog(1));
         };
         let Ok(mut checker) = opened(self.alloc, &source.asked, header.first, header.last) else {
             return Err(CheckFault::NoMemory);
         };
-        match checker.check(Event::Other, &mut self.findings) {
+        match checker.check(Event::Other(OtherLine::Plain), &mut self.findings) {
             Ok(()) => {}
             Err(_) => return Err(CheckFault::NoMemory),
         }
@@ -410,8 +434,8 @@ impl Progress {
         Ok(())
     }
 
-    /// Takes a whole line of a trace, of which this is kept, and tells notices where it says that
-    /// events were lost.
+    /// Takes a whole line of a trace, of which this is kept, and tells notices what of it can't be
+    /// read.
     fn run_trace_line<N: Write>(
         &mut self,
         line: &[u8],
@@ -428,9 +452,8 @@ impl Progress {
         let Some(checker) = &mut self.checker else {
             return Ok(());
         };
-        if tells_lost(line) {
-            notify(checker.tracker.line, line, notices);
-        }
+        let longs = checker.counts.too_long;
+        tell_of_trace(checker.tracker.line, line, longs, notices);
         let event = read_trace_line(domain, line);
         match checker.check(event, &mut self.findings) {
             Ok(()) => Ok(()),
@@ -454,6 +477,19 @@ impl Progress {
         write_all(writer, &self.findings)?;
         self.findings.clear();
         Ok(())
+    }
+
+    /// Tells why the text may not end here, where it may not.
+    fn tell_end<N: Write>(&self, notices: &mut N) {
+        if !self.line.is_empty() {
+            let reason = match other_form(&self.line) {
+                Some(reason) if self.checker.is_none() => reason,
+                _ => Reason::NoLf,
+            };
+            tell_refused(self.number(), reason, &self.line, notices);
+        } else if self.checker.is_none() {
+            tell_refused(1, Reason::Empty, b"", notices);
+        }
     }
 
     /// What the check comes to where the text ends here.
@@ -512,17 +548,4 @@ fn opened(alloc: Global, asked: &Asked<'_>, first: u64, last: u64) -> Result<Che
     let last = asked.last.unwrap_or(last);
     let allowed = Allowed::new(alloc, first, last, asked.windows)?;
     Ok(Checker::new(alloc, allowed))
-}
-
-/// Tells of this line, which is short. What fails is passed over: nobody is left to tell.
-fn notify<N: Write>(number: u64, line: &[u8], notices: &mut N)
-    requires { length line.now < MAX_TRACE_LINE }
-{
-    let mut text: ArrayVec<u8, NOTICE> = ArrayVec::new();
-    put(&mut text, b"line ");
-    put_number(&mut text, number);
-    put(&mut text, b": ");
-    put(&mut text, line);
-    put(&mut text, b"\n");
-    let _told = write_all(notices, text.as_slice());
 }

@@ -1,6 +1,6 @@
 //! The lowest frames of a range of which something is told, and those after them of which the same
 //! is.
-ghost use Rattle.std.specs.Prelude.{◌≡◌, ◌≢◌, ℕ, ◌+◌, ◌-◌, ◌≤◌, ◌<◌, Some};
+ghost use Rattle.std.specs.Prelude.{◌≡◌, ◌≢◌, ℕ, ◌+◌, ◌-◌, ◌≤◌, ◌<◌, Some, None};
 ghost use Rattle.iova_check.specs.Marks.{stage_at};
 ghost use Rattle.iova_check.specs.declared.finding.Kind.TheVariants.{Overlap as Overlapping};
 ghost use Rattle.iova_check.specs.Counting.{frames_told};
@@ -23,9 +23,25 @@ pub fn find(stages: &Stages, kind: Kind, lo: u64, to: u64) -> Option<Run>
             let len = end - at;
             return Some(Run { lo: at, len, since });
         }
-        at = stages.end(at, to);
+        at = skip(stages, kind, at, to);
     }
     None
+}
+
+/// A frame above `frame` and at most `to`, up to which the kind tells nothing, as it tells nothing
+/// of `frame`. Where stale or free frames are looked for, it passes no others one by one.
+fn skip(stages: &Stages, kind: Kind, frame: u64, to: u64) -> u64
+    requires some { frame < to }
+    requires first { since_of kind (stage_at stages.now frame) ≡ None }
+    ensures after { frame < result }
+    ensures within { result ≤ to }
+    ensures none { (f : ℕ) → frame ≤ f → f < result → since_of kind (stage_at stages.now f) ≡ None }
+{
+    match kind {
+        Kind::Stale => stages.next_stale(frame, to),
+        Kind::Wild => stages.next_free(frame, to),
+        _ => stages.end(frame, to),
+    }
 }
 
 /// The end of the frames from `lo` on and below `to` of which the kind tells this.

@@ -37,7 +37,7 @@ pub enum Change {
 }
 
 impl Stage {
-    ghost use Rattle.iova_check.specs.StaleIndex.{is_stale};
+    ghost use Rattle.iova_check.specs.StageIndex.{is_stale};
 
     /// Whether a device may still reach a frame that was unmapped.
     pub fn is_stale(self) -> bool

@@ -1,6 +1,7 @@
 //! The stages of all frames, as marks in an ordered map: a step costs the logarithm of how many
-//! there are. Those that tell stale are in an index, so that a flush looks at these alone.
-ghost use Rattle.iova_check.specs.StaleIndex.{IsIndexed};
+//! there are. Those that tell stale are in an index, so that a flush looks at these alone; and so
+//! are those that tell free, so that a search for a free frame passes no range that is mapped.
+ghost use Rattle.iova_check.specs.StageIndex.{IsIndexed, HasFree};
 
 use crate::stage::{Change, Stage};
 use iova_range::range::Range;
@@ -15,17 +16,21 @@ pub struct Stages {
     /// The marks that tell stale are at these frames; where memory was refused there may be more of
     /// them.
     stale: BTreeSet<u64>,
+    /// The same of the marks that tell free.
+    free: BTreeSet<u64>,
     ghost indexed: { IsIndexed marks stale },
+    ghost freed: { HasFree marks free },
 }
 
 impl Stages {
-    ghost use Rattle.std.specs.Prelude.{◌≡◌, ◌≢◌, ℕ, ◌-◌, ◌≤◌, ◌<◌, ◌^◌, Some, None, IsSome, OnOk, if◌then◌else◌};
+    ghost use Rattle.std.specs.Prelude.{◌≡◌, ◌≢◌, ℕ, ◌-◌, ◌≤◌, ◌<◌, ◌^◌, Some, None, IsSome, OnOk, if◌then◌else◌, false};
     ghost use Rattle.std.specs.Ordering.{nat_cmp};
     ghost use Rattle.std.specs.BTreeMap.{get};
     ghost use Rattle.iova_range.specs.Frames.{covers};
-    ghost use Rattle.iova_check.specs.declared.stage.Stage.TheVariants.{Free as IsFree, Stale as IsStale};
+    ghost use Rattle.iova_check.specs.declared.stage.Stage.TheVariants.{Free as IsFree, Mapped as IsMapped, Stale as IsStale};
     ghost use Rattle.iova_check.specs.History.{with_change};
     ghost use Rattle.iova_check.specs.Marks.{stage_at, shown_before, IsBare};
+    ghost use Rattle.iova_check.specs.StageIndex.{is_stale, is_free};
 
     /// Each frame is free.
     pub fn new(alloc: Global) -> Stages
@@ -34,6 +39,7 @@ impl Stages {
         Stages {
             marks: BTreeMap::new(alloc),
             stale: BTreeSet::new(alloc),
+            free: BTreeSet::new(alloc),
         }
     }
 
@@ -125,8 +131,19 @@ impl Stages {
         }
     }
 
+    /// A frame above `frame` and at most `to`: where `frame` isn't stale, none up to there is.
+    pub fn next_stale(&self, frame: u64, to: u64) -> u64
+        requires { frame < to }
+        ensures after { frame < result }
+        ensures within { result ≤ to }
+        ensures none { is_stale (stage_at self.now frame) ≡ false → (f : ℕ) → frame ≤ f → f < result
+            → is_stale (stage_at self.now f) ≡ false }
+    {
+        self.next_stale_mark(frame, to)
+    }
+
     /// A frame above `frame` and at most `to`, with no mark between the two that tells stale.
-    fn next_stale(&self, frame: u64, to: u64) -> u64
+    fn next_stale_mark(&self, frame: u64, to: u64) -> u64
         requires { frame < to }
         ensures after { frame < result }
         ensures within { result ≤ to }
@@ -134,6 +151,31 @@ impl Stages {
             → get nat_cmp self.now.marks q ≢ Some (IsStale since) }
     {
         match self.stale.range(frame + 1..).next() {
+            Some(next) if *next < to => *next,
+            _ => to,
+        }
+    }
+
+    /// A frame above `frame` and at most `to`: where `frame` isn't free, none up to there is.
+    pub fn next_free(&self, frame: u64, to: u64) -> u64
+        requires { frame < to }
+        ensures after { frame < result }
+        ensures within { result ≤ to }
+        ensures none { is_free (stage_at self.now frame) ≡ false → (f : ℕ) → frame ≤ f → f < result
+            → is_free (stage_at self.now f) ≡ false }
+    {
+        self.next_free_mark(frame, to)
+    }
+
+    /// A frame above `frame` and at most `to`, with no mark between the two that tells free.
+    fn next_free_mark(&self, frame: u64, to: u64) -> u64
+        requires { frame < to }
+        ensures after { frame < result }
+        ensures within { result ≤ to }
+        ensures none { (q : ℕ) → frame < q → q < result
+            → get nat_cmp self.now.marks q ≢ Some IsFree }
+    {
+        match self.free.range(frame + 1..).next() {
             Some(next) if *next < to => *next,
             _ => to,
         }
@@ -176,22 +218,46 @@ impl Stages {
         ensures others { OnOk result ((q : ℕ) → q ≢ at
             → get nat_cmp self.new.marks q ≡ get nat_cmp self.old.marks q) }
     {
-        if let Stage::Stale(_) = stage {
-            return self.mark_stale(at, stage);
+        match stage {
+            Stage::Free => self.mark_free(at),
+            Stage::Mapped(line) => self.mark_mapped(at, line),
+            Stage::Stale(line) => self.mark_stale(at, line),
         }
-        self.marks.insert(at, stage)?;
+    }
+
+    /// The same of one that tells mapped, which is in no index.
+    fn mark_mapped(&mut self, at: u64, line: u64) -> Result<(), AllocError>
+        ensures marked { OnOk result (get nat_cmp self.new.marks at ≡ Some (IsMapped line)) }
+        ensures others { OnOk result ((q : ℕ) → q ≢ at
+            → get nat_cmp self.new.marks q ≡ get nat_cmp self.old.marks q) }
+    {
+        self.marks.insert(at, Stage::Mapped(line))?;
+        let _was_free = self.free.remove(&at);
         let _was_stale = self.stale.remove(&at);
         Ok(())
     }
 
-    /// The same of a stage that tells stale, so that the index has it first.
-    fn mark_stale(&mut self, at: u64, stage: Stage) -> Result<(), AllocError>
-        ensures marked { OnOk result (get nat_cmp self.new.marks at ≡ Some stage) }
+    /// The same of one that tells stale, so that its index has it first.
+    fn mark_stale(&mut self, at: u64, line: u64) -> Result<(), AllocError>
+        ensures marked { OnOk result (get nat_cmp self.new.marks at ≡ Some (IsStale line)) }
         ensures others { OnOk result ((q : ℕ) → q ≢ at
             → get nat_cmp self.new.marks q ≡ get nat_cmp self.old.marks q) }
     {
         self.stale.insert(at)?;
-        self.marks.insert(at, stage)?;
+        self.marks.insert(at, Stage::Stale(line))?;
+        let _was_free = self.free.remove(&at);
+        Ok(())
+    }
+
+    /// The same of one that tells free, so that its index has it first.
+    fn mark_free(&mut self, at: u64) -> Result<(), AllocError>
+        ensures marked { OnOk result (get nat_cmp self.new.marks at ≡ Some IsFree) }
+        ensures others { OnOk result ((q : ℕ) → q ≢ at
+            → get nat_cmp self.new.marks q ≡ get nat_cmp self.old.marks q) }
+    {
+        self.free.insert(at)?;
+        self.marks.insert(at, Stage::Free)?;
+        let _was_stale = self.stale.remove(&at);
         Ok(())
     }
 
@@ -202,6 +268,7 @@ impl Stages {
         if self.stage_before(at) == self.stage(at) {
             let _gone = self.marks.remove(&at);
             let _was_stale = self.stale.remove(&at);
+            let _was_free = self.free.remove(&at);
         }
     }
 

@@ -46,7 +46,7 @@ fn tell(tracker: &Tracker, allowed: &Allowed, event: &Event) -> [Option<Finding>
         Event::Use(range) => of_use(&tracker.stages, allowed, *range),
         Event::Begin { no, range: _ } => of_flush(*no, tracker.flights.contains_key(no)),
         Event::End { no, ok: _ } => of_flush(*no, !tracker.flights.contains_key(no)),
-        Event::Flush(_) | Event::Other => [None, None, None],
+        Event::Flush(_) | Event::Other(_) => [None, None, None],
     }
 }
 

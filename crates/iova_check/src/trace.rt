@@ -1,13 +1,13 @@
 //! The lines of a kernel's trace, read.
 ghost use Rattle.std.specs.Prelude.{◌≡◌, ℕ, ◌+◌, ◌<◌, ◌≤◌, List, [], ◌∷◌, ◌++◌, Some, None, IfSome, IfNone, IsTrue, length, codes};
 ghost use Rattle.iova_check.specs.History.{IsRange, IsInReach};
-ghost use Rattle.iova_check.specs.Trace.{word_at_front, from_blank, spaced_words, hex_digit, hex_from, hex_number, after, hex_after, are_digits, are_digits_after, frames_of, frames_between, mapped_frames, unmapped_frames, paged_frames, is_other_domain, flush_at, flush_said, is_either, event_from, event_said, counts_lost, is_lost_behind, says_lost};
+ghost use Rattle.iova_check.specs.Trace.{word_at_front, from_blank, spaced_words, hex_digit, hex_from, hex_number, after, hex_after, decimal_digit, decimal_from, decimal_number, number_after, are_digits, are_digits_after, frames_of, frames_from, frames_within, frames_between, mapped_frames, unmapped_frames, paged_frames, is_other_domain, flush_at, flush_said, is_either, event_from, line_said, event_said, counts_lost, is_lost_behind, says_lost};
 
-use crate::event::Event;
+use crate::event::{Event, OtherLine};
 use iova_range::limits::{FRAME_BYTES, MAX_TRACE_LINE};
 use iova_range::range::Range;
 use iova_text::words::first_word;
-use memchr::memrchr;
+use memchr::{memmem, memrchr};
 
 /// The last seven words of a line.
 #[derive(Drop)]
@@ -27,11 +27,22 @@ pub fn read_trace_line(domain: Option<u64>, line: &[u8]) -> Event
     ensures reach { IsInReach result }
 {
     if line.len() >= MAX_TRACE_LINE {
-        return Event::Other;
+        return Event::Other(OtherLine::TooLong);
+    }
+    line_said(domain, line)
+}
+
+/// What this line says, which is not too long.
+fn line_said(domain: Option<u64>, line: &[u8]) -> Event
+    ensures said { result ≡ line_said domain line.now }
+    ensures reach { IsInReach result }
+{
+    if is_lost(line) {
+        return Event::Other(OtherLine::Lost);
     }
     match seven_words(line) {
         Some(words) => event_of(domain, &words),
-        None => Event::Other,
+        None => Event::Other(OtherLine::Plain),
     }
 }
 
@@ -41,6 +52,17 @@ pub fn tells_lost(line: &[u8]) -> bool
     ensures short { IsTrue result → length line.now < MAX_TRACE_LINE }
 {
     line.len() < MAX_TRACE_LINE && is_lost(line)
+}
+
+/// Whether a kernel's trace may begin so: with tracefs' or trace-cmd's head, with an event, or with
+/// the number of a processor.
+pub fn is_of_trace(front: &[u8]) -> bool {
+    front.starts_with(b"# tracer:")
+        || front.starts_with(b"CPU")
+        || front.starts_with(b"cpus=")
+        || memmem::find(front, b"IOMMU: iova=0x").is_some()
+        || memmem::find(front, b"qi_submit: ").is_some()
+        || memmem::find(front, b" [00").is_some()
 }
 
 fn is_lost(line: &[u8]) -> bool
@@ -93,21 +115,21 @@ fn event_of(domain: Option<u64>, words: &Seven<'_>) -> Event
     if is_either(words.name, b"map:", b"iommu:map:") && words.about == b"IOMMU:".as_slice() {
         match mapped_frames(words) {
             Some(range) => Event::Map(range),
-            None => Event::Other,
+            None => Event::Other(OtherLine::Plain),
         }
     } else if is_either(words.name, b"unmap:", b"iommu:unmap:")
         && words.about == b"IOMMU:".as_slice()
     {
         match unmapped_frames(words) {
             Some(range) => Event::Unmap(range),
-            None => Event::Other,
+            None => Event::Other(OtherLine::Plain),
         }
     } else if is_either(words.name, b"qi_submit:", b"intel_iommu:qi_submit:")
         && words.about == b"iotlb_inv".as_slice()
     {
         flush_said(domain, words)
     } else {
-        Event::Other
+        Event::Other(OtherLine::Plain)
     }
 }
 
@@ -136,10 +158,35 @@ fn unmapped_frames(words: &Seven<'_>) -> Option<Range>
     ensures reach { IfSome result (λ r. IsRange r) }
 {
     let dash = words.b == b"-".as_slice();
-    if dash && are_digits_after(b"size=", words.d) && are_digits_after(b"unmapped_size=", words.e) {
-        frames_of(words)
+    if dash && hex_after(b"0x", words.c).is_some() && are_digits_after(b"size=", words.d) {
+        frames_from(words)
     } else {
         None
+    }
+}
+
+/// The frames of so many bytes as were unmapped, from the first one on.
+fn frames_from(words: &Seven<'_>) -> Option<Range>
+    ensures is { result ≡ frames_from (hex_after (codes "iova=0x") words.now.a.now)
+        (number_after (codes "unmapped_size=") words.now.e.now) }
+    ensures reach { IfSome result (λ r. IsRange r) }
+{
+    match (
+        hex_after(b"iova=0x", words.a),
+        number_after(b"unmapped_size=", words.e),
+    ) {
+        (Some(start), Some(size)) => frames_within(start, size),
+        _ => None,
+    }
+}
+
+fn frames_within(start: u64, size: u64) -> Option<Range>
+    ensures is { result ≡ frames_within start size }
+    ensures reach { IfSome result (λ r. IsRange r) }
+{
+    match start.checked_add(size) {
+        Some(behind) => frames_between(start, behind),
+        None => None,
     }
 }
 
@@ -173,11 +220,11 @@ fn flush_said(domain: Option<u64>, words: &Seven<'_>) -> Event
     ensures reach { IsInReach result }
 {
     if hex_after(b"0x", words.d).is_none() || hex_after(b"0x", words.e).is_none() {
-        return Event::Other;
+        return Event::Other(OtherLine::Plain);
     }
     match (hex_after(b"0x", words.b), hex_after(b"0x", words.c)) {
         (Some(q0), Some(q1)) => flush_at(domain, q0 / 16 % 4, q0 / 65_536 % 65_536, q1),
-        _ => Event::Other,
+        _ => Event::Other(OtherLine::Plain),
     }
 }
 
@@ -188,13 +235,13 @@ fn flush_at(domain: Option<u64>, granularity: u64, number: u64, q1: u64) -> Even
     if granularity == 1 {
         Event::Flush(None)
     } else if is_other_domain(domain, number) {
-        Event::Other
+        Event::Other(OtherLine::Plain)
     } else if granularity == 2 {
         Event::Flush(None)
     } else if granularity == 3 {
         Event::Flush(Some(paged_frames(q1)))
     } else {
-        Event::Other
+        Event::Other(OtherLine::Plain)
     }
 }
 
@@ -226,7 +273,7 @@ fn are_digits_after(prefix: &[u8], word: &[u8]) -> bool
     }
 }
 
-fn are_digits(digits: &[u8]) -> bool
+pub(crate) fn are_digits(digits: &[u8]) -> bool
     ensures { result ≡ are_digits (Some digits.now) }
 {
     if digits.is_empty() {
@@ -238,6 +285,15 @@ fn are_digits(digits: &[u8]) -> bool
         }
     }
     true
+}
+
+fn number_after(prefix: &[u8], word: &[u8]) -> Option<u64>
+    ensures { result ≡ number_after prefix.now word.now }
+{
+    match after(prefix, word) {
+        Some(digits) => decimal_number(digits),
+        None => None,
+    }
 }
 
 fn hex_after(prefix: &[u8], word: &[u8]) -> Option<u64>
@@ -293,6 +349,41 @@ fn hex_digit(byte: u8) -> Option<u8>
         Some(byte - b'0')
     } else if b'a' <= byte && byte <= b'f' {
         Some(byte - b'a' + 10)
+    } else {
+        None
+    }
+}
+
+/// A number of 1 to 19 digits.
+fn decimal_number(digits: &[u8]) -> Option<u64>
+    ensures { result ≡ decimal_number digits.now }
+{
+    if digits.is_empty() || digits.len() > 19 {
+        return None;
+    }
+    decimal_from(digits)
+}
+
+fn decimal_from(digits: &[u8]) -> Option<u64>
+    requires { length digits.now ≤ 19 }
+    ensures { result ≡ decimal_from (Some 0) digits.now }
+{
+    let mut value = 0u64;
+    let mut rest = digits;
+    while let Some((first, others)) = rest.split_first() {
+        let digit = decimal_digit(*first)?;
+        value = value * 10 + u64::from(digit);
+        rest = others;
+    }
+    Some(value)
+}
+
+fn decimal_digit(byte: u8) -> Option<u8>
+    ensures is { result ≡ decimal_digit byte }
+    ensures small { IfSome result (λ d. d < 10) }
+{
+    if b'0' <= byte && byte <= b'9' {
+        Some(byte - b'0')
     } else {
         None
     }

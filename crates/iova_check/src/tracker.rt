@@ -55,7 +55,7 @@ impl Tracker {
             Event::Begin { no, range } => self.begin(no, range)?,
             Event::End { no, ok } => self.end(no, ok)?,
             Event::Flush(range) => self.flush_at_once(range)?,
-            Event::Other => {}
+            Event::Other(_) => {}
         }
         self.line += 1;
         Ok(())

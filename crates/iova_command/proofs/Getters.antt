@@ -1,5 +1,5 @@
 -- What the getters of matches read, by the rows.
-use Rattle.std.proofs.Common.{ℕ, ◌≡◌, ◌∙◌, Bool, true, false, codes, List, Option, Some, None, Result, refl, sym, ap, subst}
+use Rattle.std.proofs.Common.{ℕ, ◌≡◌, ◌∙◌, Bool, true, false, codes, List, Option, Some, None, Result, refl, sym, ap, subst, rules}
 use Rattle.std.specs.Option.{option_map}
 use Rattle.std.specs.Borrow.{Bor}
 use Rattle.std.specs.Str.Parse.{ParsesUnsigned, ExplainsUnsignedError, HasUnsignedDigitsIfOk}
@@ -8,26 +8,26 @@ use Rattle.clap.specs.Words.{ReadsOne, Text, one_text, first_value, rows_of, fir
 use Rattle.clap.specs.declared.parser.matches.Found.{Found}
 use Rattle.clap.proofs.WalkLemmas.{first_value-rows, one_text-rows}
 use Rattle.iova_command.specs.Asks.{HasFlag}
-use Rattle.iova_command.specs.Numbers.{HasNumber, HasNumberOr, HasOptional}
+use Rattle.iova_command.specs.Numbers.{HasNumberOr, HasOptional, IsPlain, ParsesNumber, begins_with_plus}
 
 -- what `parse` gives for a number of 64 bits
 abbrev pub Parses : List ℕ → Result ℕ ParseIntError → Type 0
 Parses text r = ParsesUnsigned 64 10 text r × ExplainsUnsignedError 10 text r × HasUnsignedDigitsIfOk text r
 
 pub number_read : (f : Found) (id : Text) (r : Option ℕ) (n : ℕ) → r ≡ Some n → (one_text f id ≡ None → r ≡ None)
-    → ((text : Text) → one_text f id ≡ Some text → ReadsOne Parses text r) → HasNumber (rows_of f) id n
+    → ((text : Text) → one_text f id ≡ Some text → ReadsOne Parses text r) → ParsesNumber (rows_of f) id n
 number_read f id r n is none value = go (one_text f id) refl
   where
-    go : (o : Option Text) → one_text f id ≡ o → HasNumber (rows_of f) id n
+    go : (o : Option Text) → one_text f id ≡ o → ParsesNumber (rows_of f) id n
     go None e =
         let bad : None ≡ Some n = sym (none e) ∙ is in
         cc
     go (Some text) e = (text, sym (one_text-rows f id) ∙ e, (subst (λ (o : Option ℕ). ReadsOne Parses text o) is (value text e)).0)
 
 pub optional_read : (f : Found) (id : Text) (r : Option ℕ) → (one_text f id ≡ None → r ≡ None)
-    → ((text : Text) → one_text f id ≡ Some text → ReadsOne Parses text r) → HasOptional (rows_of f) id r
-optional_read f id (Some n) none value = number_read f id (Some n) n refl none value
-optional_read f id None none value = λ n has.
+    → ((text : Text) → one_text f id ≡ Some text → ReadsOne Parses text r) → IsPlain (rows_of f) id → HasOptional (rows_of f) id r
+optional_read f id (Some n) none value plain = (number_read f id (Some n) n refl none value, plain)
+optional_read f id None none value plain = λ n has.
     let read = value has.0 (one_text-rows f id ∙ has.1) in
     read.1.0 has.2.0
 
@@ -39,6 +39,23 @@ text_read f id r s reads is =
 pub optional_text_read : (f : Found) (id : Text) (r : Option (Bor Text)) → option_map (λ b. b.now) r ≡ first_value f id
     → first_of id (rows_of f) ≡ option_map (λ b. b.now) r
 optional_text_read f id r reads = sym (first_value-rows f id) ∙ sym reads
+
+-- a text that has no sign in front, or none at all
+pub plain_text : (f : Found) (id : Text) (r : Option (Bor Text)) (s : Bor Text) → option_map (λ b. b.now) r ≡ first_value f id → r ≡ Some s
+    → begins_with_plus s.now ≡ false → IsPlain (rows_of f) id
+plain_text f id r s reads is plain text has =
+    let one : Some s.now ≡ Some text = sym (text_read f id r s reads is) ∙ has in
+    let P : Text → Type 0 = λ x. begins_with_plus x ≡ false in
+    subst P (some_is s.now text one) plain
+  where
+    some_is : (a b : Text) → Some a ≡ Some b → a ≡ b
+    some_is a b h = search rules
+
+pub no_text : (f : Found) (id : Text) (r : Option (Bor Text)) → option_map (λ b. b.now) r ≡ first_value f id → r ≡ None → IsPlain (rows_of f) id
+no_text f id r reads is text has =
+    let none : first_of id (rows_of f) ≡ None = optional_text_read f id r reads ∙ ap (option_map (λ b. b.now)) is in
+    let bad : None ≡ Some text = sym none ∙ has in
+    cc
 
 pub left_out : (f : Found) (id : Text) (default : ℕ) (r : Option (Bor Text)) → option_map (λ b. b.now) r ≡ first_value f id → r ≡ None
     → HasNumberOr (rows_of f) id default default

@@ -5,6 +5,7 @@ use Rattle.iova_range.specs.declared.limits.TheConstants.{DEFAULT_DOMAIN, DEFAUL
 use Rattle.iova_command.specs.Controls.{HasControl}
 use Rattle.iova_command.specs.Levels.{HasLevel}
 use Rattle.iova_command.specs.Numbers.{HasNumberOr, HasOptional}
+use Rattle.iova_command.specs.Sinks.{HasSink}
 use Rattle.iova_command.specs.Spans.{HasSpans}
 use Rattle.iova_command.specs.declared.asked.Asked.{Asked}
 use Rattle.iova_command.specs.declared.asked.Asked.TheVariants.{Replay, Serve, Ask, Check, Control}
@@ -26,7 +27,8 @@ pub record Plans (rows : List Row) (plan : Plan) : Type 0 where
   pub domain : HasNumberOr rows (codes "domain") DEFAULT_DOMAIN plan.domain
   pub start : HasNumberOr rows (codes "start") DEFAULT_START plan.start
   pub last : HasNumberOr rows (codes "last") DEFAULT_LAST plan.last
-  pub sink : first_of (codes "sink") rows ≡ Some plan.sink.now
+  pub sink : HasSink rows plan.sink
+  pub peer_wait : HasOptional rows (codes "peer-wait") plan.peer_wait
   pub sessions : HasOptional rows (codes "sessions") plan.sessions
   pub session_requests : HasOptional rows (codes "session-requests") plan.session_requests
   pub idle : HasOptional rows (codes "idle") plan.idle
@@ -40,7 +42,6 @@ pub record Plans (rows : List Row) (plan : Plan) : Type 0 where
   pub sink_timeout : HasOptional rows (codes "sink-timeout") plan.sink_timeout
   pub log_level : HasLevel rows (codes "log-level") plan.log_level
   pub control : first_of (codes "control") rows ≡ option_map (λ path. path.now) plan.control
-  pub turns : HasFlag rows (codes "turns") plan.turns
 
 -- each part of a check is the option of its name
 pub record PlansCheck (rows : List Row) (plan : CheckPlan) : Type 0 where
@@ -61,11 +62,13 @@ AsksOf name rows (Replay path has_report log) =
     × HasFlag rows (codes "report") has_report
     × (first_of (codes "log") rows ≡ option_map (λ log. log.now) log)
 AsksOf name rows (Serve plan) = (name ≡ codes "serve") × Plans rows plan
-AsksOf name rows (Ask path) = (name ≡ codes "ask") × (first_of (codes "path") rows ≡ Some path.now)
+AsksOf name rows (Ask path timeout) =
+    (name ≡ codes "ask") × (first_of (codes "path") rows ≡ Some path.now)
+    × HasOptional rows (codes "timeout") timeout
 AsksOf name rows (Check plan) = (name ≡ codes "check") × PlansCheck rows plan
-AsksOf name rows (Control path word) =
+AsksOf name rows (Control path word timeout) =
     (name ≡ codes "control") × (first_of (codes "path") rows ≡ Some path.now)
-    × HasControl rows (codes "word") word
+    × HasControl rows (codes "word") word × HasOptional rows (codes "timeout") timeout
 
 -- what matched words ask for; no subcommand asks for a replay of standard input
 abbrev pub AsksFor : Option (Text × List Row) → Asked → Type 0

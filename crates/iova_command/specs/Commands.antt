@@ -5,7 +5,7 @@ use Rattle.clap.specs.declared.builder.command.Command.{Command}
 use Rattle.clap.specs.declared.builder.command.Command.TheViews.{out-Command}
 use Rattle.clap.specs.declared.builder.action.ArgAction.TheVariants.{Append, Set, SetTrue}
 use Rattle.clap.specs.declared.builder.value_parser.ValueParser.TheVariants as parser
-use Rattle.iova_range.specs.declared.limits.TheConstants.{LAST_DOMAIN_ID, MAX_CLIENTS, MAX_DEPOT, MAX_WORKERS, MAX_DOMAINS, MAX_IDLE, MAX_RECORDED_STEPS, MAX_SESSION_REQUESTS, MAX_SESSIONS, MAX_SINK_TIMEOUT, WIDE_TOP}
+use Rattle.iova_range.specs.declared.limits.TheConstants.{LAST_DOMAIN_ID, MAX_ANSWER_TIMEOUT, MAX_CLIENTS, MAX_DEPOT, MAX_WORKERS, MAX_DOMAINS, MAX_IDLE, MAX_PEER_WAIT, MAX_RECORDED_STEPS, MAX_SESSION_REQUESTS, MAX_SESSIONS, MAX_SINK_TIMEOUT, WIDE_TOP}
 
 -- an argument that must be there, named by its place
 abbrev pub place_rule : Text → Rule
@@ -40,20 +40,23 @@ replay_app =
 
 abbrev pub serve_app : App
 serve_app =
-    with_rule (with_rule (with_rule (with_rule
+    with_rule (with_rule
     (with_rule (with_rule (with_rule (with_rule
     (with_rule (with_rule (with_rule (with_rule
     (with_rule (with_rule (with_rule (with_rule
-    (with_rule (with_rule (with_rule (with_rule (new_app (codes "serve"))
+    (with_rule (with_rule (with_rule (with_rule
+    (with_rule (with_rule (with_rule (new_app (codes "serve"))
     (option_rule (codes "socket")))
     (optional_number_rule (codes "workers") 1 MAX_WORKERS))
     (optional_number_rule (codes "clients") 1 MAX_CLIENTS))
     (optional_number_rule (codes "domain") 0 (MAX_DOMAINS - 1)))
     (optional_number_rule (codes "start") 1 WIDE_TOP))
     (optional_number_rule (codes "last") 1 WIDE_TOP))
-    (option_rule (codes "sink")))
+    (optional_rule (codes "peer")))
+    (optional_rule (codes "sink")))
+    (optional_number_rule (codes "peer-wait") 0 MAX_PEER_WAIT))
     (optional_number_rule (codes "sessions") 1 MAX_SESSIONS))
-    (optional_number_rule (codes "session-requests") 1 MAX_SESSION_REQUESTS))
+    (optional_number_rule (codes "session-requests") 0 MAX_SESSION_REQUESTS))
     (optional_number_rule (codes "idle") 1 MAX_IDLE))
     (optional_number_rule (codes "depot") 0 MAX_DEPOT))
     (flag_rule (codes "strict")))
@@ -63,15 +66,19 @@ serve_app =
     (optional_rule (codes "reserved-regions")))
     (optional_number_rule (codes "sink-timeout") 1 MAX_SINK_TIMEOUT))
     (optional_rule (codes "log-level")))
-    (optional_rule (codes "control")))
-    (flag_rule (codes "turns"))
+    (optional_rule (codes "control"))
 
 abbrev pub ask_app : App
-ask_app = with_rule (new_app (codes "ask")) (place_rule (codes "path"))
+ask_app =
+    with_rule (with_rule (new_app (codes "ask"))
+    (optional_number_rule (codes "timeout") 1 MAX_ANSWER_TIMEOUT))
+    (place_rule (codes "path"))
 
 abbrev pub control_app : App
 control_app =
-    with_rule (with_rule (new_app (codes "control")) (place_rule (codes "path")))
+    with_rule (with_rule (with_rule (new_app (codes "control"))
+    (optional_number_rule (codes "timeout") 1 MAX_ANSWER_TIMEOUT))
+    (place_rule (codes "path")))
     (place_rule (codes "word"))
 
 abbrev pub check_app : App

@@ -4,5 +4,6 @@ pub mod Controls
 pub mod Levels
 pub mod Numbers
 pub mod Refuses
+pub mod Sinks
 pub mod Spans
 pub mod Usage

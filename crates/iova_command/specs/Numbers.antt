@@ -1,14 +1,27 @@
 -- The number that an option has.
-use Rattle.std.specs.Prelude.{ℕ, ◌≡◌, ◌≢◌, List, Option, Some, None, Ok}
+use Rattle.std.specs.Prelude.{ℕ, ◌≡◌, ◌≢◌, ◌==◌, Bool, false, List, [], ◌∷◌, Option, Some, None, Ok}
 use Rattle.std.specs.declared.num.ParseIntError.{ParseIntError}
 use Rattle.std.specs.Str.Parse.{ParsesUnsigned}
 use Rattle.clap.specs.Words.{Row, Text, first_of, one_of}
 
--- the option has a text, which is the number in decimal digits
-abbrev pub HasNumber : List Row → Text → ℕ → Type 0
-HasNumber rows id n =
+-- a text begins with the sign +
+abbrev pub begins_with_plus : Text → Bool
+begins_with_plus [] = false
+begins_with_plus (b ∷ bytes) = b == 43
+
+-- the option's text, where it has one, has no such sign
+abbrev pub IsPlain : List Row → Text → Type 0
+IsPlain rows id = (text : Text) → first_of id rows ≡ Some text → begins_with_plus text ≡ false
+
+-- the option has a text, which is the number in decimal digits, maybe with a sign + in front
+abbrev pub ParsesNumber : List Row → Text → ℕ → Type 0
+ParsesNumber rows id n =
     (text : Text) × (one_of id rows ≡ Some text)
     × ParsesUnsigned {E = ParseIntError} 64 10 text (Ok n)
+
+-- the same without a sign
+abbrev pub HasNumber : List Row → Text → ℕ → Type 0
+HasNumber rows id n = ParsesNumber rows id n × IsPlain rows id
 
 -- the number of an option that may be left out, which is this one then, and none but the option's
 -- own where it is there
@@ -19,4 +32,4 @@ HasNumberOr rows id default n =
 -- the number of an option that may be missing
 abbrev pub HasOptional : List Row → Text → Option ℕ → Type 0
 HasOptional rows id (Some n) = HasNumber rows id n
-HasOptional rows id None = (n : ℕ) → ¬ HasNumber rows id n
+HasOptional rows id None = (n : ℕ) → ¬ ParsesNumber rows id n

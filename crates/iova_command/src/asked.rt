@@ -23,6 +23,8 @@ pub enum Asked<'a> {
     Ask {
         /// The path of the daemon's socket.
         path: &'a str,
+        /// How many seconds a connection and each answer are waited for; none: without end.
+        timeout: Option<u64>,
     },
     /// A word for a daemon's control socket.
     Control {
@@ -30,5 +32,7 @@ pub enum Asked<'a> {
         path: &'a str,
         /// What is asked for.
         word: ControlWord,
+        /// How many seconds a connection and the answer are waited for, where it is said.
+        timeout: Option<u64>,
     },
 }

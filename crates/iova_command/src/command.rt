@@ -6,29 +6,31 @@ ghost use Rattle.iova_command.specs.Commands.{IsCommand, place_rule, flag_rule, 
 use crate::words::VERSION;
 use clap::{Arg, ArgAction, Command, value_parser};
 use iova_range::limits::{
-    LAST_DOMAIN_ID, MAX_CLIENTS, MAX_DEPOT, MAX_DOMAINS, MAX_IDLE, MAX_RECORDED_STEPS,
-    MAX_SESSION_REQUESTS, MAX_SESSIONS, MAX_SINK_TIMEOUT, MAX_WORKERS, WIDE_TOP,
+    LAST_DOMAIN_ID, MAX_ANSWER_TIMEOUT, MAX_CLIENTS, MAX_DEPOT, MAX_DOMAINS, MAX_IDLE,
+    MAX_PEER_WAIT, MAX_RECORDED_STEPS, MAX_SESSION_REQUESTS, MAX_SESSIONS, MAX_SINK_TIMEOUT,
+    MAX_WORKERS, WIDE_TOP,
 };
 use std::alloc::{AllocError, Global};
 
 /// The ways to call the program, which stand in its help and after words that aren't understood.
 const USAGE: &str = "iovad < FILE
        iovad replay [--report] [--log FILE] FILE
-       iovad serve --socket PATH --sink PATH [--workers N] [--clients N] [--domain N] [--start N]
-                   [--last N] [--sessions N] [--session-requests N] [--idle SECONDS] [--depot N]
-                   [--strict] [--turns]
+       iovad serve --socket PATH --peer PATH|--sink FILE [--peer-wait SECONDS]
+                   [--workers N] [--clients N] [--domain N] [--start N] [--last N]
+                   [--sessions N] [--session-requests N] [--idle SECONDS] [--depot N]
+                   [--strict]
                    [--record FILE [--record-steps N]] [--reserve FIRST-LAST]..
                    [--reserved-regions FILE] [--sink-timeout SECONDS]
                    [--log-level error|warn|info|debug] [--control PATH]
-       iovad control PATH report|sessions|metrics|stop
-       iovad ask PATH
+       iovad control [--timeout SECONDS] PATH report|sessions|metrics|stop
+       iovad ask [--timeout SECONDS] PATH
        iovad check [--quiet] [--first N] [--last N] [--reserved-regions PATH]
                    [--ftrace [--did N]] FILE";
 
 /// How `serve` is called, which stands in its help and after words of its own that aren't
 /// understood.
-const SERVE_USAGE: &str = "iovad serve --socket PATH --sink PATH [OPTIONS]
-Example: iovad serve --socket /tmp/iovad.socket --sink /tmp/flushes";
+const SERVE_USAGE: &str = "iovad serve --socket PATH --peer PATH|--sink FILE [OPTIONS]
+Example: iovad serve --socket /tmp/iovad.socket --peer /tmp/iovad.device";
 
 const STATUSES: &str = "Statuses:
   0  done
@@ -36,7 +38,8 @@ const STATUSES: &str = "Statuses:
   2  the words are not understood, or the bounds are refused
   3  the trace or the log is refused
   4  a file or a socket
-  5  no memory";
+  5  no memory
+  6  a daemon was stopped, and ranges are left at clients or in rings";
 
 const LINES_OF_A_TRACE: &str = "Lines of a trace, the first one of these two:
   iovatrace 1 START LAST WORKERS
@@ -193,11 +196,31 @@ fn serve_command<'a>(alloc: Global) -> Result<Command<'a>, AllocError>
     );
     let command = with_arg(
         command,
-        path(
+        optional_path(
+            alloc,
+            "peer",
+            "PATH",
+            "The socket of a peer that invalidates and answers; this or --sink is wanted",
+        ),
+    );
+    let command = with_arg(
+        command,
+        optional_path(
             alloc,
             "sink",
-            "PATH",
-            "The socket of a peer that invalidates and answers, or the file that records are appended to",
+            "FILE",
+            "The file that records are appended to, which no device answers",
+        ),
+    );
+    let command = with_arg(
+        command,
+        optional_number(
+            alloc,
+            "peer-wait",
+            "SECONDS",
+            0,
+            MAX_PEER_WAIT,
+            "With --peer: how long it is waited for at the start, 0 to 3600; without it 0",
         ),
     );
     let command = with_arg(
@@ -217,9 +240,9 @@ fn serve_command<'a>(alloc: Global) -> Result<Command<'a>, AllocError>
             alloc,
             "session-requests",
             "N",
-            1,
+            0,
             MAX_SESSION_REQUESTS,
-            "The most requests of a session, 1 to 9223372036854775807; without it 65536",
+            "The most requests of a session, or 0 for no bound, 0 to 9223372036854775807; without it 65536",
         ),
     );
     let command = with_arg(
@@ -310,7 +333,7 @@ fn serve_command<'a>(alloc: Global) -> Result<Command<'a>, AllocError>
             "The least grave notices that are told, error, warn, info or debug; without it warn",
         ),
     );
-    let command = with_arg(
+    with_arg(
         command,
         optional_path(
             alloc,
@@ -318,24 +341,25 @@ fn serve_command<'a>(alloc: Global) -> Result<Command<'a>, AllocError>
             "PATH",
             "The path of a socket for iovad control, at most 107 bytes; without it there is none",
         ),
-    );
-    with_arg(
-        command,
-        flag(
-            alloc,
-            "turns",
-            "The clients of a worker take turns on one thread; without it each has a thread",
-        ),
     )
 }
 
 fn ask_command<'a>(alloc: Global) -> Result<Command<'a>, AllocError>
     ensures { IfOk result (IsCommand ask_app) }
 {
-    Command::new(alloc, "ask")
+    let command = Command::new(alloc, "ask")
         .about("Sends lines from standard input to a socket and prints the answers")
-        .after_help(REQUESTS)
-        .arg(place(alloc, "path", "PATH", "The socket's path"))
+        .after_help(REQUESTS);
+    let timeout = optional_number(
+        alloc,
+        "timeout",
+        "SECONDS",
+        1,
+        MAX_ANSWER_TIMEOUT,
+        "How long each answer may take, 1 to 86400; without it without end",
+    );
+    let path = place(alloc, "path", "PATH", "The socket's path");
+    with_arg(with_arg(Ok(command), timeout), path)
 }
 
 fn control_command<'a>(alloc: Global) -> Result<Command<'a>, AllocError>
@@ -344,9 +368,17 @@ fn control_command<'a>(alloc: Global) -> Result<Command<'a>, AllocError>
     let command = Command::new(alloc, "control")
         .about("Asks a daemon for its report or its figures, or has it stop")
         .after_help(CONTROL_WORDS);
+    let timeout = optional_number(
+        alloc,
+        "timeout",
+        "SECONDS",
+        1,
+        MAX_ANSWER_TIMEOUT,
+        "How long the answer may take, 1 to 86400; without it 10, for a stop without end",
+    );
     let path = place(alloc, "path", "PATH", "The path of its control socket");
     let word = place(alloc, "word", "WORD", "What is asked for");
-    with_arg(with_arg(Ok(command), path), word)
+    with_arg(with_arg(with_arg(Ok(command), timeout), path), word)
 }
 
 fn check_command<'a>(alloc: Global) -> Result<Command<'a>, AllocError>

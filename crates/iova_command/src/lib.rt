@@ -7,5 +7,7 @@ mod command;
 pub mod control_word;
 pub mod plan;
 pub mod plan_words;
+pub mod sink_path;
 pub mod usage;
 pub mod words;
+mod wrong_word;

@@ -1,16 +1,17 @@
 //! What a daemon is to serve.
-ghost use Rattle.std.specs.Prelude.{◌≡◌, ◌<◌, ◌≤◌, IfSome, map};
+ghost use Rattle.std.specs.Prelude.{◌≡◌, ◌<◌, ◌≤◌, IfSome, map, false};
 ghost use Rattle.std.specs.Option.{ForSome};
 ghost use Rattle.clap.specs.Words.{rows_of, found_of};
 ghost use Rattle.iova_command.specs.Levels.{HasLevel, IsChoiceOf};
-ghost use Rattle.iova_command.specs.Numbers.{HasNumber, HasNumberOr, HasOptional};
+ghost use Rattle.iova_command.specs.Numbers.{HasNumber, HasNumberOr, HasOptional, IsPlain, begins_with_plus};
 ghost use Rattle.iova_command.specs.Spans.{HasSpans, InsertsSpan, InsertsSpans};
-ghost use Rattle.iova_range.specs.declared.limits.TheConstants.{DEFAULT_DOMAIN, DEFAULT_LAST, DEFAULT_START, DEFAULT_WORKERS, MAX_CLIENTS, MAX_DEPOT, MAX_WORKERS, MAX_DOMAINS, MAX_IDLE, MAX_RECORDED_STEPS, MAX_SESSION_REQUESTS, MAX_SESSIONS, MAX_SINK_TIMEOUT, WIDE_TOP};
+ghost use Rattle.iova_range.specs.declared.limits.TheConstants.{DEFAULT_DOMAIN, DEFAULT_LAST, DEFAULT_START, DEFAULT_WORKERS, MAX_CLIENTS, MAX_DEPOT, MAX_WORKERS, MAX_DOMAINS, MAX_IDLE, MAX_PEER_WAIT, MAX_RECORDED_STEPS, MAX_SESSION_REQUESTS, MAX_SESSIONS, MAX_SINK_TIMEOUT, WIDE_TOP};
 
+use crate::sink_path::SinkPath;
 use clap::ArgMatches;
 use iova_range::limits::{
     DEFAULT_DOMAIN, DEFAULT_LAST, DEFAULT_START, DEFAULT_WORKERS, MAX_CLIENTS, MAX_DEPOT,
-    MAX_DOMAINS, MAX_IDLE, MAX_RECORDED_STEPS, MAX_SESSION_REQUESTS, MAX_SESSIONS,
+    MAX_DOMAINS, MAX_IDLE, MAX_PEER_WAIT, MAX_RECORDED_STEPS, MAX_SESSION_REQUESTS, MAX_SESSIONS,
     MAX_SINK_TIMEOUT, MAX_WORKERS, WIDE_TOP,
 };
 use iova_range::range::Range;
@@ -32,12 +33,13 @@ pub struct Plan<'a> {
     pub start: u64,
     /// The last frame that may be given; it may be below the first one.
     pub last: u64,
-    /// The path of the file that the records of flushes are appended to, or of the socket of a peer
-    /// that answers.
-    pub sink: &'a str,
+    /// Where flushes go.
+    pub sink: SinkPath<'a>,
+    /// How many seconds a peer is waited for at the start, where it is said.
+    pub peer_wait: Option<u64>,
     /// How many sessions are served; none: sessions without end.
     pub sessions: Option<u64>,
-    /// The most requests of a session, where it is said.
+    /// The most requests of a session, where it is said; 0 is no bound.
     pub session_requests: Option<u64>,
     /// How many seconds a session may be idle; none: for as long as it likes.
     pub idle: Option<u64>,
@@ -63,8 +65,6 @@ pub struct Plan<'a> {
     pub log_level: LevelFilter,
     /// The path of the control socket, where one is wanted.
     pub control: Option<&'a str>,
-    /// Whether the clients of a worker take turns on one thread.
-    pub turns: bool,
     pub ghost workers_in_range: { (1 ≤ workers) × (workers ≤ MAX_WORKERS) },
     pub ghost clients_in_range: { ForSome clients (λ n. (1 ≤ n) × (n ≤ MAX_CLIENTS)) },
     pub ghost domain_in_range: { domain < MAX_DOMAINS },
@@ -72,10 +72,11 @@ pub struct Plan<'a> {
     pub ghost last_in_range: { (1 ≤ last) × (last ≤ WIDE_TOP) },
     pub ghost sessions_in_range: { ForSome sessions (λ n. (1 ≤ n) × (n ≤ MAX_SESSIONS)) },
     pub ghost requests_in_range: { ForSome session_requests
-        (λ n. (1 ≤ n) × (n ≤ MAX_SESSION_REQUESTS)) },
+        (λ n. n ≤ MAX_SESSION_REQUESTS) },
     pub ghost idle_in_range: { ForSome idle (λ n. (1 ≤ n) × (n ≤ MAX_IDLE)) },
     pub ghost depot_in_range: { ForSome depot (λ n. n ≤ MAX_DEPOT) },
     pub ghost steps_in_range: { ForSome record_steps (λ n. (1 ≤ n) × (n ≤ MAX_RECORDED_STEPS)) },
+    pub ghost wait_in_range: { ForSome peer_wait (λ n. n ≤ MAX_PEER_WAIT) },
     pub ghost timeout_in_range: { ForSome sink_timeout (λ n. n ≤ MAX_SINK_TIMEOUT) },
 }
 
@@ -90,6 +91,7 @@ impl<'a> Drop for Plan<'a> {
             start: _,
             last: _,
             sink: _,
+            peer_wait: _,
             sessions: _,
             session_requests: _,
             idle: _,
@@ -102,7 +104,6 @@ impl<'a> Drop for Plan<'a> {
             sink_timeout: _,
             log_level: _,
             control: _,
-            turns: _,
         } = self;
     }
 }
@@ -111,9 +112,10 @@ impl<'a> Plan<'a> {
     ghost use Rattle.iova_command.specs.Asks.{Plans};
 
     /// What the matches of `serve` say; workers, domain and bounds that are left out are those of
-    /// the limits. None where the socket or the sink is missing, a number is outside its range, a
-    /// level is none of the four, a window is of another form or makes too many, or where a count
-    /// of steps is said and no record is wanted.
+    /// the limits. None where the socket is missing, a peer and a file for records are named, or
+    /// neither is, a number is outside its range, a level is none of the four, a window is of
+    /// another form or makes too many, or where a count of steps is said and no record is wanted,
+    /// or a wait and no peer.
     pub(crate) fn of(found: &ArgMatches<'a>) -> Option<Plan<'a>>
         ensures { IfSome result (λ p. Plans (rows_of (found_of found.now)) p) }
     {
@@ -125,9 +127,10 @@ impl<'a> Plan<'a> {
             domain: number_or(found, "domain", DEFAULT_DOMAIN, 0, MAX_DOMAINS - 1)?,
             start,
             last,
-            sink: found.get_str("sink")?,
+            sink: SinkPath::of(found)?,
+            peer_wait: optional(found, "peer-wait", 0, MAX_PEER_WAIT)?,
             sessions: optional(found, "sessions", 1, MAX_SESSIONS)?,
-            session_requests: optional(found, "session-requests", 1, MAX_SESSION_REQUESTS)?,
+            session_requests: optional(found, "session-requests", 0, MAX_SESSION_REQUESTS)?,
             idle: optional(found, "idle", 1, MAX_IDLE)?,
             depot: optional(found, "depot", 0, MAX_DEPOT)?,
             strict: found.get_flag("strict"),
@@ -139,9 +142,11 @@ impl<'a> Plan<'a> {
             log_level: level(found, "log-level")?,
             control: found.get_str("control"),
             clients: optional(found, "clients", 1, MAX_CLIENTS as u64)?,
-            turns: found.get_flag("turns"),
         };
         if plan.record_steps.is_some() && plan.record.is_none() {
+            return None;
+        }
+        if plan.peer_wait.is_some() && matches!(plan.sink, SinkPath::File(_)) {
             return None;
         }
         Some(plan)
@@ -160,7 +165,7 @@ fn level(found: &ArgMatches<'_>, name: &str) -> Option<LevelFilter>
 }
 
 /// The level of this name. None exactly where it is none of the four.
-fn level_of(name: &str) -> Option<LevelFilter>
+pub(crate) fn level_of(name: &str) -> Option<LevelFilter>
     ensures { IsChoiceOf name.now result }
 {
     match name {
@@ -225,11 +230,33 @@ fn number(found: &ArgMatches<'_>, name: &str, low: u64, high: u64) -> Option<u64
     ensures range { IfSome result (λ n. (low ≤ n) × (n ≤ high)) }
     ensures read { IfSome result (λ n. HasNumber (rows_of (found_of found.now)) name.now n) }
 {
+    if has_plus(found, name) {
+        return None;
+    }
     let n = found.get_one::<u64>(name)?;
     if n < low || n > high {
         return None;
     }
     Some(n)
+}
+
+/// Whether the text of this option begins with `+`, which std's reading of a number takes.
+pub(crate) fn has_plus(found: &ArgMatches<'_>, name: &str) -> bool
+    ensures { result ≡ false → IsPlain (rows_of (found_of found.now)) name.now }
+{
+    match found.get_str(name) {
+        Some(text) => begins_with_plus(text.as_bytes()),
+        None => false,
+    }
+}
+
+fn begins_with_plus(text: &[u8]) -> bool
+    ensures { result ≡ begins_with_plus text.now }
+{
+    match text.split_first() {
+        Some((first, _)) => *first == b'+',
+        None => false,
+    }
 }
 
 /// The number of an option that may be left out, which is `default` then, where it is from `low` to
@@ -256,6 +283,9 @@ pub(crate) fn optional(
     ensures range { IfSome result (λ o. ForSome o (λ n. (low ≤ n) × (n ≤ high))) }
     ensures read { IfSome result (λ o. HasOptional (rows_of (found_of found.now)) name.now o) }
 {
+    if has_plus(found, name) {
+        return None;
+    }
     match found.get_one::<u64>(name) {
         Some(n) if n < low || n > high => None,
         number => Some(number),

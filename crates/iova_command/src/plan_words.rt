@@ -1,5 +1,6 @@
 //! A daemon's plan told in the words of the command line.
 use crate::plan::Plan;
+use crate::sink_path::SinkPath;
 use iova_range::limits::{MAX_REQUESTS, RECORDED_STEPS, SINK_TIMEOUT};
 use iova_range::range::Range;
 use iova_regions::windows::Windows;
@@ -33,7 +34,12 @@ impl<'p, 'a> fmt::Display for PlanWords<'p, 'a> {
 /// What is served, where, and what is told of it.
 fn write_served<W: fmt::Write>(plan: &Plan<'_>, f: &mut fmt::Formatter<W>) -> fmt::Result {
     let timeout = plan.sink_timeout.unwrap_or(SINK_TIMEOUT);
-    write!(f, "serve --socket {} --sink {}", plan.socket, plan.sink)?;
+    write!(f, "serve --socket {}", plan.socket)?;
+    match plan.sink {
+        SinkPath::Peer(path) => write!(f, " --peer {path}")?,
+        SinkPath::File(path) => write!(f, " --sink {path}")?,
+    }
+    write_number("peer-wait", plan.peer_wait, f)?;
     write!(f, " --sink-timeout {} --workers {}", timeout, plan.workers)?;
     write!(f, " --clients {}", plan.clients.unwrap_or(plan.workers))?;
     write!(f, " --domain {} --start {}", plan.domain, plan.start)?;
@@ -47,9 +53,6 @@ fn write_sessions<W: fmt::Write>(plan: &Plan<'_>, f: &mut fmt::Formatter<W>) -> 
     write!(f, " --session-requests {}", requests)?;
     write_number("sessions", plan.sessions, f)?;
     write_number("idle", plan.idle, f)?;
-    if plan.turns {
-        f.write_str(" --turns")?;
-    }
     write_text("control", plan.control, f)
 }
 

@@ -10,10 +10,12 @@ use crate::asked::Asked;
 use crate::check_plan::CheckPlan;
 use crate::command::iovad_command;
 use crate::control_word::ControlWord;
-use crate::plan::Plan;
+use crate::plan::{Plan, optional};
 use crate::usage::WordsFault;
+use crate::wrong_word::wrong_word;
 use clap::error::ErrorKind;
 use clap::{ArgMatches, Command};
+use iova_range::limits::MAX_ANSWER_TIMEOUT;
 use std::alloc::Global;
 use std::convert::AsStr;
 use std::rt::Env;
@@ -62,10 +64,10 @@ fn asked_of<'a, S: AsStr>(
     let matches = command.try_get_matches_from(words)?;
     match asked_by(&matches) {
         Some(asked) => Ok(asked),
-        None => Err(fault(
-            alloc,
-            "an option is missing, outside its range, or without the one that it is for",
-        )),
+        None => {
+            let text = wrong_word(alloc, &matches)?;
+            Err(fault(alloc, text.as_str()))
+        }
     }
 }
 
@@ -92,11 +94,13 @@ fn asked_of_command<'a>(name: &str, found: &ArgMatches<'a>) -> Option<Asked<'a>>
         "serve" => Some(Asked::Serve(Plan::of(found)?)),
         "ask" => Some(Asked::Ask {
             path: found.get_str("path")?,
+            timeout: optional(found, "timeout", 1, MAX_ANSWER_TIMEOUT)?,
         }),
         "check" => Some(Asked::Check(CheckPlan::of(found)?)),
         "control" => Some(Asked::Control {
             path: found.get_str("path")?,
             word: control_word(found, "word")?,
+            timeout: optional(found, "timeout", 1, MAX_ANSWER_TIMEOUT)?,
         }),
         _ => Some(Asked::Replay {
             path: found.get_str("file")?,

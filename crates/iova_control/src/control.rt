@@ -3,7 +3,7 @@ ghost use Rattle.std.specs.Prelude.{◌≤◌, length};
 
 use crate::metrics::put_metrics;
 use crate::sessions::put_sessions;
-use arrayvec::ArrayVec;
+use arrayvec::{ArrayString, ArrayVec};
 use iova_keep::look::Look;
 use iova_links::aside::{Aside, Standing};
 use iova_links::signals::Signals;
@@ -29,11 +29,43 @@ pub struct Control<'a, R, N> {
     rt: &'a R,
     notices: &'a N,
     signals: &'a Signals,
-    workers: u64,
-    clients: u64,
-    is_recorded: bool,
+    facts: Facts,
     was_told: AtomicBool,
     desk: Mutex<Option<Desk>>,
+}
+
+/// The most bytes of a version's text.
+const MAX_VERSION: usize = 128;
+
+/// What is so of a daemon from its start to its end.
+#[derive(Drop)]
+pub struct Facts {
+    /// The program's version, and on a second line the kit that proved it.
+    pub version: ArrayString<MAX_VERSION>,
+    /// How many workers the domain has.
+    pub workers: u64,
+    /// How many sessions are served at a time.
+    pub clients: u64,
+    /// Whether a peer answers; else a file takes records.
+    pub has_peer: bool,
+    /// Whether the domain's steps are recorded.
+    pub is_recorded: bool,
+}
+
+impl Facts {
+    /// What is so of a daemon of this version, whose domain has so many workers, without more. Of a
+    /// version's text that is longer than 128 bytes nothing is kept.
+    pub fn new(version: &str, workers: u64) -> Facts {
+        let mut kept = ArrayString::new();
+        let _ = kept.try_push_str(version);
+        Facts {
+            version: kept,
+            workers,
+            clients: workers,
+            has_peer: false,
+            is_recorded: false,
+        }
+    }
 }
 
 /// The listener, who is connected, and room to write answers in.
@@ -51,14 +83,15 @@ pub struct Pad {
     pub text: String,
 }
 
-/// A connection: the front of a line that has no LF yet, what is owed of answers, and how long
-/// nothing came.
+/// A connection: the front of a line that has no LF yet, what is owed of answers, how long nothing
+/// came, and whether a line was answered.
 #[derive(Drop)]
 struct Connection {
     stream: UnixStream,
     line: ArrayVec<u8, MAX_LINE>,
     owed: Vec<u8>,
     silent: u64,
+    was_answered: bool,
     /// Whether no more is read of it: it has ended, or has said `stop`, and then it is kept until
     /// the daemon's end.
     is_read: bool,
@@ -66,23 +99,13 @@ struct Connection {
 }
 
 impl<'a, R: Wait, N> Control<'a, R, N> {
-    /// What is done beside so many workers, who serve so many clients at a time, and are recorded
-    /// or not, without a control socket yet.
-    pub fn new(
-        rt: &'a R,
-        notices: &'a N,
-        signals: &'a Signals,
-        workers: u64,
-        clients: u64,
-        is_recorded: bool,
-    ) -> Control<'a, R, N> {
+    /// What is done beside the sessions of such a daemon, without a control socket yet.
+    pub fn new(rt: &'a R, notices: &'a N, signals: &'a Signals, facts: Facts) -> Control<'a, R, N> {
         Control {
             rt,
             notices,
             signals,
-            workers,
-            clients,
-            is_recorded,
+            facts,
             was_told: AtomicBool::new(false),
             desk: Mutex::new(None),
         }
@@ -104,7 +127,7 @@ impl<'a, R: Wait, N> Control<'a, R, N> {
 impl<'a, R, N: Log> Control<'a, R, N> {
     /// Tells once that the record is full, where steps are recorded no more.
     pub fn look_at_record(&self, is_recording: bool) {
-        if self.is_recorded && !is_recording && !self.was_told.swap(true, Ordering::SeqCst) {
+        if self.facts.is_recorded && !is_recording && !self.was_told.swap(true, Ordering::SeqCst) {
             warn!(self.notices; target: "", "the record is full");
         }
     }
@@ -112,13 +135,13 @@ impl<'a, R, N: Log> Control<'a, R, N> {
 
 impl<'a, R: AllocGlobal + Clock + Wait, N: Log> Aside for Control<'a, R, N> {
     fn is_wanted(&self) -> bool {
-        self.is_recorded || self.desk.lock(self.rt).is_some()
+        self.facts.is_recorded || self.desk.lock(self.rt).is_some()
     }
 
     fn turn<K: Look, T: Standing>(&self, domain: &K, standing: &T) {
         self.look_at_record(domain.is_recording());
         if let Some(desk) = &mut *self.desk.lock(self.rt) {
-            accept(self.rt.alloc(), desk);
+            self.admit(desk);
             let Desk {
                 listener: _,
                 connections,
@@ -131,7 +154,7 @@ impl<'a, R: AllocGlobal + Clock + Wait, N: Log> Aside for Control<'a, R, N> {
     }
 }
 
-impl<'a, R: AllocGlobal, N> Control<'a, R, N> {
+impl<'a, R: AllocGlobal, N: Log> Control<'a, R, N> {
     /// Takes what came over the connection, and sends what is owed. Whether it stays.
     fn serves<K: Look, T: Standing>(
         &self,
@@ -223,7 +246,7 @@ impl<'a, R: AllocGlobal, N> Control<'a, R, N> {
             b"sessions" => {
                 put_sessions(
                     self.rt.alloc(),
-                    self.workers,
+                    self.facts.workers,
                     standing,
                     domain,
                     &mut pad.text,
@@ -232,15 +255,7 @@ impl<'a, R: AllocGlobal, N> Control<'a, R, N> {
                     && is_owed(&mut connection.owed, b"sessions", pad.text.as_bytes())
             }
             b"metrics" => {
-                put_metrics(
-                    self.workers,
-                    self.clients,
-                    self.signals,
-                    standing.figures(),
-                    domain,
-                    pad,
-                )
-                .is_ok()
+                put_metrics(&self.facts, self.signals, standing.figures(), domain, pad).is_ok()
                     && is_owed(&mut connection.owed, b"metrics", pad.text.as_bytes())
             }
             b"stop" => {
@@ -254,8 +269,9 @@ impl<'a, R: AllocGlobal, N> Control<'a, R, N> {
                 true
             }
         };
-        // for want of memory
+        connection.was_answered = true;
         if !is_answered {
+            warn!(self.notices; target: "", "control: no memory for an answer");
             connection.is_read = false;
         }
     }
@@ -295,38 +311,59 @@ fn is_pushed_out(connection: &mut Connection) -> bool {
     }
 }
 
-/// Accepts whoever waits, where there is room, or somebody has long been silent.
-fn accept(alloc: Global, desk: &mut Desk) {
-    if desk.connections.len() >= MAX_CONTROLS {
-        let silent = desk
-            .connections
+/// The place of the connection that makes room for another one: the oldest that was answered and is
+/// owed nothing, and else one that has long been silent.
+fn place_of_oldest(connections: &[Connection]) -> Option<usize> {
+    let answered = connections
+        .iter()
+        .position(|c| c.was_answered && c.owed.is_empty() && !c.is_kept);
+    match answered {
+        Some(at) => Some(at),
+        None => connections
             .iter()
-            .position(|c| c.silent > MAX_CONTROL_SILENCE && !c.is_kept);
-        let Some(at) = silent else {
-            return;
-        };
-        let Ok((stream, _peer)) = desk.listener.accept() else {
-            return;
-        };
-        desk.connections.swap_remove(at);
-        admit(alloc, desk, stream);
-        return;
-    }
-    if let Ok((stream, _peer)) = desk.listener.accept() {
-        admit(alloc, desk, stream);
+            .position(|c| c.silent > MAX_CONTROL_SILENCE && !c.is_kept),
     }
 }
 
-/// Serves this connection too. Where memory is refused for it, it is closed.
-fn admit(alloc: Global, desk: &mut Desk, stream: UnixStream) {
-    if stream.set_nonblocking(true).is_ok() {
-        let _ = desk.connections.push(Connection {
+impl<'a, R: AllocGlobal, N: Log> Control<'a, R, N> {
+    /// Accepts whoever waits, where there is room or somebody makes some.
+    fn admit(&self, desk: &mut Desk) {
+        let oldest = if desk.connections.len() < MAX_CONTROLS {
+            None
+        } else {
+            match place_of_oldest(&desk.connections) {
+                Some(at) => Some(at),
+                None => return,
+            }
+        };
+        match desk.listener.accept() {
+            Ok((stream, _peer)) => {
+                if let Some(at) = oldest
+                    && at < desk.connections.len()
+                {
+                    desk.connections.remove(at);
+                }
+                self.serve_too(desk, stream);
+            }
+            Err(error) if error.kind() == ErrorKind::WouldBlock => {}
+            Err(error) => warn!(self.notices; target: "accept", "accept of control: {error}"),
+        }
+    }
+
+    /// Serves this connection too. One that can't be served is closed, which is told.
+    fn serve_too(&self, desk: &mut Desk, stream: UnixStream) {
+        let is_ready = stream.set_nonblocking(true).is_ok();
+        let connection = Connection {
             stream,
             line: ArrayVec::new(),
-            owed: Vec::new(alloc),
+            owed: Vec::new(self.rt.alloc()),
             silent: 0,
+            was_answered: false,
             is_read: true,
             is_kept: false,
-        });
+        };
+        if !is_ready || desk.connections.push(connection).is_err() {
+            warn!(self.notices; target: "accept", "accept of control: no memory");
+        }
     }
 }

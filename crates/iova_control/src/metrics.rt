@@ -1,19 +1,19 @@
 //! What is counted of a daemon, in the text form that Prometheus reads.
-use crate::control::Pad;
+use crate::control::{Facts, Pad};
 use iova_keep::look::Look;
 use iova_links::aside::Figures;
 use iova_links::signals::Signals;
+use iova_range::limits::MAX_REFUSAL;
 use std::alloc::AllocError;
 use std::str;
 
 /// The places of frames, by their names in the report.
 const PLACES: [&str; 6] = ["free", "reserved", "client", "magazine", "depot", "ring"];
 
-/// Puts all figures into the text, each with what it is: of so many workers, who serve so many
-/// clients at a time. Refused for want of memory.
+/// Puts all figures of such a daemon into the text, each with what it is. Refused for want of
+/// memory.
 pub fn put_metrics<K: Look>(
-    workers: u64,
-    clients: u64,
+    facts: &Facts,
     signals: &Signals,
     figures: Figures,
     domain: &K,
@@ -26,14 +26,81 @@ pub fn put_metrics<K: Look>(
         return Err(AllocError);
     };
     put_domain(&mut pad.text, report)?;
+    put_flushes(&mut pad.text, facts.has_peer, signals)?;
     put(
         &mut pad.text,
         "iovad_workers",
         "gauge",
         "Workers of the domain.",
-        workers,
+        facts.workers,
     )?;
-    put_daemon(&mut pad.text, clients, signals, figures, domain.steps())
+    put_daemon(
+        &mut pad.text,
+        facts.clients,
+        signals,
+        figures,
+        domain.steps(),
+    )?;
+    put_refusals(&mut pad.text, signals)?;
+    put_build(&mut pad.text, facts.version.as_str(), signals)
+}
+
+/// Of which kind the sink is, and how many flushes failed there.
+fn put_flushes(text: &mut String, has_peer: bool, signals: &Signals) -> Result<(), AllocError> {
+    put(
+        text,
+        "iovad_flushes_failed_total",
+        "counter",
+        "Flushes that the sink failed.",
+        signals.failed_flushes(),
+    )?;
+    put_kind(text, "iovad_sink", "gauge", "Of which kind the sink is.")?;
+    let kind = if has_peer { "peer" } else { "file" };
+    writeln!(text, "iovad_sink{{kind=\"{kind}\"}} 1")
+}
+
+/// How many requests were refused, by the refusal's number: those of which there were some.
+fn put_refusals(text: &mut String, signals: &Signals) -> Result<(), AllocError> {
+    put_kind(
+        text,
+        "iovad_refusals_total",
+        "counter",
+        "Requests that were refused, by number.",
+    )?;
+    for number in 1..=MAX_REFUSAL {
+        let refusals = signals.refusals(number);
+        if refusals > 0 {
+            writeln!(
+                text,
+                "iovad_refusals_total{{number=\"{number}\"}} {refusals}"
+            )?;
+        }
+    }
+    Ok(())
+}
+
+/// Which program it is, and since when it runs.
+fn put_build(text: &mut String, version: &str, signals: &Signals) -> Result<(), AllocError> {
+    put_kind(
+        text,
+        "iovad_build_info",
+        "gauge",
+        "The version, and the kit that proved it.",
+    )?;
+    let mut lines = version.lines();
+    let version = lines.next().unwrap_or("");
+    let kit = lines.next().unwrap_or("");
+    writeln!(
+        text,
+        "iovad_build_info{{version=\"{version}\",kit=\"{kit}\"}} 1"
+    )?;
+    put(
+        text,
+        "iovad_start_time_seconds",
+        "gauge",
+        "When the daemon started, in seconds since the beginning of 1970.",
+        signals.started(),
+    )
 }
 
 /// What the report tells of the domain.
@@ -95,6 +162,13 @@ fn put_daemon(
         "gauge",
         "Sessions that are served.",
         figures.served,
+    )?;
+    put(
+        text,
+        "iovad_clients_full_total",
+        "counter",
+        "How often the last place for a session was taken.",
+        figures.full,
     )?;
     let sessions = figures.accepted;
     put(

@@ -5,7 +5,6 @@ use Rattle.std.proofs.Crossing.{crosses}
 use Rattle.std.specs.declared.sync.ledger.Ledger.{Ghosts}
 use Rattle.iova_lock.specs.contracts.book.Book as books
 use Rattle.iova_lock.specs.contracts.shared.Shared as domains
-use Rattle.iova_daemon.specs.contracts.event_loop.Gear as gears
 use Rattle.iova_daemon.specs.contracts.worker.WorkerContext as contexts
 
 -- it may be shared where all that it has may
@@ -17,7 +16,3 @@ WorkerContext-sync R N K A T H X r n k a t h x = search (crosses, sendable) dept
 pub Shared-sync : (Q C F S G : RattleType) (c : Ghosts C.Denot) (f : Ghosts F.Denot) (s : Ghosts S.Denot) (g : Ghosts G.Denot)
     → IsSync Q → IsSend (books.the_row C F S G c f s g) → IsSync (domains.the_row Q C F S G c f s g)
 Shared-sync Q C F S G c f s g q book = search (crosses, sendable) depth 20
-
--- what a thread has may go to it where each part of it may
-pub Gear-send : (D W E M : RattleType) → IsSend D → IsSend W → IsSend E → IsSend M → IsSend (gears.the_row D W E M)
-Gear-send D W E M d w e m = search (crosses, sendable) depth 20

@@ -5,11 +5,7 @@ ghost use Rattle.iova_lock.specs.contracts.shared.Shared as domains;
 ghost use Rattle.iova_session.specs.contracts.post.Post as posts;
 ghost use Rattle.iova_daemon.specs.contracts.pool.Pool as pools;
 ghost use Rattle.iova_daemon.specs.contracts.roster.Roster as roster;
-ghost use Rattle.iova_daemon.specs.contracts.event_loop.Gear as gears;
-ghost use Rattle.iova_daemon.specs.contracts.admission.Admission as admissions;
 
-use crate::admission::Admission;
-use crate::event_loop::Gear;
 use crate::pool::Pool;
 use crate::roster::Roster;
 use iova_lock::crossing::books_are_send;
@@ -52,8 +48,8 @@ where
     is_sync::<Shared<Q, C, F, S, G>>();
 }
 
-/// Threads may share their turns.
-pub(crate) fn turns_are_sync()
+/// Threads may share their roster.
+pub(crate) fn rosters_are_sync()
     ensures { IsSync roster.the_row }
 {
     is_sync::<Roster>();
@@ -64,18 +60,4 @@ pub(crate) fn pools_are_sync<L: Send>()
     ensures { IsSync (pools.the_row L.row) }
 {
     is_sync::<Pool<L>>();
-}
-
-/// What a thread has beside its post may go to it where all of that may.
-pub(crate) fn gears_are_send<D: Send, W: Send, E: Send, M: Send>()
-    ensures { IsSend (gears.the_row D.row W.row E.row M.row) }
-{
-    is_send::<Gear<D, W, E, M>>();
-}
-
-/// Threads may share how links are admitted.
-pub(crate) fn admissions_are_sync()
-    ensures { IsSync admissions.the_row }
-{
-    is_sync::<Admission>();
 }

@@ -5,6 +5,7 @@ use iova_keep::calls::{flush, timeout};
 use iova_keep::keep::Keep;
 use iova_keep::seat::Tally;
 use iova_links::pause::Pause;
+use iova_range::limits::{FLUSH_PAUSE, MAX_FLUSH_PAUSE};
 use iova_range::refusal::Refusal;
 use iova_session::post::Post;
 use iova_sink::sink::Sink;
@@ -33,6 +34,8 @@ pub(crate) struct Flusher<'e, R, N, K, G: Ledger, D, P> {
     pub pause: P,
     pub roster: &'e Roster,
     pub busy: Busy,
+    /// How long it pauses behind a flush that failed, in milliseconds; 0 where the last one didn't.
+    pub rest: u64,
 }
 
 /// Whether the domain is busy, and how many frames are to be in rings for a flush ahead: the most
@@ -66,10 +69,14 @@ where
     P: Pause,
 {
     /// Makes a round after each pause, until a pause says stop or all workers have ended. A round
-    /// that is refused is a notice. Where a round freed many entries or a flush was made ahead
-    /// before it, it flushes ahead in place of the next pause.
+    /// that is refused is a notice; one whose sink failed is told there, and behind each of them
+    /// the pause is twice as long, up to a second. Where a round freed many entries or a flush was
+    /// made ahead before it, it flushes ahead in place of the next pause.
     fn go_on(&mut self) {
         for _ in self.rt.forever() {
+            if !rests(&mut self.pause, self.roster, self.rest) {
+                return;
+            }
             let looked = self.busy.is_busy
                 && go_ahead(
                     self.notices,
@@ -89,9 +96,30 @@ where
             {
                 self.busy.is_busy = true;
             }
+            self.rest = rest_behind(round, self.rest);
             note_round(self.notices, round);
         }
         unreachable!()
+    }
+}
+
+/// Pauses for this time, behind a flush that failed. False where a pause says stop, or all workers
+/// have ended.
+fn rests<P: Pause>(pause: &mut P, roster: &Roster, rest: u64) -> bool {
+    for _ in 0..rest / FLUSH_PAUSE {
+        if roster.have_ended() || !pause.pause() {
+            return false;
+        }
+    }
+    true
+}
+
+/// How long it pauses behind this round, in milliseconds: twice as long as before where the sink
+/// failed, up to a second.
+fn rest_behind(round: Result<u64, Refusal>, rest: u64) -> u64 {
+    match round {
+        Err(Refusal::SinkFault) => rest.saturating_mul(2).clamp(FLUSH_PAUSE, MAX_FLUSH_PAUSE),
+        _ => 0,
     }
 }
 
@@ -151,9 +179,10 @@ where
     true
 }
 
-/// A round that is refused is a notice.
+/// A round that is refused is a notice. A sink that failed tells so itself.
 fn note_round<N: Log>(notices: &N, round: Result<u64, Refusal>) {
-    if let Err(refusal) = round {
-        warn!(notices; target: "", "the flusher is refused: {refusal}");
+    match round {
+        Ok(_) | Err(Refusal::SinkFault) => {}
+        Err(refusal) => warn!(notices; target: "flush", "the flusher is refused: {refusal}"),
     }
 }

@@ -1,11 +1,13 @@
-//! Where idle slots wait for links. One of them, the leader, waits at the listener; the others
-//! sleep. A link goes to the worker that serves the fewest sessions, and whoever gets it serves it.
+//! Where posts without a session wait for links. One of them, the leader, waits at the listener;
+//! the others sleep. A post at which no client waits is free. A link goes to the worker that serves
+//! the fewest sessions of those with a free post, and whoever gets it serves it. A post at which
+//! clients wait rests: it leads, and serves, only where no post is free.
 ghost use Rattle.std.specs.Prelude.{◌<◌};
 ghost use Rattle.iova_range.specs.declared.limits.TheConstants.{MAX_WORKERS};
 
 use crate::roster::Roster;
-use iova_links::loads::{Load, fewest, place_of};
-use iova_range::limits::MAX_WORKERS;
+use iova_links::loads::{Load, fewest, may_serve, place_of};
+use iova_range::limits::{MAX_WORKERS, RETRY_PAUSE};
 use std::alloc::Global;
 use std::array;
 use std::rt::Clock;
@@ -19,7 +21,7 @@ pub(crate) struct Accepted<L> {
     pub session: u64,
 }
 
-/// What a slot is to do.
+/// What a post is to do.
 #[derive(Drop)]
 pub(crate) enum Turn<L> {
     /// To serve a session.
@@ -32,42 +34,44 @@ pub(crate) enum Turn<L> {
     End,
 }
 
-/// The idle slots of a daemon. Threads share it.
+/// The posts of a daemon that serve no session. Threads share it.
 #[derive(Drop)]
 pub(crate) struct Pool<L> {
     state: Mutex<State<L>>,
-    /// By worker: what its idle slots sleep on, so that one of the right worker is woken.
+    /// By worker: what its free posts sleep on, so that one of the right worker is woken.
     bells: [Condvar; MAX_WORKERS as usize],
+    /// What all posts that rest sleep on.
+    rest: Condvar,
 }
 
 impl<L: Drop> Pool<L> {
-    /// Nobody is idle, and no session is served.
+    /// No post has come, and no session is served.
     pub(crate) fn new(alloc: Global) -> Pool<L> {
         Pool {
             state: Mutex::new(State::new(alloc)),
             bells: array::from_fn(|_worker| Condvar::new()),
+            rest: Condvar::new(),
         }
     }
 
-    /// Takes the room for links that are handed over, one for each of so many slots. Whether it was
+    /// Takes the room for links that are handed over, one for each of so many posts. Whether it was
     /// had.
-    pub(crate) fn take_room<R: Wait>(&self, rt: &R, slots: usize) -> bool {
-        self.state.lock(rt).handed.try_reserve(slots).is_ok()
+    pub(crate) fn take_room<R: Wait>(&self, rt: &R, posts: usize) -> bool {
+        self.state.lock(rt).handed.try_reserve(posts).is_ok()
     }
 
-    /// An idle slot of the worker waits for what it is to do, where a limit is given no longer than
-    /// so many milliseconds.
+    /// A post of the worker waits for what it is to do, where it rests for a second at most.
     pub(crate) fn wait<R: Wait + Clock>(
         &self,
         rt: &R,
         roster: &Roster,
         worker: u64,
-        limit: Option<u64>,
+        rests: bool,
     ) -> Turn<L> {
         let at = place_of(worker);
-        let turn = self.turn(rt, roster, at, limit);
+        let turn = self.turn(rt, roster, at, rests);
         match turn {
-            Turn::Serve(_) => self.wake(rt, roster, at),
+            Turn::Serve(_) => self.wake(rt, roster, at, false),
             Turn::End => self.wake_all(),
             Turn::Lead(_) | Turn::Again => {}
         }
@@ -75,26 +79,21 @@ impl<L: Drop> Pool<L> {
     }
 
     /// The same, where nobody else is told of it.
-    fn turn<R: Wait + Clock>(
-        &self,
-        rt: &R,
-        roster: &Roster,
-        at: usize,
-        limit: Option<u64>,
-    ) -> Turn<L>
+    fn turn<R: Wait + Clock>(&self, rt: &R, roster: &Roster, at: usize, rests: bool) -> Turn<L>
         requires { at < MAX_WORKERS }
     {
         let mut state = self.state.lock(rt);
-        state.come(at);
-        if let Some(turn) = state.turn(roster, at) {
+        state.come(at, rests);
+        if let Some(turn) = state.turn(roster, at, rests) {
             return turn;
         }
-        let bell = &self.bells[at];
-        let mut state = match limit {
-            Some(limit) => bell.wait_timeout(rt, state, Duration::from_millis(limit)).0,
-            None => bell.wait(rt, state),
+        let mut state = if rests {
+            let pause = Duration::from_millis(RETRY_PAUSE);
+            self.rest.wait_timeout(rt, state, pause).0
+        } else {
+            self.bells[at].wait(rt, state)
         };
-        match state.turn(roster, at) {
+        match state.turn(roster, at, rests) {
             // those that have slept try their waiting clients a last time, each at once
             Some(Turn::End) => {
                 drop(state);
@@ -103,63 +102,63 @@ impl<L: Drop> Pool<L> {
             }
             Some(turn) => turn,
             None => {
-                state.go(at);
+                state.go(at, rests);
                 Turn::Again
             }
         }
     }
 
-    /// The leader, a slot of this worker, has accepted a link: it gives it back where it serves it
-    /// itself, and else has handed it over. It leads no more; another one does where it is away.
+    /// The leader, a post of this worker, has accepted a link: it gives it back where it serves it
+    /// itself, and else has handed it over. It leads no more.
     pub(crate) fn assign<R: Wait>(
         &self,
         rt: &R,
         roster: &Roster,
         worker: u64,
         accepted: Accepted<L>,
-        is_away: bool,
+        rests: bool,
     ) -> Option<Accepted<L>> {
         let at = place_of(worker);
-        let assigned = self.state.lock(rt).assign(at, accepted);
+        let assigned = self.state.lock(rt).assign(at, accepted, rests);
         match assigned {
             Ok(other) => {
                 if let Some(bell) = self.bells.get(other) {
                     bell.notify_one();
                 }
-                if is_away {
-                    self.wake(rt, roster, at);
+                if rests {
+                    self.wake(rt, roster, at, true);
                 }
                 None
             }
             Err(accepted) => {
-                self.wake(rt, roster, at);
+                self.wake(rt, roster, at, true);
                 Some(accepted)
             }
         }
     }
 
-    /// The leader, a slot of this worker, got no link, and leads no more; another one does where it
-    /// is away. The session's number may be used up.
+    /// The leader, a post of this worker, got no link, and leads no more. The session's number may
+    /// be used up.
     pub(crate) fn give_way<R: Wait>(
         &self,
         rt: &R,
         roster: &Roster,
         worker: u64,
         is_used_up: bool,
-        is_away: bool,
+        rests: bool,
     ) {
         let at = place_of(worker);
-        self.state.lock(rt).give_way(at, is_used_up);
-        if is_away {
-            self.wake(rt, roster, at);
+        self.state.lock(rt).give_way(at, is_used_up, rests);
+        if rests {
+            self.wake(rt, roster, at, true);
         }
     }
 
-    /// A session of this worker has ended.
-    pub(crate) fn leave<R: Wait>(&self, rt: &R, roster: &Roster, worker: u64) {
+    /// A session of this worker has ended, at a post that may rest now.
+    pub(crate) fn leave<R: Wait>(&self, rt: &R, roster: &Roster, worker: u64, rests: bool) {
         let at = place_of(worker);
         self.state.lock(rt).leave(at);
-        self.wake(rt, roster, at);
+        self.wake(rt, roster, at, rests);
     }
 
     /// No session is to come.
@@ -168,14 +167,25 @@ impl<L: Drop> Pool<L> {
         self.wake_all();
     }
 
-    /// Wakes an idle slot that is to lead, where nobody does: one of the worker that the next link
-    /// would go to.
-    fn wake<R: Wait>(&self, rt: &R, roster: &Roster, at: usize) {
-        let next = self.state.lock(rt).next_leader(roster, at);
-        if let Some(next) = next
-            && let Some(bell) = self.bells.get(next)
-        {
-            bell.notify_one();
+    /// Wakes a post that is to lead, where nobody does: a free one of the worker that the next link
+    /// would go to. Where none is free, one that rests, if whoever asks for it is away for longer:
+    /// at a session, or at a try of its clients.
+    fn wake<R: Wait>(&self, rt: &R, roster: &Roster, at: usize, is_away: bool) {
+        let (is_wanted, next) = self.state.lock(rt).next_leader(roster, at);
+        if !is_wanted {
+            return;
+        }
+        match next {
+            Some(next) => {
+                if let Some(bell) = self.bells.get(next) {
+                    bell.notify_one();
+                }
+            }
+            None => {
+                if is_away {
+                    self.rest.notify_one();
+                }
+            }
         }
     }
 
@@ -183,18 +193,19 @@ impl<L: Drop> Pool<L> {
         for bell in &self.bells {
             bell.notify_all();
         }
+        self.rest.notify_all();
     }
 }
 
-/// A link that was handed over to an idle slot of the worker at this place.
+/// A link that was handed over to a free post of the worker at this place.
 #[derive(Drop)]
 struct Handed<L> {
     at: usize,
     accepted: Accepted<L>,
 }
 
-/// Who is idle, and what waits for them. Of a worker there are as many slots in the pool as are
-/// counted idle, and one for each link that was handed over to it.
+/// Who is free, and what waits for them. Of a worker there are as many free posts in the pool as
+/// are counted, and one for each link that was handed over to it.
 #[derive(Drop)]
 struct State<L> {
     is_led: bool,
@@ -203,7 +214,7 @@ struct State<L> {
     number: Option<u64>,
     /// How many sessions are served.
     served: u64,
-    /// By worker; the leader is counted idle.
+    /// By worker; a leader that doesn't rest is counted free.
     loads: [Load; MAX_WORKERS as usize],
     handed: Vec<Handed<L>>,
 }
@@ -216,53 +227,47 @@ impl<L: Drop> State<L> {
             number: None,
             served: 0,
             loads: [Load {
-                idle: 0,
+                free: 0,
                 sessions: 0,
             }; MAX_WORKERS as usize],
             handed: Vec::new(alloc),
         }
     }
 
-    /// A slot comes, and is idle.
-    fn come(&mut self, at: usize) {
-        if let Some(load) = self.loads.get_mut(at) {
-            load.idle = load.idle.saturating_add(1);
+    /// A post comes, and is free where it doesn't rest.
+    fn come(&mut self, at: usize, rests: bool) {
+        if !rests && let Some(load) = self.loads.get_mut(at) {
+            load.free = load.free.saturating_add(1);
         }
     }
 
-    /// An idle slot goes.
-    fn go(&mut self, at: usize) {
-        if let Some(load) = self.loads.get_mut(at) {
-            load.idle = load.idle.saturating_sub(1);
+    /// A post goes.
+    fn go(&mut self, at: usize, rests: bool) {
+        if !rests && let Some(load) = self.loads.get_mut(at) {
+            load.free = load.free.saturating_sub(1);
         }
     }
 
-    /// What an idle slot is to do now, where there is anything.
-    fn turn(&mut self, roster: &Roster, at: usize) -> Option<Turn<L>> {
-        if let Some(accepted) = self.take(at) {
+    /// What a post is to do now, where there is anything.
+    fn turn(&mut self, roster: &Roster, at: usize, rests: bool) -> Option<Turn<L>> {
+        if !rests && let Some(accepted) = self.take(at) {
             return Some(Turn::Serve(accepted));
         }
-        if self.has_ended {
-            self.go(at);
-            return Some(Turn::End);
-        }
-        if !self.is_wanted(roster) {
-            return None;
-        }
-        if self.number.is_none() {
-            self.number = roster.next_session();
-        }
-        match self.number {
-            Some(session) => {
+        if !self.has_ended {
+            if !self.is_wanted(roster) || !may_serve(&self.loads, rests) {
+                return None;
+            }
+            if self.number.is_none() {
+                self.number = roster.next_session();
+            }
+            if let Some(session) = self.number {
                 self.is_led = true;
-                Some(Turn::Lead(session))
+                return Some(Turn::Lead(session));
             }
-            None => {
-                self.has_ended = true;
-                self.go(at);
-                Some(Turn::End)
-            }
+            self.has_ended = true;
         }
+        self.go(at, rests);
+        Some(Turn::End)
     }
 
     /// Whether a leader is wanted.
@@ -281,10 +286,16 @@ impl<L: Drop> State<L> {
     }
 
     /// The leader got a link: `Ok` has the place of the worker that it was handed over to. The
-    /// leader serves it itself where its worker is the one, and where there is no room.
-    fn assign(&mut self, at: usize, accepted: Accepted<L>) -> Result<usize, Accepted<L>> {
+    /// leader serves it itself where no post is free, where it is free itself and its worker is the
+    /// one, and where there is no room.
+    fn assign(
+        &mut self,
+        at: usize,
+        accepted: Accepted<L>,
+        rests: bool,
+    ) -> Result<usize, Accepted<L>> {
         match fewest(&self.loads, at) {
-            Some(other) if other != at && self.handed.len() < self.handed.capacity() => {
+            Some(other) if (rests || other != at) && self.handed.len() < self.handed.capacity() => {
                 let Ok(()) = self.handed.push(Handed {
                     at: other,
                     accepted,
@@ -292,14 +303,14 @@ impl<L: Drop> State<L> {
                 else {
                     unreachable!()
                 };
-                self.go(other);
+                self.go(other, false);
                 self.begin(other);
-                self.give_way(at, true);
+                self.give_way(at, true, rests);
                 Ok(other)
             }
             _ => {
                 self.begin(at);
-                self.give_way(at, true);
+                self.give_way(at, true, rests);
                 Err(accepted)
             }
         }
@@ -313,13 +324,13 @@ impl<L: Drop> State<L> {
         }
     }
 
-    /// The leader leads no more, and is idle no more. Its session's number may be used up.
-    fn give_way(&mut self, at: usize, is_used_up: bool) {
+    /// The leader leads no more, and goes. Its session's number may be used up.
+    fn give_way(&mut self, at: usize, is_used_up: bool, rests: bool) {
         self.is_led = false;
         if is_used_up {
             self.number = None;
         }
-        self.go(at);
+        self.go(at, rests);
     }
 
     /// A session of the worker at this place has ended.
@@ -330,12 +341,9 @@ impl<L: Drop> State<L> {
         }
     }
 
-    /// The place of the worker that is to lead next, where nobody does and a slot is idle.
-    fn next_leader(&self, roster: &Roster, at: usize) -> Option<usize> {
-        if self.is_wanted(roster) {
-            fewest(&self.loads, at)
-        } else {
-            None
-        }
+    /// Whether a leader is wanted, and the place of the worker whose free post is to be it, where
+    /// there is one.
+    fn next_leader(&self, roster: &Roster, at: usize) -> (bool, Option<usize>) {
+        (self.is_wanted(roster), fewest(&self.loads, at))
     }
 }

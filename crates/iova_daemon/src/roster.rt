@@ -20,6 +20,7 @@ pub(crate) struct Roster {
     next: AtomicU64,
     met: AtomicU64,
     served: AtomicU64,
+    full: AtomicU64,
     /// By worker: how many sessions it serves.
     sessions: [AtomicU64; MAX_WORKERS as usize],
     /// By worker: whether one of its slots tries its waiting clients.
@@ -47,6 +48,7 @@ impl Roster {
             next: AtomicU64::new(0),
             met: AtomicU64::new(0),
             served: AtomicU64::new(0),
+            full: AtomicU64::new(0),
             sessions: array::from_fn(|_worker| AtomicU64::new(0)),
             trying: array::from_fn(|_worker| AtomicBool::new(false)),
             waiting: AtomicU64::new(0),
@@ -86,12 +88,17 @@ impl Roster {
         }
     }
 
-    /// This worker begins a session.
-    pub(crate) fn begin_session(&self, worker: u64) {
+    /// This worker begins a session. Whether it takes the last place.
+    pub(crate) fn begin_session(&self, worker: u64) -> bool {
         if let Some(sessions) = self.sessions.get(worker as usize) {
             sessions.fetch_add(1, Ordering::SeqCst);
         }
-        self.served.fetch_add(1, Ordering::SeqCst);
+        let before = self.served.fetch_add(1, Ordering::SeqCst);
+        let is_full = before.checked_add(1) == Some(self.clients());
+        if is_full {
+            self.full.fetch_add(1, Ordering::SeqCst);
+        }
+        is_full
     }
 
     /// A session of this worker has ended.
@@ -171,6 +178,7 @@ impl<'a, R: Wait> Standing for Stands<'a, R> {
             served: self.roster.served.load(Ordering::SeqCst),
             accepted: self.roster.met.load(Ordering::SeqCst),
             waiting: self.roster.waiting.load(Ordering::SeqCst),
+            full: self.roster.full.load(Ordering::SeqCst),
         }
     }
 

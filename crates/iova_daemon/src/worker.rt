@@ -1,7 +1,6 @@
 //! A slot of a worker: sessions at one post, one after another.
 ghost use Rattle.std.specs.Prelude.{◌≡◌};
 
-use crate::meanwhile::{begin_in_pieces, serve_meanwhile};
 use crate::pool::{Accepted, Pool, Turn};
 use crate::roster::{Roster, Stands};
 use crate::threads::{Place, Work};
@@ -9,10 +8,9 @@ use iova_keep::keep::Keep;
 use iova_keep::look::Look;
 use iova_links::accept::Accept;
 use iova_links::aside::Aside;
-use iova_links::noting::{NotingSink, note_end};
+use iova_links::noting::{NotingSink, note_end, note_full};
 use iova_model::step::ClientId;
 use iova_range::limits::RETRY_PAUSE;
-use iova_session::end::End;
 use iova_session::link::Link;
 use iova_session::post::Post;
 use iova_session::retry::retry;
@@ -43,7 +41,7 @@ pub(crate) struct WorkerContext<R, N, K, A, T, H, X> {
     pub keeper: K,
     pub accept: A,
     pub roster: T,
-    pub admission: H,
+    pub pool: H,
     pub aside: X,
 }
 
@@ -79,7 +77,7 @@ where
     }
 
     fn take_room(&self, places: usize) -> bool {
-        self.admission.take_room(self.rt, places)
+        self.pool.take_room(self.rt, places)
     }
 
     fn cannot_start(&self, worker: u64, error: &io::Error) {
@@ -100,13 +98,13 @@ where
 }
 
 /// Serves sessions at the post until none is to come. Its waiting clients are tried again before
-/// each wait in the pool, no later than a second after the last try while it waits there, and
-/// during a session too: whoever waits then has waited since before it.
+/// each wait in the pool, where it waits for a second at most while there are any: so a post that
+/// rests tries them about once a second, and before it takes a session.
 fn serve_slot<R, N, C, F, S, G, K, L, A, D, X>(
     context: &WorkerContext<&R, &N, K, &A, &Roster, &Pool<L>, &X>,
     keeper: &mut K,
     post: &mut Post<C, F, S, G>,
-    sink: &mut D,
+    sink: &mut NotingSink<'_, D, N>,
 )
 where
     R: Wait + Clock,
@@ -128,7 +126,7 @@ where
         try_again(roster, keeper, post, sink);
         told = tell(rt, roster, slot, told, &post.waiting);
         let worker = post.seat.worker();
-        match next::<R, L, A>(rt, roster, context.admission, context.accept, worker, told) {
+        match next::<R, L, A>(rt, roster, context.pool, context.accept, worker, told > 0) {
             Turn::Serve(accepted) => told = serve_accepted(
                 context, keeper, post, sink, accepted, slot, told,
             ),
@@ -144,7 +142,7 @@ fn serve_accepted<R, N, C, F, S, G, K, L, A, D, X>(
     context: &WorkerContext<&R, &N, K, &A, &Roster, &Pool<L>, &X>,
     keeper: &mut K,
     post: &mut Post<C, F, S, G>,
-    sink: &mut D,
+    sink: &mut NotingSink<'_, D, N>,
     accepted: Accepted<L>,
     slot: u64,
     told: u64,
@@ -165,52 +163,19 @@ where
     let Accepted { mut link, session } = accepted;
     let (rt, roster) = (context.rt, context.roster);
     let worker = post.seat.worker();
-    roster.begin_session(worker);
-    let (end, told) = serve_link(context, keeper, post, sink, &mut link, slot, told);
+    if roster.begin_session(worker) {
+        note_full(context.notices, roster.clients());
+    }
+    sink.begin_session();
+    let (alloc, limits) = (context.alloc, roster.limits());
+    let ended = run_session_within(alloc, limits, &mut link, keeper, post, sink);
     // so there are never more connections than sessions
     drop(link);
     let told = tell(rt, roster, slot, told, &post.waiting);
     roster.end_session(worker);
-    context.admission.leave(rt, roster, worker);
-    note_end(context.notices, session, end);
+    context.pool.leave(rt, roster, worker, told > 0);
+    note_end(context.notices, session, ended.end, sink.ranges_gone());
     told
-}
-
-/// Serves the session of this link, in pieces where clients wait at the post.
-fn serve_link<R, N, C, F, S, G, K, L, A, D, X>(
-    context: &WorkerContext<&R, &N, K, &A, &Roster, &Pool<L>, &X>,
-    keeper: &mut K,
-    post: &mut Post<C, F, S, G>,
-    sink: &mut D,
-    link: &mut L,
-    slot: u64,
-    told: u64,
-) -> (End, u64)
-where
-    R: Wait + Clock,
-    N: Log,
-    C: Ledger,
-    F: Ledger,
-    S: Ledger,
-    G: Ledger,
-    K: Keep<C, F, S, G>,
-    L: Link + Drop,
-    A: Accept<L>,
-    D: Sink,
-    ensures { post.new.seat.worker ≡ post.old.seat.worker }
-{
-    let (alloc, roster) = (context.alloc, context.roster);
-    let number = keeper.number();
-    match begin_in_pieces(alloc, number, roster.limits(), post, slot, told) {
-        Some(mut pieces) => {
-            let end = serve_meanwhile(context.rt, roster, link, keeper, post, sink, &mut pieces);
-            (end, pieces.told)
-        }
-        None => {
-            let ended = run_session_within(alloc, roster.limits(), link, keeper, post, sink);
-            (ended.end, told)
-        }
-    }
 }
 
 /// Does what there is to do aside, until all workers have ended.
@@ -259,29 +224,29 @@ pub(crate) fn tell<R: Wait>(
     left
 }
 
-/// What a slot of this worker, of which so many clients wait, does next: it waits in the pool, and
-/// accepts a link where it is to lead. Where no link is to come, the pool ends.
+/// What a post of this worker, which may rest, does next: it waits in the pool, and accepts a link
+/// where it is to lead. Where no link is to come, the pool ends.
 fn next<R: Wait + Clock, L: Drop, A: Accept<L>>(
     rt: &R,
     roster: &Roster,
     pool: &Pool<L>,
     accept: &A,
     worker: u64,
-    waiting: u64,
+    rests: bool,
 ) -> Turn<L> {
     if accept.has_ended() {
         accept.close();
         pool.end(rt);
         return Turn::End;
     }
-    match pool.wait(rt, roster, worker, limit_of(waiting)) {
-        Turn::Lead(session) => lead(rt, roster, pool, accept, worker, session, waiting),
+    match pool.wait(rt, roster, worker, rests) {
+        Turn::Lead(session) => lead(rt, roster, pool, accept, worker, session, rests),
         turn => turn,
     }
 }
 
-/// Accepts a link for the session of this number, and serves it, hands it over or, where it got
-/// none, gives way.
+/// Accepts a link for the session of this number, where the post rests within a second, and serves
+/// it, hands it over or, where it got none, gives way.
 fn lead<R: Wait, L: Drop, A: Accept<L>>(
     rt: &R,
     roster: &Roster,
@@ -289,29 +254,29 @@ fn lead<R: Wait, L: Drop, A: Accept<L>>(
     accept: &A,
     worker: u64,
     session: u64,
-    waiting: u64,
+    rests: bool,
 ) -> Turn<L> {
-    let is_away = waiting > 0;
     if accept.has_ended() {
-        pool.give_way(rt, roster, worker, false, is_away);
+        pool.give_way(rt, roster, worker, false, rests);
         return Turn::Again;
     }
-    match accept.accept(limit_of(waiting)) {
+    let limit = if rests { Some(RETRY_PAUSE) } else { None };
+    match accept.accept(limit) {
         Ok(Some(link)) => {
             meet::<L, A>(roster, accept);
-            match pool.assign(rt, roster, worker, Accepted { link, session }, is_away) {
+            match pool.assign(rt, roster, worker, Accepted { link, session }, rests) {
                 Some(accepted) => Turn::Serve(accepted),
                 None => Turn::Again,
             }
         }
         Ok(None) => {
-            pool.give_way(rt, roster, worker, false, is_away);
+            pool.give_way(rt, roster, worker, false, rests);
             Turn::Again
         }
         // an accept that fails uses up the number
         Err(_) => {
             meet::<L, A>(roster, accept);
-            pool.give_way(rt, roster, worker, true, is_away);
+            pool.give_way(rt, roster, worker, true, rests);
             Turn::Again
         }
     }
@@ -322,10 +287,4 @@ fn meet<L, A: Accept<L>>(roster: &Roster, accept: &A) {
     if roster.meet() {
         accept.close();
     }
-}
-
-/// How long a link may be waited for, in milliseconds, where so many clients wait: they are tried
-/// again then.
-fn limit_of(waiting: u64) -> Option<u64> {
-    if waiting > 0 { Some(RETRY_PAUSE) } else { None }
 }

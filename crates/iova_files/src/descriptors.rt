@@ -1,4 +1,6 @@
 //! How many descriptors a daemon wants, and how many it may have.
+ghost use Rattle.std.specs.Prelude.{◌≡◌, ◌≤◌, ◌⊎◌};
+
 use iova_range::limits::DAEMON_DESCRIPTORS;
 use log::{Log, warn};
 use std::fs::File;
@@ -11,28 +13,31 @@ const LIMITS: &str = "/proc/self/limits";
 /// What the limit of descriptors is called there.
 const DESCRIPTORS: &str = "Max open files";
 
-/// How many descriptors a worker has: its sink, what its thread waits by, and what wakes it.
-const OF_A_WORKER: u64 = 3;
-
-/// Tells where fewer descriptors are allowed than so many sessions at a time want, served by so
-/// many workers.
-pub fn look_at_limit<R: AllocGlobal + Files<File = File>, N: Log>(
+/// How many of so many sessions may be served at a time, beside the sinks of so many workers: as
+/// many as there are descriptors for, and one at least. The others are kept back, so that the
+/// sinks, the record and the control socket find one. Where they aren't enough for all, it is told.
+pub fn sessions_within<R: AllocGlobal + Files<File = File>, N: Log>(
     rt: &R,
     notices: &N,
     clients: u64,
     workers: u64,
-) {
-    let wanted = clients
-        .saturating_add(workers.saturating_mul(OF_A_WORKER))
-        .saturating_add(DAEMON_DESCRIPTORS);
-    if let Some(allowed) = allowed(rt)
-        && allowed < wanted
-    {
-        let how = "set ulimit -n, or LimitNOFILE of the unit";
-        warn!(
-            notices; target: "",
-            "{clients} clients want {wanted} descriptors, and {allowed} are allowed: {how}"
-        );
+) -> u64
+    ensures most { result ≤ clients ⊎ (result ≡ 1) }
+{
+    let kept = workers.saturating_add(DAEMON_DESCRIPTORS);
+    let wanted = clients.saturating_add(kept);
+    match allowed(rt) {
+        Some(allowed) if allowed < wanted => {
+            let most = allowed.saturating_sub(kept).max(1);
+            let how = "served at a time; set ulimit -n, or LimitNOFILE of the unit";
+            let but = "descriptors, and";
+            warn!(
+                notices; target: "",
+                "{clients} clients want {wanted} {but} {allowed} are allowed: {most} are {how}"
+            );
+            most
+        }
+        _ => clients,
     }
 }
 

@@ -1,6 +1,7 @@
 //! The sockets that a daemon listens on.
 use crate::cause::tell_cause;
 use arrayvec::ArrayString;
+use iova_links::made_file::MadeFile;
 use iova_range::limits::{FOLDER_LOOKS, FOLDER_PAUSE};
 use log::Log;
 use mio::net::UnixStream;
@@ -28,6 +29,32 @@ pub enum Access {
     Private,
 }
 
+/// A socket that is listened on, and its file.
+pub struct Listening<'a> {
+    /// What accepts. An accept doesn't block.
+    pub listener: UnixListener,
+    /// The socket's file.
+    pub file: MadeFile<'a>,
+}
+
+/// What it has is let go, which is proved here once for every crate above.
+impl<'a> Drop for Listening<'a> {
+    fn drop(self) {
+        let Listening {
+            listener: _,
+            file: _,
+        } = self;
+    }
+}
+
+impl<'a> Listening<'a> {
+    /// What accepts, and the socket's file.
+    pub fn into_parts(self) -> (UnixListener, MadeFile<'a>) {
+        let Listening { listener, file } = self;
+        (listener, file)
+    }
+}
+
 /// Listens on a socket at this path, in place of one that nobody listens on any more. Anything else
 /// that stands there is left as it is. An accept there doesn't block. None where it can't be had,
 /// which is told.
@@ -35,15 +62,22 @@ pub enum Access {
 /// The folder is locked (`flock`) from the look to the socket, so that of several daemons that
 /// start at once one listens: none takes a socket that another one has just made for one that was
 /// left. A folder that can't be opened isn't locked, and nothing is replaced there.
-pub fn listen<R, N>(rt: &R, notices: &N, path: &str, access: Access) -> Option<UnixListener>
+pub fn listen<'a, R, N>(rt: &R, notices: &N, path: &'a str, access: Access) -> Option<Listening<'a>>
 where
     R: Clock + Net + Files<File = File>,
     N: Log,
 {
-    match bound(rt, path, access) {
-        Ok(listener) => Some(listener),
+    let listener = match bound(rt, path, access) {
+        Ok(listener) => listener,
         Err(error) => {
             tell_cause(notices, "bind", path, &error);
+            return None;
+        }
+    };
+    match MadeFile::at(rt, path) {
+        Some(file) => Some(Listening { listener, file }),
+        None => {
+            tell_cause(notices, "bind", path, &io::Error::from(ErrorKind::NotFound));
             None
         }
     }
@@ -193,8 +227,8 @@ fn is_refused(connected: &io::Result<UnixStream>) -> bool {
 }
 
 /// Removes the file at this path. Where it can't be removed, what is left of it keeps nobody from
-/// the report.
-pub fn remove<R: Files<File = File>>(rt: &R, path: &str) {
+/// the rest.
+fn remove<R: Files<File = File>>(rt: &R, path: &str) {
     let _ = fs::remove_file(rt, path);
 }
 

@@ -4,7 +4,7 @@ use iova_range::limits::NOTICE_PAUSE;
 use log::kv::Source;
 use log::sink::Console;
 use log::span::Spans;
-use log::{Log, Logged, Metadata, Record, warn};
+use log::{Level, Log, Logged, Metadata, Record, warn};
 use std::array;
 use std::fmt::Display;
 use std::rt::Clock;
@@ -16,13 +16,18 @@ pub type Notices<'a, R> = Logged<&'a R, CountedConsole<'a, R>>;
 /// The kinds of notices that may come in any number: the targets of their records.
 const KINDS: [&str; 4] = ["accept", "client", "flush", "session"];
 
+/// The kind of notices of flushes that failed.
+const FLUSH: &str = "flush";
+
 /// Standard error, and a count of the lines. Of a kind one line a second is told at most; the next
-/// one says how many were not.
+/// one says how many were not. Flushes that failed are counted, whether they are told or not.
 #[derive(Drop)]
 pub struct CountedConsole<'a, R> {
     rt: &'a R,
     console: Console<&'a R>,
     signals: &'a Signals,
+    /// Whether warnings are told.
+    warns: bool,
     rates: [Rate; 4],
 }
 
@@ -62,12 +67,13 @@ impl Rate {
 }
 
 impl<'a, R> CountedConsole<'a, R> {
-    /// This standard error, with lines counted there.
-    pub fn new(rt: &'a R, signals: &'a Signals) -> CountedConsole<'a, R> {
+    /// This standard error, with lines counted there. Warnings are told, or not.
+    pub fn new(rt: &'a R, signals: &'a Signals, warns: bool) -> CountedConsole<'a, R> {
         CountedConsole {
             rt,
             console: Console(rt),
             signals,
+            warns,
             rates: array::from_fn(|_kind| Rate::new()),
         }
     }
@@ -89,6 +95,12 @@ impl<'a, R: Clock + Eprint> Log for CountedConsole<'a, R> {
     }
 
     fn log<D: Display, K: Source, S: Spans>(&self, record: &Record<'_, D, K, S>) {
+        if record.target() == FLUSH {
+            self.signals.count_failed_flush();
+        }
+        if !self.warns && record.level() != Level::Error {
+            return;
+        }
         self.signals.count_notice();
         let Some(at) = KINDS.iter().position(|kind| *kind == record.target()) else {
             self.console.log(record);
@@ -112,7 +124,7 @@ impl<'a, R: Clock + Eprint> Log for CountedConsole<'a, R> {
                 && let Some(rate) = self.rates.get(at)
             {
                 let left = rate.left.swap(0, Ordering::SeqCst);
-                if left > 0 {
+                if self.warns && left > 0 {
                     warn!(self.console; target: "", "{kind}: .. and {left} more");
                 }
             }

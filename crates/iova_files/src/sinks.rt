@@ -1,7 +1,8 @@
 //! The sinks of a daemon: files that take records, or connections to a peer that answers.
 use crate::cause::tell_cause;
 use iova_command::plan::Plan;
-use iova_range::limits::SINK_TIMEOUT;
+use iova_command::sink_path::SinkPath;
+use iova_range::limits::{CONNECT_LOOK, SINK_TIMEOUT};
 use iova_range::range::Range;
 use iova_sink::channel::Channel;
 use iova_sink::channel_sink::ChannelSink;
@@ -11,11 +12,12 @@ use iova_sink::record::RecordSink;
 use iova_sink::sink::{Sink, SinkFault};
 use iova_sink::socket::SocketChannel;
 use log::{Log, error};
-use std::fs;
 use std::fs::File;
 use std::net::Net;
 use std::os::unix::fs::FileTypeExt;
-use std::rt::Files;
+use std::rt::{Clock, Files};
+use std::time::Duration;
+use std::{fs, thread};
 
 /// A sink of one of two kinds. Its calls are those of the one that it is.
 #[derive(Drop)]
@@ -63,21 +65,65 @@ impl<A: Sink, B: Sink> Sink for EitherSink<A, B> {
 /// A daemon's sink: a file that takes records, or a peer that answers.
 pub type DaemonSink<'a, N> = EitherSink<RecordSink<FileDevice>, ChannelSink<SocketChannel<'a, N>>>;
 
-/// Where the sinks of a daemon are, and of which kind.
+/// Where the sinks of a daemon are, and how long a peer has.
 #[derive(Clone, Copy)]
 pub struct SinkPlace<'a> {
-    path: &'a str,
+    path: SinkPath<'a>,
     seconds: u64,
-    has_peer: bool,
+    wait: u64,
 }
 
 impl<'a> SinkPlace<'a> {
-    /// The plan's: a peer, where a socket stands at its path, and else a file.
-    pub fn of<R: Files<File = File>>(rt: &R, plan: &Plan<'a>) -> SinkPlace<'a> {
+    /// The plan's.
+    pub fn of(plan: &Plan<'a>) -> SinkPlace<'a> {
         SinkPlace {
             path: plan.sink,
             seconds: plan.sink_timeout.unwrap_or(SINK_TIMEOUT),
-            has_peer: is_socket(rt, plan.sink),
+            wait: plan.peer_wait.unwrap_or(0),
+        }
+    }
+
+    /// The same, where a peer that isn't there is not waited for.
+    pub fn at_once(self) -> SinkPlace<'a> {
+        SinkPlace { wait: 0, ..self }
+    }
+}
+
+/// A sink there; a peer is told first that nothing is mapped of the domain that is to be reset,
+/// where one is. None where the file can't be opened, nobody listens, or the peer didn't answer
+/// that it is done; which is told. The end of a connection is hurried there.
+pub fn open_sink<'a, R: Clock + Files<File = File>, W: Log, N: Net + Clock>(
+    rt: &R,
+    notices: &W,
+    net: &'a N,
+    hurry: &'a Hurry,
+    place: SinkPlace<'a>,
+    reset: Option<u64>,
+) -> Option<DaemonSink<'a, N>> {
+    match place.path {
+        SinkPath::Peer(path) => match open_peer(rt, notices, net, hurry, path, place, reset) {
+            Some(sink) => Some(EitherSink::Second(sink)),
+            None => None,
+        },
+        SinkPath::File(path) => match open_file(rt, notices, path) {
+            Some(device) => Some(EitherSink::First(RecordSink::new(device))),
+            None => None,
+        },
+    }
+}
+
+/// The file at this path, which takes records. None, which is told, where it can't be opened, or is
+/// a socket.
+fn open_file<R: Files<File = File>, W: Log>(rt: &R, notices: &W, path: &str) -> Option<FileDevice> {
+    if is_socket(rt, path) {
+        error!(notices; target: "", "open {path}: a socket: use --peer");
+        return None;
+    }
+    match FileDevice::open(rt, path) {
+        Ok(device) => Some(device),
+        Err(error) => {
+            tell_cause(notices, "open", path, &error);
+            None
         }
     }
 }
@@ -90,52 +136,60 @@ fn is_socket<R: Files<File = File>>(rt: &R, path: &str) -> bool {
     }
 }
 
-/// A sink there; a peer is told first that nothing is mapped of the domain that is to be reset,
-/// where one is. None where the file can't be opened, nobody listens, or the peer didn't answer
-/// that it is done; which is told. The end of a connection is hurried there.
-pub fn open_sink<'a, R: Files<File = File>, W: Log, N: Net>(
+/// A sink over a connection to the peer.
+fn open_peer<'a, R: Clock, W: Log, N: Net + Clock>(
     rt: &R,
     notices: &W,
     net: &'a N,
     hurry: &'a Hurry,
-    place: SinkPlace<'a>,
-    reset: Option<u64>,
-) -> Option<DaemonSink<'a, N>> {
-    if place.has_peer {
-        return match open_peer(notices, net, hurry, place, reset) {
-            Some(sink) => Some(EitherSink::Second(sink)),
-            None => None,
-        };
-    }
-    match FileDevice::open(rt, place.path) {
-        Ok(device) => Some(EitherSink::First(RecordSink::new(device))),
-        Err(error) => {
-            tell_cause(notices, "open", place.path, &error);
-            None
-        }
-    }
-}
-
-/// A sink over a connection to the peer.
-fn open_peer<'a, W: Log, N: Net>(
-    notices: &W,
-    net: &'a N,
-    hurry: &'a Hurry,
+    path: &'a str,
     place: SinkPlace<'a>,
     reset: Option<u64>,
 ) -> Option<ChannelSink<SocketChannel<'a, N>>> {
-    let mut channel = SocketChannel::new(net, place.path, place.seconds);
+    let mut channel = SocketChannel::new(net, path, place.seconds);
     channel.hurry_by(hurry);
-    if channel.connect().is_err() {
-        error!(notices; target: "", "connect {}: nobody answers", place.path);
+    if !connects(rt, &mut channel, place) {
+        error!(notices; target: "", "connect {path}: nobody answers");
         return None;
     }
     let mut sink = ChannelSink::new(channel);
     match reset {
         Some(domain) if sink.reset(domain).is_err() => {
-            error!(notices; target: "", "reset {}: not answered as done", place.path);
+            error!(notices; target: "", "reset {path}: not answered as done");
             None
         }
         _ => Some(sink),
     }
+}
+
+/// Connects the channel. One whose peer's queue is full is tried again for as long as an answer
+/// has, and one at which nobody listens for as long as a peer is waited for.
+fn connects<R: Clock, N: Net + Clock>(
+    rt: &R,
+    channel: &mut SocketChannel<'_, N>,
+    place: SinkPlace<'_>,
+) -> bool {
+    let mut full = tries_of(place.seconds);
+    let mut nobody = tries_of(place.wait);
+    for _ in 0..tries_of(place.seconds.saturating_add(place.wait)) {
+        if channel.connect().is_ok() {
+            return true;
+        }
+        let left = if channel.was_full() {
+            &mut full
+        } else {
+            &mut nobody
+        };
+        *left = left.saturating_sub(1);
+        if *left == 0 {
+            return false;
+        }
+        thread::sleep(rt, Duration::from_millis(CONNECT_LOOK));
+    }
+    false
+}
+
+/// How many tries to connect there are in so many seconds: one at least.
+fn tries_of(seconds: u64) -> u64 {
+    (seconds.saturating_mul(1_000) / CONNECT_LOOK).saturating_add(1)
 }

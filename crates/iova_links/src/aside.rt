@@ -11,6 +11,8 @@ pub struct Figures {
     pub accepted: u64,
     /// How many clients wait for their end.
     pub waiting: u64,
+    /// How often the last place for a session was taken.
+    pub full: u64,
 }
 
 /// What tells how a daemon stands.

@@ -6,12 +6,11 @@
 pub mod accept;
 pub mod aside;
 pub mod dial;
-pub mod door;
 pub mod loads;
 pub mod locked_sink;
+pub mod made_file;
 pub mod noting;
 pub mod pause;
-pub mod queued_link;
 pub mod served_link;
 pub mod signals;
 pub mod socket;

@@ -11,6 +11,8 @@ use log::{Log, debug, warn};
 pub struct NotingSink<'a, D, N> {
     sink: D,
     notices: &'a N,
+    /// How many ranges the clients held that it told of since a session began.
+    gone: u64,
 }
 
 impl<'a, D, N> NotingSink<'a, D, N> {
@@ -19,7 +21,23 @@ impl<'a, D, N> NotingSink<'a, D, N> {
         ensures sink { result.sink ≡ sink }
         ensures notices { result.notices ≡ notices.entry }
     {
-        NotingSink { sink, notices }
+        NotingSink {
+            sink,
+            notices,
+            gone: 0,
+        }
+    }
+
+    /// A session begins.
+    pub fn begin_session(&mut self)
+        ensures { self.new.sink ≡ self.old.sink }
+    {
+        self.gone = 0;
+    }
+
+    /// How many ranges the clients held that it told of since a session began.
+    pub fn ranges_gone(&self) -> u64 {
+        self.gone
     }
 }
 
@@ -35,6 +53,7 @@ impl<'a, D: Sink, N: Log> Sink for NotingSink<'a, D, N> {
     }
 
     fn gone(&mut self, domain: u64, client: u64, ranges: &Vec<Range>) -> Result<(), SinkFault> {
+        self.gone = self.gone.saturating_add(ranges.len() as u64);
         let told = self.sink.gone(domain, client, ranges);
         if told.is_err() {
             note(self.notices, "client", client, "the sink failed");
@@ -57,9 +76,20 @@ pub fn note<N: Log>(notices: &N, what: &str, number: u64, how: &str) {
     warn!(notices; target: what, "{what} {number}: {how}");
 }
 
-/// A session's end is a warning where the link failed, or memory was refused.
-pub fn note_end<N: Log>(notices: &N, session: u64, end: End) {
+/// The last place for a session is taken, of so many.
+pub fn note_full<N: Log>(notices: &N, places: u64) {
+    let then = "who connects now waits";
+    warn!(notices; target: "accept", "accept: the last of {places} places is taken: {then}");
+}
+
+/// A session's end is a warning where the link failed, or memory was refused, and where it asked
+/// too much and its client held so many ranges, which go to others.
+pub fn note_end<N: Log>(notices: &N, session: u64, end: End, held: u64) {
     match end {
+        End::TooMany if held > 0 => {
+            let how = "too many requests, with ranges in hand: they go to others";
+            note(notices, "session", session, how);
+        }
         End::LinkFault => note(notices, "session", session, "the link failed"),
         End::NoMemory => note(notices, "session", session, "no memory"),
         End::Bye => note_good_end(notices, session, "bye"),

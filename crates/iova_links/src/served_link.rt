@@ -3,7 +3,6 @@ ghost use Rattle.std.specs.Prelude.{◌≡◌, ◌≤◌, ◌<◌, ℕ, IfOk, If
 ghost use Rattle.memchr.specs.Find.{places, is_byte};
 
 use crate::signals::Signals;
-use iova_range::limits::STOP_PAUSE;
 use iova_session::link::{Link, LinkFault};
 use iova_sink::count::Count;
 use iova_sink::device::bytes_taken;
@@ -32,6 +31,9 @@ pub struct Patience {
 
 /// From so many bytes on what a read found is a run of several requests.
 const RUN_BYTES: usize = 64;
+
+/// What an answer that refuses begins with.
+const REFUSAL: &[u8] = b"no ";
 
 /// A connected Unix socket that a daemon serves. A read that finds no byte, and a write that finds
 /// no room, are made again turn after turn, until there were as many as its patience has. One that
@@ -163,26 +165,6 @@ impl<'a, R: Wait> Link for ServedLink<'a, R> {
         Ok(n)
     }
 
-    fn read_shortly(&mut self, buf: &mut [u8]) -> Result<Option<usize>, LinkFault> {
-        self.reads.up();
-        let read = received_shortly(
-            self.signals,
-            self.patience,
-            &self.stream,
-            &mut self.looks,
-            &mut self.left,
-            buf,
-        );
-        let Ok(found) = read else {
-            self.failed.up();
-            return Err(LinkFault);
-        };
-        if found == Some(0) && !buf.is_empty() {
-            self.ended.up();
-        }
-        Ok(found)
-    }
-
     fn write(&mut self, bytes: &[u8]) -> Result<usize, LinkFault> {
         let written = match send_now(&self.stream, bytes) {
             Ok(n) if n > 0 => Some(n),
@@ -196,7 +178,10 @@ impl<'a, R: Wait> Link for ServedLink<'a, R> {
             ),
         };
         match written {
-            Some(n) => Ok(n),
+            Some(n) => {
+                note_refusals(self.signals, self.patience, n, bytes);
+                Ok(n)
+            }
             None => {
                 self.failed.up();
                 Err(LinkFault)
@@ -309,6 +294,40 @@ fn note_lines(signals: &Signals, patience: Patience, n: usize, buf: &[u8]) {
     }
 }
 
+/// Counts the refusals among the answers whose first byte was written: without a control socket
+/// nobody can ask how many there were.
+#[inline(always)]
+fn note_refusals(signals: &Signals, patience: Patience, n: usize, bytes: &[u8]) {
+    if patience.turn.is_some() {
+        if bytes.starts_with(REFUSAL) {
+            signals.count_refusal(number_at(bytes, REFUSAL.len()));
+        }
+        for at in memchr_iter(b'\n', bytes) {
+            let begin = at.saturating_add(1);
+            if begin < n
+                && let Some(line) = bytes.get(begin..)
+                && line.starts_with(REFUSAL)
+            {
+                signals.count_refusal(number_at(line, REFUSAL.len()));
+            }
+        }
+    }
+}
+
+/// The number that begins at this place, of two digits at most; 0 where there is none.
+fn number_at(bytes: &[u8], at: usize) -> usize {
+    let mut number = 0usize;
+    for digit in bytes.iter().skip(at).take(2) {
+        if !digit.is_ascii_digit() {
+            return number;
+        }
+        number = number
+            .saturating_mul(10)
+            .saturating_add(usize::from(*digit - b'0'));
+    }
+    number
+}
+
 /// Reads what comes within the patience: nothing once the daemon stops.
 #[inline(never)]
 fn received<R: Wait>(
@@ -330,26 +349,6 @@ fn received<R: Wait>(
         }
     }
     unreachable!()
-}
-
-/// Reads what comes within a turn. One that has no end is as long as a stop's pause here.
-fn received_shortly(
-    signals: &Signals,
-    patience: Patience,
-    stream: &UnixStream,
-    looks: &mut Looks,
-    left: &mut u64,
-    buf: &mut [u8],
-) -> io::Result<Option<usize>>
-    ensures { IfOk result (λ found. IfSome found (λ n. n ≤ length buf.old)) }
-{
-    if patience.turn.is_some() {
-        return read_once(signals, patience, stream, looks, left, buf);
-    }
-    stream.set_read_timeout(Some(Duration::from_millis(STOP_PAUSE)))?;
-    let read = read_once(signals, patience, stream, looks, left, buf);
-    stream.set_read_timeout(None)?;
-    read
 }
 
 /// Reads once: nothing once the daemon stops. None where it is to be made again, in the turns that

@@ -1,15 +1,21 @@
 //! What the threads of a daemon tell one another beside their turns.
+use iova_range::limits::MAX_REFUSAL;
 use iova_sink::hurry::Hurry;
+use std::array;
 use std::sync::atomic::{AtomicU64, Ordering};
 
 /// Whether the daemon is asked to stop, and what was counted so far. Threads share it. A count
 /// begins anew behind 2^64 - 1.
 pub struct Signals {
     processors: u64,
+    started: u64,
     hurry: Hurry,
     requests: AtomicU64,
     notices: AtomicU64,
     links: AtomicU64,
+    failed_flushes: AtomicU64,
+    /// By number, less one.
+    refusals: [AtomicU64; MAX_REFUSAL],
 }
 
 /// What it has is let go, which is proved here once for every crate above.
@@ -17,24 +23,31 @@ impl Drop for Signals {
     fn drop(self) {
         let Signals {
             processors: _,
+            started: _,
             hurry: _,
             requests: _,
             notices: _,
             links: _,
+            failed_flushes: _,
+            refusals: _,
         } = self;
     }
 }
 
 impl Signals {
     /// Nobody has asked for a stop, and nothing is counted. The daemon's threads have so many
-    /// processors; 0 where that isn't known.
-    pub fn new(processors: u64) -> Signals {
+    /// processors; 0 where that isn't known. It has started so many seconds after the beginning of
+    /// 1970.
+    pub fn new(processors: u64, started: u64) -> Signals {
         Signals {
             processors,
+            started,
             hurry: Hurry::new(),
             requests: AtomicU64::new(0),
             notices: AtomicU64::new(0),
             links: AtomicU64::new(0),
+            failed_flushes: AtomicU64::new(0),
+            refusals: array::from_fn(|_number| AtomicU64::new(0)),
         }
     }
 
@@ -81,6 +94,41 @@ impl Signals {
     /// How many requests came.
     pub fn requests(&self) -> u64 {
         self.requests.load(Ordering::Relaxed)
+    }
+
+    /// When the daemon has started, in seconds since the beginning of 1970.
+    pub fn started(&self) -> u64 {
+        self.started
+    }
+
+    /// One flush more has failed.
+    pub fn count_failed_flush(&self) {
+        self.failed_flushes.fetch_add(1, Ordering::Relaxed);
+    }
+
+    /// How many flushes have failed.
+    pub fn failed_flushes(&self) -> u64 {
+        self.failed_flushes.load(Ordering::Relaxed)
+    }
+
+    /// One refusal of this number more, which is 1 to 25.
+    pub fn count_refusal(&self, number: usize) {
+        if let Some(at) = number.checked_sub(1)
+            && let Some(refusals) = self.refusals.get(at)
+        {
+            refusals.fetch_add(1, Ordering::Relaxed);
+        }
+    }
+
+    /// How many refusals of this number there were.
+    pub fn refusals(&self, number: usize) -> u64 {
+        match number.checked_sub(1) {
+            Some(at) => match self.refusals.get(at) {
+                Some(refusals) => refusals.load(Ordering::Relaxed),
+                None => 0,
+            },
+            None => 0,
+        }
     }
 
     /// One notice more.

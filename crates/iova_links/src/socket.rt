@@ -1,9 +1,9 @@
 //! Links over the connections to a Unix socket.
 use crate::accept::Accept;
 use crate::dial::{Dial, UnixNet};
-use crate::door::Door;
+use crate::made_file::MadeFile;
 use crate::pause::shorter;
-use crate::served_link::{Patience, ServedLink, count_lines};
+use crate::served_link::{Patience, ServedLink};
 use crate::signals::Signals;
 use iova_range::limits::{ACCEPT_PAUSE, MAX_ACCEPT_PAUSE, MAX_WAITING};
 use iova_session::link::LinkFault;
@@ -26,7 +26,7 @@ use std::{io, thread};
 pub struct SocketAccept<'a, R, N> {
     rt: &'a R,
     notices: &'a N,
-    path: &'a str,
+    file: MadeFile<'a>,
     listener: Mutex<Option<UnixListener>>,
     signals: &'a Signals,
     patience: Patience,
@@ -39,7 +39,7 @@ impl<'a, R, N> Drop for SocketAccept<'a, R, N> {
         let SocketAccept {
             rt: _,
             notices: _,
-            path: _,
+            file: _,
             listener: _,
             signals: _,
             patience: _,
@@ -49,12 +49,12 @@ impl<'a, R, N> Drop for SocketAccept<'a, R, N> {
 }
 
 impl<'a, R: AllocGlobal + Dial + Wait, N: Log> SocketAccept<'a, R, N> {
-    /// Accepts what connects to this listener, which is that of the file at this path. The caller
-    /// has made it one that doesn't block; else an accept has no limit.
+    /// Accepts what connects to this listener, which is that of this socket's file. The caller has
+    /// made it one that doesn't block; else an accept has no limit.
     pub fn new(
         rt: &'a R,
         notices: &'a N,
-        path: &'a str,
+        file: MadeFile<'a>,
         listener: UnixListener,
         signals: &'a Signals,
         patience: Patience,
@@ -62,7 +62,7 @@ impl<'a, R: AllocGlobal + Dial + Wait, N: Log> SocketAccept<'a, R, N> {
         SocketAccept {
             rt,
             notices,
-            path,
+            file,
             listener: Mutex::new(Some(listener)),
             signals,
             patience,
@@ -137,7 +137,7 @@ impl<'a, R: AllocGlobal + Dial + Wait, N: Log> SocketAccept<'a, R, N> {
     fn stop_listening(&self) {
         let mut held = self.listener.lock(self.rt);
         if let Some(listener) = held.take() {
-            self.rt.unlink(self.path);
+            self.rt.unlink(&self.file);
             hang_up(&listener);
         }
     }
@@ -148,6 +148,17 @@ impl<'a, R: AllocGlobal + Dial + Wait, N: Log> SocketAccept<'a, R, N> {
             Some(listener) => Some(listener.as_raw_fd()),
             None => None,
         }
+    }
+
+    /// Tells of an accept that failed, and gives how long to wait for the next.
+    fn note_failed(&self, error: &io::Error) -> Duration {
+        let pause = self.pause.load(Ordering::SeqCst);
+        warn!(self.notices; target: "accept", "accept: {error}");
+        self.pause.store(
+            pause.saturating_mul(2).min(MAX_ACCEPT_PAUSE),
+            Ordering::SeqCst,
+        );
+        Duration::from_millis(pause)
     }
 }
 
@@ -173,49 +184,6 @@ impl<'a, R: AllocGlobal + Dial + Clock + Wait, N: Log> Accept<ServedLink<'a, R>>
     /// Once the daemon is asked to stop.
     fn has_ended(&self) -> bool {
         self.signals.is_stopping()
-    }
-}
-
-impl<'a, R: AllocGlobal + Dial + Wait, N: Log> Door for SocketAccept<'a, R, N> {
-    fn enter(&self) -> io::Result<Option<UnixStream>> {
-        let entered = self.accepted();
-        if entered.is_ok() {
-            self.pause.store(ACCEPT_PAUSE, Ordering::SeqCst);
-        }
-        entered
-    }
-
-    fn descriptor(&self) -> Option<RawFd> {
-        self.listening()
-    }
-
-    fn shut(&self) {
-        self.stop_listening();
-    }
-
-    fn is_shut(&self) -> bool {
-        self.signals.is_stopping()
-    }
-
-    fn patience(&self) -> Patience {
-        self.patience
-    }
-
-    fn count(&self, piece: &[u8]) {
-        // without a control socket nobody can ask how many there were
-        if self.patience.turn.is_some() {
-            self.signals.count_requests(count_lines(piece));
-        }
-    }
-
-    fn note_failed(&self, error: &io::Error) -> Duration {
-        let pause = self.pause.load(Ordering::SeqCst);
-        warn!(self.notices; target: "accept", "accept: {error}");
-        self.pause.store(
-            pause.saturating_mul(2).min(MAX_ACCEPT_PAUSE),
-            Ordering::SeqCst,
-        );
-        Duration::from_millis(pause)
     }
 }
 

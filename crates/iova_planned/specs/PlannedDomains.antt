@@ -1,12 +1,12 @@
 -- A daemon's new domain.
-use Rattle.std.specs.Prelude.{ℕ, ◌≡◌, ◌≤◌, ◌+◌, ◌-◌, max, if◌then◌else◌, List, [], ◌∷◌, Option, Some, None, unwrap_or}
+use Rattle.std.specs.Prelude.{ℕ, ◌≡◌, ◌≤◌, ◌+◌, ◌-◌, ◌*◌, max, min, List, [], ◌∷◌, Option, Some, None, unwrap_or}
 use Rattle.iova_range.specs.Frames.{Frames}
 use Rattle.iova_model.specs.State.{State}
 use Rattle.iova_model.specs.declared.step.Step.TheVariants as step
 use Rattle.iova_model.specs.declared.step.Reply.TheVariants as reply
 use Rattle.iova_keep.specs.Steps.{Takes}
 use Rattle.iova_range.specs.Bounds.{Extent}
-use Rattle.iova_range.specs.declared.limits.TheConstants.{RECORDED_STEPS, SEAT_PARTS}
+use Rattle.iova_range.specs.declared.limits.TheConstants.{MAX_CLIENTS, RECORDED_STEPS, SEAT_PARTS}
 use Rattle.iova_keep.specs.StepLogs.{StepLog, new_log}
 use Rattle.iova_keep.specs.Views.{SeatState, seats_in_turn}
 use Rattle.iova_lock.specs.Books.{BookState, SharedState, new_book}
@@ -27,11 +27,10 @@ planned_book plan bounds =
     record (new_book plan.domain bounds plan.workers (planned_log plan.record plan.record_steps))
     { strict = plan.strict }
 
--- how many seats there are: one for each worker, and where clients don't take turns one for each
--- client that is served at a time
+-- how many seats there are: twice as many as clients that are served at a time, but not more than a
+-- domain may have, and at least one for each worker
 abbrev pub seat_count : Plan → ℕ
-seat_count plan =
-    if plan.turns then plan.workers else max (unwrap_or plan.clients plan.workers) plan.workers
+seat_count plan = max (min (2 * unwrap_or plan.clients plan.workers) MAX_CLIENTS) plan.workers
 
 -- the new seats of a domain, of its workers in turn
 pub record AreNewSeats (shared : SharedState) (seats : List SeatState) : Type 0 where

@@ -4,19 +4,18 @@ ghost use Rattle.iova_range.specs.declared.limits.TheConstants.{MAX_CLIENTS};
 ghost use Rattle.iova_planned.specs.PlannedDomains.{seat_count};
 
 use iova_command::plan::Plan;
+use iova_range::limits::MAX_CLIENTS;
 
-/// How many seats there are at the plan's domain: one for each worker, and where clients don't take
-/// turns one for each client that is served at a time.
+/// How many seats there are at the plan's domain, one for each post: twice as many as clients that
+/// are served at a time, so that as many posts may rest as serve, and 1,024 at most; and at least
+/// one for each worker.
 pub fn seat_count(plan: &Plan<'_>) -> u64
     ensures is { result ≡ seat_count plan.now }
     ensures enough { plan.now.workers ≤ result }
     ensures most { result ≤ MAX_CLIENTS }
 {
-    if plan.turns {
-        plan.workers
-    } else {
-        clients_of(plan).max(plan.workers)
-    }
+    let most = MAX_CLIENTS as u64;
+    (2 * clients_of(plan)).min(most).max(plan.workers)
 }
 
 /// How many clients are served at a time.

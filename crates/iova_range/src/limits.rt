@@ -94,6 +94,9 @@ pub const MAX_IDLE: u64 = 86_400;
 /// The most ranges that one session is told in answers to `list`.
 pub const MAX_LISTED: u64 = 1_048_576;
 
+/// The greatest number of a refusal; the least is 1.
+pub const MAX_REFUSAL: usize = 25;
+
 /// The most requests that are run in one hold of the lock.
 pub const MAX_RUN: usize = 16;
 
@@ -107,6 +110,9 @@ pub const TALLY_PARTS: u64 = 2_048;
 /// The parts of a seat's tally where a domain may have more seats than workers: one of its own, and
 /// one that can be split off.
 pub const SEAT_PARTS: u64 = 2;
+
+/// The most posts of a daemon: each has a seat of its domain, and a thread.
+pub const MAX_POSTS: u64 = 1_024;
 
 /// How many descriptors a daemon wants beside those of its sessions and of its workers' sinks:
 /// those that it begins with, its listeners, the flusher's sink, the record, the connections to the
@@ -127,6 +133,10 @@ pub const MAX_RECORDED_STEPS: u64 = 1_000_000;
 /// entry (`IOVA_FQ_TIMEOUT` of Linux 5.15 `include/linux/iova.h`).
 pub const FLUSH_PAUSE: u64 = 10;
 
+/// The longest time between two rounds of a daemon's flusher, in milliseconds: after each flush
+/// that failed it is twice as long as before.
+pub const MAX_FLUSH_PAUSE: u64 = 1_000;
+
 /// The time after an accept that failed, in milliseconds. It doubles with each failure after
 /// another.
 pub const ACCEPT_PAUSE: u64 = 10;
@@ -139,6 +149,20 @@ pub const MAX_SINK_TIMEOUT: u64 = 3_600;
 
 /// The time that a daemon's sink is given to answer where none is asked for, in seconds.
 pub const SINK_TIMEOUT: u64 = 10;
+
+/// The longest time that a daemon may be told to wait for its peer at its start, in seconds.
+pub const MAX_PEER_WAIT: u64 = 3_600;
+
+/// The time between two tries to connect to a peer at a daemon's start, in milliseconds.
+pub const CONNECT_LOOK: u64 = 20;
+
+/// The time for which no connection is made to a peer after one that failed, in milliseconds. It
+/// doubles with each failure after another.
+pub const CONNECT_PAUSE: u64 = 10;
+
+/// The longest time for which no connection is made to a peer after one that failed, in
+/// milliseconds.
+pub const MAX_CONNECT_PAUSE: u64 = 1_000;
 
 /// The time between two rounds in which a daemon's clients that wait are tried again, in
 /// milliseconds: by a post that waits for a session, or serves one that began while they waited.
@@ -158,14 +182,19 @@ pub const MAX_CONTROLS: usize = 8;
 /// The time between two looks at a control socket's connections, in milliseconds.
 pub const CONTROL_PAUSE: u64 = 20;
 
-/// How many looks a control socket's connection may be silent where another one waits: 2 seconds.
+/// How many looks a control socket's connection that has asked nothing yet may be silent where
+/// another one waits: 2 seconds.
 pub const MAX_CONTROL_SILENCE: u64 = 100;
 
 /// How often a control socket's connection is read at one look.
 pub const CONTROL_READS: u64 = 16;
 
-/// The time that a daemon's control socket is given to answer, in seconds.
-pub const CONTROL_TIMEOUT: u64 = 30;
+/// The time that a daemon's control socket is given to take a connection, and to answer anything
+/// but a stop, where nobody says another, in seconds.
+pub const CONTROL_TIMEOUT: u64 = 10;
+
+/// The greatest time that whoever asks a daemon may give it to answer, in seconds: a day.
+pub const MAX_ANSWER_TIMEOUT: u64 = 86_400;
 
 /// How often a folder's lock is tried, with a pause after each time: a second in all.
 pub const FOLDER_LOOKS: u64 = 100;
@@ -175,6 +204,9 @@ pub const FOLDER_PAUSE: u64 = 10;
 
 /// The workers of a daemon where nobody says how many.
 pub const DEFAULT_WORKERS: u64 = 4;
+
+/// The clients that a daemon serves at a time where nobody says how many.
+pub const DEFAULT_CLIENTS: u64 = 64;
 
 /// The number of a daemon's domain where nobody says another.
 pub const DEFAULT_DOMAIN: u64 = 0;

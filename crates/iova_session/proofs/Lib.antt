@@ -18,8 +18,6 @@ mod Others
 mod Alone
 mod Leads
 mod Kept
-mod Turns
-mod TurnsTaken
 mod Each
 mod Histories
 mod AloneSteps

@@ -7,7 +7,6 @@ pub mod Domains
 pub mod Leaving
 pub mod Leading
 pub mod Posts
-pub mod Turns
 pub mod Gone
 pub mod OneByOne
 pub mod Histories

@@ -89,7 +89,8 @@ fn may_flush(request: Request) -> bool {
     matches!(request, Request::Free { lo: _ } | Request::Flush)
 }
 
-fn lock_where<D: Sink>(sink: &mut D, wanted: bool)
+/// Locks the sink where that is wanted.
+pub(crate) fn lock_where<D: Sink>(sink: &mut D, wanted: bool)
     ensures { D.calls sink.new ≡ D.calls sink.old }
 {
     if wanted {
@@ -97,7 +98,8 @@ fn lock_where<D: Sink>(sink: &mut D, wanted: bool)
     }
 }
 
-fn unlock_where<D: Sink>(sink: &mut D, wanted: bool)
+/// Lets go of it where it was locked.
+pub(crate) fn unlock_where<D: Sink>(sink: &mut D, wanted: bool)
     ensures { D.calls sink.new ≡ D.calls sink.old }
 {
     if wanted {

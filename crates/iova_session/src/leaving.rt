@@ -5,6 +5,7 @@ ghost use Rattle.iova_keep.specs.Views.{WhereKnown, LowersTold, KeepsPlace};
 ghost use Rattle.iova_session.specs.Leaving.{Attempts, Departs, IsTold, still_waits};
 ghost use Rattle.iova_model.specs.Clients.{client_of, holdings_in};
 
+use crate::asking::{lock_where, unlock_where};
 use iova_keep::closing::end_client;
 use iova_keep::ending::{Ending, Why};
 use iova_keep::keep::Keep;
@@ -35,7 +36,8 @@ pub struct Attempt {
 
 /// Ends a client of the seat. Where it holds ranges, the sink is told first that it is gone, and of
 /// all of them; where the sink fails, none of them is queued, and the client waits with all of
-/// them. The sink is locked all the while. It takes no memory.
+/// them. The sink is locked all the while; the end of a client that holds none needs no sink, and
+/// waits for none. It takes no memory.
 pub(crate) fn leave<C: Ledger, F: Ledger, S: Ledger, G: Ledger, K: Keep<C, F, S, G>, D: Sink>(
     keeper: &mut K,
     seat: &mut Seat<C, F, S, G>,
@@ -52,31 +54,49 @@ pub(crate) fn leave<C: Ledger, F: Ledger, S: Ledger, G: Ledger, K: Keep<C, F, S,
     ensures same { K.identity keeper.new ≡ K.identity keeper.old }
     ensures room { MAX_HOLDINGS ≤ vec_capacity ranges.new }
 {
-    sink.lock();
-    let left = leave_locked(keeper, seat, sink, ranges, id);
-    sink.unlock();
+    ranges.clear();
+    read_held(keeper, seat, ranges, id);
+    let holds = !ranges.is_empty();
+    lock_where(sink, holds);
+    let left = leave_with(keeper, seat, sink, ranges, id);
+    unlock_where(sink, holds);
     left
 }
 
-/// The same, with the sink locked.
-fn leave_locked<C: Ledger, F: Ledger, S: Ledger, G: Ledger, K: Keep<C, F, S, G>, D: Sink>(
+/// Reads which ranges the client holds; none of one that isn't known.
+fn read_held<C: Ledger, F: Ledger, S: Ledger, G: Ledger, K: Keep<C, F, S, G>>(
+    keeper: &K,
+    seat: &Seat<C, F, S, G>,
+    ranges: &mut Vec<Range>,
+    id: ClientId,
+)
+    requires empty { ranges.old.items ≡ [] }
+    requires room { MAX_HOLDINGS ≤ vec_capacity ranges.old }
+    ensures held { IfSome (K.domain keeper.now)
+        (λ s. ranges.new.items ≡ holdings_in (client_of seat.now.worker id s.clients)) }
+    ensures room { MAX_HOLDINGS ≤ vec_capacity ranges.new }
+{
+    let _known = keeper.holdings(seat, id, ranges);
+}
+
+/// Ends a client that holds these ranges, with the sink locked where it holds any.
+fn leave_with<C: Ledger, F: Ledger, S: Ledger, G: Ledger, K: Keep<C, F, S, G>, D: Sink>(
     keeper: &mut K,
     seat: &mut Seat<C, F, S, G>,
     sink: &mut D,
-    ranges: &mut Vec<Range>,
+    ranges: &Vec<Range>,
     id: ClientId,
 ) -> Leaving
-    requires { MAX_HOLDINGS ≤ vec_capacity ranges.old }
+    requires held { IfSome (K.domain keeper.old)
+        (λ s. ranges.now.items ≡ holdings_in (client_of seat.old.worker id s.clients)) }
     ensures domain { WhereKnown (K.domain keeper.old) (K.domain keeper.new)
         (Departs seat.old seat.new.held id result
         (K.identity keeper.old).number (D.calls sink.old) (D.calls sink.new)) }
     ensures shares { LowersTold result.ended seat.old.held seat.new.held }
     ensures place { KeepsPlace seat.old seat.new (D.calls sink.old) (D.calls sink.new) }
     ensures same { K.identity keeper.new ≡ K.identity keeper.old }
-    ensures room { MAX_HOLDINGS ≤ vec_capacity ranges.new }
 {
-    ranges.clear();
-    match tell(keeper, seat, sink, ranges, id) {
+    match tell(keeper.number(), sink, ranges, id) {
         Ok(()) => Leaving {
             ended: end_client(keeper, seat, sink, id),
             silent: false,
@@ -88,28 +108,20 @@ fn leave_locked<C: Ledger, F: Ledger, S: Ledger, G: Ledger, K: Keep<C, F, S, G>,
     }
 }
 
-/// Tells the sink that the client is gone, and which ranges it holds, where it holds any.
-fn tell<C: Ledger, F: Ledger, S: Ledger, G: Ledger, K: Keep<C, F, S, G>, D: Sink>(
-    keeper: &K,
-    seat: &Seat<C, F, S, G>,
+/// Tells the sink that a client of the domain of this number is gone, and that it holds these
+/// ranges, where there are any.
+fn tell<D: Sink>(
+    number: u64,
     sink: &mut D,
-    ranges: &mut Vec<Range>,
+    ranges: &Vec<Range>,
     id: ClientId,
 ) -> Result<(), SinkFault>
-    requires empty { ranges.old.items ≡ [] }
-    requires room { MAX_HOLDINGS ≤ vec_capacity ranges.old }
-    ensures told { IsTold (K.identity keeper.now).number id ranges.new.items result
-        (D.calls sink.old)
-        (D.calls sink.new) }
-    ensures held { IfSome (K.domain keeper.now)
-        (λ s. ranges.new.items ≡ holdings_in (client_of seat.now.worker id s.clients)) }
-    ensures room { MAX_HOLDINGS ≤ vec_capacity ranges.new }
+    ensures { IsTold number id ranges.now.items result (D.calls sink.old) (D.calls sink.new) }
 {
-    let _known = keeper.holdings(seat, id, ranges);
     if ranges.is_empty() {
         return Ok(());
     }
-    sink.gone(keeper.number(), id, ranges)
+    sink.gone(number, id, ranges)
 }
 
 /// Tries to end a client that waits, where the round isn't over.

@@ -1,5 +1,5 @@
 //! What a session reads from and writes to.
-ghost use Rattle.std.specs.Prelude.{◌≡◌, ◌+◌, ◌<◌, ◌≤◌, ℕ, List, Option, Ok, IfOk, IfSome, OnErr, OnOk, length};
+ghost use Rattle.std.specs.Prelude.{◌≡◌, ◌+◌, ◌<◌, ◌≤◌, ℕ, List, Option, Ok, IfOk, OnErr, OnOk, length};
 ghost use Rattle.iova_sink.specs.Counts.{CountsFailure};
 ghost use Rattle.std.specs.Io.KnownBytes.{Appends, ReadConsumes, WriteAppends};
 ghost use Rattle.iova_text.specs.Writing.{AppendsFront};
@@ -39,19 +39,6 @@ pub trait Link {
         ensures failures { CountsFailure result (failures self.old) (failures self.new) }
         ensures ends { CountsEnds result (length buf.old) (ends self.old) (ends self.new) }
         ensures sent { sent self.new ≡ sent self.old };
-
-    /// Reads as `read` does, but where nothing comes it may give up for now: None, and more may
-    /// come. A link that can't do so waits as long as `read`.
-    fn read_shortly(&mut self, buf: &mut [u8]) -> Result<Option<usize>, LinkFault>
-        ensures bound { IfOk result (λ found. IfSome found (λ n. n ≤ length buf.old)) }
-        ensures failures { CountsFailure result (failures self.old) (failures self.new) }
-        ensures sent { sent self.new ≡ sent self.old }
-    {
-        match self.read(buf) {
-            Ok(n) => Ok(Some(n)),
-            Err(fault) => Err(fault),
-        }
-    }
 
     /// Writes a front of the bytes, at least one byte where there is one, and gives their number. A
     /// call that fails writes none.

@@ -93,20 +93,6 @@ pub fn seats_of<C: Ledger, F: Ledger, S: Ledger, G: Ledger>(
     Some(seats)
 }
 
-/// Takes room for so many clients more that wait at the post, and for the ranges of one that
-/// leaves. Whether it was had.
-pub fn make_room<C: Ledger, F: Ledger, S: Ledger, G: Ledger>(
-    post: &mut Post<C, F, S, G>,
-    more: usize,
-) -> bool
-    ensures seat { post.new.seat ≡ post.old.seat }
-    ensures waiting { post.new.waiting.items ≡ post.old.waiting.items }
-    ensures room { result ≡ true → vec_len post.new.waiting + more ≤ vec_capacity post.new.waiting }
-    ensures ranges { result ≡ true → MAX_HOLDINGS ≤ vec_capacity post.new.ranges }
-{
-    post.waiting.try_reserve(more).is_ok() && has_ranges(&mut post.ranges)
-}
-
 /// Takes room for one client more that waits, and for the ranges of one that leaves. Whether it was
 /// had.
 pub(crate) fn take_room(waiting: &mut Vec<ClientId>, ranges: &mut Vec<Range>) -> bool

@@ -743,7 +743,7 @@ fn a_refused_growth_of_serving(rt: HostRuntime) -> Result<(), Fail> {
 // A daemon that has counted more than 32 bits hold counts on.
 #[test]
 fn counts_above_32_bits(rt: HostRuntime) {
-    let signals = Signals::new(0);
+    let signals = Signals::new(0, 0);
     signals.count_requests(1 << 32);
     signals.count_requests(7);
     assert_eq!(&rt; signals.requests(), 4_294_967_303);

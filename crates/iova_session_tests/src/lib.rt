@@ -21,5 +21,3 @@ mod peers;
 mod posts;
 #[cfg(test)]
 mod session_files;
-#[cfg(test)]
-mod turns;

@@ -2,7 +2,9 @@
 //! are written to, and the channels to a peer that answers.
 #![tactic(auto)]
 
+mod again;
 pub mod asking;
+mod backoff;
 pub mod calls;
 pub mod channel;
 pub mod channel_sink;

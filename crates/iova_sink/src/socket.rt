@@ -2,6 +2,8 @@
 ghost use Rattle.std.specs.Prelude.{◌≡◌, ◌≢◌, ◌≤◌, ◌<◌, IfOk, IfSome, None, length, false};
 ghost use Rattle.iova_sink.specs.Channels.{with_failure};
 
+use crate::again::{is_interrupted, read_again, write_again};
+use crate::backoff::Backoff;
 use crate::channel::{Channel, ChannelFault, Standing};
 use crate::count::Count;
 use crate::device::bytes_taken;
@@ -12,22 +14,28 @@ use std::io::{ErrorKind, Write};
 use std::marker::Model;
 use std::net::Net;
 use std::os::unix::net::UnixStream;
+use std::rt::Clock;
 use std::time::Duration;
 
 /// How many bytes are read ahead at a time: more than an answer has.
 const AHEAD: usize = 64;
 
-/// A Unix socket at a path, with one time limit for each read and each write. An answer is one
-/// read: what comes with it is read too, and is handed on with the next call that receives. A read
-/// looks a while for what comes before it waits, as long as that pays: to sleep and to be woken
-/// costs as much as a peer that is at hand takes to answer. What goes over it no contract can say;
-/// contracts see its failures, how many looks found bytes, and whether there is a connection.
+/// A Unix socket at a path, with one time limit for each read and each write; one that a signal
+/// interrupts is made again, for what is left of its time. An answer is one read: what comes with it
+/// is read too, and is handed on with the next call that receives. A read looks a while for what
+/// comes before it waits, as long as that pays: to sleep and to be woken costs as much as a peer
+/// that is at hand takes to answer. A connect waits no longer than that of `net` does. Behind two
+/// connections in a row that had no answer none is made for a while, up to a second, so that the
+/// queue of a peer that stands still fills slowly. What goes over it no contract can say; contracts
+/// see its failures, how many looks found bytes, and whether there is a connection.
 pub struct SocketChannel<'a, N: Net> {
     net: &'a N,
     path: &'a str,
     limit: Duration,
     hurry: Option<&'a Hurry>,
     stream: Option<UnixStream>,
+    was_full: bool,
+    backoff: Backoff,
     looks: Looks,
     ahead: Ahead,
     failed: Count,
@@ -43,6 +51,8 @@ impl<'a, N: Net> Drop for SocketChannel<'a, N> {
             limit: _,
             hurry: _,
             stream: _,
+            was_full: _,
+            backoff: _,
             looks: _,
             ahead: _,
             failed: _,
@@ -78,12 +88,23 @@ impl Ahead {
         self.to = 0;
     }
 
-    /// Reads the next bytes, where there are none: none at the end of the stream.
-    fn fill(&mut self, stream: &UnixStream, looks: &mut Looks) -> io::Result<()> {
+    /// Reads the next bytes, where there are none: none at the end of the stream. It takes no
+    /// longer than this, whatever interrupts it.
+    fn fill<C: Clock>(
+        &mut self,
+        clock: &C,
+        stream: &UnixStream,
+        looks: &mut Looks,
+        limit: Duration,
+    ) -> io::Result<()> {
         if self.is_empty() {
-            let n = looks.read(stream, &mut self.bytes)?;
+            let begun = clock.monotonic()?;
+            let mut read = looks.read(stream, &mut self.bytes);
+            if is_interrupted(&read) {
+                read = read_again(clock, stream, &mut self.bytes, begun, limit);
+            }
             self.from = 0;
-            self.to = n;
+            self.to = read?;
         }
         Ok(())
     }
@@ -117,7 +138,7 @@ impl<'a, N: Net> Model for SocketChannel<'a, N> {
     } };
 }
 
-impl<'a, N: Net> SocketChannel<'a, N> {
+impl<'a, N: Net + Clock> SocketChannel<'a, N> {
     /// A channel to the socket at this path, without a connection. A read or a write that takes
     /// longer than this many seconds, at least one, fails; with a limit of 0 each connect fails.
     pub fn new(net: &'a N, path: &'a str, seconds: u64) -> SocketChannel<'a, N>
@@ -135,6 +156,8 @@ impl<'a, N: Net> SocketChannel<'a, N> {
             limit: Duration::from_secs(seconds),
             hurry: None,
             stream: None,
+            was_full: false,
+            backoff: Backoff::new(),
             looks: Looks::new(),
             ahead: Ahead::new(),
             failed: Count::new(),
@@ -147,6 +170,12 @@ impl<'a, N: Net> SocketChannel<'a, N> {
         ensures { self.new ≡ self.old }
     {
         self.hurry = Some(hurry);
+    }
+
+    /// Whether the last connect failed since the peer's queue was full, or no connection is made
+    /// for a while.
+    pub fn was_full(&self) -> bool {
+        self.was_full
     }
 
     /// Whether no call is made any more.
@@ -178,7 +207,7 @@ impl<'a, N: Net> SocketChannel<'a, N> {
     }
 }
 
-impl<'a, N: Net> Channel for SocketChannel<'a, N> {
+impl<'a, N: Net + Clock> Channel for SocketChannel<'a, N> {
     ghost talk = { λ c. c };
 
     fn is_open(&self) -> bool {
@@ -192,7 +221,7 @@ impl<'a, N: Net> Channel for SocketChannel<'a, N> {
         let Some(stream) = &self.stream else {
             return Err(self.fault());
         };
-        let written = write_to(stream, bytes);
+        let written = written(self.net, stream, bytes, self.limit);
         if let Err(error) = &written {
             return Err(self.fault_of(error));
         }
@@ -209,8 +238,17 @@ impl<'a, N: Net> Channel for SocketChannel<'a, N> {
         let Some(stream) = &self.stream else {
             return Err(self.fault());
         };
-        match self.ahead.fill(stream, &mut self.looks) {
-            Ok(()) => Ok(self.ahead.take(buffer)),
+        match self
+            .ahead
+            .fill(self.net, stream, &mut self.looks, self.limit)
+        {
+            Ok(()) => {
+                let n = self.ahead.take(buffer);
+                if n > 0 {
+                    self.backoff.reset();
+                }
+                Ok(n)
+            }
             Err(error) => Err(self.fault_of(&error)),
         }
     }
@@ -238,19 +276,28 @@ impl<'a, N: Net> Channel for SocketChannel<'a, N> {
     fn connect(&mut self) -> Result<(), ChannelFault> {
         self.stream = None;
         self.ahead.clear();
-        if self.is_given_up() {
+        self.was_full = true;
+        if self.is_given_up() || self.backoff.holds(self.net) {
             return Err(self.fault());
         }
         match connected(self.net, self.path, self.limit) {
             Ok(stream) => {
                 self.stream = Some(stream);
+                self.was_full = false;
                 Ok(())
             }
-            Err(error) => Err(self.fault_of(&error)),
+            Err(error) => {
+                self.was_full = error.kind() == ErrorKind::WouldBlock;
+                Err(self.fault_of(&error))
+            }
         }
     }
 
+    /// It is closed where it failed, so the next one may have to wait.
     fn close(&mut self) {
+        if self.stream.is_some() {
+            self.backoff.note_failed(self.net);
+        }
         self.stream = None;
         self.ahead.clear();
     }
@@ -261,10 +308,21 @@ fn is_late(error: &io::Error) -> bool {
     error.kind() == ErrorKind::WouldBlock || error.kind() == ErrorKind::TimedOut
 }
 
-fn write_to(mut stream: &UnixStream, bytes: &[u8]) -> io::Result<usize>
+/// Writes a front of the bytes. It takes no longer than this, whatever interrupts it.
+fn written<C: Clock>(
+    clock: &C,
+    mut stream: &UnixStream,
+    bytes: &[u8],
+    limit: Duration,
+) -> io::Result<usize>
     ensures { IfOk result (λ n. n ≤ length bytes.now) }
 {
-    stream.write(bytes)
+    let begun = clock.monotonic()?;
+    let written = stream.write(bytes);
+    if is_interrupted(&written) {
+        return write_again(clock, stream, bytes, begun, limit);
+    }
+    written
 }
 
 /// A connection with these limits.

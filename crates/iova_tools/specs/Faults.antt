@@ -1,13 +1,31 @@
 -- What a fault of the program says on standard error, and the status that it ends with.
-use Rattle.std.specs.Prelude.{ℕ, ◌≡◌, List, ◌++◌, Option, Some, None, decimal, codes}
+use Rattle.std.specs.Prelude.{ℕ, zero, suc, ◌≡◌, Bool, true, false, List, [], ◌++◌, Option, Some, None, decimal, codes}
 use Rattle.std.specs.Borrow.{Bor}
 use Rattle.iova_command.specs.declared.usage.WordsFault.{WordsFault}
 use Rattle.iova_command.specs.declared.usage.WordsFault.TheVariants as words
+use Rattle.iova_tools.specs.declared.fault.Left.{Left}
 use Rattle.iova_tools.specs.declared.fault.Fault.{Fault}
 use Rattle.iova_tools.specs.declared.fault.Fault.TheVariants as fault
 
+-- the frames in rings, where there are any
+abbrev pub rings_text : ℕ → List ℕ
+rings_text zero = []
+rings_text (suc n) = codes ", and " ++ decimal (suc n) ++ codes " frames in rings"
+
+-- whose answer did not come
+abbrev pub cause_text : Bool → List ℕ
+cause_text true = codes ": the peer did not answer"
+cause_text false = codes ": the sink failed"
+
+-- what is left of a domain whose daemon was stopped, and why
+abbrev pub left_text : Left → List ℕ
+left_text left =
+    codes "iovad: " ++ decimal left.clients ++ codes " clients and " ++ decimal left.ranges
+    ++ codes " ranges are left" ++ rings_text left.frames ++ cause_text left.has_peer
+
 -- the one line of a fault, without its LF; what is not understood, and help, are told in the words
--- of the command line; that a log has findings is told by these alone, and by the status
+-- of the command line; that a log has findings, or was not checked as a whole, is told by other
+-- lines alone, and by the status
 abbrev pub fault_text : Fault → Option (List ℕ)
 fault_text (fault.Words usage) = None
 fault_text fault.StartAboveLast = Some (codes "iovad: start is above last")
@@ -17,10 +35,12 @@ fault_text (fault.LogRefused line) = Some (codes "iovad: log refused at line " +
 fault_text (fault.RegionsRefused line) =
     Some (codes "iovad: reserved regions refused at line " ++ decimal line)
 fault_text fault.Found = Some (codes "iovad: the log has a finding")
+fault_text fault.Incomplete = Some (codes "iovad: not all of the log was checked")
 fault_text (fault.CannotRead path) = Some (codes "iovad: cannot read " ++ path.now)
 fault_text fault.CannotWrite = Some (codes "iovad: cannot write the output")
 fault_text fault.SocketFault = Some (codes "iovad: socket fault")
 fault_text fault.CannotOpenSink = Some (codes "iovad: cannot open the sink")
+fault_text (fault.Left left) = Some (left_text left)
 fault_text fault.NoMemory = Some (codes "iovad: no memory")
 
 -- the status of the process
@@ -32,11 +52,13 @@ fault_status (fault.TraceRefused line) = 3
 fault_status (fault.LogRefused line) = 3
 fault_status (fault.RegionsRefused line) = 3
 fault_status fault.Found = 1
+fault_status fault.Incomplete = 3
 fault_status (fault.CannotRead path) = 4
 fault_status fault.CannotWrite = 4
 fault_status fault.SocketFault = 4
 fault_status fault.CannotOpenSink = 4
 fault_status fault.NoMemory = 5
+fault_status (fault.Left left) = 6
 
 -- the fault of words that ask for nothing
 abbrev pub IsFaultOfWords : WordsFault → Fault → Type 0

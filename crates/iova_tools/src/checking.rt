@@ -1,8 +1,12 @@
 //! A log, or a kernel's trace, checked as the words ask for it.
+ghost use Rattle.iova_tools.specs.Verdicts.{EndsCheck};
+
 use crate::fault::Fault;
 use crate::regions::add_regions;
+use crate::verdict::Verdict;
 use iova_check::allowed::Asked;
 use iova_check::checker::Checker;
+use iova_check::counts::Counts;
 use iova_check::fault::CheckFault;
 use iova_check::run::{check, check_trace, write_counts};
 use iova_command::check_plan::CheckPlan;
@@ -76,14 +80,30 @@ fn check_from<'a, R: Runtime + AllocGlobal, I: Read>(
         checked_by(rt, plan, &asked, reader, &mut output)
     };
     let told = write_counts(&checked, &mut output);
-    if plan.ftrace {
-        tell_passed_over(rt, &checked);
+    if let Ok(checker) = &checked {
+        tell_gaps(rt, plan, &checker.counts);
     }
+    let ended = end_of_check(&checked, told, plan.path);
     drop(checked);
-    match told {
-        Ok(false) => Ok(()),
-        Ok(true) => Err(Fault::Found),
-        Err(fault) => Err(Fault::of_check(fault, plan.path)),
+    ended
+}
+
+/// What ends a check: the fault that it or the writing of its counts met, else what its counts come
+/// to.
+fn end_of_check<'a>(
+    checked: &Result<Checker, CheckFault>,
+    told: Result<bool, CheckFault>,
+    path: &'a str,
+) -> Result<(), Fault<'a>>
+    ensures { EndsCheck path.entry checked.now told result }
+{
+    match (checked, told) {
+        (Err(fault), _) => Err(Fault::of_check(*fault, path)),
+        (Ok(_), Err(fault)) => Err(Fault::of_check(fault, path)),
+        (Ok(checker), Ok(_)) => match Fault::of_verdict(Verdict::of(&checker.counts)) {
+            None => Ok(()),
+            Some(fault) => Err(fault),
+        },
     }
 }
 
@@ -95,19 +115,31 @@ fn checked_by<R: Runtime + AllocGlobal, I: Read, W: Write>(
     reader: &mut I,
     writer: &mut W,
 ) -> Result<Checker, CheckFault> {
+    let mut notices = Notices { rt };
     if plan.ftrace {
-        let mut notices = Notices { rt };
         check_trace(rt.alloc(), asked, plan.did, reader, writer, &mut notices)
     } else {
-        check(rt.alloc(), asked, reader, writer)
+        check(rt.alloc(), asked, reader, writer, &mut notices)
     }
 }
 
-/// Tells on standard error how many lines of a kernel's trace said nothing of frames.
-fn tell_passed_over<R: Eprint>(rt: &R, checked: &Result<Checker, CheckFault>) {
-    if let Ok(checker) = checked {
-        let others = checker.counts.others;
+/// Tells on standard error how many lines of a kernel's trace said nothing of frames, and what was
+/// not checked.
+fn tell_gaps<R: Eprint>(rt: &R, plan: &CheckPlan<'_>, counts: &Counts) {
+    if plan.ftrace {
+        let others = counts.others;
         let _ = eprintln!(rt; "{others} lines passed over");
+    }
+    if counts.maps == 0 {
+        let _ = eprintln!(rt; "iovad: nothing is checked: no line maps a frame");
+    }
+    if counts.lost > 0 {
+        let lost = counts.lost;
+        let _ = eprintln!(rt; "iovad: not all is checked: events were lost, as {lost} lines say");
+    }
+    if counts.too_long > 0 {
+        let longs = counts.too_long;
+        let _ = eprintln!(rt; "iovad: not all is checked: {longs} lines are too long to be read");
     }
 }
 

@@ -2,25 +2,32 @@
 use crate::fault::Fault;
 use iova_command::control_word::ControlWord;
 use iova_files::cause::tell_cause;
+use iova_links::dial::connect_within;
 use iova_range::limits::CONTROL_TIMEOUT;
 use log::{Log, error};
 use memchr::{memchr, memchr_iter};
 use std::io::{Read, Write};
 use std::net::{Net, Shutdown};
-use std::os::unix::net::UnixStream;
-use std::rt::Runtime;
+use std::rt::{Clock, Runtime};
 use std::time::Duration;
 use std::{io, str};
 
 /// Asks the daemon at this path for what the word names, and prints what it answers, without the
-/// line that tells how many lines follow. After `stop` it waits for the daemon's end. Refused by
-/// `SocketFault` where nobody answers, or not as asked, and by `CannotWrite`.
-pub fn control<R>(rt: &R, path: &str, word: ControlWord) -> Result<(), Fault<'static>>
+/// line that tells how many lines follow. After `stop` it waits for the daemon's end. A connection
+/// and an answer are waited for so many seconds, where that is said; else 10, and the answer to
+/// `stop` without end. Refused by `SocketFault` where nobody answers in time, or not as asked, and
+/// by `CannotWrite`.
+pub fn control<R>(
+    rt: &R,
+    path: &str,
+    word: ControlWord,
+    timeout: Option<u64>,
+) -> Result<(), Fault<'static>>
 where
     R: Runtime + AllocGlobal + Net + Log,
 {
     let mut answer = Vec::new(rt.alloc());
-    if let Err(error) = asked(rt, path, word, &mut answer) {
+    if let Err(error) = asked(rt, path, word, timeout, &mut answer) {
         tell_cause(rt, "connect", path, &error);
         return Err(Fault::SocketFault);
     }
@@ -37,14 +44,20 @@ where
     }
 }
 
-/// Sends the word, and takes all that comes. The end of a daemon that is told to stop is waited for
-/// as long as it takes.
-fn asked<R: Net>(rt: &R, path: &str, word: ControlWord, answer: &mut Vec<u8>) -> io::Result<()> {
-    let mut stream = UnixStream::connect(rt, path)?;
-    if word != ControlWord::Stop {
-        stream.set_read_timeout(Some(Duration::from_secs(CONTROL_TIMEOUT)))?;
+/// Sends the word, and takes all that comes within the time.
+fn asked<R: Net + Clock>(
+    rt: &R,
+    path: &str,
+    word: ControlWord,
+    timeout: Option<u64>,
+    answer: &mut Vec<u8>,
+) -> io::Result<()> {
+    let limit = Duration::from_secs(timeout.unwrap_or(CONTROL_TIMEOUT));
+    let mut stream = connect_within(rt, path, Some(limit))?;
+    if word != ControlWord::Stop || timeout.is_some() {
+        stream.set_read_timeout(Some(limit))?;
     }
-    stream.set_write_timeout(Some(Duration::from_secs(CONTROL_TIMEOUT)))?;
+    stream.set_write_timeout(Some(limit))?;
     stream.write_all(word.name().as_bytes())?;
     stream.write_all(b"\n")?;
     stream.shutdown(Shutdown::Write)?;

@@ -1,8 +1,10 @@
 //! What keeps a run from its end, the line that it says then, and the status.
 ghost use Rattle.std.specs.Prelude.{◌≡◌, ◌⊎◌, ℕ, codes};
 ghost use Rattle.std.specs.Process.{exit_status};
+ghost use Rattle.iova_tools.specs.Verdicts.{fault_of_verdict, fault_of_check};
 ghost use Rattle.iova_tools.specs.Faults.{IfUnread, IsFaultOfWords, fault_text, fault_status};
 
+use crate::verdict::Verdict;
 use iova_ask::fault::AskFault;
 use iova_check::fault::CheckFault;
 use iova_command::usage::{Usage, WordsFault};
@@ -30,6 +32,8 @@ pub enum Fault<'a> {
     RegionsRefused(u64),
     /// A log has a finding, which was told.
     Found,
+    /// A log has no finding, and not all of it was checked, which was told.
+    Incomplete,
     /// The file of this name cannot be opened or read; `-` is standard input.
     CannotRead(&'a str),
     /// Standard output cannot be written.
@@ -38,8 +42,23 @@ pub enum Fault<'a> {
     SocketFault,
     /// The file that the records of flushes are appended to can't be opened.
     CannotOpenSink,
+    /// A daemon was stopped, and something is left at clients or in rings.
+    Left(Left),
     /// A growth was refused memory.
     NoMemory,
+}
+
+/// What is left of a domain whose daemon was stopped.
+#[derive(Clone, Copy, Debug, PartialEq, Eq)]
+pub struct Left {
+    /// How many clients couldn't be ended.
+    pub clients: u64,
+    /// How many ranges they hold.
+    pub ranges: u64,
+    /// How many frames wait in rings for a flush.
+    pub frames: u64,
+    /// Whether a peer was to answer.
+    pub has_peer: bool,
 }
 
 impl<'a> Fault<'a> {
@@ -61,6 +80,7 @@ impl<'a> Fault<'a> {
 
     /// The fault of the check of the log of this name.
     pub fn of_check(fault: CheckFault, path: &'a str) -> Fault<'a>
+        ensures is { result ≡ fault_of_check path.entry fault }
         ensures refused { (line : ℕ) → fault ≡ CheckFault.BadLog line
             → result ≡ Fault.LogRefused line }
         ensures unread { fault ≡ CheckFault.ReadFault → result ≡ Fault.CannotRead path.entry }
@@ -104,9 +124,22 @@ impl<'a> Fault<'a> {
         }
     }
 
+    /// The fault of a check that was taken to its end, whose counts come to this. None where
+    /// nothing is wrong and nothing was left out.
+    pub fn of_verdict(verdict: Verdict) -> Option<Fault<'static>>
+        ensures { result ≡ fault_of_verdict verdict }
+    {
+        match verdict {
+            Verdict::Sound => None,
+            Verdict::Found => Some(Fault::Found),
+            Verdict::Incomplete => Some(Fault::Incomplete),
+        }
+    }
+
     /// The status that the process ends with: 0 where help was asked for, 1 for a log that has a
     /// finding, 2 where the words are not understood or can't be followed, 3 for a trace, a log or
-    /// regions that are refused, 4 for a file that cannot be read or written, 5 for memory.
+    /// regions that are refused and for a log of which not all was checked, 4 for a file that
+    /// cannot be read or written, 5 for memory, 6 for what is left of a domain.
     pub fn status(&self) -> u8
         ensures { result ≡ fault_status self.now }
     {
@@ -114,18 +147,22 @@ impl<'a> Fault<'a> {
             Fault::Words(usage) => usage.status(),
             Fault::StartAboveLast | Fault::LastAboveProfile => 2,
             Fault::Found => 1,
-            Fault::TraceRefused(_) | Fault::LogRefused(_) | Fault::RegionsRefused(_) => 3,
+            Fault::Incomplete
+            | Fault::TraceRefused(_)
+            | Fault::LogRefused(_)
+            | Fault::RegionsRefused(_) => 3,
             Fault::CannotRead(_)
             | Fault::CannotWrite
             | Fault::SocketFault
             | Fault::CannotOpenSink => 4,
             Fault::NoMemory => 5,
+            Fault::Left(_) => 6,
         }
     }
 
     /// Prints the fault's line on standard error, or help on standard output, and gives the status.
-    /// A finding has been told, and prints nothing. Help that can't be written is the fault
-    /// `CannotWrite`; where a fault's line can't be, nobody is left to tell.
+    /// A finding has been told, as has what was not checked, and prints nothing. Help that can't be
+    /// written is the fault `CannotWrite`; where a fault's line can't be, nobody is left to tell.
     pub fn tell<R: Print + Eprint>(&self, rt: &R) -> ExitCode
         ensures { (exit_status result ≡ fault_status self.now)
             ⊎ ((fault_status self.now ≡ 0) × (exit_status result
@@ -133,7 +170,7 @@ impl<'a> Fault<'a> {
     {
         let told = match self {
             Fault::Words(usage) => usage.print(rt),
-            Fault::Found => Ok(()),
+            Fault::Found | Fault::Incomplete => Ok(()),
             fault => eprintln!(rt; "{fault}"),
         };
         if told.is_err() && self.status() == 0 {
@@ -171,11 +208,80 @@ impl<'a> fmt::Display for Fault<'a> {
                 write!(f, "iovad: reserved regions refused at line {line}")
             }
             Fault::Found => f.write_str("iovad: the log has a finding"),
+            Fault::Incomplete => f.write_str("iovad: not all of the log was checked"),
             Fault::CannotRead(path) => write!(f, "iovad: cannot read {path}"),
             Fault::CannotWrite => f.write_str("iovad: cannot write the output"),
             Fault::SocketFault => f.write_str("iovad: socket fault"),
             Fault::CannotOpenSink => f.write_str("iovad: cannot open the sink"),
+            Fault::Left(left) => write!(f, "{left}"),
             Fault::NoMemory => f.write_str("iovad: no memory"),
+        }
+    }
+}
+
+/// What is left, and why.
+impl fmt::Display for Left {
+    ghost use Rattle.std.specs.Prelude.{Some};
+    ghost use Rattle.iova_tools.specs.Faults.{left_text};
+
+    ghost output = { λ left. Some (left_text left) };
+
+    fn fmt<W: fmt::Write>(&self, f: &mut fmt::Formatter<W>) -> fmt::Result {
+        let Left {
+            clients,
+            ranges,
+            ..
+        } = self;
+        let rings = Rings {
+            frames: self.frames,
+        };
+        let cause = Cause {
+            has_peer: self.has_peer,
+        };
+        write!(
+            f,
+            "iovad: {clients} clients and {ranges} ranges are left{rings}{cause}"
+        )
+    }
+}
+
+/// The frames in rings, where there are any.
+#[derive(Drop)]
+struct Rings {
+    frames: u64,
+}
+
+impl fmt::Display for Rings {
+    ghost use Rattle.std.specs.Prelude.{Some};
+    ghost use Rattle.iova_tools.specs.Faults.{rings_text};
+
+    ghost output = { λ rings. Some (rings_text rings.frames) };
+
+    fn fmt<W: fmt::Write>(&self, f: &mut fmt::Formatter<W>) -> fmt::Result {
+        if self.frames == 0 {
+            return f.write_str("");
+        }
+        write!(f, ", and {} frames in rings", self.frames)
+    }
+}
+
+/// Whose answer did not come: a peer's, or a file's.
+#[derive(Drop)]
+struct Cause {
+    has_peer: bool,
+}
+
+impl fmt::Display for Cause {
+    ghost use Rattle.std.specs.Prelude.{Some};
+    ghost use Rattle.iova_tools.specs.Faults.{cause_text};
+
+    ghost output = { λ cause. Some (cause_text cause.has_peer) };
+
+    fn fmt<W: fmt::Write>(&self, f: &mut fmt::Formatter<W>) -> fmt::Result {
+        if self.has_peer {
+            f.write_str(": the peer did not answer")
+        } else {
+            f.write_str(": the sink failed")
         }
     }
 }

@@ -10,3 +10,4 @@ pub mod fault;
 pub mod outcome;
 pub mod regions;
 pub mod replaying;
+pub mod verdict;

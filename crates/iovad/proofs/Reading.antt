@@ -21,3 +21,5 @@ of_regions plan name fault.Found named is = absurd is
 of_regions plan name fault.CannotWrite named is = absurd is
 of_regions plan name fault.SocketFault named is = absurd is
 of_regions plan name fault.CannotOpenSink named is = absurd is
+of_regions plan name fault.Incomplete named is = absurd is
+of_regions plan name (fault.Left left) named is = absurd is

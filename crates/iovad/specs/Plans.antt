@@ -1,7 +1,7 @@
 -- How a daemon serves a plan, and how that may end.
-use Rattle.std.specs.Prelude.{ℕ, ◌≡◌, ◌≢◌, ◌<◌, ◌≤◌, ◌*◌, min, List, map, Option, Some, None}
+use Rattle.std.specs.Prelude.{ℕ, zero, suc, ◌≡◌, ◌≢◌, ◌<◌, ◌≤◌, ◌*◌, min, List, map, Option, Some, None}
 use Rattle.iova_range.specs.Bounds.{Capacities, Extent, first_profile, second_profile}
-use Rattle.iova_range.specs.declared.limits.TheConstants.{MAX_REQUESTS, MAX_SESSION_READS, SEAT_PARTS}
+use Rattle.iova_range.specs.declared.limits.TheConstants.{MAX_REQUESTS, MAX_SESSION_READS, MAX_SESSION_REQUESTS, SEAT_PARTS}
 use Rattle.iova_keep.specs.Views.{seats_in_turn}
 use Rattle.iova_lock.specs.Books.{SharedState}
 use Rattle.iova_command.specs.declared.plan.Plan.{Plan}
@@ -23,11 +23,18 @@ abbrev pub IsBoundsOf : Plan → Extent → Type 0
 IsBoundsOf plan bounds =
     bounds ≡ record { start = plan.start; last = plan.last; profile = profile_of plan.depot }
 
+-- the most requests that are said; 0 is no bound but that of the count
+abbrev pub planned_requests : ℕ → ℕ
+planned_requests zero = MAX_SESSION_REQUESTS
+planned_requests (suc n) = suc n
+
 -- How much a session may ask for, where the most requests are said: these, in 16 reads for each, as
 -- far as a number of 64 bits goes; or not, and then the usual.
 abbrev pub planned_limits : Option ℕ → SessionLimits
-planned_limits (Some requests) =
-    record { requests = requests; reads = min (requests * 16) 18446744073709551615 }
+planned_limits (Some requests) = record {
+  requests = planned_requests requests;
+  reads = min (planned_requests requests * 16) 18446744073709551615;
+}
 planned_limits None = record { requests = MAX_REQUESTS; reads = MAX_SESSION_READS }
 
 -- the workers of all seats of a domain
@@ -45,9 +52,11 @@ IsFaultOfServing plan fault.CannotOpenSink = Unit {0}
 IsFaultOfServing plan fault.SocketFault = Unit {0}
 IsFaultOfServing plan fault.NoMemory = Unit {0}
 IsFaultOfServing plan fault.CannotWrite = Unit {0}
+IsFaultOfServing plan (fault.Left left) = Unit {0}
 IsFaultOfServing plan (fault.Words usage) = ⊥
 IsFaultOfServing plan (fault.TraceRefused line) = ⊥
 IsFaultOfServing plan (fault.LogRefused line) = ⊥
 IsFaultOfServing plan (fault.RegionsRefused line) = plan.regions ≢ None
 IsFaultOfServing plan fault.Found = ⊥
+IsFaultOfServing plan fault.Incomplete = ⊥
 IsFaultOfServing plan (fault.CannotRead path) = plan.regions ≡ Some path

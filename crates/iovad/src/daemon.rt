@@ -1,5 +1,6 @@
 //! A daemon: the sessions of a plan, served on a socket, and the report of what they leave.
 ghost use Rattle.std.specs.Prelude.{◌≡◌, ◌<◌, ◌≤◌, ◌+◌, None, Err, IfErr, IfOk, map, length, unwrap_or, vec_len};
+ghost use Rattle.std.specs.Thread.{IsSend};
 ghost use Rattle.iova_keep.specs.Views.{AreBlanksOf};
 ghost use Rattle.iova_command.specs.declared.plan.Plan.{Plan};
 ghost use Rattle.iova_planned.specs.PlannedDomains.{AreNewSeats, seat_count};
@@ -7,14 +8,15 @@ ghost use Rattle.iovad.specs.Plans.{AreOfAllSeats, IsAboveProfile, IsBoundsOf, I
 
 use iova_command::plan::Plan;
 use iova_command::plan_words::PlanWords;
+use iova_command::sink_path::SinkPath;
 use iova_command::words::VERSION;
-use iova_control::control::Control;
+use iova_control::control::{Control, Facts};
 use iova_core::domain::Domain;
-use iova_daemon::{Served, Service, Serving, serve_in_turns, serve_sessions};
-use iova_files::descriptors::look_at_limit;
-use iova_files::listening::{Access, is_free, listen, remove};
+use iova_daemon::{Served, Service, Serving, serve_sessions};
+use iova_files::descriptors::sessions_within;
+use iova_files::listening::{Access, Listening, is_free, listen};
 use iova_files::notices::{CountedConsole, Notices};
-use iova_files::record_file::RecordFile;
+use iova_files::record_file::{RecordFile, is_in_use};
 use iova_files::sharing::{share_all, sinks_in_turn};
 use iova_files::sinks::{DaemonSink, SinkPlace, open_sink};
 use iova_files::standard::path_of_input;
@@ -23,6 +25,7 @@ use iova_keep::ledgers::Blanks;
 use iova_links::accept::Accept;
 use iova_links::dial::{Dial, UnixNet};
 use iova_links::locked_sink::SharedSink;
+use iova_links::made_file::MadeFile;
 use iova_links::pause::Ticks;
 use iova_links::served_link::{Patience, ServedLink};
 use iova_links::signals::Signals;
@@ -31,7 +34,7 @@ use iova_lock::shared::Shared;
 use iova_planned::domain::new_domain;
 use iova_planned::seats::clients_of;
 use iova_range::bounds::Bounds;
-use iova_range::limits::STOP_PAUSE;
+use iova_range::limits::{MAX_SESSION_REQUESTS, STOP_PAUSE};
 use iova_range::profile::Profile;
 use iova_range::refusal::Refusal;
 use iova_regions::region::Counted;
@@ -39,15 +42,18 @@ use iova_regions::windows::Windows;
 use iova_session::end_post::end_post;
 use iova_session::post::{Post, seats_of};
 use iova_session::session_limits::SessionLimits;
+use iova_sink::channel_sink::ChannelSink;
+use iova_sink::file::FileDevice;
+use iova_sink::record::RecordSink;
 use iova_sink::sink::Sink;
-use iova_tools::fault::Fault;
+use iova_sink::socket::SocketChannel;
+use iova_tools::fault::{Fault, Left};
 use iova_tools::outcome::print_domain;
 use iova_tools::regions::add_regions;
-use log::{Log, Logged, info};
+use log::{LevelFilter, Log, Logged, info, warn};
 use std::fs::File;
 use std::io;
 use std::net::Net;
-use std::os::unix::net::UnixListener;
 use std::rt::{Clock, Files, Runtime};
 use std::sync::Wait;
 use std::sync::ledger::Ledger;
@@ -63,22 +69,27 @@ struct Running<'a, R> {
     control: &'a Control<'a, R, Notices<'a, R>>,
     net: &'a UnixNet<'a, R>,
     place: SinkPlace<'a>,
+    /// How many sessions are served at a time.
+    clients: u64,
 }
 
 /// Serves the plan's sessions on its socket, writes the record of the domain's steps where one is
 /// wanted, and then prints a line with the domain's number and the domain's report. The socket's
 /// file is removed once the sessions are over, also where no thread could be started. Clients that
-/// still wait then are tried once more. A record is opened, emptied and begun before the socket is
-/// bound. What lies behind `CannotOpenSink`, `SocketFault` and `CannotWrite` is told on the line
-/// before.
+/// still wait then are tried once more. A record is opened before the socket is bound, and emptied
+/// and begun behind that. A start that is refused leaves no file that it has made, and what stood
+/// in others. What lies behind `CannotOpenSink`, `SocketFault` and `CannotWrite` is told on the
+/// line before.
 ///
 /// Faults come in this order: `StartAboveLast`; `LastAboveProfile`; `CannotRead`, `RegionsRefused`
-/// or `NoMemory` for the reserved regions; `NoMemory` for the domain; `SocketFault` where anything
-/// but a socket that was left stands at the socket's path, which is looked at before the sink;
-/// `NoMemory` or `CannotOpenSink` for the sinks; `CannotWrite` or `NoMemory` for the record, which
-/// may not be the sink's file; `SocketFault` where the control socket, and then the socket, can't
-/// be bound, or a thread can't be started; `NoMemory` or `CannotWrite` for the record at its end;
-/// `NoMemory` for the report; `CannotWrite`.
+/// or `NoMemory` for the reserved regions; `NoMemory` for the domain; `NoMemory` or
+/// `CannotOpenSink` for the sinks of a file; `SocketFault` where anything but a socket that was
+/// left stands at the socket's path; `NoMemory` or `CannotOpenSink` for the connections to a peer;
+/// `CannotWrite` for the record, which may be none of the run's other files; `SocketFault` where
+/// the control socket, and then the socket, can't be bound; `CannotWrite` or `NoMemory` for the
+/// record's beginning; `SocketFault` where a thread can't be started; `NoMemory` or `CannotWrite`
+/// for the record at its end; `NoMemory` for the report; `CannotWrite`; `Left` where the daemon was
+/// stopped, and something is left at clients or in rings.
 pub fn serve<'a, R, C, F, S, G>(rt: &R, plan: &Plan<'a>, blanks: Blanks) -> Result<(), Fault<'a>>
 where
     R: Runtime + AllocGlobal + Net + Dial + Threads + Wait + Sync + Files<File = File> + Log,
@@ -95,10 +106,11 @@ where
 {
     let bounds = bounds_of(plan)?;
     let windows = windows_of(rt, plan, bounds)?;
-    let signals = Signals::new(processors(rt));
-    let notices = Logged::new(rt, plan.log_level, CountedConsole::new(rt, &signals));
+    let signals = Signals::new(processors(rt), seconds_since_1970(rt));
+    let warns = plan.log_level != LevelFilter::Error;
+    let console = CountedConsole::new(rt, &signals, warns);
+    let notices = Logged::new(rt, counted_level(plan), console);
     tell_start(&notices, plan, &windows);
-    look_at_limit(rt, &notices, clients_of(plan), plan.workers);
     let made = new_domain::<R, C, F, S, G>(rt, plan, bounds, &windows, blanks);
     match made {
         Some((shared, posts)) => serve_domain(rt, plan, &notices, &signals, shared, posts),
@@ -110,6 +122,23 @@ where
 fn processors<R: Threads>(rt: &R) -> u64 {
     match available_parallelism(rt) {
         Ok(count) => count.get() as u64,
+        Err(_) => 0,
+    }
+}
+
+/// The level of the notices that are counted: warnings and graver ones at least, since those of
+/// flushes that failed are among them.
+fn counted_level(plan: &Plan<'_>) -> LevelFilter {
+    match plan.log_level {
+        LevelFilter::Error => LevelFilter::Warn,
+        level => level,
+    }
+}
+
+/// The time now, in seconds since the beginning of 1970; 0 where the system doesn't tell.
+fn seconds_since_1970<R: Clock>(rt: &R) -> u64 {
+    match rt.since_1970() {
+        Ok(time) => time.as_secs(),
         Err(_) => 0,
     }
 }
@@ -164,24 +193,36 @@ where
     ensures { IfErr result (IsFaultOfServing plan.now) }
 {
     let net = UnixNet::new(rt);
+    let clients = sessions_within(rt, notices, clients_of(plan), plan.workers);
     // its connections last until all is done: so whoever asked for a stop learns of the end
-    let control = Control::new(
-        rt,
-        notices,
-        signals,
-        plan.workers,
-        clients_of(plan),
-        plan.record.is_some(),
-    );
+    let control = Control::new(rt, notices, signals, facts_of(plan, clients));
     let run = Running {
         rt,
         notices,
         signals,
         control: &control,
         net: &net,
-        place: SinkPlace::of(rt, plan),
+        place: SinkPlace::of(plan),
+        clients,
     };
     serve_run(&run, plan, shared, posts)
+}
+
+/// What is so of the plan's daemon, which serves so many sessions at a time.
+fn facts_of(plan: &Plan<'_>, clients: u64) -> Facts {
+    let mut facts = Facts::new(VERSION, plan.workers);
+    facts.clients = clients;
+    facts.has_peer = has_peer(plan);
+    facts.is_recorded = plan.record.is_some();
+    facts
+}
+
+/// Whether a peer answers.
+fn has_peer(plan: &Plan<'_>) -> bool {
+    match plan.sink {
+        SinkPath::Peer(_) => true,
+        SinkPath::File(_) => false,
+    }
 }
 
 /// The same, with what lasts as long as the run.
@@ -232,13 +273,35 @@ where
     ensures { IfOk result (λ r. AreOfAllSeats r.0.shared
         (map (λ p. p.seat.worker) r.0.posts.items)) }
 {
-    match open_all(run, plan, plan.workers as usize + 1) {
+    let is_new = is_new_file(run.rt, plan);
+    let served = match open_all(run, plan, plan.workers as usize + 1) {
         Ok((sinks, record)) => serve_recorded(run, plan, shared, posts, sinks, record),
         Err(why) => {
             drop(posts);
             drop(shared);
             Err(why)
         }
+    };
+    if is_new && served.is_err() {
+        remove_new_file(run.rt, plan);
+    }
+    served
+}
+
+/// Whether nothing stands yet at the path of a file that takes records.
+fn is_new_file<R: Files<File = File>>(rt: &R, plan: &Plan<'_>) -> bool {
+    match plan.sink {
+        SinkPath::Peer(_) => false,
+        SinkPath::File(path) => MadeFile::at(rt, path).is_none(),
+    }
+}
+
+/// Removes the file that takes records, where one stands there.
+fn remove_new_file<R: Files<File = File>>(rt: &R, plan: &Plan<'_>) {
+    if let SinkPath::File(path) = plan.sink
+        && let Some(made) = MadeFile::at(rt, path)
+    {
+        made.remove(rt);
     }
 }
 
@@ -263,28 +326,46 @@ where
         (map (λ p. p.seat.worker) r.0.posts.items)) }
 {
     let mut record = record;
-    match begin(run, plan, &shared, &mut record) {
-        Ok(listener) => match serve_opened(run, plan, shared, posts, sinks, listener) {
-            Ok(served) => Ok((served, record)),
-            Err(why) => Err(why),
-        },
+    let served = match begin(run, plan, &shared, &mut record) {
+        Ok(sockets) => serve_opened(run, plan, shared, posts, sinks, sockets),
         Err(why) => {
             drop(sinks);
             drop(posts);
             drop(shared);
             Err(why)
         }
+    };
+    match served {
+        Ok(served) => Ok((served, record)),
+        Err(why) => {
+            undo(run.rt, &record);
+            Err(why)
+        }
     }
 }
 
-/// Begins the record, and listens on the sockets. Refused by `CannotWrite` and `NoMemory`, and by
-/// `SocketFault`.
-fn begin<'a, Q, R, C, F, S, G>(
+/// Removes the record's file, where it was made here.
+fn undo<R: Files<File = File>>(rt: &R, record: &Option<RecordFile<'_>>) {
+    if let Some(file) = record {
+        file.undo(rt);
+    }
+}
+
+/// The daemon's sockets: the service's, and the file of the control socket, where there is one.
+#[derive(Drop)]
+struct Sockets<'a> {
+    service: Listening<'a>,
+    control: Option<MadeFile<'a>>,
+}
+
+/// Listens on the sockets, and begins the record. Refused by `SocketFault`, and by `CannotWrite`
+/// and `NoMemory`: then nothing of the sockets is left.
+fn begin<'a, 'p, Q, R, C, F, S, G>(
     run: &Running<'a, R>,
-    plan: &Plan<'_>,
+    plan: &Plan<'p>,
     shared: &Shared<Q, C, F, S, G>,
     record: &mut Option<RecordFile<'_>>,
-) -> Result<UnixListener, Hindrance>
+) -> Result<Sockets<'p>, Hindrance>
 where
     R: AllocGlobal + Clock + Eprint + Wait + Net + Files<File = File>,
     Q: Wait,
@@ -293,50 +374,57 @@ where
     S: Ledger,
     G: Ledger,
 {
-    write_record(run, shared, record)?;
-    listen_for_control(run, plan)?;
-    match listen(run.rt, run.notices, plan.socket, Access::Umask) {
-        Some(listener) => Ok(listener),
-        None => {
-            remove_control(run.rt, plan);
-            Err(Hindrance::SocketFault)
+    let control = listen_for_control(run, plan)?;
+    let Some(service) = listen(run.rt, run.notices, plan.socket, Access::Umask) else {
+        remove_control(run.rt, &control);
+        return Err(Hindrance::SocketFault);
+    };
+    match write_record(run, shared, record) {
+        Ok(()) => Ok(Sockets { service, control }),
+        Err(why) => {
+            service.file.remove(run.rt);
+            drop(service);
+            remove_control(run.rt, &control);
+            Err(why)
         }
     }
 }
 
-/// Listens on the control socket, where one is wanted, which only the same user may connect to.
-/// Refused by `SocketFault`.
-fn listen_for_control<'a, R: AllocGlobal + Clock + Eprint + Wait + Net + Files<File = File>>(
+/// Listens on the control socket, where one is wanted, which only the same user may connect to:
+/// gives its file. Refused by `SocketFault`.
+fn listen_for_control<'a, 'p, R: AllocGlobal + Clock + Eprint + Wait + Net + Files<File = File>>(
     run: &Running<'a, R>,
-    plan: &Plan<'_>,
-) -> Result<(), Hindrance> {
+    plan: &Plan<'p>,
+) -> Result<Option<MadeFile<'p>>, Hindrance> {
     let Some(path) = plan.control else {
-        return Ok(());
+        return Ok(None);
     };
     match listen(run.rt, run.notices, path, Access::Private) {
-        Some(listener) => {
+        Some(listening) => {
+            let (listener, file) = listening.into_parts();
             run.control.listen(run.rt.alloc(), listener);
-            Ok(())
+            Ok(Some(file))
         }
         None => Err(Hindrance::SocketFault),
     }
 }
 
 /// Removes the control socket's file, where there is one.
-fn remove_control<R: Files<File = File>>(rt: &R, plan: &Plan<'_>) {
-    if let Some(path) = plan.control {
-        remove(rt, path);
+fn remove_control<R: Files<File = File>>(rt: &R, file: &Option<MadeFile<'_>>) {
+    if let Some(file) = file {
+        file.remove(rt);
     }
 }
 
 /// Serves the plan's sessions on this socket, with these sinks, which posts share.
+#[tactic(auto, using(crate::proofs::Sends::backoff_send, crate::proofs::Sends::either_send))]
 fn serve_opened<'a, R, C, F, S, G>(
     run: &Running<'a, R>,
     plan: &Plan<'_>,
     shared: Shared<&'a R, C, F, S, G>,
     posts: Vec<Post<C, F, S, G>>,
     sinks: Vec<DaemonSink<'a, UnixNet<'a, R>>>,
-    listener: UnixListener,
+    sockets: Sockets<'_>,
 ) -> Result<Served<&'a R, C, F, S, G>, Hindrance>
 where
     R: Runtime + AllocGlobal + Net + Dial + Threads + Wait + Sync + Files<File = File>,
@@ -349,14 +437,29 @@ where
     ensures { IfOk result (λ r. AreOfAllSeats r.shared
         (map (λ p. p.seat.worker) r.posts.items)) }
 {
+    // for the proof: what a sink is made of may go to its thread
+    is_send::<SocketChannel<'a, UnixNet<'a, R>>>();
+    is_send::<ChannelSink<SocketChannel<'a, UnixNet<'a, R>>>>();
+    is_send::<RecordSink<FileDevice>>();
     match share_all(run.rt.alloc(), sinks) {
-        Some(held) => serve_held(run, plan, shared, posts, &held, listener),
+        Some(held) => serve_held(run, plan, shared, posts, &held, sockets),
         None => {
             drop(posts);
             drop(shared);
+            forget_sockets(run.rt, sockets);
             Err(Hindrance::NoMemory)
         }
     }
+}
+
+fn is_send<T: Send>()
+    ensures { IsSend T.row }
+{}
+
+/// Removes the files of the sockets.
+fn forget_sockets<R: Files<File = File>>(rt: &R, sockets: Sockets<'_>) {
+    sockets.service.file.remove(rt);
+    remove_control(rt, &sockets.control);
 }
 
 /// The same with these sinks, of any kind.
@@ -366,7 +469,7 @@ fn serve_held<'a, R, C, F, S, G, D>(
     shared: Shared<&'a R, C, F, S, G>,
     posts: Vec<Post<C, F, S, G>>,
     held: &[SharedSink<D>],
-    listener: UnixListener,
+    sockets: Sockets<'_>,
 ) -> Result<Served<&'a R, C, F, S, G>, Hindrance>
 where
     R: Runtime + AllocGlobal + Net + Dial + Threads + Wait + Sync + Files<File = File>,
@@ -381,10 +484,11 @@ where
         (map (λ p. p.seat.worker) r.posts.items)) }
 {
     match sinks_in_turn(run.rt, run.rt.alloc(), held, posts.len()) {
-        Some(sinks) => serve_in_turn(run, plan, shared, posts, sinks, listener),
+        Some(sinks) => serve_in_turn(run, plan, shared, posts, sinks, sockets),
         None => {
             drop(posts);
             drop(shared);
+            forget_sockets(run.rt, sockets);
             Err(Hindrance::NoMemory)
         }
     }
@@ -397,7 +501,7 @@ fn serve_in_turn<'a, R, C, F, S, G, D>(
     shared: Shared<&'a R, C, F, S, G>,
     posts: Vec<Post<C, F, S, G>>,
     sinks: Vec<D>,
-    listener: UnixListener,
+    sockets: Sockets<'_>,
 ) -> Result<Served<&'a R, C, F, S, G>, Hindrance>
 where
     R: Runtime + AllocGlobal + Net + Dial + Threads + Wait + Sync + Files<File = File>,
@@ -412,23 +516,21 @@ where
         (map (λ p. p.seat.worker) r.posts.items)) }
 {
     let rt = run.rt;
+    let Sockets { service, control } = sockets;
+    let (listener, file) = service.into_parts();
     let accept = SocketAccept::new(
         rt,
         run.notices,
-        plan.socket,
+        file,
         listener,
         run.signals,
         patience_of(plan),
     );
-    let served = if plan.turns {
-        serve_turns(run, plan, shared, posts, sinks, &accept)
-    } else {
-        serve_threads(run, plan, shared, posts, sinks, &accept)
-    };
+    let served = serve_threads(run, plan, shared, posts, sinks, &accept);
     // removes the socket's file, where the last session's accept has not
     accept.close();
     drop(accept);
-    remove_control(rt, plan);
+    remove_control(rt, &control);
     match served {
         Ok(served) => Ok(served),
         Err(Refusal::NoMemory) => Err(Hindrance::NoMemory),
@@ -436,7 +538,7 @@ where
     }
 }
 
-/// The same, where each session has a thread to itself.
+/// The same on what is accepted here.
 fn serve_threads<'a, R, C, F, S, G, D>(
     run: &Running<'a, R>,
     plan: &Plan<'_>,
@@ -478,47 +580,6 @@ where
     }
 }
 
-/// The same, where the sessions of a worker take turns on its thread.
-fn serve_turns<'a, R, C, F, S, G, D>(
-    run: &Running<'a, R>,
-    plan: &Plan<'_>,
-    shared: Shared<&'a R, C, F, S, G>,
-    posts: Vec<Post<C, F, S, G>>,
-    sinks: Vec<D>,
-    accept: &SocketAccept<'_, R, Notices<'_, R>>,
-) -> Result<Served<&'a R, C, F, S, G>, Refusal>
-where
-    R: Runtime + AllocGlobal + Net + Dial + Threads + Wait + Sync + Files<File = File>,
-    C: Ledger + Send + Sync,
-    F: Ledger + Send + Sync,
-    S: Ledger + Send + Sync,
-    G: Ledger + Send + Sync,
-    D: Sink + Send + Drop,
-    requires posts { AreNewSeats shared (map (λ p. p.seat) posts.items) }
-    requires sinks { vec_len sinks ≡ vec_len posts + 1 }
-    ensures { IfOk result (λ r. AreOfAllSeats r.shared
-        (map (λ p. p.seat.worker) r.posts.items)) }
-{
-    let service = service_of(run, plan);
-    let served = serve_in_turns::<
-        R,
-        &R,
-        Notices<'_, R>,
-        C,
-        F,
-        S,
-        G,
-        SocketAccept<'_, R, Notices<'_, R>>,
-        D,
-        Ticks<'_, R>,
-        Control<'_, R, Notices<'_, R>>,
-    >(&service, shared, posts, sinks, accept, Ticks::new(run.rt));
-    match served {
-        Ok(served) => Ok(served),
-        Err(refusal) => Err(refusal),
-    }
-}
-
 /// How long a session's peer is waited for: in short turns, where the daemon may be asked to stop
 /// or a session may be idle for so long only.
 fn patience_of(plan: &Plan<'_>) -> Patience {
@@ -541,37 +602,38 @@ fn service_of<'a, R: AllocGlobal>(
 ) -> Service<'a, R, Notices<'a, R>, Control<'a, R, Notices<'a, R>>>
     ensures sessions { result.serving.sessions ≡ plan.now.sessions }
     ensures limits { result.serving.limits ≡ planned_limits plan.now.session_requests }
-    ensures clients { result.serving.clients ≡ unwrap_or plan.now.clients plan.now.workers }
+    ensures clients { result.serving.clients ≡ run.now.clients }
 {
     Service {
         rt: run.rt,
         alloc: run.rt.alloc(),
         notices: run.notices,
-        serving: serving_of(plan),
+        serving: serving_of(plan, run.clients),
         aside: run.control,
     }
 }
 
-/// The plan's sessions, and how much each may ask for.
-fn serving_of(plan: &Plan<'_>) -> Serving
+/// The plan's sessions, so many of them at a time, and how much each may ask for.
+fn serving_of(plan: &Plan<'_>, clients: u64) -> Serving
     ensures sessions { result.sessions ≡ plan.now.sessions }
     ensures limits { result.limits ≡ planned_limits plan.now.session_requests }
-    ensures clients { result.clients ≡ unwrap_or plan.now.clients plan.now.workers }
+    ensures clients { result.clients ≡ clients }
 {
     let limits = match plan.session_requests {
+        Some(0) => SessionLimits::of_requests(MAX_SESSION_REQUESTS),
         Some(requests) => SessionLimits::of_requests(requests),
         None => SessionLimits::usual(),
     };
     Serving {
         sessions: plan.sessions,
         limits,
-        clients: clients_of(plan),
+        clients,
     }
 }
 
-/// So many sinks, and the record's file where one is wanted, unless the socket's place is taken: so
-/// a daemon that serves there is not disturbed. Refused by `SocketFault`, `NoMemory`,
-/// `CannotOpenSink` and `CannotWrite`, in this order.
+/// So many sinks, and the record's file where one is wanted. Refused by `SocketFault` where the
+/// socket's place is taken, which a peer is not disturbed for, and else comes behind the sinks; by
+/// `NoMemory`, `CannotOpenSink` and `CannotWrite`.
 fn open_all<'a, 'p, R: AllocGlobal + Clock + Eprint + Net + Dial + Files<File = File>>(
     run: &Running<'a, R>,
     plan: &Plan<'p>,
@@ -580,16 +642,40 @@ fn open_all<'a, 'p, R: AllocGlobal + Clock + Eprint + Net + Dial + Files<File = 
     requires { 2 ≤ count }
     ensures { IfOk result (λ r. 2 ≤ vec_len r.0) }
 {
-    if !is_free(run.rt, run.notices, plan.socket) {
+    let has_peer = has_peer(plan);
+    if has_peer && !is_free(run.rt, run.notices, plan.socket) {
         return Err(Hindrance::SocketFault);
     }
+    if is_read_too(run, plan) {
+        return Err(Hindrance::CannotOpenSink);
+    }
     let sinks = open_sinks(run, plan.domain, count)?;
+    if !has_peer {
+        warn!(run.notices; target: "", "records only: no device answers");
+        if !is_free(run.rt, run.notices, plan.socket) {
+            drop(sinks);
+            return Err(Hindrance::SocketFault);
+        }
+    }
     match open_record(run, plan) {
         Ok(record) => Ok((sinks, record)),
         Err(why) => {
             drop(sinks);
             Err(why)
         }
+    }
+}
+
+/// Whether the file that takes records is that of the reserved regions; then it is told.
+fn is_read_too<'a, R: Clock + Eprint + Files<File = File>>(
+    run: &Running<'a, R>,
+    plan: &Plan<'_>,
+) -> bool {
+    match (plan.sink, plan.regions) {
+        (SinkPath::File(path), Some(name)) => {
+            is_in_use(run.rt, run.notices, path, path_of_input(name))
+        }
+        _ => false,
     }
 }
 
@@ -602,12 +688,13 @@ fn open_record<'a, 'p, R: Clock + Eprint + Files<File = File>>(
     let Some(path) = plan.record else {
         return Ok(None);
     };
+    let sink = plan.sink.path();
     let regions = match plan.regions {
         Some(name) => path_of_input(name),
-        // there is none: the sink once more
-        None => plan.sink,
+        // no other file is read
+        None => sink,
     };
-    match RecordFile::open(run.rt, run.notices, path, &[plan.sink, regions]) {
+    match RecordFile::open(run.rt, run.notices, path, &[sink, regions]) {
         Some(file) => Ok(Some(file)),
         None => Err(Hindrance::CannotWrite),
     }
@@ -635,8 +722,27 @@ where
     run.notices.flush();
     let domain = shared.into_domain();
     let told = tell(run.rt, plan, &domain, recorded);
+    let left = look_at_rest(run.signals, plan, &domain);
     drop(domain);
-    told
+    match (told, left) {
+        (Ok(()), Some(left)) => Err(Fault::Left(left)),
+        (told, _) => told,
+    }
+}
+
+/// What is left at clients and in rings of a daemon that was stopped, where anything is.
+fn look_at_rest(signals: &Signals, plan: &Plan<'_>, domain: &Domain) -> Option<Left> {
+    let frames = domain.counts().ring;
+    let clients = domain.clients() as u64;
+    if !signals.is_stopping() || (frames == 0 && clients == 0) {
+        return None;
+    }
+    Some(Left {
+        clients,
+        ranges: domain.totals().count,
+        frames,
+        has_peer: has_peer(plan),
+    })
 }
 
 /// Prints the domain, where the record was written.
@@ -802,7 +908,8 @@ where
     ensures { map (λ p. p.seat.worker) posts.new ≡ map (λ p. p.seat.worker) posts.old }
 {
     let stops = run.signals.is_stopping();
-    if !stops && !is_waited(posts) {
+    let is_queued = stops && keeper.stat().ring > 0;
+    if !is_queued && !is_waited(posts) {
         return;
     }
     if let Some(mut sink) = open_sink(
@@ -810,7 +917,7 @@ where
         run.notices,
         run.net,
         run.signals.hurry(),
-        run.place,
+        run.place.at_once(),
         None,
     ) {
         end_each(keeper, posts, &mut sink, stops);

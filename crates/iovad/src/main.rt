@@ -56,9 +56,13 @@ where
             log,
         } => replay(rt, path, has_report, log),
         Asked::Serve(plan) => serve_plan(rt, &plan),
-        Asked::Ask { path } => ask_at(rt, path, is_by_hand),
+        Asked::Ask { path, timeout } => ask_at(rt, path, timeout, is_by_hand),
         Asked::Check(plan) => check_planned(rt, &plan),
-        Asked::Control { path, word } => control(rt, path, word),
+        Asked::Control {
+            path,
+            word,
+            timeout,
+        } => control(rt, path, word, timeout),
     }
 }
 

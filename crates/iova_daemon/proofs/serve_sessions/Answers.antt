@@ -6,8 +6,8 @@ use Rattle.iova_daemon.proofs.serve_sessions.Goals as goal
 pub serve_kept-served-requires-sync-W : goal.serve_kept-served-requires-sync-W
 serve_kept-served-requires-sync-W g c κs within =
     let domain = c.domains_are_sync.ensures in
-    let turns = c.turns_are_sync.ensures in
-    let admission = c.pools_are_sync.ensures in
+    let roster = c.rosters_are_sync.ensures in
+    let pool = c.pools_are_sync.ensures in
     let runtime = c.type_bounds.sync-R in
     let notices = c.type_bounds.sync-N in
     let accept = c.type_bounds.sync-A in

@@ -23,7 +23,7 @@ unread line word rest read none (event.End number ok) is e =
     let arguments = decimal number ∷ outcome_text ok ∷ [] in
     none verb.End (read (codes "end") (spaced_words arguments) refl (stops-spaced_words arguments) e).0
 unread line word rest read none (event.Flush range) is e = absurd is
-unread line word rest read none event.Other is e = absurd is
+unread line word rest read none (event.Other what) is e = absurd is
 
 pub returns-in-None-clause-read : goal.returns-in-None-clause-read
 returns-in-None-clause-read c = λ e good spelled.

@@ -6,12 +6,12 @@ use Rattle.iova_check.proofs.scan.find.Goals as goal
 pub loop-at-preserved : goal.loop-at-preserved
 loop-at-preserved c =
     let is : c.told.result ≡ None = search rules in
-    let next = c.end-at.ensures in
+    let next = c.skip-at.ensures in
     record {
       from = omega arith;
       within = next.within;
       none = λ f from under. elim (cases_lt f c.loop-at.at) [
         | inl below ↦ c.loop-at.invariant.none f from below
-        | inr above ↦ ap (since_of c.args.kind) (next.same f above under ∙ sym c.stage.ensures) ∙ (sym c.told.ensures ∙ is)
+        | inr above ↦ next.none f above under
       ];
     }

@@ -7,5 +7,6 @@ pub returns : goal.returns
 returns c =
     let new_is = new_command (codes "control") c.new.result c.about.result _ c.new.ensures.app c.new.ensures.local c.about.ensures in
     let helped_is = helped _ c.about.result c.after_help-command.result _ new_is c.after_help-command.ensures in
-    let path = with_one (new_app (codes "control")) _ (Ok c.after_help-command.result) c.with_arg.result c.place-path.result helped_is c.place-path.ensures.rule c.place-path.ensures.local c.with_arg.ensures in
-    with_one _ _ _ c.with_arg-2.result c.place-word.result path c.place-word.ensures.rule c.place-word.ensures.local c.with_arg-2.ensures
+    let timeout = with_one (new_app (codes "control")) _ (Ok c.after_help-command.result) c.with_arg.result c.optional_number-timeout.result helped_is c.optional_number-timeout.ensures.rule c.optional_number-timeout.ensures.local c.with_arg.ensures in
+    let path = with_one _ _ _ c.with_arg-2.result c.place-path.result timeout c.place-path.ensures.rule c.place-path.ensures.local c.with_arg-2.ensures in
+    with_one _ _ _ c.with_arg-3.result c.place-word.result path c.place-word.ensures.rule c.place-word.ensures.local c.with_arg-3.ensures

@@ -3,15 +3,19 @@ use Rattle.clap.specs.Words.{found_of}
 use Rattle.iova_command.proofs.Getters.{text_read, optional_text_read, flag_read}
 use Rattle.iova_command.proofs.words.asked_of_command.Goals as goal
 
-pub returns-in_ok-get_str-in-ask : goal.returns-in_ok-get_str-in-ask
-returns-in_ok-get_str-in-ask c =
-    (search rules, text_read (found_of c.args.found.now) _ c.get_str.result c.in_ok-get_str-in-ask.field-0 c.get_str.ensures c.in_ok-get_str-in-ask.was)
+pub returns-in_ok-optional-in-ask : goal.returns-in_ok-optional-in-ask
+returns-in_ok-optional-in-ask c = (
+  search rules,
+  text_read (found_of c.args.found.now) _ c.get_str.result c.in_ok-get_str-in-ask.field-0 c.get_str.ensures c.in_ok-get_str-in-ask.was,
+  c.in_ok-optional-in-ask.ensures.read,
+)
 
-pub returns-in_ok-control_word-in-control : goal.returns-in_ok-control_word-in-control
-returns-in_ok-control_word-in-control c = (
+pub returns-in_ok-optional-in-control : goal.returns-in_ok-optional-in-control
+returns-in_ok-optional-in-control c = (
   search rules,
   text_read (found_of c.args.found.now) _ c.get_str-in-control.result c.in_ok-get_str-in-control.field-0 c.get_str-in-control.ensures c.in_ok-get_str-in-control.was,
   c.in_ok-control_word-in-control.ensures,
+  c.in_ok-optional-in-control.ensures.read,
 )
 
 pub returns-in_ok-get_str-in_default : goal.returns-in_ok-get_str-in_default

@@ -3,7 +3,7 @@ use Rattle.iova_check.proofs.LineSteps.{line_taken, log_grows}
 use Rattle.iova_check.proofs.run.Progress.run_log_line.Goals as goal
 
 pub returns-in-Ok-clause-takes : goal.returns-in-Ok-clause-takes
-returns-in-Ok-clause-takes c = λ one.
+returns-in-Ok-clause-takes g c = λ one.
     let event = c.in-Some-read_event.event in
     let spelled = c.in-Some-read_event.ensures.spelled in
     line_taken c.args.source.now c.args.self.now _ c.args.line.now c.in-Some.checker c.check.new.self event

@@ -1,11 +1,9 @@
 use Rattle.std.proofs.Common.{ℕ, ◌≡◌, ◌≤◌, ◌<◌, ◌∙◌, false, ap, sym, arith}
-use Rattle.std.specs.BTreeMap.{get}
-use Rattle.std.specs.Ordering.{nat_cmp}
 use Rattle.iova_check.specs.declared.stage.Change.{Change}
 use Rattle.iova_check.specs.History.{with_change}
 use Rattle.iova_check.specs.Marks.{stage_at}
-use Rattle.iova_check.specs.StaleIndex.{is_stale}
-use Rattle.iova_check.proofs.Marks.{leaves, unstale_along}
+use Rattle.iova_check.specs.StageIndex.{is_stale}
+use Rattle.iova_check.proofs.Marks.{leaves}
 use Rattle.iova_check.proofs.stages.Stages.end_of_change.Goals as goal
 
 pub returns-in-Flushed : goal.returns-in-Flushed
@@ -15,7 +13,7 @@ returns-in-Flushed c =
     let here : is_stale (at c.args.frame) ≡ false = ap is_stale (sym c.stage.ensures) ∙ (sym c.is_stale.ensures ∙ c.if-not-is_stale.true) in
     let left : (f : ℕ) → c.args.frame ≤ f → f < c.next_stale.result → with_change c.args.change (at f) ≡ at f = λ f from under.
     ap (λ (x : Change). with_change x (at f)) c.in-Flushed.is ∙ leaves c.in-Flushed.field-0 (at f)
-    (unstale_along (get nat_cmp c.args.self.now.marks) c.args.frame f here from (λ q lt le. c.next_stale.ensures.none q lt (omega arith))) in
+    (c.next_stale.ensures.none here f from under) in
     record {
       after = after;
       within = c.next_stale.ensures.within;
