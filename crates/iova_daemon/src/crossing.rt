@@ -11,7 +11,7 @@ use crate::roster::Roster;
 use iova_lock::crossing::books_are_send;
 use iova_lock::shared::Shared;
 use iova_session::post::Post;
-use std::sync::ledger::Ledger;
+use iova_keep::names::Names;
 
 fn is_send<T: Send>()
     ensures { IsSend T.row }
@@ -22,30 +22,23 @@ fn is_sync<T: Sync>()
 {}
 
 /// A post may go to another thread.
-pub(crate) fn posts_are_send<C: Ledger, F: Ledger, S: Ledger, G: Ledger>()
+pub(crate) fn posts_are_send<B: Names>()
 where
-    C: Send,
-    F: Send,
-    S: Send,
-    G: Send,
-    ensures { IsSend (posts.the_row C.row F.row S.row G.row C.Ledger F.Ledger S.Ledger G.Ledger) }
+    B: Send,
+    ensures { IsSend (posts.the_row B.row B.Names) }
 {
-    is_send::<Post<C, F, S, G>>();
+    is_send::<Post<B>>();
 }
 
 /// Threads may share a domain under its lock.
-pub(crate) fn domains_are_sync<Q, C: Ledger, F: Ledger, S: Ledger, G: Ledger>()
+pub(crate) fn domains_are_sync<Q, B: Names>()
 where
     Q: Sync,
-    C: Send,
-    F: Send,
-    S: Send,
-    G: Send,
-    ensures { IsSync (domains.the_row Q.row C.row F.row S.row G.row C.Ledger F.Ledger S.Ledger
-        G.Ledger) }
+    B: Send,
+    ensures { IsSync (domains.the_row Q.row B.row B.Names) }
 {
-    books_are_send::<C, F, S, G>();
-    is_sync::<Shared<Q, C, F, S, G>>();
+    books_are_send::<B>();
+    is_sync::<Shared<Q, B>>();
 }
 
 /// Threads may share their roster.

@@ -11,7 +11,7 @@ use iova_session::post::Post;
 use iova_sink::sink::Sink;
 use log::{Log, warn};
 use std::sync::Wait;
-use std::sync::ledger::Ledger;
+use iova_keep::names::Names;
 
 /// So many frames in rings, at least, let the flusher think that a ring may soon be full.
 const FLUSH_AHEAD: u64 = 128;
@@ -25,11 +25,11 @@ const LOOKS: u64 = 64;
 
 /// What the flusher has: a keeper of the domain, a tally and a sink of its own, and its pauses.
 #[derive(Drop)]
-pub(crate) struct Flusher<'e, R, N, K, G: Ledger, D, P> {
+pub(crate) struct Flusher<'e, R, N, K, B: Names, D, P> {
     pub rt: &'e R,
     pub notices: &'e N,
     pub keeper: K,
-    pub tally: Tally<G>,
+    pub tally: Tally<B>,
     pub sink: D,
     pub pause: P,
     pub roster: &'e Roster,
@@ -56,15 +56,12 @@ impl Busy {
     }
 }
 
-impl<'e, R, N, C, F, S, G, K, D, P> SideTask<Post<C, F, S, G>> for Flusher<'e, R, N, K, G, D, P>
+impl<'e, R, N, B, K, D, P> SideTask<Post<B>> for Flusher<'e, R, N, K, B, D, P>
 where
     R: Wait,
     N: Log,
-    C: Ledger,
-    F: Ledger,
-    S: Ledger,
-    G: Ledger,
-    K: Keep<C, F, S, G>,
+    B: Names,
+    K: Keep<B>,
     D: Sink,
     P: Pause,
 {
@@ -128,10 +125,10 @@ fn rest_behind(round: Result<u64, Refusal>, rest: u64) -> u64 {
 /// at their next unmap; so rings in which as much waits as at the last flush made here have most
 /// likely nothing new. False where it ended early: where no look is to be made, where all workers
 /// have ended, and where a flush is refused, which is a notice.
-fn go_ahead<N, C, F, S, G, K, D, P>(
+fn go_ahead<N, B, K, D, P>(
     notices: &N,
     keeper: &mut K,
-    tally: &mut Tally<G>,
+    tally: &mut Tally<B>,
     sink: &mut D,
     pause: &mut P,
     roster: &Roster,
@@ -139,11 +136,8 @@ fn go_ahead<N, C, F, S, G, K, D, P>(
 ) -> bool
 where
     N: Log,
-    C: Ledger,
-    F: Ledger,
-    S: Ledger,
-    G: Ledger,
-    K: Keep<C, F, S, G>,
+    B: Names,
+    K: Keep<B>,
     D: Sink,
     P: Pause,
 {

@@ -32,17 +32,17 @@ use log::Log;
 use std::alloc::Global;
 use std::rt::Clock;
 use std::sync::Wait;
-use std::sync::ledger::Ledger;
+use iova_keep::names::Names;
 use std::thread::Threads;
 use threads::{Work, run_all};
 
 /// What serving leaves.
 #[derive(Drop)]
-pub struct Served<R, C: Ledger, F: Ledger, S: Ledger, G: Ledger> {
+pub struct Served<R, B: Names> {
     /// The domain under its lock.
-    pub shared: Shared<R, C, F, S, G>,
+    pub shared: Shared<R, B>,
     /// The posts, in the order in which they were given.
-    pub posts: Vec<Post<C, F, S, G>>,
+    pub posts: Vec<Post<B>>,
 }
 
 /// What is served.
@@ -72,25 +72,22 @@ pub struct Service<'a, R, N, X> {
 }
 
 /// Serves so many sessions on the domain, each within the usual limits: see `serve_sessions`.
-pub fn serve_on<R, Q, N, C, F, S, G, L, A, D, P>(
+pub fn serve_on<R, Q, N, B, L, A, D, P>(
     rt: &R,
     alloc: Global,
     notices: &N,
-    shared: Shared<Q, C, F, S, G>,
-    posts: Vec<Post<C, F, S, G>>,
+    shared: Shared<Q, B>,
+    posts: Vec<Post<B>>,
     sinks: Vec<D>,
     accept: &A,
     pause: P,
     sessions: u64,
-) -> Result<Served<Q, C, F, S, G>, Refusal>
+) -> Result<Served<Q, B>, Refusal>
 where
     R: Threads + Wait + Clock + Sync,
     Q: Wait + Sync + Drop,
     N: Log + Sync,
-    C: Ledger + Send + Sync,
-    F: Ledger + Send + Sync,
-    S: Ledger + Send + Sync,
-    G: Ledger + Send + Sync,
+    B: Names + Send + Sync,
     L: Link + Send + Drop,
     A: Accept<L> + Sync,
     D: Sink + Send + Drop,
@@ -114,7 +111,7 @@ where
         },
         aside: &NothingAside,
     };
-    serve_sessions::<R, Q, N, C, F, S, G, L, A, D, P, NothingAside>(
+    serve_sessions::<R, Q, N, B, L, A, D, P, NothingAside>(
         &service, shared, posts, sinks, accept, pause,
     )
 }
@@ -150,22 +147,19 @@ where
 ///
 /// Refused by `LinkFault` where a thread can't be started: then no link has been accepted, and
 /// those that were started are joined. Refused by `NoMemory` before the first one is started.
-pub fn serve_sessions<R, Q, N, C, F, S, G, L, A, D, P, X>(
+pub fn serve_sessions<R, Q, N, B, L, A, D, P, X>(
     service: &Service<'_, R, N, X>,
-    shared: Shared<Q, C, F, S, G>,
-    posts: Vec<Post<C, F, S, G>>,
+    shared: Shared<Q, B>,
+    posts: Vec<Post<B>>,
     sinks: Vec<D>,
     accept: &A,
     pause: P,
-) -> Result<Served<Q, C, F, S, G>, Refusal>
+) -> Result<Served<Q, B>, Refusal>
 where
     R: Threads + Wait + Clock + Sync,
     Q: Wait + Sync + Drop,
     N: Log + Sync,
-    C: Ledger + Send + Sync,
-    F: Ledger + Send + Sync,
-    S: Ledger + Send + Sync,
-    G: Ledger + Send + Sync,
+    B: Names + Send + Sync,
     L: Link + Send + Drop,
     A: Accept<L> + Sync,
     D: Sink + Send + Drop,
@@ -180,7 +174,7 @@ where
     ensures refusal { IfErr result IsServeRefusal }
 {
     // for the proof: what threads may share
-    domains_are_sync::<Q, C, F, S, G>();
+    domains_are_sync::<Q, B>();
     rosters_are_sync();
     pools_are_sync::<L>();
     let mut sinks = sinks;
@@ -202,12 +196,9 @@ where
     let served = serve_kept::<
         R,
         N,
-        C,
-        F,
-        S,
-        G,
-        &Shared<Q, C, F, S, G>,
-        WorkerContext<&R, &N, &Shared<Q, C, F, S, G>, &A, &Roster, &Pool<L>, &X>,
+        B,
+        &Shared<Q, B>,
+        WorkerContext<&R, &N, &Shared<Q, B>, &A, &Roster, &Pool<L>, &X>,
         L,
         D,
         D,
@@ -219,24 +210,21 @@ where
 
 /// Serves at the posts with what their threads are lent and given, and flushes beside them with
 /// this sink: gives the posts back.
-fn serve_kept<R, N, C, F, S, G, K, W, L, E, D, P, X>(
+fn serve_kept<R, N, B, K, W, L, E, D, P, X>(
     service: &Service<'_, R, N, X>,
     keeper: K,
     context: &W,
-    posts: Vec<Post<C, F, S, G>>,
+    posts: Vec<Post<B>>,
     gears: Vec<E>,
     sink: D,
     pause: P,
-) -> Result<Vec<Post<C, F, S, G>>, Refusal>
+) -> Result<Vec<Post<B>>, Refusal>
 where
     R: Threads + Wait,
     N: Log,
-    C: Ledger + Send + Sync,
-    F: Ledger + Send + Sync,
-    S: Ledger + Send + Sync,
-    G: Ledger + Send + Sync,
-    K: Keep<C, F, S, G> + Drop,
-    W: Work<Post<C, F, S, G>, E, L> + Sync,
+    B: Names + Send + Sync,
+    K: Keep<B> + Drop,
+    W: Work<Post<B>, E, L> + Sync,
     E: Send + Drop,
     D: Sink + Drop,
     P: Pause + Drop,
@@ -248,7 +236,7 @@ where
     ensures refusal { IfErr result IsServeRefusal }
 {
     // for the proof: what a worker has may go to its thread
-    posts_are_send::<C, F, S, G>();
+    posts_are_send::<B>();
     let mut posts = posts;
     let mut flusher = Flusher {
         rt: service.rt,
@@ -261,7 +249,7 @@ where
         busy: Busy::new(),
         rest: 0,
     };
-    run_all::<R, W, Post<C, F, S, G>, E, L, Flusher<'_, R, N, K, G, NotingSink<'_, D, N>, P>>(
+    run_all::<R, W, Post<B>, E, L, Flusher<'_, R, N, K, G, NotingSink<'_, D, N>, P>>(
         service.rt,
         context,
         posts,
@@ -271,10 +259,10 @@ where
 }
 
 /// The domain, and the posts where nothing was refused.
-fn give_back<Q: Drop, C: Ledger, F: Ledger, S: Ledger, G: Ledger>(
-    shared: Shared<Q, C, F, S, G>,
-    posts: Result<Vec<Post<C, F, S, G>>, Refusal>,
-) -> Result<Served<Q, C, F, S, G>, Refusal>
+fn give_back<Q: Drop, B: Names>(
+    shared: Shared<Q, B>,
+    posts: Result<Vec<Post<B>>, Refusal>,
+) -> Result<Served<Q, B>, Refusal>
     ensures served { IfOk result (λ s. (s.shared ≡ shared) × (posts ≡ Ok s.posts)) }
     ensures refusal { IfErr result (λ e. posts ≡ Err e) }
 {

@@ -21,9 +21,9 @@ use std::alloc::Global;
 use std::io;
 use std::rt::Clock;
 use std::sync::Wait;
-use std::sync::ledger::Ledger;
+use iova_keep::names::Names;
 
-impl<C: Ledger, F: Ledger, S: Ledger, G: Ledger> Place for Post<C, F, S, G> {
+impl<B: Names> Place for Post<B> {
     ghost worker = { λ p. p.seat.worker };
 
     fn worker(&self) -> u64 {
@@ -45,23 +45,20 @@ pub(crate) struct WorkerContext<R, N, K, A, T, H, X> {
     pub aside: X,
 }
 
-impl<'e, R, N, C, F, S, G, K, L, A, D, X> Work<Post<C, F, S, G>, D, L>
+impl<'e, R, N, B, K, L, A, D, X> Work<Post<B>, D, L>
     for WorkerContext<&'e R, &'e N, K, &'e A, &'e Roster, &'e Pool<L>, &'e X>
 where
     R: Wait + Clock,
     N: Log,
-    C: Ledger,
-    F: Ledger,
-    S: Ledger,
-    G: Ledger,
-    K: Keep<C, F, S, G> + Look + Copy,
+    B: Names,
+    K: Keep<B> + Look + Copy,
     L: Link + Drop,
     A: Accept<L>,
     D: Sink + Drop,
     X: Aside,
 {
     /// Waits at the gate, and then serves sessions at the post until none is to come.
-    fn work(&self, place: Post<C, F, S, G>, sink: D) -> Post<C, F, S, G> {
+    fn work(&self, place: Post<B>, sink: D) -> Post<B> {
         let mut post = place;
         let mut keeper = self.keeper;
         let mut sink = NotingSink::new(sink, self.notices);
@@ -100,20 +97,17 @@ where
 /// Serves sessions at the post until none is to come. Its waiting clients are tried again before
 /// each wait in the pool, where it waits for a second at most while there are any: so a post that
 /// rests tries them about once a second, and before it takes a session.
-fn serve_slot<R, N, C, F, S, G, K, L, A, D, X>(
+fn serve_slot<R, N, B, K, L, A, D, X>(
     context: &WorkerContext<&R, &N, K, &A, &Roster, &Pool<L>, &X>,
     keeper: &mut K,
-    post: &mut Post<C, F, S, G>,
+    post: &mut Post<B>,
     sink: &mut NotingSink<'_, D, N>,
 )
 where
     R: Wait + Clock,
     N: Log,
-    C: Ledger,
-    F: Ledger,
-    S: Ledger,
-    G: Ledger,
-    K: Keep<C, F, S, G>,
+    B: Names,
+    K: Keep<B>,
     L: Link + Drop,
     A: Accept<L>,
     D: Sink,
@@ -138,10 +132,10 @@ where
 
 /// Serves a session at the post, whose slot has told of so many waiting clients; gives of how many
 /// it has told then.
-fn serve_accepted<R, N, C, F, S, G, K, L, A, D, X>(
+fn serve_accepted<R, N, B, K, L, A, D, X>(
     context: &WorkerContext<&R, &N, K, &A, &Roster, &Pool<L>, &X>,
     keeper: &mut K,
-    post: &mut Post<C, F, S, G>,
+    post: &mut Post<B>,
     sink: &mut NotingSink<'_, D, N>,
     accepted: Accepted<L>,
     slot: u64,
@@ -150,11 +144,8 @@ fn serve_accepted<R, N, C, F, S, G, K, L, A, D, X>(
 where
     R: Wait + Clock,
     N: Log,
-    C: Ledger,
-    F: Ledger,
-    S: Ledger,
-    G: Ledger,
-    K: Keep<C, F, S, G>,
+    B: Names,
+    K: Keep<B>,
     L: Link + Drop,
     A: Accept<L>,
     D: Sink,
@@ -191,10 +182,10 @@ pub(crate) fn go_aside<R: Wait, X: Aside, K: Look>(rt: &R, roster: &Roster, asid
 }
 
 /// Tries the post's waiting clients again, unless another slot of its worker does so.
-pub(crate) fn try_again<C: Ledger, F: Ledger, S: Ledger, G: Ledger, K: Keep<C, F, S, G>, D: Sink>(
+pub(crate) fn try_again<B: Names, K: Keep<B>, D: Sink>(
     roster: &Roster,
     keeper: &mut K,
-    post: &mut Post<C, F, S, G>,
+    post: &mut Post<B>,
     sink: &mut D,
 )
     ensures worker { post.new.seat.worker ≡ post.old.seat.worker }

@@ -12,15 +12,15 @@ use iova_model::step::{ClientId, Reply, Step};
 use iova_range::range::Range;
 use iova_range::refusal::Refusal;
 use iova_sink::sink::Sink;
-use std::sync::ledger::Ledger;
+use crate::names::Names;
 
 /// Begins a flush, calls the sink, and ends the flush as the sink answered. It gives the flush's
 /// number, which the sink was told with the domain's in its last call. Refused by `FlightsFull` and
 /// `Worn` where none begins, and then the sink isn't called; by `SinkFault` where the sink failed.
 /// Linux 5.15 drivers/iommu/iova.c: fq_flush_iotlb; failures are our own.
-pub fn flush<C: Ledger, F: Ledger, S: Ledger, G: Ledger, K: Keep<C, F, S, G>, D: Sink>(
+pub fn flush<B: Names, K: Keep<B>, D: Sink>(
     keeper: &mut K,
-    tally: &mut Tally<G>,
+    tally: &mut Tally<B>,
     sink: &mut D,
 ) -> Result<u64, Refusal>
     ensures domain { WhereKnown (K.domain keeper.old) (K.domain keeper.new)
@@ -58,9 +58,9 @@ pub fn flush<C: Ledger, F: Ledger, S: Ledger, G: Ledger, K: Keep<C, F, S, G>, D:
 /// ring for a flush. Where the ring is full, it flushes and tries once more. Refused by `NoClient`,
 /// `Closing` and `NotHeld`, and by `RingFull` where the ring stays full or no flush begins; then
 /// the range is still the client's.
-pub fn unmap<C: Ledger, F: Ledger, S: Ledger, G: Ledger, K: Keep<C, F, S, G>, D: Sink>(
+pub fn unmap<B: Names, K: Keep<B>, D: Sink>(
     keeper: &mut K,
-    seat: &mut Seat<C, F, S, G>,
+    seat: &mut Seat<B>,
     sink: &mut D,
     id: ClientId,
     lo: u64,
@@ -94,9 +94,9 @@ pub fn unmap<C: Ledger, F: Ledger, S: Ledger, G: Ledger, K: Keep<C, F, S, G>, D:
 /// rings empty it gives 0 and the sink isn't called. Refused by `FlightsFull`, `Worn` and
 /// `SinkFault`; then nothing is drained. Linux 5.15 drivers/iommu/iova.c: fq_flush_timeout; the
 /// test for entries is our own.
-pub fn timeout<C: Ledger, F: Ledger, S: Ledger, G: Ledger, K: Keep<C, F, S, G>, D: Sink>(
+pub fn timeout<B: Names, K: Keep<B>, D: Sink>(
     keeper: &mut K,
-    tally: &mut Tally<G>,
+    tally: &mut Tally<B>,
     sink: &mut D,
 ) -> Result<u64, Refusal>
     ensures domain { WhereKnown (K.domain keeper.old) (K.domain keeper.new)

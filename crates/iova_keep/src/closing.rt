@@ -14,16 +14,16 @@ use crate::seat::Seat;
 use iova_model::step::{ClientId, Reply, Step};
 use iova_range::refusal::Refusal;
 use iova_sink::sink::Sink;
-use std::sync::ledger::Ledger;
+use crate::names::Names;
 
 /// Ends a client: it is closing from now on, and its ranges are unmapped, lowest first, until it is
 /// gone. Where the worker's ring is full it flushes and goes on. `Waiting` where the ring stays
 /// full right after a flush, where none can begin, or where a share would fall below 0; the client
 /// stays closing then, keeps what is left, and may be ended again. Refused by `NoClient`; then
 /// nothing has changed.
-pub fn end_client<C: Ledger, F: Ledger, S: Ledger, G: Ledger, K: Keep<C, F, S, G>, D: Sink>(
+pub fn end_client<B: Names, K: Keep<B>, D: Sink>(
     keeper: &mut K,
-    seat: &mut Seat<C, F, S, G>,
+    seat: &mut Seat<B>,
     sink: &mut D,
     id: ClientId,
 ) -> Result<Ending, Refusal>
@@ -56,9 +56,9 @@ struct LastHold {
 }
 
 /// Calls the sink for the flush, ends it and goes on closing, until a hold begins no other flush.
-fn close_rest<C: Ledger, F: Ledger, S: Ledger, G: Ledger, K: Keep<C, F, S, G>, D: Sink>(
+fn close_rest<B: Names, K: Keep<B>, D: Sink>(
     keeper: &mut K,
-    seat: &mut Seat<C, F, S, G>,
+    seat: &mut Seat<B>,
     sink: &mut D,
     id: ClientId,
     no: u64,

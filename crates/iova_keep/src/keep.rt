@@ -20,7 +20,7 @@ use iova_range::limits::MAX_RUN;
 use iova_range::range::Range;
 use iova_range::refusal::Refusal;
 use iova_range::stat::Stat;
-use std::sync::ledger::Ledger;
+use crate::names::Names;
 
 /// What one hold of a longer call heard.
 #[derive(Drop)]
@@ -40,7 +40,7 @@ pub struct Heard {
 ///
 /// Where the domain is known, a call says what it leaves. Of every keeper a call says what it
 /// answers and how it moves the seat's shares and tally.
-pub trait Keep<C: Ledger, F: Ledger, S: Ledger, G: Ledger> {
+pub trait Keep<B: Names> {
     /// The domain, where that is known.
     ghost domain: { Self → Option State };
 
@@ -71,7 +71,7 @@ pub trait Keep<C: Ledger, F: Ledger, S: Ledger, G: Ledger> {
 
     /// Opens a client of the seat's worker, which is first sought places below 4 GiB where it is
     /// `sac`. Refused by `Worn`, `ClientsFull` and `NoMemory`; then nothing has changed.
-    fn open(&mut self, seat: &mut Seat<C, F, S, G>, sac: bool) -> Result<ClientId, Refusal>
+    fn open(&mut self, seat: &mut Seat<B>, sac: bool) -> Result<ClientId, Refusal>
         ensures same { identity self.new ≡ identity self.old }
         ensures log { GoesOn (log self.old) (log self.new) }
         ensures domain { WhereKnown (domain self.old) (domain self.new)
@@ -84,7 +84,7 @@ pub trait Keep<C: Ledger, F: Ledger, S: Ledger, G: Ledger> {
     /// client has nothing new.
     fn alloc(
         &mut self,
-        seat: &mut Seat<C, F, S, G>,
+        seat: &mut Seat<B>,
         id: ClientId,
         frames: u64,
         limit: u64,
@@ -98,7 +98,7 @@ pub trait Keep<C: Ledger, F: Ledger, S: Ledger, G: Ledger> {
         ensures rest { MovesSharesAlone seat.old seat.new };
 
     /// The first hold of an unmap: an unmap; where the ring is full, a flush begins.
-    fn unmap_first(&mut self, seat: &mut Seat<C, F, S, G>, id: ClientId, lo: u64) -> Heard
+    fn unmap_first(&mut self, seat: &mut Seat<B>, id: ClientId, lo: u64) -> Heard
         ensures same { identity self.new ≡ identity self.old }
         ensures log { GoesOn (log self.old) (log self.new) }
         ensures domain { WhereKnown (domain self.old) (domain self.new)
@@ -114,7 +114,7 @@ pub trait Keep<C: Ledger, F: Ledger, S: Ledger, G: Ledger> {
     /// `ok` is what a sink answered for this flush.
     fn unmap_again(
         &mut self,
-        seat: &mut Seat<C, F, S, G>,
+        seat: &mut Seat<B>,
         id: ClientId,
         lo: u64,
         no: u64,
@@ -134,7 +134,7 @@ pub trait Keep<C: Ledger, F: Ledger, S: Ledger, G: Ledger> {
         ensures begun { result.begun ≡ None };
 
     /// The first hold of a flush: it begins. Refused by `FlightsFull` and `Worn`.
-    fn begin(&mut self, tally: &mut Tally<G>) -> Heard
+    fn begin(&mut self, tally: &mut Tally<B>) -> Heard
         ensures same { identity self.new ≡ identity self.old }
         ensures log { GoesOn (log self.old) (log self.new) }
         ensures domain { WhereKnown (domain self.old) (domain self.new) (Begins result.begun) }
@@ -144,7 +144,7 @@ pub trait Keep<C: Ledger, F: Ledger, S: Ledger, G: Ledger> {
 
     /// The second hold of a flush: it ends, as `ok` says. Refused by `NoFlight`. `ok` is what a
     /// sink answered for this flush.
-    fn end(&mut self, tally: &mut Tally<G>, no: u64, ok: bool) -> Heard
+    fn end(&mut self, tally: &mut Tally<B>, no: u64, ok: bool) -> Heard
         ensures same { identity self.new ≡ identity self.old }
         ensures log { GoesOn (log self.old) (log self.new) }
         ensures domain { WhereKnown (domain self.old) (domain self.new) (Ends no ok result.reply) }
@@ -156,7 +156,7 @@ pub trait Keep<C: Ledger, F: Ledger, S: Ledger, G: Ledger> {
 
     /// The first hold of a client's end: its ranges are queued, lowest first, until it is gone or a
     /// step is refused; where the ring is full, a flush begins.
-    fn close_first(&mut self, seat: &mut Seat<C, F, S, G>, id: ClientId) -> Heard
+    fn close_first(&mut self, seat: &mut Seat<B>, id: ClientId) -> Heard
         ensures same { identity self.new ≡ identity self.old }
         ensures log { GoesOn (log self.old) (log self.new) }
         ensures domain { WhereKnown (domain self.old) (domain self.new)
@@ -171,7 +171,7 @@ pub trait Keep<C: Ledger, F: Ledger, S: Ledger, G: Ledger> {
     /// A further hold of a client's end: the flush ends, as `ok` says, and then as the first one;
     /// but where the ring is full before a range was queued, no flush begins. `ok` is what a sink
     /// answered for this flush.
-    fn close_again(&mut self, seat: &mut Seat<C, F, S, G>, id: ClientId, no: u64, ok: bool) -> Heard
+    fn close_again(&mut self, seat: &mut Seat<B>, id: ClientId, no: u64, ok: bool) -> Heard
         ensures same { identity self.new ≡ identity self.old }
         ensures log { GoesOn (log self.old) (log self.new) }
         ensures domain { WhereKnown (domain self.old) (domain self.new)
@@ -187,7 +187,7 @@ pub trait Keep<C: Ledger, F: Ledger, S: Ledger, G: Ledger> {
 
     /// The first hold of a release: an unmap; where the ring is full, or a range was queued in a
     /// strict domain, a flush begins.
-    fn release_first(&mut self, seat: &mut Seat<C, F, S, G>, id: ClientId, lo: u64) -> Heard
+    fn release_first(&mut self, seat: &mut Seat<B>, id: ClientId, lo: u64) -> Heard
         ensures same { identity self.new ≡ identity self.old }
         ensures log { GoesOn (log self.old) (log self.new) }
         ensures domain { WhereKnown (domain self.old) (domain self.new)
@@ -204,7 +204,7 @@ pub trait Keep<C: Ledger, F: Ledger, S: Ledger, G: Ledger> {
     /// `ok` is what a sink answered for the first one.
     fn release_again(
         &mut self,
-        seat: &mut Seat<C, F, S, G>,
+        seat: &mut Seat<B>,
         id: ClientId,
         lo: u64,
         no: u64,
@@ -227,7 +227,7 @@ pub trait Keep<C: Ledger, F: Ledger, S: Ledger, G: Ledger> {
     /// The last hold of a release, after a range that was queued: the flush ends, as `ok` says, and
     /// the worker's ring is drained. Whether the finish count is at least the flush's number then.
     /// `ok` is what a sink answered for this flush.
-    fn release_last(&mut self, seat: &mut Seat<C, F, S, G>, no: u64, ok: bool) -> bool
+    fn release_last(&mut self, seat: &mut Seat<B>, no: u64, ok: bool) -> bool
         ensures same { identity self.new ≡ identity self.old }
         ensures log { GoesOn (log self.old) (log self.new) }
         ensures domain { WhereKnown (domain self.old) (domain self.new)
@@ -245,7 +245,7 @@ pub trait Keep<C: Ledger, F: Ledger, S: Ledger, G: Ledger> {
         ensures log { GoesOn (log self.old) (log self.new) }
         ensures domain { WhereKnown (domain self.old) (domain self.new) (DrainsAll by result) }
         ensures refusal { IfErr result (λ e. e ≡ Refusal.NoWorker) }
-        ensures known { IsWorker G.parts by → IsOk result }
+        ensures known { IsWorker B.ledgers.good.parts by → IsOk result }
         ensures first { by ≡ 0 → IsOk result };
 
     /// Does the asks in order, in one hold, and stops before the first free whose ring is full, in
@@ -253,7 +253,7 @@ pub trait Keep<C: Ledger, F: Ledger, S: Ledger, G: Ledger> {
     /// told of each. Refused by `NoMemory` where there is no room for that; then nothing was done.
     fn batch(
         &mut self,
-        seat: &mut Seat<C, F, S, G>,
+        seat: &mut Seat<B>,
         id: ClientId,
         asks: &[Ask],
         told: &mut Vec<Told>,
@@ -277,7 +277,7 @@ pub trait Keep<C: Ledger, F: Ledger, S: Ledger, G: Ledger> {
     /// memory.
     fn holdings(
         &self,
-        seat: &Seat<C, F, S, G>,
+        seat: &Seat<B>,
         id: ClientId,
         ranges: &mut Vec<Range>,
     ) -> Result<(), Refusal>

@@ -13,7 +13,8 @@ use iova_range::refusal::Refusal;
 use std::alloc::Global;
 use std::marker::Model;
 use std::sync::ledger;
-use std::sync::ledger::{Blank, Ledger, Share};
+use crate::names::{CountOf, FramesOf, GoodOf, Names, SumLoOf};
+use std::sync::ledger::{Blank, Share};
 
 /// What a domain's four ledgers are opened with: of each a blank, which no type stands for yet. It
 /// takes no memory.
@@ -49,15 +50,15 @@ impl Blanks {
 /// The totals over all holdings of a domain, and how many of its flushes ended well. It takes no
 /// memory: only proofs see it. Whoever keeps a domain has its ledgers beside it, and moves a seat's
 /// shares with them.
-pub struct Ledgers<C: Ledger, F: Ledger, S: Ledger, G: Ledger> {
-    count: ledger::Book<C>,
-    frames: ledger::Book<F>,
-    sum_lo: ledger::Book<S>,
-    good: ledger::Book<G>,
+pub struct Ledgers<B: Names> {
+    count: ledger::Book<CountOf<B>>,
+    frames: ledger::Book<FramesOf<B>>,
+    sum_lo: ledger::Book<SumLoOf<B>>,
+    good: ledger::Book<GoodOf<B>>,
 }
 
 /// What it has is let go, which is proved here once for every crate above.
-impl<C: Ledger, F: Ledger, S: Ledger, G: Ledger> Drop for Ledgers<C, F, S, G> {
+impl<B: Names> Drop for Ledgers<B> {
     fn drop(self) {
         let Ledgers {
             count: _,
@@ -68,7 +69,7 @@ impl<C: Ledger, F: Ledger, S: Ledger, G: Ledger> Drop for Ledgers<C, F, S, G> {
     }
 }
 
-impl<C: Ledger, F: Ledger, S: Ledger, G: Ledger> Model for Ledgers<C, F, S, G> {
+impl<B: Names> Model for Ledgers<B> {
     ghost use Rattle.iova_keep.specs.Views.{LedgersState};
 
     ghost Value = { LedgersState };
@@ -79,7 +80,7 @@ impl<C: Ledger, F: Ledger, S: Ledger, G: Ledger> Model for Ledgers<C, F, S, G> {
     } };
 }
 
-impl<C: Ledger, F: Ledger, S: Ledger, G: Ledger> Ledgers<C, F, S, G> {
+impl<B: Names> Ledgers<B> {
     /// The ledgers of a new domain, all at 0, and so many seats, of its workers in turn, each with
     /// so many parts for its tally. Refused by `NoMemory`.
     #[tactic(auto, using(crate::proofs::Seating::room, crate::proofs::Seating::one_more))]
@@ -89,18 +90,18 @@ impl<C: Ledger, F: Ledger, S: Ledger, G: Ledger> Ledgers<C, F, S, G> {
         seats: u64,
         parts: u64,
         blanks: Blanks,
-    ) -> Result<(Ledgers<C, F, S, G>, Vec<Seat<C, F, S, G>>), Refusal>
-        requires blanks { AreBlanksOf blanks C.Ledger F.Ledger S.Ledger G.Ledger seats workers }
+    ) -> Result<(Ledgers<B>, Vec<Seat<B>>), Refusal>
+        requires blanks { AreBlanksOf blanks B.ledgers seats workers }
         requires workers { 1 ≤ workers }
         requires parts { (1 ≤ parts) × (parts * seats ≤ TALLY_PARTS * workers) }
         ensures ok { IfOk result (λ r. (r.0 ≡ record { shares = no_totals; ended = 0 })
             × (r.1.items ≡ seats_in_turn parts workers seats)) }
         ensures err { IsErr result → result ≡ Err Refusal.NoMemory }
     {
-        let (count, mut counted) = blanks.count.open::<C>();
-        let (frames, mut framed) = blanks.frames.open::<F>();
-        let (sum_lo, mut summed) = blanks.sum_lo.open::<S>();
-        let (good, mut ended) = blanks.good.open::<G>();
+        let (count, mut counted) = blanks.count.open::<CountOf<B>>();
+        let (frames, mut framed) = blanks.frames.open::<FramesOf<B>>();
+        let (sum_lo, mut summed) = blanks.sum_lo.open::<SumLoOf<B>>();
+        let (good, mut ended) = blanks.good.open::<GoodOf<B>>();
         let mut opened = Vec::new(alloc);
         for at in 0..seats {
             let seat = Seat::new(
@@ -127,7 +128,7 @@ impl<C: Ledger, F: Ledger, S: Ledger, G: Ledger> Ledgers<C, F, S, G> {
 
     /// A range was given to the seat's worker, which makes these the totals.
     #[inline]
-    pub fn give(&mut self, seat: &mut Seat<C, F, S, G>, range: Range, totals: Totals)
+    pub fn give(&mut self, seat: &mut Seat<B>, range: Range, totals: Totals)
         requires { totals ≡ add_totals self.old.shares (totals_of (range ∷ [])) }
         ensures shares { self.new.shares ≡ totals }
         ensures ended { self.new.ended ≡ self.old.ended }
@@ -149,7 +150,7 @@ impl<C: Ledger, F: Ledger, S: Ledger, G: Ledger> Ledgers<C, F, S, G> {
 
     /// A range of the seat's shares was queued.
     #[inline]
-    pub fn take(&mut self, seat: &mut Seat<C, F, S, G>, range: Range)
+    pub fn take(&mut self, seat: &mut Seat<B>, range: Range)
         requires { Covers seat.old.held range }
         ensures shares { self.old.shares ≡ add_totals self.new.shares (totals_of (range ∷ [])) }
         ensures ended { self.new.ended ≡ self.old.ended }
@@ -166,7 +167,7 @@ impl<C: Ledger, F: Ledger, S: Ledger, G: Ledger> Ledgers<C, F, S, G> {
 
     /// A flush ended well, which makes this their number.
     #[inline]
-    pub fn raise(&mut self, tally: &mut Tally<G>, good: u64)
+    pub fn raise(&mut self, tally: &mut Tally<B>, good: u64)
         requires { good ≡ self.old.ended + 1 }
         ensures shares { self.new.shares ≡ self.old.shares }
         ensures ended { self.new.ended ≡ good }
@@ -181,10 +182,10 @@ impl<C: Ledger, F: Ledger, S: Ledger, G: Ledger> Ledgers<C, F, S, G> {
     }
 
     /// Changes nothing: whole shares have the totals for their amounts.
-    pub fn audit(&mut self, counted: &mut Share<C>, framed: &mut Share<F>, summed: &mut Share<S>)
-        requires counted { counted.old.parts ≡ C.parts }
-        requires framed { framed.old.parts ≡ F.parts }
-        requires summed { summed.old.parts ≡ S.parts }
+    pub fn audit(&mut self, counted: &mut Share<CountOf<B>>, framed: &mut Share<FramesOf<B>>, summed: &mut Share<SumLoOf<B>>)
+        requires counted { counted.old.parts ≡ B.ledgers.count.parts }
+        requires framed { framed.old.parts ≡ B.ledgers.frames.parts }
+        requires summed { summed.old.parts ≡ B.ledgers.sum_lo.parts }
         ensures same { self.new ≡ self.old }
         ensures sums { (self.old.shares.count ≡ counted.old.amount)
             × (self.old.shares.frames ≡ framed.old.amount)

@@ -14,7 +14,7 @@ use iova_model::step::ClientId;
 use iova_range::range::Range;
 use iova_range::refusal::Refusal;
 use iova_sink::sink::Sink;
-use std::sync::ledger::Ledger;
+use crate::names::Names;
 
 /// Unmaps the client's range that begins at `lo`, as `unmap` does. In a strict domain it then
 /// flushes and drains the worker's ring: `Freed` where the finish count, once that flush has ended,
@@ -24,9 +24,9 @@ use std::sync::ledger::Ledger;
 /// itself failed, only if enough later ones have ended well. Where the ring is full it flushes
 /// first, and tries once more. Refused by `NoClient`, `Closing` and `NotHeld`, and by `RingFull`
 /// where the ring stays full or no flush begins; then the range is still the client's.
-pub fn release<C: Ledger, F: Ledger, S: Ledger, G: Ledger, K: Keep<C, F, S, G>, D: Sink>(
+pub fn release<B: Names, K: Keep<B>, D: Sink>(
     keeper: &mut K,
-    seat: &mut Seat<C, F, S, G>,
+    seat: &mut Seat<B>,
     sink: &mut D,
     id: ClientId,
     lo: u64,
@@ -53,9 +53,9 @@ pub fn release<C: Ledger, F: Ledger, S: Ledger, G: Ledger, K: Keep<C, F, S, G>, 
 }
 
 /// Calls the sink for the flush that began at a full ring, and tries again.
-fn try_again<C: Ledger, F: Ledger, S: Ledger, G: Ledger, K: Keep<C, F, S, G>, D: Sink>(
+fn try_again<B: Names, K: Keep<B>, D: Sink>(
     keeper: &mut K,
-    seat: &mut Seat<C, F, S, G>,
+    seat: &mut Seat<B>,
     sink: &mut D,
     id: ClientId,
     lo: u64,
@@ -81,9 +81,9 @@ fn try_again<C: Ledger, F: Ledger, S: Ledger, G: Ledger, K: Keep<C, F, S, G>, D:
 
 /// What becomes of a range that was queued: where a flush began after it, the sink is called, and
 /// the last hold ends that flush and drains the ring.
-fn follow<C: Ledger, F: Ledger, S: Ledger, G: Ledger, K: Keep<C, F, S, G>, D: Sink>(
+fn follow<B: Names, K: Keep<B>, D: Sink>(
     keeper: &mut K,
-    seat: &mut Seat<C, F, S, G>,
+    seat: &mut Seat<B>,
     sink: &mut D,
     range: Range,
     begun: Option<u64>,

@@ -6,18 +6,19 @@ ghost use Rattle.iova_keep.specs.Views.{TallyState, SeatState, IsWorker};
 use iova_model::totals::Totals;
 use iova_range::range::Range;
 use std::marker::Model;
-use std::sync::ledger::{Ledger, Share};
+use crate::names::{CountOf, FramesOf, GoodOf, Names, SumLoOf};
+use std::sync::ledger::Share;
 
 /// How many flushes its holder ended well, a share of all that ended well in the domain. Its parts
 /// can be split off, so that several threads of one worker end flushes.
-pub struct Tally<G: Ledger> {
+pub struct Tally<B: Names> {
     pub(crate) good: u64,
     pub(crate) parts: u64,
-    pub(crate) share: Share<G>,
+    pub(crate) share: Share<GoodOf<B>>,
 }
 
 /// What it has is let go, which is proved here once for every crate above.
-impl<G: Ledger> Drop for Tally<G> {
+impl<B: Names> Drop for Tally<B> {
     fn drop(self) {
         let Tally {
             good: _,
@@ -27,7 +28,7 @@ impl<G: Ledger> Drop for Tally<G> {
     }
 }
 
-impl<G: Ledger> Model for Tally<G> {
+impl<B: Names> Model for Tally<B> {
     ghost use Rattle.std.specs.Prelude.{◌≡◌, ◌≤◌};
     ghost use Rattle.iova_keep.specs.Views.{TallyState};
 
@@ -39,9 +40,9 @@ impl<G: Ledger> Model for Tally<G> {
         × (1 ≤ t.parts) };
 }
 
-impl<G: Ledger> Tally<G> {
+impl<B: Names> Tally<B> {
     /// A tally at 0, with so many parts of the ledger.
-    pub(crate) fn new(parts: u64, share: Share<G>) -> Tally<G>
+    pub(crate) fn new(parts: u64, share: Share<GoodOf<B>>) -> Tally<B>
         requires { (share.amount ≡ 0) × (share.parts ≡ parts) × (1 ≤ parts) }
         ensures { result ≡ record { good = 0; parts = parts } }
     {
@@ -67,7 +68,7 @@ impl<G: Ledger> Tally<G> {
     }
 
     /// A new tally at 0, with one part of this one.
-    pub fn split(&mut self) -> Tally<G>
+    pub fn split(&mut self) -> Tally<B>
         requires { 2 ≤ self.old.parts }
         ensures new { result ≡ record { good = 0; parts = 1 } }
         ensures good { self.new.good ≡ self.old.good }
@@ -86,17 +87,17 @@ impl<G: Ledger> Tally<G> {
 /// first frames of all holdings, which each call moves by what it answers, and its tally. A worker
 /// may have several seats, and each has the shares of what was given to it alone. A seat of another
 /// domain has another type, and its worker is one of the domain's.
-pub struct Seat<C: Ledger, F: Ledger, S: Ledger, G: Ledger> {
+pub struct Seat<B: Names> {
     pub(crate) worker: u64,
     pub(crate) held: Totals,
-    pub(crate) counted: Share<C>,
-    pub(crate) framed: Share<F>,
-    pub(crate) summed: Share<S>,
-    pub(crate) tally: Tally<G>,
+    pub(crate) counted: Share<CountOf<B>>,
+    pub(crate) framed: Share<FramesOf<B>>,
+    pub(crate) summed: Share<SumLoOf<B>>,
+    pub(crate) tally: Tally<B>,
 }
 
 /// What it has is let go, which is proved here once for every crate above.
-impl<C: Ledger, F: Ledger, S: Ledger, G: Ledger> Drop for Seat<C, F, S, G> {
+impl<B: Names> Drop for Seat<B> {
     fn drop(self) {
         let Seat {
             worker: _,
@@ -109,7 +110,7 @@ impl<C: Ledger, F: Ledger, S: Ledger, G: Ledger> Drop for Seat<C, F, S, G> {
     }
 }
 
-impl<C: Ledger, F: Ledger, S: Ledger, G: Ledger> Model for Seat<C, F, S, G> {
+impl<B: Names> Model for Seat<B> {
     ghost use Rattle.std.specs.Prelude.{◌≡◌};
     ghost use Rattle.iova_keep.specs.Views.{SeatState, IsWorker};
 
@@ -119,10 +120,10 @@ impl<C: Ledger, F: Ledger, S: Ledger, G: Ledger> Model for Seat<C, F, S, G> {
 
     ghost invariant = { λ s. (s.counted.amount ≡ s.held.count) × (s.counted.parts ≡ 1)
         × (s.framed.amount ≡ s.held.frames) × (s.framed.parts ≡ 1)
-        × (s.summed.amount ≡ s.held.sum_lo) × (s.summed.parts ≡ 1) × IsWorker G.parts s.worker };
+        × (s.summed.amount ≡ s.held.sum_lo) × (s.summed.parts ≡ 1) × IsWorker B.ledgers.good.parts s.worker };
 }
 
-impl<C: Ledger, F: Ledger, S: Ledger, G: Ledger> Seat<C, F, S, G> {
+impl<B: Names> Seat<B> {
     ghost use Rattle.std.specs.Borrow.{Lends, sem};
     ghost use Rattle.iova_keep.specs.contracts.seat.Seat.{the_row};
     ghost use Rattle.iova_keep.specs.contracts.seat.Tally as tallies;
@@ -130,15 +131,15 @@ impl<C: Ledger, F: Ledger, S: Ledger, G: Ledger> Seat<C, F, S, G> {
     /// A seat with a part of each ledger, and nothing on it.
     pub(crate) fn new(
         worker: u64,
-        counted: Share<C>,
-        framed: Share<F>,
-        summed: Share<S>,
-        tally: Tally<G>,
-    ) -> Seat<C, F, S, G>
+        counted: Share<CountOf<B>>,
+        framed: Share<FramesOf<B>>,
+        summed: Share<SumLoOf<B>>,
+        tally: Tally<B>,
+    ) -> Seat<B>
         requires counted { (counted.amount ≡ 0) × (counted.parts ≡ 1) }
         requires framed { (framed.amount ≡ 0) × (framed.parts ≡ 1) }
         requires summed { (summed.amount ≡ 0) × (summed.parts ≡ 1) }
-        requires worker { IsWorker G.parts worker }
+        requires worker { IsWorker B.ledgers.good.parts worker }
         ensures { result ≡ record { worker = worker; held = no_totals; tally = tally } }
     {
         Seat {
@@ -156,10 +157,10 @@ impl<C: Ledger, F: Ledger, S: Ledger, G: Ledger> Seat<C, F, S, G> {
     }
 
     /// The seat's own tally.
-    pub fn tally(&mut self) -> &mut Tally<G>
+    pub fn tally(&mut self) -> &mut Tally<B>
         ensures* writes_back { sem 𝓛 (Lends
-            (the_row C.row F.row S.row G.row C.Ledger F.Ledger S.Ledger G.Ledger)
-            (tallies.the_row G.row G.Ledger) self.entry result
+            (the_row B.row B.Names)
+            (tallies.the_row B.row B.Names) self.entry result
             (λ w. record self.old { tally = w })) }
         ensures value { result.now ≡ self.old.tally }
     {
@@ -169,7 +170,7 @@ impl<C: Ledger, F: Ledger, S: Ledger, G: Ledger> Seat<C, F, S, G> {
     /// The worker, one of the domain's.
     pub fn worker(&self) -> u64
         ensures is { result ≡ self.now.worker }
-        ensures known { IsWorker G.parts result }
+        ensures known { IsWorker B.ledgers.good.parts result }
     {
         self.worker
     }
@@ -203,7 +204,7 @@ impl<C: Ledger, F: Ledger, S: Ledger, G: Ledger> Seat<C, F, S, G> {
     }
 
     /// Shares with no part and no amount.
-    pub fn lend(&mut self) -> (Share<C>, Share<F>, Share<S>)
+    pub fn lend(&mut self) -> (Share<CountOf<B>>, Share<FramesOf<B>>, Share<SumLoOf<B>>)
         ensures same { self.new ≡ self.old }
         ensures none { (result.0.parts ≡ 0) × (result.0.amount ≡ 0) × (result.1.parts ≡ 0)
             × (result.1.amount ≡ 0) × (result.2.parts ≡ 0) × (result.2.amount ≡ 0) }
@@ -216,7 +217,7 @@ impl<C: Ledger, F: Ledger, S: Ledger, G: Ledger> Seat<C, F, S, G> {
     }
 
     /// The three shares, one part each.
-    pub fn into_shares(self) -> (Share<C>, Share<F>, Share<S>)
+    pub fn into_shares(self) -> (Share<CountOf<B>>, Share<FramesOf<B>>, Share<SumLoOf<B>>)
         ensures parts { (result.0.parts ≡ 1) × (result.1.parts ≡ 1) × (result.2.parts ≡ 1) }
         ensures amounts { (result.0.amount ≡ self.held.count) × (result.1.amount ≡ self.held.frames)
             × (result.2.amount ≡ self.held.sum_lo) }

@@ -28,7 +28,8 @@ use iova_record::recorded_domain::{RecordedDomain, Stored};
 use iova_report::report;
 use std::alloc::Global;
 use std::marker::Model;
-use std::sync::ledger::{Ledger, Share};
+use iova_keep::names::{CountOf, FramesOf, Names, SumLoOf};
+use std::sync::ledger::Share;
 
 /// Words that nobody reads, as long as a line of the processor's cache. Under a lock they keep what a
 /// hold reads and writes out of the line of the lock's word, which all that look for the lock take
@@ -45,17 +46,17 @@ impl Apart {
 }
 
 /// A domain, with the ledgers of its totals and of its flushes that ended well.
-pub struct Book<C: Ledger, F: Ledger, S: Ledger, G: Ledger> {
+pub struct Book<B: Names> {
     _apart: Apart,
     number: u64,
     seats: u64,
     strict: bool,
     recorded: RecordedDomain,
-    ledgers: Ledgers<C, F, S, G>,
+    ledgers: Ledgers<B>,
 }
 
 /// What it has is let go, which is proved here once for every crate above.
-impl<C: Ledger, F: Ledger, S: Ledger, G: Ledger> Drop for Book<C, F, S, G> {
+impl<B: Names> Drop for Book<B> {
     fn drop(self) {
         let Book {
             _apart: _,
@@ -68,7 +69,7 @@ impl<C: Ledger, F: Ledger, S: Ledger, G: Ledger> Drop for Book<C, F, S, G> {
     }
 }
 
-impl<C: Ledger, F: Ledger, S: Ledger, G: Ledger> Model for Book<C, F, S, G> {
+impl<B: Names> Model for Book<B> {
     ghost use Rattle.std.specs.Prelude.{◌≡◌, ◌*◌};
     ghost use Rattle.iova_range.specs.declared.limits.TheConstants.{TALLY_PARTS};
     ghost use Rattle.iova_model.specs.Clients.{totals};
@@ -87,11 +88,11 @@ impl<C: Ledger, F: Ledger, S: Ledger, G: Ledger> Model for Book<C, F, S, G> {
 
     ghost invariant = { λ b. (b.ledgers.shares ≡ totals b.recorded.state.clients)
         × (b.ledgers.ended ≡ b.recorded.state.flushes.good)
-        × (G.parts ≡ TALLY_PARTS * b.recorded.state.workers) × (C.parts ≡ b.seats)
-        × (F.parts ≡ b.seats) × (S.parts ≡ b.seats) };
+        × (B.ledgers.good.parts ≡ TALLY_PARTS * b.recorded.state.workers) × (B.ledgers.count.parts ≡ b.seats)
+        × (B.ledgers.frames.parts ≡ b.seats) × (B.ledgers.sum_lo.parts ≡ b.seats) };
 }
 
-impl<C: Ledger, F: Ledger, S: Ledger, G: Ledger> Book<C, F, S, G> {
+impl<B: Names> Book<B> {
     /// A new domain, and a seat for each worker. Refused by `NoWorker` where the workers aren't 1
     /// to 16, and by `NoMemory`.
     pub fn new(
@@ -100,9 +101,9 @@ impl<C: Ledger, F: Ledger, S: Ledger, G: Ledger> Book<C, F, S, G> {
         bounds: Bounds,
         workers: u64,
         blanks: Blanks,
-    ) -> Result<(Book<C, F, S, G>, Vec<Seat<C, F, S, G>>), Refusal>
+    ) -> Result<(Book<B>, Vec<Seat<B>>), Refusal>
         requires blanks { 1 ≤ workers → workers ≤ MAX_WORKERS
-            → AreBlanksOf blanks C.Ledger F.Ledger S.Ledger G.Ledger workers workers }
+            → AreBlanksOf blanks B.ledgers workers workers }
         ensures ok { IfOk result (λ r. (r.0 ≡ new_book number bounds workers None)
             × (r.1.items ≡ new_seats workers)) }
         ensures workers { (result ≡ Err Refusal.NoWorker)
@@ -133,9 +134,9 @@ impl<C: Ledger, F: Ledger, S: Ledger, G: Ledger> Book<C, F, S, G> {
         workers: u64,
         pairs: usize,
         blanks: Blanks,
-    ) -> Result<(Book<C, F, S, G>, Vec<Seat<C, F, S, G>>), Refusal>
+    ) -> Result<(Book<B>, Vec<Seat<B>>), Refusal>
         requires blanks { 1 ≤ workers → workers ≤ MAX_WORKERS
-            → AreBlanksOf blanks C.Ledger F.Ledger S.Ledger G.Ledger workers workers }
+            → AreBlanksOf blanks B.ledgers workers workers }
         ensures ok { IfOk result (λ r. (r.0 ≡ new_book number bounds workers (Some (new_log pairs)))
             × (r.1.items ≡ new_seats workers)) }
         ensures workers { (result ≡ Err Refusal.NoWorker)
@@ -168,10 +169,10 @@ impl<C: Ledger, F: Ledger, S: Ledger, G: Ledger> Book<C, F, S, G> {
         seats: u64,
         pairs: Option<usize>,
         blanks: Blanks,
-    ) -> Result<(Book<C, F, S, G>, Vec<Seat<C, F, S, G>>), Refusal>
+    ) -> Result<(Book<B>, Vec<Seat<B>>), Refusal>
         requires workers { (1 ≤ workers) × (workers ≤ MAX_WORKERS) }
         requires seats { (workers ≤ seats) × (seats ≤ MAX_CLIENTS) }
-        requires blanks { AreBlanksOf blanks C.Ledger F.Ledger S.Ledger G.Ledger seats workers }
+        requires blanks { AreBlanksOf blanks B.ledgers seats workers }
         ensures ok { IfOk result (λ r. (r.0 ≡ new_book number bounds workers
             (option_map new_log pairs)) × (r.1.items ≡ seats_in_turn SEAT_PARTS workers seats)) }
         ensures err { IsErr result → result ≡ Err Refusal.NoMemory }
@@ -196,8 +197,8 @@ impl<C: Ledger, F: Ledger, S: Ledger, G: Ledger> Book<C, F, S, G> {
         parts: u64,
         recorded: RecordedDomain,
         blanks: Blanks,
-    ) -> Result<(Book<C, F, S, G>, Vec<Seat<C, F, S, G>>), Refusal>
-        requires blanks { AreBlanksOf blanks C.Ledger F.Ledger S.Ledger G.Ledger seats workers }
+    ) -> Result<(Book<B>, Vec<Seat<B>>), Refusal>
+        requires blanks { AreBlanksOf blanks B.ledgers seats workers }
         requires workers { (1 ≤ workers) × (recorded.state.workers ≡ workers) }
         requires parts { (1 ≤ parts) × (parts * seats ≤ TALLY_PARTS * workers) }
         requires new { (totals recorded.state.clients ≡ no_totals)
@@ -245,7 +246,7 @@ impl<C: Ledger, F: Ledger, S: Ledger, G: Ledger> Book<C, F, S, G> {
     /// whatever it leaves there.
     pub fn is_kept(&self)
         ensures is { IsBook self.now }
-        ensures workers { G.parts ≡ TALLY_PARTS * self.now.state.workers }
+        ensures workers { B.ledgers.good.parts ≡ TALLY_PARTS * self.now.state.workers }
     {
         // for the proof: what the domain keeps, and that its log is a transcript
         self.recorded.is_kept();
@@ -348,7 +349,7 @@ impl<C: Ledger, F: Ledger, S: Ledger, G: Ledger> Book<C, F, S, G> {
 
     /// How many seats there are at the domain.
     pub(crate) fn seats(&self) -> u64
-        ensures { (C.parts ≡ result) × (F.parts ≡ result) × (S.parts ≡ result) }
+        ensures { (B.ledgers.count.parts ≡ result) × (B.ledgers.frames.parts ≡ result) × (B.ledgers.sum_lo.parts ≡ result) }
     {
         self.seats
     }
@@ -356,7 +357,7 @@ impl<C: Ledger, F: Ledger, S: Ledger, G: Ledger> Book<C, F, S, G> {
     /// How many workers the domain has.
     pub(crate) fn workers(&self) -> u64
         ensures is { result ≡ self.now.state.workers }
-        ensures parts { G.parts ≡ TALLY_PARTS * result }
+        ensures parts { B.ledgers.good.parts ≡ TALLY_PARTS * result }
         ensures some { 1 ≤ result }
         ensures few { result ≤ MAX_WORKERS }
     {
@@ -401,7 +402,7 @@ impl<C: Ledger, F: Ledger, S: Ledger, G: Ledger> Book<C, F, S, G> {
     pub(crate) fn into_domain(self) -> Domain
         ensures is { result ≡ self.state }
         ensures kept { IsKept result }
-        ensures workers { G.parts ≡ TALLY_PARTS * result.workers }
+        ensures workers { B.ledgers.good.parts ≡ TALLY_PARTS * result.workers }
     {
         // for the proof: what the domain keeps
         self.recorded.is_kept();
@@ -419,13 +420,13 @@ impl<C: Ledger, F: Ledger, S: Ledger, G: Ledger> Book<C, F, S, G> {
     /// The totals, which whole shares have for their amounts.
     pub(crate) fn audit(
         &mut self,
-        counted: &mut Share<C>,
-        framed: &mut Share<F>,
-        summed: &mut Share<S>,
+        counted: &mut Share<CountOf<B>>,
+        framed: &mut Share<FramesOf<B>>,
+        summed: &mut Share<SumLoOf<B>>,
     ) -> Totals
-        requires counted { counted.old.parts ≡ C.parts }
-        requires framed { framed.old.parts ≡ F.parts }
-        requires summed { summed.old.parts ≡ S.parts }
+        requires counted { counted.old.parts ≡ B.ledgers.count.parts }
+        requires framed { framed.old.parts ≡ B.ledgers.frames.parts }
+        requires summed { summed.old.parts ≡ B.ledgers.sum_lo.parts }
         ensures same { self.new ≡ self.old }
         ensures locked { result ≡ totals self.old.state.clients }
         ensures sums { (result.count ≡ counted.old.amount) × (result.frames ≡ framed.old.amount)
@@ -438,7 +439,7 @@ impl<C: Ledger, F: Ledger, S: Ledger, G: Ledger> Book<C, F, S, G> {
     /// Runs a seat's step that may queue a range, unless one of the seat's shares is less than the
     /// range.
     #[inline(always)]
-    pub(crate) fn run_within(&mut self, seat: &mut Seat<C, F, S, G>, step: Step) -> Reply
+    pub(crate) fn run_within(&mut self, seat: &mut Seat<B>, step: Step) -> Reply
         requires by_seat { by_seat step ≡ true }
         requires worker { worker_of step ≡ Some seat.old.worker }
         ensures does { Does (Unmapping step seat.old.held result) self.old.state self.new.state }
@@ -458,7 +459,7 @@ impl<C: Ledger, F: Ledger, S: Ledger, G: Ledger> Book<C, F, S, G> {
     /// are at least the worker's share of the domain's totals; only where they aren't the range is
     /// sought.
     #[inline(always)]
-    fn covers_step(&self, seat: &Seat<C, F, S, G>, step: Step) -> bool
+    fn covers_step(&self, seat: &Seat<B>, step: Step) -> bool
         requires { worker_of step ≡ Some seat.now.worker }
         ensures yes { result ≡ true → (r : Frames) → to_queue self.now.state step ≡ Some r
             → Covers seat.now.held r }
@@ -472,7 +473,7 @@ impl<C: Ledger, F: Ledger, S: Ledger, G: Ledger> Book<C, F, S, G> {
 
     /// `covers_range`, in a function of its own: the step is then copied for that call alone.
     #[inline(always)]
-    fn covers_otherwise(&self, seat: &Seat<C, F, S, G>, step: Step) -> bool
+    fn covers_otherwise(&self, seat: &Seat<B>, step: Step) -> bool
         ensures yes { result ≡ true → (r : Frames) → to_queue self.now.state step ≡ Some r
             → Covers seat.now.held r }
         ensures none { result ≡ false → IsShort seat.now.held (to_queue self.now.state step) }
@@ -482,7 +483,7 @@ impl<C: Ledger, F: Ledger, S: Ledger, G: Ledger> Book<C, F, S, G> {
 
     /// The same, by the range itself.
     #[inline(never)]
-    fn covers_range(&self, seat: &Seat<C, F, S, G>, step: Step) -> bool
+    fn covers_range(&self, seat: &Seat<B>, step: Step) -> bool
         ensures yes { result ≡ true → (r : Frames) → to_queue self.now.state step ≡ Some r
             → Covers seat.now.held r }
         ensures none { result ≡ false → IsShort seat.now.held (to_queue self.now.state step) }
@@ -491,7 +492,7 @@ impl<C: Ledger, F: Ledger, S: Ledger, G: Ledger> Book<C, F, S, G> {
     }
 
     /// Closes the client, range by range, until a step queues none, and answers that step's reply.
-    pub(crate) fn close_all(&mut self, seat: &mut Seat<C, F, S, G>, id: u64) -> Reply
+    pub(crate) fn close_all(&mut self, seat: &mut Seat<B>, id: u64) -> Reply
         ensures closes { Does (Closing (Step.CloseOne seat.old.worker id) seat.old.held
             seat.new.held result)
             self.old.state self.new.state }
@@ -513,8 +514,8 @@ impl<C: Ledger, F: Ledger, S: Ledger, G: Ledger> Book<C, F, S, G> {
     /// Drains `left` rings from `ring` on, and answers how many entries that frees.
     pub(crate) fn drain_rings(&mut self, ring: u64, left: u64, by: u64) -> u64
         requires few { ring + left ≤ MAX_WORKERS }
-        requires rings { TALLY_PARTS * (ring + left) ≡ G.parts }
-        requires worker { IsWorker G.parts by }
+        requires rings { TALLY_PARTS * (ring + left) ≡ B.ledgers.good.parts }
+        requires worker { IsWorker B.ledgers.good.parts by }
         ensures drains { Does (Draining by (rings_from ring left) result) self.old.state
             self.new.state }
         ensures bound { result ≤ MAX_ENTRIES * left }
@@ -529,8 +530,8 @@ impl<C: Ledger, F: Ledger, S: Ledger, G: Ledger> Book<C, F, S, G> {
 
     /// Drains a ring, and answers how many entries that frees.
     pub(crate) fn drain_one(&mut self, ring: u64, by: u64) -> u64
-        requires ring { IsWorker G.parts ring }
-        requires worker { IsWorker G.parts by }
+        requires ring { IsWorker B.ledgers.good.parts ring }
+        requires worker { IsWorker B.ledgers.good.parts by }
         ensures takes { Takes self.old.state (Step.Drain ring by) (Reply.Drained result)
             self.new.state }
         ensures bound { result ≤ MAX_ENTRIES }
@@ -562,7 +563,7 @@ impl<C: Ledger, F: Ledger, S: Ledger, G: Ledger> Book<C, F, S, G> {
 
     /// Runs a seat's step, and moves the seat's shares by what was answered.
     #[inline(always)]
-    pub(crate) fn run(&mut self, seat: &mut Seat<C, F, S, G>, step: Step) -> Reply
+    pub(crate) fn run(&mut self, seat: &mut Seat<B>, step: Step) -> Reply
         requires by_seat { by_seat step ≡ true }
         requires worker { worker_of step ≡ Some seat.old.worker }
         requires enough { (r : Frames) → to_queue self.old.state step ≡ Some r
@@ -587,7 +588,7 @@ impl<C: Ledger, F: Ledger, S: Ledger, G: Ledger> Book<C, F, S, G> {
     }
 
     /// Begins or ends a flush, and raises the tally where it ended well.
-    pub(crate) fn run_flush(&mut self, tally: &mut Tally<G>, step: Step) -> Reply
+    pub(crate) fn run_flush(&mut self, tally: &mut Tally<B>, step: Step) -> Reply
         requires { by_tally step ≡ true }
         ensures takes { Takes self.old.state step result self.new.state }
         ensures same { IsSame self.old self.new }
@@ -603,7 +604,7 @@ impl<C: Ledger, F: Ledger, S: Ledger, G: Ledger> Book<C, F, S, G> {
     }
 
     /// The same with the seat's own tally.
-    pub(crate) fn run_flush_at(&mut self, seat: &mut Seat<C, F, S, G>, step: Step) -> Reply
+    pub(crate) fn run_flush_at(&mut self, seat: &mut Seat<B>, step: Step) -> Reply
         requires { by_tally step ≡ true }
         ensures takes { Takes self.old.state step result self.new.state }
         ensures same { IsSame self.old self.new }

@@ -15,7 +15,7 @@ use iova_model::totals::Totals;
 use iova_range::range::Range;
 use iova_range::refusal::Refusal;
 use iova_range::stat::Stat;
-use std::sync::ledger::Ledger;
+use iova_keep::names::Names;
 
 /// The totals of nothing.
 const NOTHING: Totals = Totals {
@@ -73,7 +73,7 @@ fn flush_follows(strict: bool, reply: &Reply) -> bool
     is_full(reply) || queued_strictly(strict, reply)
 }
 
-impl<C: Ledger, F: Ledger, S: Ledger, G: Ledger> Keep<C, F, S, G> for Book<C, F, S, G> {
+impl<B: Names> Keep<B> for Book<B> {
     ghost domain = { λ b. Some b.state };
 
     ghost identity = { λ b. record { number = b.number; strict = b.strict } };
@@ -97,7 +97,7 @@ impl<C: Ledger, F: Ledger, S: Ledger, G: Ledger> Keep<C, F, S, G> for Book<C, F,
         }
     }
 
-    fn open(&mut self, seat: &mut Seat<C, F, S, G>, sac: bool) -> Result<ClientId, Refusal> {
+    fn open(&mut self, seat: &mut Seat<B>, sac: bool) -> Result<ClientId, Refusal> {
         let worker = seat.worker();
         match self.run(seat, Step::Open { worker, sac }) {
             Reply::Opened(id) => Ok(id),
@@ -108,7 +108,7 @@ impl<C: Ledger, F: Ledger, S: Ledger, G: Ledger> Keep<C, F, S, G> for Book<C, F,
 
     fn alloc(
         &mut self,
-        seat: &mut Seat<C, F, S, G>,
+        seat: &mut Seat<B>,
         id: ClientId,
         frames: u64,
         limit: u64,
@@ -129,7 +129,7 @@ impl<C: Ledger, F: Ledger, S: Ledger, G: Ledger> Keep<C, F, S, G> for Book<C, F,
         }
     }
 
-    fn unmap_first(&mut self, seat: &mut Seat<C, F, S, G>, id: ClientId, lo: u64) -> Heard {
+    fn unmap_first(&mut self, seat: &mut Seat<B>, id: ClientId, lo: u64) -> Heard {
         let worker = seat.worker();
         let reply = self.run_within(
             seat,
@@ -154,7 +154,7 @@ impl<C: Ledger, F: Ledger, S: Ledger, G: Ledger> Keep<C, F, S, G> for Book<C, F,
 
     fn unmap_again(
         &mut self,
-        seat: &mut Seat<C, F, S, G>,
+        seat: &mut Seat<B>,
         id: ClientId,
         lo: u64,
         no: u64,
@@ -178,7 +178,7 @@ impl<C: Ledger, F: Ledger, S: Ledger, G: Ledger> Keep<C, F, S, G> for Book<C, F,
         }
     }
 
-    fn begin(&mut self, tally: &mut Tally<G>) -> Heard {
+    fn begin(&mut self, tally: &mut Tally<B>) -> Heard {
         let begun = self.run_flush(tally, Step::Begin);
         Heard {
             reply: None,
@@ -188,7 +188,7 @@ impl<C: Ledger, F: Ledger, S: Ledger, G: Ledger> Keep<C, F, S, G> for Book<C, F,
         }
     }
 
-    fn end(&mut self, tally: &mut Tally<G>, no: u64, ok: bool) -> Heard {
+    fn end(&mut self, tally: &mut Tally<B>, no: u64, ok: bool) -> Heard {
         let ended = self.run_flush(tally, Step::End { no, ok });
         Heard {
             reply: Some(ended),
@@ -198,7 +198,7 @@ impl<C: Ledger, F: Ledger, S: Ledger, G: Ledger> Keep<C, F, S, G> for Book<C, F,
         }
     }
 
-    fn close_first(&mut self, seat: &mut Seat<C, F, S, G>, id: ClientId) -> Heard {
+    fn close_first(&mut self, seat: &mut Seat<B>, id: ClientId) -> Heard {
         let before = seat.held();
         let reply = self.close_all(seat, id);
         let begun = if is_full(&reply) {
@@ -216,7 +216,7 @@ impl<C: Ledger, F: Ledger, S: Ledger, G: Ledger> Keep<C, F, S, G> for Book<C, F,
 
     fn close_again(
         &mut self,
-        seat: &mut Seat<C, F, S, G>,
+        seat: &mut Seat<B>,
         id: ClientId,
         no: u64,
         ok: bool,
@@ -237,7 +237,7 @@ impl<C: Ledger, F: Ledger, S: Ledger, G: Ledger> Keep<C, F, S, G> for Book<C, F,
         }
     }
 
-    fn release_first(&mut self, seat: &mut Seat<C, F, S, G>, id: ClientId, lo: u64) -> Heard {
+    fn release_first(&mut self, seat: &mut Seat<B>, id: ClientId, lo: u64) -> Heard {
         let worker = seat.worker();
         let reply = self.run_within(
             seat,
@@ -262,7 +262,7 @@ impl<C: Ledger, F: Ledger, S: Ledger, G: Ledger> Keep<C, F, S, G> for Book<C, F,
 
     fn release_again(
         &mut self,
-        seat: &mut Seat<C, F, S, G>,
+        seat: &mut Seat<B>,
         id: ClientId,
         lo: u64,
         no: u64,
@@ -291,7 +291,7 @@ impl<C: Ledger, F: Ledger, S: Ledger, G: Ledger> Keep<C, F, S, G> for Book<C, F,
         }
     }
 
-    fn release_last(&mut self, seat: &mut Seat<C, F, S, G>, no: u64, ok: bool) -> bool {
+    fn release_last(&mut self, seat: &mut Seat<B>, no: u64, ok: bool) -> bool {
         let worker = seat.worker();
         let _ended = self.run_flush_at(seat, Step::End { no, ok });
         let _freed = self.drain_one(worker, worker);
@@ -309,7 +309,7 @@ impl<C: Ledger, F: Ledger, S: Ledger, G: Ledger> Keep<C, F, S, G> for Book<C, F,
 
     fn batch(
         &mut self,
-        seat: &mut Seat<C, F, S, G>,
+        seat: &mut Seat<B>,
         id: ClientId,
         asks: &[Ask],
         told: &mut Vec<Told>,
@@ -319,7 +319,7 @@ impl<C: Ledger, F: Ledger, S: Ledger, G: Ledger> Keep<C, F, S, G> for Book<C, F,
 
     fn holdings(
         &self,
-        seat: &Seat<C, F, S, G>,
+        seat: &Seat<B>,
         id: ClientId,
         ranges: &mut Vec<Range>,
     ) -> Result<(), Refusal> {

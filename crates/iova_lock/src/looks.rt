@@ -5,9 +5,9 @@ use iova_model::step::ClientId;
 use iova_range::range::Range;
 use iova_range::refusal::Refusal;
 use std::sync::Wait;
-use std::sync::ledger::Ledger;
+use iova_keep::names::Names;
 
-impl<Q: Wait, C: Ledger, F: Ledger, S: Ledger, G: Ledger> Look for &Shared<Q, C, F, S, G> {
+impl<Q: Wait, B: Names> Look for &Shared<Q, B> {
     fn look(&self, out: &mut Vec<u8>) -> Result<(), Refusal> {
         self.report(out)
     }

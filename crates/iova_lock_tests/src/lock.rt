@@ -15,7 +15,7 @@ use std::alloc::Global;
 use std::marker::Brand;
 use std::process::Abort;
 use std::sync::Wait;
-use std::sync::ledger::Ledger;
+use iova_keep::names::Names;
 use std::test::*;
 use std::thread::Threads;
 
@@ -29,11 +29,11 @@ mod threads;
 
 // What a case asks of one seat, or of two in turn. What was answered, where the case doesn't say
 // what is to be.
-fn run<C: Ledger, F: Ledger, S: Ledger, G: Ledger, K: Keep<C, F, S, G>, R: Abort + Print>(
+fn run<B: Names, K: Keep<B>, R: Abort + Print>(
     rt: &R,
     alloc: Global,
     keeper: &mut K,
-    seats: &mut Vec<Seat<C, F, S, G>>,
+    seats: &mut Vec<Seat<B>>,
     strict: bool,
     no: usize,
 ) -> Vec<String> {
@@ -53,20 +53,17 @@ fn run<C: Ledger, F: Ledger, S: Ledger, G: Ledger, K: Keep<C, F, S, G>, R: Abort
 // The same of a keeper that threads share, and what takes threads. The seats, how many flushes of
 // tallies that were split off ended well, and what was answered.
 fn run_shared<
-    C: Ledger + Send + Sync,
-    F: Ledger + Send + Sync,
-    S: Ledger + Send + Sync,
-    G: Ledger + Send + Sync,
-    K: Keep<C, F, S, G> + Copy + Send + Sync,
+    B: Names + Send + Sync,
+    K: Keep<B> + Copy + Send + Sync,
     R: Threads + Wait + Sync + Abort + Print,
 >(
     rt: &R,
     alloc: Global,
     keeper: K,
-    seats: Vec<Seat<C, F, S, G>>,
+    seats: Vec<Seat<B>>,
     strict: bool,
     no: usize,
-) -> (Vec<Seat<C, F, S, G>>, u64, Vec<String>) {
+) -> (Vec<Seat<B>>, u64, Vec<String>) {
     let mut keeper = keeper;
     let mut seats = seats;
     match case(no).0 {
@@ -87,7 +84,7 @@ fn run_shared<
     }
 }
 
-fn in_a_book<C: Ledger, F: Ledger, S: Ledger, G: Ledger, R: Abort + Print>(
+fn in_a_book<B: Names, R: Abort + Print>(
     rt: &R,
     alloc: Global,
     bounds: Bounds,
@@ -95,9 +92,9 @@ fn in_a_book<C: Ledger, F: Ledger, S: Ledger, G: Ledger, R: Abort + Print>(
     no: usize,
     blanks: Blanks,
 ) -> Vec<String>
-    requires blanks { AreBlanksOf blanks C.Ledger F.Ledger S.Ledger G.Ledger 16 16 }
+    requires blanks { AreBlanksOf blanks B.ledgers 16 16 }
 {
-    match Book::<C, F, S, G>::new(alloc, 7, bounds, 16, blanks) {
+    match Book::<B>::new(alloc, 7, bounds, 16, blanks) {
         Ok((book, mut seats)) => {
             let mut book = if strict { book.strict() } else { book };
             let said = run(rt, alloc, &mut book, &mut seats, strict, no);
@@ -114,26 +111,23 @@ fn in_a_book<C: Ledger, F: Ledger, S: Ledger, G: Ledger, R: Abort + Print>(
 }
 
 fn under_a_lock<
-    C: Ledger + Send + Sync,
-    F: Ledger + Send + Sync,
-    S: Ledger + Send + Sync,
-    G: Ledger + Send + Sync,
+    B: Names + Send + Sync,
     R: Threads + Wait + Sync + Abort + Print,
 >(rt: &R, alloc: Global, bounds: Bounds, strict: bool, no: usize, blanks: Blanks) -> Vec<String>
-    requires blanks { AreBlanksOf blanks C.Ledger F.Ledger S.Ledger G.Ledger 16 16 }
+    requires blanks { AreBlanksOf blanks B.ledgers 16 16 }
 {
     let pairs = case(no).1.pairs;
     let recorded = 0 < pairs && pairs <= 100;
     let made = if recorded {
-        Shared::<&R, C, F, S, G>::recorded(rt, alloc, 7, bounds, 16, pairs, blanks)
+        Shared::<&R, B>::recorded(rt, alloc, 7, bounds, 16, pairs, blanks)
     } else {
-        Shared::<&R, C, F, S, G>::new(rt, alloc, 7, bounds, 16, blanks)
+        Shared::<&R, B>::new(rt, alloc, 7, bounds, 16, blanks)
     };
     match made {
         Ok((shared, seats)) => {
             let shared = if strict { shared.strict() } else { shared };
             // for the proof: a book may go to another thread
-            books_are_send::<C, F, S, G>();
+            books_are_send::<B>();
             let (seats, ended, said) = run_shared(rt, alloc, &shared, seats, strict, no);
             is_recorded(rt, alloc, &shared, no);
             let good = gathered(rt, &shared, seats).saturating_add(ended);
@@ -158,10 +152,10 @@ fn under_a_lock<
 }
 
 // The seats' shares add up to the totals. How many flushes the seats ended well.
-fn gathered<C: Ledger, F: Ledger, S: Ledger, G: Ledger, R: Abort + Wait>(
+fn gathered<B: Names, R: Abort + Wait>(
     rt: &R,
-    shared: &Shared<&R, C, F, S, G>,
-    seats: Vec<Seat<C, F, S, G>>,
+    shared: &Shared<&R, B>,
+    seats: Vec<Seat<B>>,
 ) -> u64 {
     let mut seats = seats;
     let mut good = 0u64;
@@ -182,10 +176,10 @@ fn gathered<C: Ledger, F: Ledger, S: Ledger, G: Ledger, R: Abort + Wait>(
 }
 
 // What is recorded is what the case says, or begins so where growths are refused.
-fn is_recorded<C: Ledger, F: Ledger, S: Ledger, G: Ledger, R: Abort + Print + Wait>(
+fn is_recorded<B: Names, R: Abort + Print + Wait>(
     rt: &R,
     alloc: Global,
-    shared: &Shared<&R, C, F, S, G>,
+    shared: &Shared<&R, B>,
     no: usize,
 ) {
     let case = case(no);
@@ -237,7 +231,7 @@ fn are_alike<R: Abort>(rt: &R, of_book: &Vec<String>, of_lock: &Vec<String>, str
 fn a_book_and_a_lock(rt: HostRuntime) {
     for strict in [false, true] {
         for no in 0..THREADS {
-            let of_book = in_a_book::<Brand, Brand, Brand, Brand, _>(
+            let of_book = in_a_book::<Brand, _>(
                 &rt,
                 rt.alloc(),
                 Bounds::new(1, case(no).1.last).expect(&rt, "bounds"),
@@ -245,7 +239,7 @@ fn a_book_and_a_lock(rt: HostRuntime) {
                 no,
                 Blanks::new(16, 16),
             );
-            let of_lock = under_a_lock::<Brand, Brand, Brand, Brand, _>(
+            let of_lock = under_a_lock::<Brand, _>(
                 &rt,
                 rt.alloc(),
                 Bounds::new(1, case(no).1.last).expect(&rt, "bounds"),
@@ -264,7 +258,7 @@ fn a_book_and_a_lock(rt: HostRuntime) {
 fn threads_of_a_lock(rt: HostRuntime) {
     for strict in [false, true] {
         for no in THREADS..GROWTHS {
-            let _said = under_a_lock::<Brand, Brand, Brand, Brand, _>(
+            let _said = under_a_lock::<Brand, _>(
                 &rt,
                 rt.alloc(),
                 Bounds::new(1, case(no).1.last).expect(&rt, "bounds"),
@@ -279,7 +273,7 @@ fn threads_of_a_lock(rt: HostRuntime) {
 #[test]
 fn refused_growths(rt: HostRuntime) {
     for no in GROWTHS..ALL {
-        let _said = in_a_book::<Brand, Brand, Brand, Brand, _>(
+        let _said = in_a_book::<Brand, _>(
             &rt,
             rt.alloc(),
             Bounds::new(1, case(no).1.last).expect(&rt, "bounds"),
@@ -287,7 +281,7 @@ fn refused_growths(rt: HostRuntime) {
             no,
             Blanks::new(16, 16),
         );
-        let _said = under_a_lock::<Brand, Brand, Brand, Brand, _>(
+        let _said = under_a_lock::<Brand, _>(
             &rt,
             rt.alloc(),
             Bounds::new(1, case(no).1.last).expect(&rt, "bounds"),

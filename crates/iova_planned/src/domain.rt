@@ -18,23 +18,20 @@ use iova_range::refusal::Refusal;
 use iova_regions::windows::Windows;
 use iova_session::post::{Post, posts_at};
 use std::alloc::Global;
-use std::sync::ledger::Ledger;
+use iova_keep::names::Names;
 
 /// The plan's domain under a lock, and a post at each of its seats. None for want of memory.
-pub fn new_domain<'a, R, C, F, S, G>(
+pub fn new_domain<'a, R, B>(
     rt: &'a R,
     plan: &Plan<'_>,
     bounds: Bounds,
     windows: &Windows,
     blanks: Blanks,
-) -> Option<(Shared<&'a R, C, F, S, G>, Vec<Post<C, F, S, G>>)>
+) -> Option<(Shared<&'a R, B>, Vec<Post<B>>)>
 where
     R: AllocGlobal,
-    C: Ledger,
-    F: Ledger,
-    S: Ledger,
-    G: Ledger,
-    requires blanks { AreBlanksOf blanks C.Ledger F.Ledger S.Ledger G.Ledger
+    B: Names,
+    requires blanks { AreBlanksOf blanks B.ledgers
         (seat_count plan.now) plan.now.workers }
     ensures number { IfSome result (λ r. r.0.number ≡ plan.now.domain) }
     ensures workers { IfSome result (λ r. r.0.workers ≡ plan.now.workers) }
@@ -48,14 +45,14 @@ where
 
 /// The plan's new domain, in which these windows are reserved, and its seats. None for want of
 /// memory.
-fn reserved_book<C: Ledger, F: Ledger, S: Ledger, G: Ledger>(
+fn reserved_book<B: Names>(
     alloc: Global,
     plan: &Plan<'_>,
     bounds: Bounds,
     windows: &Windows,
     blanks: Blanks,
-) -> Option<(Book<C, F, S, G>, Vec<Seat<C, F, S, G>>)>
-    requires blanks { AreBlanksOf blanks C.Ledger F.Ledger S.Ledger G.Ledger
+) -> Option<(Book<B>, Vec<Seat<B>>)>
+    requires blanks { AreBlanksOf blanks B.ledgers
         (seat_count plan.now) plan.now.workers }
     ensures reserved { IfSome result (λ r. IsReserved windows.now (planned_book plan.now bounds)
         r.0) }
@@ -78,8 +75,8 @@ fn reserved_book<C: Ledger, F: Ledger, S: Ledger, G: Ledger>(
 
 /// Reserves these windows in the book, in their order, up to the first one that is refused.
 #[tactic(auto, using(crate::proofs::Reserving::reserved_more))]
-fn reserve_all<C: Ledger, F: Ledger, S: Ledger, G: Ledger>(
-    book: &mut Book<C, F, S, G>,
+fn reserve_all<B: Names>(
+    book: &mut Book<B>,
     windows: &[Range],
 ) -> Result<(), Refusal>
     ensures reserved { IfOk result (λ u. IsReserved windows.now book.old book.new) }
@@ -95,8 +92,8 @@ fn reserve_all<C: Ledger, F: Ledger, S: Ledger, G: Ledger>(
 
 /// Reserves this window in the book.
 #[tactic(auto, using(crate::proofs::Reserving::reserved_window))]
-fn reserve<C: Ledger, F: Ledger, S: Ledger, G: Ledger>(
-    book: &mut Book<C, F, S, G>,
+fn reserve<B: Names>(
+    book: &mut Book<B>,
     window: Range,
 ) -> Result<(), Refusal>
     ensures reserved { IfOk result (λ u. IsReserved (window ∷ []) book.old book.new) }
@@ -105,7 +102,7 @@ fn reserve<C: Ledger, F: Ledger, S: Ledger, G: Ledger>(
 {
     // for the proof: a domain keeps its workers
     book.is_kept();
-    let reserved = Keep::<C, F, S, G>::reserve(book, window.lo(), window.hi());
+    let reserved = Keep::<B>::reserve(book, window.lo(), window.hi());
     book.is_kept();
     match reserved {
         Ok(_window) => Ok(()),
@@ -115,13 +112,13 @@ fn reserve<C: Ledger, F: Ledger, S: Ledger, G: Ledger>(
 
 /// The plan's new domain, recorded and strict where the plan says so, and its seats. None for want
 /// of memory.
-fn book_of<C: Ledger, F: Ledger, S: Ledger, G: Ledger>(
+fn book_of<B: Names>(
     alloc: Global,
     plan: &Plan<'_>,
     bounds: Bounds,
     blanks: Blanks,
-) -> Option<(Book<C, F, S, G>, Vec<Seat<C, F, S, G>>)>
-    requires blanks { AreBlanksOf blanks C.Ledger F.Ledger S.Ledger G.Ledger
+) -> Option<(Book<B>, Vec<Seat<B>>)>
+    requires blanks { AreBlanksOf blanks B.ledgers
         (seat_count plan.now) plan.now.workers }
     ensures { IfSome result (λ r. (r.0 ≡ planned_book plan.now bounds)
         × (r.1.items ≡ seats_in_turn SEAT_PARTS plan.now.workers (seat_count plan.now))) }
@@ -157,11 +154,11 @@ fn most_steps(plan: &Plan<'_>) -> usize
 }
 
 /// The domain, and a post at each seat. None for want of memory.
-fn posted<Q: Drop, C: Ledger, F: Ledger, S: Ledger, G: Ledger>(
+fn posted<Q: Drop, B: Names>(
     alloc: Global,
-    shared: Shared<Q, C, F, S, G>,
-    seats: Vec<Seat<C, F, S, G>>,
-) -> Option<(Shared<Q, C, F, S, G>, Vec<Post<C, F, S, G>>)>
+    shared: Shared<Q, B>,
+    seats: Vec<Seat<B>>,
+) -> Option<(Shared<Q, B>, Vec<Post<B>>)>
     ensures { IfSome result (λ r. (r.0 ≡ shared) × (map (λ p. p.seat) r.1.items ≡ seats.items)) }
 {
     match posts_at(alloc, seats) {

@@ -21,13 +21,13 @@ use iova_range::limits::MAX_LISTED;
 use iova_range::refusal::Refusal;
 use iova_sink::sink::Sink;
 use std::alloc::Global;
-use std::sync::ledger::Ledger;
+use iova_keep::names::Names;
 
 /// What a request is answered before there is a client: `hello` opens one, in the domain of the
 /// keeper's number alone.
-pub(crate) fn ask_first<C: Ledger, F: Ledger, S: Ledger, G: Ledger, K: Keep<C, F, S, G>>(
+pub(crate) fn ask_first<B: Names, K: Keep<B>>(
     keeper: &mut K,
-    seat: &mut Seat<C, F, S, G>,
+    seat: &mut Seat<B>,
     request: Request,
 ) -> Answer
     ensures same { K.identity keeper.new ≡ K.identity keeper.old }
@@ -55,10 +55,10 @@ pub(crate) fn ask_first<C: Ledger, F: Ledger, S: Ledger, G: Ledger, K: Keep<C, F
 /// What a request is answered that isn't asked together with others, of a session with a client
 /// that was told `listed` ranges in lists. The sink is locked before a flush can begin: so there are
 /// never more in flight than sinks.
-pub(crate) fn ask_alone<C: Ledger, F: Ledger, S: Ledger, G: Ledger, K: Keep<C, F, S, G>, D: Sink>(
+pub(crate) fn ask_alone<B: Names, K: Keep<B>, D: Sink>(
     alloc: Global,
     keeper: &mut K,
-    seat: &mut Seat<C, F, S, G>,
+    seat: &mut Seat<B>,
     sink: &mut D,
     id: ClientId,
     listed: u64,
@@ -108,10 +108,10 @@ pub(crate) fn unlock_where<D: Sink>(sink: &mut D, wanted: bool)
 }
 
 /// The same, with the sink locked where that is needed.
-fn ask_locked<C: Ledger, F: Ledger, S: Ledger, G: Ledger, K: Keep<C, F, S, G>, D: Sink>(
+fn ask_locked<B: Names, K: Keep<B>, D: Sink>(
     alloc: Global,
     keeper: &mut K,
-    seat: &mut Seat<C, F, S, G>,
+    seat: &mut Seat<B>,
     sink: &mut D,
     id: ClientId,
     listed: u64,
@@ -159,10 +159,10 @@ fn released(unmapped: Unmapped) -> Answer
 
 /// What the client holds. Refused by `NoClient`, `NoMemory`, and `TooMany` where the ranges listed
 /// so far and these pass 1,048,576.
-fn list<C: Ledger, F: Ledger, S: Ledger, G: Ledger, K: Keep<C, F, S, G>>(
+fn list<B: Names, K: Keep<B>>(
     alloc: Global,
     keeper: &K,
-    seat: &Seat<C, F, S, G>,
+    seat: &Seat<B>,
     id: ClientId,
     listed: u64,
 ) -> Answer
@@ -186,9 +186,9 @@ fn list<C: Ledger, F: Ledger, S: Ledger, G: Ledger, K: Keep<C, F, S, G>>(
 
 /// Flushes, and where that ended well drains all rings into the magazines of the seat's worker.
 /// Refused by `FlightsFull`, `Worn` and `SinkFault`; then nothing is drained.
-fn flush_and_drain<C: Ledger, F: Ledger, S: Ledger, G: Ledger, K: Keep<C, F, S, G>, D: Sink>(
+fn flush_and_drain<B: Names, K: Keep<B>, D: Sink>(
     keeper: &mut K,
-    seat: &mut Seat<C, F, S, G>,
+    seat: &mut Seat<B>,
     sink: &mut D,
 ) -> Answer
     ensures same { K.identity keeper.new ≡ K.identity keeper.old }

@@ -9,14 +9,14 @@ use iova_keep::calls::timeout;
 use iova_keep::keep::Keep;
 use iova_keep::seat::Tally;
 use iova_sink::sink::Sink;
-use std::sync::ledger::Ledger;
+use iova_keep::names::Names;
 
 /// Ends the service of a post: the clients that wait are tried once more (`retry`), and where a
 /// flush is wanted, what is in a ring is flushed and drained (`timeout`). Gives how many clients
 /// are left.
-pub fn end_post<C: Ledger, F: Ledger, S: Ledger, G: Ledger, K: Keep<C, F, S, G>, D: Sink>(
+pub fn end_post<B: Names, K: Keep<B>, D: Sink>(
     keeper: &mut K,
-    post: &mut Post<C, F, S, G>,
+    post: &mut Post<B>,
     sink: &mut D,
     flushes: bool,
 ) -> u64
@@ -35,10 +35,10 @@ pub fn end_post<C: Ledger, F: Ledger, S: Ledger, G: Ledger, K: Keep<C, F, S, G>,
 }
 
 /// A flusher's round, where one is wanted. One that is refused leaves the rings as they are.
-fn make_round<C: Ledger, F: Ledger, S: Ledger, G: Ledger, K: Keep<C, F, S, G>, D: Sink>(
+fn make_round<B: Names, K: Keep<B>, D: Sink>(
     wanted: bool,
     keeper: &mut K,
-    tally: &mut Tally<G>,
+    tally: &mut Tally<B>,
     sink: &mut D,
 )
     ensures same { K.identity keeper.new ≡ K.identity keeper.old }

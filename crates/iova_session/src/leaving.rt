@@ -14,7 +14,7 @@ use iova_model::step::ClientId;
 use iova_range::range::Range;
 use iova_range::refusal::Refusal;
 use iova_sink::sink::{Sink, SinkFault};
-use std::sync::ledger::Ledger;
+use iova_keep::names::Names;
 
 /// What the end of a client that leaves came to.
 #[derive(Clone, Copy)]
@@ -38,9 +38,9 @@ pub struct Attempt {
 /// all of them; where the sink fails, none of them is queued, and the client waits with all of
 /// them. The sink is locked all the while; the end of a client that holds none needs no sink, and
 /// waits for none. It takes no memory.
-pub(crate) fn leave<C: Ledger, F: Ledger, S: Ledger, G: Ledger, K: Keep<C, F, S, G>, D: Sink>(
+pub(crate) fn leave<B: Names, K: Keep<B>, D: Sink>(
     keeper: &mut K,
-    seat: &mut Seat<C, F, S, G>,
+    seat: &mut Seat<B>,
     sink: &mut D,
     ranges: &mut Vec<Range>,
     id: ClientId,
@@ -64,9 +64,9 @@ pub(crate) fn leave<C: Ledger, F: Ledger, S: Ledger, G: Ledger, K: Keep<C, F, S,
 }
 
 /// Reads which ranges the client holds; none of one that isn't known.
-fn read_held<C: Ledger, F: Ledger, S: Ledger, G: Ledger, K: Keep<C, F, S, G>>(
+fn read_held<B: Names, K: Keep<B>>(
     keeper: &K,
-    seat: &Seat<C, F, S, G>,
+    seat: &Seat<B>,
     ranges: &mut Vec<Range>,
     id: ClientId,
 )
@@ -80,9 +80,9 @@ fn read_held<C: Ledger, F: Ledger, S: Ledger, G: Ledger, K: Keep<C, F, S, G>>(
 }
 
 /// Ends a client that holds these ranges, with the sink locked where it holds any.
-fn leave_with<C: Ledger, F: Ledger, S: Ledger, G: Ledger, K: Keep<C, F, S, G>, D: Sink>(
+fn leave_with<B: Names, K: Keep<B>, D: Sink>(
     keeper: &mut K,
-    seat: &mut Seat<C, F, S, G>,
+    seat: &mut Seat<B>,
     sink: &mut D,
     ranges: &Vec<Range>,
     id: ClientId,
@@ -125,10 +125,10 @@ fn tell<D: Sink>(
 }
 
 /// Tries to end a client that waits, where the round isn't over.
-pub(crate) fn try_to_end<C: Ledger, F: Ledger, S: Ledger, G: Ledger, K: Keep<C, F, S, G>, D: Sink>(
+pub(crate) fn try_to_end<B: Names, K: Keep<B>, D: Sink>(
     over: bool,
     keeper: &mut K,
-    seat: &mut Seat<C, F, S, G>,
+    seat: &mut Seat<B>,
     sink: &mut D,
     ranges: &mut Vec<Range>,
     id: ClientId,

@@ -17,24 +17,21 @@ use iova_laws::replies::steps_are_answered_in_kind;
 use iova_laws::validity::steps_keep_validity;
 use iova_sink::sink::Sink;
 use std::alloc::Global;
-use std::sync::ledger::Ledger;
+use iova_keep::names::Names;
 
 /// Serves a session over each of the links in turn, all at one post, and appends how each of them
 /// ended. Over a keeper that tells its domain, each leads it on from where the one before it left
 /// it; so all of them run one transcript of steps, which keeps the promises.
 pub fn serve_one_by_one<
-    C: Ledger,
-    F: Ledger,
-    S: Ledger,
-    G: Ledger,
+    B: Names,
     L: Link,
-    K: Keep<C, F, S, G>,
+    K: Keep<B>,
     D: Sink,
 >(
     alloc: Global,
     links: &mut [L],
     keeper: &mut K,
-    post: &mut Post<C, F, S, G>,
+    post: &mut Post<B>,
     sink: &mut D,
     ends: &mut Vec<SessionEnd>,
 )
@@ -72,18 +69,15 @@ pub fn serve_one_by_one<
 /// numbers for flushes run out. The round needs room for the ranges of a client, which the session
 /// took whose client waits.
 pub fn serve_one_by_one_then_retry<
-    C: Ledger,
-    F: Ledger,
-    S: Ledger,
-    G: Ledger,
+    B: Names,
     L: Link,
-    K: Keep<C, F, S, G>,
+    K: Keep<B>,
     D: Sink,
 >(
     alloc: Global,
     links: &mut [L],
     keeper: &mut K,
-    post: &mut Post<C, F, S, G>,
+    post: &mut Post<B>,
     sink: &mut D,
     ends: &mut Vec<SessionEnd>,
 ) -> u64

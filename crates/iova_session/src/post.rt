@@ -7,12 +7,12 @@ use iova_model::step::ClientId;
 use iova_range::limits::MAX_HOLDINGS;
 use iova_range::range::Range;
 use std::alloc::Global;
-use std::sync::ledger::Ledger;
+use iova_keep::names::Names;
 
 /// Where sessions are served, one at a time; a worker has one or several.
-pub struct Post<C: Ledger, F: Ledger, S: Ledger, G: Ledger> {
+pub struct Post<B: Names> {
     /// A seat of its worker, which nobody else has.
-    pub seat: Seat<C, F, S, G>,
+    pub seat: Seat<B>,
     /// The clients of ended sessions that are not gone yet, oldest first.
     pub waiting: Vec<ClientId>,
     /// Room for the ranges of a client that leaves: what is in it is what the sink was told last.
@@ -21,7 +21,7 @@ pub struct Post<C: Ledger, F: Ledger, S: Ledger, G: Ledger> {
 }
 
 /// What it has is let go, which is proved here once for every crate above.
-impl<C: Ledger, F: Ledger, S: Ledger, G: Ledger> Drop for Post<C, F, S, G> {
+impl<B: Names> Drop for Post<B> {
     fn drop(self) {
         let Post {
             seat: _,
@@ -31,9 +31,9 @@ impl<C: Ledger, F: Ledger, S: Ledger, G: Ledger> Drop for Post<C, F, S, G> {
     }
 }
 
-impl<C: Ledger, F: Ledger, S: Ledger, G: Ledger> Post<C, F, S, G> {
+impl<B: Names> Post<B> {
     /// A post at this seat, where no client waits.
-    pub fn new(alloc: Global, seat: Seat<C, F, S, G>) -> Post<C, F, S, G>
+    pub fn new(alloc: Global, seat: Seat<B>) -> Post<B>
         ensures seat { result.seat ≡ seat }
         ensures waiting { result.waiting.items ≡ [] }
     {
@@ -45,7 +45,7 @@ impl<C: Ledger, F: Ledger, S: Ledger, G: Ledger> Post<C, F, S, G> {
     }
 
     /// Its seat. The list of clients that wait is let go.
-    pub fn into_seat(self) -> Seat<C, F, S, G>
+    pub fn into_seat(self) -> Seat<B>
         ensures { result ≡ self.seat }
     {
         let Post {
@@ -58,10 +58,10 @@ impl<C: Ledger, F: Ledger, S: Ledger, G: Ledger> Post<C, F, S, G> {
 }
 
 /// A post at each seat, in their order. None for want of memory.
-pub fn posts_at<C: Ledger, F: Ledger, S: Ledger, G: Ledger>(
+pub fn posts_at<B: Names>(
     alloc: Global,
-    seats: Vec<Seat<C, F, S, G>>,
-) -> Option<Vec<Post<C, F, S, G>>>
+    seats: Vec<Seat<B>>,
+) -> Option<Vec<Post<B>>>
     ensures { IfSome result (λ v. map (λ p. p.seat) v.items ≡ seats.items) }
 {
     let Ok(mut posts) = Vec::with_capacity(alloc, seats.len()) else {
@@ -76,10 +76,10 @@ pub fn posts_at<C: Ledger, F: Ledger, S: Ledger, G: Ledger>(
 }
 
 /// The posts' seats, in their order. None for want of memory.
-pub fn seats_of<C: Ledger, F: Ledger, S: Ledger, G: Ledger>(
+pub fn seats_of<B: Names>(
     alloc: Global,
-    posts: Vec<Post<C, F, S, G>>,
-) -> Option<Vec<Seat<C, F, S, G>>>
+    posts: Vec<Post<B>>,
+) -> Option<Vec<Seat<B>>>
     ensures { IfSome result (λ v. v.items ≡ map (λ p. p.seat) posts.items) }
 {
     let Ok(mut seats) = Vec::with_capacity(alloc, posts.len()) else {

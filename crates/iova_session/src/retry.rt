@@ -10,7 +10,7 @@ use crate::post::{Post, has_ranges};
 use iova_keep::keep::Keep;
 use iova_laws::validity::steps_keep_validity;
 use iova_sink::sink::Sink;
-use std::sync::ledger::Ledger;
+use iova_keep::names::Names;
 
 /// Tries once to end each client that waits, in the order of the list, and gives how many are left:
 /// the sink is told again that it is gone, and which ranges it still holds, and then they are
@@ -18,9 +18,9 @@ use std::sync::ledger::Ledger;
 /// gives no answer to that ends the round: those behind the client wait on. Where nobody else holds
 /// a range of the domain and no call of the sink fails, all of them end, and nobody holds anything.
 /// Takes no memory where a session was served at the post.
-pub fn retry<C: Ledger, F: Ledger, S: Ledger, G: Ledger, K: Keep<C, F, S, G>, D: Sink>(
+pub fn retry<B: Names, K: Keep<B>, D: Sink>(
     keeper: &mut K,
-    post: &mut Post<C, F, S, G>,
+    post: &mut Post<B>,
     sink: &mut D,
 ) -> u64
     ensures same { K.identity keeper.new ≡ K.identity keeper.old }
@@ -48,9 +48,9 @@ pub fn retry<C: Ledger, F: Ledger, S: Ledger, G: Ledger, K: Keep<C, F, S, G>, D:
 }
 
 /// The same, where the round may be over.
-fn retry_until<C: Ledger, F: Ledger, S: Ledger, G: Ledger, K: Keep<C, F, S, G>, D: Sink>(
+fn retry_until<B: Names, K: Keep<B>, D: Sink>(
     keeper: &mut K,
-    post: &mut Post<C, F, S, G>,
+    post: &mut Post<B>,
     sink: &mut D,
     over: bool,
 ) -> u64

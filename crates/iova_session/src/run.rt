@@ -33,7 +33,7 @@ use iova_range::refusal::Refusal;
 use iova_sink::sink::Sink;
 use std::alloc::Global;
 use std::marker::{Brand, PhantomData};
-use std::sync::ledger::Ledger;
+use iova_keep::names::Names;
 
 /// How a session ended, and its client.
 #[derive(Clone, Copy, Debug, PartialEq, Eq)]
@@ -46,20 +46,17 @@ pub struct SessionEnd {
 
 /// What serving came to, and what it had access to.
 #[derive(Drop)]
-struct ServedSession<'a, C: Ledger, F: Ledger, S: Ledger, G: Ledger, K: Keep<C, F, S, G>, D: Sink> {
+struct ServedSession<'a, B: Names, K: Keep<B>, D: Sink> {
     end: End,
     client: Option<ClientId>,
-    access: DomainAccess<'a, C, F, S, G, K, D>,
+    access: DomainAccess<'a, B, K, D>,
 }
 
 /// Serves a session, and gives back what it had access to.
 fn serve_with<
     'a,
-    C: Ledger,
-    F: Ledger,
-    S: Ledger,
-    G: Ledger,
-    K: Keep<C, F, S, G>,
+    B: Names,
+    K: Keep<B>,
     D: Sink,
     L: Link,
     O: SessionStart,
@@ -67,8 +64,8 @@ fn serve_with<
     alloc: Global,
     limits: SessionLimits,
     link: &mut L,
-    access: DomainAccess<'a, C, F, S, G, K, D>,
-) -> ServedSession<'a, C, F, S, G, K, D>
+    access: DomainAccess<'a, B, K, D>,
+) -> ServedSession<'a, B, K, D>
     requires names { (access.keeper.ghost_name ≡ O.keeper_name)
         × (access.seat.ghost_name ≡ O.seat_name) × (access.sink.ghost_name ≡ O.sink_name) }
     requires same { K.identity access.keeper.now ≡ O.identity }
@@ -99,7 +96,7 @@ fn serve_with<
         (D.calls result.access.sink.now) }
 {
     let session = Session::new(access.keeper.number());
-    let mut desk: SessionDesk<'a, C, F, S, G, K, D, O> = SessionDesk {
+    let mut desk: SessionDesk<'a, B, K, D, O> = SessionDesk {
         access,
         session,
         last: LastBatch::new(alloc),
@@ -121,12 +118,12 @@ fn serve_with<
 }
 
 /// Serves a session of the seat's worker, and gives how it ended and the client that it opened.
-fn serve_at<C: Ledger, F: Ledger, S: Ledger, G: Ledger, K: Keep<C, F, S, G>, D: Sink, L: Link>(
+fn serve_at<B: Names, K: Keep<B>, D: Sink, L: Link>(
     alloc: Global,
     limits: SessionLimits,
     link: &mut L,
     keeper: &mut K,
-    seat: &mut Seat<C, F, S, G>,
+    seat: &mut Seat<B>,
     sink: &mut D,
 ) -> (End, Option<ClientId>)
     ensures same { K.identity keeper.new ≡ K.identity keeper.old }
@@ -154,7 +151,7 @@ fn serve_at<C: Ledger, F: Ledger, S: Ledger, G: Ledger, K: Keep<C, F, S, G>, D: 
             seat: _,
             sink: _,
         },
-    } = serve_with::<C, F, S, G, K, D, L, Brand>(
+    } = serve_with::<B, K, D, L, Brand>(
         alloc,
         limits,
         link,
@@ -171,18 +168,15 @@ fn serve_at<C: Ledger, F: Ledger, S: Ledger, G: Ledger, K: Keep<C, F, S, G>, D: 
 /// be, but no run comes to that. Over a keeper that tells its domain, each request does there what
 /// its call of the lock does, and is answered by what that call answers.
 pub fn run_session<
-    C: Ledger,
-    F: Ledger,
-    S: Ledger,
-    G: Ledger,
+    B: Names,
     L: Link,
-    K: Keep<C, F, S, G>,
+    K: Keep<B>,
     D: Sink,
 >(
     alloc: Global,
     link: &mut L,
     keeper: &mut K,
-    post: &mut Post<C, F, S, G>,
+    post: &mut Post<B>,
     sink: &mut D,
 ) -> SessionEnd
     ensures same { K.identity keeper.new ≡ K.identity keeper.old }
@@ -211,19 +205,16 @@ pub fn run_session<
 
 /// The same within these limits.
 pub fn run_session_within<
-    C: Ledger,
-    F: Ledger,
-    S: Ledger,
-    G: Ledger,
+    B: Names,
     L: Link,
-    K: Keep<C, F, S, G>,
+    K: Keep<B>,
     D: Sink,
 >(
     alloc: Global,
     limits: SessionLimits,
     link: &mut L,
     keeper: &mut K,
-    post: &mut Post<C, F, S, G>,
+    post: &mut Post<B>,
     sink: &mut D,
 ) -> SessionEnd
     ensures same { K.identity keeper.new ≡ K.identity keeper.old }
@@ -266,9 +257,9 @@ pub fn run_session_within<
 
 /// Ends the client that a session opened, and puts it on the list where it waits. The seat's shares
 /// are to come back to `back`, where that is known: none where they don't fit the client's end.
-pub(crate) fn end_opened<C: Ledger, F: Ledger, S: Ledger, G: Ledger, K: Keep<C, F, S, G>, D: Sink>(
+pub(crate) fn end_opened<B: Names, K: Keep<B>, D: Sink>(
     keeper: &mut K,
-    post: &mut Post<C, F, S, G>,
+    post: &mut Post<B>,
     sink: &mut D,
     id: ClientId,
     back: Option<Totals>,
@@ -347,8 +338,8 @@ pub(crate) fn ended_of(left: Leaving) -> Result<Ending, Refusal>
 }
 
 /// The seat's three shares.
-pub(crate) fn shares_of<C: Ledger, F: Ledger, S: Ledger, G: Ledger>(
-    seat: &Seat<C, F, S, G>,
+pub(crate) fn shares_of<B: Names>(
+    seat: &Seat<B>,
 ) -> Totals
     ensures { result ≡ seat.now.held }
 {

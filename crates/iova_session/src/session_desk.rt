@@ -18,7 +18,7 @@ use iova_range::limits::MAX_RUN;
 use iova_range::refusal::Refusal;
 use iova_sink::sink::Sink;
 use std::marker::{Brand, PhantomData};
-use std::sync::ledger::Ledger;
+use iova_keep::names::Names;
 
 /// What a session begins with, as the type of its desk knows it.
 pub(crate) trait SessionStart {
@@ -67,15 +67,12 @@ impl SessionStart for Brand {
 #[derive(Drop)]
 pub(crate) struct DomainAccess<
     'a,
-    C: Ledger,
-    F: Ledger,
-    S: Ledger,
-    G: Ledger,
-    K: Keep<C, F, S, G>,
+    B: Names,
+    K: Keep<B>,
     D: Sink,
 > {
     pub(crate) keeper: &'a mut K,
-    pub(crate) seat: &'a mut Seat<C, F, S, G>,
+    pub(crate) seat: &'a mut Seat<B>,
     pub(crate) sink: &'a mut D,
 }
 
@@ -84,15 +81,12 @@ pub(crate) struct DomainAccess<
 #[derive(Drop)]
 pub(crate) struct SessionDesk<
     'a,
-    C: Ledger,
-    F: Ledger,
-    S: Ledger,
-    G: Ledger,
-    K: Keep<C, F, S, G>,
+    B: Names,
+    K: Keep<B>,
     D: Sink,
     O: SessionStart,
 > {
-    pub(crate) access: DomainAccess<'a, C, F, S, G, K, D>,
+    pub(crate) access: DomainAccess<'a, B, K, D>,
     pub(crate) session: Session,
     pub(crate) last: LastBatch,
     pub(crate) start: PhantomData<O>,
@@ -114,14 +108,11 @@ pub(crate) struct SessionDesk<
 
 impl<
     'a,
-    C: Ledger,
-    F: Ledger,
-    S: Ledger,
-    G: Ledger,
-    K: Keep<C, F, S, G>,
+    B: Names,
+    K: Keep<B>,
     D: Sink,
     O: SessionStart,
-> Desk for SessionDesk<'a, C, F, S, G, K, D, O> {
+> Desk for SessionDesk<'a, B, K, D, O> {
     ghost pairs = { λ d. d.session.pairs };
 
     fn ask_run(
@@ -140,8 +131,8 @@ impl<
 }
 
 /// `ask_front` over what the session has access to.
-pub(crate) fn ask_with<C: Ledger, F: Ledger, S: Ledger, G: Ledger, K: Keep<C, F, S, G>, D: Sink>(
-    access: &mut DomainAccess<'_, C, F, S, G, K, D>,
+pub(crate) fn ask_with<B: Names, K: Keep<B>, D: Sink>(
+    access: &mut DomainAccess<'_, B, K, D>,
     session: &mut Session,
     last: &mut LastBatch,
     requests: &[Request],
@@ -183,9 +174,9 @@ pub(crate) fn ask_with<C: Ledger, F: Ledger, S: Ledger, G: Ledger, K: Keep<C, F,
 /// Asks a front of the requests, at least one of them: with a client those that can be asked in one
 /// hold, else the first alone, as a free that the last hold stopped at. Refused by `NoMemory` where
 /// there is no room for the answers; then nothing was asked.
-pub(crate) fn ask_front<C: Ledger, F: Ledger, S: Ledger, G: Ledger, K: Keep<C, F, S, G>, D: Sink>(
+pub(crate) fn ask_front<B: Names, K: Keep<B>, D: Sink>(
     keeper: &mut K,
-    seat: &mut Seat<C, F, S, G>,
+    seat: &mut Seat<B>,
     sink: &mut D,
     session: &mut Session,
     last: &mut LastBatch,

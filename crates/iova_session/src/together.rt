@@ -16,7 +16,7 @@ use iova_proto::request::Request;
 use iova_range::limits::MAX_RUN;
 use iova_range::refusal::Refusal;
 use std::alloc::Global;
-use std::sync::ledger::Ledger;
+use iova_keep::names::Names;
 
 /// What a desk keeps of the last hold of a session.
 #[derive(Drop)]
@@ -41,9 +41,9 @@ impl LastBatch {
 /// ring is full, and gives how many were asked. A free that the last hold stopped at isn't tried in
 /// a hold again, nor one behind a free in a strict domain: these are asked alone. Refused by
 /// `NoMemory` where the room for what the lock tells has to grow and can't; then nothing was asked.
-pub(crate) fn ask_together<C: Ledger, F: Ledger, S: Ledger, G: Ledger, K: Keep<C, F, S, G>>(
+pub(crate) fn ask_together<B: Names, K: Keep<B>>(
     keeper: &mut K,
-    seat: &mut Seat<C, F, S, G>,
+    seat: &mut Seat<B>,
     session: &mut Session,
     id: ClientId,
     requests: &[Request],

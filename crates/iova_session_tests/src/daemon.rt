@@ -36,7 +36,7 @@ use std::process::Abort;
 use std::rt::Clock;
 use std::sync::Wait;
 use std::sync::atomic::{AtomicU64, Ordering};
-use std::sync::ledger::Ledger;
+use iova_keep::names::Names;
 use std::test::*;
 use std::thread::Threads;
 
@@ -435,7 +435,7 @@ where
     if workers == 0 || workers > MAX_WORKERS {
         return Err(BEFORE);
     }
-    serve_new::<R, N, Brand, Brand, Brand, Brand, L, A, D, P>(
+    serve_new::<R, N, Brand, L, A, D, P>(
         rt,
         alloc,
         notices,
@@ -450,7 +450,7 @@ where
 }
 
 /// Serves on a new domain 0 of this kind with so many workers.
-fn serve_new<R, N, C, F, S, G, L, A, D, P>(
+fn serve_new<R, N, B, L, A, D, P>(
     rt: &R,
     alloc: Global,
     notices: &N,
@@ -465,18 +465,15 @@ fn serve_new<R, N, C, F, S, G, L, A, D, P>(
 where
     R: Threads + Wait + Clock + Sync,
     N: Log + Sync,
-    C: Ledger + Send + Sync,
-    F: Ledger + Send + Sync,
-    S: Ledger + Send + Sync,
-    G: Ledger + Send + Sync,
+    B: Names + Send + Sync,
     L: Link + Send + Drop,
     A: Accept<L> + Sync,
     D: Sink + Send + Drop,
     P: Pause + Drop,
     requires workers { (1 ≤ workers) × (workers ≤ MAX_WORKERS) }
-    requires blanks { AreBlanksOf blanks C.Ledger F.Ledger S.Ledger G.Ledger workers workers }
+    requires blanks { AreBlanksOf blanks B.ledgers workers workers }
 {
-    let Some((shared, mut posts)) = new_domain::<&R, C, F, S, G>(rt, alloc, kind, workers, blanks)
+    let Some((shared, mut posts)) = new_domain::<&R, B>(rt, alloc, kind, workers, blanks)
     else {
         return Err(BEFORE);
     };
@@ -485,7 +482,7 @@ where
         drop(shared);
         return Err(BEFORE);
     }
-    let served = serve_on::<R, &R, N, C, F, S, G, L, A, D, P>(
+    let served = serve_on::<R, &R, N, B, L, A, D, P>(
         rt, alloc, notices, shared, posts, sinks, accept, pause, sessions,
     );
     match served {
@@ -498,25 +495,22 @@ where
 
 /// A new domain 0 of this kind on frames 1 to 4095, and a post at each seat. None for want of
 /// memory.
-fn new_domain<Q, C, F, S, G>(
+fn new_domain<Q, B>(
     rt: Q,
     alloc: Global,
     kind: (bool, usize),
     workers: u64,
     blanks: Blanks,
-) -> Option<(Shared<Q, C, F, S, G>, Vec<Post<C, F, S, G>>)>
+) -> Option<(Shared<Q, B>, Vec<Post<B>>)>
 where
     Q: Drop,
-    C: Ledger,
-    F: Ledger,
-    S: Ledger,
-    G: Ledger,
-    requires blanks { AreBlanksOf blanks C.Ledger F.Ledger S.Ledger G.Ledger workers workers }
+    B: Names,
+    requires blanks { AreBlanksOf blanks B.ledgers workers workers }
 {
     let Ok(bounds) = Bounds::new(1, 4095) else {
         return None;
     };
-    let Ok((shared, seats)) = new_shared::<Q, C, F, S, G>(rt, alloc, kind, bounds, workers, blanks)
+    let Ok((shared, seats)) = new_shared::<Q, B>(rt, alloc, kind, bounds, workers, blanks)
     else {
         return None;
     };
@@ -530,9 +524,9 @@ where
 }
 
 /// What serving left.
-fn seen_of<Q: Wait + Drop, C: Ledger, F: Ledger, S: Ledger, G: Ledger>(
+fn seen_of<Q: Wait + Drop, B: Names>(
     alloc: Global,
-    served: Served<Q, C, F, S, G>,
+    served: Served<Q, B>,
 ) -> Result<Seen, &'static str> {
     let Served { shared, posts } = served;
     let recording = shared.recording();
@@ -552,10 +546,10 @@ fn seen_of<Q: Wait + Drop, C: Ledger, F: Ledger, S: Ledger, G: Ledger>(
 
 /// Whether the posts stand in the order of their workers, and the totals that their seats are
 /// gathered to. None where a seat is missing, and for want of memory.
-fn gathered<Q: Wait, C: Ledger, F: Ledger, S: Ledger, G: Ledger>(
+fn gathered<Q: Wait, B: Names>(
     alloc: Global,
-    shared: &Shared<Q, C, F, S, G>,
-    posts: Vec<Post<C, F, S, G>>,
+    shared: &Shared<Q, B>,
+    posts: Vec<Post<B>>,
 ) -> Option<(bool, Totals)> {
     let mut in_order = true;
     let mut seats = Vec::new(alloc);

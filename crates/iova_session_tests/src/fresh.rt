@@ -22,7 +22,7 @@ use iova_sink::sink::Sink;
 use std::alloc::Global;
 use std::marker::Brand;
 use std::sync::Wait;
-use std::sync::ledger::Ledger;
+use iova_keep::names::Names;
 
 /// The domain that a session is served on, at the seat of its last worker.
 #[derive(Clone, Copy)]
@@ -87,7 +87,7 @@ pub(crate) fn at_post<R: Wait, L: Link, D: Sink>(
     };
     let bounds = Bounds::new_in(profile, setup.bounds.0, setup.bounds.1)?;
     if setup.is_locked {
-        in_shared::<R, Brand, Brand, Brand, Brand, L, D>(
+        in_shared::<R, Brand, L, D>(
             rt,
             alloc,
             setup,
@@ -99,7 +99,7 @@ pub(crate) fn at_post<R: Wait, L: Link, D: Sink>(
             text,
         )
     } else {
-        in_book::<Brand, Brand, Brand, Brand, L, D>(
+        in_book::<Brand, L, D>(
             alloc,
             setup,
             bounds,
@@ -111,7 +111,7 @@ pub(crate) fn at_post<R: Wait, L: Link, D: Sink>(
     }
 }
 
-fn in_book<C: Ledger, F: Ledger, S: Ledger, G: Ledger, L: Link, D: Sink>(
+fn in_book<B: Names, L: Link, D: Sink>(
     alloc: Global,
     setup: &Setup,
     bounds: Bounds,
@@ -120,10 +120,10 @@ fn in_book<C: Ledger, F: Ledger, S: Ledger, G: Ledger, L: Link, D: Sink>(
     link: &mut L,
     sink: &mut D,
 ) -> Result<Seen, Refusal>
-    requires blanks { AreBlanksOf blanks C.Ledger F.Ledger S.Ledger G.Ledger workers workers }
+    requires blanks { AreBlanksOf blanks B.ledgers workers workers }
 {
     let (book, mut seats) = if setup.pairs > 0 {
-        Book::<C, F, S, G>::recorded(
+        Book::<B>::recorded(
             alloc,
             0,
             bounds,
@@ -132,7 +132,7 @@ fn in_book<C: Ledger, F: Ledger, S: Ledger, G: Ledger, L: Link, D: Sink>(
             blanks,
         )?
     } else {
-        Book::<C, F, S, G>::new(alloc, 0, bounds, workers, blanks)?
+        Book::<B>::new(alloc, 0, bounds, workers, blanks)?
     };
     let book = if setup.strict { book.strict() } else { book };
     let seen = session_at(alloc, book, &mut seats, setup.in_flight, link, sink);
@@ -141,19 +141,19 @@ fn in_book<C: Ledger, F: Ledger, S: Ledger, G: Ledger, L: Link, D: Sink>(
 }
 
 /// A fresh domain 0 under a lock, and a seat for each worker.
-pub(crate) fn new_shared<Q: Drop, C: Ledger, F: Ledger, S: Ledger, G: Ledger>(
+pub(crate) fn new_shared<Q: Drop, B: Names>(
     rt: Q,
     alloc: Global,
     kind: (bool, usize),
     bounds: Bounds,
     workers: u64,
     blanks: Blanks,
-) -> Result<(Shared<Q, C, F, S, G>, Vec<Seat<C, F, S, G>>), Refusal>
-    requires blanks { AreBlanksOf blanks C.Ledger F.Ledger S.Ledger G.Ledger workers workers }
+) -> Result<(Shared<Q, B>, Vec<Seat<B>>), Refusal>
+    requires blanks { AreBlanksOf blanks B.ledgers workers workers }
 {
     let (strict, pairs) = kind;
     let (shared, seats) = if pairs > 0 {
-        Shared::<Q, C, F, S, G>::recorded(
+        Shared::<Q, B>::recorded(
             rt,
             alloc,
             0,
@@ -163,13 +163,13 @@ pub(crate) fn new_shared<Q: Drop, C: Ledger, F: Ledger, S: Ledger, G: Ledger>(
             blanks,
         )?
     } else {
-        Shared::<Q, C, F, S, G>::new(rt, alloc, 0, bounds, workers, blanks)?
+        Shared::<Q, B>::new(rt, alloc, 0, bounds, workers, blanks)?
     };
     let shared = if strict { shared.strict() } else { shared };
     Ok((shared, seats))
 }
 
-fn in_shared<R: Wait, C: Ledger, F: Ledger, S: Ledger, G: Ledger, L: Link, D: Sink>(
+fn in_shared<R: Wait, B: Names, L: Link, D: Sink>(
     rt: &R,
     alloc: Global,
     setup: &Setup,
@@ -180,9 +180,9 @@ fn in_shared<R: Wait, C: Ledger, F: Ledger, S: Ledger, G: Ledger, L: Link, D: Si
     sink: &mut D,
     text: &mut Vec<u8>,
 ) -> Result<Seen, Refusal>
-    requires blanks { AreBlanksOf blanks C.Ledger F.Ledger S.Ledger G.Ledger workers workers }
+    requires blanks { AreBlanksOf blanks B.ledgers workers workers }
 {
-    let (shared, mut seats) = new_shared::<&R, C, F, S, G>(
+    let (shared, mut seats) = new_shared::<&R, B>(
         rt,
         alloc,
         (setup.strict, setup.pairs),
@@ -207,9 +207,9 @@ fn in_shared<R: Wait, C: Ledger, F: Ledger, S: Ledger, G: Ledger, L: Link, D: Si
 
 /// What the seats are gathered to, and what was recorded. Refused by `NotHeld` where a seat is
 /// missing.
-fn after<Q: Wait, C: Ledger, F: Ledger, S: Ledger, G: Ledger>(
-    shared: &Shared<Q, C, F, S, G>,
-    seats: Vec<Seat<C, F, S, G>>,
+fn after<Q: Wait, B: Names>(
+    shared: &Shared<Q, B>,
+    seats: Vec<Seat<B>>,
     text: &mut Vec<u8>,
     seen: Result<Seen, Refusal>,
 ) -> Result<Seen, Refusal> {
@@ -228,17 +228,14 @@ fn after<Q: Wait, C: Ledger, F: Ledger, S: Ledger, G: Ledger>(
 
 /// One session at the last of the seats. By value, so that the keeper is lent whatever it is.
 fn session_at<
-    C: Ledger,
-    F: Ledger,
-    S: Ledger,
-    G: Ledger,
-    K: Keep<C, F, S, G> + Drop,
+    B: Names,
+    K: Keep<B> + Drop,
     L: Link,
     D: Sink,
 >(
     alloc: Global,
     mut keeper: K,
-    seats: &mut Vec<Seat<C, F, S, G>>,
+    seats: &mut Vec<Seat<B>>,
     in_flight: bool,
     link: &mut L,
     sink: &mut D,
@@ -255,11 +252,11 @@ fn session_at<
 /// Serves a session, beside a flush of the first seat where one is to be in flight, and then tries
 /// the clients that wait: with a sink that fails, and, once that flush has ended well, with the
 /// session's own.
-fn one_session<C: Ledger, F: Ledger, S: Ledger, G: Ledger, K: Keep<C, F, S, G>, L: Link, D: Sink>(
+fn one_session<B: Names, K: Keep<B>, L: Link, D: Sink>(
     alloc: Global,
     keeper: &mut K,
-    post: &mut Post<C, F, S, G>,
-    seats: &mut Vec<Seat<C, F, S, G>>,
+    post: &mut Post<B>,
+    seats: &mut Vec<Seat<B>>,
     in_flight: bool,
     link: &mut L,
     sink: &mut D,

@@ -19,7 +19,7 @@ use iova_session::run::SessionEnd;
 use iova_sink::memory::MemorySink;
 use std::alloc::Global;
 use std::marker::Brand;
-use std::sync::ledger::Ledger;
+use iova_keep::names::Names;
 use std::test::*;
 
 const NONE_HELD: Option<Ending> = Some(Ending::Ended(0));
@@ -83,10 +83,10 @@ fn count_expected(ends: &[SessionEnd]) -> usize {
 
 /// All sessions at this post, over these links, and then a round of tries. The sink fails in its
 /// first call, which is that of the first client that holds a range.
-fn serve_all<C: Ledger, F: Ledger, S: Ledger, G: Ledger, K: Keep<C, F, S, G>>(
+fn serve_all<B: Names, K: Keep<B>>(
     alloc: Global,
     keeper: &mut K,
-    post: &mut Post<C, F, S, G>,
+    post: &mut Post<B>,
     links: &mut [MemoryLink<'static>],
     ends: &mut Vec<SessionEnd>,
 ) -> Option<Outcome> {
@@ -104,10 +104,10 @@ fn serve_all<C: Ledger, F: Ledger, S: Ledger, G: Ledger, K: Keep<C, F, S, G>>(
 }
 
 /// The same at the post of this seat.
-fn all_at<C: Ledger, F: Ledger, S: Ledger, G: Ledger, K: Keep<C, F, S, G> + Drop>(
+fn all_at<B: Names, K: Keep<B> + Drop>(
     alloc: Global,
     mut keeper: K,
-    seat: Seat<C, F, S, G>,
+    seat: Seat<B>,
     links: &mut [MemoryLink<'static>],
 ) -> Option<Outcome> {
     let mut post = Post::new(alloc, seat);
@@ -116,15 +116,15 @@ fn all_at<C: Ledger, F: Ledger, S: Ledger, G: Ledger, K: Keep<C, F, S, G> + Drop
 }
 
 /// The same over a book of a fresh domain 0 with frames 1 to 1023 and one worker.
-fn in_book<C: Ledger, F: Ledger, S: Ledger, G: Ledger>(
+fn in_book<B: Names>(
     alloc: Global,
     blanks: Blanks,
     links: &mut [MemoryLink<'static>],
 ) -> Result<Option<Outcome>, Refusal>
-    requires blanks { AreBlanksOf blanks C.Ledger F.Ledger S.Ledger G.Ledger 1 1 }
+    requires blanks { AreBlanksOf blanks B.ledgers 1 1 }
 {
     let bounds = Bounds::new_in(Profile::one(), 1, 1023)?;
-    let (book, mut seats) = Book::<C, F, S, G>::new(alloc, 0, bounds, 1, blanks)?;
+    let (book, mut seats) = Book::<B>::new(alloc, 0, bounds, 1, blanks)?;
     let Some(seat) = seats.pop() else {
         return Err(Refusal::NoWorker);
     };
@@ -133,7 +133,7 @@ fn in_book<C: Ledger, F: Ledger, S: Ledger, G: Ledger>(
 
 fn in_new_book(alloc: Global) -> Result<Option<Outcome>, Refusal> {
     let mut links = links_of(alloc)?;
-    in_book::<Brand, Brand, Brand, Brand>(alloc, Blanks::new(1, 1), &mut links)
+    in_book::<Brand>(alloc, Blanks::new(1, 1), &mut links)
 }
 
 #[test]

@@ -56,7 +56,7 @@ use std::io;
 use std::net::Net;
 use std::rt::{Clock, Files, Runtime};
 use std::sync::Wait;
-use std::sync::ledger::Ledger;
+use iova_keep::names::Names;
 use std::thread::{Threads, available_parallelism};
 use std::time::Duration;
 
@@ -90,14 +90,11 @@ struct Running<'a, R> {
 /// record's beginning; `SocketFault` where a thread can't be started; `NoMemory` or `CannotWrite`
 /// for the record at its end; `NoMemory` for the report; `CannotWrite`; `Left` where the daemon was
 /// stopped, and something is left at clients or in rings.
-pub fn serve<'a, R, C, F, S, G>(rt: &R, plan: &Plan<'a>, blanks: Blanks) -> Result<(), Fault<'a>>
+pub fn serve<'a, R, B>(rt: &R, plan: &Plan<'a>, blanks: Blanks) -> Result<(), Fault<'a>>
 where
     R: Runtime + AllocGlobal + Net + Dial + Threads + Wait + Sync + Files<File = File> + Log,
-    C: Ledger + Send + Sync,
-    F: Ledger + Send + Sync,
-    S: Ledger + Send + Sync,
-    G: Ledger + Send + Sync,
-    requires blanks { AreBlanksOf blanks C.Ledger F.Ledger S.Ledger G.Ledger
+    B: Names + Send + Sync,
+    requires blanks { AreBlanksOf blanks B.ledgers
         (seat_count plan.now) plan.now.workers }
     ensures order { plan.now.last < plan.now.start → result ≡ Err Fault.StartAboveLast }
     ensures profile { plan.now.start ≤ plan.now.last → IsAboveProfile plan.now
@@ -111,7 +108,7 @@ where
     let console = CountedConsole::new(rt, &signals, warns);
     let notices = Logged::new(rt, counted_level(plan), console);
     tell_start(&notices, plan, &windows);
-    let made = new_domain::<R, C, F, S, G>(rt, plan, bounds, &windows, blanks);
+    let made = new_domain::<R, B>(rt, plan, bounds, &windows, blanks);
     match made {
         Some((shared, posts)) => serve_domain(rt, plan, &notices, &signals, shared, posts),
         None => Err(Fault::NoMemory),
@@ -175,20 +172,17 @@ impl Hindrance {
 }
 
 /// Serves on this domain at posts of all its workers, and tells what is left of it.
-fn serve_domain<R, C, F, S, G>(
+fn serve_domain<R, B>(
     rt: &R,
     plan: &Plan<'_>,
     notices: &Notices<'_, R>,
     signals: &Signals,
-    shared: Shared<&R, C, F, S, G>,
-    posts: Vec<Post<C, F, S, G>>,
+    shared: Shared<&R, B>,
+    posts: Vec<Post<B>>,
 ) -> Result<(), Fault<'static>>
 where
     R: Runtime + AllocGlobal + Net + Dial + Threads + Wait + Sync + Files<File = File>,
-    C: Ledger + Send + Sync,
-    F: Ledger + Send + Sync,
-    S: Ledger + Send + Sync,
-    G: Ledger + Send + Sync,
+    B: Names + Send + Sync,
     requires posts { AreNewSeats shared (map (λ p. p.seat) posts.items) }
     ensures { IfErr result (IsFaultOfServing plan.now) }
 {
@@ -226,18 +220,15 @@ fn has_peer(plan: &Plan<'_>) -> bool {
 }
 
 /// The same, with what lasts as long as the run.
-fn serve_run<'a, R, C, F, S, G>(
+fn serve_run<'a, R, B>(
     run: &Running<'a, R>,
     plan: &Plan<'_>,
-    shared: Shared<&'a R, C, F, S, G>,
-    posts: Vec<Post<C, F, S, G>>,
+    shared: Shared<&'a R, B>,
+    posts: Vec<Post<B>>,
 ) -> Result<(), Fault<'static>>
 where
     R: Runtime + AllocGlobal + Net + Dial + Threads + Wait + Sync + Files<File = File>,
-    C: Ledger + Send + Sync,
-    F: Ledger + Send + Sync,
-    S: Ledger + Send + Sync,
-    G: Ledger + Send + Sync,
+    B: Names + Send + Sync,
     requires posts { AreNewSeats shared (map (λ p. p.seat) posts.items) }
     ensures { IfErr result (IsFaultOfServing plan.now) }
 {
@@ -257,18 +248,15 @@ fn tell_end<R: Clock + Eprint>(notices: &Notices<'_, R>) {
 
 /// Opens what the plan names, and serves its sessions. The posts that come back are those of all
 /// workers.
-fn serve_links<'a, 'p, R, C, F, S, G>(
+fn serve_links<'a, 'p, R, B>(
     run: &Running<'a, R>,
     plan: &Plan<'p>,
-    shared: Shared<&'a R, C, F, S, G>,
-    posts: Vec<Post<C, F, S, G>>,
-) -> Result<(Served<&'a R, C, F, S, G>, Option<RecordFile<'p>>), Hindrance>
+    shared: Shared<&'a R, B>,
+    posts: Vec<Post<B>>,
+) -> Result<(Served<&'a R, B>, Option<RecordFile<'p>>), Hindrance>
 where
     R: Runtime + AllocGlobal + Net + Dial + Threads + Wait + Sync + Files<File = File>,
-    C: Ledger + Send + Sync,
-    F: Ledger + Send + Sync,
-    S: Ledger + Send + Sync,
-    G: Ledger + Send + Sync,
+    B: Names + Send + Sync,
     requires posts { AreNewSeats shared (map (λ p. p.seat) posts.items) }
     ensures { IfOk result (λ r. AreOfAllSeats r.0.shared
         (map (λ p. p.seat.worker) r.0.posts.items)) }
@@ -306,20 +294,17 @@ fn remove_new_file<R: Files<File = File>>(rt: &R, plan: &Plan<'_>) {
 }
 
 /// The same, with a sink for each worker and one for the flusher, and the record's file.
-fn serve_recorded<'a, 'p, R, C, F, S, G>(
+fn serve_recorded<'a, 'p, R, B>(
     run: &Running<'a, R>,
     plan: &Plan<'p>,
-    shared: Shared<&'a R, C, F, S, G>,
-    posts: Vec<Post<C, F, S, G>>,
+    shared: Shared<&'a R, B>,
+    posts: Vec<Post<B>>,
     sinks: Vec<DaemonSink<'a, UnixNet<'a, R>>>,
     record: Option<RecordFile<'p>>,
-) -> Result<(Served<&'a R, C, F, S, G>, Option<RecordFile<'p>>), Hindrance>
+) -> Result<(Served<&'a R, B>, Option<RecordFile<'p>>), Hindrance>
 where
     R: Runtime + AllocGlobal + Net + Dial + Threads + Wait + Sync + Files<File = File>,
-    C: Ledger + Send + Sync,
-    F: Ledger + Send + Sync,
-    S: Ledger + Send + Sync,
-    G: Ledger + Send + Sync,
+    B: Names + Send + Sync,
     requires posts { AreNewSeats shared (map (λ p. p.seat) posts.items) }
     requires sinks { 2 ≤ vec_len sinks }
     ensures { IfOk result (λ r. AreOfAllSeats r.0.shared
@@ -360,19 +345,16 @@ struct Sockets<'a> {
 
 /// Listens on the sockets, and begins the record. Refused by `SocketFault`, and by `CannotWrite`
 /// and `NoMemory`: then nothing of the sockets is left.
-fn begin<'a, 'p, Q, R, C, F, S, G>(
+fn begin<'a, 'p, Q, R, B>(
     run: &Running<'a, R>,
     plan: &Plan<'p>,
-    shared: &Shared<Q, C, F, S, G>,
+    shared: &Shared<Q, B>,
     record: &mut Option<RecordFile<'_>>,
 ) -> Result<Sockets<'p>, Hindrance>
 where
     R: AllocGlobal + Clock + Eprint + Wait + Net + Files<File = File>,
     Q: Wait,
-    C: Ledger,
-    F: Ledger,
-    S: Ledger,
-    G: Ledger,
+    B: Names,
 {
     let control = listen_for_control(run, plan)?;
     let Some(service) = listen(run.rt, run.notices, plan.socket, Access::Umask) else {
@@ -418,20 +400,17 @@ fn remove_control<R: Files<File = File>>(rt: &R, file: &Option<MadeFile<'_>>) {
 
 /// Serves the plan's sessions on this socket, with these sinks, which posts share.
 #[tactic(auto, using(crate::proofs::Sends::backoff_send, crate::proofs::Sends::either_send))]
-fn serve_opened<'a, R, C, F, S, G>(
+fn serve_opened<'a, R, B>(
     run: &Running<'a, R>,
     plan: &Plan<'_>,
-    shared: Shared<&'a R, C, F, S, G>,
-    posts: Vec<Post<C, F, S, G>>,
+    shared: Shared<&'a R, B>,
+    posts: Vec<Post<B>>,
     sinks: Vec<DaemonSink<'a, UnixNet<'a, R>>>,
     sockets: Sockets<'_>,
-) -> Result<Served<&'a R, C, F, S, G>, Hindrance>
+) -> Result<Served<&'a R, B>, Hindrance>
 where
     R: Runtime + AllocGlobal + Net + Dial + Threads + Wait + Sync + Files<File = File>,
-    C: Ledger + Send + Sync,
-    F: Ledger + Send + Sync,
-    S: Ledger + Send + Sync,
-    G: Ledger + Send + Sync,
+    B: Names + Send + Sync,
     requires posts { AreNewSeats shared (map (λ p. p.seat) posts.items) }
     requires sinks { 2 ≤ vec_len sinks }
     ensures { IfOk result (λ r. AreOfAllSeats r.shared
@@ -463,20 +442,17 @@ fn forget_sockets<R: Files<File = File>>(rt: &R, sockets: Sockets<'_>) {
 }
 
 /// The same with these sinks, of any kind.
-fn serve_held<'a, R, C, F, S, G, D>(
+fn serve_held<'a, R, B, D>(
     run: &Running<'a, R>,
     plan: &Plan<'_>,
-    shared: Shared<&'a R, C, F, S, G>,
-    posts: Vec<Post<C, F, S, G>>,
+    shared: Shared<&'a R, B>,
+    posts: Vec<Post<B>>,
     held: &[SharedSink<D>],
     sockets: Sockets<'_>,
-) -> Result<Served<&'a R, C, F, S, G>, Hindrance>
+) -> Result<Served<&'a R, B>, Hindrance>
 where
     R: Runtime + AllocGlobal + Net + Dial + Threads + Wait + Sync + Files<File = File>,
-    C: Ledger + Send + Sync,
-    F: Ledger + Send + Sync,
-    S: Ledger + Send + Sync,
-    G: Ledger + Send + Sync,
+    B: Names + Send + Sync,
     D: Sink + Send + Drop,
     requires posts { AreNewSeats shared (map (λ p. p.seat) posts.items) }
     requires sinks { 2 ≤ length held.now }
@@ -495,20 +471,17 @@ where
 }
 
 /// The same with a sink for each post, and one more. The socket's file is removed at the end.
-fn serve_in_turn<'a, R, C, F, S, G, D>(
+fn serve_in_turn<'a, R, B, D>(
     run: &Running<'a, R>,
     plan: &Plan<'_>,
-    shared: Shared<&'a R, C, F, S, G>,
-    posts: Vec<Post<C, F, S, G>>,
+    shared: Shared<&'a R, B>,
+    posts: Vec<Post<B>>,
     sinks: Vec<D>,
     sockets: Sockets<'_>,
-) -> Result<Served<&'a R, C, F, S, G>, Hindrance>
+) -> Result<Served<&'a R, B>, Hindrance>
 where
     R: Runtime + AllocGlobal + Net + Dial + Threads + Wait + Sync + Files<File = File>,
-    C: Ledger + Send + Sync,
-    F: Ledger + Send + Sync,
-    S: Ledger + Send + Sync,
-    G: Ledger + Send + Sync,
+    B: Names + Send + Sync,
     D: Sink + Send + Drop,
     requires posts { AreNewSeats shared (map (λ p. p.seat) posts.items) }
     requires sinks { vec_len sinks ≡ vec_len posts + 1 }
@@ -539,20 +512,17 @@ where
 }
 
 /// The same on what is accepted here.
-fn serve_threads<'a, R, C, F, S, G, D>(
+fn serve_threads<'a, R, B, D>(
     run: &Running<'a, R>,
     plan: &Plan<'_>,
-    shared: Shared<&'a R, C, F, S, G>,
-    posts: Vec<Post<C, F, S, G>>,
+    shared: Shared<&'a R, B>,
+    posts: Vec<Post<B>>,
     sinks: Vec<D>,
     accept: &SocketAccept<'_, R, Notices<'_, R>>,
-) -> Result<Served<&'a R, C, F, S, G>, Refusal>
+) -> Result<Served<&'a R, B>, Refusal>
 where
     R: Runtime + AllocGlobal + Net + Dial + Threads + Wait + Sync + Files<File = File>,
-    C: Ledger + Send + Sync,
-    F: Ledger + Send + Sync,
-    S: Ledger + Send + Sync,
-    G: Ledger + Send + Sync,
+    B: Names + Send + Sync,
     D: Sink + Send + Drop,
     requires posts { AreNewSeats shared (map (λ p. p.seat) posts.items) }
     requires sinks { vec_len sinks ≡ vec_len posts + 1 }
@@ -564,10 +534,7 @@ where
         R,
         &R,
         Notices<'_, R>,
-        C,
-        F,
-        S,
-        G,
+        B,
         ServedLink<'_, R>,
         SocketAccept<'_, R, Notices<'_, R>>,
         D,
@@ -702,19 +669,16 @@ fn open_record<'a, 'p, R: Clock + Eprint + Files<File = File>>(
 
 /// Gathers what was served on, writes the record where one is wanted, and prints the domain. The
 /// posts are those of all workers.
-fn finish<'a, R, C, F, S, G>(
+fn finish<'a, R, B>(
     run: &Running<'a, R>,
     plan: &Plan<'_>,
-    shared: Shared<&'a R, C, F, S, G>,
-    posts: Vec<Post<C, F, S, G>>,
+    shared: Shared<&'a R, B>,
+    posts: Vec<Post<B>>,
     record: Option<RecordFile<'_>>,
 ) -> Result<(), Fault<'static>>
 where
     R: Runtime + AllocGlobal + Net + Dial + Wait + Files<File = File>,
-    C: Ledger,
-    F: Ledger,
-    S: Ledger,
-    G: Ledger,
+    B: Names,
     requires posts { AreOfAllSeats shared (map (λ p. p.seat.worker) posts.items) }
     ensures { IfErr result (IsFaultOfServing plan.now) }
 {
@@ -761,19 +725,16 @@ fn tell<R: Runtime + AllocGlobal>(
 }
 
 /// Gathers the seats of the posts, and writes the record where one is wanted.
-fn gather_all<'a, R, Q, C, F, S, G>(
+fn gather_all<'a, R, Q, B>(
     run: &Running<'a, R>,
-    shared: &Shared<Q, C, F, S, G>,
-    posts: Vec<Post<C, F, S, G>>,
+    shared: &Shared<Q, B>,
+    posts: Vec<Post<B>>,
     record: Option<RecordFile<'_>>,
 ) -> Result<(), Hindrance>
 where
     R: AllocGlobal + Clock + Eprint + Net + Dial + Files<File = File>,
     Q: Wait,
-    C: Ledger,
-    F: Ledger,
-    S: Ledger,
-    G: Ledger,
+    B: Names,
     requires posts { AreOfAllSeats shared.now (map (λ p. p.seat.worker) posts.items) }
 {
     let mut record = record;
@@ -836,18 +797,15 @@ where
 
 /// Writes what was recorded to its file, where there is one, in place of what stands there. Refused
 /// by `NoMemory` and by `CannotWrite`.
-fn write_record<'a, R, Q, C, F, S, G>(
+fn write_record<'a, R, Q, B>(
     run: &Running<'a, R>,
-    shared: &Shared<Q, C, F, S, G>,
+    shared: &Shared<Q, B>,
     record: &mut Option<RecordFile<'_>>,
 ) -> Result<(), Hindrance>
 where
     R: AllocGlobal + Clock + Eprint,
     Q: Wait,
-    C: Ledger,
-    F: Ledger,
-    S: Ledger,
-    G: Ledger,
+    B: Names,
 {
     let Some(file) = record else {
         return Ok(());
@@ -893,18 +851,15 @@ fn open_sinks<'a, R: AllocGlobal + Clock + Eprint + Net + Dial + Files<File = Fi
 
 /// Ends the service of all posts, where a sink can be opened: tries the clients that wait once
 /// more, and at a stop flushes what is in a ring.
-fn end_posts<'a, R, C, F, S, G, K>(
+fn end_posts<'a, R, B, K>(
     run: &Running<'a, R>,
     keeper: &mut K,
-    posts: &mut [Post<C, F, S, G>],
+    posts: &mut [Post<B>],
 )
 where
     R: Clock + Eprint + Net + Dial + Files<File = File>,
-    C: Ledger,
-    F: Ledger,
-    S: Ledger,
-    G: Ledger,
-    K: Keep<C, F, S, G>,
+    B: Names,
+    K: Keep<B>,
     ensures { map (λ p. p.seat.worker) posts.new ≡ map (λ p. p.seat.worker) posts.old }
 {
     let stops = run.signals.is_stopping();
@@ -925,7 +880,7 @@ where
 }
 
 /// Whether a client waits at one of the posts.
-fn is_waited<C: Ledger, F: Ledger, S: Ledger, G: Ledger>(posts: &[Post<C, F, S, G>]) -> bool {
+fn is_waited<B: Names>(posts: &[Post<B>]) -> bool {
     let Some((post, more)) = posts.split_first() else {
         return false;
     };
@@ -933,18 +888,15 @@ fn is_waited<C: Ledger, F: Ledger, S: Ledger, G: Ledger>(posts: &[Post<C, F, S, 
 }
 
 /// Ends the service of each of the posts.
-fn end_each<C, F, S, G, K, D>(
+fn end_each<B, K, D>(
     keeper: &mut K,
-    posts: &mut [Post<C, F, S, G>],
+    posts: &mut [Post<B>],
     sink: &mut D,
     stops: bool,
 )
 where
-    C: Ledger,
-    F: Ledger,
-    S: Ledger,
-    G: Ledger,
-    K: Keep<C, F, S, G>,
+    B: Names,
+    K: Keep<B>,
     D: Sink,
     ensures { map (λ p. p.seat.worker) posts.new ≡ map (λ p. p.seat.worker) posts.old }
 {
@@ -956,13 +908,10 @@ where
 }
 
 /// Ends the service of this post, where there is anything to do.
-fn end_at<C, F, S, G, K, D>(keeper: &mut K, post: &mut Post<C, F, S, G>, sink: &mut D, stops: bool)
+fn end_at<B, K, D>(keeper: &mut K, post: &mut Post<B>, sink: &mut D, stops: bool)
 where
-    C: Ledger,
-    F: Ledger,
-    S: Ledger,
-    G: Ledger,
-    K: Keep<C, F, S, G>,
+    B: Names,
+    K: Keep<B>,
     D: Sink,
     ensures { post.new.seat.worker ≡ post.old.seat.worker }
 {

@@ -72,5 +72,5 @@ where
     R: Runtime + AllocGlobal + Net + Dial + Threads + Wait + Sync + Files<File = File> + Log,
 {
     let seats = seat_count(plan);
-    serve::<R, Brand, Brand, Brand, Brand>(rt, plan, Blanks::new(seats, plan.workers))
+    serve::<R, Brand>(rt, plan, Blanks::new(seats, plan.workers))
 }

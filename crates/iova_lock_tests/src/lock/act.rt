@@ -12,7 +12,7 @@ use iova_sink::memory::MemorySink;
 use std::alloc::Global;
 use std::fmt::Debug;
 use std::process::Abort;
-use std::sync::ledger::Ledger;
+use iova_keep::names::Names;
 use std::test::*;
 
 /// A call by a seat, or what is read of the seat or of its domain. A number is a client's first,
@@ -64,9 +64,9 @@ pub(crate) fn said<T: Debug, R: Abort>(rt: &R, alloc: Global, call: &str, answer
 }
 
 // So many single frames for a client from 4,095 on down, and so many of them unmapped.
-fn fill<C: Ledger, F: Ledger, S: Ledger, G: Ledger, K: Keep<C, F, S, G>>(
+fn fill<B: Names, K: Keep<B>>(
     keeper: &mut K,
-    seat: &mut Seat<C, F, S, G>,
+    seat: &mut Seat<B>,
     id: u64,
     ranges: u64,
     frees: u64,
@@ -82,11 +82,11 @@ fn fill<C: Ledger, F: Ledger, S: Ledger, G: Ledger, K: Keep<C, F, S, G>>(
 }
 
 // So many flushes begin. What was heard of the last one.
-fn begin<C: Ledger, F: Ledger, S: Ledger, G: Ledger, K: Keep<C, F, S, G>, R: Abort>(
+fn begin<B: Names, K: Keep<B>, R: Abort>(
     rt: &R,
     alloc: Global,
     keeper: &mut K,
-    seat: &mut Seat<C, F, S, G>,
+    seat: &mut Seat<B>,
     flushes: u64,
 ) -> String {
     for _ in 1..flushes {
@@ -95,11 +95,11 @@ fn begin<C: Ledger, F: Ledger, S: Ledger, G: Ledger, K: Keep<C, F, S, G>, R: Abo
     said(rt, alloc, "begun", &keeper.begin(seat.tally()).begun)
 }
 
-fn batch<C: Ledger, F: Ledger, S: Ledger, G: Ledger, K: Keep<C, F, S, G>, R: Abort>(
+fn batch<B: Names, K: Keep<B>, R: Abort>(
     rt: &R,
     alloc: Global,
     keeper: &mut K,
-    seat: &mut Seat<C, F, S, G>,
+    seat: &mut Seat<B>,
     id: u64,
     asks: &[Ask],
 ) -> String {
@@ -109,11 +109,11 @@ fn batch<C: Ledger, F: Ledger, S: Ledger, G: Ledger, K: Keep<C, F, S, G>, R: Abo
     said(rt, alloc, "batched", &(done, told.as_slice()))
 }
 
-fn holdings<C: Ledger, F: Ledger, S: Ledger, G: Ledger, K: Keep<C, F, S, G>, R: Abort>(
+fn holdings<B: Names, K: Keep<B>, R: Abort>(
     rt: &R,
     alloc: Global,
     keeper: &K,
-    seat: &Seat<C, F, S, G>,
+    seat: &Seat<B>,
     id: u64,
 ) -> String {
     let mut ranges = Vec::new(alloc);
@@ -121,7 +121,7 @@ fn holdings<C: Ledger, F: Ledger, S: Ledger, G: Ledger, K: Keep<C, F, S, G>, R: 
     said(rt, alloc, "listed", &(listed, ranges.as_slice()))
 }
 
-fn stat<C: Ledger, F: Ledger, S: Ledger, G: Ledger, K: Keep<C, F, S, G>, R: Abort>(
+fn stat<B: Names, K: Keep<B>, R: Abort>(
     rt: &R,
     alloc: Global,
     keeper: &K,
@@ -133,11 +133,11 @@ fn stat<C: Ledger, F: Ledger, S: Ledger, G: Ledger, K: Keep<C, F, S, G>, R: Abor
     said(rt, alloc, "stat", &places)
 }
 
-fn counts<C: Ledger, F: Ledger, S: Ledger, G: Ledger, K: Keep<C, F, S, G>, R: Abort>(
+fn counts<B: Names, K: Keep<B>, R: Abort>(
     rt: &R,
     alloc: Global,
     keeper: &K,
-    seat: &Seat<C, F, S, G>,
+    seat: &Seat<B>,
 ) -> String {
     let stat = keeper.stat();
     said(
@@ -149,11 +149,11 @@ fn counts<C: Ledger, F: Ledger, S: Ledger, G: Ledger, K: Keep<C, F, S, G>, R: Ab
 }
 
 // What an act is answered, over a sink that fails at its `fail_at`-th call.
-pub(crate) fn answer<C: Ledger, F: Ledger, S: Ledger, G: Ledger, K: Keep<C, F, S, G>, R: Abort>(
+pub(crate) fn answer<B: Names, K: Keep<B>, R: Abort>(
     rt: &R,
     alloc: Global,
     keeper: &mut K,
-    seat: &mut Seat<C, F, S, G>,
+    seat: &mut Seat<B>,
     fail_at: u64,
     act: &Act<'_>,
 ) -> String {
@@ -213,11 +213,11 @@ pub(crate) fn answer<C: Ledger, F: Ledger, S: Ledger, G: Ledger, K: Keep<C, F, S
 }
 
 // Rows, one after another.
-pub(crate) fn run<C: Ledger, F: Ledger, S: Ledger, G: Ledger, K: Keep<C, F, S, G>, R: Abort>(
+pub(crate) fn run<B: Names, K: Keep<B>, R: Abort>(
     rt: &R,
     alloc: Global,
     keeper: &mut K,
-    seat: &mut Seat<C, F, S, G>,
+    seat: &mut Seat<B>,
     strict: bool,
     rows: &[Row],
 ) {

@@ -8,7 +8,7 @@ use iova_range::range::Range;
 use iova_range::refusal::Refusal;
 use std::alloc::Global;
 use std::process::Abort;
-use std::sync::ledger::Ledger;
+use iova_keep::names::Names;
 use std::test::*;
 
 // A growth was refused in the call.
@@ -17,10 +17,10 @@ pub(crate) fn refused<R: Abort + Print>(rt: &R, call: &str) {
 }
 
 // A client is opened, and given frames 9 and 8.
-fn give<C: Ledger, F: Ledger, S: Ledger, G: Ledger, K: Keep<C, F, S, G>, R: Abort + Print>(
+fn give<B: Names, K: Keep<B>, R: Abort + Print>(
     rt: &R,
     keeper: &mut K,
-    seat: &mut Seat<C, F, S, G>,
+    seat: &mut Seat<B>,
 ) {
     let mut opened = keeper.open(seat, false);
     if opened == Err(Refusal::NoMemory) {
@@ -39,11 +39,11 @@ fn give<C: Ledger, F: Ledger, S: Ledger, G: Ledger, K: Keep<C, F, S, G>, R: Abor
 }
 
 // Its holdings are listed.
-fn list<C: Ledger, F: Ledger, S: Ledger, G: Ledger, K: Keep<C, F, S, G>, R: Abort + Print>(
+fn list<B: Names, K: Keep<B>, R: Abort + Print>(
     rt: &R,
     alloc: Global,
     keeper: &K,
-    seat: &Seat<C, F, S, G>,
+    seat: &Seat<B>,
 ) {
     let mut ranges = Vec::new(alloc);
     let mut listed = keeper.holdings(seat, 1, &mut ranges);
@@ -59,11 +59,11 @@ fn list<C: Ledger, F: Ledger, S: Ledger, G: Ledger, K: Keep<C, F, S, G>, R: Abor
 }
 
 // Frame 9 is freed twice in a batch. Where that is refused, nothing was done.
-fn free<C: Ledger, F: Ledger, S: Ledger, G: Ledger, K: Keep<C, F, S, G>, R: Abort + Print>(
+fn free<B: Names, K: Keep<B>, R: Abort + Print>(
     rt: &R,
     alloc: Global,
     keeper: &mut K,
-    seat: &mut Seat<C, F, S, G>,
+    seat: &mut Seat<B>,
 ) {
     let asks = [Ask::Free { lo: 9 }; 2];
     let before = keeper.stat();
@@ -88,13 +88,10 @@ fn free<C: Ledger, F: Ledger, S: Ledger, G: Ledger, K: Keep<C, F, S, G>, R: Abor
 
 // Calls that grow.
 pub(crate) fn ask<
-    C: Ledger,
-    F: Ledger,
-    S: Ledger,
-    G: Ledger,
-    K: Keep<C, F, S, G>,
+    B: Names,
+    K: Keep<B>,
     R: Abort + Print,
->(rt: &R, alloc: Global, keeper: &mut K, seat: &mut Seat<C, F, S, G>) {
+>(rt: &R, alloc: Global, keeper: &mut K, seat: &mut Seat<B>) {
     give(rt, keeper, seat);
     list(rt, alloc, keeper, seat);
     free(rt, alloc, keeper, seat);

@@ -9,7 +9,7 @@ use iova_keep::keep::Keep;
 use iova_keep::seat::Seat;
 use std::alloc::Global;
 use std::process::Abort;
-use std::sync::ledger::Ledger;
+use iova_keep::names::Names;
 use std::test::*;
 
 const CALLS: u64 = 16_000;
@@ -53,11 +53,11 @@ impl Script {
     }
 
     // Asks for an act, over a sink that mostly fails at its first call.
-    fn ask<C: Ledger, F: Ledger, S: Ledger, G: Ledger, K: Keep<C, F, S, G>, R: Abort>(
+    fn ask<B: Names, K: Keep<B>, R: Abort>(
         &mut self,
         rt: &R,
         keeper: &mut K,
-        seat: &mut Seat<C, F, S, G>,
+        seat: &mut Seat<B>,
         act: &Act<'_>,
     ) {
         let fail_at = [0, 1, 1, 2][self.below(4) as usize];
@@ -66,11 +66,11 @@ impl Script {
     }
 
     // Opens a client in place of the one that stood there.
-    fn open<C: Ledger, F: Ledger, S: Ledger, G: Ledger, K: Keep<C, F, S, G>, R: Abort>(
+    fn open<B: Names, K: Keep<B>, R: Abort>(
         &mut self,
         rt: &R,
         keeper: &mut K,
-        seat: &mut Seat<C, F, S, G>,
+        seat: &mut Seat<B>,
         place: usize,
     )
         requires { place < 4 }
@@ -86,10 +86,10 @@ impl Script {
     }
 
     // The first frame of one of the client's ranges, or how many there are.
-    fn held<C: Ledger, F: Ledger, S: Ledger, G: Ledger, K: Keep<C, F, S, G>>(
+    fn held<B: Names, K: Keep<B>>(
         &mut self,
         keeper: &K,
-        seat: &Seat<C, F, S, G>,
+        seat: &Seat<B>,
         id: u64,
     ) -> u64 {
         let mut ranges = Vec::new(self.alloc);
@@ -102,11 +102,11 @@ impl Script {
     }
 
     // The end of a client, and another client in its place.
-    fn end<C: Ledger, F: Ledger, S: Ledger, G: Ledger, K: Keep<C, F, S, G>, R: Abort>(
+    fn end<B: Names, K: Keep<B>, R: Abort>(
         &mut self,
         rt: &R,
         keeper: &mut K,
-        seat: &mut Seat<C, F, S, G>,
+        seat: &mut Seat<B>,
         place: usize,
     )
         requires { place < 4 }
@@ -121,11 +121,11 @@ impl Script {
     }
 
     // One of the calls that are made seldom.
-    fn other<C: Ledger, F: Ledger, S: Ledger, G: Ledger, K: Keep<C, F, S, G>, R: Abort>(
+    fn other<B: Names, K: Keep<B>, R: Abort>(
         &mut self,
         rt: &R,
         keeper: &mut K,
-        seat: &mut Seat<C, F, S, G>,
+        seat: &mut Seat<B>,
         place: usize,
     )
         requires { place < 4 }
@@ -143,11 +143,11 @@ impl Script {
     }
 
     // One call, and then how the domain stands.
-    fn call<C: Ledger, F: Ledger, S: Ledger, G: Ledger, K: Keep<C, F, S, G>, R: Abort>(
+    fn call<B: Names, K: Keep<B>, R: Abort>(
         &mut self,
         rt: &R,
         keeper: &mut K,
-        seat: &mut Seat<C, F, S, G>,
+        seat: &mut Seat<B>,
     ) {
         let place = self.place(seat.worker());
         let id = self.clients[place];
@@ -177,11 +177,11 @@ impl Script {
 
 // Two clients of each of two workers, and then calls of either worker in turn, and of either one's
 // clients. What was answered.
-pub(crate) fn said_by<C: Ledger, F: Ledger, S: Ledger, G: Ledger, K: Keep<C, F, S, G>, R: Abort>(
+pub(crate) fn said_by<B: Names, K: Keep<B>, R: Abort>(
     rt: &R,
     alloc: Global,
     keeper: &mut K,
-    seats: &mut [Seat<C, F, S, G>],
+    seats: &mut [Seat<B>],
 ) -> Vec<String> {
     let mut script = Script {
         alloc,

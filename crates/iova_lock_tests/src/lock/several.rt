@@ -16,14 +16,14 @@ use std::alloc::Global;
 use std::marker::Brand;
 use std::process::Abort;
 use std::sync::Wait;
-use std::sync::ledger::Ledger;
+use iova_keep::names::Names;
 use std::test::*;
 
 // A client is opened and given a frame at each of five seats, and gives it back at its own.
-fn ask_each<C: Ledger, F: Ledger, S: Ledger, G: Ledger, K: Keep<C, F, S, G> + Copy, R: Abort>(
+fn ask_each<B: Names, K: Keep<B> + Copy, R: Abort>(
     rt: &R,
     keeper: K,
-    seats: &mut [Seat<C, F, S, G>],
+    seats: &mut [Seat<B>],
 ) {
     let mut keeper = keeper;
     let mut sink = MemorySink::new(0);
@@ -63,10 +63,10 @@ fn ask_each<C: Ledger, F: Ledger, S: Ledger, G: Ledger, K: Keep<C, F, S, G> + Co
 }
 
 // They are gathered once all of them are there.
-fn gather_all<C: Ledger, F: Ledger, S: Ledger, G: Ledger, R: Abort + Wait>(
+fn gather_all<B: Names, R: Abort + Wait>(
     rt: &R,
-    shared: &Shared<&R, C, F, S, G>,
-    seats: Vec<Seat<C, F, S, G>>,
+    shared: &Shared<&R, B>,
+    seats: Vec<Seat<B>>,
 ) {
     let mut seats = seats;
     let last = seats.pop().expect(rt, "a seat");
@@ -84,15 +84,15 @@ fn gather_all<C: Ledger, F: Ledger, S: Ledger, G: Ledger, R: Abort + Wait>(
     }
 }
 
-fn at_five_seats<C: Ledger, F: Ledger, S: Ledger, G: Ledger, R: Abort + Wait>(
+fn at_five_seats<B: Names, R: Abort + Wait>(
     rt: &R,
     alloc: Global,
     bounds: Bounds,
     blanks: Blanks,
 )
-    requires blanks { AreBlanksOf blanks C.Ledger F.Ledger S.Ledger G.Ledger 5 2 }
+    requires blanks { AreBlanksOf blanks B.ledgers 5 2 }
 {
-    match Book::<C, F, S, G>::seated(alloc, 7, bounds, 2, 5, None, blanks) {
+    match Book::<B>::seated(alloc, 7, bounds, 2, 5, None, blanks) {
         Ok((book, mut seats)) => {
             let shared = Shared::over(rt, book);
             ask_each(rt, &shared, &mut seats);
@@ -105,7 +105,7 @@ fn at_five_seats<C: Ledger, F: Ledger, S: Ledger, G: Ledger, R: Abort + Wait>(
 
 #[test]
 fn several_seats_of_a_worker(rt: HostRuntime) {
-    at_five_seats::<Brand, Brand, Brand, Brand, _>(
+    at_five_seats::<Brand, _>(
         &rt,
         rt.alloc(),
         Bounds::new(1, 1023).expect(&rt, "bounds"),

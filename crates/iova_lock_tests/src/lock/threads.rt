@@ -11,18 +11,18 @@ use iova_sink::memory::MemorySink;
 use std::alloc::Global;
 use std::process::Abort;
 use std::sync::Wait;
-use std::sync::ledger::Ledger;
+use iova_keep::names::Names;
 use std::test::*;
 use std::thread;
 use std::thread::Threads;
 
 // So many tallies with a part each of the seat's.
-fn split_off<C: Ledger, F: Ledger, S: Ledger, G: Ledger, R: Abort>(
+fn split_off<B: Names, R: Abort>(
     rt: &R,
     alloc: Global,
-    seat: &mut Seat<C, F, S, G>,
+    seat: &mut Seat<B>,
     tallies: u64,
-) -> Vec<Tally<G>> {
+) -> Vec<Tally<B>> {
     let mut split = Vec::new(alloc);
     for _ in 0..tallies {
         assert!(rt; seat.tally().parts() >= 2);
@@ -32,10 +32,10 @@ fn split_off<C: Ledger, F: Ledger, S: Ledger, G: Ledger, R: Abort>(
 }
 
 // Allocates with two clients in turn, and frees every second range.
-fn work<C: Ledger, F: Ledger, S: Ledger, G: Ledger, K: Keep<C, F, S, G> + Copy>(
+fn work<B: Names, K: Keep<B> + Copy>(
     keeper: K,
-    seat: Seat<C, F, S, G>,
-) -> Seat<C, F, S, G> {
+    seat: Seat<B>,
+) -> Seat<B> {
     let mut keeper = keeper;
     let mut seat = seat;
     let mut sink = MemorySink::new(0);
@@ -57,9 +57,9 @@ fn work<C: Ledger, F: Ledger, S: Ledger, G: Ledger, K: Keep<C, F, S, G> + Copy>(
 }
 
 // Frees a range, and tries again where the ring stays full.
-fn free<C: Ledger, F: Ledger, S: Ledger, G: Ledger, K: Keep<C, F, S, G>>(
+fn free<B: Names, K: Keep<B>>(
     keeper: &mut K,
-    seat: &mut Seat<C, F, S, G>,
+    seat: &mut Seat<B>,
     sink: &mut MemorySink,
     id: u64,
     lo: u64,
@@ -73,10 +73,10 @@ fn free<C: Ledger, F: Ledger, S: Ledger, G: Ledger, K: Keep<C, F, S, G>>(
 }
 
 // Rounds of the flusher.
-fn flush_rounds<C: Ledger, F: Ledger, S: Ledger, G: Ledger, K: Keep<C, F, S, G> + Copy>(
+fn flush_rounds<B: Names, K: Keep<B> + Copy>(
     keeper: K,
-    tallies: Vec<Tally<G>>,
-) -> Vec<Tally<G>> {
+    tallies: Vec<Tally<B>>,
+) -> Vec<Tally<B>> {
     let mut keeper = keeper;
     let mut tallies = tallies;
     let mut sink = MemorySink::new(0);
@@ -92,13 +92,10 @@ fn flush_rounds<C: Ledger, F: Ledger, S: Ledger, G: Ledger, K: Keep<C, F, S, G> 
 // Each seat works in a thread of its own, beside a flusher. The seats, and how many flushes of the
 // flusher ended well.
 pub(crate) fn beside_flusher<
-    C: Ledger + Send + Sync,
-    F: Ledger + Send + Sync,
-    S: Ledger + Send + Sync,
-    G: Ledger + Send + Sync,
-    K: Keep<C, F, S, G> + Copy + Send + Sync,
+    B: Names + Send + Sync,
+    K: Keep<B> + Copy + Send + Sync,
     R: Threads + Wait + Sync + Abort,
->(rt: &R, alloc: Global, keeper: K, seats: Vec<Seat<C, F, S, G>>) -> (Vec<Seat<C, F, S, G>>, u64) {
+>(rt: &R, alloc: Global, keeper: K, seats: Vec<Seat<B>>) -> (Vec<Seat<B>>, u64) {
     let mut seats = seats;
     let spare = match seats.first_mut() {
         Some(seat) => split_off(rt, alloc, seat, 1),
@@ -121,9 +118,9 @@ pub(crate) fn beside_flusher<
 }
 
 // Flushes, and waits in the sink.
-fn flush_at_the_gate<C: Ledger, F: Ledger, S: Ledger, G: Ledger, K: Keep<C, F, S, G> + Copy>(
+fn flush_at_the_gate<B: Names, K: Keep<B> + Copy>(
     keeper: K,
-    tally: Tally<G>,
+    tally: Tally<B>,
     inside: &Flag,
     open: &Flag,
 ) -> Result<u64, Refusal> {
@@ -134,14 +131,14 @@ fn flush_at_the_gate<C: Ledger, F: Ledger, S: Ledger, G: Ledger, K: Keep<C, F, S
 }
 
 // Waits until the flushes have begun, asks the rows, and opens the gate.
-fn ask_beside<C: Ledger, F: Ledger, S: Ledger, G: Ledger, K: Keep<C, F, S, G> + Copy, R: Abort>(
+fn ask_beside<B: Names, K: Keep<B> + Copy, R: Abort>(
     rt: &R,
     alloc: Global,
     keeper: K,
-    seat: Seat<C, F, S, G>,
+    seat: Seat<B>,
     case: &FlushesInFlight,
     open: &Flag,
-) -> Seat<C, F, S, G> {
+) -> Seat<B> {
     let mut keeper = keeper;
     let mut seat = seat;
     for _turn in 0..MAX_TURNS {
@@ -159,19 +156,16 @@ fn ask_beside<C: Ledger, F: Ledger, S: Ledger, G: Ledger, K: Keep<C, F, S, G> + 
 // Rows of a seat before flushes, beside them while they wait in their sinks, and after them. The
 // seat.
 pub(crate) fn beside_flushes<
-    C: Ledger + Send + Sync,
-    F: Ledger + Send + Sync,
-    S: Ledger + Send + Sync,
-    G: Ledger + Send + Sync,
-    K: Keep<C, F, S, G> + Copy + Send + Sync,
+    B: Names + Send + Sync,
+    K: Keep<B> + Copy + Send + Sync,
     R: Threads + Wait + Sync + Abort,
 >(
     rt: &R,
     alloc: Global,
     keeper: K,
-    seat: Seat<C, F, S, G>,
+    seat: Seat<B>,
     case: &FlushesInFlight,
-) -> Seat<C, F, S, G> {
+) -> Seat<B> {
     let mut keeper = keeper;
     let mut seat = seat;
     act::run(rt, alloc, &mut keeper, &mut seat, false, case.before);
