@@ -2,7 +2,7 @@
 use denote.RattleType.{RattleType}
 use denote.Param.Send.{IsSend, IsSync, sendable}
 use Rattle.std.proofs.Crossing.{crosses}
-use Rattle.std.specs.declared.sync.ledger.Ledger.{Ghosts}
+use Rattle.iova_keep.specs.declared.names.Names.{Ghosts}
 use Rattle.iova_lock.specs.contracts.book.Book as books
 use Rattle.iova_lock.specs.contracts.shared.Shared as domains
 use Rattle.iova_daemon.specs.contracts.worker.WorkerContext as contexts
@@ -13,6 +13,6 @@ pub WorkerContext-sync : (R N K A T H X : RattleType) → IsSync R → IsSync N 
 WorkerContext-sync R N K A T H X r n k a t h x = search (crosses, sendable) depth 20
 
 -- a domain under its lock may be shared where its book may go to another thread
-pub Shared-sync : (Q C F S G : RattleType) (c : Ghosts C.Denot) (f : Ghosts F.Denot) (s : Ghosts S.Denot) (g : Ghosts G.Denot)
-    → IsSync Q → IsSend (books.the_row C F S G c f s g) → IsSync (domains.the_row Q C F S G c f s g)
-Shared-sync Q C F S G c f s g q book = search (crosses, sendable) depth 20
+pub Shared-sync : (Q B : RattleType) (b : Ghosts B.Denot) → IsSync Q → IsSend (books.the_row B b)
+    → IsSync (domains.the_row Q B b)
+Shared-sync Q B b q book = search (crosses, sendable) depth 20

@@ -8,10 +8,10 @@ ghost use Rattle.iova_daemon.specs.contracts.roster.Roster as roster;
 
 use crate::pool::Pool;
 use crate::roster::Roster;
+use iova_keep::names::Names;
 use iova_lock::crossing::books_are_send;
 use iova_lock::shared::Shared;
 use iova_session::post::Post;
-use iova_keep::names::Names;
 
 fn is_send<T: Send>()
     ensures { IsSend T.row }

@@ -3,6 +3,7 @@ use crate::roster::Roster;
 use crate::threads::SideTask;
 use iova_keep::calls::{flush, timeout};
 use iova_keep::keep::Keep;
+use iova_keep::names::Names;
 use iova_keep::seat::Tally;
 use iova_links::pause::Pause;
 use iova_range::limits::{FLUSH_PAUSE, MAX_FLUSH_PAUSE};
@@ -11,7 +12,6 @@ use iova_session::post::Post;
 use iova_sink::sink::Sink;
 use log::{Log, warn};
 use std::sync::Wait;
-use iova_keep::names::Names;
 
 /// So many frames in rings, at least, let the flusher think that a ring may soon be full.
 const FLUSH_AHEAD: u64 = 128;

@@ -18,6 +18,7 @@ use crate::roster::Roster;
 use crate::worker::WorkerContext;
 use flusher::{Busy, Flusher};
 use iova_keep::keep::Keep;
+use iova_keep::names::Names;
 use iova_links::accept::Accept;
 use iova_links::aside::{Aside, NothingAside};
 use iova_links::noting::NotingSink;
@@ -32,7 +33,6 @@ use log::Log;
 use std::alloc::Global;
 use std::rt::Clock;
 use std::sync::Wait;
-use iova_keep::names::Names;
 use std::thread::Threads;
 use threads::{Work, run_all};
 

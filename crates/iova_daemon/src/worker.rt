@@ -6,6 +6,7 @@ use crate::roster::{Roster, Stands};
 use crate::threads::{Place, Work};
 use iova_keep::keep::Keep;
 use iova_keep::look::Look;
+use iova_keep::names::Names;
 use iova_links::accept::Accept;
 use iova_links::aside::Aside;
 use iova_links::noting::{NotingSink, note_end, note_full};
@@ -21,7 +22,6 @@ use std::alloc::Global;
 use std::io;
 use std::rt::Clock;
 use std::sync::Wait;
-use iova_keep::names::Names;
 
 impl<B: Names> Place for Post<B> {
     ghost worker = { λ p. p.seat.worker };

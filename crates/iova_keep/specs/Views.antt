@@ -1,7 +1,6 @@
 -- What contracts see of seats and tallies, and what a keeper tells.
 use Rattle.std.specs.Prelude.{ℕ, zero, suc, ◌≡◌, ◌+◌, ◌*◌, ◌<◌, ◌≤◌, ◌%◌, ◌⊎◌, Bool, List, [], ◌∷◌, ◌++◌, length, Option, Some, None, Result, Ok, Err, MatchOption, if◌then◌else◌}
 use Rattle.std.specs.declared.sync.ledger.Blank.{Blank}
-use Rattle.std.specs.declared.sync.ledger.Ledger.{Ghosts as Ledger}
 use Rattle.iova_range.specs.declared.refusal.Refusal.{Refusal}
 use Rattle.iova_range.specs.declared.refusal.Refusal.TheVariants as refusal
 use Rattle.iova_range.specs.Frames.{Frames}
@@ -21,6 +20,7 @@ use Rattle.iova_keep.specs.declared.ending.Ending.TheVariants as ending
 use Rattle.iova_keep.specs.declared.unmapped.Unmapped.{Unmapped}
 use Rattle.iova_keep.specs.declared.unmapped.Unmapped.TheVariants as unmapped
 use Rattle.iova_keep.specs.declared.ledgers.Blanks.{Blanks}
+use Rattle.iova_keep.specs.Names.{LedgerName, LedgerNames}
 use Rattle.iova_sink.specs.Calls.{Call, good_calls}
 
 -- a tally: the flushes that it ended well, and its parts
@@ -44,17 +44,31 @@ pub record LedgersState : Type 0 where
   pub shares : Totals
   pub ended : ℕ
 
+-- a blank's ledger
+abbrev pub name_of : Blank → LedgerName
+name_of b = record { name = b.name; parts = b.parts }
+
+-- the ledgers of four blanks
+abbrev pub names_of : Blanks → LedgerNames
+names_of b =
+    record {
+      count = name_of b.count;
+      frames = name_of b.frames;
+      sum_lo = name_of b.sum_lo;
+      good = name_of b.good;
+    }
+
 -- a blank is that of this ledger, by its name and its parts, and the parts are so many
-abbrev pub IsBlankOf : {L : Type 0} → Blank → Ledger L → ℕ → Type 0
+abbrev pub IsBlankOf : Blank → LedgerName → ℕ → Type 0
 IsBlankOf b ledger parts = (b.name ≡ ledger.name) × (b.parts ≡ ledger.parts) × (b.parts ≡ parts)
 
 -- Four blanks are those of these ledgers of a domain with so many seats and workers: of the first
 -- three each seat has a part, of the last each worker has all parts of a tally.
-abbrev pub AreBlanksOf : {C F S G : Type 0} → Blanks → Ledger C → Ledger F → Ledger S → Ledger G
-    → (seats workers : ℕ) → Type 0
-AreBlanksOf b count frames sum_lo good seats workers =
-    IsBlankOf b.count count seats × IsBlankOf b.frames frames seats
-    × IsBlankOf b.sum_lo sum_lo seats × IsBlankOf b.good good (TALLY_PARTS * workers)
+abbrev pub AreBlanksOf : Blanks → LedgerNames → (seats workers : ℕ) → Type 0
+AreBlanksOf b ledgers seats workers =
+    IsBlankOf b.count ledgers.count seats × IsBlankOf b.frames ledgers.frames seats
+    × IsBlankOf b.sum_lo ledgers.sum_lo seats
+    × IsBlankOf b.good ledgers.good (TALLY_PARTS * workers)
 
 -- one of the workers of a domain, by the parts that all tallies of the domain have
 abbrev pub IsWorker : ℕ → ℕ → Type 0

@@ -6,13 +6,13 @@ ghost use Rattle.iova_keep.specs.Views.{TallyState, SeatState, WhereKnown, Rises
 ghost use Rattle.iova_keep.specs.Answers.{DoesUnmap, DoesFlush, DoesTimeout};
 
 use crate::keep::{Heard, Keep};
+use crate::names::Names;
 use crate::seat::{Seat, Tally};
 use iova_laws::refusals::steps_keep_the_domain;
 use iova_model::step::{ClientId, Reply, Step};
 use iova_range::range::Range;
 use iova_range::refusal::Refusal;
 use iova_sink::sink::Sink;
-use crate::names::Names;
 
 /// Begins a flush, calls the sink, and ends the flush as the sink answered. It gives the flush's
 /// number, which the sink was told with the domain's in its last call. Refused by `FlightsFull` and

@@ -10,11 +10,11 @@ ghost use Rattle.iova_keep.specs.Answers.{DoesEndClient, DoesRest, Leaves};
 use crate::calls::invalidated;
 use crate::ending::{Ending, Why};
 use crate::keep::{Heard, Keep};
+use crate::names::Names;
 use crate::seat::Seat;
 use iova_model::step::{ClientId, Reply, Step};
 use iova_range::refusal::Refusal;
 use iova_sink::sink::Sink;
-use crate::names::Names;
 
 /// Ends a client: it is closing from now on, and its ranges are unmapped, lowest first, until it is
 /// gone. Where the worker's ring is full it flushes and goes on. `Waiting` where the ring stays

@@ -13,6 +13,7 @@ ghost use Rattle.iova_keep.specs.StepLogs.{StepLog, GoesOn};
 ghost use Rattle.iova_keep.specs.Answers.{Reserves, Opens, Allocs, UnmapsFirst, UnmapsAgain, Begins, Ends, ClosesFirst, ClosesAgain, Leaves, RaisesByEnd, DrainsAll, ReadsHoldings};
 
 use crate::ask::{Ask, Told};
+use crate::names::Names;
 use crate::seat::{Seat, Tally};
 use iova_model::step::{ClientId, Reply, Step};
 use iova_model::totals::Totals;
@@ -20,7 +21,6 @@ use iova_range::limits::MAX_RUN;
 use iova_range::range::Range;
 use iova_range::refusal::Refusal;
 use iova_range::stat::Stat;
-use crate::names::Names;
 
 /// What one hold of a longer call heard.
 #[derive(Drop)]
@@ -112,14 +112,7 @@ pub trait Keep<B: Names> {
 
     /// The second hold of an unmap: the flush ends, as `ok` says, and the unmap is tried again.
     /// `ok` is what a sink answered for this flush.
-    fn unmap_again(
-        &mut self,
-        seat: &mut Seat<B>,
-        id: ClientId,
-        lo: u64,
-        no: u64,
-        ok: bool,
-    ) -> Heard
+    fn unmap_again(&mut self, seat: &mut Seat<B>, id: ClientId, lo: u64, no: u64, ok: bool) -> Heard
         ensures same { identity self.new ≡ identity self.old }
         ensures log { GoesOn (log self.old) (log self.new) }
         ensures domain { WhereKnown (domain self.old) (domain self.new)
@@ -275,12 +268,7 @@ pub trait Keep<B: Names> {
     /// Appends the holdings of the seat's client, at most 4,096, rising by first frame. Refused by
     /// `NoClient` and `NoMemory`; then nothing is appended. With room for 4,096 more it takes no
     /// memory.
-    fn holdings(
-        &self,
-        seat: &Seat<B>,
-        id: ClientId,
-        ranges: &mut Vec<Range>,
-    ) -> Result<(), Refusal>
+    fn holdings(&self, seat: &Seat<B>, id: ClientId, ranges: &mut Vec<Range>) -> Result<(), Refusal>
         ensures domain { IfSome (domain self.now)
             (ReadsHoldings seat.now.worker id ranges.old.items ranges.new.items result) }
         ensures ok { IfOk result (λ u. (more : List Frames)

@@ -5,6 +5,7 @@ ghost use Rattle.iova_model.specs.Clients.{totals_of, no_totals};
 ghost use Rattle.iova_model.specs.Effects.{add_totals};
 ghost use Rattle.iova_keep.specs.Views.{AreBlanksOf, TallyState, SeatState, LedgersState, Covers, seats_in_turn, MovesSharesAlone};
 
+use crate::names::{CountOf, FramesOf, GoodOf, Names, SumLoOf};
 use crate::seat::{Seat, Tally};
 use iova_model::totals::Totals;
 use iova_range::limits::TALLY_PARTS;
@@ -13,7 +14,6 @@ use iova_range::refusal::Refusal;
 use std::alloc::Global;
 use std::marker::Model;
 use std::sync::ledger;
-use crate::names::{CountOf, FramesOf, GoodOf, Names, SumLoOf};
 use std::sync::ledger::{Blank, Share};
 
 /// What a domain's four ledgers are opened with: of each a blank, which no type stands for yet. It
@@ -182,7 +182,12 @@ impl<B: Names> Ledgers<B> {
     }
 
     /// Changes nothing: whole shares have the totals for their amounts.
-    pub fn audit(&mut self, counted: &mut Share<CountOf<B>>, framed: &mut Share<FramesOf<B>>, summed: &mut Share<SumLoOf<B>>)
+    pub fn audit(
+        &mut self,
+        counted: &mut Share<CountOf<B>>,
+        framed: &mut Share<FramesOf<B>>,
+        summed: &mut Share<SumLoOf<B>>,
+    )
         requires counted { counted.old.parts ≡ B.ledgers.count.parts }
         requires framed { framed.old.parts ≡ B.ledgers.frames.parts }
         requires summed { summed.old.parts ≡ B.ledgers.sum_lo.parts }

@@ -9,6 +9,7 @@ pub mod ending;
 pub mod keep;
 pub mod ledgers;
 pub mod look;
+pub mod names;
 pub mod release;
 pub mod seat;
 pub mod unmapped;

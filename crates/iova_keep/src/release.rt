@@ -8,13 +8,13 @@ ghost use Rattle.iova_keep.specs.Releases.{DoesRelease, DoesReleaseRest, DoesFol
 use crate::calls::{answer, invalidated};
 use crate::closing::flush_begun;
 use crate::keep::Keep;
+use crate::names::Names;
 use crate::seat::Seat;
 use crate::unmapped::Unmapped;
 use iova_model::step::ClientId;
 use iova_range::range::Range;
 use iova_range::refusal::Refusal;
 use iova_sink::sink::Sink;
-use crate::names::Names;
 
 /// Unmaps the client's range that begins at `lo`, as `unmap` does. In a strict domain it then
 /// flushes and drains the worker's ring: `Freed` where the finish count, once that flush has ended,

@@ -3,10 +3,10 @@ ghost use Rattle.std.specs.Prelude.{◌≡◌, ◌+◌, ◌≤◌};
 ghost use Rattle.iova_model.specs.Clients.{no_totals};
 ghost use Rattle.iova_keep.specs.Views.{TallyState, SeatState, IsWorker};
 
+use crate::names::{CountOf, FramesOf, GoodOf, Names, SumLoOf};
 use iova_model::totals::Totals;
 use iova_range::range::Range;
 use std::marker::Model;
-use crate::names::{CountOf, FramesOf, GoodOf, Names, SumLoOf};
 use std::sync::ledger::Share;
 
 /// How many flushes its holder ended well, a share of all that ended well in the domain. Its parts

@@ -17,6 +17,7 @@ ghost use Rattle.iova_keep.specs.Views.{AreBlanksOf, TallyState, SeatState, Cove
 use iova_core::domain::Domain;
 use iova_core::{ClientId, Reply, Step};
 use iova_keep::ledgers::{Blanks, Ledgers};
+use iova_keep::names::{CountOf, FramesOf, Names, SumLoOf};
 use iova_keep::seat::{Seat, Tally};
 use iova_model::totals::Totals;
 use iova_range::bounds::Bounds;
@@ -28,7 +29,6 @@ use iova_record::recorded_domain::{RecordedDomain, Stored};
 use iova_report::report;
 use std::alloc::Global;
 use std::marker::Model;
-use iova_keep::names::{CountOf, FramesOf, Names, SumLoOf};
 use std::sync::ledger::Share;
 
 /// Words that nobody reads, as long as a line of the processor's cache. Under a lock they keep what a

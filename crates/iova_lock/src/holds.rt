@@ -10,12 +10,12 @@ use crate::book::{Book, is_queued};
 use iova_core::{ClientId, Reply, Step};
 use iova_keep::ask::{Ask, Told};
 use iova_keep::keep::{Heard, Keep};
+use iova_keep::names::Names;
 use iova_keep::seat::{Seat, Tally};
 use iova_model::totals::Totals;
 use iova_range::range::Range;
 use iova_range::refusal::Refusal;
 use iova_range::stat::Stat;
-use iova_keep::names::Names;
 
 /// The totals of nothing.
 const NOTHING: Totals = Totals {
@@ -214,13 +214,7 @@ impl<B: Names> Keep<B> for Book<B> {
         }
     }
 
-    fn close_again(
-        &mut self,
-        seat: &mut Seat<B>,
-        id: ClientId,
-        no: u64,
-        ok: bool,
-    ) -> Heard {
+    fn close_again(&mut self, seat: &mut Seat<B>, id: ClientId, no: u64, ok: bool) -> Heard {
         let before = seat.held();
         let _ended = self.run_flush_at(seat, Step::End { no, ok });
         let reply = self.close_all(seat, id);

@@ -1,11 +1,11 @@
 //! A domain under a lock, looked at.
 use crate::shared::Shared;
 use iova_keep::look::Look;
+use iova_keep::names::Names;
 use iova_model::step::ClientId;
 use iova_range::range::Range;
 use iova_range::refusal::Refusal;
 use std::sync::Wait;
-use iova_keep::names::Names;
 
 impl<Q: Wait, B: Names> Look for &Shared<Q, B> {
     fn look(&self, out: &mut Vec<u8>) -> Result<(), Refusal> {

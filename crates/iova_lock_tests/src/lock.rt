@@ -5,6 +5,7 @@ ghost use Rattle.iova_keep.specs.Views.{AreBlanksOf};
 use crate::lock::cases::{ALL, GROWTHS, THREADS, Task, case};
 use iova_keep::keep::Keep;
 use iova_keep::ledgers::Blanks;
+use iova_keep::names::Names;
 use iova_keep::seat::Seat;
 use iova_lock::book::Book;
 use iova_lock::crossing::books_are_send;
@@ -15,7 +16,6 @@ use std::alloc::Global;
 use std::marker::Brand;
 use std::process::Abort;
 use std::sync::Wait;
-use iova_keep::names::Names;
 use std::test::*;
 use std::thread::Threads;
 
@@ -110,10 +110,14 @@ fn in_a_book<B: Names, R: Abort + Print>(
     }
 }
 
-fn under_a_lock<
-    B: Names + Send + Sync,
-    R: Threads + Wait + Sync + Abort + Print,
->(rt: &R, alloc: Global, bounds: Bounds, strict: bool, no: usize, blanks: Blanks) -> Vec<String>
+fn under_a_lock<B: Names + Send + Sync, R: Threads + Wait + Sync + Abort + Print>(
+    rt: &R,
+    alloc: Global,
+    bounds: Bounds,
+    strict: bool,
+    no: usize,
+    blanks: Blanks,
+) -> Vec<String>
     requires blanks { AreBlanksOf blanks B.ledgers 16 16 }
 {
     let pairs = case(no).1.pairs;
@@ -152,11 +156,7 @@ fn under_a_lock<
 }
 
 // The seats' shares add up to the totals. How many flushes the seats ended well.
-fn gathered<B: Names, R: Abort + Wait>(
-    rt: &R,
-    shared: &Shared<&R, B>,
-    seats: Vec<Seat<B>>,
-) -> u64 {
+fn gathered<B: Names, R: Abort + Wait>(rt: &R, shared: &Shared<&R, B>, seats: Vec<Seat<B>>) -> u64 {
     let mut seats = seats;
     let mut good = 0u64;
     let mut sums = (0u64, 0u64, 0u64);

@@ -8,6 +8,7 @@ use crate::seats::seat_count;
 use iova_command::plan::Plan;
 use iova_keep::keep::Keep;
 use iova_keep::ledgers::Blanks;
+use iova_keep::names::Names;
 use iova_keep::seat::Seat;
 use iova_lock::book::Book;
 use iova_lock::shared::Shared;
@@ -18,7 +19,6 @@ use iova_range::refusal::Refusal;
 use iova_regions::windows::Windows;
 use iova_session::post::{Post, posts_at};
 use std::alloc::Global;
-use iova_keep::names::Names;
 
 /// The plan's domain under a lock, and a post at each of its seats. None for want of memory.
 pub fn new_domain<'a, R, B>(
@@ -75,10 +75,7 @@ fn reserved_book<B: Names>(
 
 /// Reserves these windows in the book, in their order, up to the first one that is refused.
 #[tactic(auto, using(crate::proofs::Reserving::reserved_more))]
-fn reserve_all<B: Names>(
-    book: &mut Book<B>,
-    windows: &[Range],
-) -> Result<(), Refusal>
+fn reserve_all<B: Names>(book: &mut Book<B>, windows: &[Range]) -> Result<(), Refusal>
     ensures reserved { IfOk result (λ u. IsReserved windows.now book.old book.new) }
     ensures refused { IfErr result IsReserveRefusal }
     ensures workers { book.new.state.workers ≡ book.old.state.workers }
@@ -92,10 +89,7 @@ fn reserve_all<B: Names>(
 
 /// Reserves this window in the book.
 #[tactic(auto, using(crate::proofs::Reserving::reserved_window))]
-fn reserve<B: Names>(
-    book: &mut Book<B>,
-    window: Range,
-) -> Result<(), Refusal>
+fn reserve<B: Names>(book: &mut Book<B>, window: Range) -> Result<(), Refusal>
     ensures reserved { IfOk result (λ u. IsReserved (window ∷ []) book.old book.new) }
     ensures refused { IfErr result IsReserveRefusal }
     ensures workers { book.new.state.workers ≡ book.old.state.workers }

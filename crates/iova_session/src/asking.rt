@@ -10,6 +10,7 @@ ghost use Rattle.iova_session.specs.Desks.{IsFirstAnswer, IsClientAnswer, MovesB
 
 use iova_keep::calls::flush;
 use iova_keep::keep::Keep;
+use iova_keep::names::Names;
 use iova_keep::release::release;
 use iova_keep::seat::Seat;
 use iova_keep::unmapped::Unmapped;
@@ -21,7 +22,6 @@ use iova_range::limits::MAX_LISTED;
 use iova_range::refusal::Refusal;
 use iova_sink::sink::Sink;
 use std::alloc::Global;
-use iova_keep::names::Names;
 
 /// What a request is answered before there is a client: `hello` opens one, in the domain of the
 /// keeper's number alone.

@@ -7,9 +7,9 @@ use crate::post::Post;
 use crate::retry::retry;
 use iova_keep::calls::timeout;
 use iova_keep::keep::Keep;
+use iova_keep::names::Names;
 use iova_keep::seat::Tally;
 use iova_sink::sink::Sink;
-use iova_keep::names::Names;
 
 /// Ends the service of a post: the clients that wait are tried once more (`retry`), and where a
 /// flush is wanted, what is in a ring is flushed and drained (`timeout`). Gives how many clients

@@ -9,12 +9,12 @@ use crate::asking::{lock_where, unlock_where};
 use iova_keep::closing::end_client;
 use iova_keep::ending::{Ending, Why};
 use iova_keep::keep::Keep;
+use iova_keep::names::Names;
 use iova_keep::seat::Seat;
 use iova_model::step::ClientId;
 use iova_range::range::Range;
 use iova_range::refusal::Refusal;
 use iova_sink::sink::{Sink, SinkFault};
-use iova_keep::names::Names;
 
 /// What the end of a client that leaves came to.
 #[derive(Clone, Copy)]

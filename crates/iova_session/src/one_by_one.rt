@@ -11,23 +11,18 @@ use crate::post::Post;
 use crate::retry::retry;
 use crate::run::{SessionEnd, run_session};
 use iova_keep::keep::Keep;
+use iova_keep::names::Names;
 use iova_laws::ledgers::steps_move_ledgers;
 use iova_laws::promises::promises_are_kept;
 use iova_laws::replies::steps_are_answered_in_kind;
 use iova_laws::validity::steps_keep_validity;
 use iova_sink::sink::Sink;
 use std::alloc::Global;
-use iova_keep::names::Names;
 
 /// Serves a session over each of the links in turn, all at one post, and appends how each of them
 /// ended. Over a keeper that tells its domain, each leads it on from where the one before it left
 /// it; so all of them run one transcript of steps, which keeps the promises.
-pub fn serve_one_by_one<
-    B: Names,
-    L: Link,
-    K: Keep<B>,
-    D: Sink,
->(
+pub fn serve_one_by_one<B: Names, L: Link, K: Keep<B>, D: Sink>(
     alloc: Global,
     links: &mut [L],
     keeper: &mut K,
@@ -68,12 +63,7 @@ pub fn serve_one_by_one<
 /// are gone then and nobody holds a range, unless a call of the sink fails in the round or the
 /// numbers for flushes run out. The round needs room for the ranges of a client, which the session
 /// took whose client waits.
-pub fn serve_one_by_one_then_retry<
-    B: Names,
-    L: Link,
-    K: Keep<B>,
-    D: Sink,
->(
+pub fn serve_one_by_one_then_retry<B: Names, L: Link, K: Keep<B>, D: Sink>(
     alloc: Global,
     links: &mut [L],
     keeper: &mut K,

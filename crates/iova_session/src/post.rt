@@ -2,12 +2,12 @@
 ghost use Rattle.std.specs.Prelude.{◌≡◌, ◌≤◌, ◌+◌, true, [], map, vec_len, vec_capacity, IfSome};
 ghost use Rattle.iova_range.specs.declared.limits.TheConstants.{MAX_HOLDINGS};
 
+use iova_keep::names::Names;
 use iova_keep::seat::Seat;
 use iova_model::step::ClientId;
 use iova_range::limits::MAX_HOLDINGS;
 use iova_range::range::Range;
 use std::alloc::Global;
-use iova_keep::names::Names;
 
 /// Where sessions are served, one at a time; a worker has one or several.
 pub struct Post<B: Names> {
@@ -58,10 +58,7 @@ impl<B: Names> Post<B> {
 }
 
 /// A post at each seat, in their order. None for want of memory.
-pub fn posts_at<B: Names>(
-    alloc: Global,
-    seats: Vec<Seat<B>>,
-) -> Option<Vec<Post<B>>>
+pub fn posts_at<B: Names>(alloc: Global, seats: Vec<Seat<B>>) -> Option<Vec<Post<B>>>
     ensures { IfSome result (λ v. map (λ p. p.seat) v.items ≡ seats.items) }
 {
     let Ok(mut posts) = Vec::with_capacity(alloc, seats.len()) else {
@@ -76,10 +73,7 @@ pub fn posts_at<B: Names>(
 }
 
 /// The posts' seats, in their order. None for want of memory.
-pub fn seats_of<B: Names>(
-    alloc: Global,
-    posts: Vec<Post<B>>,
-) -> Option<Vec<Seat<B>>>
+pub fn seats_of<B: Names>(alloc: Global, posts: Vec<Post<B>>) -> Option<Vec<Seat<B>>>
     ensures { IfSome result (λ v. v.items ≡ map (λ p. p.seat) posts.items) }
 {
     let Ok(mut seats) = Vec::with_capacity(alloc, posts.len()) else {

@@ -8,9 +8,9 @@ ghost use Rattle.iova_session.specs.Gone.{EndsWhereGood};
 use crate::leaving::try_to_end;
 use crate::post::{Post, has_ranges};
 use iova_keep::keep::Keep;
+use iova_keep::names::Names;
 use iova_laws::validity::steps_keep_validity;
 use iova_sink::sink::Sink;
-use iova_keep::names::Names;
 
 /// Tries once to end each client that waits, in the order of the list, and gives how many are left:
 /// the sink is told again that it is gone, and which ranges it still holds, and then they are
@@ -18,11 +18,7 @@ use iova_keep::names::Names;
 /// gives no answer to that ends the round: those behind the client wait on. Where nobody else holds
 /// a range of the domain and no call of the sink fails, all of them end, and nobody holds anything.
 /// Takes no memory where a session was served at the post.
-pub fn retry<B: Names, K: Keep<B>, D: Sink>(
-    keeper: &mut K,
-    post: &mut Post<B>,
-    sink: &mut D,
-) -> u64
+pub fn retry<B: Names, K: Keep<B>, D: Sink>(keeper: &mut K, post: &mut Post<B>, sink: &mut D) -> u64
     ensures same { K.identity keeper.new ≡ K.identity keeper.old }
     ensures left { result ≡ length post.new.waiting.items }
     ensures waiting { IsSublist post.new.waiting.items post.old.waiting.items }

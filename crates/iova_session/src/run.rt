@@ -24,6 +24,7 @@ use crate::session_limits::SessionLimits;
 use crate::together::LastBatch;
 use iova_keep::ending::Ending;
 use iova_keep::keep::Keep;
+use iova_keep::names::Names;
 use iova_keep::seat::Seat;
 use iova_laws::replies::others_keep_their_holdings;
 use iova_laws::validity::steps_keep_validity;
@@ -33,7 +34,6 @@ use iova_range::refusal::Refusal;
 use iova_sink::sink::Sink;
 use std::alloc::Global;
 use std::marker::{Brand, PhantomData};
-use iova_keep::names::Names;
 
 /// How a session ended, and its client.
 #[derive(Clone, Copy, Debug, PartialEq, Eq)]
@@ -53,14 +53,7 @@ struct ServedSession<'a, B: Names, K: Keep<B>, D: Sink> {
 }
 
 /// Serves a session, and gives back what it had access to.
-fn serve_with<
-    'a,
-    B: Names,
-    K: Keep<B>,
-    D: Sink,
-    L: Link,
-    O: SessionStart,
->(
+fn serve_with<'a, B: Names, K: Keep<B>, D: Sink, L: Link, O: SessionStart>(
     alloc: Global,
     limits: SessionLimits,
     link: &mut L,
@@ -151,12 +144,7 @@ fn serve_at<B: Names, K: Keep<B>, D: Sink, L: Link>(
             seat: _,
             sink: _,
         },
-    } = serve_with::<B, K, D, L, Brand>(
-        alloc,
-        limits,
-        link,
-        DomainAccess { keeper, seat, sink },
-    );
+    } = serve_with::<B, K, D, L, Brand>(alloc, limits, link, DomainAccess { keeper, seat, sink });
     (end, client)
 }
 
@@ -167,12 +155,7 @@ fn serve_at<B: Names, K: Keep<B>, D: Sink, L: Link>(
 /// none where no client was opened; so it would be where the seat's shares weren't as they have to
 /// be, but no run comes to that. Over a keeper that tells its domain, each request does there what
 /// its call of the lock does, and is answered by what that call answers.
-pub fn run_session<
-    B: Names,
-    L: Link,
-    K: Keep<B>,
-    D: Sink,
->(
+pub fn run_session<B: Names, L: Link, K: Keep<B>, D: Sink>(
     alloc: Global,
     link: &mut L,
     keeper: &mut K,
@@ -204,12 +187,7 @@ pub fn run_session<
 }
 
 /// The same within these limits.
-pub fn run_session_within<
-    B: Names,
-    L: Link,
-    K: Keep<B>,
-    D: Sink,
->(
+pub fn run_session_within<B: Names, L: Link, K: Keep<B>, D: Sink>(
     alloc: Global,
     limits: SessionLimits,
     link: &mut L,
@@ -338,9 +316,7 @@ pub(crate) fn ended_of(left: Leaving) -> Result<Ending, Refusal>
 }
 
 /// The seat's three shares.
-pub(crate) fn shares_of<B: Names>(
-    seat: &Seat<B>,
-) -> Totals
+pub(crate) fn shares_of<B: Names>(seat: &Seat<B>) -> Totals
     ensures { result ≡ seat.now.held }
 {
     Totals {

@@ -11,6 +11,7 @@ use crate::desk::Desk;
 use crate::session::Session;
 use crate::together::{LastBatch, ask_together, tell};
 use iova_keep::keep::Keep;
+use iova_keep::names::Names;
 use iova_keep::seat::Seat;
 use iova_proto::answer::Answer;
 use iova_proto::request::Request;
@@ -18,7 +19,6 @@ use iova_range::limits::MAX_RUN;
 use iova_range::refusal::Refusal;
 use iova_sink::sink::Sink;
 use std::marker::{Brand, PhantomData};
-use iova_keep::names::Names;
 
 /// What a session begins with, as the type of its desk knows it.
 pub(crate) trait SessionStart {
@@ -65,12 +65,7 @@ impl SessionStart for Brand {
 
 /// What a session has access to while it is served.
 #[derive(Drop)]
-pub(crate) struct DomainAccess<
-    'a,
-    B: Names,
-    K: Keep<B>,
-    D: Sink,
-> {
+pub(crate) struct DomainAccess<'a, B: Names, K: Keep<B>, D: Sink> {
     pub(crate) keeper: &'a mut K,
     pub(crate) seat: &'a mut Seat<B>,
     pub(crate) sink: &'a mut D,
@@ -79,13 +74,7 @@ pub(crate) struct DomainAccess<
 /// The desk of a session that began so. What it was asked has moved the seat's shares, and nothing
 /// else of it but its tally, and has led the domain from where it was to where it is.
 #[derive(Drop)]
-pub(crate) struct SessionDesk<
-    'a,
-    B: Names,
-    K: Keep<B>,
-    D: Sink,
-    O: SessionStart,
-> {
+pub(crate) struct SessionDesk<'a, B: Names, K: Keep<B>, D: Sink, O: SessionStart> {
     pub(crate) access: DomainAccess<'a, B, K, D>,
     pub(crate) session: Session,
     pub(crate) last: LastBatch,
@@ -106,13 +95,7 @@ pub(crate) struct SessionDesk<
         (D.calls access.sink.now) },
 }
 
-impl<
-    'a,
-    B: Names,
-    K: Keep<B>,
-    D: Sink,
-    O: SessionStart,
-> Desk for SessionDesk<'a, B, K, D, O> {
+impl<'a, B: Names, K: Keep<B>, D: Sink, O: SessionStart> Desk for SessionDesk<'a, B, K, D, O> {
     ghost pairs = { λ d. d.session.pairs };
 
     fn ask_run(

@@ -8,6 +8,7 @@ ghost use Rattle.iova_session.specs.Desks.{SessionState, ask_of as the_ask_of, a
 use crate::session::Session;
 use iova_keep::ask::{Ask, Told};
 use iova_keep::keep::Keep;
+use iova_keep::names::Names;
 use iova_keep::seat::Seat;
 use iova_laws::refusals::refusals_keep_the_state;
 use iova_model::step::ClientId;
@@ -16,7 +17,6 @@ use iova_proto::request::Request;
 use iova_range::limits::MAX_RUN;
 use iova_range::refusal::Refusal;
 use std::alloc::Global;
-use iova_keep::names::Names;
 
 /// What a desk keeps of the last hold of a session.
 #[derive(Drop)]

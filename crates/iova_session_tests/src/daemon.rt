@@ -13,6 +13,7 @@ use doubles::{Counted, GatedSink, Rounds, Row, Rows};
 use iova_daemon::{Served, serve_on};
 use iova_keep::keep::Keep;
 use iova_keep::ledgers::Blanks;
+use iova_keep::names::Names;
 use iova_keep::seat::Seat;
 use iova_links::accept::Accept;
 use iova_links::pause::Pause;
@@ -36,7 +37,6 @@ use std::process::Abort;
 use std::rt::Clock;
 use std::sync::Wait;
 use std::sync::atomic::{AtomicU64, Ordering};
-use iova_keep::names::Names;
 use std::test::*;
 use std::thread::Threads;
 
@@ -473,8 +473,7 @@ where
     requires workers { (1 ≤ workers) × (workers ≤ MAX_WORKERS) }
     requires blanks { AreBlanksOf blanks B.ledgers workers workers }
 {
-    let Some((shared, mut posts)) = new_domain::<&R, B>(rt, alloc, kind, workers, blanks)
-    else {
+    let Some((shared, mut posts)) = new_domain::<&R, B>(rt, alloc, kind, workers, blanks) else {
         return Err(BEFORE);
     };
     if posts.is_empty() || sinks.len() != posts.len() + 1 || posts[0].seat.tally().parts() < 2 {
@@ -510,8 +509,7 @@ where
     let Ok(bounds) = Bounds::new(1, 4095) else {
         return None;
     };
-    let Ok((shared, seats)) = new_shared::<Q, B>(rt, alloc, kind, bounds, workers, blanks)
-    else {
+    let Ok((shared, seats)) = new_shared::<Q, B>(rt, alloc, kind, bounds, workers, blanks) else {
         return None;
     };
     match posts_at(alloc, seats) {

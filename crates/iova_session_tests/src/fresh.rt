@@ -3,6 +3,7 @@ ghost use Rattle.iova_keep.specs.Views.{AreBlanksOf};
 
 use iova_keep::keep::Keep;
 use iova_keep::ledgers::Blanks;
+use iova_keep::names::Names;
 use iova_keep::seat::Seat;
 use iova_lock::book::Book;
 use iova_lock::shared::Shared;
@@ -22,7 +23,6 @@ use iova_sink::sink::Sink;
 use std::alloc::Global;
 use std::marker::Brand;
 use std::sync::Wait;
-use iova_keep::names::Names;
 
 /// The domain that a session is served on, at the seat of its last worker.
 #[derive(Clone, Copy)]
@@ -153,15 +153,7 @@ pub(crate) fn new_shared<Q: Drop, B: Names>(
 {
     let (strict, pairs) = kind;
     let (shared, seats) = if pairs > 0 {
-        Shared::<Q, B>::recorded(
-            rt,
-            alloc,
-            0,
-            bounds,
-            workers,
-            pairs.min(MAX_PAIRS),
-            blanks,
-        )?
+        Shared::<Q, B>::recorded(rt, alloc, 0, bounds, workers, pairs.min(MAX_PAIRS), blanks)?
     } else {
         Shared::<Q, B>::new(rt, alloc, 0, bounds, workers, blanks)?
     };
@@ -227,12 +219,7 @@ fn after<Q: Wait, B: Names>(
 }
 
 /// One session at the last of the seats. By value, so that the keeper is lent whatever it is.
-fn session_at<
-    B: Names,
-    K: Keep<B> + Drop,
-    L: Link,
-    D: Sink,
->(
+fn session_at<B: Names, K: Keep<B> + Drop, L: Link, D: Sink>(
     alloc: Global,
     mut keeper: K,
     seats: &mut Vec<Seat<B>>,

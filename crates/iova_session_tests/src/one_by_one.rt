@@ -6,6 +6,7 @@ use crate::session_files::SESSIONS;
 use iova_keep::ending::{Ending, Why};
 use iova_keep::keep::Keep;
 use iova_keep::ledgers::Blanks;
+use iova_keep::names::Names;
 use iova_keep::seat::Seat;
 use iova_lock::book::Book;
 use iova_model::totals::Totals;
@@ -19,7 +20,6 @@ use iova_session::run::SessionEnd;
 use iova_sink::memory::MemorySink;
 use std::alloc::Global;
 use std::marker::Brand;
-use iova_keep::names::Names;
 use std::test::*;
 
 const NONE_HELD: Option<Ending> = Some(Ending::Ended(0));

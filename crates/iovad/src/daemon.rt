@@ -22,6 +22,7 @@ use iova_files::sinks::{DaemonSink, SinkPlace, open_sink};
 use iova_files::standard::path_of_input;
 use iova_keep::keep::Keep;
 use iova_keep::ledgers::Blanks;
+use iova_keep::names::Names;
 use iova_links::accept::Accept;
 use iova_links::dial::{Dial, UnixNet};
 use iova_links::locked_sink::SharedSink;
@@ -56,7 +57,6 @@ use std::io;
 use std::net::Net;
 use std::rt::{Clock, Files, Runtime};
 use std::sync::Wait;
-use iova_keep::names::Names;
 use std::thread::{Threads, available_parallelism};
 use std::time::Duration;
 
@@ -851,11 +851,7 @@ fn open_sinks<'a, R: AllocGlobal + Clock + Eprint + Net + Dial + Files<File = Fi
 
 /// Ends the service of all posts, where a sink can be opened: tries the clients that wait once
 /// more, and at a stop flushes what is in a ring.
-fn end_posts<'a, R, B, K>(
-    run: &Running<'a, R>,
-    keeper: &mut K,
-    posts: &mut [Post<B>],
-)
+fn end_posts<'a, R, B, K>(run: &Running<'a, R>, keeper: &mut K, posts: &mut [Post<B>])
 where
     R: Clock + Eprint + Net + Dial + Files<File = File>,
     B: Names,
@@ -888,12 +884,7 @@ fn is_waited<B: Names>(posts: &[Post<B>]) -> bool {
 }
 
 /// Ends the service of each of the posts.
-fn end_each<B, K, D>(
-    keeper: &mut K,
-    posts: &mut [Post<B>],
-    sink: &mut D,
-    stops: bool,
-)
+fn end_each<B, K, D>(keeper: &mut K, posts: &mut [Post<B>], sink: &mut D, stops: bool)
 where
     B: Names,
     K: Keep<B>,

@@ -4,6 +4,7 @@ use iova_keep::ask::Ask;
 use iova_keep::calls;
 use iova_keep::closing::end_client;
 use iova_keep::keep::Keep;
+use iova_keep::names::Names;
 use iova_keep::release::release;
 use iova_keep::seat::Seat;
 use iova_range::limits::MAX_RUN;
@@ -12,7 +13,6 @@ use iova_sink::memory::MemorySink;
 use std::alloc::Global;
 use std::fmt::Debug;
 use std::process::Abort;
-use iova_keep::names::Names;
 use std::test::*;
 
 /// A call by a seat, or what is read of the seat or of its domain. A number is a client's first,
@@ -121,11 +121,7 @@ fn holdings<B: Names, K: Keep<B>, R: Abort>(
     said(rt, alloc, "listed", &(listed, ranges.as_slice()))
 }
 
-fn stat<B: Names, K: Keep<B>, R: Abort>(
-    rt: &R,
-    alloc: Global,
-    keeper: &K,
-) -> String {
+fn stat<B: Names, K: Keep<B>, R: Abort>(rt: &R, alloc: Global, keeper: &K) -> String {
     let s = keeper.stat();
     let places = [
         s.free, s.reserved, s.client, s.magazine, s.depot, s.ring, s.start, s.finish,

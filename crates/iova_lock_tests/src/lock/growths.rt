@@ -3,12 +3,12 @@
 
 use iova_keep::ask::{Ask, Told};
 use iova_keep::keep::Keep;
+use iova_keep::names::Names;
 use iova_keep::seat::Seat;
 use iova_range::range::Range;
 use iova_range::refusal::Refusal;
 use std::alloc::Global;
 use std::process::Abort;
-use iova_keep::names::Names;
 use std::test::*;
 
 // A growth was refused in the call.
@@ -17,11 +17,7 @@ pub(crate) fn refused<R: Abort + Print>(rt: &R, call: &str) {
 }
 
 // A client is opened, and given frames 9 and 8.
-fn give<B: Names, K: Keep<B>, R: Abort + Print>(
-    rt: &R,
-    keeper: &mut K,
-    seat: &mut Seat<B>,
-) {
+fn give<B: Names, K: Keep<B>, R: Abort + Print>(rt: &R, keeper: &mut K, seat: &mut Seat<B>) {
     let mut opened = keeper.open(seat, false);
     if opened == Err(Refusal::NoMemory) {
         refused(rt, "open");
@@ -39,12 +35,7 @@ fn give<B: Names, K: Keep<B>, R: Abort + Print>(
 }
 
 // Its holdings are listed.
-fn list<B: Names, K: Keep<B>, R: Abort + Print>(
-    rt: &R,
-    alloc: Global,
-    keeper: &K,
-    seat: &Seat<B>,
-) {
+fn list<B: Names, K: Keep<B>, R: Abort + Print>(rt: &R, alloc: Global, keeper: &K, seat: &Seat<B>) {
     let mut ranges = Vec::new(alloc);
     let mut listed = keeper.holdings(seat, 1, &mut ranges);
     if listed == Err(Refusal::NoMemory) {
@@ -87,11 +78,12 @@ fn free<B: Names, K: Keep<B>, R: Abort + Print>(
 }
 
 // Calls that grow.
-pub(crate) fn ask<
-    B: Names,
-    K: Keep<B>,
-    R: Abort + Print,
->(rt: &R, alloc: Global, keeper: &mut K, seat: &mut Seat<B>) {
+pub(crate) fn ask<B: Names, K: Keep<B>, R: Abort + Print>(
+    rt: &R,
+    alloc: Global,
+    keeper: &mut K,
+    seat: &mut Seat<B>,
+) {
     give(rt, keeper, seat);
     list(rt, alloc, keeper, seat);
     free(rt, alloc, keeper, seat);

@@ -6,10 +6,10 @@ ghost use Rattle.std.specs.Prelude.{◌<◌};
 use crate::lock::act::{Act, answer, said};
 use iova_keep::ask::Ask;
 use iova_keep::keep::Keep;
+use iova_keep::names::Names;
 use iova_keep::seat::Seat;
 use std::alloc::Global;
 use std::process::Abort;
-use iova_keep::names::Names;
 use std::test::*;
 
 const CALLS: u64 = 16_000;
@@ -86,12 +86,7 @@ impl Script {
     }
 
     // The first frame of one of the client's ranges, or how many there are.
-    fn held<B: Names, K: Keep<B>>(
-        &mut self,
-        keeper: &K,
-        seat: &Seat<B>,
-        id: u64,
-    ) -> u64 {
+    fn held<B: Names, K: Keep<B>>(&mut self, keeper: &K, seat: &Seat<B>, id: u64) -> u64 {
         let mut ranges = Vec::new(self.alloc);
         let _listed = keeper.holdings(seat, id, &mut ranges);
         let n = self.below((ranges.len() as u64).saturating_add(1)) as usize;
@@ -143,12 +138,7 @@ impl Script {
     }
 
     // One call, and then how the domain stands.
-    fn call<B: Names, K: Keep<B>, R: Abort>(
-        &mut self,
-        rt: &R,
-        keeper: &mut K,
-        seat: &mut Seat<B>,
-    ) {
+    fn call<B: Names, K: Keep<B>, R: Abort>(&mut self, rt: &R, keeper: &mut K, seat: &mut Seat<B>) {
         let place = self.place(seat.worker());
         let id = self.clients[place];
         let lo = self.held(keeper, seat, id);

@@ -4,6 +4,7 @@ ghost use Rattle.iova_keep.specs.Views.{AreBlanksOf};
 use iova_keep::calls;
 use iova_keep::keep::Keep;
 use iova_keep::ledgers::Blanks;
+use iova_keep::names::Names;
 use iova_keep::seat::Seat;
 use iova_lock::book::Book;
 use iova_lock::shared::Shared;
@@ -16,15 +17,10 @@ use std::alloc::Global;
 use std::marker::Brand;
 use std::process::Abort;
 use std::sync::Wait;
-use iova_keep::names::Names;
 use std::test::*;
 
 // A client is opened and given a frame at each of five seats, and gives it back at its own.
-fn ask_each<B: Names, K: Keep<B> + Copy, R: Abort>(
-    rt: &R,
-    keeper: K,
-    seats: &mut [Seat<B>],
-) {
+fn ask_each<B: Names, K: Keep<B> + Copy, R: Abort>(rt: &R, keeper: K, seats: &mut [Seat<B>]) {
     let mut keeper = keeper;
     let mut sink = MemorySink::new(0);
     let mut workers = [9; 5];
@@ -63,11 +59,7 @@ fn ask_each<B: Names, K: Keep<B> + Copy, R: Abort>(
 }
 
 // They are gathered once all of them are there.
-fn gather_all<B: Names, R: Abort + Wait>(
-    rt: &R,
-    shared: &Shared<&R, B>,
-    seats: Vec<Seat<B>>,
-) {
+fn gather_all<B: Names, R: Abort + Wait>(rt: &R, shared: &Shared<&R, B>, seats: Vec<Seat<B>>) {
     let mut seats = seats;
     let last = seats.pop().expect(rt, "a seat");
     match shared.gather(seats) {
@@ -84,12 +76,7 @@ fn gather_all<B: Names, R: Abort + Wait>(
     }
 }
 
-fn at_five_seats<B: Names, R: Abort + Wait>(
-    rt: &R,
-    alloc: Global,
-    bounds: Bounds,
-    blanks: Blanks,
-)
+fn at_five_seats<B: Names, R: Abort + Wait>(rt: &R, alloc: Global, bounds: Bounds, blanks: Blanks)
     requires blanks { AreBlanksOf blanks B.ledgers 5 2 }
 {
     match Book::<B>::seated(alloc, 7, bounds, 2, 5, None, blanks) {

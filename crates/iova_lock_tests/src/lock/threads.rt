@@ -4,6 +4,7 @@ use crate::lock::act;
 use crate::lock::cases::FlushesInFlight;
 use iova_keep::calls;
 use iova_keep::keep::Keep;
+use iova_keep::names::Names;
 use iova_keep::seat::{Seat, Tally};
 use iova_range::refusal::Refusal;
 use iova_sink::gate::{Flag, GateSink, MAX_TURNS};
@@ -11,7 +12,6 @@ use iova_sink::memory::MemorySink;
 use std::alloc::Global;
 use std::process::Abort;
 use std::sync::Wait;
-use iova_keep::names::Names;
 use std::test::*;
 use std::thread;
 use std::thread::Threads;
@@ -32,10 +32,7 @@ fn split_off<B: Names, R: Abort>(
 }
 
 // Allocates with two clients in turn, and frees every second range.
-fn work<B: Names, K: Keep<B> + Copy>(
-    keeper: K,
-    seat: Seat<B>,
-) -> Seat<B> {
+fn work<B: Names, K: Keep<B> + Copy>(keeper: K, seat: Seat<B>) -> Seat<B> {
     let mut keeper = keeper;
     let mut seat = seat;
     let mut sink = MemorySink::new(0);
@@ -73,10 +70,7 @@ fn free<B: Names, K: Keep<B>>(
 }
 
 // Rounds of the flusher.
-fn flush_rounds<B: Names, K: Keep<B> + Copy>(
-    keeper: K,
-    tallies: Vec<Tally<B>>,
-) -> Vec<Tally<B>> {
+fn flush_rounds<B: Names, K: Keep<B> + Copy>(keeper: K, tallies: Vec<Tally<B>>) -> Vec<Tally<B>> {
     let mut keeper = keeper;
     let mut tallies = tallies;
     let mut sink = MemorySink::new(0);
@@ -159,13 +153,7 @@ pub(crate) fn beside_flushes<
     B: Names + Send + Sync,
     K: Keep<B> + Copy + Send + Sync,
     R: Threads + Wait + Sync + Abort,
->(
-    rt: &R,
-    alloc: Global,
-    keeper: K,
-    seat: Seat<B>,
-    case: &FlushesInFlight,
-) -> Seat<B> {
+>(rt: &R, alloc: Global, keeper: K, seat: Seat<B>, case: &FlushesInFlight) -> Seat<B> {
     let mut keeper = keeper;
     let mut seat = seat;
     act::run(rt, alloc, &mut keeper, &mut seat, false, case.before);
