@@ -120,7 +120,8 @@ impl<B: Names> Model for Seat<B> {
 
     ghost invariant = { λ s. (s.counted.amount ≡ s.held.count) × (s.counted.parts ≡ 1)
         × (s.framed.amount ≡ s.held.frames) × (s.framed.parts ≡ 1)
-        × (s.summed.amount ≡ s.held.sum_lo) × (s.summed.parts ≡ 1) × IsWorker B.ledgers.good.parts s.worker };
+        × (s.summed.amount ≡ s.held.sum_lo) × (s.summed.parts ≡ 1)
+        × IsWorker B.ledgers.good.parts s.worker };
 }
 
 impl<B: Names> Seat<B> {

@@ -88,8 +88,9 @@ impl<B: Names> Model for Book<B> {
 
     ghost invariant = { λ b. (b.ledgers.shares ≡ totals b.recorded.state.clients)
         × (b.ledgers.ended ≡ b.recorded.state.flushes.good)
-        × (B.ledgers.good.parts ≡ TALLY_PARTS * b.recorded.state.workers) × (B.ledgers.count.parts ≡ b.seats)
-        × (B.ledgers.frames.parts ≡ b.seats) × (B.ledgers.sum_lo.parts ≡ b.seats) };
+        × (B.ledgers.good.parts ≡ TALLY_PARTS * b.recorded.state.workers)
+        × (B.ledgers.count.parts ≡ b.seats) × (B.ledgers.frames.parts ≡ b.seats)
+        × (B.ledgers.sum_lo.parts ≡ b.seats) };
 }
 
 impl<B: Names> Book<B> {
@@ -349,7 +350,8 @@ impl<B: Names> Book<B> {
 
     /// How many seats there are at the domain.
     pub(crate) fn seats(&self) -> u64
-        ensures { (B.ledgers.count.parts ≡ result) × (B.ledgers.frames.parts ≡ result) × (B.ledgers.sum_lo.parts ≡ result) }
+        ensures { (B.ledgers.count.parts ≡ result) × (B.ledgers.frames.parts ≡ result)
+            × (B.ledgers.sum_lo.parts ≡ result) }
     {
         self.seats
     }

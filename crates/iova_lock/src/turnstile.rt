@@ -4,8 +4,8 @@ use std::sync::Wait;
 use std::sync::atomic::AtomicU64;
 use std::sync::atomic::Ordering::SeqCst;
 
-/// How often a thread looks whether the way is free before it sleeps: to sleep and to be woken costs
-/// more than most holds do.
+/// How often a thread looks whether the way is free before it sleeps: to sleep and to be woken
+/// costs more than most holds do.
 const LOOKS: u32 = 200;
 
 /// Nobody is in it.
