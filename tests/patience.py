@@ -26,6 +26,11 @@ def sink_words(path):
     return ["--peer" if is_peer else "--sink", path]
 
 
+def client_words(workers, more):
+    """The option for one client at a time for each worker, but where the words have one."""
+    return [] if "--clients" in more else ["--clients", workers]
+
+
 USUAL = re.compile(
     r"^\[WARN \] (records only: no device answers"
     r"|accept: the last of \d+ places is taken: who connects now waits( \.\. and \d+ more)?"

@@ -158,7 +158,7 @@ fn serve_command<'a>(alloc: Global) -> Result<Command<'a>, AllocError>
             "N",
             1,
             MAX_CLIENTS as u64,
-            "How many clients are served at a time, 1 to 1024; without it as many as workers",
+            "How many clients are served at a time, 1 to 1024; without it 64",
         ),
     );
     let command = with_arg(

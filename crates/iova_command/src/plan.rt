@@ -25,7 +25,7 @@ pub struct Plan<'a> {
     pub socket: &'a str,
     /// How many workers there are.
     pub workers: u64,
-    /// How many clients are served at a time, where it is said; else as many as workers.
+    /// How many clients are served at a time, where it is said; else 64.
     pub clients: Option<u64>,
     /// The number of the domain.
     pub domain: u64,

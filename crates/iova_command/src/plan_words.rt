@@ -1,7 +1,7 @@
 //! A daemon's plan told in the words of the command line.
 use crate::plan::Plan;
 use crate::sink_path::SinkPath;
-use iova_range::limits::{MAX_REQUESTS, RECORDED_STEPS, SINK_TIMEOUT};
+use iova_range::limits::{DEFAULT_CLIENTS, MAX_REQUESTS, RECORDED_STEPS, SINK_TIMEOUT};
 use iova_range::range::Range;
 use iova_regions::windows::Windows;
 use log::LevelFilter;
@@ -41,7 +41,7 @@ fn write_served<W: fmt::Write>(plan: &Plan<'_>, f: &mut fmt::Formatter<W>) -> fm
     }
     write_number("peer-wait", plan.peer_wait, f)?;
     write!(f, " --sink-timeout {} --workers {}", timeout, plan.workers)?;
-    write!(f, " --clients {}", plan.clients.unwrap_or(plan.workers))?;
+    write!(f, " --clients {}", plan.clients.unwrap_or(DEFAULT_CLIENTS))?;
     write!(f, " --domain {} --start {}", plan.domain, plan.start)?;
     write!(f, " --last {}", plan.last)?;
     write!(f, " --log-level {}", level_name(plan.log_level))

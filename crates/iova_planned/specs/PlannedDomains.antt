@@ -6,7 +6,7 @@ use Rattle.iova_model.specs.declared.step.Step.TheVariants as step
 use Rattle.iova_model.specs.declared.step.Reply.TheVariants as reply
 use Rattle.iova_keep.specs.Steps.{Takes}
 use Rattle.iova_range.specs.Bounds.{Extent}
-use Rattle.iova_range.specs.declared.limits.TheConstants.{MAX_CLIENTS, RECORDED_STEPS, SEAT_PARTS}
+use Rattle.iova_range.specs.declared.limits.TheConstants.{DEFAULT_CLIENTS, MAX_POSTS, RECORDED_STEPS, SEAT_PARTS}
 use Rattle.iova_keep.specs.StepLogs.{StepLog, new_log}
 use Rattle.iova_keep.specs.Views.{SeatState, seats_in_turn}
 use Rattle.iova_lock.specs.Books.{BookState, SharedState, new_book}
@@ -30,7 +30,7 @@ planned_book plan bounds =
 -- how many seats there are: twice as many as clients that are served at a time, but not more than a
 -- domain may have, and at least one for each worker
 abbrev pub seat_count : Plan → ℕ
-seat_count plan = max (min (2 * unwrap_or plan.clients plan.workers) MAX_CLIENTS) plan.workers
+seat_count plan = max (min (2 * unwrap_or plan.clients DEFAULT_CLIENTS) MAX_POSTS) plan.workers
 
 -- the new seats of a domain, of its workers in turn
 pub record AreNewSeats (shared : SharedState) (seats : List SeatState) : Type 0 where
