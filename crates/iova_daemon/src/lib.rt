@@ -249,7 +249,7 @@ where
         busy: Busy::new(),
         rest: 0,
     };
-    run_all::<R, W, Post<B>, E, L, Flusher<'_, R, N, K, G, NotingSink<'_, D, N>, P>>(
+    run_all::<R, W, Post<B>, E, L, Flusher<'_, R, N, K, B, NotingSink<'_, D, N>, P>>(
         service.rt,
         context,
         posts,
