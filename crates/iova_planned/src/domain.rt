@@ -31,8 +31,7 @@ pub fn new_domain<'a, R, B>(
 where
     R: AllocGlobal,
     B: Names,
-    requires blanks { AreBlanksOf blanks B.ledgers
-        (seat_count plan.now) plan.now.workers }
+    requires blanks { AreBlanksOf blanks B.ledgers (seat_count plan.now) plan.now.workers }
     ensures number { IfSome result (λ r. r.0.number ≡ plan.now.domain) }
     ensures workers { IfSome result (λ r. r.0.workers ≡ plan.now.workers) }
     ensures seats { IfSome result (λ r. AreNewSeats r.0 (map (λ p. p.seat) r.1.items)) }
@@ -52,8 +51,7 @@ fn reserved_book<B: Names>(
     windows: &Windows,
     blanks: Blanks,
 ) -> Option<(Book<B>, Vec<Seat<B>>)>
-    requires blanks { AreBlanksOf blanks B.ledgers
-        (seat_count plan.now) plan.now.workers }
+    requires blanks { AreBlanksOf blanks B.ledgers (seat_count plan.now) plan.now.workers }
     ensures reserved { IfSome result (λ r. IsReserved windows.now (planned_book plan.now bounds)
         r.0) }
     ensures workers { IfSome result (λ r. r.0.state.workers ≡ plan.now.workers) }
@@ -112,8 +110,7 @@ fn book_of<B: Names>(
     bounds: Bounds,
     blanks: Blanks,
 ) -> Option<(Book<B>, Vec<Seat<B>>)>
-    requires blanks { AreBlanksOf blanks B.ledgers
-        (seat_count plan.now) plan.now.workers }
+    requires blanks { AreBlanksOf blanks B.ledgers (seat_count plan.now) plan.now.workers }
     ensures { IfSome result (λ r. (r.0 ≡ planned_book plan.now bounds)
         × (r.1.items ≡ seats_in_turn SEAT_PARTS plan.now.workers (seat_count plan.now))) }
 {

@@ -94,8 +94,7 @@ pub fn serve<'a, R, B>(rt: &R, plan: &Plan<'a>, blanks: Blanks) -> Result<(), Fa
 where
     R: Runtime + AllocGlobal + Net + Dial + Threads + Wait + Sync + Files<File = File> + Log,
     B: Names + Send + Sync,
-    requires blanks { AreBlanksOf blanks B.ledgers
-        (seat_count plan.now) plan.now.workers }
+    requires blanks { AreBlanksOf blanks B.ledgers (seat_count plan.now) plan.now.workers }
     ensures order { plan.now.last < plan.now.start → result ≡ Err Fault.StartAboveLast }
     ensures profile { plan.now.start ≤ plan.now.last → IsAboveProfile plan.now
         → result ≡ Err Fault.LastAboveProfile }
