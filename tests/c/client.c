@@ -332,7 +332,7 @@ int main(void) {
     broken();
     for (uint64_t error = 0; error <= UINT16_MAX; error++) {
         int is_own = error >= IOVAD_BAD_PATH && error <= IOVAD_TIMED_OUT;
-        const char *name = is_own ? names[error - IOVAD_BAD_PATH] : iova_refusal_name(error);
+        const char *name = is_own ? names[error - IOVAD_BAD_PATH] : error == IOVA_OTHER_VERSION ? "" : iova_refusal_name(error);
         want("a name", (uint64_t)strcmp(iovad_error_name(error), name), 0);
     }
     return bad;

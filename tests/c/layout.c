@@ -67,8 +67,17 @@ int main(void) {
         check("the size of a type", iova_type_size(type) == sizes[type]);
     check("no type more", iova_type_size(types) == 0 && iova_type_size(UINT64_MAX) == 0);
 
-    /* each name of a number that the library knows, and none beside them */
+    /* the version, and which versions of a program it serves */
+    check("the version", iova_version() == IOVA_VERSION);
+    check("it serves its own", iova_serves(IOVA_VERSION) && iova_serves(0));
+    check("and none that is newer, or has another first number",
+          !iova_serves(IOVA_VERSION + 1) && !iova_serves(IOVA_VERSION + 1000000) && !iova_serves(UINT64_MAX));
+    check("the refusal", strcmp(iova_refusal_name(IOVA_OTHER_VERSION), "OtherVersion") == 0);
+
+    /* each name of a number that the library knows, and none beside them but the header's own */
     for (uint64_t number = 0; number < 1000; number++) {
+        if (number == IOVA_OTHER_VERSION)
+            continue;
         uint8_t text[16];
         memset(text, 'x', sizeof text);
         const char *name = iova_refusal_name(number);

@@ -15,7 +15,8 @@
  *   iova_end(domain, flush, went_well);                               now it may be given again
  *   iova_domain_free(domain);
  *
- * Link with -liova: it needs the C library alone, of which it calls malloc, realloc and free.
+ * Link with -liova: it needs the C library alone, of which it calls malloc, realloc and free. docs/C.md, which is man 3 iova, says
+ * which versions of the library a program runs with.
  *
  * Frames are pages of 4,096 bytes, numbered by their address divided by 4,096. A call takes frames, not bytes, where its name
  * has no `map` or `bytes` in it. Workers are numbered from 0, clients and flushes as the library numbers them, from 1.
@@ -40,6 +41,9 @@
 extern "C" {
 #endif
 
+/* The version of this header, as iova_version has that of the library: 0.2.0. */
+#define IOVA_VERSION 2000
+
 /* The bytes of a frame. */
 #define IOVA_FRAME_BYTES 4096
 
@@ -48,8 +52,8 @@ extern "C" {
 #define IOVA_NO_MASK UINT64_MAX
 
 /* Why a call is refused: what `refused` of an answer is. The library answers IOVA_ZERO to IOVA_NO_MEMORY, IOVA_NO_DOMAIN and
- * IOVA_BAD_PROFILE; the other numbers are those of the service's sessions. A call that is refused has changed nothing, but for
- * what is said at iova_alloc and iova_close_one. */
+ * IOVA_BAD_PROFILE; the other numbers below 100 are those of the service's sessions, and IOVA_OTHER_VERSION is this header's. A
+ * call that is refused has changed nothing, but for what is said at iova_alloc and iova_close_one. */
 enum iova_refusal {
     IOVA_NOT_REFUSED = 0,
     IOVA_ZERO = 1,          /* no frame was asked for */
@@ -76,7 +80,8 @@ enum iova_refusal {
     IOVA_BAD_TRACE = 22,    /* sessions: not a line of a trace */
     IOVA_NO_DOMAIN = 23,    /* no domain was made in this room, or it was cleared */
     IOVA_TWICE = 24,        /* sessions: a second hello */
-    IOVA_BAD_PROFILE = 25   /* a depot of more than 32 was asked for */
+    IOVA_BAD_PROFILE = 25,  /* a depot of more than 32 was asked for */
+    IOVA_OTHER_VERSION = 200 /* with IOVA_BUILT_FOR: the library doesn't serve a program of that version */
 };
 
 /* The refusal's name as iovad prints it, one word: "NoSpace" for IOVA_NO_SPACE; "" for 0 and for numbers that none has. */
@@ -87,11 +92,13 @@ static inline const char *iova_refusal_name(uint64_t refused) {
         "NoFlight",   "Worn",        "ClientsFull", "NoMemory",  "SinkFault", "LinkFault",  "BadLine",
         "TooMany",    "BadTrace",    "NoDomain",  "Twice",       "BadProfile",
     };
+    if (refused == IOVA_OTHER_VERSION)
+        return "OtherVersion";
     return refused < sizeof names / sizeof names[0] ? names[refused] : "";
 }
 
 /* The same for callers that have no header: writes the name's first bytes, as many as `room` says at most, into `text`, with no
- * NUL behind them, and answers how many bytes the name has: 4 to 12, or 0 where no refusal has the number. */
+ * NUL behind them, and answers how many bytes the name has: 4 to 12, or 0 where no refusal of the library has the number. */
 uint64_t iova_refusal_text(uint64_t refused, uint8_t *text, size_t room);
 
 /* Answers. `refused` is 0 or one of enum iova_refusal, and then all the rest is 0. */
@@ -167,6 +174,16 @@ typedef struct iova_domain {
 
 /* How many bytes a domain needs: at most IOVA_DOMAIN_BYTES. What it holds grows by malloc beside it. */
 size_t iova_domain_size(void);
+
+/* The library's version: 1,000,000 times its first number, 1,000 times its second, and its third. */
+uint64_t iova_version(void);
+
+/* Whether the library serves a program that was built for this version: they have the same first number, the library isn't
+ * older, and its domain fits into an iova_domain. */
+static inline int iova_serves(uint64_t version) {
+    uint64_t library = iova_version();
+    return library / 1000000 == version / 1000000 && library >= version && iova_domain_size() <= sizeof(iova_domain);
+}
 
 /* Makes the room ready: there is no domain in it yet, and every other call on it is refused by IOVA_NO_DOMAIN. Takes no memory.
  * In room that has a domain, call iova_domain_clear first. */
@@ -286,6 +303,35 @@ iova_number iova_windows_of(iova_domain *domain, iova_listed *list, size_t room)
  * iova_mapping, 4 iova_place, 5 iova_counts, 6 iova_totals, 7 iova_client, 8 iova_bounds, 9 iova_flushes, 10 iova_listed; else
  * 0. */
 uint64_t iova_type_size(uint64_t type);
+
+/* A program that says which version it was built for, by
+ *
+ *   #define IOVA_BUILT_FOR IOVA_VERSION
+ *
+ * before this header, or by -DIOVA_BUILT_FOR=2000, has its iova_domain_make and iova_domain_make_second refused by
+ * IOVA_OTHER_VERSION, before all other refusals, where iova_serves says no. Its iova_domain_init then writes nothing into the
+ * room, so no other call is made on it. */
+static inline void iova_domain_init_for(uint64_t version, iova_domain *domain) {
+    if (iova_serves(version))
+        iova_domain_init(domain);
+}
+
+static inline uint64_t iova_domain_make_for(uint64_t version, iova_domain *domain, uint64_t start, uint64_t last,
+                                            uint64_t workers) {
+    return iova_serves(version) ? iova_domain_make(domain, start, last, workers) : (uint64_t)IOVA_OTHER_VERSION;
+}
+
+static inline uint64_t iova_domain_make_second_for(uint64_t version, iova_domain *domain, uint64_t start, uint64_t last,
+                                                   uint64_t workers, uint64_t depot) {
+    return iova_serves(version) ? iova_domain_make_second(domain, start, last, workers, depot) : (uint64_t)IOVA_OTHER_VERSION;
+}
+
+#ifdef IOVA_BUILT_FOR
+#define iova_domain_init(domain) iova_domain_init_for(IOVA_BUILT_FOR, domain)
+#define iova_domain_make(domain, start, last, workers) iova_domain_make_for(IOVA_BUILT_FOR, domain, start, last, workers)
+#define iova_domain_make_second(domain, start, last, workers, depot) \
+    iova_domain_make_second_for(IOVA_BUILT_FOR, domain, start, last, workers, depot)
+#endif
 
 #ifdef __cplusplus
 }

@@ -2,7 +2,7 @@
 ghost use Rattle.std.specs.Prelude.{◌≡◌, ◌≢◌, ◌≤◌, ℕ, Some, IsNone, IfSome};
 ghost use Rattle.iova_range.specs.declared.refusal.Refusal.{Refusal};
 ghost use Rattle.iova_range.specs.Refusals.{refusal_number};
-ghost use Rattle.iova_c.specs.Names.{HasNamed, with_text, type_size};
+ghost use Rattle.iova_c.specs.Names.{HasNamed, version, with_text, type_size};
 
 use crate::answer::{
     BoundsAnswer, ClientAnswer, CountsAnswer, FlushesAnswer, Listed, MappingAnswer, NumberAnswer,
@@ -92,4 +92,12 @@ pub extern "C" fn iova_type_size(number: u64) -> u64
         _ => 0,
     };
     bytes as u64
+}
+
+/// The library's version: 1,000,000 times its first number, 1,000 times its second, and its third.
+#[unsafe(no_mangle)]
+pub extern "C" fn iova_version() -> u64
+    ensures { result ≡ version }
+{
+    2_000
 }

@@ -22,7 +22,7 @@ use std::rt::Env;
 use std::{env, io};
 
 /// The program's version, and the kit that it is written for.
-pub const VERSION: &str = "0.1.0
+pub const VERSION: &str = "0.2.0
 rattle-kit-13f logic dac8208d650f15bf";
 
 /// The name that stands for standard input.

@@ -1,0 +1,206 @@
+// The suite of tests/run_bindings over iova.hpp: calls from standard input, a line each, and their answers.
+#include <iova.hpp>
+
+#include <iostream>
+#include <map>
+#include <optional>
+#include <sstream>
+#include <stdexcept>
+
+using u64 = std::uint64_t;
+
+static void refused(u64 number) { std::cout << "no " << number << ' ' << ::iova_refusal_name(number) << '\n'; }
+
+static bool is_refused(const std::error_code &error) {
+    if (error)
+        std::cout << "no " << error.value() << ' ' << error.message() << '\n';
+    return static_cast<bool>(error);
+}
+
+struct machine {
+    std::optional<iova::domain> domain;
+    std::map<std::string, iova::client> clients;
+    std::map<std::string, iova::mapping> mappings;
+
+    void forget() {
+        mappings.clear();
+        clients.clear();
+        domain.reset();
+    }
+
+    void number(const char *word, ::iova_number answer) {
+        if (answer.refused)
+            refused(answer.refused);
+        else
+            std::cout << word << ' ' << answer.number << '\n';
+    }
+
+    void range(const char *word, ::iova_range answer) {
+        if (answer.refused)
+            refused(answer.refused);
+        else if (answer.len == 0)
+            std::cout << "empty\n";
+        else
+            std::cout << word << ' ' << answer.lo << ' ' << answer.len << '\n';
+    }
+
+    // Whether it is a step of a trace.
+    bool step(const std::string &word, std::istream &line) {
+        u64 v[4] = {0, 0, 0, 0};
+        std::string last;
+        ::iova_domain *at = domain ? domain->at() : nullptr;
+        if (word == "reserve") {
+            line >> v[0] >> v[1];
+            std::error_code error;
+            const iova::frames window = domain->reserve(v[0], v[1], error);
+            if (!is_refused(error))
+                std::cout << "reserved " << window.lo << ' ' << window.lo + (window.len - 1) << '\n';
+        } else if (word == "open") {
+            line >> v[0] >> last;
+            number("opened", ::iova_open(at, v[0], last == "sac"));
+        } else if (word == "alloc") {
+            line >> v[0] >> v[1] >> v[2] >> v[3];
+            range("given", ::iova_alloc(at, v[0], v[1], v[2], v[3]));
+        } else if (word == "unmap") {
+            line >> v[0] >> v[1] >> v[2];
+            range("queued", ::iova_unmap(at, v[0], v[1], v[2]));
+        } else if (word == "begin") {
+            number("begun", ::iova_begin(at));
+        } else if (word == "end") {
+            line >> v[0] >> last;
+            if (u64 why = ::iova_end(at, v[0], last == "ok"))
+                refused(why);
+            else
+                std::cout << "ended\n";
+        } else if (word == "drain") {
+            line >> v[0] >> v[1];
+            number("drained", ::iova_drain(at, v[0], v[1]));
+        } else if (word == "close") {
+            line >> v[0] >> v[1];
+            number("marked", ::iova_close(at, v[0], v[1]));
+        } else if (word == "closeone") {
+            line >> v[0] >> v[1];
+            range("queued", ::iova_close_one(at, v[0], v[1]));
+        } else {
+            return false;
+        }
+        return true;
+    }
+
+    void make(u64 profile, std::istream &line, bool is_told) {
+        u64 start = 0, last = 0, workers = 0, depot = 0;
+        std::error_code error;
+        line >> start >> last >> workers >> depot;
+        forget();
+        if (profile == 1)
+            domain.emplace(start, last, workers, error);
+        else
+            domain.emplace(iova::domain::second(start, last, workers, depot, error));
+        if (!is_refused(error) && is_told)
+            std::cout << "made\n";
+    }
+
+    void call(const std::string &word, std::istream &line) {
+        std::string name, other;
+        u64 a = 0, b = 0;
+        std::error_code error;
+        if (word == "iovatrace") {
+            line >> a;
+            make(a, line, false);
+        } else if (word == "domain" || word == "second") {
+            make(word == "domain" ? 1 : 2, line, true);
+        } else if (word == "client") {
+            line >> name >> a >> other;
+            iova::client made(*domain, a, other == "sac" ? iova::reach::sac : iova::reach::dac, error);
+            if (!is_refused(error))
+                std::cout << "client " << (clients[name] = std::move(made)).number() << '\n';
+        } else if (word == "map") {
+            line >> name >> other >> a >> b;
+            iova::mapping made = clients[other].map(a, b, error);
+            if (!is_refused(error)) {
+                std::cout << "mapped " << made.address() << ' ' << made.bytes() << '\n';
+                mappings[name] = std::move(made);
+            }
+        } else if (word == "unmap_one") {
+            line >> name;
+            mappings[name].unmap(error);
+            if (!is_refused(error)) {
+                std::cout << "unmapped\n";
+                mappings.erase(name);
+            }
+        } else if (word == "drop") {
+            line >> name;
+            if (mappings.erase(name) + clients.erase(name) != 1)
+                throw std::runtime_error("no " + name);
+            std::cout << "dropped\n";
+        } else if (word == "flush") {
+            line >> other;
+            try {
+                const u64 left = domain->flush(
+                    [&] {
+                        if (other == "throw")
+                            throw std::runtime_error("broken");
+                        return other == "ok";
+                    },
+                    error);
+                if (!is_refused(error))
+                    std::cout << "flushed " << left << '\n';
+            } catch (const std::runtime_error &) {
+                std::cout << "threw\n";
+            }
+        } else if (word == "owed") {
+            std::cout << "owed " << domain->owed() << '\n';
+        } else if (word == "holdings") {
+            line >> name;
+            std::cout << "holdings";
+            for (const iova::frames &one : clients[name].holdings())
+                std::cout << ' ' << one.lo << '+' << one.len;
+            std::cout << '\n';
+        } else if (word == "name") {
+            line >> a;
+            std::cout << "name " << make_error_code(static_cast<iova::refusal>(a)).message() << '\n';
+        } else if (word == "counts") {
+            const ::iova_counts c = domain->counts();
+            std::cout << "counts " << c.free << ' ' << c.reserved << ' ' << c.client << ' ' << c.magazine << ' ' << c.depot << ' '
+                      << c.ring << ' ' << c.clients << ' ' << c.windows << '\n';
+        } else if (word == "report") {
+            report();
+        } else if (!step(word, line)) {
+            throw std::runtime_error("no call " + word);
+        }
+    }
+
+    void row(const char *name, u64 value) {
+        std::cout << name << std::string(10 - std::string(name).size(), ' ');
+        std::cout.width(20);
+        std::cout << value << '\n';
+    }
+
+    void report() {
+        const ::iova_counts c = domain->counts();
+        const ::iova_flushes f = domain->flushes();
+        row("free", c.free), row("reserved", c.reserved), row("client", c.client), row("magazine", c.magazine);
+        row("depot", c.depot), row("ring", c.ring), row("clients", c.clients), row("holdings", domain->totals().count);
+        row("start", f.start), row("finish", f.finish), row("owed", f.owed), row("flights", f.in_flight);
+        for (const iova::frames &one : domain->windows()) {
+            std::cout << "window    ";
+            std::cout.width(20);
+            std::cout << one.lo;
+            std::cout.width(20);
+            std::cout << one.lo + (one.len - 1) << '\n';
+        }
+    }
+};
+
+int main() {
+    std::ios::sync_with_stdio(false);
+    machine its;
+    std::string text, word;
+    while (std::getline(std::cin, text)) {
+        std::istringstream line(text);
+        if (line >> word && word[0] != '#')
+            its.call(word, line);
+    }
+    its.forget();
+    return 0;
+}

@@ -1,0 +1,175 @@
+//! The suite of tests/run_bindings over the crate `iova`: calls from standard input, a line each, and their answers.
+
+use std::collections::HashMap;
+use std::io::{self, BufRead, Write};
+use std::panic::{self, AssertUnwindSafe};
+
+use iova::{Client, Domain, Frames, Range, Reach, Refusal};
+
+/// What a domain of the script has; it goes before the domain does.
+#[derive(Default)]
+struct Objects<'d> {
+    ranges: HashMap<String, Range<'d>>,
+    clients: HashMap<String, Client<'d>>,
+}
+
+fn number(word: &str) -> u64 {
+    word.parse().expect("a number")
+}
+
+fn range(word: &str, frames: Frames) -> String {
+    format!("{word} {} {}", frames.lo, frames.len)
+}
+
+fn reach(word: &str) -> Reach {
+    if word == "sac" {
+        Reach::Sac
+    } else {
+        Reach::Dac
+    }
+}
+
+fn made(words: &[&str]) -> Result<Domain, Refusal> {
+    let v: Vec<u64> = words[1..].iter().map(|word| number(word)).collect();
+    match words[0] {
+        "iovatrace" if v[0] == 1 => Domain::new(v[1], v[2], v[3]),
+        "iovatrace" => Domain::second(v[1], v[2], v[3], v[4]),
+        "domain" => Domain::new(v[0], v[1], v[2]),
+        _ => Domain::second(v[0], v[1], v[2], v[3]),
+    }
+}
+
+fn report(domain: &Domain) -> String {
+    let (counts, flushes) = (domain.counts(), domain.flushes());
+    let rows = [
+        ("free", counts.free),
+        ("reserved", counts.reserved),
+        ("client", counts.client),
+        ("magazine", counts.magazine),
+        ("depot", counts.depot),
+        ("ring", counts.ring),
+        ("clients", counts.clients),
+        ("holdings", domain.totals().count),
+        ("start", flushes.start),
+        ("finish", flushes.finish),
+        ("owed", flushes.owed),
+        ("flights", flushes.in_flight),
+    ];
+    let mut lines: Vec<String> = rows.iter().map(|(name, value)| format!("{name:<10}{value:>20}")).collect();
+    for one in domain.windows() {
+        lines.push(format!("{:<10}{:>20}{:>20}", "window", one.lo, one.lo + (one.len - 1)));
+    }
+    lines.join("\n")
+}
+
+fn step(domain: &Domain, words: &[&str]) -> Result<String, Refusal> {
+    let v = |at: usize| number(words[at]);
+    Ok(match words[0] {
+        "reserve" => {
+            let window = domain.reserve(v(1), v(2))?;
+            format!("reserved {} {}", window.lo, window.lo + (window.len - 1))
+        }
+        "open" => format!("opened {}", domain.open(v(1), reach(words[2]))?),
+        "alloc" => range("given", domain.alloc(v(1), v(2), v(3), v(4))?),
+        "unmap" => range("queued", domain.unmap(v(1), v(2), v(3))?),
+        "begin" => format!("begun {}", domain.begin()?),
+        "end" => domain.end(v(1), words[2] == "ok").map(|()| "ended".to_string())?,
+        "drain" => format!("drained {}", domain.drain(v(1), v(2))?),
+        "close" => format!("marked {}", domain.close(v(1), v(2))?),
+        "closeone" => domain.close_one(v(1), v(2))?.map_or("empty".to_string(), |left| range("queued", left)),
+        word => panic!("no call {word}"),
+    })
+}
+
+fn call<'d>(domain: &'d Domain, objects: &mut Objects<'d>, words: &[&str]) -> Result<String, Refusal> {
+    let v = |at: usize| number(words[at]);
+    Ok(match words[0] {
+        "client" => {
+            let client = domain.client_of(v(2), reach(words[3]))?;
+            let told = format!("client {}", client.number());
+            objects.clients.insert(words[1].to_string(), client);
+            told
+        }
+        "map" => {
+            let range = objects.clients[words[2]].map(v(3), v(4))?;
+            let told = format!("mapped {} {}", range.address(), range.bytes());
+            objects.ranges.insert(words[1].to_string(), range);
+            told
+        }
+        "unmap_one" => match objects.ranges.remove(words[1]).expect("a range").unmap() {
+            Ok(()) => "unmapped".to_string(),
+            Err((refusal, range)) => {
+                objects.ranges.insert(words[1].to_string(), range);
+                return Err(refusal);
+            }
+        },
+        "drop" => {
+            let gone = (objects.ranges.remove(words[1]), objects.clients.remove(words[1]));
+            assert!(gone.0.is_some() != gone.1.is_some());
+            "dropped".to_string()
+        }
+        "flush" => {
+            let flush = || domain.flush(|| if words[1] == "throw" { panic!("broken") } else { words[1] == "ok" });
+            match panic::catch_unwind(AssertUnwindSafe(flush)) {
+                Ok(left) => format!("flushed {}", left?),
+                Err(_) => "threw".to_string(),
+            }
+        }
+        "owed" => format!("owed {}", domain.owed()),
+        "holdings" => {
+            let held = objects.clients[words[1]].holdings();
+            held.iter().fold("holdings".to_string(), |told, one| format!("{told} {}+{}", one.lo, one.len))
+        }
+        "name" => format!("name {}", Refusal::of(v(1)).map_or("", Refusal::name)),
+        "counts" => {
+            let c = domain.counts();
+            let all = [c.free, c.reserved, c.client, c.magazine, c.depot, c.ring, c.clients, c.windows];
+            all.iter().fold("counts".to_string(), |told, count| format!("{told} {count}"))
+        }
+        "report" => report(domain),
+        _ => step(domain, words)?,
+    })
+}
+
+fn is_new(line: &str) -> bool {
+    ["iovatrace ", "domain ", "second "].iter().any(|word| line.starts_with(word))
+}
+
+fn main() -> io::Result<()> {
+    panic::set_hook(Box::new(|_| {}));
+    let lines: Vec<String> = io::stdin().lock().lines().collect::<Result<_, _>>()?;
+    let out = io::stdout();
+    let mut out = io::BufWriter::new(out.lock());
+    let mut at = 0;
+    while at < lines.len() {
+        // a domain, and the calls up to the next one
+        let words: Vec<&str> = lines[at].split_whitespace().collect();
+        at += 1;
+        if words.is_empty() || words[0].starts_with('#') {
+            continue;
+        }
+        let domain = match made(&words) {
+            Ok(domain) => domain,
+            Err(refusal) => {
+                writeln!(out, "no {} {refusal}", refusal.number())?;
+                continue;
+            }
+        };
+        if words[0] != "iovatrace" {
+            writeln!(out, "made")?;
+        }
+        let mut objects = Objects::default();
+        while at < lines.len() && !is_new(&lines[at]) {
+            let words: Vec<&str> = lines[at].split_whitespace().collect();
+            at += 1;
+            if words.is_empty() || words[0].starts_with('#') {
+                continue;
+            }
+            match call(&domain, &mut objects, &words) {
+                Ok(told) => writeln!(out, "{told}")?,
+                Err(refusal) => writeln!(out, "no {} {refusal}", refusal.number())?,
+            }
+        }
+    }
+    Ok(())
+}
