@@ -1,1 +1,2 @@
 mod Sends
+mod Kept

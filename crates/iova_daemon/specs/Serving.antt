@@ -1,8 +1,34 @@
--- Why nothing was served.
-use Rattle.std.specs.Prelude.{[], ◌∷◌}
+-- What serving comes to.
+use Rattle.std.specs.Prelude.{ℕ, ◌+◌, ◌≤◌, List, [], ◌∷◌, sum_by}
 use Rattle.iova_range.specs.declared.refusal.Refusal.{Refusal}
 use Rattle.iova_range.specs.declared.refusal.Refusal.TheVariants as refusal
 use Rattle.iova_model.specs.Effects.{IsAmong}
+use Rattle.iova_sink.specs.Calls.{Call, good_calls}
+use Rattle.iova_keep.specs.Views.{SeatState, TallyState, KeepsPlace}
 
+-- why nothing was served
 abbrev pub IsServeRefusal : Refusal → Type 0
 IsServeRefusal e = IsAmong e (refusal.NoMemory ∷ refusal.LinkFault ∷ [])
+
+-- Each of these seats keeps its place, while its sink was called: as the first two lists have them
+-- before, and the last two behind. So no tally rose by more than its sink was given good calls.
+pub data AreKept : List SeatState → List (List Call) → List SeatState → List (List Call) → Type 0 where
+  none : AreKept [] [] [] []
+  kept : (s t : SeatState) (c d : List Call) (ss ts : List SeatState) (cs ds : List (List Call))
+      → KeepsPlace s t c d → AreKept ss cs ts ds → AreKept (s ∷ ss) (c ∷ cs) (t ∷ ts) (d ∷ ds)
+
+-- the flushes that tallies count as ended well rose by no more than sinks were given good calls
+abbrev pub AreWithin : List SeatState → List (List Call) → List SeatState → List (List Call)
+    → Type 0
+AreWithin seats calls seats_now calls_now =
+    sum_by (λ s. s.tally.good) seats_now + sum_by good_calls calls
+    ≤ sum_by (λ s. s.tally.good) seats + sum_by good_calls calls_now
+
+-- The same with a flusher, whose tally begins at 0, and whose sink is the last of those before: all
+-- that was counted as ended well while these were served, by whomever, is no more than the good
+-- calls that sinks were given meanwhile.
+abbrev pub CountsWithin : List SeatState → List (List Call) → List SeatState → TallyState
+    → List (List Call) → List Call → Type 0
+CountsWithin seats calls seats_now tally calls_now flusher_calls =
+    sum_by (λ s. s.tally.good) seats_now + tally.good + sum_by good_calls calls
+    ≤ sum_by (λ s. s.tally.good) seats + sum_by good_calls calls_now + good_calls flusher_calls

@@ -1,4 +1,6 @@
 //! The flusher: rounds beside the workers, and flushes ahead of them.
+ghost use Rattle.iova_keep.specs.Views.{RisesWithin};
+
 use crate::roster::Roster;
 use crate::threads::SideTask;
 use iova_keep::calls::{flush, timeout};
@@ -8,7 +10,6 @@ use iova_keep::seat::Tally;
 use iova_links::pause::Pause;
 use iova_range::limits::{FLUSH_PAUSE, MAX_FLUSH_PAUSE};
 use iova_range::refusal::Refusal;
-use iova_session::post::Post;
 use iova_sink::sink::Sink;
 use log::{Log, warn};
 use std::sync::Wait;
@@ -56,7 +57,30 @@ impl Busy {
     }
 }
 
-impl<'e, R, N, B, K, D, P> SideTask<Post<B>> for Flusher<'e, R, N, K, B, D, P>
+impl<'e, R, N, K, B: Names, D, P> Flusher<'e, R, N, K, B, D, P> {
+    /// Its tally and its sink.
+    pub(crate) fn into_parts(self) -> (Tally<B>, D)
+    where
+        K: Drop,
+        P: Drop,
+        ensures { (result.0 ≡ self.tally) × (result.1 ≡ self.sink) }
+    {
+        let Flusher {
+            rt: _,
+            notices: _,
+            keeper: _,
+            tally,
+            sink,
+            pause: _,
+            roster: _,
+            busy: _,
+            rest: _,
+        } = self;
+        (tally, sink)
+    }
+}
+
+impl<'e, R, N, B, K, D, P> SideTask for Flusher<'e, R, N, K, B, D, P>
 where
     R: Wait,
     N: Log,
@@ -65,6 +89,10 @@ where
     D: Sink,
     P: Pause,
 {
+    ghost good = { λ f. f.tally.good };
+
+    ghost calls = { λ f. D.calls f.sink };
+
     /// Makes a round after each pause, until a pause says stop or all workers have ended. A round
     /// that is refused is a notice; one whose sink failed is told there, and behind each of them
     /// the pause is twice as long, up to a second. Where a round freed many entries or a flush was
@@ -140,6 +168,7 @@ where
     K: Keep<B>,
     D: Sink,
     P: Pause,
+    ensures { RisesWithin tally.old.good tally.new.good (D.calls sink.old) (D.calls sink.new) }
 {
     busy.is_busy = false;
     let mut start = keeper.stat().start;

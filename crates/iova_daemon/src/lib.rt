@@ -3,7 +3,8 @@
 
 ghost use Rattle.std.specs.Prelude.{◌≡◌, ◌+◌, ◌≤◌, Ok, Err, IfOk, IfErr, map, vec_len, slice_get};
 ghost use Rattle.std.specs.Option.{ForSome};
-ghost use Rattle.iova_daemon.specs.Serving.{IsServeRefusal};
+ghost use Rattle.iova_keep.specs.Views.{RisesWithin};
+ghost use Rattle.iova_daemon.specs.Serving.{AreWithin, CountsWithin, IsServeRefusal};
 
 mod crossing;
 mod flusher;
@@ -19,6 +20,7 @@ use crate::worker::WorkerContext;
 use flusher::{Busy, Flusher};
 use iova_keep::keep::Keep;
 use iova_keep::names::Names;
+use iova_keep::seat::Tally;
 use iova_links::accept::Accept;
 use iova_links::aside::{Aside, NothingAside};
 use iova_links::noting::NotingSink;
@@ -34,7 +36,7 @@ use std::alloc::Global;
 use std::rt::Clock;
 use std::sync::Wait;
 use std::thread::Threads;
-use threads::{Work, run_all};
+use threads::{Joined, Work, run_all};
 
 /// What serving leaves.
 #[derive(Drop)]
@@ -43,6 +45,28 @@ pub struct Served<R, B: Names> {
     pub shared: Shared<R, B>,
     /// The posts, in the order in which they were given.
     pub posts: Vec<Post<B>>,
+}
+
+/// What serving leaves, with the sinks and the flusher's tally.
+#[derive(Drop)]
+pub struct ServedBy<R, B: Names, D> {
+    /// The domain, and the posts.
+    pub served: Served<R, B>,
+    /// The posts' sinks, in the order of the posts.
+    pub sinks: Vec<D>,
+    /// The flusher's sink.
+    pub sink: D,
+    /// The flusher's tally.
+    pub tally: Tally<B>,
+}
+
+/// What serving leaves of the posts, and what they were served by.
+#[derive(Drop)]
+struct Kept<B: Names, D> {
+    posts: Vec<Post<B>>,
+    sinks: Vec<D>,
+    sink: D,
+    tally: Tally<B>,
 }
 
 /// What is served.
@@ -111,9 +135,20 @@ where
         },
         aside: &NothingAside,
     };
-    serve_sessions::<R, Q, N, B, L, A, D, P, NothingAside>(
+    let served = serve_sessions::<R, Q, N, B, L, A, D, P, NothingAside>(
         &service, shared, posts, sinks, accept, pause,
-    )
+    );
+    match served {
+        Ok(
+            ServedBy {
+                served,
+                sinks: _,
+                sink: _,
+                tally: _,
+            },
+        ) => Ok(served),
+        Err(refusal) => Err(refusal),
+    }
 }
 
 /// Serves sessions on the domain, and flushes beside them on the calling thread. Each post is a
@@ -154,7 +189,7 @@ pub fn serve_sessions<R, Q, N, B, L, A, D, P, X>(
     sinks: Vec<D>,
     accept: &A,
     pause: P,
-) -> Result<Served<Q, B>, Refusal>
+) -> Result<ServedBy<Q, B, D>, Refusal>
 where
     R: Threads + Wait + Clock + Sync,
     Q: Wait + Sync + Drop,
@@ -168,9 +203,12 @@ where
     requires some { 1 ≤ vec_len posts }
     requires sinks { vec_len sinks ≡ vec_len posts + 1 }
     requires parts { ForSome (slice_get posts.items 0) (λ p. 2 ≤ p.seat.tally.parts) }
-    ensures posts { IfOk result (λ s. map (λ p. p.seat.worker) s.posts.items
+    ensures posts { IfOk result (λ r. map (λ p. p.seat.worker) r.served.posts.items
         ≡ map (λ p. p.seat.worker) posts.items) }
-    ensures shared { IfOk result (λ s. s.shared ≡ shared) }
+    ensures shared { IfOk result (λ r. r.served.shared ≡ shared) }
+    ensures within { IfOk result (λ r. CountsWithin (map (λ p. p.seat) posts.items)
+        (map D.calls sinks.items) (map (λ p. p.seat) r.served.posts.items) r.tally
+        (map D.calls r.sinks.items) (D.calls r.sink)) }
     ensures refusal { IfErr result IsServeRefusal }
 {
     // for the proof: what threads may share
@@ -199,8 +237,6 @@ where
         B,
         &Shared<Q, B>,
         WorkerContext<&R, &N, &Shared<Q, B>, &A, &Roster, &Pool<L>, &X>,
-        L,
-        D,
         D,
         P,
         X,
@@ -209,36 +245,38 @@ where
 }
 
 /// Serves at the posts with what their threads are lent and given, and flushes beside them with
-/// this sink: gives the posts back.
-fn serve_kept<R, N, B, K, W, L, E, D, P, X>(
+/// this sink: gives all of them back.
+fn serve_kept<R, N, B, K, W, D, P, X>(
     service: &Service<'_, R, N, X>,
     keeper: K,
     context: &W,
     posts: Vec<Post<B>>,
-    gears: Vec<E>,
+    sinks: Vec<D>,
     sink: D,
     pause: P,
-) -> Result<Vec<Post<B>>, Refusal>
+) -> Result<Kept<B, D>, Refusal>
 where
     R: Threads + Wait,
     N: Log,
     B: Names + Send + Sync,
     K: Keep<B> + Drop,
-    W: Work<Post<B>, E, L> + Sync,
-    E: Send + Drop,
-    D: Sink + Drop,
+    W: Work<Post<B>, D> + Sync,
+    D: Sink + Send + Drop,
     P: Pause + Drop,
     requires some { 1 ≤ vec_len posts }
-    requires gears { vec_len posts ≤ vec_len gears }
+    requires sinks { vec_len posts ≡ vec_len sinks }
     requires parts { ForSome (slice_get posts.items 0) (λ p. 2 ≤ p.seat.tally.parts) }
-    ensures posts { IfOk result (λ v. map (λ p. p.seat.worker) v.items
+    ensures posts { IfOk result (λ k. map (λ p. p.seat.worker) k.posts.items
         ≡ map (λ p. p.seat.worker) posts.items) }
+    ensures within { IfOk result (λ k. AreWithin (map (λ p. p.seat) posts.items)
+        (map D.calls sinks.items) (map (λ p. p.seat) k.posts.items) (map D.calls k.sinks.items)) }
+    ensures flusher { IfOk result (λ k. RisesWithin 0 k.tally.good (D.calls sink) (D.calls k.sink)) }
     ensures refusal { IfErr result IsServeRefusal }
 {
     // for the proof: what a worker has may go to its thread
     posts_are_send::<B>();
     let mut posts = posts;
-    let mut flusher = Flusher {
+    let flusher = Flusher {
         rt: service.rt,
         notices: service.notices,
         keeper,
@@ -249,25 +287,56 @@ where
         busy: Busy::new(),
         rest: 0,
     };
-    run_all::<R, W, Post<B>, E, L, Flusher<'_, R, N, K, B, NotingSink<'_, D, N>, P>>(
-        service.rt,
-        context,
-        posts,
-        gears,
-        &mut flusher,
-    )
+    let joined = run_all::<R, W, Post<B>, D, Flusher<'_, R, N, K, B, NotingSink<'_, D, N>, P>>(
+        service.rt, context, posts, sinks, flusher,
+    );
+    match joined {
+        Ok(
+            Joined {
+                places,
+                sinks,
+                beside,
+            },
+        ) => {
+            let (tally, sink) = beside.into_parts();
+            Ok(Kept {
+                posts: places,
+                sinks,
+                sink: sink.into_sink(),
+                tally,
+            })
+        }
+        Err(refusal) => Err(refusal),
+    }
 }
 
-/// The domain, and the posts where nothing was refused.
-fn give_back<Q: Drop, B: Names>(
+/// The domain and the posts, with what they were served by, where nothing was refused.
+fn give_back<Q: Drop, B: Names, D: Drop>(
     shared: Shared<Q, B>,
-    posts: Result<Vec<Post<B>>, Refusal>,
-) -> Result<Served<Q, B>, Refusal>
-    ensures served { IfOk result (λ s. (s.shared ≡ shared) × (posts ≡ Ok s.posts)) }
-    ensures refusal { IfErr result (λ e. posts ≡ Err e) }
+    kept: Result<Kept<B, D>, Refusal>,
+) -> Result<ServedBy<Q, B, D>, Refusal>
+    ensures served { IfOk result (λ r. (r.served.shared ≡ shared) × (kept ≡ Ok record {
+      posts = r.served.posts;
+      sinks = r.sinks;
+      sink = r.sink;
+      tally = r.tally;
+    })) }
+    ensures refusal { IfErr result (λ e. kept ≡ Err e) }
 {
-    match posts {
-        Ok(posts) => Ok(Served { shared, posts }),
+    match kept {
+        Ok(
+            Kept {
+                posts,
+                sinks,
+                sink,
+                tally,
+            },
+        ) => Ok(ServedBy {
+            served: Served { shared, posts },
+            sinks,
+            sink,
+            tally,
+        }),
         Err(refusal) => {
             drop(shared);
             Err(refusal)

@@ -1,29 +1,33 @@
 //! The workers' threads, started and joined. What a worker does, and what is done beside them,
 //! stand behind bounds here.
-ghost use Rattle.std.specs.Prelude.{◌≡◌, ◌≤◌, ℕ, [], IfOk, IfErr, map, vec_len, vec_capacity, true};
-ghost use Rattle.iova_daemon.specs.Serving.{IsServeRefusal};
+ghost use Rattle.std.specs.Prelude.{◌≡◌, ◌≤◌, ℕ, List, [], IfOk, IfErr, map, vec_len, vec_capacity, true};
+ghost use Rattle.iova_sink.specs.Calls.{Call};
+ghost use Rattle.iova_keep.specs.Views.{SeatState, KeepsPlace, RisesWithin};
+ghost use Rattle.iova_daemon.specs.Serving.{AreKept, IsServeRefusal};
 
 use crate::roster::Roster;
 use iova_range::refusal::Refusal;
+use iova_sink::sink::Sink;
+use std::snapshot::Snapshot;
 use std::sync::Wait;
 use std::thread::{Promise, PromisedHandle, Scope, Threads};
 use std::{io, thread};
 
 /// A worker's place.
 pub(crate) trait Place {
-    /// Whose place it is.
-    ghost worker: { Self → ℕ };
+    /// The seat that is there.
+    ghost seat: { Self → SeatState };
 
     /// The worker's number.
     fn worker(&self) -> u64
-        ensures { result ≡ worker self.now };
+        ensures { result ≡ (seat self.now).worker };
 }
 
 /// What workers do, each in a thread of its own.
-pub(crate) trait Work<P: Place, D, L> {
-    /// Works at this place with this sink, and gives the place back.
-    fn work(&self, place: P, sink: D) -> P
-        ensures { P.worker result ≡ P.worker place };
+pub(crate) trait Work<P: Place, D: Sink> {
+    /// Works at this place with this sink, and gives both back.
+    fn work(&self, place: P, sink: D) -> (P, D)
+        ensures { KeepsPlace (P.seat place) (P.seat result.0) (D.calls sink) (D.calls result.1) };
 
     /// The roster of the workers.
     fn roster(&self) -> &Roster;
@@ -45,17 +49,40 @@ pub(crate) trait Work<P: Place, D, L> {
 }
 
 /// What is done beside the workers, on the thread that started them.
-pub(crate) trait SideTask<P> {
+pub(crate) trait SideTask {
+    /// How many flushes it has counted as ended well.
+    ghost good: { Self → ℕ };
+
+    /// The calls of its sink.
+    ghost calls: { Self → List Call };
+
     /// Does it until all workers have ended, or before.
-    fn go_on(&mut self);
+    fn go_on(&mut self)
+        ensures { RisesWithin (good self.old) (good self.new) (calls self.old) (calls self.new) };
 }
 
-/// The promise of a thread that the place which it gives back is this worker's.
-#[derive(Clone, Copy)]
-pub(crate) struct WorkerIs(u64);
+/// What is there once all threads have been joined.
+#[derive(Drop)]
+pub(crate) struct Joined<P, D, B> {
+    /// The places, in their order.
+    pub places: Vec<P>,
+    /// Their sinks.
+    pub sinks: Vec<D>,
+    /// What was done beside them.
+    pub beside: B,
+}
 
-impl<P: Place> Promise<P> for WorkerIs {
-    ghost kept_by = { λ p r. P.worker r ≡ p.0 };
+/// The promise of a thread that the place and the sink which it gives back are those that it had,
+/// and that no more flushes are counted there as ended well than the sink was given good calls.
+#[derive(Drop)]
+pub(crate) struct KeepsBoth<P, D> {
+    place: Snapshot<P>,
+    sink: Snapshot<D>,
+}
+
+impl<P: Place, D: Sink> Promise<(P, D)> for KeepsBoth<P, D> {
+    ghost kept_by = { λ p r. KeepsPlace (P.seat p.place.value) (P.seat r.0)
+        (D.calls p.sink.value) (D.calls r.1) };
 }
 
 /// The promise of a thread that gives nothing back.
@@ -66,61 +93,75 @@ impl Promise<()> for Nothing {
     ghost kept_by = { λ p r. Unit {0} };
 }
 
-/// Starts a worker at each place, goes on beside them, and joins them. It gives the places back in
-/// their order. Refused by `NoMemory` before one is started, and by `LinkFault` where one can't be.
-pub(crate) fn run_all<R, W, P, D, L, B>(
+/// Starts a worker at each place, with its sink, goes on beside them, and joins them. It gives the
+/// places and the sinks back in their order. Refused by `NoMemory` before one is started, and by
+/// `LinkFault` where one can't be.
+pub(crate) fn run_all<R, W, P, D, B>(
     rt: &R,
     context: &W,
     places: Vec<P>,
     sinks: Vec<D>,
-    beside: &mut B,
-) -> Result<Vec<P>, Refusal>
+    beside: B,
+) -> Result<Joined<P, D, B>, Refusal>
 where
     R: Threads + Wait,
-    W: Work<P, D, L> + Sync,
+    W: Work<P, D> + Sync,
     P: Place + Send + Drop,
-    D: Send + Drop,
-    B: SideTask<P>,
-    requires { vec_len places ≤ vec_len sinks }
-    ensures places { IfOk result (λ v. map P.worker v.items ≡ map P.worker places.items) }
+    D: Sink + Send + Drop,
+    B: SideTask + Drop,
+    requires { vec_len places ≡ vec_len sinks }
+    ensures kept { IfOk result (λ j. AreKept (map P.seat places.items) (map D.calls sinks.items)
+        (map P.seat j.places.items) (map D.calls j.sinks.items)) }
+    ensures beside { IfOk result (λ j. RisesWithin (B.good beside) (B.good j.beside)
+        (B.calls beside) (B.calls j.beside)) }
     ensures refusal { IfErr result IsServeRefusal }
 {
     thread::scope(
         thread::scope_env(),
         rt,
-        move |scope| -> Result<Vec<P>, Refusal>
-            requires { vec_len places ≤ vec_len sinks }
-            ensures places { IfOk result (λ v. map P.worker v.items ≡ map P.worker places.items) }
+        move |scope| -> Result<Joined<P, D, B>, Refusal>
+            requires { vec_len places ≡ vec_len sinks }
+            ensures kept { IfOk result
+                (λ j. AreKept (map P.seat places.items) (map D.calls sinks.items)
+                (map P.seat j.places.items) (map D.calls j.sinks.items)) }
+            ensures beside { IfOk result (λ j. RisesWithin (B.good beside) (B.good j.beside)
+                (B.calls beside) (B.calls j.beside)) }
             ensures refusal { IfErr result IsServeRefusal }
         { run_in(scope, rt, context, places, sinks, beside) },
     )
 }
 
 /// The same in this scope.
-fn run_in<'s, E, R, W, P, D, L, B>(
+fn run_in<'s, E, R, W, P, D, B>(
     scope: &Scope<'s, E>,
     rt: &R,
     context: &'s W,
     places: Vec<P>,
     sinks: Vec<D>,
-    beside: &mut B,
-) -> Result<Vec<P>, Refusal>
+    beside: B,
+) -> Result<Joined<P, D, B>, Refusal>
 where
     E: 's,
     R: Threads + Wait,
-    W: Work<P, D, L> + Sync + 's,
+    W: Work<P, D> + Sync + 's,
     P: Place + Send + Drop + 's,
-    D: Send + Drop + 's,
-    L: 's,
-    B: SideTask<P>,
-    requires { vec_len places ≤ vec_len sinks }
-    ensures places { IfOk result (λ v. map P.worker v.items ≡ map P.worker places.items) }
+    D: Sink + Send + Drop + 's,
+    B: SideTask + Drop,
+    requires { vec_len places ≡ vec_len sinks }
+    ensures kept { IfOk result (λ j. AreKept (map P.seat places.items) (map D.calls sinks.items)
+        (map P.seat j.places.items) (map D.calls j.sinks.items)) }
+    ensures beside { IfOk result (λ j. RisesWithin (B.good beside) (B.good j.beside)
+        (B.calls beside) (B.calls j.beside)) }
     ensures refusal { IfErr result IsServeRefusal }
 {
+    let mut beside = beside;
     let workers = places.len();
     let alloc = *places.allocator();
     // so joining needs no memory
     let Ok(mut back) = Vec::with_capacity(alloc, workers) else {
+        return Err(Refusal::NoMemory);
+    };
+    let Ok(mut given) = Vec::with_capacity(alloc, workers) else {
         return Err(Refusal::NoMemory);
     };
     let Ok(mut started) = Vec::with_capacity(alloc, workers) else {
@@ -131,9 +172,9 @@ where
     }
     // started workers wait for the gate until all are started
     let mut gate = context.roster().gate.lock(rt);
-    let all = start_all::<E, W, P, D, L>(scope, context, places, sinks, &mut started);
+    let all = start_all::<E, W, P, D>(scope, context, places, sinks, &mut started);
     let aside = if all {
-        start_aside::<E, W, P, D, L>(scope, context)
+        start_aside::<E, W, P, D>(scope, context)
     } else {
         None
     };
@@ -143,28 +184,31 @@ where
     if all {
         beside.go_on();
     }
-    join_all(rt, started, &mut back);
+    join_all(rt, started, &mut back, &mut given);
     if let Some(Some(aside)) = aside {
         aside.join(rt);
     }
     if all {
-        Ok(back)
+        Ok(Joined {
+            places: back,
+            sinks: given,
+            beside,
+        })
     } else {
         Err(Refusal::LinkFault)
     }
 }
 
 /// Starts what is done aside, where there is anything to do. None where it can't be started.
-fn start_aside<'s, E, W, P, D, L>(
+fn start_aside<'s, E, W, P, D>(
     scope: &Scope<'s, E>,
     context: &'s W,
 ) -> Option<Option<PromisedHandle<(), Nothing>>>
 where
     E: 's,
-    W: Work<P, D, L> + Sync + 's,
+    W: Work<P, D> + Sync + 's,
     P: Place + Send + Drop + 's,
-    D: Send + Drop + 's,
-    L: 's,
+    D: Sink + Send + Drop + 's,
 {
     if !context.is_wanted_aside() {
         return Some(None);
@@ -180,39 +224,46 @@ where
 
 /// Starts a worker at each place, and gives whether all were started. It stops at the first one
 /// that can't be.
-fn start_all<'s, E, W, P, D, L>(
+#[tactic(auto, using(crate::proofs::Kept::whole_front))]
+fn start_all<'s, E, W, P, D>(
     scope: &Scope<'s, E>,
     context: &'s W,
     places: Vec<P>,
     sinks: Vec<D>,
-    started: &mut Vec<PromisedHandle<P, WorkerIs>>,
+    started: &mut Vec<PromisedHandle<(P, D), KeepsBoth<P, D>>>,
 ) -> bool
 where
     E: 's,
-    W: Work<P, D, L> + Sync + 's,
+    W: Work<P, D> + Sync + 's,
     P: Place + Send + Drop + 's,
-    D: Send + Drop + 's,
-    L: 's,
+    D: Sink + Send + Drop + 's,
     requires empty { started.old.items ≡ [] }
     requires room { vec_len places ≤ vec_capacity started.old }
-    requires sinks { vec_len places ≤ vec_len sinks }
+    requires sinks { vec_len places ≡ vec_len sinks }
     ensures fits { vec_len started.new ≤ vec_len places }
-    ensures whole { result ≡ true → map (λ h. h.promise.0) started.new.items
-        ≡ map P.worker places.items }
+    ensures places { result ≡ true → map (λ h. P.seat h.promise.place.value) started.new.items
+        ≡ map P.seat places.items }
+    ensures sinks { result ≡ true → map (λ h. D.calls h.promise.sink.value) started.new.items
+        ≡ map D.calls sinks.items }
 {
     let mut sinks = sinks.into_iter();
     for place in places {
         let Some(sink) = sinks.next() else {
             unreachable!()
         };
-        let promise = WorkerIs(place.worker());
-        let work = move || -> P
-            ensures { P.worker result ≡ P.worker place }
+        let worker = place.worker();
+        let promise = KeepsBoth {
+            place: Snapshot::of(&place),
+            sink: Snapshot::of(&sink),
+        };
+        let work = move || -> (P, D)
+            ensures { KeepsPlace (P.seat place) (P.seat result.0) (D.calls sink)
+                (D.calls result.1) }
         { context.work(place, sink) };
         let handle = match scope.spawn_with(promise, work) {
             Ok(handle) => handle,
             Err(error) => {
-                context.cannot_start(promise.0, &io::Error::from(error));
+                context.cannot_start(worker, &io::Error::from(error));
                 return false;
             }
         };
@@ -223,18 +274,28 @@ where
     true
 }
 
-/// Joins each thread, and puts its place after those that are there.
-fn join_all<R: Threads, P: Place + Drop>(
+/// Joins each thread, and puts its place and its sink after those that are there.
+#[tactic(auto, using(crate::proofs::Kept::more_kept))]
+fn join_all<R: Threads, P: Place + Drop, D: Sink + Drop>(
     rt: &R,
-    started: Vec<PromisedHandle<P, WorkerIs>>,
+    started: Vec<PromisedHandle<(P, D), KeepsBoth<P, D>>>,
     back: &mut Vec<P>,
+    given: &mut Vec<D>,
 )
     requires empty { back.old.items ≡ [] }
+    requires none { given.old.items ≡ [] }
     requires room { vec_len started ≤ vec_capacity back.old }
-    ensures { map P.worker back.new.items ≡ map (λ h. h.promise.0) started.items }
+    requires sinks { vec_len started ≤ vec_capacity given.old }
+    ensures { AreKept (map (λ h. P.seat h.promise.place.value) started.items)
+        (map (λ h. D.calls h.promise.sink.value) started.items)
+        (map P.seat back.new.items) (map D.calls given.new.items) }
 {
     for handle in started {
-        let Ok(()) = back.push(handle.join(rt)) else {
+        let (place, sink) = handle.join(rt);
+        let Ok(()) = back.push(place) else {
+            unreachable!()
+        };
+        let Ok(()) = given.push(sink) else {
             unreachable!()
         };
     }

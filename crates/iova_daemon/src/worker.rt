@@ -1,5 +1,6 @@
 //! A slot of a worker: sessions at one post, one after another.
 ghost use Rattle.std.specs.Prelude.{◌≡◌};
+ghost use Rattle.iova_keep.specs.Views.{KeepsPlace};
 
 use crate::pool::{Accepted, Pool, Turn};
 use crate::roster::{Roster, Stands};
@@ -24,7 +25,7 @@ use std::rt::Clock;
 use std::sync::Wait;
 
 impl<B: Names> Place for Post<B> {
-    ghost worker = { λ p. p.seat.worker };
+    ghost seat = { λ p. p.seat };
 
     fn worker(&self) -> u64 {
         self.seat.worker()
@@ -45,7 +46,7 @@ pub(crate) struct WorkerContext<R, N, K, A, T, H, X> {
     pub aside: X,
 }
 
-impl<'e, R, N, B, K, L, A, D, X> Work<Post<B>, D, L>
+impl<'e, R, N, B, K, L, A, D, X> Work<Post<B>, D>
     for WorkerContext<&'e R, &'e N, K, &'e A, &'e Roster, &'e Pool<L>, &'e X>
 where
     R: Wait + Clock,
@@ -58,7 +59,7 @@ where
     X: Aside,
 {
     /// Waits at the gate, and then serves sessions at the post until none is to come.
-    fn work(&self, place: Post<B>, sink: D) -> Post<B> {
+    fn work(&self, place: Post<B>, sink: D) -> (Post<B>, D) {
         let mut post = place;
         let mut keeper = self.keeper;
         let mut sink = NotingSink::new(sink, self.notices);
@@ -66,7 +67,7 @@ where
             serve_slot(self, &mut keeper, &mut post, &mut sink);
         }
         self.roster.end();
-        post
+        (post, sink.into_sink())
     }
 
     fn roster(&self) -> &Roster {
@@ -111,7 +112,8 @@ where
     L: Link + Drop,
     A: Accept<L>,
     D: Sink,
-    ensures { post.new.seat.worker ≡ post.old.seat.worker }
+    ensures { KeepsPlace post.old.seat post.new.seat (D.calls sink.old.sink)
+        (D.calls sink.new.sink) }
 {
     let (rt, roster) = (context.rt, context.roster);
     let slot = roster.begin();
@@ -149,7 +151,8 @@ where
     L: Link + Drop,
     A: Accept<L>,
     D: Sink,
-    ensures { post.new.seat.worker ≡ post.old.seat.worker }
+    ensures { KeepsPlace post.old.seat post.new.seat (D.calls sink.old.sink)
+        (D.calls sink.new.sink) }
 {
     let Accepted { mut link, session } = accepted;
     let (rt, roster) = (context.rt, context.roster);
@@ -188,7 +191,7 @@ pub(crate) fn try_again<B: Names, K: Keep<B>, D: Sink>(
     post: &mut Post<B>,
     sink: &mut D,
 )
-    ensures worker { post.new.seat.worker ≡ post.old.seat.worker }
+    ensures place { KeepsPlace post.old.seat post.new.seat (D.calls sink.old) (D.calls sink.new) }
     ensures number { (K.identity keeper.new).number ≡ (K.identity keeper.old).number }
 {
     let worker = post.seat.worker();

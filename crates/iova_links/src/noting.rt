@@ -28,6 +28,18 @@ impl<'a, D, N> NotingSink<'a, D, N> {
         }
     }
 
+    /// The sink.
+    pub fn into_sink(self) -> D
+        ensures { result ≡ self.sink }
+    {
+        let NotingSink {
+            sink,
+            notices: _,
+            gone: _,
+        } = self;
+        sink
+    }
+
     /// A session begins.
     pub fn begin_session(&mut self)
         ensures { self.new.sink ≡ self.old.sink }

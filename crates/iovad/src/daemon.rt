@@ -12,7 +12,7 @@ use iova_command::sink_path::SinkPath;
 use iova_command::words::VERSION;
 use iova_control::control::{Control, Facts};
 use iova_core::domain::Domain;
-use iova_daemon::{Served, Service, Serving, serve_sessions};
+use iova_daemon::{Served, ServedBy, Service, Serving, serve_sessions};
 use iova_files::descriptors::sessions_within;
 use iova_files::listening::{Access, Listening, is_free, listen};
 use iova_files::notices::{CountedConsole, Notices};
@@ -541,7 +541,14 @@ where
         Control<'_, R, Notices<'_, R>>,
     >(&service, shared, posts, sinks, accept, Ticks::new(run.rt));
     match served {
-        Ok(served) => Ok(served),
+        Ok(
+            ServedBy {
+                served,
+                sinks: _,
+                sink: _,
+                tally: _,
+            },
+        ) => Ok(served),
         Err(refusal) => Err(refusal),
     }
 }
