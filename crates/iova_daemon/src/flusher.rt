@@ -63,7 +63,7 @@ impl<'e, R, N, K, B: Names, D, P> Flusher<'e, R, N, K, B, D, P> {
     where
         K: Drop,
         P: Drop,
-        ensures { (result.0 ≡ self.tally) × (result.1 ≡ self.sink) }
+        ensures { (result.0 ≡ self.entry.tally) × (result.1 ≡ self.entry.sink) }
     {
         let Flusher {
             rt: _,

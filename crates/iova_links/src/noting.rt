@@ -30,7 +30,7 @@ impl<'a, D, N> NotingSink<'a, D, N> {
 
     /// The sink.
     pub fn into_sink(self) -> D
-        ensures { result ≡ self.sink }
+        ensures { result ≡ self.entry.sink }
     {
         let NotingSink {
             sink,
