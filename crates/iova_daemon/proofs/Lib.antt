@@ -1,2 +1,2 @@
 mod Sends
-mod Kept
+mod Places

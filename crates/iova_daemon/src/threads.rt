@@ -224,7 +224,7 @@ where
 
 /// Starts a worker at each place, and gives whether all were started. It stops at the first one
 /// that can't be.
-#[tactic(auto, using(crate::proofs::Kept::whole_front))]
+#[tactic(auto, using(crate::proofs::Places::whole_front))]
 fn start_all<'s, E, W, P, D>(
     scope: &Scope<'s, E>,
     context: &'s W,
@@ -275,7 +275,7 @@ where
 }
 
 /// Joins each thread, and puts its place and its sink after those that are there.
-#[tactic(auto, using(crate::proofs::Kept::more_kept))]
+#[tactic(auto, using(crate::proofs::Places::more_kept))]
 fn join_all<R: Threads, P: Place + Drop, D: Sink + Drop>(
     rt: &R,
     started: Vec<PromisedHandle<(P, D), KeepsBoth<P, D>>>,
