@@ -121,6 +121,29 @@ class Browser:
         with open(path, "wb") as file:
             file.write(data)
 
+    def opened(self):
+        """After how many milliseconds a page was there that says so."""
+        return self.value("Number(document.documentElement.dataset.opened)")
+
+    def while_it_zooms(self, seconds):
+        """How many frames a second are shown while the wheel turns over a page of iovad-view, in and out by turns, and how many
+        milliseconds of a processor each frame takes of the page's thread, rising: by the browser's own trace."""
+        self.events = [event for event in self.events if event.get("method") != "Tracing.dataCollected"]
+        self.ask("Tracing.start", categories="devtools.timeline,disabled-by-default-devtools.timeline.frame", transferMode="ReportEvents")
+        self.value(f"""new Promise((done) => {{
+          const begun = performance.now();
+          (function turn() {{
+            const now = performance.now() - begun;
+            canvas.dispatchEvent(new WheelEvent("wheel", {{ deltaY: now % 1000 < 500 ? -40 : 40, clientX: 600, clientY: 400, cancelable: true }}));
+            now < {seconds} * 1000 ? requestAnimationFrame(turn) : done();
+          }})();
+        }})""")
+        self.ask("Tracing.end")
+        self.wait_for("Tracing.tracingComplete")
+        events = [event for told in self.events if told.get("method") == "Tracing.dataCollected" for event in told["params"]["value"]]
+        took = sorted(event["tdur"] / 1000 for event in events if event["name"] == "FireAnimationFrame" and "tdur" in event)
+        return sum(event["name"] == "DrawFrame" for event in events) / seconds, took
+
     def complaints(self):
         """Errors and warnings of the console so far, and exceptions."""
         told = []
