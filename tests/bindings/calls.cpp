@@ -192,8 +192,46 @@ struct machine {
     }
 };
 
+// The calls that throw where they are refused, and what their errors compare equal to.
+template <class Call> static void throws(iova::refusal why, std::errc how, Call call) {
+    try {
+        call();
+    } catch (const std::system_error &thrown) {
+        if (thrown.code() != why || (how != std::errc() && thrown.code() != how))
+            throw std::runtime_error(std::string("another error: ") + thrown.what());
+        return;
+    }
+    throw std::runtime_error("nothing was thrown");
+}
+
+static void try_throws() {
+    throws(iova::refusal::bad_window, std::errc::invalid_argument, [] { iova::domain(0, 1); });
+    throws(iova::refusal::bad_profile, std::errc::invalid_argument, [] { iova::domain::second(1, 1, 1, 33); });
+    iova::domain first(1, 1023);
+    iova::domain domain = std::move(first);
+    throws(iova::refusal::no_worker, std::errc::invalid_argument, [&] { iova::client(domain, 1); });
+    throws(iova::refusal::bad_window, std::errc::invalid_argument, [&] { domain.reserve(0, 1); });
+    iova::client driver(domain);
+    throws(iova::refusal::zero, std::errc::invalid_argument, [&] { driver.map(0); });
+    throws(iova::refusal::no_space, std::errc(), [&] { driver.map(1, 4095); });
+    iova::mapping kept = driver.map(1), other;
+    for (int at = 0; at < 255; at++)
+        driver.map(1);
+    throws(iova::refusal::ring_full, std::errc(), [&] { kept.unmap(); });
+    other = std::move(kept);
+    if (!other || kept || domain.owed() != 0 || domain.flush([] { return true; }) != 255)
+        throw std::runtime_error("what is moved");
+    other.unmap();
+    for (int at = 0; at < 32; at++)
+        ::iova_begin(domain.at());
+    throws(iova::refusal::flights_full, std::errc(), [&] { domain.flush([] { return true; }); });
+    if (make_error_code(iova::refusal::no_memory) != std::errc::not_enough_memory)
+        throw std::runtime_error("memory");
+}
+
 int main() {
     std::ios::sync_with_stdio(false);
+    try_throws();
     machine its;
     std::string text, word;
     while (std::getline(std::cin, text)) {

@@ -34,6 +34,11 @@ pub use client::{Client, Range};
 pub use domain::{Bounds, Counts, Domain, Flushes, Frames, Mapping, Place, Reach, Totals};
 pub use refusal::Refusal;
 
+/// The examples of the manual, which `cargo test` tries.
+#[cfg(doctest)]
+#[doc = include_str!("../README.md")]
+struct Readme;
+
 /// The version of the library that is linked: 1,000,000 times its first number, 1,000 times its second, and its third.
 pub fn version() -> u64 {
     // SAFETY: it takes nothing.

@@ -171,6 +171,7 @@ pub struct Session {
     stream: UnixStream,
     within: Option<Duration>,
     until: Option<Instant>,
+    is_opening: bool,
     is_bound: bool,
     lost: Option<Lost>,
     number: u64,
@@ -190,6 +191,7 @@ impl Session {
             stream: connect(path.as_ref(), until)?,
             within,
             until,
+            is_opening: true,
             is_bound: until.is_some(),
             lost: None,
             number: 0,
@@ -330,9 +332,7 @@ impl Session {
     pub fn send(&mut self) -> Result<(), Error> {
         self.whole()?;
         self.begin();
-        let result = self.send_all();
-        self.until = None;
-        result
+        self.send_all()
     }
 
     fn whole(&self) -> Result<(), Error> {
@@ -375,9 +375,9 @@ impl Session {
         Ok(())
     }
 
-    /// The time of a call that waits begins, unless it has begun with the connection.
+    /// The time of a call that waits begins; that of the first one has begun with the connection.
     fn begin(&mut self) {
-        if self.until.is_none() {
+        if !mem::take(&mut self.is_opening) {
             self.until = self.within.map(|within| Instant::now() + within);
         }
     }
@@ -465,7 +465,6 @@ impl Session {
         }
         self.begin();
         let answer = if self.sent == 0 { self.send_all() } else { Ok(()) }.and_then(|()| self.line(|line| answer(line, words)));
-        self.until = None;
         let answer = answer?;
         self.asked.pop_front();
         self.sent -= 1;
