@@ -1,4 +1,5 @@
 //! The flusher: rounds beside the workers, and flushes ahead of them.
+ghost use Rattle.std.specs.Prelude.{◌≡◌};
 ghost use Rattle.iova_keep.specs.Views.{RisesWithin};
 
 use crate::roster::Roster;

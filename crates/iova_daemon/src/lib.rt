@@ -241,7 +241,25 @@ where
         P,
         X,
     >(service, &shared, &context, posts, sinks, sink, pause);
-    give_back(shared, served)
+    match served {
+        Ok(
+            Kept {
+                posts,
+                sinks,
+                sink,
+                tally,
+            },
+        ) => Ok(ServedBy {
+            served: Served { shared, posts },
+            sinks,
+            sink,
+            tally,
+        }),
+        Err(refusal) => {
+            drop(shared);
+            Err(refusal)
+        }
+    }
 }
 
 /// Serves at the posts with what their threads are lent and given, and flushes beside them with
@@ -276,11 +294,12 @@ where
     // for the proof: what a worker has may go to its thread
     posts_are_send::<B>();
     let mut posts = posts;
+    let tally = split_first(&mut posts);
     let flusher = Flusher {
         rt: service.rt,
         notices: service.notices,
         keeper,
-        tally: posts[0].seat.tally().split(),
+        tally,
         sink: NotingSink::new(sink, service.notices),
         pause,
         roster: context.roster(),
@@ -310,36 +329,16 @@ where
     }
 }
 
-/// The domain and the posts, with what they were served by, where nothing was refused.
-fn give_back<Q: Drop, B: Names, D: Drop>(
-    shared: Shared<Q, B>,
-    kept: Result<Kept<B, D>, Refusal>,
-) -> Result<ServedBy<Q, B, D>, Refusal>
-    ensures served { IfOk result (λ r. (r.served.shared ≡ shared) × (kept ≡ Ok record {
-      posts = r.served.posts;
-      sinks = r.sinks;
-      sink = r.sink;
-      tally = r.tally;
-    })) }
-    ensures refusal { IfErr result (λ e. kept ≡ Err e) }
+/// A tally with one part of the first post's.
+fn split_first<B: Names>(posts: &mut Vec<Post<B>>) -> Tally<B>
+    requires some { 1 ≤ vec_len posts.old }
+    requires parts { ForSome (slice_get posts.old.items 0) (λ p. 2 ≤ p.seat.tally.parts) }
+    ensures good { result.good ≡ 0 }
+    ensures workers { map (λ p. p.seat.worker) posts.new.items
+        ≡ map (λ p. p.seat.worker) posts.old.items }
+    ensures tallies { map (λ p. p.seat.tally.good) posts.new.items
+        ≡ map (λ p. p.seat.tally.good) posts.old.items }
+    ensures length { vec_len posts.new ≡ vec_len posts.old }
 {
-    match kept {
-        Ok(
-            Kept {
-                posts,
-                sinks,
-                sink,
-                tally,
-            },
-        ) => Ok(ServedBy {
-            served: Served { shared, posts },
-            sinks,
-            sink,
-            tally,
-        }),
-        Err(refusal) => {
-            drop(shared);
-            Err(refusal)
-        }
-    }
+    posts[0].seat.tally().split()
 }

@@ -275,7 +275,7 @@ where
 }
 
 /// Joins each thread, and puts its place and its sink after those that are there.
-#[tactic(auto, using(crate::proofs::Places::more_kept))]
+#[tactic(auto, using(crate::proofs::Places::more_kept, crate::proofs::Places::none_kept))]
 fn join_all<R: Threads, P: Place + Drop, D: Sink + Drop>(
     rt: &R,
     started: Vec<PromisedHandle<(P, D), KeepsBoth<P, D>>>,

@@ -1,4 +1,5 @@
 use denote.Param.Send.{shr_sync, sendable}
+use Rattle.iova_daemon.proofs.Places.{counts_all}
 use Rattle.iova_daemon.proofs.Sends.{WorkerContext-sync}
 use Rattle.iova_daemon.proofs.serve_sessions.Goals as goal
 
@@ -13,3 +14,9 @@ serve_kept-served-requires-sync-W g c κs within =
     let accept = c.type_bounds.sync-A in
     let aside = c.type_bounds.sync-X in
     search (WorkerContext-sync, shr_sync, sendable) depth 20
+
+-- all that was counted is within what sinks were given: the flusher's is the last of them
+pub returns-in-Ok-clause-within : goal.returns-in-Ok-clause-within
+returns-in-Ok-clause-within g c =
+    counts_all g.D.Sink.calls c.args.sinks.items c.pop.new.self.items c.in-Some.sink _ _ _ _ _
+    c.in-Some.ensures.items c.in-Ok.ensures.within c.in-Ok.ensures.flusher
