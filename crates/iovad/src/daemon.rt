@@ -1,6 +1,5 @@
 //! A daemon: the sessions of a plan, served on a socket, and the report of what they leave.
 ghost use Rattle.std.specs.Prelude.{◌≡◌, ◌<◌, ◌≤◌, ◌+◌, None, Err, IfErr, IfOk, map, length, unwrap_or, vec_len};
-ghost use Rattle.std.specs.Thread.{IsSend};
 ghost use Rattle.iova_keep.specs.Views.{AreBlanksOf};
 ghost use Rattle.iova_command.specs.declared.plan.Plan.{Plan};
 ghost use Rattle.iova_planned.specs.PlannedDomains.{AreNewSeats, seat_count};
@@ -43,11 +42,7 @@ use iova_regions::windows::Windows;
 use iova_session::end_post::end_post;
 use iova_session::post::{Post, seats_of};
 use iova_session::session_limits::SessionLimits;
-use iova_sink::channel_sink::ChannelSink;
-use iova_sink::file::FileDevice;
-use iova_sink::record::RecordSink;
 use iova_sink::sink::Sink;
-use iova_sink::socket::SocketChannel;
 use iova_tools::fault::{Fault, Left};
 use iova_tools::outcome::print_domain;
 use iova_tools::regions::add_regions;
@@ -398,7 +393,6 @@ fn remove_control<R: Files<File = File>>(rt: &R, file: &Option<MadeFile<'_>>) {
 }
 
 /// Serves the plan's sessions on this socket, with these sinks, which posts share.
-#[tactic(auto, using(crate::proofs::Sends::backoff_send, crate::proofs::Sends::either_send))]
 fn serve_opened<'a, R, B>(
     run: &Running<'a, R>,
     plan: &Plan<'_>,
@@ -415,10 +409,27 @@ where
     ensures { IfOk result (λ r. AreOfAllSeats r.shared
         (map (λ p. p.seat.worker) r.posts.items)) }
 {
-    // for the proof: what a sink is made of may go to its thread
-    is_send::<SocketChannel<'a, UnixNet<'a, R>>>();
-    is_send::<ChannelSink<SocketChannel<'a, UnixNet<'a, R>>>>();
-    is_send::<RecordSink<FileDevice>>();
+    serve_shared(run, plan, shared, posts, sinks, sockets)
+}
+
+/// The same with sinks of any kind.
+fn serve_shared<'a, R, B, D>(
+    run: &Running<'a, R>,
+    plan: &Plan<'_>,
+    shared: Shared<&'a R, B>,
+    posts: Vec<Post<B>>,
+    sinks: Vec<D>,
+    sockets: Sockets<'_>,
+) -> Result<Served<&'a R, B>, Hindrance>
+where
+    R: Runtime + AllocGlobal + Net + Dial + Threads + Wait + Sync + Files<File = File>,
+    B: Names + Send + Sync,
+    D: Sink + Send + Drop,
+    requires posts { AreNewSeats shared (map (λ p. p.seat) posts.items) }
+    requires sinks { 2 ≤ vec_len sinks }
+    ensures { IfOk result (λ r. AreOfAllSeats r.shared
+        (map (λ p. p.seat.worker) r.posts.items)) }
+{
     match share_all(run.rt.alloc(), sinks) {
         Some(held) => serve_held(run, plan, shared, posts, &held, sockets),
         None => {
@@ -430,17 +441,13 @@ where
     }
 }
 
-fn is_send<T: Send>()
-    ensures { IsSend T.row }
-{}
-
 /// Removes the files of the sockets.
 fn forget_sockets<R: Files<File = File>>(rt: &R, sockets: Sockets<'_>) {
     sockets.service.file.remove(rt);
     remove_control(rt, &sockets.control);
 }
 
-/// The same with these sinks, of any kind.
+/// The same with these shared sinks.
 fn serve_held<'a, R, B, D>(
     run: &Running<'a, R>,
     plan: &Plan<'_>,
