@@ -1,0 +1,5 @@
+//! A cache of ranges in front of a domain: what one thread takes and gives up without the domain.
+#![tactic(auto)]
+
+mod bucket;
+mod table;
