@@ -2,4 +2,5 @@
 #![tactic(auto)]
 
 mod bucket;
+pub mod cache;
 mod table;
