@@ -52,12 +52,12 @@ pub enum Kept {
 /// Contracts see it as a `CacheState`. A range is at one of three places: in a magazine, where
 /// nobody has it; the user's; or in the ring, where it waits for a flush that begins later.
 pub struct Cache {
-    worker: u64,
-    client: ClientId,
-    sac: bool,
-    magazines: WorkerCache,
-    held: Table,
-    ring: Ring,
+    pub(crate) worker: u64,
+    pub(crate) client: ClientId,
+    pub(crate) sac: bool,
+    pub(crate) magazines: WorkerCache,
+    pub(crate) held: Table,
+    pub(crate) ring: Ring,
 }
 
 /// What it has is let go, which is proved here once for every crate above.

@@ -3,4 +3,5 @@
 
 mod bucket;
 pub mod cache;
+pub mod exchange;
 mod table;
