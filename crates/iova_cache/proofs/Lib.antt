@@ -1,0 +1,6 @@
+mod Words
+mod Tables
+mod Magazines
+mod Rings
+mod Kept
+mod Requests
