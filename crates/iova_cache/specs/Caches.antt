@@ -91,8 +91,8 @@ pub record IsMet (old new : CacheState) (order limit : ℕ) (r : Frames) : Type 
   pub ring : new.ring ≡ old.ring
   pub client : IsSameClient old new
 
--- They gave none, by this answer: nothing has changed, but that loaded and previous may have changed
--- places.
+-- They gave none, by this answer: nothing has changed, but that loaded and previous may have
+-- changed places.
 pub record IsUnmet (old new : CacheState) (order limit : ℕ) (got : Got) : Type 0 where
   pub found : got_at old order limit ≡ got
   pub magazines : new.magazines ≡ after_got old order limit
@@ -136,7 +136,8 @@ abbrev pub OldestStays : ℕ → WorkerCache → List Entry → Type 0
 OldestStays newest w [] = Unit {0}
 OldestStays newest w (e ∷ es) = Stays newest w e
 
--- The oldest range has gone from the ring to the magazines of its order; its count is below `newest`.
+-- The oldest range has gone from the ring to the magazines of its order; its count is below
+-- `newest`.
 pub record SettlesOne (old new : CacheState) (newest : ℕ) : Type 0 where
   pub entry : Entry
   pub ring : old.ring ≡ entry ∷ new.ring

@@ -20,7 +20,8 @@ abbrev pub giving_up : CacheState → ℕ → Step
 giving_up c lo = step.Unmap c.worker c.client lo
 
 -- The domain has given the range, and the user has it.
-pub record IsAsked (old new : CacheState) (s t : State) (frames limit : ℕ) (r : Frames) : Type 0 where
+pub record IsAsked (old new : CacheState) (s t : State) (frames limit : ℕ) (r : Frames)
+    : Type 0 where
   pub step : IsStepOf s (request old frames limit) (reply.Given r) t
   pub held : Gains r old.held new.held
   pub magazines : new.magazines ≡ old.magazines
