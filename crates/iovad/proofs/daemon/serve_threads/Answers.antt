@@ -18,5 +18,5 @@ serve_sessions-served-requires-clause-parts g c κs within =
 pub returns-in-Ok : goal.returns-in-Ok
 returns-in-Ok g c =
     let at_seats = workers_at (λ p. p.seat) c.args.posts.items ∙ ap (λ ss. map (λ s. s.worker) ss) c.requires.posts.turn in
-    subst (λ d. AreOfAllSeats d (map (λ p. p.seat.worker) c.in-Ok.served.posts.items)) (sym c.in-Ok.ensures.shared)
+    subst (λ d. AreOfAllSeats d (map (λ p. p.seat.worker) c.in-Ok.field-0.served.posts.items)) (sym c.in-Ok.ensures.shared)
     (record { turn = c.in-Ok.ensures.posts ∙ at_seats; enough = c.requires.posts.enough })
