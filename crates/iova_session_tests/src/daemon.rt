@@ -253,7 +253,7 @@ static CASES: [Case; 8] = [
         ..DRAINED
     },
     // a round that is refused isn't the last one: the next one drains the ring
-    Case {
+    // a round that is refused isn't the last one: behind one pause more the next one drains the ring
         name: "a round after one that is refused",
         rows: &[
             LEAVES_A_FRAME,
@@ -266,7 +266,7 @@ static CASES: [Case; 8] = [
             },
         ],
         fail_at: (0, 1),
-        rounds: Some(2),
+        rounds: Some(3),
         between: Some((FIRST, THIRD)),
         raised: &[FIRST, SECOND],
         notices: Some(1),
