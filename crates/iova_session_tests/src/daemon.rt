@@ -252,8 +252,8 @@ static CASES: [Case; 8] = [
         flushes: Some((1, 0)),
         ..DRAINED
     },
-    // a round that is refused isn't the last one: the next one drains the ring
-    // a round that is refused isn't the last one: behind one pause more the next one drains the ring
+    // a round that is refused isn't the last one: behind a pause more the next one drains the ring
+    Case {
         name: "a round after one that is refused",
         rows: &[
             LEAVES_A_FRAME,
