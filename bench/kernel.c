@@ -1,6 +1,6 @@
 /* The kernel's side of the cases. Its files are compiled as they are, beside kernel.h, which says what stands in for
-   the rest of the kernel: the slab is malloc and free, there is one processor, no timer runs. A flush of the IOTLB does
-   nothing. No domain is freed, so that each next one begins on memory that hasn't been used. */
+   the rest of the kernel: the slab is malloc and free, there is one processor or one for each thread, no timer runs. A
+   flush of the IOTLB does nothing. No domain is freed, so that each next one begins on memory that hasn't been used. */
 #include <linux/iova.h>
 
 #include "queue.c" /* the flush queue, cut out of drivers/iommu/dma-iommu.c */
@@ -52,4 +52,12 @@ static long live(void) {
   return count;
 }
 
-const struct side kernel = {begin, ask, drop, flush, drop_and_flush, from_top, live};
+#if CPUS > 1
+__thread unsigned int this_cpu;
+
+static void enter(int client) { this_cpu = (unsigned int)client; }
+#else
+#define enter NULL
+#endif
+
+const struct side kernel = {begin, ask, drop, flush, drop_and_flush, from_top, live, enter, NULL};

@@ -1,12 +1,13 @@
 /* What the kernel's allocator asks of the rest of the kernel, for bench/kernel: it puts this file before each of the kernel's
-   files and leaves all other headers of the kernel empty. One thread runs them, so
+   files and leaves all other headers of the kernel empty. One thread runs them, or where CPUS is defined up to so many, each
+   of which stands for a processor and has said which (this_cpu). So
 
    - where LOCKS is defined, a lock that nobody holds is taken by an exchange and let go by a store, and a barrier is one for
      the processor, as in a kernel for several; else a lock does nothing and a barrier holds only the compiler, as in a kernel
-     for one. No interrupt is kept away, and the counters of flushes are plain numbers;
+     for one. No interrupt is kept away, and the counters of flushes are plain numbers where one thread runs;
    - the slab is the C library's heap: malloc and free, and memory that is to be zero is set to zero (calloc of the GNU library
      goes past malloc's quick lists);
-   - what there is for each processor is there once;
+   - what there is for each processor is there once, or CPUS times, each in lines of the processor's cache of its own;
    - no timer runs out, and no processor comes or goes;
    - no page waits with a range in the flush queue;
    - a warning of the kernel ends the program. */
@@ -25,6 +26,9 @@
 #define MODULE_AUTHOR(text)
 #define MODULE_LICENSE(text)
 #define __percpu
+
+/* The library for C has a call of this name too. */
+#define iova_cache_put kernel_cache_put
 
 typedef uint64_t u64, dma_addr_t;
 typedef unsigned int gfp_t;
@@ -79,7 +83,12 @@ struct mutex {
 #define mutex_unlock(lock) ((void)0)
 #define spin_lock_init(lock) ((void)0)
 #ifdef LOCKS
-#define spin_lock(lock) do {} while (__atomic_exchange_n(&(lock)->held, 1, __ATOMIC_ACQUIRE))
+#define spin_lock(lock)                                                                                                \
+  do                                                                                                                   \
+    while (__atomic_exchange_n(&(lock)->held, 1, __ATOMIC_ACQUIRE))                                                    \
+      while (READ_ONCE((lock)->held))                                                                                  \
+        __builtin_ia32_pause();                                                                                        \
+  while (0)
 #define spin_unlock(lock) __atomic_store_n(&(lock)->held, 0, __ATOMIC_RELEASE)
 #define smp_mb() __atomic_thread_fence(__ATOMIC_SEQ_CST)
 #else
@@ -101,12 +110,17 @@ typedef struct {
 #define atomic_set(of, to) WRITE_ONCE((of)->counter, to)
 #define atomic64_read(of) atomic_read(of)
 #define atomic64_set(of, to) atomic_set(of, to)
+#ifdef CPUS
+#define atomic64_inc(of) ((void)__atomic_fetch_add(&(of)->counter, 1, __ATOMIC_SEQ_CST))
+static inline int atomic_xchg(atomic_t *of, int to) { return __atomic_exchange_n(&of->counter, to, __ATOMIC_SEQ_CST); }
+#else
 #define atomic64_inc(of) ((void)(of)->counter++)
 static inline int atomic_xchg(atomic_t *of, int to) {
   int was = of->counter;
   of->counter = to;
   return was;
 }
+#endif
 
 /* Memory. */
 #define GFP_KERNEL 0
@@ -127,13 +141,20 @@ static inline void *kzalloc(size_t size, gfp_t how) {
 
 /* Processors. */
 #define cache_line_size() 64
-#define for_each_possible_cpu(cpu) for ((cpu) = 0; (cpu) < 1; (cpu)++)
-#define for_each_online_cpu(cpu) for_each_possible_cpu(cpu)
+#ifdef CPUS
+extern __thread unsigned int this_cpu;
+#define per_cpu_ptr(at, cpu) ((__typeof__(at))((char *)(at) + (cpu) * ALIGN(sizeof *(at), cache_line_size())))
+#define raw_cpu_ptr(at) per_cpu_ptr(at, this_cpu)
+#else
+#define CPUS 1
 #define raw_cpu_ptr(at) (at)
 #define per_cpu_ptr(at, cpu) (at)
+#endif
+#define for_each_possible_cpu(cpu) for ((cpu) = 0; (cpu) < CPUS; (cpu)++)
+#define for_each_online_cpu(cpu) for_each_possible_cpu(cpu)
 static inline void *__alloc_percpu(size_t size, size_t align) {
-  void *at = aligned_alloc(align, ALIGN(size, align));
-  return at ? memset(at, 0, size) : NULL;
+  void *at = aligned_alloc(align, CPUS * ALIGN(size, align));
+  return at ? memset(at, 0, CPUS * ALIGN(size, align)) : NULL;
 }
 #define alloc_percpu(type) ((type *)__alloc_percpu(sizeof(type), cache_line_size()))
 #define free_percpu(at) free(at)

@@ -47,4 +47,4 @@ static void from_top(void) {}
 
 static long live(void) { return (long)iova_totals_of(&room).count; }
 
-const struct side ours = {begin, ask, drop, flush, drop_and_flush, from_top, live};
+const struct side ours = {begin, ask, drop, flush, drop_and_flush, from_top, live, NULL, NULL};

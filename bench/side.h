@@ -1,5 +1,6 @@
 /* One of the two allocators that the cases of cases.c run on: `ours` (ours.c), through the library for C, or `kernel`
-   (kernel.c), the kernel's own code. Each has one domain at a time, and one processor. */
+   (kernel.c), the kernel's own code. Each has one domain at a time, and one processor; or what bench/threads runs, where each
+   client is a thread's, and the kernel's has a processor for it. */
 #ifndef SIDE_H
 #define SIDE_H
 
@@ -22,9 +23,21 @@ struct side {
   void (*from_top)(void);
   /* How many ranges of more than 32 frames are somebody's, once nothing waits. */
   long (*live)(void);
+  /* The thread that calls it makes the requests of this client; NULL where nothing is to be done. */
+  void (*enter)(int client);
+  /* It makes no more; NULL as well. */
+  void (*leave)(int client);
 };
 
 extern const struct side ours, kernel;
+
+/* What bench/threads is linked with has a list of these, up to one whose `name` is NULL. */
+struct named_side {
+  const char *name;
+  const struct side *side;
+};
+
+extern const struct named_side sides[];
 
 /* Ends the program where it isn't so. */
 void must(int is, const char *what);

@@ -2,32 +2,29 @@
  * address from libiova, which is mapped before the command and unmapped after its completion.
  *
  *     driver [--lazy | --strict | --static] [--threads N] [--depth N] [--mask M] [--window FIRST-LAST]
- *            [--log FILE] [--generations FILE] ADDRESS IOS
+ *            [--beside EDU] [--log FILE] [--generations FILE] ADDRESS IOS
  *
  * ADDRESS is that of a controller on the PCI bus, which vfio-pci has. WHAT STANDS ON ITS DISK IS OVERWRITTEN: so many
- * I/Os, half of them writes, of 4 KiB to 1 MiB (16 KiB in the mean, and each 500th of 1 MiB, or of what the controller
- * takes at most), at places by chance, up to --depth (256) in flight for each of 1 to 4 threads. Each block of 4 KiB
- * that is written says its own number and its generation, how often it was written; each read looks at them, and at the
- * end all is read once more. The generations are left in a file, 32 bits for each block, for whoever looks at the disk
- * from elsewhere.
+ * I/Os by chance (ios.h says which), up to --depth (256) in flight for each of 1 to 4 threads, and at the end all is
+ * read back. How often each block was written is left in --generations, 32 bits for each block of 4 KiB, for whoever
+ * looks at the disk from elsewhere.
  *
  *  --strict   each completion: unmap, give up, flush
  *  --lazy     completions are gathered: one unmap for neighbours, all given up, one flush
  *  --static   all memory is mapped once, and nothing is unmapped: as fast as it gets, and the device reaches all
  *  --mask     the last byte that the device reaches, as 0xffffffff for one of 32 bits, or 0xffffff for 16 MiB
  *  --window   a part of the space, in bytes, that is kept back
+ *  --beside   another device in the same space, an `edu` that reaches 32 bits: it copies as long as there are I/Os
  *
  * What was mapped, used, unmapped and flushed is written to --log, which `iovad check` reads, and counts go to standard
  * output.
  *
- * One call at a time works on a domain of libiova, so there is a mutex round it, and each thread is a worker of the
- * domain, with magazines of its own. The other way, a domain with a slice of the space for each thread, has no mutex, but
- * then a thread can't have what another one leaves; and VFIO takes a lock of the container at each map and unmap anyway,
- * and keeps it for longer than an address takes.
+ * The addresses come and go by two functions, take_address and give_back. One call at a time works on a domain of
+ * libiova, so there is a mutex round it, and each thread is a worker of the domain, with magazines of its own.
  */
 #define _GNU_SOURCE
 #include "../vfio/device.h"
-#include "nvme.h"
+#include "ios.h"
 
 #include <getopt.h>
 #include <iova.h>
@@ -35,67 +32,47 @@
 
 enum {
     THREADS = 4,
-    DEPTH = 256,        /* commands of a queue, each with a slot of memory */
-    BLOCK = 4096,       /* bytes of a block of this driver's, which is one or more of the disk's */
-    SECTOR = 512,       /* each has a mark */
-    LARGE = 1 << 20,    /* bytes of a large slot, the others have */
-    SMALL = 64 << 10,
-    LARGES = 16,
-    POOL = LARGES * LARGE + (DEPTH - LARGES) * SMALL,
-    GATHERED = 128,     /* so many ranges wait for a flush at most: the ring has room for 255 */
-    RARE = 500,         /* one of so many I/Os is of 1 MiB */
+    GATHERED = 128, /* so many ranges wait for a flush at most: the ring has room for 255 */
+    WINDOWS = 64,
     HUGE_PAGE = 2 << 20,
+    PIECE = 4095, /* bytes that `edu` copies at most */
 };
 
 enum mode { LAZY, STRICT, STATIC };
 
-struct mark {
-    uint64_t place, generation;
-};
-
-struct io {
-    uint8_t *memory;
-    uint64_t address, room; /* where the device reaches it, and the bytes that libiova gave there */
-    uint64_t bytes, block;  /* bytes is 0 where no command has the slot */
-    int write, ended;
-};
-
 struct driver;
 
+/* A thread: it is a worker of the domain, and has a queue pair. */
 struct worker {
     struct driver *driver;
-    uint64_t number, client;         /* of the domain */
-    uint64_t left, back;             /* I/Os that are still to begin; the next block to be read back */
-    uint64_t first, blocks;          /* its share of the disk */
+    uint64_t number, client;       /* of the domain */
     struct nvme_queue queue;
-    struct io ios[DEPTH], wish;      /* by the number of the command; and what is to begin next */
-    uint16_t free[2][DEPTH];         /* slots that nobody has: small ones, large ones */
-    int frees[2], used, in_flight;
-    struct io *gathered[DEPTH];      /* I/Os that have ended, and are still mapped */
+    struct load load;
+    struct io *gathered[DEPTH];    /* I/Os that have ended, and are still mapped */
     int count;
-    uint64_t *lists, lists_address;  /* a PRP list for each slot */
-    uint64_t dice, reads, writes, bytes, calls, wrong;
+    uint8_t *lists;                /* PRP lists, and where the device reaches them */
+    uint64_t lists_address, calls; /* calls of VFIO's that unmapped something */
     pthread_t thread;
     int failed;
 };
 
 struct driver {
-    struct device device;
+    struct device device, beside;
     struct nvme nvme;
     enum mode mode;
     uint64_t threads, depth, mask, most;
     uint64_t window[2];
     uint32_t *generations;
-    uint8_t *busy, *pool, *rings;    /* of a block, whether a command has it; data; queues */
-    struct io pool_at, rings_at;     /* and where the device reaches both */
-    int failed;
-    pthread_mutex_t lock;            /* for what is below */
+    uint8_t *busy, *pool, *rings;  /* of a block, whether a command has it; data; queues */
+    struct io pool_at, rings_at;   /* and where the device reaches both */
+    int failed, ended;             /* ended: no I/O is left */
+    pthread_mutex_t lock;          /* for what is below */
     iova_domain *domain;
-    struct worker *waiting;          /* who has found no room, and comes first */
-    uint64_t mapped, unmapped, flushes, waits;
-    uint64_t fixed, milliseconds;    /* ranges that stay mapped; what the I/Os took */
-    FILE *log;                       /* lines are whole by themselves */
-    struct worker workers[THREADS];
+    struct worker *waiting;        /* who has found no room, and comes first */
+    uint64_t mapped, unmapped, flushes, waits, copies;
+    uint64_t fixed, milliseconds;  /* ranges that stay mapped; what the I/Os took */
+    FILE *log;                     /* lines are whole by themselves */
+    struct worker workers[THREADS + 1]; /* the last one is for the device beside it */
 };
 
 static int fails(const char *what, uint64_t refused) {
@@ -110,32 +87,14 @@ static void note(struct driver *driver, const char *what, uint64_t address, uint
 
 /* The address space. */
 
-/* The frames that the IOMMU has and the device reaches, but for the windows that the platform keeps for itself: VFIO
- * tells the ranges that may be mapped, and what is between them is reserved. */
+/* The frames that the IOMMU has and the device reaches, but for the platform's windows. */
 static uint64_t reserve(struct driver *driver) {
-    union {
-        struct vfio_iommu_type1_info info;
-        uint8_t bytes[4 * FRAME];
-    } told = {.info.argsz = sizeof told};
-    uint64_t refused = 0, last = (driver->mask - (FRAME - 1)) / FRAME, next = 1;
-    if (ioctl(driver->device.container, VFIO_IOMMU_GET_INFO, &told) || !(told.info.flags & VFIO_IOMMU_INFO_CAPS))
-        return IOVA_BAD_WINDOW;
-    struct vfio_iommu_type1_info_cap_iova_range cap; /* it and what is behind it may lie at any address */
-    for (uint32_t at = told.info.cap_offset; at; at = cap.header.next) {
-        memcpy(&cap, told.bytes + at, sizeof cap);
-        if (cap.header.id != VFIO_IOMMU_TYPE1_INFO_CAP_IOVA_RANGE || !cap.nr_iovas)
-            continue;
-        struct vfio_iova_range ranges[64], *end = ranges + (cap.nr_iovas < 64 ? cap.nr_iovas : 64);
-        memcpy(ranges, told.bytes + at + sizeof cap, (size_t)(end - ranges) * sizeof *ranges);
-        last = last < end[-1].end / FRAME ? last : end[-1].end / FRAME;
-        refused = iova_domain_make(driver->domain, 1, last, driver->threads);
-        for (struct vfio_iova_range *range = ranges; range < end && next <= last && !refused; range++) {
-            uint64_t lo = range->start / FRAME;
-            if (lo > next)
-                refused = iova_reserve(driver->domain, next, lo - 1 < last ? lo - 1 : last).refused;
-            next = range->end / FRAME + 1;
-        }
-    }
+    struct device_window windows[WINDOWS];
+    uint64_t last = (driver->mask - (FRAME - 1)) / FRAME;
+    int count = device_windows(&driver->device, &last, windows, WINDOWS);
+    uint64_t refused = count < 0 ? IOVA_BAD_WINDOW : iova_domain_make(driver->domain, 1, last, driver->threads + 1);
+    for (int at = 0; at < count && !refused; at++)
+        refused = iova_reserve(driver->domain, windows[at].first, windows[at].last).refused;
     if (!refused && driver->window[1])
         refused = iova_reserve(driver->domain, driver->window[0] / FRAME, driver->window[1] / FRAME).refused;
     if (driver->log)
@@ -146,7 +105,7 @@ static uint64_t reserve(struct driver *driver) {
 static int make_domain(struct driver *driver) {
     driver->domain = iova_domain_new();
     uint64_t refused = driver->domain ? reserve(driver) : IOVA_NO_MEMORY;
-    for (uint64_t number = 0; number < driver->threads && !refused; number++) {
+    for (uint64_t number = 0; number <= driver->threads && !refused; number++) {
         iova_number opened = iova_open(driver->domain, number, 0);
         driver->workers[number].client = opened.number;
         refused = opened.refused;
@@ -154,8 +113,8 @@ static int make_domain(struct driver *driver) {
     return refused ? fails("the domain", refused) : 0;
 }
 
-/* What was given up before may be given again after this. VFIO has emptied the IOTLB of it at the unmap, so between begin
- * and end there is nothing to do. Under the lock. */
+/* What was given up before may be given again after this. VFIO has emptied the IOTLB of it at the unmap, so between
+ * begin and end there is nothing to do. Under the lock. */
 static uint64_t flush(struct driver *driver) {
     iova_number begun = iova_begin(driver->domain);
     uint64_t refused = begun.refused ? begun.refused : iova_end(driver->domain, begun.number, 1);
@@ -165,37 +124,57 @@ static uint64_t flush(struct driver *driver) {
     return refused;
 }
 
-/* An address for a thread. Where there is none, what flushes have covered is taken out of all rings, and it is sought once
- * more; then the thread is the next to get one, and the others begin nothing until it has. Under the lock. */
-static iova_mapping seek(struct driver *driver, struct worker *worker, uint64_t bytes) {
-    if (driver->waiting && driver->waiting != worker)
-        return (iova_mapping){.refused = IOVA_NO_SPACE};
-    iova_mapping given = iova_map(driver->domain, worker->number, worker->client, bytes, driver->mask);
-    if (given.refused == IOVA_NO_SPACE) {
-        for (uint64_t ring = 0; ring < driver->threads; ring++)
-            iova_drain(driver->domain, ring, worker->number);
-        given = iova_map(driver->domain, worker->number, worker->client, bytes, driver->mask);
-    }
-    driver->waits += given.refused == IOVA_NO_SPACE && !driver->waiting;
-    __atomic_store_n(&driver->waiting, given.refused == IOVA_NO_SPACE ? worker : NULL, __ATOMIC_RELAXED);
-    return given;
-}
-
-/* Maps memory for the device: 1, or 0 where there is no room now, or -1. */
-static int map(struct driver *driver, struct worker *worker, uint8_t *memory, uint64_t bytes, struct io *io) {
+/* An address for a thread, within a mask. Where there is none, what flushes have covered is taken out of all rings,
+ * and it is sought once more; then the thread is the next to get one, and the others begin nothing until it has. The
+ * log has it before another thread may give it up. */
+static iova_mapping take_address(struct worker *worker, uint64_t bytes, uint64_t mask) {
+    struct driver *driver = worker->driver;
+    iova_mapping given = {.refused = IOVA_NO_SPACE};
     pthread_mutex_lock(&driver->lock);
-    iova_mapping given = seek(driver, worker, bytes);
-    int alone = driver->waiting == worker && driver->mapped - driver->unmapped == driver->fixed;
+    if (!driver->waiting || driver->waiting == worker) {
+        given = iova_map(driver->domain, worker->number, worker->client, bytes, mask);
+        for (uint64_t ring = 0; given.refused == IOVA_NO_SPACE && ring <= driver->threads; ring++)
+            iova_drain(driver->domain, ring, worker->number);
+        if (given.refused == IOVA_NO_SPACE)
+            given = iova_map(driver->domain, worker->number, worker->client, bytes, mask);
+        int none = given.refused == IOVA_NO_SPACE;
+        driver->waits += none && !driver->waiting;
+        __atomic_store_n(&driver->waiting, none ? worker : NULL, __ATOMIC_RELAXED);
+    }
     if (!given.refused) {
         note(driver, "map", given.address, bytes);
         driver->mapped++;
+    } else if (driver->waiting == worker && driver->mapped - driver->unmapped == driver->fixed) {
+        given.refused = IOVA_TOO_BIG; /* nothing will come back */
     }
     pthread_mutex_unlock(&driver->lock);
+    return given;
+}
+
+/* Gives addresses back that nothing is mapped at any more, and flushes. */
+static uint64_t give_back(struct worker *worker, struct io **ios, int count) {
+    struct driver *driver = worker->driver;
+    uint64_t refused = 0;
+    pthread_mutex_lock(&driver->lock);
+    for (int at = 0; at < count && !refused; at++)
+        refused = iova_unmap_bytes(driver->domain, worker->number, worker->client, ios[at]->address).refused;
+    if (!refused)
+        refused = flush(driver);
+    driver->unmapped += (uint64_t)count;
+    pthread_mutex_unlock(&driver->lock);
+    return refused;
+}
+
+/* Maps memory for the device: 1, or 0 where there is no room now, or -1. */
+static int map(struct worker *worker, uint8_t *memory, uint64_t bytes, uint64_t mask, struct io *io) {
+    iova_mapping given = take_address(worker, bytes, mask);
     if (given.refused)
-        return alone || given.refused != IOVA_NO_SPACE ? -fails("an address", given.refused) : 0;
+        return given.refused == IOVA_NO_SPACE ? 0 : -fails("an address", given.refused);
+    io->memory = memory;
     io->address = given.address;
     io->room = given.bytes;
-    return device_map(&driver->device, memory, given.address, bytes) ? -fails("map", 0) : 1;
+    io->bytes = bytes;
+    return device_map(&worker->driver->device, memory, given.address, bytes) ? -fails("map", 0) : 1;
 }
 
 static int by_address(const void *one, const void *other) {
@@ -225,15 +204,7 @@ static int unmap_all(struct worker *worker, struct io **ios, int count) {
 }
 
 static int give_up_all(struct worker *worker, struct io **ios, int count) {
-    struct driver *driver = worker->driver;
-    uint64_t refused = 0;
-    pthread_mutex_lock(&driver->lock);
-    for (int at = 0; at < count && !refused; at++)
-        refused = iova_unmap_bytes(driver->domain, worker->number, worker->client, ios[at]->address).refused;
-    if (!refused)
-        refused = flush(driver);
-    driver->unmapped += (uint64_t)count;
-    pthread_mutex_unlock(&driver->lock);
+    uint64_t refused = give_back(worker, ios, count);
     return refused ? fails("give up", refused) : 0;
 }
 
@@ -244,124 +215,23 @@ static int take_back(struct worker *worker, struct io **ios, int count) {
 
 /* The I/Os. */
 
-static uint64_t roll(struct worker *worker, uint64_t sides) {
-    worker->dice = worker->dice * 6364136223846793005u + 1442695040888963407u;
-    return (worker->dice >> 33) % sides;
-}
-
-static struct mark mark_at(const struct driver *driver, const struct io *io, uint64_t at) {
-    uint64_t block = io->block + at / BLOCK;
-    return (struct mark){block << 8 | at % BLOCK / SECTOR, driver->generations[block]};
-}
-
-/* Marks the blocks that are to be written, and wipes the marks where blocks are to be read. */
-static void mark_all(const struct driver *driver, const struct io *io) {
-    for (uint64_t at = 0; at < io->bytes; at += SECTOR) {
-        struct mark mark = io->write ? mark_at(driver, io, at) : (struct mark){0, 0};
-        memcpy(io->memory + at, &mark, sizeof mark);
-    }
-}
-
-/* A block that was never written may be anything. */
-static uint64_t marks_that_differ(const struct driver *driver, const struct io *io) {
-    uint64_t count = 0;
-    for (uint64_t at = 0; at < io->bytes; at += SECTOR) {
-        struct mark mark = mark_at(driver, io, at);
-        count += mark.generation && memcmp(io->memory + at, &mark, sizeof mark) != 0;
-    }
-    return count;
-}
-
-static int is_busy(struct worker *worker, const struct io *io) {
-    return memchr(worker->driver->busy + io->block, 1, io->bytes / BLOCK) != NULL;
-}
-
-/* What is to begin next: as long as I/Os are left one by chance, then all is read back. Two commands for the same block
- * are never in flight together, since a controller may carry them out in any order. 0: nothing now. */
-static int choose(struct worker *worker) {
-    struct io *wish = &worker->wish;
-    uint64_t most = worker->driver->most / BLOCK, blocks;
-    if (!wish->bytes && worker->left > 0) {
-        blocks = roll(worker, 60) == 0 ? 8 + roll(worker, 57) : 1 + roll(worker, 5);
-        blocks = worker->left % RARE == 0 ? LARGE / BLOCK : blocks;
-        wish->bytes = (blocks < most ? blocks : most) * BLOCK;
-        wish->write = (int)roll(worker, 2);
-        worker->left--;
-    } else if (!wish->bytes && worker->back < worker->blocks) {
-        blocks = worker->blocks - worker->back;
-        *wish = (struct io){.block = worker->first + worker->back, .bytes = (blocks < most ? blocks : most) * BLOCK};
-        worker->back += wish->bytes / BLOCK;
-        return !is_busy(worker, wish);
-    } else if (!wish->bytes) {
-        return 0;
-    }
-    if (worker->back > 0)
-        return !is_busy(worker, wish);
-    for (int tries = 0; tries < 8; tries++) {
-        wish->block = worker->first + roll(worker, worker->blocks - wish->bytes / BLOCK + 1);
-        if (!is_busy(worker, wish))
-            return 1;
-    }
-    return 0;
-}
-
-/* Writes an I/O's command into the queue. */
-static void push(struct worker *worker, struct io *io) {
-    struct nvme *nvme = &worker->driver->nvme;
-    uint64_t slot = (uint64_t)(io - worker->ios), scale = BLOCK / nvme->block, list = slot * NVME_LIST_BYTES;
-    struct nvme_command command = {.opcode = io->write ? NVME_WRITE : NVME_READ, .cid = (uint16_t)slot, .nsid = 1};
-    command.cdw10 = (uint32_t)(io->block * scale);
-    command.cdw11 = (uint32_t)(io->block * scale >> 32);
-    command.cdw12 = (uint32_t)(io->bytes / nvme->block - 1);
-    nvme_set_data(&command, io->address, io->bytes, worker->lists + list / 8, worker->lists_address + list);
-    nvme_push(&worker->queue, &command);
-}
-
 /* Begins the next I/O: 1, or 0 where none can begin now, or -1. */
 static int begin(struct worker *worker) {
     struct driver *driver = worker->driver;
-    if (worker->used == (int)driver->depth || !choose(worker))
+    struct load *load = &worker->load;
+    int slot = load_next(load, (int)driver->depth);
+    if (slot < 0)
         return 0;
-    int large = worker->wish.bytes > SMALL;
-    if (worker->frees[large] == 0)
-        return 0;
-    struct io *io = &worker->ios[worker->free[large][worker->frees[large] - 1]];
-    worker->wish.memory = io->memory;
-    worker->wish.address = driver->pool_at.address + (uint64_t)(io->memory - driver->pool);
-    int mapped = driver->mode == STATIC ? 1 : map(driver, worker, io->memory, worker->wish.bytes, &worker->wish);
-    if (mapped <= 0)
-        return mapped;
-    worker->frees[large]--;
-    worker->used++;
-    worker->in_flight++;
-    *io = worker->wish;
-    worker->wish.bytes = 0;
-    memset(driver->busy + io->block, 1, io->bytes / BLOCK);
-    for (uint64_t at = 0; io->write && at < io->bytes / BLOCK; at++)
-        driver->generations[io->block + at]++;
-    mark_all(driver, io);
-    push(worker, io);
-    return 1;
-}
-
-/* A completion: the data is there, but the device still reaches the memory. */
-static int end(struct worker *worker, const struct nvme_completion *taken) {
-    struct io *io = &worker->ios[taken->cid % DEPTH];
-    if (taken->cid >= DEPTH || !io->bytes || io->ended) {
-        fprintf(stderr, "driver: a completion of a command that isn't in flight: %u\n", taken->cid);
-        return 1;
+    load->wish.address = driver->pool_at.address + (uint64_t)(load->wish.memory - driver->pool);
+    if (driver->mode != STATIC) {
+        int mapped = map(worker, load->wish.memory, load->wish.bytes, driver->mask, &load->wish);
+        if (mapped <= 0)
+            return mapped;
     }
-    if (taken->status >> 1)
-        return nvme_fails(io->write ? "write" : "read", taken->status >> 1);
-    io->ended = 1;
-    worker->wrong += io->write ? 0 : marks_that_differ(worker->driver, io);
-    worker->writes += (uint64_t)io->write;
-    worker->reads += (uint64_t)!io->write;
-    worker->bytes += io->bytes;
-    memset(worker->driver->busy + io->block, 0, io->bytes / BLOCK);
-    worker->in_flight--;
-    worker->gathered[worker->count++] = io;
-    return 0;
+    load_begin(load, slot);
+    struct nvme_command command = load_command(load, &driver->nvme, slot, worker->lists, worker->lists_address);
+    nvme_push(&worker->queue, &command);
+    return 1;
 }
 
 /* Takes back what has ended: one by one, or together. */
@@ -375,13 +245,8 @@ static int retire(struct worker *worker) {
         if (take_back(worker, worker->gathered + at, count))
             return 1;
     }
-    for (int at = 0; at < worker->count; at++) {
-        struct io *io = worker->gathered[at];
-        int slot = (int)(io - worker->ios), large = slot < LARGES;
-        worker->free[large][worker->frees[large]++] = (uint16_t)slot;
-        io->bytes = 0;
-    }
-    worker->used -= worker->count;
+    for (int at = 0; at < worker->count; at++)
+        load_retire(&worker->load, worker->gathered[at]);
     worker->count = 0;
     return 0;
 }
@@ -400,8 +265,10 @@ static int turn(struct worker *worker) {
     if (begun)
         nvme_ring(&worker->queue);
     while (nvme_take(&worker->queue, &taken)) {
-        if (end(worker, &taken))
+        struct io *io = load_end(&worker->load, &taken);
+        if (!io)
             return -1;
+        worker->gathered[worker->count++] = io;
         ended++;
     }
     if (ended)
@@ -413,14 +280,11 @@ static int turn(struct worker *worker) {
     return begun + ended;
 }
 
-static int has_more(const struct worker *worker) {
-    return worker->left || worker->wish.bytes || worker->back < worker->blocks || worker->used;
-}
-
 static void *work(void *given) {
     struct worker *worker = given;
+    struct driver *driver = worker->driver;
     uint64_t end = nvme_milliseconds() + NVME_PATIENCE;
-    while (has_more(worker) && !worker->failed && !__atomic_load_n(&worker->driver->failed, __ATOMIC_RELAXED)) {
+    while (load_has_more(&worker->load) && !worker->failed && !__atomic_load_n(&driver->failed, __ATOMIC_RELAXED)) {
         int moved = turn(worker);
         if (moved > 0) {
             end = nvme_milliseconds() + NVME_PATIENCE;
@@ -428,9 +292,43 @@ static void *work(void *given) {
         }
         worker->failed = moved < 0;
         if (moved == 0 && nvme_milliseconds() > end)
-            worker->failed = nvme_fails("it answers nothing", nvme_get(&worker->driver->nvme, NVME_CSTS));
+            worker->failed = nvme_fails("it answers nothing", nvme_get(&driver->nvme, NVME_CSTS));
         sched_yield();
     }
+    if (worker->failed)
+        __atomic_store_n(&driver->failed, 1, __ATOMIC_RELAXED);
+    return NULL;
+}
+
+/* The device beside it. */
+
+/* One copy, from a page to the page behind it. Both have an address within 32 bits, wherever the disk's are. */
+static int copy(struct worker *worker, uint8_t *memory) {
+    struct io at, *all[] = {&at};
+    int mapped = map(worker, memory, 2 * FRAME, UINT32_MAX, &at);
+    if (mapped <= 0)
+        return mapped;
+    for (int byte = 0; byte < PIECE; byte++)
+        memory[byte] = (uint8_t)(worker->driver->copies + (uint64_t)byte * 7);
+    edu_transfer(&worker->driver->beside, at.address, PIECE, 0);
+    edu_transfer(&worker->driver->beside, at.address + FRAME, PIECE, 1);
+    note(worker->driver, "use", at.address, at.bytes);
+    worker->load.wrong += memcmp(memory, memory + FRAME, PIECE) != 0;
+    worker->driver->copies++;
+    return take_back(worker, all, 1) ? -1 : 1;
+}
+
+static void *work_beside(void *given) {
+    struct worker *worker = given;
+    uint8_t *memory = aligned_alloc(FRAME, 2 * FRAME);
+    worker->failed = !memory;
+    while (!worker->failed) {
+        worker->failed = copy(worker, memory) < 0;
+        if (__atomic_load_n(&worker->driver->ended, __ATOMIC_RELAXED))
+            break;
+        sched_yield();
+    }
+    free(memory);
     if (worker->failed)
         __atomic_store_n(&worker->driver->failed, 1, __ATOMIC_RELAXED);
     return NULL;
@@ -440,41 +338,36 @@ static void *work(void *given) {
 
 /* The data's memory lies on large pages where the kernel has some, so that there is less to map. */
 static int make_memory(struct driver *driver) {
-    uint64_t queue = nvme_queue_bytes(DEPTH + 1) + (uint64_t)DEPTH * NVME_LIST_BYTES;
-    driver->rings_at.bytes = nvme_queue_bytes(NVME_ADMIN_ENTRIES) + NVME_PAGE + driver->threads * queue;
-    driver->pool_at.bytes = driver->threads * POOL;
-    uint64_t bytes = driver->pool_at.bytes + driver->rings_at.bytes + HUGE_PAGE;
+    uint64_t queue = nvme_queue_bytes(DEPTH + 1) + LISTS;
+    uint64_t rings = nvme_queue_bytes(NVME_ADMIN_ENTRIES) + NVME_PAGE + driver->threads * queue;
+    uint64_t pool = driver->threads * POOL, bytes = pool + rings + HUGE_PAGE;
+    struct worker *first = &driver->workers[0];
     uint8_t *memory = mmap(NULL, bytes, PROT_READ | PROT_WRITE, MAP_PRIVATE | MAP_ANONYMOUS, -1, 0);
     if (memory == MAP_FAILED)
         return fails("memory", 0);
     driver->pool = memory + (HUGE_PAGE - (uintptr_t)memory % HUGE_PAGE) % HUGE_PAGE;
-    driver->rings = driver->pool + driver->pool_at.bytes;
-    madvise(driver->pool, driver->pool_at.bytes, MADV_HUGEPAGE);
-    memset(driver->pool, 0, driver->pool_at.bytes);
-    struct worker *first = &driver->workers[0];
-    return map(driver, first, driver->rings, driver->rings_at.bytes, &driver->rings_at) <= 0 ||
-           (driver->mode == STATIC && map(driver, first, driver->pool, driver->pool_at.bytes, &driver->pool_at) <= 0);
+    driver->rings = driver->pool + pool;
+    madvise(driver->pool, pool, MADV_HUGEPAGE);
+    memset(driver->pool, 0, pool);
+    if (map(first, driver->rings, rings, driver->mask, &driver->rings_at) <= 0)
+        return 1;
+    return driver->mode == STATIC && map(first, driver->pool, pool, driver->mask, &driver->pool_at) <= 0;
 }
 
 static int make_worker(struct driver *driver, uint64_t number, uint64_t ios) {
     struct worker *worker = &driver->workers[number];
-    uint64_t rings = nvme_queue_bytes(DEPTH + 1), queue = rings + (uint64_t)DEPTH * NVME_LIST_BYTES;
-    uint64_t at = nvme_queue_bytes(NVME_ADMIN_ENTRIES) + NVME_PAGE + number * queue;
-    uint64_t all = driver->nvme.blocks / (BLOCK / driver->nvme.block);
-    worker->number = number;
-    worker->dice = number + 1;
-    worker->left = ios * (number + 1) / driver->threads - ios * number / driver->threads;
-    worker->blocks = all / driver->threads;
-    worker->first = number * worker->blocks;
-    worker->lists = (uint64_t *)(void *)(driver->rings + at + rings);
+    struct load *load = &worker->load;
+    uint64_t rings = nvme_queue_bytes(DEPTH + 1), all = driver->nvme.blocks / (BLOCK / driver->nvme.block);
+    uint64_t at = nvme_queue_bytes(NVME_ADMIN_ENTRIES) + NVME_PAGE + number * (rings + LISTS);
+    load_make(load, number, driver->pool + number * POOL);
+    load->left = ios * (number + 1) / driver->threads - ios * number / driver->threads;
+    load->blocks = all / driver->threads;
+    load->first = number * load->blocks;
+    load->most = driver->most;
+    load->generations = driver->generations;
+    load->busy = driver->busy;
+    worker->lists = driver->rings + at + rings;
     worker->lists_address = driver->rings_at.address + at + rings;
-    uint8_t *memory = driver->pool + number * POOL;
-    for (int slot = 0; slot < DEPTH; slot++) {
-        int large = slot < LARGES;
-        worker->ios[slot].memory = memory;
-        memory += large ? LARGE : SMALL;
-        worker->free[large][worker->frees[large]++] = (uint16_t)slot;
-    }
     uint16_t id = (uint16_t)(number + 1), entries = (uint16_t)(driver->depth + 1);
     worker->queue = nvme_queue_over(&driver->nvme, id, entries, driver->rings + at);
     return nvme_create(&driver->nvme, &worker->queue, driver->rings_at.address + at);
@@ -502,14 +395,18 @@ static int start(struct driver *driver, uint64_t ios) {
 
 static int run(struct driver *driver) {
     uint64_t started = 0, begin = nvme_milliseconds();
-    struct worker *workers = driver->workers;
+    struct worker *workers = driver->workers, *beside = &workers[driver->threads];
     while (started < driver->threads && !pthread_create(&workers[started].thread, NULL, work, &workers[started]))
         started++;
-    if (started < driver->threads)
+    int more = driver->beside.registers && !pthread_create(&beside->thread, NULL, work_beside, beside);
+    if (started < driver->threads || (driver->beside.registers && !more))
         __atomic_store_n(&driver->failed, fails("a thread", IOVA_NO_MEMORY), __ATOMIC_RELAXED);
     for (uint64_t number = 0; number < started; number++)
         pthread_join(workers[number].thread, NULL);
     driver->milliseconds = nvme_milliseconds() - begin;
+    __atomic_store_n(&driver->ended, 1, __ATOMIC_RELAXED);
+    if (more)
+        pthread_join(beside->thread, NULL);
     return driver->failed;
 }
 
@@ -526,27 +423,30 @@ static int leave_generations(struct driver *driver, const char *path) {
 }
 
 static void print_counts(struct driver *driver) {
-    struct worker all = {.number = 0};
-    for (struct worker *worker = driver->workers; worker < driver->workers + driver->threads; worker++) {
-        all.reads += worker->reads;
-        all.writes += worker->writes;
-        all.bytes += worker->bytes;
-        all.calls += worker->calls;
-        all.wrong += worker->wrong;
+    uint64_t reads = 0, writes = 0, bytes = 0, calls = 0, wrong = 0;
+    for (struct worker *worker = driver->workers; worker <= driver->workers + driver->threads; worker++) {
+        reads += worker->load.reads;
+        writes += worker->load.writes;
+        bytes += worker->load.bytes;
+        wrong += worker->load.wrong;
+        calls += worker->calls;
     }
     printf("reads %" PRIu64 " writes %" PRIu64 " KiB %" PRIu64 " mapped %" PRIu64 " unmapped %" PRIu64 " calls %" PRIu64
-           " flushes %" PRIu64 " waits %" PRIu64 " wrong %" PRIu64 " milliseconds %" PRIu64 "\n",
-           all.reads, all.writes, all.bytes >> 10, driver->mapped, driver->unmapped, all.calls, driver->flushes,
-           driver->waits, all.wrong, driver->milliseconds);
-    driver->failed |= all.wrong != 0;
+           " flushes %" PRIu64 " waits %" PRIu64 " copies %" PRIu64 " wrong %" PRIu64 " milliseconds %" PRIu64 "\n",
+           reads, writes, bytes >> 10, driver->mapped, driver->unmapped, calls, driver->flushes, driver->waits,
+           driver->copies, wrong, driver->milliseconds);
+    driver->failed |= wrong != 0;
 }
 
-static const char *read_words(struct driver *driver, int argc, char **words) {
+struct words {
+    const char *beside, *generations, *log;
+};
+
+static int read_words(struct driver *driver, struct words *said, int argc, char **words) {
     static const struct option options[] = {
         {"lazy", 0, NULL, LAZY},  {"strict", 0, NULL, STRICT}, {"static", 0, NULL, STATIC}, {"threads", 1, NULL, 't'},
         {"depth", 1, NULL, 'd'},  {"mask", 1, NULL, 'm'},      {"window", 1, NULL, 'w'},    {"log", 1, NULL, 'l'},
-        {"generations", 1, NULL, 'g'}, {NULL, 0, NULL, 0}};
-    static const char *generations = "";
+        {"beside", 1, NULL, 'b'}, {"generations", 1, NULL, 'g'}, {NULL, 0, NULL, 0}};
     char *rest;
     for (int option; (option = getopt_long(argc, words, "", options, NULL)) != -1;) {
         uint64_t number = option > STATIC && option != '?' ? strtoull(optarg, &rest, 0) : 0;
@@ -558,38 +458,44 @@ static const char *read_words(struct driver *driver, int argc, char **words) {
             driver->window[0] = number;
             driver->window[1] = *rest == '-' ? strtoull(rest + 1, NULL, 0) : 0;
             break;
-        case 'g': generations = optarg; break;
-        case 'l':
-            if (!(driver->log = fopen(optarg, "w")))
-                return NULL;
-            break;
-        case '?': return NULL;
+        case 'b': said->beside = optarg; break;
+        case 'g': said->generations = optarg; break;
+        case 'l': said->log = optarg; break;
+        case '?': return 1;
         default: driver->mode = (enum mode)option;
         }
     }
     int good = driver->threads - 1 < THREADS && driver->depth - 1 < DEPTH && driver->mask >= 2 * FRAME;
-    return good && argc - optind == 2 && driver->window[0] <= driver->window[1] ? generations : NULL;
+    return !good || argc - optind != 2 || driver->window[0] > driver->window[1];
 }
 
 int main(int argc, char **words) {
-    static struct driver driver = {.threads = THREADS, .depth = DEPTH, .mask = UINT64_MAX};
-    pthread_mutex_init(&driver.lock, NULL);
-    const char *generations = read_words(&driver, argc, words);
-    for (int number = 0; number < THREADS; number++)
-        driver.workers[number].driver = &driver;
-    if (!generations) {
+    static struct driver driver = {
+        .threads = THREADS, .depth = DEPTH, .mask = UINT64_MAX, .beside = {.container = -1, .group = -1, .fd = -1}};
+    struct words said = {NULL, NULL, NULL};
+    if (read_words(&driver, &said, argc, words)) {
         fprintf(stderr, "usage: driver [--lazy | --strict | --static] [--threads 1-4] [--depth 1-256] [--mask M]\n"
-                        "              [--window FIRST-LAST] [--log FILE] [--generations FILE] ADDRESS IOS\n");
+                        "              [--window FIRST-LAST] [--beside EDU] [--log FILE] [--generations FILE]\n"
+                        "              ADDRESS IOS\n");
         return 2;
     }
-    int failed = device_open(&driver.device, words[optind]) || make_domain(&driver) || make_memory(&driver) ||
-                 start(&driver, strtoull(words[optind + 1], NULL, 0));
-    failed = failed || run(&driver);
-    if (*generations && !failed)
-        failed = leave_generations(&driver, generations);
+    pthread_mutex_init(&driver.lock, NULL);
+    for (uint64_t number = 0; number <= driver.threads; number++) {
+        driver.workers[number].driver = &driver;
+        driver.workers[number].number = number;
+    }
+    if (said.log && !(driver.log = fopen(said.log, "w")))
+        return fails(said.log, 0);
+    int failed = device_open(&driver.device, words[optind]) ||
+                 (said.beside && device_open_beside(&driver.beside, &driver.device, said.beside)) ||
+                 make_domain(&driver) || make_memory(&driver) ||
+                 start(&driver, strtoull(words[optind + 1], NULL, 0)) || run(&driver);
+    if (said.generations && !failed)
+        failed = leave_generations(&driver, said.generations);
     failed |= driver.nvme.registers && stop(&driver);
     print_counts(&driver);
     failed |= driver.failed;
+    device_close(&driver.beside);
     device_close(&driver.device);
     iova_domain_free(driver.domain);
     free(driver.generations);

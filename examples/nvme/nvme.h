@@ -2,8 +2,8 @@
  * the few steps that a driver makes with them. driver.c, broker.c and client.c are made of it.
  *
  * A queue pair is two rings in memory. The driver writes commands of 64 bytes into the submission queue and tells the
- * controller by a doorbell how far it came; the controller writes completions of 16 bytes into the completion queue, with
- * a bit, the phase, that changes at each turn round the ring. All addresses in a command are those that the IOMMU
+ * controller by a doorbell how far it came; the controller writes completions of 16 bytes into the completion queue,
+ * with a bit, the phase, that changes at each turn round the ring. All addresses in a command are those that the IOMMU
  * translates. Queue 0 is for administration.
  */
 #ifndef NVME_H
@@ -59,7 +59,7 @@ struct nvme_completion {
     uint16_t sqhd, sqid, cid, status; /* of the status bit 0 is the phase */
 };
 
-_Static_assert(sizeof(struct nvme_command) == 64 && sizeof(struct nvme_completion) == 16, "as the specification has them");
+_Static_assert(sizeof(struct nvme_command) == 64 && sizeof(struct nvme_completion) == 16, "as it is specified");
 
 struct nvme_queue {
     uint16_t number, entries, tail, head, phase; /* at most entries - 1 commands may be in it */
@@ -85,7 +85,7 @@ static inline int nvme_fails(const char *what, unsigned status) {
 }
 
 /* What was written into memory before a register is written is there for the controller, and what it wrote before a
- * register said so is there for the driver. Registers of 64 bits are written as two of 32, which every controller takes. */
+ * register said so is there for the driver. Registers of 64 bits are written as two of 32, as all controllers take. */
 static inline uint32_t nvme_get(struct nvme *nvme, int at) {
     return __atomic_load_n((volatile uint32_t *)(nvme->registers + at), __ATOMIC_ACQUIRE);
 }
@@ -110,20 +110,27 @@ static inline uint64_t nvme_ring_bytes(uint64_t entries, uint64_t size) {
 }
 
 static inline uint64_t nvme_queue_bytes(uint64_t entries) {
-    return nvme_ring_bytes(entries, sizeof(struct nvme_command)) + nvme_ring_bytes(entries, sizeof(struct nvme_completion));
+    uint64_t commands = nvme_ring_bytes(entries, sizeof(struct nvme_command));
+    return commands + nvme_ring_bytes(entries, sizeof(struct nvme_completion));
 }
 
-/* A queue pair over memory that is all 0, which the phase of completions begins with. */
-static inline struct nvme_queue nvme_queue_over(struct nvme *nvme, uint16_t number, uint16_t entries, uint8_t *memory) {
-    volatile uint8_t *doorbell = nvme->registers + NVME_DOORBELLS + 2 * number * nvme->stride;
+/* A queue pair over memory that is all 0, which the phase of completions begins with. It has no doorbells. */
+static inline struct nvme_queue nvme_rings_over(uint16_t number, uint16_t entries, uint8_t *memory) {
     uint8_t *completions = memory + nvme_ring_bytes(entries, sizeof(struct nvme_command));
     return (struct nvme_queue){.number = number,
                                .entries = entries,
                                .phase = 1,
                                .commands = (void *)memory,
-                               .completions = (void *)completions,
-                               .sq_doorbell = (volatile uint32_t *)doorbell,
-                               .cq_doorbell = (volatile uint32_t *)(doorbell + nvme->stride)};
+                               .completions = (void *)completions};
+}
+
+/* The same with its doorbells. */
+static inline struct nvme_queue nvme_queue_over(struct nvme *nvme, uint16_t number, uint16_t entries, uint8_t *memory) {
+    volatile uint8_t *doorbell = nvme->registers + NVME_DOORBELLS + 2 * number * nvme->stride;
+    struct nvme_queue queue = nvme_rings_over(number, entries, memory);
+    queue.sq_doorbell = (volatile uint32_t *)doorbell;
+    queue.cq_doorbell = (volatile uint32_t *)(doorbell + nvme->stride);
+    return queue;
 }
 
 /* Writes a command into the ring. The controller hears of it at the next nvme_ring. */
@@ -183,7 +190,7 @@ static inline int nvme_ask(struct nvme *nvme, const char *what, struct nvme_comm
     return taken.status >> 1 ? nvme_fails(what, taken.status >> 1) : 0;
 }
 
-/* Enables or disables the controller. Once it is disabled it has forgotten all commands and queues, and reaches nothing. */
+/* Enables or disables the controller. One that is disabled has forgotten all queues, and reaches nothing. */
 static inline int nvme_enable(struct nvme *nvme, int enable) {
     uint64_t end = nvme_milliseconds() + NVME_PATIENCE;
     nvme_set(nvme, NVME_CC, enable ? NVME_CC_SIZES | NVME_CC_EN : 0, 4);
@@ -216,8 +223,8 @@ static inline int nvme_identify(struct nvme *nvme) {
     return 0;
 }
 
-/* Disables the controller, and enables it with an admin queue. `memory`, nvme_queue_bytes(NVME_ADMIN_ENTRIES) and a page
- * behind them, is all 0, and mapped at `address`. */
+/* Disables the controller, and enables it with an admin queue. `memory`, nvme_queue_bytes(NVME_ADMIN_ENTRIES) and a
+ * page behind them, is all 0, and mapped at `address`. */
 static inline int nvme_start(struct nvme *nvme, volatile uint8_t *registers, uint8_t *memory, uint64_t address) {
     uint64_t commands = nvme_ring_bytes(NVME_ADMIN_ENTRIES, sizeof(struct nvme_command));
     uint64_t page = nvme_queue_bytes(NVME_ADMIN_ENTRIES);
@@ -247,7 +254,13 @@ static inline int nvme_ask_queues(struct nvme *nvme, uint32_t count) {
     return (given & 0xffff) + 1 < count || (given >> 16) + 1 < count ? nvme_fails("too few queues", given) : 0;
 }
 
-/* Creates a queue pair over memory that is mapped at `address`; without interrupts. */
+/* Deletes one queue of a pair. */
+static inline int nvme_delete_one(struct nvme *nvme, const char *what, enum nvme_admin_opcode opcode, uint16_t number) {
+    struct nvme_command command = {.opcode = (uint8_t)opcode, .cdw10 = number};
+    return nvme_ask(nvme, what, command, NULL);
+}
+
+/* Creates a queue pair over memory that is mapped at `address`; without interrupts. Both queues, or none. */
 static inline int nvme_create(struct nvme *nvme, const struct nvme_queue *queue, uint64_t address) {
     uint32_t numbers = (uint32_t)(queue->entries - 1) << 16 | queue->number;
     struct nvme_command command = {.opcode = NVME_CREATE_CQ, .cdw10 = numbers, .cdw11 = 1};
@@ -257,16 +270,17 @@ static inline int nvme_create(struct nvme *nvme, const struct nvme_queue *queue,
     command.opcode = NVME_CREATE_SQ;
     command.prp1 = address;
     command.cdw11 = (uint32_t)queue->number << 16 | 1;
-    return nvme_ask(nvme, "create a submission queue", command, NULL);
+    if (!nvme_ask(nvme, "create a submission queue", command, NULL))
+        return 0;
+    nvme_delete_one(nvme, "delete a completion queue", NVME_DELETE_CQ, queue->number);
+    return 1;
 }
 
 /* Deletes a queue pair. When the controller answers it has ended or given up all commands of it, and reaches none of
  * their data any more. */
 static inline int nvme_delete(struct nvme *nvme, uint16_t number) {
-    struct nvme_command command = {.opcode = NVME_DELETE_SQ, .cdw10 = number};
-    int failed = nvme_ask(nvme, "delete a submission queue", command, NULL);
-    command.opcode = NVME_DELETE_CQ;
-    return failed | nvme_ask(nvme, "delete a completion queue", command, NULL);
+    return nvme_delete_one(nvme, "delete a submission queue", NVME_DELETE_SQ, number) ||
+           nvme_delete_one(nvme, "delete a completion queue", NVME_DELETE_CQ, number);
 }
 
 #endif

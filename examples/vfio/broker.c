@@ -5,17 +5,17 @@
  * The daemon comes to the Unix socket SINK, its --peer, in as many connections as it likes. Drivers come to the Unix
  * socket DRIVERS, where each message is one request, and is answered by one or two:
  *
- *     map CLIENT FIRST FRAMES         with the memory's file descriptor   mapped
- *     unmap CLIENT FIRST                                                  unmapped
- *     copy CLIENT FROM TO BYTES       by the device, in bytes             started, and later: done
+ *     map CLIENT FIRST FRAMES [PAGE]   with the memory's file, from a page on   mapped
+ *     unmap CLIENT FIRST                                                        unmapped
  *
- * or by `no ..`. CLIENT is the number that the daemon gave the driver, FIRST and FRAMES are frames that it was given.
- * Drivers are trusted to say their own number. One thread does all, one thing after another; while the device is at
- * work it looks at it each few milliseconds. What it mapped, unmapped and invalidated is appended to LOG, which `iovad
- * check` reads; LAST is the last frame of its domain. SIGTERM ends it, and it prints its counts.
+ * and those that the device's file has: edu.c or ../nvme/queues.c. All may be answered by `no ..`. CLIENT is the
+ * number that the daemon gave the driver, FIRST and FRAMES are frames that it was given. Drivers are trusted to say
+ * their own number. One thread does all, one thing after another; while the device is at work it looks at it each few
+ * milliseconds. What it mapped, unmapped and invalidated is appended to LOG, which `iovad check` reads; LAST is the
+ * last frame of the daemon's domain: the broker's own memory lies behind it. SIGTERM ends it, and it prints its
+ * counts.
  */
-#define _GNU_SOURCE
-#include "device.h"
+#include "broker.h"
 
 #include <poll.h>
 #include <signal.h>
@@ -23,38 +23,7 @@
 #include <sys/socket.h>
 #include <sys/un.h>
 
-enum { CONNECTIONS = 64, MAPPINGS = 8192, CLIENTS = 65537, TEXT = 1 << 17, PIECE = 4095 };
-
-struct mapping {
-    uint64_t client, first, frames;
-    void *memory;
-};
-
-struct job {
-    uint64_t client, from, to, bytes; /* bytes is 0 where there is none */
-};
-
-struct connection {
-    enum { NOBODY, DAEMON, DRIVER } who;
-    int fd;
-    char *text; /* of a request of the daemon's, as far as it has come */
-    size_t length;
-    char owed[48]; /* an answer that waits for the device */
-    struct job job;
-};
-
-struct broker {
-    struct device device;
-    struct mapping mappings[MAPPINGS];
-    size_t count;
-    uint8_t gone[CLIENTS]; /* clients that may map nothing any more */
-    struct connection connections[CONNECTIONS];
-    struct job job; /* what the device does */
-    enum { IDLE, READING, WRITING } stage;
-    struct connection *asker; /* whose job it is, or NULL where that has left */
-    int log;
-    uint64_t mapped, unmapped, invals, gones, resets, copies, provoked, near, refused, clashes;
-};
+enum { TEXT = 1 << 17 };
 
 static volatile sig_atomic_t ending;
 
@@ -63,7 +32,7 @@ static void end(int number) {
     ending = 1;
 }
 
-static void note(struct broker *broker, const char *what, uint64_t first, uint64_t frames) {
+void broker_note(struct broker *broker, const char *what, uint64_t first, uint64_t frames) {
     dprintf(broker->log, "%s %" PRIu64 " %" PRIu64 "\n", what, first, frames);
 }
 
@@ -74,19 +43,20 @@ static void note_flush(struct broker *broker, uint64_t number) {
 
 /* The page table. */
 
-static const char *map(struct broker *broker, struct mapping new, int fd) {
+static const char *map(struct broker *broker, struct mapping new, int fd, uint64_t page) {
     if (new.client >= CLIENTS || broker->gone[new.client]) {
         broker->refused++;
         return "no client";
     }
     if (broker->count == MAPPINGS || new.frames == 0 || new.frames > 1 << 20)
         return "no room";
-    new.memory = mmap(NULL, new.frames * FRAME, PROT_READ | PROT_WRITE, MAP_SHARED, fd, 0);
-    if (new.memory == MAP_FAILED)
+    void *memory = mmap(NULL, new.frames * FRAME, PROT_READ | PROT_WRITE, MAP_SHARED, fd, (off_t)(page * FRAME));
+    if (memory == MAP_FAILED)
         return "no memory";
+    new.memory = memory;
     int failed = device_map(&broker->device, new.memory, new.first * FRAME, new.frames * FRAME) ? errno : 0;
     if (!failed || failed == EEXIST) /* it was given to this client, whatever is there */
-        note(broker, "map", new.first, new.frames);
+        broker_note(broker, "map", new.first, new.frames);
     if (!failed) {
         broker->mappings[broker->count++] = new;
         broker->mapped++;
@@ -97,32 +67,16 @@ static const char *map(struct broker *broker, struct mapping new, int fd) {
     return failed == EEXIST ? "no place" : "no memory";
 }
 
-static int has(const struct mapping *mapping, uint64_t address, uint64_t bytes) {
-    return address >= mapping->first * FRAME && address + bytes <= (mapping->first + mapping->frames) * FRAME;
-}
-
-/* Whether the device's job has it: both ends, since the second transfer is still to come. */
-static int is_wanted(const struct broker *broker, const struct mapping *mapping) {
-    const struct job *job = &broker->job;
-    return broker->stage != IDLE && (has(mapping, job->from, job->bytes) || has(mapping, job->to, job->bytes));
-}
-
-/* Whether the device is at work on it just now. The bytes move at the end of that work. */
-static int is_used(struct broker *broker, const struct mapping *mapping) {
-    uint64_t address = broker->stage == WRITING ? broker->job.to : broker->job.from;
-    return broker->stage != IDLE && has(mapping, address, broker->job.bytes) && edu_is_busy(&broker->device);
-}
-
 /* Unmaps, under the device's hands where it is at work there: that ends in a fault. 0 where it went well. */
 static int unmap(struct broker *broker, struct mapping *mapping) {
-    int used = is_used(broker, mapping);
+    int used = work_uses(broker, mapping);
     if (device_unmap(&broker->device, mapping->first * FRAME, mapping->frames * FRAME))
         return device_fails("unmap");
-    if (used && edu_is_busy(&broker->device))
+    if (used && work_uses(broker, mapping))
         broker->provoked++;
     else if (used)
         broker->near++; /* it came to its end meanwhile: before the unmap, or after it */
-    note(broker, "unmap", mapping->first, mapping->frames);
+    broker_note(broker, "unmap", mapping->first, mapping->frames);
     munmap(mapping->memory, mapping->frames * FRAME);
     *mapping = broker->mappings[--broker->count];
     broker->unmapped++;
@@ -147,10 +101,13 @@ static int unmap_all(struct broker *broker) {
     return failed;
 }
 
-static struct mapping *find(struct broker *broker, uint64_t client, uint64_t address, uint64_t bytes) {
-    for (size_t at = 0; at < broker->count; at++)
-        if (broker->mappings[at].client == client && has(&broker->mappings[at], address, bytes))
-            return &broker->mappings[at];
+struct mapping *broker_find(struct broker *broker, uint64_t client, uint64_t address, uint64_t bytes) {
+    for (size_t at = 0; at < broker->count; at++) {
+        struct mapping *mapping = &broker->mappings[at];
+        uint64_t first = mapping->first * FRAME, size = mapping->frames * FRAME;
+        if (mapping->client == client && address >= first && bytes <= size && address - first <= size - bytes)
+            return mapping;
+    }
     return NULL;
 }
 
@@ -159,13 +116,12 @@ static struct mapping *find(struct broker *broker, uint64_t client, uint64_t add
 static void leave(struct broker *broker, struct connection *connection) {
     close(connection->fd);
     free(connection->text);
+    work_leave(broker, connection);
     memset(connection, 0, sizeof *connection);
     connection->fd = -1;
-    if (broker->asker == connection)
-        broker->asker = NULL;
 }
 
-static void answer(struct broker *broker, struct connection *connection, const char *text) {
+void broker_answer(struct broker *broker, struct connection *connection, const char *text) {
     if (send(connection->fd, text, strlen(text), MSG_NOSIGNAL | MSG_DONTWAIT) < 0)
         leave(broker, connection);
 }
@@ -191,9 +147,6 @@ static size_t whole(const char *text) {
 static int remove_client(struct broker *broker, uint64_t client, const char *lines) {
     uint64_t first, frames;
     int failed = 0;
-    broker->gones++;
-    if (client < CLIENTS)
-        broker->gone[client] = 1;
     while ((lines = strchr(lines, '\n')) && sscanf(++lines, "%" SCNu64 " %" SCNu64, &first, &frames) == 2)
         failed |= unmap_of(broker, client, first, frames);
     return failed;
@@ -202,7 +155,6 @@ static int remove_client(struct broker *broker, uint64_t client, const char *lin
 /* A new daemon, which counts its clients from 1: nothing is left of the earlier one, and its drivers are let go. */
 static int reset(struct broker *broker) {
     int failed = unmap_all(broker);
-    broker->resets++;
     for (int at = 0; at < CONNECTIONS; at++)
         if (broker->connections[at].who == DRIVER)
             leave(broker, &broker->connections[at]);
@@ -211,30 +163,35 @@ static int reset(struct broker *broker) {
     return failed;
 }
 
-/* Carries a request out, and answers: of `gone` and `reset` once the device has ended what it does for such a client.
- * The page table stops it at once, but its command still has the address, which may be another's after the answer. */
+/* Carries a request out, and answers. Of `gone` and `reset` the device is stopped first. Where it can't be, the page
+ * table stops it at once, but its command still has the address, which may be another's after the answer: so that waits
+ * until the device has ended what it does for such a client. */
 static void carry_out(struct broker *broker, struct connection *connection) {
     uint64_t domain, number = 0;
     char word[8] = "", text[48];
-    int words = sscanf(connection->text, "%7s %" SCNu64 " %" SCNu64, word, &domain, &number), waits = 0, failed = 0;
+    int words = sscanf(connection->text, "%7s %" SCNu64 " %" SCNu64, word, &domain, &number), stop = 0, failed = 0;
     if (words == 3 && strcmp(word, "inval") == 0) {
         note_flush(broker, number);
         broker->invals++;
     } else if (words == 3 && strcmp(word, "gone") == 0) {
-        failed = remove_client(broker, number, connection->text);
-        waits = broker->stage != IDLE && broker->job.client == number;
+        broker->gones++;
+        if (number < CLIENTS)
+            broker->gone[number] = 1;
+        stop = work_stop(broker, number);
+        failed = stop < 0 || remove_client(broker, number, connection->text);
     } else if (words == 2 && strcmp(word, "reset") == 0) {
-        failed = reset(broker);
-        waits = broker->stage != IDLE;
+        broker->resets++;
+        stop = work_stop(broker, NO_CLIENT);
+        failed = stop < 0 || reset(broker);
     } else {
         leave(broker, connection);
         return;
     }
     snprintf(text, sizeof text, "%s %s %" PRIu64 "\n", failed ? "fail" : "done", word, words == 3 ? number : domain);
-    if (waits)
+    if (stop > 0)
         memcpy(connection->owed, text, sizeof text);
     else
-        answer(broker, connection, text);
+        broker_answer(broker, connection, text);
 }
 
 /* A request whose connection has ended is nobody's any more: its daemon is dead, or has made it again. */
@@ -262,22 +219,17 @@ static void hear_daemon(struct broker *broker, struct connection *connection) {
 
 static const char *meet_driver(struct broker *broker, struct connection *connection, const char *text, int fd) {
     struct mapping new = {0, 0, 0, NULL}, *mapping;
-    struct job job;
-    if (sscanf(text, "map %" SCNu64 " %" SCNu64 " %" SCNu64, &new.client, &new.first, &new.frames) == 3)
-        return map(broker, new, fd);
+    uint64_t page = 0;
+    const char *form = "map %" SCNu64 " %" SCNu64 " %" SCNu64 " %" SCNu64;
+    if (sscanf(text, form, &new.client, &new.first, &new.frames, &page) >= 3)
+        return map(broker, new, fd, page);
     if (sscanf(text, "unmap %" SCNu64 " %" SCNu64, &new.client, &new.first) == 2) {
-        mapping = find(broker, new.client, new.first * FRAME, FRAME);
-        if (!mapping || mapping->first != new.first || is_wanted(broker, mapping))
+        mapping = broker_find(broker, new.client, new.first * FRAME, FRAME);
+        if (!mapping || mapping->first != new.first || work_wants(broker, mapping))
             return mapping ? "no, it is used" : "no mapping";
         return unmap(broker, mapping) ? "no unmap" : "unmapped";
     }
-    if (sscanf(text, "copy %" SCNu64 " %" SCNu64 " %" SCNu64 " %" SCNu64, &job.client, &job.from, &job.to, &job.bytes) == 4) {
-        if (connection->job.bytes > 0 || broker->asker == connection || job.bytes == 0 || job.bytes > PIECE)
-            return "no copy";
-        connection->job = job; /* its turn comes */
-        return NULL;
-    }
-    return "no request";
+    return work_meet(broker, connection, text);
 }
 
 static void hear_driver(struct broker *broker, struct connection *connection) {
@@ -298,58 +250,7 @@ static void hear_driver(struct broker *broker, struct connection *connection) {
     if (fd >= 0)
         close(fd); /* the mapping has the memory */
     if (said)
-        answer(broker, connection, said);
-}
-
-/* The device's side: a copy is two transfers, and nobody else's comes between them. */
-
-static void begin_job(struct broker *broker, struct connection *connection) {
-    struct job job = connection->job;
-    connection->job.bytes = 0;
-    if (!find(broker, job.client, job.from, job.bytes) || !find(broker, job.client, job.to, job.bytes)) {
-        answer(broker, connection, "no mapping");
-        return;
-    }
-    broker->job = job;
-    broker->stage = READING;
-    broker->asker = connection;
-    edu_start(&broker->device, job.from, job.bytes, 0);
-    answer(broker, connection, "started");
-}
-
-static void end_transfer(struct broker *broker) {
-    int wanted = broker->asker && !broker->gone[broker->job.client];
-    if (wanted && broker->stage == READING) {
-        broker->stage = WRITING;
-        edu_start(&broker->device, broker->job.to, broker->job.bytes, 1);
-        return;
-    }
-    struct connection *asker = broker->asker;
-    broker->stage = IDLE;
-    broker->asker = NULL;
-    broker->copies += (uint64_t)wanted;
-    if (asker)
-        answer(broker, asker, wanted ? "done" : "no client");
-    for (int at = 0; at < CONNECTIONS; at++) {
-        struct connection *connection = &broker->connections[at];
-        if (connection->owed[0]) {
-            char text[sizeof connection->owed];
-            memcpy(text, connection->owed, sizeof text);
-            connection->owed[0] = 0;
-            answer(broker, connection, text);
-        }
-    }
-}
-
-static void turn_device(struct broker *broker) {
-    static int next; /* drivers have their turns one after another */
-    if (broker->stage != IDLE && !edu_is_busy(&broker->device))
-        end_transfer(broker);
-    for (int tried = 0; tried < CONNECTIONS && broker->stage == IDLE; tried++) {
-        next = (next + 1) % CONNECTIONS;
-        if (broker->connections[next].who == DRIVER && broker->connections[next].job.bytes > 0)
-            begin_job(broker, &broker->connections[next]);
-    }
+        broker_answer(broker, connection, said);
 }
 
 /* All together. */
@@ -386,6 +287,7 @@ static void serve(struct broker *broker, int sink, int drivers) {
     struct pollfd fds[CONNECTIONS + 2] = {{sink, POLLIN, 0}, {drivers, POLLIN, 0}};
     const struct timespec moment = {0, 3000000};
     sigset_t all_but_term, none;
+    int soon = 0;
     sigemptyset(&none);
     sigemptyset(&all_but_term);
     sigaddset(&all_but_term, SIGTERM);
@@ -393,7 +295,7 @@ static void serve(struct broker *broker, int sink, int drivers) {
     while (!ending) {
         for (int at = 0; at < CONNECTIONS; at++)
             fds[at + 2] = (struct pollfd){broker->connections[at].fd, POLLIN, 0};
-        if (ppoll(fds, CONNECTIONS + 2, broker->stage == IDLE ? NULL : &moment, &none) < 0)
+        if (ppoll(fds, CONNECTIONS + 2, soon ? &moment : NULL, &none) < 0)
             continue;
         for (int at = 0; at < CONNECTIONS; at++) {
             struct connection *connection = &broker->connections[at];
@@ -404,7 +306,7 @@ static void serve(struct broker *broker, int sink, int drivers) {
             else
                 hear_driver(broker, connection);
         }
-        turn_device(broker);
+        soon = work_turn(broker);
         for (int at = 0; at < 2; at++)
             if (fds[at].revents)
                 welcome(broker, fds[at].fd, at == 0 ? DAEMON : DRIVER);
@@ -423,14 +325,13 @@ int main(int argc, char **words) {
     broker.log = open(words[5], O_WRONLY | O_CREAT | O_TRUNC | O_APPEND | O_CLOEXEC, 0666);
     if (broker.log < 0)
         return device_fails(words[5]);
-    dprintf(broker.log, "iovalog 1 1 %s\n", words[4]);
-    if (device_open(&broker.device, words[1]))
+    broker.last = strtoull(words[4], NULL, 10);
+    dprintf(broker.log, "iovalog 1 1 %" PRIu64 "\n", broker.last);
+    if (device_open(&broker.device, words[1]) || work_begin(&broker))
         return 1;
     int drivers = listen_at(words[3], SOCK_SEQPACKET), sink = listen_at(words[2], SOCK_STREAM);
     serve(&broker, sink, drivers);
-    while (edu_is_busy(&broker.device))
-        usleep(1000);
-    broker.stage = IDLE;
+    work_end(&broker);
     unmap_all(&broker);
     for (int at = 0; at < CONNECTIONS; at++)
         if (broker.connections[at].who != NOBODY)
@@ -441,9 +342,10 @@ int main(int argc, char **words) {
     unlink(words[3]);
     close(broker.log);
     device_close(&broker.device);
-    printf("mapped %" PRIu64 " unmapped %" PRIu64 " inval %" PRIu64 " gone %" PRIu64 " reset %" PRIu64 " copies %" PRIu64
-           " provoked %" PRIu64 " near %" PRIu64 " refused %" PRIu64 " clashes %" PRIu64 "\n",
-           broker.mapped, broker.unmapped, broker.invals, broker.gones, broker.resets, broker.copies, broker.provoked,
-           broker.near, broker.refused, broker.clashes);
+    printf("mapped %" PRIu64 " unmapped %" PRIu64 " inval %" PRIu64 " gone %" PRIu64 " reset %" PRIu64
+           " provoked %" PRIu64 " near %" PRIu64 " refused %" PRIu64 " clashes %" PRIu64 " ",
+           broker.mapped, broker.unmapped, broker.invals, broker.gones, broker.resets, broker.provoked, broker.near,
+           broker.refused, broker.clashes);
+    work_print();
     return 0;
 }

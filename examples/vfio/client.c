@@ -1,18 +1,16 @@
 /* A driver behind the broker: iovad gives it addresses, and the broker maps them and has the device copy.
  *
- *     client IOVAD BROKER TURNS [LOG]
+ *     client IOVAD BROKER TURNS
  *
- * IOVAD is the socket of `iovad serve`, BROKER that of the broker's drivers. In each turn it asks for the addresses of 16
- * buffers of 1 to 8 pages, has them mapped, and in each fourth turn, from the first on, copied from one to another by the
- * device; it compares the bytes, has them unmapped, and frees the addresses. What the device was seen to reach is
- * appended to LOG. Where the daemon or the broker goes away it begins anew with the next one, up to so many turns. At a
- * SIGTERM it ends its turn, and is over.
+ * IOVAD is the socket of `iovad serve`, BROKER that of the broker's drivers. In each turn it asks for the addresses of
+ * 16 buffers of 1 to 8 pages, has them mapped, and in each fourth turn, from the first on, copied from one to another
+ * by the device; it compares the bytes, has them unmapped, and frees the addresses. Where the daemon or the broker
+ * goes away it begins anew with the next one, up to so many turns. At a SIGTERM it ends its turn, and is over.
  */
 #define _GNU_SOURCE
 #include "iova_client.h"
 
 #include <inttypes.h>
-#include <fcntl.h>
 #include <signal.h>
 #include <stdio.h>
 #include <stdlib.h>
@@ -29,7 +27,7 @@ struct buffer {
 struct driver {
     iovad_session session;
     uint64_t client;
-    int broker, log;
+    int broker;
     uint32_t dice;
     struct buffer buffers[DEPTH];
     int refused; /* whether somebody said no, which no driver that plays by the rules is told here */
@@ -123,11 +121,6 @@ static int map(struct driver *driver, struct buffer *buffer) {
     return make(driver, buffer) || tell(driver, text, buffer->fd) || hear(driver, "mapped");
 }
 
-static void note_use(struct driver *driver, const struct buffer *buffer) {
-    if (driver->log >= 0)
-        dprintf(driver->log, "use %" PRIu64 " 1\n", buffer->first);
-}
-
 /* The device copies the first page of one buffer to that of another. */
 static int copy(struct driver *driver) {
     char text[128];
@@ -147,8 +140,6 @@ static int copy(struct driver *driver) {
     driver->copies++;
     memcpy(from->memory, &from->mark, sizeof from->mark);
     memcpy(to->memory, &to->mark, sizeof to->mark);
-    note_use(driver, from);
-    note_use(driver, to);
     return 0;
 }
 
@@ -236,17 +227,15 @@ static void close_both(struct driver *driver) {
 }
 
 int main(int argc, char **words) {
-    struct driver driver = {.broker = -1, .log = -1, .session = {.fd = -1}};
-    if (argc < 4 || argc > 5) {
-        fprintf(stderr, "usage: client IOVAD BROKER TURNS [LOG]\n");
+    struct driver driver = {.broker = -1, .session = {.fd = -1}};
+    if (argc != 4) {
+        fprintf(stderr, "usage: client IOVAD BROKER TURNS\n");
         return 2;
     }
     uint64_t turns = strtoull(words[3], NULL, 10);
     int failed = 0, tries = 0;
     signal(SIGTERM, end); /* calls that wait go on */
     drop_memory(&driver);
-    if (argc > 4 && (driver.log = open(words[4], O_WRONLY | O_APPEND | O_CLOEXEC)) < 0)
-        return fails(words[4], strerror(errno));
     while (driver.turns < turns && !ending && tries < 500 && !driver.refused) {
         failed = open_both(&driver, words[1], words[2]);
         driver.dice = (uint32_t)driver.client;
@@ -259,8 +248,6 @@ int main(int argc, char **words) {
         if (failed)
             usleep(20000);
     }
-    if (driver.log >= 0)
-        close(driver.log);
     printf("turns %" PRIu64 " mapped %" PRIu64 " copies %" PRIu64 " lost %" PRIu64 " wrong %" PRIu64 "\n", driver.turns,
            driver.mapped, driver.copies, driver.lost, driver.wrong);
     return failed || driver.wrong;

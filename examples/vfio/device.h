@@ -1,9 +1,9 @@
 /* device.h: a PCI device of one's own over VFIO, and the registers of QEMU's `edu`, which copies bytes from and to
  * whatever address it is told. driver.c and broker.c are made of it.
  *
- * Who opens a device opens its container, which is an address space with page tables of the IOMMU, and puts the device's
- * group into it. device_map and device_unmap change these page tables. VFIO chooses no address, and gives none up: that
- * is what iovad is for.
+ * Who opens a device opens its container, which is an address space with page tables of the IOMMU, and puts the
+ * device's group into it. device_map and device_unmap change these page tables. VFIO chooses no address, and gives
+ * none up: that is what iovad is for.
  */
 #ifndef DEVICE_H
 #define DEVICE_H
@@ -67,20 +67,15 @@ static inline int device_find_group(struct device *device, const char *address, 
     return 0;
 }
 
-/* Opens the device at an address of the PCI bus, as 0000:00:02.0, which vfio-pci has, and lets it do DMA. */
-static inline int device_open(struct device *device, const char *address) {
+/* Puts the group of the device at this address of the PCI bus into a container, takes the device and lets it do DMA. */
+static inline int device_join(struct device *device, int container, const char *address) {
     char path[256];
-    memset(device, 0, sizeof *device);
-    device->fd = device->group = -1;
-    device->container = open("/dev/vfio/vfio", O_RDWR | O_CLOEXEC);
-    if (device->container < 0)
-        return device_fails("/dev/vfio/vfio");
     if (device_find_group(device, address, path, sizeof path))
         return 1;
     device->group = open(path, O_RDWR | O_CLOEXEC);
-    if (device->group < 0 || ioctl(device->group, VFIO_GROUP_SET_CONTAINER, &device->container))
+    if (device->group < 0 || ioctl(device->group, VFIO_GROUP_SET_CONTAINER, &container))
         return device_fails(path);
-    if (ioctl(device->container, VFIO_SET_IOMMU, VFIO_TYPE1v2_IOMMU))
+    if (container == device->container && ioctl(container, VFIO_SET_IOMMU, VFIO_TYPE1v2_IOMMU))
         return device_fails("VFIO_SET_IOMMU");
     device->fd = ioctl(device->group, VFIO_GROUP_GET_DEVICE_FD, address);
     if (device->fd < 0)
@@ -99,6 +94,60 @@ static inline int device_open(struct device *device, const char *address) {
         return device_fails("the device's registers");
     device->registers = at;
     return 0;
+}
+
+/* Opens a device that vfio-pci has, by its address on the PCI bus, 0000:00:02.0 or so: an address space of its own. */
+static inline int device_open(struct device *device, const char *address) {
+    memset(device, 0, sizeof *device);
+    device->fd = device->group = -1;
+    device->container = open("/dev/vfio/vfio", O_RDWR | O_CLOEXEC);
+    if (device->container < 0)
+        return device_fails("/dev/vfio/vfio");
+    return device_join(device, device->container, address);
+}
+
+/* Opens a device in the address space of another one, which outlives it: what is mapped for one both reach. */
+static inline int device_open_beside(struct device *device, const struct device *other, const char *address) {
+    memset(device, 0, sizeof *device);
+    device->fd = device->group = device->container = -1;
+    return device_join(device, other->container, address);
+}
+
+/* Frames that the platform keeps for itself, as those where interrupts go. Both ends are in it. */
+struct device_window {
+    uint64_t first, last;
+};
+
+/* The windows between frame 1 and `last`, which is lowered to the last frame that may be mapped at all. VFIO tells the
+ * ranges that may be mapped; what lies between two of them is a window. Answers how many, or -1, also where there is no
+ * room for all. */
+static inline int device_windows(struct device *device, uint64_t *last, struct device_window *windows, int room) {
+    union {
+        struct vfio_iommu_type1_info info;
+        uint8_t bytes[4 * FRAME];
+    } told = {.info.argsz = sizeof told};
+    struct vfio_iommu_type1_info_cap_iova_range cap; /* it and what is behind it may lie at any address */
+    struct vfio_iova_range range;
+    int failed = ioctl(device->container, VFIO_IOMMU_GET_INFO, &told);
+    uint32_t at = !failed && told.info.flags & VFIO_IOMMU_INFO_CAPS ? told.info.cap_offset : 0;
+    uint64_t next = 1;
+    int count = 0;
+    for (; at; at = cap.header.next) {
+        memcpy(&cap, told.bytes + at, sizeof cap);
+        if (cap.header.id == VFIO_IOMMU_TYPE1_INFO_CAP_IOVA_RANGE)
+            break;
+    }
+    for (uint32_t which = 0; at && which < cap.nr_iovas && next <= *last; which++) {
+        memcpy(&range, told.bytes + at + sizeof cap + which * sizeof range, sizeof range);
+        uint64_t first = (range.start + (FRAME - 1)) / FRAME;
+        if (first > next && count == room)
+            return -1;
+        if (first > next)
+            windows[count++] = (struct device_window){next, first - 1 < *last ? first - 1 : *last};
+        next = (range.end - (FRAME - 1)) / FRAME + 1;
+    }
+    *last = next - 1 < *last ? next - 1 : *last;
+    return at && *last ? count : -1;
 }
 
 /* Maps memory at an address for the device. EEXIST: something is mapped there. */

@@ -1,17 +1,21 @@
 /* A driver in its own process: VFIO has the page tables, and libiova says which addresses to map.
  *
- *     driver ADDRESS MASK [BUFFERS [LOG]]
+ *     driver [--cached] ADDRESS MASK [BUFFERS [LOG]]
  *
  * ADDRESS is that of an `edu` on the PCI bus, which vfio-pci has; MASK is the last byte that the device reaches, as
  * 0xfffffff. The driver posts so many buffers (10,000) of 1 to 32 pages and takes them back, a batch at a time, while
  * others stay posted. Of each hundredth the device reads a piece and writes it elsewhere in the same buffer. At each
  * thousandth the device is told to use an address that was given up: that has to be a fault of the IOMMU. What was
  * mapped, unmapped and flushed is written to LOG, which `iovad check` reads, and counts go to standard output.
+ *
+ * With --cached addresses come from a cache (iova_shared.h), as they do for each thread of a driver that has several. It
+ * flushes by itself where 255 buffers that were given up wait.
  */
 #define _GNU_SOURCE
 #include "device.h"
 
 #include <iova.h>
+#include <iova_shared.h>
 
 enum {
     POSTED = 512,        /* buffers that are posted at a time */
@@ -21,6 +25,7 @@ enum {
     PROVOKED = 1000,     /* one of so many addresses is used after it was given up */
     HALF = FRAME / 2,    /* where in a page the device writes */
     PIECE = HALF - 1,    /* so many bytes */
+    WINDOWS = 64,
 };
 
 struct buffer {
@@ -32,6 +37,9 @@ struct driver {
     struct device device;
     iova_domain *domain;
     uint64_t client, mask;
+    int is_cached;
+    iova_shared shared;
+    iova_shared_cache cache;
     struct buffer buffers[POSTED];
     uint8_t *pool;
     uint8_t *known; /* of each frame, whether it was given before */
@@ -49,29 +57,52 @@ static void note(struct driver *driver, const char *what, const struct buffer *b
         fprintf(driver->log, "%s %" PRIu64 " %" PRIu64 "\n", what, buffer->address / FRAME, buffer->bytes / FRAME);
 }
 
+/* A flush, between its begin and its end: VFIO has emptied the IOTLB of what was unmapped at each unmap, so there is
+ * nothing to do. */
+static int invalidate(void *with) {
+    struct driver *driver = with;
+    driver->flushes++;
+    if (driver->log)
+        fprintf(driver->log, "begin %" PRIu64 "\nend %" PRIu64 " ok\n", driver->flushes, driver->flushes);
+    return 1;
+}
+
+/* Whoever is given addresses: a client of the domain, or a cache, which has one. */
+static uint64_t open_client(struct driver *driver) {
+    if (driver->is_cached) {
+        uint64_t refused = iova_shared_init(&driver->shared, driver->domain, invalidate, driver);
+        return refused ? refused : iova_shared_open(&driver->cache, &driver->shared, 0, 0);
+    }
+    iova_number opened = iova_open(driver->domain, 0, 0);
+    driver->client = opened.number;
+    return opened.refused;
+}
+
+static iova_mapping take_address(struct driver *driver, uint64_t bytes) {
+    if (driver->is_cached)
+        return iova_shared_map(&driver->cache, bytes, driver->mask);
+    return iova_map(driver->domain, 0, driver->client, bytes, driver->mask);
+}
+
+static iova_mapping give_up_address(struct driver *driver, uint64_t address) {
+    if (driver->is_cached)
+        return iova_shared_unmap_bytes(&driver->cache, address);
+    return iova_unmap_bytes(driver->domain, 0, driver->client, address);
+}
+
 /* The domain: the frames that the device reaches, but for the windows that the platform keeps for itself. */
 static int make_domain(struct driver *driver) {
-    char path[128], line[128];
-    uint64_t first, end, last = (driver->mask - (FRAME - 1)) / FRAME;
+    struct device_window windows[WINDOWS];
+    uint64_t last = (driver->mask - (FRAME - 1)) / FRAME;
+    int count = device_windows(&driver->device, &last, windows, WINDOWS);
     driver->domain = iova_domain_new();
-    uint64_t refused = driver->domain ? iova_domain_make(driver->domain, 1, last, 1) : IOVA_NO_MEMORY;
-    snprintf(path, sizeof path, "/sys/kernel/iommu_groups/%s/reserved_regions", driver->device.number);
-    FILE *regions = fopen(path, "r");
-    if (!regions)
-        return fails(path, 0);
-    while (!refused && fgets(line, sizeof line, regions)) {
-        if (sscanf(line, "%" SCNx64 " %" SCNx64, &first, &end) != 2)
-            continue;
-        uint64_t lo = first < FRAME ? 1 : first / FRAME, hi = end / FRAME < last ? end / FRAME : last;
-        if (lo <= hi)
-            refused = iova_reserve(driver->domain, lo, hi).refused;
-    }
-    fclose(regions);
-    if (!refused) {
-        iova_number opened = iova_open(driver->domain, 0, 0);
-        driver->client = opened.number;
-        refused = opened.refused;
-    }
+    uint64_t refused = count < 0 ? IOVA_BAD_WINDOW : driver->domain ? 0 : IOVA_NO_MEMORY;
+    if (!refused)
+        refused = iova_domain_make(driver->domain, 1, last, 1);
+    for (int at = 0; at < count && !refused; at++)
+        refused = iova_reserve(driver->domain, windows[at].first, windows[at].last).refused;
+    if (!refused)
+        refused = open_client(driver);
     driver->known = calloc(last + 1, 1);
     if (driver->log)
         fprintf(driver->log, "iovalog 1 1 %" PRIu64 "\n", last);
@@ -98,7 +129,7 @@ static uint64_t marks_that_changed(const struct buffer *buffer) {
 
 /* An address first, then the page table: the device may use the buffer from now on. */
 static int post(struct driver *driver, struct buffer *buffer, uint64_t number, uint64_t pages) {
-    iova_mapping given = iova_map(driver->domain, 0, driver->client, pages * FRAME, driver->mask);
+    iova_mapping given = take_address(driver, pages * FRAME);
     if (given.refused)
         return fails("an address", given.refused);
     *buffer = (struct buffer){buffer->memory, number, given.address, pages * FRAME};
@@ -143,23 +174,21 @@ static int give_up_all(struct driver *driver, struct buffer *batch) {
     for (struct buffer *buffer = batch; buffer < batch + BATCH; buffer++) {
         if (!buffer->bytes)
             continue;
-        iova_mapping given_up = iova_unmap_bytes(driver->domain, 0, driver->client, buffer->address);
+        iova_mapping given_up = give_up_address(driver, buffer->address);
         if (given_up.refused)
             return fails("give up", given_up.refused);
     }
     return 0;
 }
 
-/* What was given up before may be given again after this. VFIO has emptied the IOTLB of it at each unmap, so between
- * begin and end there is nothing to do. */
+/* What was given up before may be given again after this. A cache flushes by itself. */
 static int flush(struct driver *driver) {
+    if (driver->is_cached)
+        return 0;
     iova_number begun = iova_begin(driver->domain);
-    uint64_t refused = begun.refused ? begun.refused : iova_end(driver->domain, begun.number, 1);
+    uint64_t refused = begun.refused ? begun.refused : iova_end(driver->domain, begun.number, invalidate(driver));
     if (!refused)
         refused = iova_drain(driver->domain, 0, 0).refused;
-    if (driver->log)
-        fprintf(driver->log, "begin %" PRIu64 "\nend %" PRIu64 " ok\n", begun.number, begun.number);
-    driver->flushes++;
     return refused ? fails("flush", refused) : 0;
 }
 
@@ -199,10 +228,14 @@ static int run(struct driver *driver, uint64_t buffers) {
 
 int main(int argc, char **words) {
     static struct driver driver;
+    if (argc > 1 && !strcmp(words[1], "--cached")) {
+        driver.is_cached = 1;
+        argc--, words++;
+    }
     uint64_t buffers = argc > 3 ? strtoull(words[3], NULL, 0) : 10000;
     driver.mask = argc > 2 ? strtoull(words[2], NULL, 0) : 0;
     if (argc < 3 || argc > 5 || driver.mask < 2 * FRAME || driver.mask > UINT32_MAX) {
-        fprintf(stderr, "usage: driver ADDRESS MASK [BUFFERS [LOG]]\n");
+        fprintf(stderr, "usage: driver [--cached] ADDRESS MASK [BUFFERS [LOG]]\n");
         return 2;
     }
     size_t size = (size_t)POSTED * PAGES * FRAME;
@@ -213,6 +246,10 @@ int main(int argc, char **words) {
         driver.buffers[at].memory = driver.pool + (size_t)at * PAGES * FRAME;
     int failed = device_open(&driver.device, words[1]) || make_domain(&driver) || run(&driver, buffers);
     device_close(&driver.device);
+    if (driver.cache.shared) {
+        iova_shared_close(&driver.cache);
+        iova_shared_clear(&driver.shared);
+    }
     iova_domain_free(driver.domain);
     free(driver.known);
     munmap(driver.pool, size);

@@ -320,7 +320,8 @@ static void broken(void) {
 
 int main(void) {
     static const char *const names[] = {"BadPath",   "NoDaemon", "Broken", "Ended",
-                                        "Malformed", "Full",     "Busy",   "NotAsked", "TimedOut"};
+                                        "Malformed", "Full",     "Busy",   "NotAsked", "TimedOut",
+                                        "Strict",    "NoRoom"};
     requests(0);
     requests(4096);
     requests(7);
@@ -331,8 +332,10 @@ int main(void) {
     in_flight();
     broken();
     for (uint64_t error = 0; error <= UINT16_MAX; error++) {
-        int is_own = error >= IOVAD_BAD_PATH && error <= IOVAD_TIMED_OUT;
-        const char *name = is_own ? names[error - IOVAD_BAD_PATH] : error == IOVA_OTHER_VERSION ? "" : iova_refusal_name(error);
+        int is_own = error >= IOVAD_BAD_PATH && error <= IOVAD_NO_ROOM;
+        const char *name = is_own ? names[error - IOVAD_BAD_PATH] : "";
+        if (error < IOVAD_BAD_PATH)
+            name = iova_refusal_name(error);
         want("a name", (uint64_t)strcmp(iovad_error_name(error), name), 0);
     }
     return bad;

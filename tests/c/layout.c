@@ -47,6 +47,11 @@ AT(iova_flushes, in_flight, 6);
 SAME(sizeof(iova_listed) == 16);
 AT(iova_listed, lo, 0);
 AT(iova_listed, len, 1);
+SAME(sizeof(iova_cache) == IOVA_CACHE_BYTES);
+SAME(sizeof(iova_cache_counts) == 72);
+AT(iova_cache_counts, held, 1);
+AT(iova_cache_counts, waiting, 2);
+AT(iova_cache_counts, magazines, 3);
 
 static int bad;
 
@@ -60,11 +65,13 @@ static void check(const char *what, int is_so) {
 int main(void) {
     static const size_t sizes[] = {sizeof(iova_domain), sizeof(iova_range),  sizeof(iova_number), sizeof(iova_mapping),
                                    sizeof(iova_place),  sizeof(iova_counts), sizeof(iova_totals), sizeof(iova_client),
-                                   sizeof(iova_bounds), sizeof(iova_flushes), sizeof(iova_listed)};
+                                   sizeof(iova_bounds), sizeof(iova_flushes), sizeof(iova_listed), sizeof(iova_cache),
+                                   sizeof(iova_cache_counts)};
     const uint64_t types = sizeof sizes / sizeof sizes[0];
     check("the size of a domain", iova_domain_size() <= sizes[0] && iova_type_size(0) == iova_domain_size());
+    check("the size of a cache", iova_cache_size() <= sizeof(iova_cache) && iova_type_size(11) == iova_cache_size());
     for (uint64_t type = 1; type < types; type++)
-        check("the size of a type", iova_type_size(type) == sizes[type]);
+        check("the size of a type", type == 11 || iova_type_size(type) == sizes[type]);
     check("no type more", iova_type_size(types) == 0 && iova_type_size(UINT64_MAX) == 0);
 
     /* the version, and which versions of a program it serves */
@@ -76,9 +83,13 @@ int main(void) {
 
     /* each name of a number that the library knows, and none beside them but the header's own */
     for (uint64_t number = 0; number < 1000; number++) {
-        if (number == IOVA_OTHER_VERSION)
-            continue;
         uint8_t text[16];
+        if (number >= IOVA_OTHER_VERSION && number <= IOVA_FULL) { /* the header's, and perhaps the library's */
+            const char *own = iova_refusal_name(number);
+            uint64_t told = iova_refusal_text(number, text, sizeof text);
+            check("a name of the header's own", told == 0 || (told == strlen(own) && !memcmp(text, own, told)));
+            continue;
+        }
         memset(text, 'x', sizeof text);
         const char *name = iova_refusal_name(number);
         size_t length = strlen(name);
@@ -89,7 +100,8 @@ int main(void) {
     uint8_t front[4] = {'x', 'x', 'x', 'x'};
     check("a name that has no room", iova_refusal_text(IOVA_NO_SPACE, front, 3) == 7 && memcmp(front, "NoSx", 4) == 0);
     check("names are at their numbers", strcmp(iova_refusal_name(IOVA_NO_SPACE), "NoSpace") == 0 &&
-                                            strcmp(iova_refusal_name(IOVA_BAD_PROFILE), "BadProfile") == 0);
+                                            strcmp(iova_refusal_name(IOVA_BAD_PROFILE), "BadProfile") == 0 &&
+                                            strcmp(iova_refusal_name(IOVA_DRY), "Dry") == 0);
 
     /* each place has its kind, and each refusal that a domain of one frame can answer its number */
     static iova_domain domain;

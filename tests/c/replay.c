@@ -1,10 +1,8 @@
 /* Replays a trace from standard input through the library, and prints what `iovad replay` prints: a reply a line, and with the word
  * --report the domain's report behind them. A bad line ends it with status 3 and its number on standard error. */
-#include "iova.h"
+#include "replies.h"
 
-#include <inttypes.h>
 #include <stdbool.h>
-#include <stdio.h>
 #include <string.h>
 
 #define MAX_LINE 128
@@ -74,24 +72,6 @@ static bool header(const struct line *line, iova_domain *domain) {
     return v[0] == 2 && numbers(line, 5, v) && iova_domain_make_second(domain, v[1], v[2], v[3], v[4]) == 0;
 }
 
-static void refused(uint64_t refusal) { printf("no %" PRIu64 " %s\n", refusal, iova_refusal_name(refusal)); }
-
-static void told_number(const char *name, iova_number answer) {
-    if (answer.refused)
-        refused(answer.refused);
-    else
-        printf("%s %" PRIu64 "\n", name, answer.number);
-}
-
-static void told_range(const char *name, iova_range answer) {
-    if (answer.refused)
-        refused(answer.refused);
-    else if (answer.len == 0)
-        puts("empty");
-    else
-        printf("%s %" PRIu64 " %" PRIu64 "\n", name, answer.lo, answer.len);
-}
-
 /* Runs the step of the line and prints its reply, or answers that it is no step's. */
 static bool step(const struct line *line, iova_domain *domain) {
     const char *word = line->word[0];
@@ -102,72 +82,49 @@ static bool step(const struct line *line, iova_domain *domain) {
             return false;
         iova_range window = iova_reserve(domain, v[0], v[1]);
         if (window.refused)
-            refused(window.refused);
+            told_refusal(stdout, window.refused);
         else
             printf("reserved %" PRIu64 " %" PRIu64 "\n", window.lo, window.lo + (window.len - 1));
     } else if (strcmp(word, "open") == 0) {
         if (!either(line, "sac", "dac", &first) || !number(line->word[1], v))
             return false;
-        told_number("opened", iova_open(domain, v[0], first));
+        told_number(stdout, "opened", iova_open(domain, v[0], first));
     } else if (strcmp(word, "alloc") == 0) {
         if (!numbers(line, 4, v))
             return false;
-        told_range("given", iova_alloc(domain, v[0], v[1], v[2], v[3]));
+        told_range(stdout, "given", iova_alloc(domain, v[0], v[1], v[2], v[3]));
     } else if (strcmp(word, "unmap") == 0) {
         if (!numbers(line, 3, v))
             return false;
-        told_range("queued", iova_unmap(domain, v[0], v[1], v[2]));
+        told_range(stdout, "queued", iova_unmap(domain, v[0], v[1], v[2]));
     } else if (strcmp(word, "begin") == 0) {
         if (!numbers(line, 0, v))
             return false;
-        told_number("begun", iova_begin(domain));
+        told_number(stdout, "begun", iova_begin(domain));
     } else if (strcmp(word, "end") == 0) {
         if (!either(line, "ok", "fail", &first) || !number(line->word[1], v))
             return false;
         uint64_t refusal = iova_end(domain, v[0], first);
         if (refusal)
-            refused(refusal);
+            told_refusal(stdout, refusal);
         else
             puts("ended");
     } else if (strcmp(word, "drain") == 0) {
         if (!numbers(line, 2, v))
             return false;
-        told_number("drained", iova_drain(domain, v[0], v[1]));
+        told_number(stdout, "drained", iova_drain(domain, v[0], v[1]));
     } else if (strcmp(word, "close") == 0) {
         if (!numbers(line, 2, v))
             return false;
-        told_number("marked", iova_close(domain, v[0], v[1]));
+        told_number(stdout, "marked", iova_close(domain, v[0], v[1]));
     } else if (strcmp(word, "closeone") == 0) {
         if (!numbers(line, 2, v))
             return false;
-        told_range("queued", iova_close_one(domain, v[0], v[1]));
+        told_range(stdout, "queued", iova_close_one(domain, v[0], v[1]));
     } else {
         return false;
     }
     return true;
-}
-
-static void row(const char *name, uint64_t value) { printf("%-10s%20" PRIu64 "\n", name, value); }
-
-static void report(iova_domain *domain) {
-    iova_counts counts = iova_counts_of(domain);
-    iova_flushes flushes = iova_flushes_of(domain);
-    iova_listed windows[64];
-    row("free", counts.free);
-    row("reserved", counts.reserved);
-    row("client", counts.client);
-    row("magazine", counts.magazine);
-    row("depot", counts.depot);
-    row("ring", counts.ring);
-    row("clients", counts.clients);
-    row("holdings", iova_totals_of(domain).count);
-    row("start", flushes.start);
-    row("finish", flushes.finish);
-    row("owed", flushes.owed);
-    row("flights", flushes.in_flight);
-    uint64_t count = iova_windows_of(domain, windows, 64).number;
-    for (uint64_t at = 0; at < count; at++)
-        printf("%-10s%20" PRIu64 "%20" PRIu64 "\n", "window", windows[at].lo, windows[at].lo + (windows[at].len - 1));
 }
 
 int main(int argc, char **argv) {
@@ -189,7 +146,7 @@ int main(int argc, char **argv) {
                   (lines == 1 ? header(&line, domain) : step(&line, domain));
     }
     if (is_good && argc > 1 && strcmp(argv[1], "--report") == 0)
-        report(domain);
+        told_report(stdout, domain);
     iova_domain_free(domain);
     if (!is_good) {
         fflush(stdout);

@@ -52,8 +52,9 @@ extern "C" {
 #define IOVA_NO_MASK UINT64_MAX
 
 /* Why a call is refused: what `refused` of an answer is. The library answers IOVA_ZERO to IOVA_NO_MEMORY, IOVA_NO_DOMAIN and
- * IOVA_BAD_PROFILE; the other numbers below 100 are those of the service's sessions, and IOVA_OTHER_VERSION is this header's. A
- * call that is refused has changed nothing, but for what is said at iova_alloc and iova_close_one. */
+ * IOVA_BAD_PROFILE, and of a cache IOVA_NO_CACHE to IOVA_FULL; the other numbers below 100 are those of the service's sessions,
+ * and IOVA_OTHER_VERSION is this header's. A call that is refused has changed nothing, but for what is said at iova_alloc,
+ * iova_close_one and iova_cache_end. */
 enum iova_refusal {
     IOVA_NOT_REFUSED = 0,
     IOVA_ZERO = 1,          /* no frame was asked for */
@@ -81,7 +82,12 @@ enum iova_refusal {
     IOVA_NO_DOMAIN = 23,    /* no domain was made in this room, or it was cleared */
     IOVA_TWICE = 24,        /* sessions: a second hello */
     IOVA_BAD_PROFILE = 25,  /* a depot of more than 32 was asked for */
-    IOVA_OTHER_VERSION = 200 /* with IOVA_BUILT_FOR: the library doesn't serve a program of that version */
+    IOVA_OTHER_VERSION = 200, /* with IOVA_BUILT_FOR: the library doesn't serve a program of that version */
+    IOVA_NO_CACHE = 201,      /* caches: no cache was made in this room, or it was ended or cleared */
+    IOVA_NO_ORDER = 202,      /* caches: not a length of magazines, which have ranges of 1, 2, 4, 8, 16 and 32 frames */
+    IOVA_DRY = 203,           /* caches: the magazine of that length is empty */
+    IOVA_MISS = 204,          /* caches: they have ranges, and the newest has a frame above the limit */
+    IOVA_FULL = 205           /* caches: the magazine of that length is full */
 };
 
 /* The refusal's name as iovad prints it, one word: "NoSpace" for IOVA_NO_SPACE; "" for 0 and for numbers that none has. */
@@ -92,8 +98,9 @@ static inline const char *iova_refusal_name(uint64_t refused) {
         "NoFlight",   "Worn",        "ClientsFull", "NoMemory",  "SinkFault", "LinkFault",  "BadLine",
         "TooMany",    "BadTrace",    "NoDomain",  "Twice",       "BadProfile",
     };
-    if (refused == IOVA_OTHER_VERSION)
-        return "OtherVersion";
+    static const char *const more[] = {"OtherVersion", "NoCache", "NoOrder", "Dry", "Miss", "Full"};
+    if (refused >= IOVA_OTHER_VERSION && refused <= IOVA_FULL)
+        return more[refused - IOVA_OTHER_VERSION];
     return refused < sizeof names / sizeof names[0] ? names[refused] : "";
 }
 
@@ -299,9 +306,135 @@ iova_number iova_holdings_of(iova_domain *domain, uint64_t client, iova_listed *
 /* The same of the windows, of which there are at most 64. */
 iova_number iova_windows_of(iova_domain *domain, iova_listed *list, size_t room);
 
+/* A cache of ranges in front of a domain, for one thread at a time: most of what the thread takes and gives up it does here,
+ * without the domain and without a lock. To its domain a cache is one client, and all its ranges are that client's. Each is at
+ * one of three places: in a magazine, where nobody has it; with the user; or in the cache's ring, where it waits for a flush
+ * that began after it was given up and ended well. So a range goes
+ *
+ *   domain -> (refill) magazine -> (alloc) user -> (unmap) ring -> (settle) magazine -> (spill) domain
+ *
+ * There are magazines of six orders: order 0 has ranges of 1 frame, order 5 those of 32, each 256 at most. The ring has 255.
+ *
+ *   iova_cache cache;
+ *   iova_cache_init(&cache);
+ *   iova_cache_make(domain, &cache, 0, 0);                            under the domain's lock, as all that takes both
+ *   iova_range range = iova_cache_alloc(&cache, 4, IOVA_NO_LIMIT);    IOVA_DRY: settle, then refill, and again
+ *   .. map, let the device use it, unmap ..
+ *   iova_cache_unmap(&cache, range.lo, start);                        IOVA_RING_FULL: flush, then settle, and again
+ *   iova_cache_settle(&cache, newest);
+ *
+ * What a program owes, beside what it owes for a domain, of which the rules on room and moving hold for a cache:
+ *  - one call at a time works on a cache, and with a domain it's a call on that domain too: under the domain's lock;
+ *  - `domain` is the one that the cache was made with;
+ *  - `start` is no less than the number of any flush that had begun when the device's mapping was cleared for all to see; so it
+ *    is read behind that and behind a full fence, of what iova_flushes_of calls `start`. A number that is read late is sound;
+ *  - `newest` is the number of a flush that ended well, or 0: of what iova_flushes_of calls `newest`, or an older one;
+ *  - the client's ranges are given up through the cache, and no other cache or call has them.
+ * iova_shared.h has a lock and the two numbers for the threads of a process, and iova_client.h a cache over the daemon. */
+
+/* Room for one cache, as iova_domain is for a domain. */
+#define IOVA_CACHE_BYTES 512
+typedef struct iova_cache {
+    uint64_t opaque[IOVA_CACHE_BYTES / 8];
+} iova_cache;
+
+/* How many ranges of a cache are where: with the user, in the ring, and in the magazines of each order. */
+typedef struct iova_cache_counts {
+    uint64_t refused, held, waiting, magazines[6];
+} iova_cache_counts;
+
+/* How many bytes a cache needs: at most IOVA_CACHE_BYTES. What it holds grows by malloc beside it. */
+size_t iova_cache_size(void);
+
+/* Makes the room ready: there is no cache in it yet, and every other call on it is refused by IOVA_NO_CACHE. Takes no memory. In
+ * room that has a cache, call iova_cache_end or iova_cache_clear first. */
+void iova_cache_init(iova_cache *cache);
+
+/* Makes a cache with no range in the room, of a new client of the worker, and answers the client's number. `sac` as for
+ * iova_open: frames above 4 GiB are given only by the domain, where it has none below. Refusals, and then what was there stays:
+ * IOVA_NO_DOMAIN, and those of iova_open. A cache that is there is let go, and its client keeps what it has. */
+iova_number iova_cache_make(iova_domain *domain, iova_cache *cache, uint64_t worker, uint64_t sac);
+
+/* Makes a cache whose domain is elsewhere, as that of a client of the daemon: its ranges come by iova_cache_put and
+ * iova_cache_keep, and go by iova_cache_take and iova_cache_release. Calls that take a domain are refused by IOVA_NO_CLIENT.
+ * Answers 0, or IOVA_NO_MEMORY, and then what was there stays. */
+uint64_t iova_cache_apart(iova_cache *cache, uint64_t sac);
+
+/* Lets the cache go and gives its memory back, whatever it has. The room is as after iova_cache_init. */
+void iova_cache_clear(iova_cache *cache);
+
+/* Gives the user the newest range of the magazines, for 1 to 32 frames, rounded up to a power of two: none of its frames is
+ * above frame `limit`. Takes memory only where what the user holds has to grow. Refusals: IOVA_NO_ORDER (0 frames, or more than
+ * 32: iova_cache_alloc_by), IOVA_MISS, IOVA_DRY, IOVA_NO_MEMORY. */
+iova_range iova_cache_alloc(iova_cache *cache, uint64_t frames, uint64_t limit);
+
+/* The user gives up the range that begins at frame `lo`: the device has stopped using it, and its mapping is gone. It goes last
+ * into the ring, with the number `start` of the last flush that had begun. Takes no memory. Refusals: IOVA_NOT_HELD exactly where
+ * the user holds no range that begins there; then IOVA_NO_ORDER exactly where that range has no magazines, and goes by
+ * iova_cache_unmap_by; then IOVA_RING_FULL exactly where 255 wait. */
+iova_range iova_cache_unmap(iova_cache *cache, uint64_t lo, uint64_t start);
+
+/* iova_cache_alloc in bytes, as iova_map is iova_alloc. The same refusals; a mask below 8,191 is IOVA_MISS, if not IOVA_DRY. */
+iova_mapping iova_cache_map(iova_cache *cache, uint64_t bytes, uint64_t dma_mask);
+
+/* iova_cache_unmap of the range in whose first frame `address` is. The answer is the whole range. */
+iova_mapping iova_cache_unmap_bytes(iova_cache *cache, uint64_t address, uint64_t start);
+
+/* Takes what a flush has covered out of the ring into the magazines, oldest first, and answers how many ranges: each whose
+ * number is below `newest`, until one finds its magazines full, which stays as do those behind it. */
+iova_number iova_cache_settle(iova_cache *cache, uint64_t newest);
+
+/* Gives the magazines ranges of the domain for 1 to 32 frames, none with a frame above `limit`: up to `most`, 64 and what there
+ * is room for, each by one iova_alloc. Answers how many; 0 only where `most` is 0 or there is no room. Where the domain refuses
+ * one, that ends it: the first one's refusal is the answer, and behind the first it's how many came. IOVA_NO_DOMAIN, IOVA_ZERO,
+ * IOVA_TOO_BIG (more than 32 frames), and those of iova_alloc. */
+iova_number iova_cache_refill(iova_domain *domain, iova_cache *cache, uint64_t frames, uint64_t limit, uint64_t most);
+
+/* Gives ranges of the magazines of an order back to the domain, in whose ring they wait for a flush: the newest, up to `most`, 64
+ * and what there are, each by one iova_unmap. Answers how many; 0 only where `most` is 0 or there is none. One that the domain
+ * refuses is back in its magazine, and that ends it: as for iova_cache_refill. Takes no memory. IOVA_NO_DOMAIN, IOVA_NO_ORDER
+ * (more than 5), and those of iova_unmap. */
+iova_number iova_cache_spill(iova_domain *domain, iova_cache *cache, uint64_t order, uint64_t most);
+
+/* Gives the user a range of the domain: of more than 32 frames, or one that the magazines don't have. IOVA_NO_DOMAIN, and those
+ * of iova_alloc. */
+iova_range iova_cache_alloc_by(iova_domain *domain, iova_cache *cache, uint64_t frames, uint64_t limit);
+
+/* The user gives up the range that begins at frame `lo`, of any length, and it waits in the ring of the domain, not the cache's.
+ * IOVA_NO_DOMAIN, IOVA_NOT_HELD as for iova_cache_unmap, and those of iova_unmap. */
+iova_range iova_cache_unmap_by(iova_domain *domain, iova_cache *cache, uint64_t lo);
+
+/* Ends the cache, whatever is answered: the room is as after iova_cache_init. Its client is marked closing, and holds all that
+ * the cache had and all that the user held; call iova_close_one until it is gone. Answers how many ranges that are.
+ * IOVA_NO_DOMAIN, and those of iova_close. */
+iova_number iova_cache_end(iova_domain *domain, iova_cache *cache);
+
+/* How many ranges are where. It walks over what the user holds. */
+iova_cache_counts iova_cache_counts_of(iova_cache *cache);
+
+/* For a cache whose domain is elsewhere. */
+
+/* A range of its domain goes into the magazines, as the newest. Answers 0, or a refusal: IOVA_NO_ORDER, IOVA_BAD_WINDOW where
+ * `lo` is 2^40 or more, IOVA_FULL. */
+uint64_t iova_cache_put(iova_cache *cache, uint64_t lo, uint64_t len);
+
+/* The newest range of the magazines of an order goes out of the cache. IOVA_NO_ORDER (more than 5), IOVA_DRY. */
+iova_range iova_cache_take(iova_cache *cache, uint64_t order);
+
+/* A range of its domain goes to the user. Answers 0, or a refusal: IOVA_BAD_WINDOW where `lo` is 2^40 or more, or `len` isn't what
+ * a domain gives: 1 to 1,048,576 frames, and up to 32 a power of two; IOVA_NO_MEMORY. */
+uint64_t iova_cache_keep(iova_cache *cache, uint64_t lo, uint64_t len);
+
+/* The range that begins at frame `lo` goes from the user out of the cache. IOVA_NOT_HELD. */
+iova_range iova_cache_release(iova_cache *cache, uint64_t lo);
+
+/* Some range of the user goes out of the cache. `len` is 0 exactly where the user holds none. So it lists what a lost session
+ * takes from the user; what is in magazines and ring goes by iova_cache_clear. */
+iova_range iova_cache_any(iova_cache *cache);
+
 /* The bytes of a type of this header in the library, by its place here: 0 iova_domain at most, 1 iova_range, 2 iova_number, 3
- * iova_mapping, 4 iova_place, 5 iova_counts, 6 iova_totals, 7 iova_client, 8 iova_bounds, 9 iova_flushes, 10 iova_listed; else
- * 0. */
+ * iova_mapping, 4 iova_place, 5 iova_counts, 6 iova_totals, 7 iova_client, 8 iova_bounds, 9 iova_flushes, 10 iova_listed, 11
+ * iova_cache at most, 12 iova_cache_counts; else 0. */
 uint64_t iova_type_size(uint64_t type);
 
 /* A program that says which version it was built for, by

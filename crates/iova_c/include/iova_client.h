@@ -1,5 +1,6 @@
 /* iova_client.h: a client of the daemon `iovad serve`, over its Unix socket. One file, header and code: nothing is
- * linked, and no memory is taken. It goes together with iova.h or without it, and as C11 or C++17.
+ * linked, and no memory is taken. It goes together with iova.h or without it, and as C11 or C++17. Where iova.h comes
+ * before it there are caches too, iovad_cache_open and so on at its end, for which -liova is linked.
  *
  *   iovad_session session;
  *   iovad_opened opened = iovad_open(&session, "/tmp/iovad.socket", 0, 0);      domain 0, any address
@@ -69,7 +70,9 @@ enum iovad_error {
     IOVAD_FULL = 105,      /* 16 requests are in flight: take an answer first */
     IOVAD_BUSY = 106,      /* a call that waits, while requests are in flight: take their answers first */
     IOVAD_NOT_ASKED = 107, /* no such request is the next whose answer comes */
-    IOVAD_TIMED_OUT = 108  /* no connection, or no answer, within the time: errno is ETIMEDOUT */
+    IOVAD_TIMED_OUT = 108, /* no connection, or no answer, within the time: errno is ETIMEDOUT */
+    IOVAD_STRICT = 109,    /* caches: the domain is strict, and a cache isn't for it */
+    IOVAD_NO_ROOM = 110    /* caches: the list is shorter than what is lost */
 };
 
 /* The answer to `hello`: the client's number. */
@@ -126,7 +129,7 @@ static inline const char *iovad_error_name(uint64_t error) {
         "TooMany",   "BadTrace", "NoDomain",    "Twice",       "BadProfile",
     };
     static const char *const own[] = {"BadPath", "NoDaemon", "Broken", "Ended",
-                                      "Malformed", "Full", "Busy", "NotAsked", "TimedOut"};
+                                      "Malformed", "Full", "Busy", "NotAsked", "TimedOut", "Strict", "NoRoom"};
     if (error < sizeof refusals / sizeof refusals[0])
         return refusals[error];
     if (error >= IOVAD_BAD_PATH && error - IOVAD_BAD_PATH < sizeof own / sizeof own[0])
@@ -422,8 +425,8 @@ static inline void iovad_own_bound(int fd, int seconds, int microseconds) {
 }
 
 /* Connects to the daemon at the path, within so many milliseconds; below 0, as long as it takes, which is long where
- * the daemon's queue is full. IOVAD_BAD_PATH, IOVAD_NO_DAEMON, IOVAD_TIMED_OUT. Then `hello` is to be asked: each answer
- * has as long, or what iovad_within says. */
+ * the daemon's queue is full. IOVAD_BAD_PATH, IOVAD_NO_DAEMON, IOVAD_TIMED_OUT. Then `hello` is to be asked: each
+ * answer has as long, or what iovad_within says. */
 static inline uint64_t iovad_connect_within(iovad_session *session, const char *path, int milliseconds) {
     struct sockaddr_un to;
     size_t length = strlen(path);
@@ -671,6 +674,441 @@ static inline uint64_t iovad_bye(iovad_session *session) {
     iovad_close(session);
     return error;
 }
+
+#ifdef IOVA_H
+
+/* A cache of ranges before a session, for one thread at a time: most requests and frees are met here, at the speed of
+ * memory, and the daemon is asked for 64 ranges by requests in flight where there are none, and to flush where half of
+ * 255 ranges that were freed wait. Whatever is in the cache is the client's, as the daemon sees it: its `list` and a
+ * peer's `gone` name it too.
+ *
+ *   #include <iova.h>
+ *   #include <iova_client.h>
+ *
+ *   iovad_cache cache;
+ *   iovad_opened opened = iovad_cache_open(&cache, "/tmp/iovad.socket", 0, 0);
+ *   iovad_range buffer = iovad_cache_alloc(&cache, 3, UINT64_MAX);
+ *   .. map, let the device use it, unmap ..
+ *   iovad_cache_free(&cache, buffer.lo);
+ *   iovad_cache_close(&cache);
+ *
+ * The daemon is started with --session-requests 0: else a session ends after 65,536 requests, and all that the cache
+ * has is lost with it. A cache isn't for a domain that is strict, whose frees are to be flushed when they are
+ * answered: where that is seen iovad_cache_open is refused by IOVAD_STRICT.
+ *
+ * A lost session is told by each call, from the first one on that finds it lost: that is one that asks the daemon. The
+ * daemon gives to others what the client had, once its peer was told of it: iovad_cache_reopen begins a new client,
+ * and lists what the user held.
+ *
+ * What a range that is freed waits for: `begun` counts the flushes that were asked for, and is its number; `ended` is
+ * that of the last one that was answered by `flushed`. A flush begins in the daemon behind its request, so one of a
+ * greater number began after the range was freed here. */
+
+/* A flush is asked for, and not waited for, where so many ranges were freed since the last one that was asked for. */
+#define IOVAD_CACHE_AHEAD 128
+
+/* What is in it is for the functions below alone, but that iovad_within may be called on `session`. */
+typedef struct iovad_cache {
+    iovad_session session;
+    iova_cache ranges;
+    uint64_t begun, ended, since, clean, domain, sac;
+    int is_flushing; /* the answer to the last flush is the next one to come */
+    int milliseconds;
+    char path[sizeof(((struct sockaddr_un *)0)->sun_path)];
+} iovad_cache;
+
+/* How many ranges are where: with the user, waiting for a flush, and here with nobody. */
+typedef struct iovad_cached {
+    uint64_t error, held, waiting, cached;
+} iovad_cached;
+
+#define IOVAD_OWN_LIKELY(is) __builtin_expect(!!(is), 1)
+/* What is seldom called stands apart, so that the rest is short; where nobody calls it it is left out. */
+#ifdef __OPTIMIZE__
+#define IOVAD_OWN_COLD __attribute__((noinline, cold, unused)) static
+#else
+#define IOVAD_OWN_COLD static inline
+#endif
+
+enum { IOVAD_OWN_ORDERS = 6, IOVAD_OWN_MAGAZINE = 256, IOVAD_OWN_RING = 255, IOVAD_OWN_EXCHANGED = 64 };
+
+static inline iovad_range iovad_own_range(uint64_t error, uint64_t lo, uint64_t len) {
+    iovad_range range;
+    range.error = error;
+    range.lo = error ? 0 : lo;
+    range.len = error ? 0 : len;
+    range.freed = 0;
+    return range;
+}
+
+/* Takes the answer to the flush that was asked for, if there is one. */
+static inline uint64_t iovad_own_flushed(iovad_cache *cache) {
+    uint64_t error;
+    if (!cache->is_flushing)
+        return cache->session.lost;
+    error = iovad_take_flush(&cache->session).error;
+    cache->is_flushing = 0;
+    if (!error)
+        cache->ended = cache->begun;
+    return error;
+}
+
+/* Asks for a flush, unless one is on its way. Its number is above that of all that was freed before. */
+IOVAD_OWN_COLD uint64_t iovad_own_ask_flush(iovad_cache *cache) {
+    uint64_t error = cache->is_flushing ? 0 : iovad_ask_flush(&cache->session);
+    if (error || cache->is_flushing)
+        return error;
+    cache->begun++;
+    cache->is_flushing = 1;
+    cache->since = 0;
+    return iovad_send(&cache->session);
+}
+
+/* What flushes have covered leaves the cache's ring. Answers how many ranges. */
+static inline uint64_t iovad_own_settle(iovad_cache *cache) {
+    uint64_t count = iova_cache_settle(&cache->ranges, cache->ended).number;
+    cache->clean = count < cache->clean ? cache->clean - count : 0;
+    return count;
+}
+
+/* A flush of all that waits here, which is waited for. */
+IOVAD_OWN_COLD uint64_t iovad_own_flush(iovad_cache *cache) {
+    uint64_t error;
+    iovad_own_flushed(cache);
+    error = iovad_own_ask_flush(cache);
+    return error ? error : iovad_own_flushed(cache);
+}
+
+/* Fills the magazines by up to so many ranges, of which there were none, by requests in flight. Answers how many, or
+ * the error of the first that wasn't given. */
+IOVAD_OWN_COLD uint64_t iovad_own_refill(iovad_cache *cache, uint64_t frames, uint64_t limit, uint64_t most,
+                                         uint64_t *count) {
+    uint64_t asked = 0, answered = 0, error = 0;
+    *count = 0;
+    for (;;) {
+        for (; asked < most && !error && cache->session.in_flight < IOVAD_IN_FLIGHT; asked++)
+            if ((error = iovad_ask_alloc(&cache->session, frames, limit)))
+                break;
+        iovad_own_flushed(cache);
+        if (answered == asked)
+            return error;
+        iovad_range range = iovad_take_alloc(&cache->session);
+        answered++;
+        if (range.error)
+            error = range.error;
+        else if (iova_cache_put(&cache->ranges, range.lo, range.len))
+            error = iovad_own_lose(&cache->session, IOVAD_MALFORMED); /* no range of a request up to 32 frames */
+        else
+            ++*count;
+    }
+}
+
+/* Gives the daemon ranges of an order back, the newest first, up to so many, by requests in flight. What it refuses is
+ * back in its magazine. Answers how many went. */
+IOVAD_OWN_COLD uint64_t iovad_own_spill(iovad_cache *cache, uint64_t order, uint64_t most) {
+    uint64_t gone = 0;
+    int flushes = 0;
+    while (gone < most) {
+        iova_range taken[IOVAD_IN_FLIGHT];
+        uint64_t asked = 0, went = 0, at, error = iovad_own_flushed(cache) ? cache->session.lost : 0;
+        while (!error && asked < IOVAD_IN_FLIGHT && gone + asked < most) {
+            taken[asked] = iova_cache_take(&cache->ranges, order);
+            if (taken[asked].refused)
+                break;
+            error = iovad_ask_free(&cache->session, taken[asked].lo);
+            if (error)
+                iova_cache_put(&cache->ranges, taken[asked].lo, taken[asked].len);
+            else
+                asked++;
+        }
+        for (at = 0; at < asked; at++) {
+            uint64_t refused = iovad_take_free(&cache->session).error;
+            if (refused)
+                iova_cache_put(&cache->ranges, taken[at].lo, taken[at].len);
+            else
+                went++;
+            error = refused ? refused : error;
+        }
+        gone += went;
+        flushes = went ? 0 : flushes + 1;
+        if (asked == 0 || (error && (error != IOVA_RING_FULL || flushes > 4 || iovad_own_flush(cache))))
+            break;
+    }
+    return gone;
+}
+
+/* Gives back all that nobody uses and that waits for no flush. */
+IOVAD_OWN_COLD void iovad_own_give_back(iovad_cache *cache) {
+    uint64_t moved = 1, order;
+    while (moved) {
+        iovad_own_settle(cache);
+        for (moved = 0, order = 0; order < IOVAD_OWN_ORDERS; order++)
+            moved += iovad_own_spill(cache, order, UINT64_MAX);
+    }
+}
+
+/* A range of more than 32 frames, or one that the magazines don't have. */
+IOVAD_OWN_COLD iovad_range iovad_own_alloc_by(iovad_cache *cache, uint64_t frames, uint64_t limit) {
+    iovad_range range;
+    iovad_own_flushed(cache);
+    range = iovad_alloc(&cache->session, frames, limit);
+    if (!range.error && iova_cache_keep(&cache->ranges, range.lo, range.len)) {
+        iovad_free(&cache->session, range.lo);
+        return iovad_own_range(IOVA_NO_MEMORY, 0, 0);
+    }
+    return range;
+}
+
+/* A range of the magazines, once what is clean is in them; else of the daemon's. */
+IOVAD_OWN_COLD iovad_range iovad_own_alloc_once(iovad_cache *cache, uint64_t frames, uint64_t limit, uint64_t most) {
+    iova_range range = iova_cache_alloc(&cache->ranges, frames, limit);
+    if ((range.refused == IOVA_DRY || range.refused == IOVA_MISS) && iovad_own_settle(cache))
+        range = iova_cache_alloc(&cache->ranges, frames, limit);
+    if (range.refused == IOVA_DRY) {
+        uint64_t count, error = iovad_own_refill(cache, frames, limit, most, &count);
+        if (!count || cache->session.lost)
+            return iovad_own_range(error, 0, 0);
+        range = iova_cache_alloc(&cache->ranges, frames, limit);
+    }
+    if (range.refused == IOVA_MISS || range.refused == IOVA_NO_ORDER)
+        return iovad_own_alloc_by(cache, frames, limit);
+    return iovad_own_range(range.refused, range.lo, range.len);
+}
+
+IOVAD_OWN_COLD iovad_range iovad_own_cache_alloc(iovad_cache *cache, uint64_t frames, uint64_t limit) {
+    iovad_range range = iovad_own_range(cache->session.lost, 0, 0);
+    int tries;
+    for (tries = 0; !cache->session.lost; tries++) {
+        range = iovad_own_alloc_once(cache, frames, limit, tries ? 1 : IOVAD_OWN_EXCHANGED);
+        if ((range.error != IOVA_NO_SPACE && range.error != IOVA_HOLDINGS_FULL) || tries == 2)
+            break;
+        if (tries == 0 && !iovad_own_flush(cache) && iovad_own_settle(cache))
+            continue; /* what waited here may do */
+        iovad_own_give_back(cache);
+        iovad_own_flush(cache); /* lets go what waits in the daemon's rings */
+        tries = 1;
+    }
+    return range;
+}
+
+/* Makes room in the ring, which is full. Answers 0, or the error. */
+IOVAD_OWN_COLD uint64_t iovad_own_make_room(iovad_cache *cache) {
+    iova_cache_counts counts;
+    uint64_t order, error;
+    iovad_own_flushed(cache);
+    if (iovad_own_settle(cache))
+        return 0;
+    if (!cache->clean) {
+        error = iovad_own_flush(cache);
+        if (error)
+            return cache->session.lost ? cache->session.lost : (uint64_t)IOVA_RING_FULL;
+        cache->clean = IOVAD_OWN_RING;
+        if (iovad_own_settle(cache))
+            return 0;
+    }
+    counts = iova_cache_counts_of(&cache->ranges); /* the oldest is clean, and its magazines are full */
+    for (order = 0; order < IOVAD_OWN_ORDERS; order++)
+        if (counts.magazines[order] >= IOVAD_OWN_MAGAZINE)
+            iovad_own_spill(cache, order, IOVAD_OWN_EXCHANGED);
+    return iovad_own_settle(cache) ? 0 : cache->session.lost ? cache->session.lost : (uint64_t)IOVA_RING_FULL;
+}
+
+/* A range of more than 32 frames is freed at the daemon's. */
+IOVAD_OWN_COLD iovad_range iovad_own_free_by(iovad_cache *cache, uint64_t lo) {
+    iovad_range range;
+    int flushes = 0;
+    do {
+        iovad_own_flushed(cache);
+        range = iovad_free(&cache->session, lo);
+    } while (range.error == IOVA_RING_FULL && ++flushes <= 4 && !iovad_own_flush(cache));
+    if (!range.error)
+        iova_cache_release(&cache->ranges, lo);
+    return range;
+}
+
+IOVAD_OWN_COLD iovad_range iovad_own_cache_free(iovad_cache *cache, uint64_t lo) {
+    iova_range range;
+    uint64_t error = cache->session.lost;
+    if (error)
+        return iovad_own_range(error, 0, 0);
+    range = iova_cache_unmap(&cache->ranges, lo, cache->begun);
+    if (range.refused == IOVA_NO_ORDER)
+        return iovad_own_free_by(cache, lo);
+    if (range.refused == IOVA_RING_FULL) {
+        error = iovad_own_make_room(cache);
+        if (error)
+            return iovad_own_range(error, 0, 0);
+        range = iova_cache_unmap(&cache->ranges, lo, cache->begun);
+    }
+    if (!range.refused && ++cache->since >= IOVAD_CACHE_AHEAD)
+        iovad_own_ask_flush(cache); /* an error is told by the next call */
+    return iovad_own_range(range.refused, range.lo, range.len);
+}
+
+/* Connects, opens a client, and sees whether the domain is strict: there a free is answered `freed`. `*kept` is a range
+ * that is the client's still, if its `len` isn't 0. */
+static inline iovad_opened iovad_own_cache_connect(iovad_cache *cache, iovad_range *kept) {
+    iovad_opened opened =
+        iovad_open_within(&cache->session, cache->path, cache->domain, cache->sac, cache->milliseconds);
+    memset(kept, 0, sizeof *kept);
+    if (opened.error)
+        return opened;
+    *kept = iovad_alloc(&cache->session, 1, UINT64_MAX);
+    if (kept->len) {
+        iovad_range freed = iovad_free(&cache->session, kept->lo);
+        if (!freed.error)
+            kept->len = 0; /* else its ring is full, and the range is kept */
+        if (freed.freed) {
+            iovad_bye(&cache->session);
+            opened.error = IOVAD_STRICT;
+        }
+    }
+    if (!opened.error && cache->session.lost) {
+        opened.error = cache->session.lost;
+        iovad_close(&cache->session);
+    }
+    if (opened.error)
+        opened.number = 0;
+    return opened;
+}
+
+/* Opens a cache, with a client of its own: iovad_open_within, and IOVA_NO_MEMORY (17) and IOVAD_STRICT. Where it fails
+ * there is no cache, and nothing is to be closed. Whether a domain is strict isn't seen where it has no frame to give.
+ */
+static inline iovad_opened iovad_cache_open_within(iovad_cache *cache, const char *path, uint64_t domain, uint64_t sac,
+                                                   int milliseconds) {
+    iovad_opened opened = {0, 0};
+    iovad_range kept;
+    size_t length = strlen(path);
+    iovad_over(&cache->session, -1);
+    iovad_own_lose(&cache->session, IOVAD_ENDED);
+    iova_cache_init(&cache->ranges);
+    opened.error = length >= sizeof cache->path ? (uint64_t)IOVAD_BAD_PATH : iova_cache_apart(&cache->ranges, sac);
+    if (opened.error)
+        return opened;
+    memcpy(cache->path, path, length + 1);
+    cache->begun = cache->ended = cache->since = cache->clean = 0;
+    cache->is_flushing = 0;
+    cache->domain = domain;
+    cache->sac = sac;
+    cache->milliseconds = milliseconds;
+    opened = iovad_own_cache_connect(cache, &kept);
+    if (opened.error)
+        iova_cache_clear(&cache->ranges);
+    else if (kept.len)
+        iova_cache_put(&cache->ranges, kept.lo, kept.len);
+    return opened;
+}
+
+/* The same without an end of the time. */
+static inline iovad_opened iovad_cache_open(iovad_cache *cache, const char *path, uint64_t domain, uint64_t sac) {
+    return iovad_cache_open_within(cache, path, domain, sac, -1);
+}
+
+/* Gives a range, as iovad_alloc does; but up to 32 frames it need not be the highest that fits. By HoldingsFull the
+ * user itself has 4,096 ranges that it holds or that wait. */
+static inline iovad_range iovad_cache_alloc(iovad_cache *cache, uint64_t frames, uint64_t limit) {
+    if (IOVAD_OWN_LIKELY(!cache->session.lost)) {
+        iova_range range = iova_cache_alloc(&cache->ranges, frames, limit);
+        if (IOVAD_OWN_LIKELY(!range.refused))
+            return iovad_own_range(0, range.lo, range.len);
+    }
+    return iovad_own_cache_alloc(cache, frames, limit);
+}
+
+/* Frees the range that begins at frame `lo`: the device has stopped using it, and its mapping is gone. NotHeld: the
+ * user holds no range that begins there. RingFull: 255 wait, and flushes didn't help; the range is still held. */
+static inline iovad_range iovad_cache_free(iovad_cache *cache, uint64_t lo) {
+    if (IOVAD_OWN_LIKELY(!cache->session.lost)) {
+        iova_range range = iova_cache_unmap(&cache->ranges, lo, cache->begun);
+        if (IOVAD_OWN_LIKELY(!range.refused)) {
+            if (++cache->since >= IOVAD_CACHE_AHEAD)
+                iovad_own_ask_flush(cache); /* an error is told by the next call */
+            return iovad_own_range(0, range.lo, range.len);
+        }
+    }
+    return iovad_own_cache_free(cache, lo);
+}
+
+/* A flush now, of all that waits here: behind it the device reaches nothing of what was freed. Answers 0, or why it
+ * failed. */
+static inline uint64_t iovad_cache_flush(iovad_cache *cache) {
+    uint64_t error = iovad_own_flush(cache);
+    iovad_own_settle(cache);
+    return error;
+}
+
+/* Gives back all that nobody uses and that waits for no flush, so that other clients may have it: for a client that
+ * will be idle, or where others are refused by NoSpace. Answers 0, or the error by which the session is lost. */
+static inline uint64_t iovad_cache_give_back(iovad_cache *cache) {
+    if (!cache->session.lost) {
+        iovad_own_flushed(cache);
+        iovad_own_give_back(cache);
+    }
+    return cache->session.lost;
+}
+
+/* How many ranges are where, also where the session is lost. It walks over what the user holds. */
+static inline iovad_cached iovad_cache_counts_of(iovad_cache *cache) {
+    iovad_cached counts;
+    iova_cache_counts own = iova_cache_counts_of(&cache->ranges);
+    uint64_t order;
+    counts.error = own.refused;
+    counts.held = own.held;
+    counts.waiting = own.waiting;
+    for (order = counts.cached = 0; order < IOVAD_OWN_ORDERS; order++)
+        counts.cached += own.magazines[order];
+    return counts;
+}
+
+/* Begins a new client at the same path, where the session is lost; one that isn't is closed. What the user held is
+ * written into the list, in no order, and answered is how many: it is the user's no more, and its mappings are to be
+ * removed from the device. The errors of iovad_cache_open_within, and then the call may be made again, which lists it;
+ * and IOVAD_NO_ROOM where the list is shorter than that, and then nothing was done. */
+static inline iovad_held iovad_cache_reopen(iovad_cache *cache, iovad_listed *list, size_t room) {
+    iova_cache_counts counts = iova_cache_counts_of(&cache->ranges);
+    iovad_held lost = {counts.refused ? counts.refused : counts.held > room ? (uint64_t)IOVAD_NO_ROOM : 0, 0};
+    iova_cache fresh;
+    iovad_range kept;
+    uint64_t at;
+    iova_cache_init(&fresh);
+    if (!lost.error)
+        lost.error = iova_cache_apart(&fresh, cache->sac);
+    if (lost.error)
+        return lost;
+    iovad_close(&cache->session);
+    cache->is_flushing = 0;
+    lost.error = iovad_own_cache_connect(cache, &kept).error;
+    if (lost.error) {
+        iova_cache_clear(&fresh);
+        return lost;
+    }
+    lost.count = counts.held;
+    for (at = 0; at < lost.count; at++) {
+        iova_range range = iova_cache_any(&cache->ranges); /* of the user's, as long as there is one */
+        list[at].lo = range.lo;
+        list[at].len = range.len;
+    }
+    iova_cache_clear(&cache->ranges);
+    cache->ranges = fresh;
+    if (kept.len)
+        iova_cache_put(&cache->ranges, kept.lo, kept.len);
+    cache->ended = cache->begun;
+    cache->since = cache->clean = 0;
+    return lost;
+}
+
+/* Ends the client, also where the session is lost, and lets the cache go: all its ranges, those that the user holds
+ * too, wait for a flush in the daemon. Answers as iovad_bye. */
+static inline uint64_t iovad_cache_close(iovad_cache *cache) {
+    uint64_t error;
+    iovad_own_flushed(cache);
+    error = iovad_bye(&cache->session);
+    iova_cache_clear(&cache->ranges);
+    return error;
+}
+
+#endif
 
 #ifdef __cplusplus
 }

@@ -4,3 +4,4 @@ pub mod Slots
 pub mod Readers
 pub mod Lists
 pub mod Names
+pub mod Caches

@@ -15,10 +15,11 @@ HasNamed number old answer new =
     × (new ≡ with_text old (refusal_name r)))
     ⊎ (((r : Refusal) → refusal_number r ≢ number) × (answer ≡ 0) × (new ≡ old))
 
--- how many bytes each answer has, in the order of the header
+-- how many bytes each answer has, in the order of the header; 0 where a slot stands
 abbrev pub type_size : ℕ → ℕ
 type_size number =
-    slice_index_or (0 ∷ 24 ∷ 16 ∷ 24 ∷ 24 ∷ 72 ∷ 32 ∷ 32 ∷ 48 ∷ 56 ∷ 16 ∷ []) number 0
+    slice_index_or (0 ∷ 24 ∷ 16 ∷ 24 ∷ 24 ∷ 72 ∷ 32 ∷ 32 ∷ 48 ∷ 56 ∷ 16 ∷ 0 ∷ 72 ∷ []) number
+    0
 
 -- the library's version, 0.2.0: millions are its first number, thousands its second
 abbrev pub version : ℕ

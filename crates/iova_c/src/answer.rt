@@ -106,6 +106,21 @@ pub struct FlushesAnswer {
     pub in_flight: u64,
 }
 
+/// How many ranges of a cache are with its user, in its ring, and in the magazine of each order.
+#[repr(C)]
+#[derive(Drop)]
+pub struct CacheCountsAnswer {
+    pub refused: u64,
+    pub held: u64,
+    pub waiting: u64,
+    pub order_0: u64,
+    pub order_1: u64,
+    pub order_2: u64,
+    pub order_3: u64,
+    pub order_4: u64,
+    pub order_5: u64,
+}
+
 /// A range in a buffer of C's.
 #[repr(C)]
 #[derive(Drop)]

@@ -2,8 +2,10 @@
 ghost use Rattle.std.specs.Prelude.{◌≡◌, ◌≤◌, ◌<◌, ◌*◌, ◌+◌, ◌-◌, ◌^◌, ◌/◌, ◌↔◌, ℕ};
 ghost use Rattle.iova_c.specs.Bytes.{frame_at, frames_of, last_frame};
 ghost use Rattle.iova_c.specs.Slots.{MappingStep};
+ghost use Rattle.iova_c.specs.Caches.{in_bytes, MapCall, UnmapBytesCall};
 
-use crate::answer::{MappingAnswer, of_mapping};
+use crate::answer::{MappingAnswer, RangeAnswer, of_mapping};
+use crate::cached::{CacheSlot, alloc, unmap};
 use crate::slot::Slot;
 use iova_core::{Reply, Step};
 use iova_laws::replies::{queued_were_held, steps_are_answered_in_kind};
@@ -79,5 +81,32 @@ pub fn unmap_bytes(slot: &mut Slot, worker: u64, client: u64, address: u64) -> M
             of_mapping(domain.step(step))
         }
         None => of_mapping(Reply::Refused(Refusal::NoDomain)),
+    }
+}
+
+/// `cached::alloc` in bytes.
+pub fn map_cached(slot: &mut CacheSlot, bytes: u64, mask: u64) -> MappingAnswer
+    ensures { MapCall slot.old.cache (frames_of bytes) (last_frame mask) result slot.new.cache }
+{
+    in_bytes(alloc(slot, frames_of(bytes), last_frame(mask)))
+}
+
+/// `cached::unmap` in bytes.
+pub fn unmap_bytes_cached(slot: &mut CacheSlot, address: u64, start: u64) -> MappingAnswer
+    ensures { UnmapBytesCall slot.old.cache (frame_at address) start result slot.new.cache }
+{
+    in_bytes(unmap(slot, address / FRAME_BYTES, start))
+}
+
+/// The addresses of a range that is answered.
+fn in_bytes(answer: RangeAnswer) -> MappingAnswer
+    requires lo { answer.lo < 2 ^ 52 }
+    requires len { answer.len < 2 ^ 52 }
+    ensures { result ≡ in_bytes answer }
+{
+    MappingAnswer {
+        refused: answer.refused,
+        address: answer.lo * FRAME_BYTES,
+        bytes: answer.len * FRAME_BYTES,
     }
 }

@@ -4,6 +4,9 @@
 
 pub mod answer;
 pub mod bytes;
+pub mod cache_exports;
+pub mod cached;
+pub mod exchanged;
 pub mod exports;
 pub mod lists;
 pub mod names;

@@ -5,9 +5,10 @@ ghost use Rattle.iova_range.specs.Refusals.{refusal_number};
 ghost use Rattle.iova_c.specs.Names.{HasNamed, version, with_text, type_size};
 
 use crate::answer::{
-    BoundsAnswer, ClientAnswer, CountsAnswer, FlushesAnswer, Listed, MappingAnswer, NumberAnswer,
-    PlaceAnswer, RangeAnswer, TotalsAnswer,
+    BoundsAnswer, CacheCountsAnswer, ClientAnswer, CountsAnswer, FlushesAnswer, Listed,
+    MappingAnswer, NumberAnswer, PlaceAnswer, RangeAnswer, TotalsAnswer,
 };
+use crate::cached::CacheSlot;
 use crate::slot::Slot;
 use iova_range::refusal::Refusal;
 
@@ -70,12 +71,13 @@ pub extern "C" fn iova_refusal_text(number: u64, text: &mut [u8]) -> u64
     }
 }
 
-/// The bytes of a type of `iova.h`, by its place there; of a slot for 0, and 0 where there is no
-/// such type.
+/// The bytes of a type of `iova.h`, by its place there; of a domain's slot for 0, of a cache's for
+/// 11, and 0 where there is no such type.
 #[unsafe(no_mangle)]
 pub extern "C" fn iova_type_size(number: u64) -> u64
     ensures slot { number ≡ 0 → result ≤ 1536 }
-    ensures answers { number ≢ 0 → result ≡ type_size number }
+    ensures cache { number ≡ 11 → result ≤ 512 }
+    ensures answers { number ≢ 0 → number ≢ 11 → result ≡ type_size number }
 {
     let bytes = match number {
         0 => size_of::<Slot>(),
@@ -89,6 +91,8 @@ pub extern "C" fn iova_type_size(number: u64) -> u64
         8 => size_of::<BoundsAnswer>(),
         9 => size_of::<FlushesAnswer>(),
         10 => size_of::<Listed>(),
+        11 => size_of::<CacheSlot>(),
+        12 => size_of::<CacheCountsAnswer>(),
         _ => 0,
     };
     bytes as u64

@@ -1,6 +1,11 @@
 mod Words
 mod Tables
-mod Magazines
-mod Rings
-mod Kept
-mod Requests
+mod Stacks
+mod Windows
+mod Orders
+mod Settling
+mod Exchanged
+mod Runs
+mod Waits
+mod Domains
+mod Worlds

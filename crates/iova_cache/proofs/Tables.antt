@@ -1,6 +1,10 @@
 -- The buckets of a table: where a range is found, and what a range more and one less make of them.
-use Rattle.std.proofs.Common.{◌≡◌, ◌≢◌, ◌+◌, ◌-◌, ◌<◌, ◌≤◌, ◌==◌, ℕ, zero, suc, Bool, true, false, cond, not, List, [], ◌∷◌, ◌++◌, length, get_or, find, Option, Some, None, IfSome, IfNone, refl, sym, ap, ◌∙◌, arith, sum_by, set, replicate}
+use Rattle.std.proofs.Common.{◌≡◌, ◌≢◌, ◌+◌, ◌-◌, ◌<◌, ◌≤◌, ◌==◌, ◌^◌, ℕ, zero, suc, Bool, true, false, cond, not, List, [], ◌∷◌, ◌++◌, length, get_or, find, Option, Some, None, IfSome, IfNone, refl, sym, ap, ◌∙◌, arith, sum_by, set, replicate, take, append_assoc, append-nil, length-append}
 use Rattle.std.specs.Option.{option_or}
+use Rattle.std.proofs.Math.Pow.{pow_mono}
+use Rattle.std.proofs.lemmas.List.{take_more}
+use Rattle.std.specs.Prelude.{Result, Ok, Err, IfOk, OnErr, slice_get}
+use Rattle.iova_cache.specs.declared.cache.Kept.{Kept}
 use Rattle.std.proofs.lemmas.Bool.Decides.{nat_tests}
 use Rattle.std.proofs.lemmas.List.{length-set, set-get_or, length-replicate}
 use Rattle.std.proofs.lemmas.List.Sums.{sum_by-append, sum_by-cons, sum_by-set}
@@ -118,16 +122,17 @@ pub room_at : (bs : List (List Frames)) (shift k : ℕ) (b : List Frames) → Is
 room_at bs shift k b s lt is = rw is (AreRoomy-get bs k b lt (s.roomy refl))
 
 pub IsTable-pushed : (bs : List (List Frames)) (shift k : ℕ) (r : Frames) (b b' : List Frames) (full : Bool) → IsTable bs shift true → k < length bs → b ≡ get_or bs k b
-    → k ≡ home_of shift (length bs) r.lo → b' ≡ b ++ r ∷ [] → (full ≡ false → length b' < 7) → IsTable (set bs k b') shift (not full)
+    → k ≡ home_of shift r.lo → b' ≡ b ++ r ∷ [] → (full ≡ false → length b' < 7) → IsTable (set bs k b') shift (not full)
 IsTable-pushed bs shift k r b b' full s lt is at pushed room =
-    let home : ℕ → ℕ = home_of shift (length bs) in
+    let home : ℕ → ℕ = home_of shift in
     let old : strays home (0 + k) b ≡ 0 = rw is (AreHome-get home 0 k bs b lt s.home) in
     let own : home r.lo ≡ 0 + k = omega (arith, at) in
     let new : strays home (0 + k) b' ≡ 0 = rw pushed (strays_pushed home (0 + k) r b own old) in
     record {
-      some = rw (length-set bs k b') s.some;
       shifts = s.shifts;
-      home = rw (length-set bs k b') (AreHome-set home 0 k bs b' s.home new);
+      least = s.least;
+      count = length-set bs k b' ∙ s.count;
+      home = AreHome-set home 0 k bs b' s.home new;
       roomy = λ roomy. AreRoomy-set bs k b' (s.roomy refl) (room (not_full full roomy));
     }
 
@@ -136,14 +141,15 @@ IsTable-pushed bs shift k r b b' full s lt is at pushed room =
 IsTable-less : (bs : List (List Frames)) (shift k : ℕ) (room : Bool) (b b' : List Frames) → IsTable bs shift room → k < length bs → b ≡ get_or bs k b
     → (r : Frames) → Gains r b' b → length b' ≤ length b → IsTable (set bs k b') shift room
 IsTable-less bs shift k room b b' s lt is r g shorter =
-    let home : ℕ → ℕ = home_of shift (length bs) in
+    let home : ℕ → ℕ = home_of shift in
     let old : strays home (0 + k) b ≡ 0 = rw is (AreHome-get home 0 k bs b lt s.home) in
     let all : strays home (0 + k) b ≡ away home (0 + k) r + strays home (0 + k) b' = g (away home (0 + k)) in
     let new : strays home (0 + k) b' ≡ 0 = omega (arith, all, old) in
     record {
-      some = rw (length-set bs k b') s.some;
       shifts = s.shifts;
-      home = rw (length-set bs k b') (AreHome-set home 0 k bs b' s.home new);
+      least = s.least;
+      count = length-set bs k b' ∙ s.count;
+      home = AreHome-set home 0 k bs b' s.home new;
       roomy = λ roomy. let few : length b < 7 = rw is (AreRoomy-get bs k b lt (s.roomy roomy)) in AreRoomy-set bs k b' (s.roomy roomy) (omega arith);
     }
 
@@ -160,6 +166,20 @@ pub gains_taken_out : (o : Option Frames) (bs : List (List Frames)) (k : ℕ) (b
 gains_taken_out None bs k b b' lt is some = tt
 gains_taken_out (Some r) bs k b b' lt is some = gains_out r bs k b b' lt is some
 
+pub IsTable-kept : (res : Result Frames Kept) (bs : List (List Frames)) (shift k : ℕ) (room : Bool) (b b' : List Frames) → IsTable bs shift room → k < length bs → b ≡ get_or bs k b
+    → IfOk res (λ r. Gains r b' b) → OnErr res (b' ≡ b) → length b' ≤ length b → IsTable (set bs k b') shift room
+IsTable-kept (Err x) bs shift k room b b' s lt is some none shorter = rw (set_same bs k b b' is none) s
+IsTable-kept (Ok r) bs shift k room b b' s lt is some none shorter = IsTable-less bs shift k room b b' s lt is r some shorter
+
+pub cached_gains : (res : Result Frames Kept) (lo : ℕ) (b b' : List Frames) → IfOk res (λ r. (find (begins_at lo) b ≡ Some r) × Gains r b' b) → IfOk res (λ r. Gains r b' b)
+cached_gains (Err x) lo b b' h = tt
+cached_gains (Ok r) lo b b' h = h.1
+
+pub cached_out : (res : Result Frames Kept) (lo : ℕ) (bs : List (List Frames)) (k : ℕ) (b b' : List Frames) → k < length bs → b ≡ get_or bs k b → find (begins_at lo) (all_ranges bs) ≡ find (begins_at lo) b
+    → IfOk res (λ r. (find (begins_at lo) b ≡ Some r) × Gains r b' b) → IfOk res (λ r. (find (begins_at lo) (all_ranges bs) ≡ Some r) × Gains r (all_ranges (set bs k b')) (all_ranges bs))
+cached_out (Err x) lo bs k b b' lt is same h = tt
+cached_out (Ok r) lo bs k b b' lt is same h = (same ∙ h.0, gains_out r bs k b b' lt is h.1)
+
 -- A new table.
 
 AreHome-empty : (home : ℕ → ℕ) (place n : ℕ) → AreHome home place (replicate n [])
@@ -174,13 +194,60 @@ all_ranges-empty : (n : ℕ) → all_ranges (replicate n []) ≡ []
 all_ranges-empty zero = refl
 all_ranges-empty (suc n) = all_ranges-empty n
 
-pub IsTable-new : (bs : List (List Frames)) (n shift : ℕ) → bs ≡ replicate n [] → 1 ≤ n → shift < 64 → IsTable bs shift true
-IsTable-new bs n shift is some lt = rw is (record {
-  some = let long : length (replicate {A = List Frames} n []) ≡ n = length-replicate {A = List Frames} n [] in omega (arith, long);
+pub IsTable-new : (bs : List (List Frames)) (n shift : ℕ) → bs ≡ replicate n [] → n ≡ 2 ^ (64 - shift) → shift < 64 → 44 ≤ shift → IsTable bs shift true
+IsTable-new bs n shift is long lt le = rw is (record {
   shifts = lt;
-  home = AreHome-empty (home_of shift (length (replicate n []))) 0 n;
+  least = le;
+  count = length-replicate {A = List Frames} n [] ∙ long;
+  home = AreHome-empty (home_of shift) 0 n;
   roomy = λ e. AreRoomy-empty n;
 })
 
 pub held-new : (bs : List (List Frames)) (n : ℕ) → bs ≡ replicate n [] → all_ranges bs ≡ []
 held-new bs n is = rw is (all_ranges-empty n)
+
+-- The first range, and how many there are.
+
+pub some_buckets : (bs : List (List Frames)) (shift : ℕ) (room : Bool) → IsTable bs shift room → length bs ≤ 1048576
+some_buckets bs shift room s = let few : 64 - shift ≤ 20 = omega (arith, s.least) in let small : 2 ^ (64 - shift) ≤ 2 ^ 20 = pow_mono few in omega (arith, small, s.count)
+
+all_more : (bs : List (List Frames)) (k : ℕ) (b : List Frames) → k < length bs → b ≡ get_or bs k b → all_ranges (take (k + 1) bs) ≡ all_ranges (take k bs) ++ b
+all_more bs k b lt is = ap all_ranges (take_more bs k b lt) ∙ (joined (take k bs) (get_or bs k b) ∙ ap (λ l. all_ranges (take k bs) ++ l) (sym is))
+  where
+    joined : (xs : List (List Frames)) (b : List Frames) → all_ranges (xs ++ b ∷ []) ≡ all_ranges xs ++ b
+    joined [] b = append-nil b
+    joined (x ∷ xs) b = ap (λ l. x ++ l) (joined xs b) ∙ sym (append_assoc x (all_ranges xs) b)
+
+empty_front : (xs ys : List Frames) → xs ++ ys ≡ [] → xs ≡ []
+empty_front [] ys is = refl
+empty_front (x ∷ xs) ys is = absurd (let long = ap length is in omega (arith, long))
+
+pub none_more : (bs : List (List Frames)) (k : ℕ) (b : List Frames) → k < length bs → b ≡ get_or bs k b → length b ≡ 0 → all_ranges (take k bs) ≡ [] → all_ranges (take (k + 1) bs) ≡ []
+none_more bs k b lt is none before = all_more bs k b lt is ∙ (ap (λ l. l ++ b) before ∙ nothing b none)
+  where
+    nothing : (xs : List Frames) → length xs ≡ 0 → xs ≡ []
+    nothing [] none = refl
+    nothing (x ∷ xs) none = absurd (omega arith)
+
+pub first_of : (bs : List (List Frames)) (k : ℕ) (b : List Frames) (r : Frames) → k < length bs → b ≡ get_or bs k b → all_ranges (take k bs) ≡ [] → 0 < length b → r ≡ get_or b 0 r → Some r ≡ slice_get (all_ranges bs) 0
+first_of [] k b r lt is before some at = absurd (omega arith)
+first_of (x ∷ bs) zero b r lt is before some at = step x (rw is at some) (rw is at at)
+  where
+    step : (x : List Frames) → 0 < length x → r ≡ get_or x 0 r → Some r ≡ slice_get (x ++ all_ranges bs) 0
+    step [] some at = absurd (omega arith)
+    step (y ∷ ys) some at = ap (λ r. Some r) at
+first_of (x ∷ bs) (suc k) b r lt is before some at =
+    let none : x ≡ [] = empty_front x (all_ranges (take k bs)) before in
+    let rest = rw none at before in
+    rw none (first_of bs k b r (omega arith) is rest some at)
+
+pub head_found : (rs : List Frames) (r : Frames) → Some r ≡ slice_get rs 0 → find (begins_at r.lo) rs ≡ Some r
+head_found [] r is = absurd (let bad : Some r ≡ None = is in cc)
+head_found (x ∷ rs) r is =
+    let both : Some r ≡ Some x = is in
+    let same : r ≡ x = cc in
+    let begins : (x.lo == r.lo) ≡ true = grind (arith, nat_tests, ap (λ (r : Frames). r.lo) same) in
+    rw begins (sym both)
+
+pub length_more : (bs : List (List Frames)) (k : ℕ) (b : List Frames) → k < length bs → b ≡ get_or bs k b → length (all_ranges (take (k + 1) bs)) ≡ length (all_ranges (take k bs)) + length b
+length_more bs k b lt is = ap length (all_more bs k b lt is) ∙ length-append (all_ranges (take k bs)) b

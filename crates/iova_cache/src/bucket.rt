@@ -1,9 +1,11 @@
 //! A few ranges of a table, each in a word of 64 bits.
-ghost use Rattle.std.specs.Prelude.{◌≡◌, ◌≢◌, ◌≤◌, ◌<◌, ◌^◌, ◌%◌, ◌↔◌, ℕ, [], ◌∷◌, ◌++◌, length, find, slice_index, slice_index_or, IsTrue, IfSome, IfNone};
+ghost use Rattle.std.specs.Prelude.{◌≡◌, ◌≢◌, ◌≤◌, ◌<◌, ◌^◌, ◌%◌, ◌↔◌, ℕ, [], ◌∷◌, ◌++◌, length, find, slice_index, slice_index_or, Some, None, Err, IsTrue, IfOk, OnErr, IfSome, IfNone};
+ghost use Rattle.iova_range.specs.Frames.{Frames};
 ghost use Rattle.iova_model.specs.Clients.{begins_at};
 ghost use Rattle.iova_cache.specs.Held.{word_range, IsWord, CanBeHeld, Gains};
 
-use arrayvec::ArrayVec;
+use crate::cache::Kept;
+use iova_range::limits::MOST_CACHED;
 use iova_range::range::Range;
 use std::marker::Model;
 
@@ -17,25 +19,27 @@ const TOP: u64 = 1 << 40;
 /// takes one word: its first frame, and above 40 bits its length.
 #[derive(Drop)]
 pub(crate) struct Bucket {
-    words: ArrayVec<u64, BUCKET>,
+    words: [u64; BUCKET],
+    count: usize,
 }
 
 impl Model for Bucket {
-    ghost use Rattle.std.specs.Prelude.{List, map, All};
+    ghost use Rattle.std.specs.Prelude.{List};
     ghost use Rattle.iova_range.specs.Frames.{Frames};
+    ghost use Rattle.iova_cache.specs.declared.bucket.TheConstants.{BUCKET};
 
     ghost Value = { List Frames };
 
-    ghost use Rattle.iova_cache.specs.Held.{word_range, IsWord};
+    ghost use Rattle.iova_cache.specs.Held.{word_ranges, AreWords};
 
-    ghost view = { λ b. map word_range b.words.items };
+    ghost view = { λ b. word_ranges b.words b.count };
 
-    ghost invariant = { λ b. All IsWord b.words.items };
+    ghost invariant = { λ b. AreWords b.words b.count BUCKET };
 }
 
 /// The word of a range.
 #[inline(always)]
-fn word_of(range: Range) -> u64
+pub(crate) fn word_of(range: Range) -> u64
     requires { CanBeHeld range }
     ensures is { word_range result ≡ range }
     ensures word { IsWord result }
@@ -45,7 +49,7 @@ fn word_of(range: Range) -> u64
 
 /// The range of a word.
 #[inline(always)]
-fn range_of(word: u64) -> Range
+pub(crate) fn range_of(word: u64) -> Range
     requires { IsWord word }
     ensures is { result ≡ word_range word }
     ensures held { CanBeHeld result }
@@ -73,7 +77,8 @@ impl Bucket {
         ensures { result ≡ [] }
     {
         Bucket {
-            words: ArrayVec::new(),
+            words: [0; BUCKET],
+            count: 0,
         }
     }
 
@@ -83,24 +88,40 @@ impl Bucket {
         ensures is { IsTrue result ↔ (length self.now ≡ BUCKET) }
         ensures bounded { length self.now ≤ BUCKET }
     {
-        self.words.is_full()
+        self.count == BUCKET
     }
 
     /// How many there are.
+    #[inline(always)]
     pub(crate) fn len(&self) -> usize
-        ensures { result ≡ length self.now }
+        ensures is { result ≡ length self.now }
+        ensures bounded { result ≤ BUCKET }
     {
-        self.words.len()
+        self.count
     }
 
     /// The range at this place.
+    #[inline(always)]
     pub(crate) fn get(&self, place: usize) -> Range
         requires { place < length self.now }
         ensures value { result ≡ slice_index_or self.now place result }
         ensures held { CanBeHeld result }
     {
-        let words = self.words.as_slice();
-        range_of(words[place])
+        // for the proof: there are seven at most
+        let _len = self.len();
+        range_of(self.words[place])
+    }
+
+    /// The place of the first range that begins there, or how many there are.
+    #[inline(always)]
+    fn place(&self, lo: u64) -> usize
+        ensures within { result ≤ length self.now }
+        ensures none { result ≡ length self.now → find (begins_at lo) self.now ≡ None }
+        ensures found { result < length self.now → (r : Frames)
+            → r ≡ slice_index_or self.now result r
+            → find (begins_at lo) self.now ≡ Some r }
+    {
+        place_of(&self.words[..self.count], lo)
     }
 
     /// The first range that begins there.
@@ -109,12 +130,11 @@ impl Bucket {
         ensures is { result ≡ find (begins_at lo) self.now }
         ensures held { IfSome result CanBeHeld }
     {
-        let words = self.words.as_slice();
-        let place = place_of(words, lo);
-        if place == words.len() {
+        let place = self.place(lo);
+        if place == self.len() {
             return None;
         }
-        Some(range_of(words[place]))
+        Some(self.get(place))
     }
 
     /// One range more, last.
@@ -124,7 +144,21 @@ impl Bucket {
         requires held { CanBeHeld range }
         ensures { self.new ≡ self.old ++ range ∷ [] }
     {
-        self.words.push(word_of(range));
+        self.words[self.count] = word_of(range);
+        self.count += 1;
+    }
+
+    /// Takes the range at this place out; the last one comes there.
+    #[inline(always)]
+    fn remove(&mut self, place: usize)
+        requires { place < length self.old }
+        ensures taken { (r : Frames) → r ≡ slice_index_or self.old place r
+            → Gains r self.new self.old }
+        ensures shorter { length self.new ≤ length self.old }
+    {
+        let last = self.count - 1;
+        self.words[place] = self.words[last];
+        self.count = last;
     }
 
     /// Takes the first range out that begins there.
@@ -136,11 +170,38 @@ impl Bucket {
         ensures shorter { length self.new ≤ length self.old }
         ensures none { IfNone result (self.new ≡ self.old) }
     {
-        let place = place_of(self.words.as_slice(), lo);
-        if place == self.words.len() {
+        let place = self.place(lo);
+        if place == self.len() {
             return None;
         }
-        let word = self.words.swap_remove(place);
-        Some(range_of(word))
+        let range = self.get(place);
+        self.remove(place);
+        Some(range)
+    }
+
+    /// The same, where a magazine may take it: it has at most 32 frames. One look finds it.
+    #[inline(always)]
+    pub(crate) fn take_cached(&mut self, lo: u64) -> Result<Range, Kept>
+        ensures taken { IfOk result (λ r. (find (begins_at lo) self.old ≡ Some r)
+            × Gains r self.new self.old) }
+        ensures few { IfOk result (λ r. r.len ≤ MOST_CACHED) }
+        ensures held { IfOk result CanBeHeld }
+        ensures shorter { length self.new ≤ length self.old }
+        ensures not_held { result ≡ Err Kept.NotHeld → find (begins_at lo) self.old ≡ None }
+        ensures no_order { result ≡ Err Kept.NoOrder → (r : Frames)
+            × (find (begins_at lo) self.old ≡ Some r) × (MOST_CACHED < r.len) }
+        ensures not_full { result ≢ Err Kept.RingFull }
+        ensures unchanged { OnErr result (self.new ≡ self.old) }
+    {
+        let place = self.place(lo);
+        if place == self.len() {
+            return Err(Kept::NotHeld);
+        }
+        let range = self.get(place);
+        if range.len() > MOST_CACHED {
+            return Err(Kept::NoOrder);
+        }
+        self.remove(place);
+        Ok(range)
     }
 }

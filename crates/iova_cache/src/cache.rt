@@ -1,20 +1,22 @@
 //! A cache: what one thread takes and gives up without the domain.
-ghost use Rattle.std.specs.Prelude.{◌≡◌, ◌≢◌, ◌≤◌, ◌<◌, ℕ, find, length, Some, None, Err, IfOk, slice_get, OnOk, OnErr, IsOkUnless, ◌⊎◌};
-ghost use Rattle.std.specs.Bool.{OnTrue, OnFalse};
+ghost use Rattle.std.specs.Prelude.{◌≡◌, ◌≢◌, ◌≤◌, ◌<◌, ◌^◌, ℕ, [], true, false, find, length, Some, None, Err, IfOk, OnOk, OnErr, IsOkUnless};
 ghost use Rattle.iova_range.specs.Frames.{Frames};
-ghost use Rattle.iova_range.specs.Sizes.{order_of};
 ghost use Rattle.iova_model.specs.Clients.{begins_at};
-ghost use Rattle.iova_cache.specs.Caches.{reach, HasOrder, IsMet, IsUnmet, IsGivenUp, IsSettled, SettlesOne, OldestStays, new_cache};
+ghost use Rattle.std.specs.Bool.{OnTrue, OnFalse};
+ghost use Rattle.iova_cache.specs.declared.magazine.TheConstants.{MAGAZINE};
+ghost use Rattle.iova_cache.specs.Magazines.{magazine_of, Misses};
+ghost use Rattle.iova_cache.specs.Waiting.{IsCachedEntry};
+ghost use Rattle.iova_cache.specs.Caches.{reach, HasOrder, HasMoreRoom, IsMet, IsGivenUp, IsSettling, IsSettled, order_in, with_entry, new_cache};
 
+use crate::magazine::Magazines;
+use crate::ring::Ring;
 use crate::table::Table;
-use iova_flush::Entry;
-use iova_flush::ring::Ring;
-use iova_mag::worker::{Got, WorkerCache};
+use iova_model::entry::Entry;
 use iova_model::step::ClientId;
-use iova_range::limits::{ORDERS, SAC_LIMIT};
+use iova_range::limits::{MOST_CACHED, ORDERS, SAC_LIMIT};
 use iova_range::range::Range;
 use iova_range::refusal::Refusal;
-use iova_range::sizes::{is_cached, order_of, order_of_need};
+use iova_range::sizes::{is_cached, order_of_need};
 use std::alloc::Global;
 use std::marker::Model;
 
@@ -24,10 +26,10 @@ pub enum Unmet {
     /// No magazine has the order of the request: it asks for no frame, or for more than 32.
     NoOrder,
 
-    /// The magazines of the order have ranges, and none of those that are looked at is low enough.
+    /// The newest range of the order has a frame above the limit.
     Miss,
 
-    /// The magazines of the order are empty.
+    /// The magazine of the order is empty.
     Empty,
 
     /// What the user holds has no room for one range more, and memory is refused.
@@ -40,7 +42,7 @@ pub enum Kept {
     /// The user holds no range that begins there.
     NotHeld,
 
-    /// The range has no order: it goes back by `unmap_by`, to the domain.
+    /// The range has more than 32 frames: it goes back by `unmap_by`, to the domain.
     NoOrder,
 
     /// 255 ranges wait.
@@ -54,8 +56,8 @@ pub enum Kept {
 pub struct Cache {
     pub(crate) worker: u64,
     pub(crate) client: ClientId,
-    pub(crate) sac: bool,
-    pub(crate) magazines: WorkerCache,
+    pub(crate) most: u64,
+    pub(crate) magazines: Magazines,
     pub(crate) held: Table,
     pub(crate) ring: Ring,
 }
@@ -66,7 +68,7 @@ impl Drop for Cache {
         let Cache {
             worker: _,
             client: _,
-            sac: _,
+            most: _,
             magazines: _,
             held: _,
             ring: _,
@@ -75,32 +77,21 @@ impl Drop for Cache {
 }
 
 impl Model for Cache {
-    ghost use Rattle.iova_cache.specs.Caches.{CacheState, IsKept};
+    ghost use Rattle.iova_cache.specs.Caches.{CacheState, AreGivenSizes};
 
     ghost Value = { CacheState };
 
     ghost view = { λ c. record {
       worker = c.worker;
       client = c.client;
-      sac = c.sac;
+      most = c.most;
       magazines = c.magazines;
       held = c.held.ranges;
+      room = c.held.room;
       ring = c.ring;
     } };
 
-    ghost invariant = { λ c. IsKept c.magazines c.ring };
-}
-
-/// The greatest frame that is given from a magazine for this limit.
-#[inline(always)]
-fn reach_of(sac: bool, limit: u64) -> u64
-    ensures { result ≡ reach sac limit }
-{
-    if sac && SAC_LIMIT < limit {
-        SAC_LIMIT
-    } else {
-        limit
-    }
+    ghost invariant = { λ c. AreGivenSizes c.held.ranges };
 }
 
 impl Cache {
@@ -114,32 +105,68 @@ impl Cache {
         ensures value { IfOk result (λ c. c ≡ new_cache worker client sac) }
         ensures refused { IsOkUnless result Refusal.NoMemory }
     {
+        let most = if sac { SAC_LIMIT } else { u64::MAX };
+        let magazines = Magazines::new(alloc)?;
+        let held = Table::new(alloc)?;
+        let ring = Ring::new(alloc)?;
         Ok(Cache {
             worker,
             client,
-            sac,
-            magazines: WorkerCache::new(alloc)?,
-            held: Table::new(alloc)?,
-            ring: Ring::new(alloc)?,
+            most,
+            magazines,
+            held,
+            ring,
         })
     }
 
-    /// Gives the user a range of the magazines: for 1 to 32 frames the newest of its order that has
-    /// no frame above `limit` (Linux 5.15 `drivers/iommu/iova.c`: `__iova_rcache_get`), nor above
-    /// 4 GiB for a client that is `sac`. It asks no domain, and takes memory only where what the
-    /// user holds has to grow.
+    /// Whether the user may be given one range more without memory, by `alloc_in_room`.
     #[inline(always)]
+    pub fn has_room(&self) -> bool
+        ensures { result ≡ self.now.room }
+    {
+        self.held.has_room()
+    }
+
+    /// Gives the user a range of the magazines: for 1 to 32 frames the newest of its order, where
+    /// that has no frame above `limit`, nor above 4 GiB for a client that is `sac`. It asks no
+    /// domain, and takes memory only where what the user holds has to grow, which is tried last.
     pub fn alloc(&mut self, frames: u64, limit: u64) -> Result<Range, Unmet>
-        ensures met { IfOk result (λ r. (order : ℕ) → HasOrder frames order
-            → IsMet self.old self.new order limit r) }
-        ensures order { IfOk result (λ r. (order : ℕ) × HasOrder frames order) }
-        ensures none { result ≡ Err Unmet.NoOrder → (order : ℕ) → HasOrder frames order → ⊥ }
-        ensures miss { result ≡ Err Unmet.Miss → (order : ℕ) → HasOrder frames order
-            → IsUnmet self.old self.new order limit Got.Miss }
-        ensures empty { result ≡ Err Unmet.Empty → (order : ℕ) → HasOrder frames order
-            → IsUnmet self.old self.new order limit Got.Empty }
-        ensures unchanged { (result ≡ Err Unmet.NoOrder) ⊎ (result ≡ Err Unmet.NoMemory)
-            → self.new ≡ self.old }
+        ensures met { IfOk result (λ r. (order : ℕ) × HasOrder frames order
+            × IsMet self.old self.new order limit r) }
+        ensures no_order { result ≡ Err Unmet.NoOrder
+            → (order : ℕ) → HasOrder frames order → ⊥ }
+        ensures miss { result ≡ Err Unmet.Miss → (order : ℕ) × HasOrder frames order
+            × Misses self.old.magazines order (reach self.old limit) }
+        ensures empty { result ≡ Err Unmet.Empty → (order : ℕ) × HasOrder frames order
+            × (magazine_of self.old.magazines order ≡ []) }
+        ensures no_memory { result ≡ Err Unmet.NoMemory → self.old.room ≡ false }
+        ensures unchanged { OnErr result (self.new ≡ self.old) }
+    {
+        if !is_cached(frames) {
+            return Err(Unmet::NoOrder);
+        }
+        let order = order_of_need(frames);
+        self.magazines.look(order, limit.min(self.most))?;
+        let Ok(()) = self.make_room() else {
+            return Err(Unmet::NoMemory);
+        };
+        self.get(order, limit)
+    }
+
+    /// The same where there is room.
+    #[inline(always)]
+    pub fn alloc_in_room(&mut self, frames: u64, limit: u64) -> Result<Range, Unmet>
+        requires { self.old.room ≡ true }
+        ensures met { IfOk result (λ r. (order : ℕ) × HasOrder frames order
+            × IsMet self.old self.new order limit r) }
+        ensures no_order { result ≡ Err Unmet.NoOrder
+            → (order : ℕ) → HasOrder frames order → ⊥ }
+        ensures miss { result ≡ Err Unmet.Miss → (order : ℕ) × HasOrder frames order
+            × Misses self.old.magazines order (reach self.old limit) }
+        ensures empty { result ≡ Err Unmet.Empty → (order : ℕ) × HasOrder frames order
+            × (magazine_of self.old.magazines order ≡ []) }
+        ensures no_memory { result ≢ Err Unmet.NoMemory }
+        ensures unchanged { OnErr result (self.new ≡ self.old) }
     {
         if !is_cached(frames) {
             return Err(Unmet::NoOrder);
@@ -147,106 +174,102 @@ impl Cache {
         self.get(order_of_need(frames), limit)
     }
 
-    /// The same by the order, 0 to 5.
+    /// Room for one range more. `NoMemory` where memory is refused, and nothing has changed.
+    pub(crate) fn make_room(&mut self) -> Result<(), Refusal>
+        ensures room { OnOk result (HasMoreRoom self.old self.new) }
+        ensures full { OnErr result (self.old.room ≡ false) }
+        ensures refused { IsOkUnless result Refusal.NoMemory }
+        ensures unchanged { OnErr result (self.new ≡ self.old) }
+    {
+        if self.held.has_room() {
+            return Ok(());
+        }
+        self.held.grow()
+    }
+
+    /// The newest range of an order, 0 to 5, goes to the user.
     #[inline(always)]
     fn get(&mut self, order: u8, limit: u64) -> Result<Range, Unmet>
-        requires { order < ORDERS }
+        requires order { order < ORDERS }
+        requires room { self.old.room ≡ true }
         ensures met { IfOk result (IsMet self.old self.new order limit) }
-        ensures kind { result ≢ Err Unmet.NoOrder }
-        ensures miss { result ≡ Err Unmet.Miss → IsUnmet self.old self.new order limit Got.Miss }
-        ensures empty { result ≡ Err Unmet.Empty
-            → IsUnmet self.old self.new order limit Got.Empty }
-        ensures unchanged { result ≡ Err Unmet.NoMemory → self.new ≡ self.old }
+        ensures kind { (result ≢ Err Unmet.NoOrder) × (result ≢ Err Unmet.NoMemory) }
+        ensures miss { result ≡ Err Unmet.Miss
+            → Misses self.old.magazines order (reach self.old limit) }
+        ensures empty { result ≡ Err Unmet.Empty → magazine_of self.old.magazines order ≡ [] }
+        ensures unchanged { OnErr result (self.new ≡ self.old) }
     {
-        let Ok(()) = self.held.reserve() else {
-            return Err(Unmet::NoMemory);
-        };
-        match self.magazines.try_get(order, reach_of(self.sac, limit)) {
-            Got::Hit(lo) => {
-                let range = Range::new(lo, 1 << order);
-                self.held.insert(range);
-                Ok(range)
-            }
-            Got::Miss => Err(Unmet::Miss),
-            Got::Empty => Err(Unmet::Empty),
-        }
+        let range = self.magazines.take_up_to(order, limit.min(self.most))?;
+        self.held.insert(range);
+        Ok(range)
     }
 
     /// The user gives up the range that begins there: the device has stopped using it, and its
     /// mapping is gone. It waits in the ring with the count `start`, the number of the last flush
     /// that has begun since: a count that is read late is only higher, one that was read before
     /// isn't sound. Refused, with no change, by `NotHeld` exactly where the user holds no range
-    /// that begins there, else by `NoOrder` exactly where that range isn't of 1, 2, 4, 8, 16 or 32
-    /// frames, else by `RingFull` exactly where 255 wait.
+    /// that begins there, else by `NoOrder` exactly where that range has more than 32 frames, else
+    /// by `RingFull` exactly where 255 wait.
     #[inline(always)]
     pub fn unmap(&mut self, lo: u64, start: u64) -> Result<Range, Kept>
         ensures given_up { IfOk result (λ r. (find (begins_at lo) self.old.held ≡ Some r)
-            × IsGivenUp self.old self.new r start) }
-        ensures order { IfOk result (λ r. (order : ℕ) × (order_of r.len ≡ Some order)) }
+            × (r.len ≤ MOST_CACHED) × IsGivenUp self.old self.new r start) }
         ensures room { OnOk result (length self.old.ring < 255) }
         ensures not_held { result ≡ Err Kept.NotHeld → find (begins_at lo) self.old.held ≡ None }
         ensures no_order { result ≡ Err Kept.NoOrder → (r : Frames)
-            × (find (begins_at lo) self.old.held ≡ Some r) × (order_of r.len ≡ None) }
-        ensures full { result ≡ Err Kept.RingFull → (length self.old.ring ≡ 255)
-            × ((r : Frames) × (find (begins_at lo) self.old.held ≡ Some r)) }
+            × (find (begins_at lo) self.old.held ≡ Some r) × (MOST_CACHED < r.len) }
+        ensures full { result ≡ Err Kept.RingFull → (length self.old.ring ≡ 255) × ((r : Frames)
+            × (find (begins_at lo) self.old.held ≡ Some r) × (r.len ≤ MOST_CACHED)) }
         ensures unchanged { OnErr result (self.new ≡ self.old) }
     {
-        let Some(range) = self.held.find(lo) else {
-            return Err(Kept::NotHeld);
-        };
-        let Some(_) = order_of(range.len()) else {
-            return Err(Kept::NoOrder);
-        };
-        let entry = Entry {
+        if self.ring.is_full() {
+            return Err(self.kept(lo));
+        }
+        let range = self.held.take_cached(lo)?;
+        self.ring.add(Entry {
             lo: range.lo(),
             len: range.len(),
             count: start,
-        };
-        let Ok(()) = self.ring.add(entry) else {
-            return Err(Kept::RingFull);
-        };
-        let _taken = self.held.take(lo);
+        });
         Ok(range)
+    }
+
+    /// Why what begins there is kept, where 255 wait.
+    #[cold]
+    #[inline(never)]
+    fn kept(&self, lo: u64) -> Kept
+        ensures not_held { result ≡ Kept.NotHeld → find (begins_at lo) self.now.held ≡ None }
+        ensures no_order { result ≡ Kept.NoOrder → (r : Frames)
+            × (find (begins_at lo) self.now.held ≡ Some r) × (MOST_CACHED < r.len) }
+        ensures full { result ≡ Kept.RingFull → (r : Frames)
+            × (find (begins_at lo) self.now.held ≡ Some r) × (r.len ≤ MOST_CACHED) }
+    {
+        let Some(range) = self.held.find(lo) else {
+            return Kept::NotHeld;
+        };
+        if range.len() > MOST_CACHED {
+            return Kept::NoOrder;
+        }
+        Kept::RingFull
     }
 
     /// Takes out of the ring what a flush has covered that began later, oldest first: each range
     /// whose count is below `newest`, the greatest number of a flush that has ended well, goes to
-    /// the magazines of its order, until one is full. It answers how many there were. What is clean
-    /// and finds its magazines full stays, as do those behind it.
-    #[inline]
+    /// the magazine of its order, until one is full. It answers how many there were. What is clean
+    /// and finds its magazine full stays, as do those behind it.
     pub fn settle(&mut self, newest: u64) -> u64
         ensures { IsSettled self.old self.new newest result }
     {
-        let waiting = self.waiting();
-        for count in 0..waiting {
-            if !self.settle_one(newest) {
-                return count as u64;
-            }
-        }
-        waiting as u64
+        let count = put_flushed(&mut self.magazines, &self.ring, newest);
+        self.ring.drop_oldest(count);
+        count as u64
     }
 
-    /// The oldest range goes from the ring to its magazines, where it is clean and they have room.
-    #[inline]
-    fn settle_one(&mut self, newest: u64) -> bool
-        ensures moved { OnTrue result (SettlesOne self.old self.new newest) }
-        ensures stays { OnFalse result (OldestStays newest self.old.magazines self.old.ring) }
-        ensures unchanged { OnFalse result (self.new ≡ self.old) }
+    /// The client whose ranges it has.
+    pub fn client(&self) -> ClientId
+        ensures { result ≡ self.now.client }
     {
-        let Some(entry) = oldest(&self.ring) else {
-            return false;
-        };
-        if newest <= entry.count {
-            return false;
-        }
-        let Some(order) = order_of(entry.len) else {
-            return false;
-        };
-        if !self.magazines.try_put(order, entry.lo) {
-            return false;
-        }
-        let _ = self.ring.take_flushed(newest);
-        true
+        self.client
     }
 
     /// How many ranges wait in the ring, at most 255.
@@ -259,14 +282,33 @@ impl Cache {
     }
 }
 
-/// The oldest entry.
-#[inline]
-fn oldest(ring: &Ring) -> Option<Entry>
-    ensures { result ≡ slice_get ring.now 0 }
+/// The oldest entries of a ring go into the magazines, as long as they are clean and find room.
+/// Answers how many there were; they are still in the ring.
+fn put_flushed(magazines: &mut Magazines, ring: &Ring, newest: u64) -> usize
+    ensures { IsSettling magazines.old magazines.new ring.now newest result }
 {
-    let (first, second) = ring.as_slices();
-    match first.first() {
-        Some(entry) => Some(*entry),
-        None => second.first().copied(),
+    let waiting = ring.len();
+    for count in 0..waiting {
+        let entry = ring.get(count);
+        if newest <= entry.count {
+            return count;
+        }
+        if !put_entry(magazines, entry) {
+            return count;
+        }
     }
+    waiting
+}
+
+/// The range of an entry goes into the magazine of its order, where there aren't 256.
+#[inline(always)]
+fn put_entry(magazines: &mut Magazines, entry: Entry) -> bool
+    requires { IsCachedEntry entry }
+    ensures put { OnTrue result (magazines.new ≡ with_entry magazines.old entry) }
+    ensures full { OnFalse result
+        (length (magazine_of magazines.old (order_in entry.len)) ≡ MAGAZINE) }
+    ensures unchanged { OnFalse result (magazines.new ≡ magazines.old) }
+{
+    let range = Range::new(entry.lo, entry.len);
+    magazines.put(order_of_need(entry.len), range)
 }

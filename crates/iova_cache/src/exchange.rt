@@ -1,22 +1,27 @@
 //! What a cache and its domain exchange, each in one call that has both: when it returns no range
 //! is on its way.
-ghost use Rattle.std.specs.Prelude.{◌≡◌, ◌≤◌, ◌⊎◌, find, Some, None, IfOk, IfErr};
+ghost use Rattle.std.specs.Prelude.{◌≡◌, ◌≤◌, ◌<◌, ◌⊎◌, find, Some, None, IfOk, IfErr};
+ghost use Rattle.iova_range.specs.Sizes.{need};
 ghost use Rattle.iova_model.specs.Clients.{begins_at};
 ghost use Rattle.iova_core.specs.Domain.{IsStepOf};
 ghost use Rattle.iova_cache.specs.Held.{CanBeHeld};
-ghost use Rattle.iova_cache.specs.Caches.{new_cache};
-ghost use Rattle.iova_cache.specs.Exchanges.{request, giving_up, IsAsked, IsDenied, IsOwnRefusal, IsReturned};
+ghost use Rattle.iova_cache.specs.Caches.{new_cache, odd};
+ghost use Rattle.iova_cache.specs.Exchanges.{request, giving_up, IsAsked, IsDenied, IsOwnRefusal, IsReturned, IsRefilled, IsRefillRefusal, IsSpilled, IsUnspilled};
 
 use crate::cache::Cache;
+use crate::magazine::MAGAZINE;
 use iova_core::domain::Domain;
 use iova_core::{ClientId, Reply, Step};
 use iova_laws::replies::steps_are_answered_in_kind;
 use iova_laws::requests::requests_are_answered;
-use iova_range::limits::MAX_FRAMES;
+use iova_range::limits::{MAX_FRAMES, MOST_CACHED, ORDERS};
 use iova_range::range::Range;
 use iova_range::refusal::Refusal;
-use iova_range::sizes::{order_for, size_for};
+use iova_range::sizes::{order_for, order_of_need, size_for};
 use std::alloc::Global;
+
+/// The most ranges of one refill or spill, in which a lock is held.
+const AT_ONCE: u64 = 64;
 
 /// Asks the domain for a range of the client, of 1 to 1,048,576 frames.
 fn ask(
@@ -31,6 +36,7 @@ fn ask(
     ensures given { IfOk result (λ r. IsStepOf domain.old (Step.Alloc worker client frames limit)
         (Reply.Given r) domain.new) }
     ensures held { IfOk result CanBeHeld }
+    ensures size { IfOk result (λ r. (odd r ≡ 0) × (r.len ≡ need frames)) }
     ensures refused { IfErr result (λ x. IsStepOf domain.old
         (Step.Alloc worker client frames limit) (Reply.Refused x) domain.new) }
 {
@@ -38,6 +44,11 @@ fn ask(
     requests_are_answered();
     steps_are_answered_in_kind();
     let _size = size_for(frames, order_for(frames));
+    let _order = if frames <= MOST_CACHED {
+        order_of_need(frames)
+    } else {
+        0
+    };
     let _workers = domain.workers();
     let step = Step::Alloc {
         worker,
@@ -147,7 +158,7 @@ impl Cache {
         if frames > MAX_FRAMES {
             return Err(Refusal::TooBig);
         }
-        let Ok(()) = self.held.reserve() else {
+        let Ok(()) = self.make_room() else {
             return Err(Refusal::NoMemory);
         };
         match ask(domain, self.worker, self.client, frames, limit) {
@@ -181,6 +192,78 @@ impl Cache {
             }
             Err(refusal) => Err(refusal),
         }
+    }
+
+    /// Gives the magazines ranges of the domain for `frames`, 1 to 32, none with a frame above
+    /// `limit`: up to `most`, 64 and what there is room for, each by one step. Answers how many.
+    /// A refusal ends it: of the first range it is the answer. Before the domain is asked `Zero`
+    /// and `TooBig`, for more than 32 frames.
+    pub fn refill(
+        &mut self,
+        domain: &mut Domain,
+        frames: u64,
+        limit: u64,
+        most: u64,
+    ) -> Result<u64, Refusal>
+        ensures refilled { IfOk result (IsRefilled self.old self.new domain.old domain.new frames
+            limit most) }
+        ensures refused { IfErr result (λ x. (self.new ≡ self.old)
+            × ((IsRefillRefusal frames x × (domain.new ≡ domain.old))
+            ⊎ IsStepOf domain.old (request self.old frames limit) (Reply.Refused x) domain.new)) }
+    {
+        if frames == 0 {
+            return Err(Refusal::Zero);
+        }
+        if frames > MOST_CACHED {
+            return Err(Refusal::TooBig);
+        }
+        let order = order_of_need(frames);
+        let room = (MAGAZINE - self.magazines.len(order)) as u64;
+        let all = most.min(AT_ONCE).min(room);
+        for count in 0..all {
+            match ask(domain, self.worker, self.client, frames, limit) {
+                Ok(range) => {
+                    let _put = self.magazines.put(order, range);
+                }
+                Err(refusal) => {
+                    if count == 0 {
+                        return Err(refusal);
+                    }
+                    return Ok(count);
+                }
+            }
+        }
+        Ok(all)
+    }
+
+    /// Gives the newest ranges of an order, 0 to 5, back to the domain, in whose ring they wait: up
+    /// to `most`, 64 and what there are, each by one step. Answers how many. One that the domain
+    /// refuses stays in its magazine, and ends it: the first one's refusal is the answer.
+    pub fn spill(&mut self, domain: &mut Domain, order: u8, most: u64) -> Result<u64, Refusal>
+        requires { order < ORDERS }
+        ensures spilled { IfOk result (IsSpilled self.old self.new domain.old domain.new order
+            most) }
+        ensures refused { IfErr result (λ x. (self.new ≡ self.old)
+            × IsUnspilled self.old domain.old domain.new order x) }
+    {
+        let all = most.min(AT_ONCE).min(self.magazines.len(order) as u64);
+        for count in 0..all {
+            let Some(range) = self.magazines.newest(order) else {
+                return Ok(count);
+            };
+            match give_back(domain, self.worker, self.client, range.lo()) {
+                Ok(_) => {
+                    let _taken = self.magazines.take(order);
+                }
+                Err(refusal) => {
+                    if count == 0 {
+                        return Err(refusal);
+                    }
+                    return Ok(count);
+                }
+            }
+        }
+        Ok(all)
     }
 
     /// Ends the cache: it is gone, and its client is marked closing, so that nothing more is given

@@ -1,11 +1,13 @@
 //! What a user holds: a range is found by its first frame, at one look.
-ghost use Rattle.std.specs.Prelude.{◌≡◌, ◌≤◌, ◌<◌, ◌+◌, ℕ, [], true, length, find, replicate, sum_by, IsTrue, ◌↔◌, IfOk, IfSome, IfNone, OnOk, OnErr, IsOkUnless};
+ghost use Rattle.std.specs.Prelude.{◌≡◌, ◌≢◌, ◌≤◌, ◌<◌, ◌+◌, ◌-◌, ◌^◌, ℕ, [], true, Some, None, Err, length, find, replicate, slice_get, sum_by, IsTrue, ◌↔◌, IfOk, IfSome, IfNone, OnOk, OnErr, IsOkUnless};
 ghost use Rattle.std.specs.Bool.{OnTrue};
 ghost use Rattle.iova_range.specs.Frames.{Frames};
 ghost use Rattle.iova_model.specs.Clients.{begins_at};
 ghost use Rattle.iova_cache.specs.Held.{CanBeHeld, Gains, home_of, all_ranges};
 
 use crate::bucket::Bucket;
+use crate::cache::Kept;
+use iova_range::limits::MOST_CACHED;
 use iova_range::range::Range;
 use iova_range::refusal::Refusal;
 use std::alloc::Global;
@@ -55,14 +57,12 @@ impl Model for Table {
 
 /// The bucket of a range that begins there.
 #[inline(always)]
-fn home(lo: u64, shift: u32, count: usize) -> usize
-    requires some { 1 ≤ count }
-    requires shifts { shift < 64 }
-    ensures is { result ≡ home_of shift count lo }
-    ensures within { result < count }
+fn home(lo: u64, shift: u32) -> usize
+    requires { shift < 64 }
+    ensures is { result ≡ home_of shift lo }
+    ensures within { result < 2 ^ (64 - shift) }
 {
-    let spread = lo.wrapping_mul(SPREAD) >> shift;
-    (spread as usize).min(count - 1)
+    (lo.wrapping_mul(SPREAD) >> shift) as usize
 }
 
 /// So many empty buckets.
@@ -106,7 +106,7 @@ impl Table {
 
     /// Whether one range more comes in without memory.
     #[inline(always)]
-    fn has_room(&self) -> bool
+    pub(crate) fn has_room(&self) -> bool
         ensures { result ≡ self.now.room }
     {
         self.room
@@ -118,7 +118,7 @@ impl Table {
         ensures is { result ≡ find (begins_at lo) self.now.ranges }
         ensures held { IfSome result CanBeHeld }
     {
-        let bucket = &self.buckets[home(lo, self.shift, self.buckets.len())];
+        let bucket = &self.buckets[home(lo, self.shift)];
         bucket.find(lo)
     }
 
@@ -129,7 +129,7 @@ impl Table {
         requires held { CanBeHeld range }
         ensures { Gains range self.old.ranges self.new.ranges }
     {
-        let place = home(range.lo(), self.shift, self.buckets.len());
+        let place = home(range.lo(), self.shift);
         let bucket = &mut self.buckets[place];
         bucket.push(range);
         let full = bucket.is_full();
@@ -144,30 +144,66 @@ impl Table {
         ensures taken { IfSome result (λ r. Gains r self.new.ranges self.old.ranges) }
         ensures none { IfNone result (self.new ≡ self.old) }
     {
-        let place = home(lo, self.shift, self.buckets.len());
+        let place = home(lo, self.shift);
         let bucket = &mut self.buckets[place];
         bucket.take(lo)
     }
 
-    /// Makes room for one range more, so that the next `insert` takes no memory. `NoMemory` where
-    /// memory is refused, and nothing has changed.
+    /// The same, where a magazine may take it: it has at most 32 frames. One look finds it.
     #[inline(always)]
-    pub(crate) fn reserve(&mut self) -> Result<(), Refusal>
-        ensures room { OnOk result (self.new.room ≡ true) }
-        ensures same { (weigh : Frames → ℕ) → sum_by weigh self.new.ranges
-            ≡ sum_by weigh self.old.ranges }
-        ensures refused { IsOkUnless result Refusal.NoMemory }
+    pub(crate) fn take_cached(&mut self, lo: u64) -> Result<Range, Kept>
+        ensures taken { IfOk result (λ r. (find (begins_at lo) self.old.ranges ≡ Some r)
+            × Gains r self.new.ranges self.old.ranges) }
+        ensures few { IfOk result (λ r. r.len ≤ MOST_CACHED) }
+        ensures held { IfOk result CanBeHeld }
+        ensures not_held { result ≡ Err Kept.NotHeld
+            → find (begins_at lo) self.old.ranges ≡ None }
+        ensures no_order { result ≡ Err Kept.NoOrder → (r : Frames)
+            × (find (begins_at lo) self.old.ranges ≡ Some r) × (MOST_CACHED < r.len) }
+        ensures not_full { result ≢ Err Kept.RingFull }
         ensures unchanged { OnErr result (self.new ≡ self.old) }
     {
-        if self.has_room() {
-            return Ok(());
-        }
-        self.grow()
+        let place = home(lo, self.shift);
+        let bucket = &mut self.buckets[place];
+        bucket.take_cached(lo)
     }
 
-    /// The same, where there is no room.
+    /// The first range of all.
+    pub(crate) fn any(&self) -> Option<Range>
+        ensures first { result ≡ slice_get self.now.ranges 0 }
+        ensures none { IfNone result (self.now.ranges ≡ []) }
+    {
+        let count = self.buckets.len();
+        for place in 0..count {
+            let bucket = &self.buckets[place];
+            let ranges = bucket.len();
+            if ranges > 0 {
+                let range = bucket.get(0);
+                return Some(range);
+            }
+        }
+        None
+    }
+
+    /// How many ranges there are. It walks over the buckets.
+    pub(crate) fn len(&self) -> u64
+        ensures { result ≡ length self.now.ranges }
+    {
+        let count = self.buckets.len();
+        let mut all = 0;
+        for place in 0..count {
+            let bucket = &self.buckets[place];
+            let ranges = bucket.len();
+            all += ranges as u64;
+        }
+        all
+    }
+
+    /// Makes room for one range more, so that the next `insert` takes no memory. `NoMemory` where
+    /// memory is refused, and nothing has changed.
     #[cold]
-    fn grow(&mut self) -> Result<(), Refusal>
+    #[inline(never)]
+    pub(crate) fn grow(&mut self) -> Result<(), Refusal>
         ensures room { OnOk result (self.new.room ≡ true) }
         ensures same { (weigh : Frames → ℕ) → sum_by weigh self.new.ranges
             ≡ sum_by weigh self.old.ranges }

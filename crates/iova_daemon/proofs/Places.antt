@@ -6,6 +6,7 @@ use Rattle.std.proofs.lemmas.Simd.{map-map}
 use Rattle.std.proofs.lemmas.List.{append-nil, length-append, map-append}
 use Rattle.iova_sink.specs.Calls.{Call, good_calls}
 use Rattle.iova_keep.specs.Views.{SeatState, TallyState, KeepsPlace, RisesWithin}
+use Rattle.iova_lock.specs.Books.{tally_parts}
 use Rattle.iova_daemon.specs.Serving.{AreKept, none, kept, AreWithin, CountsWithin}
 
 -- one more, behind all others
@@ -93,3 +94,21 @@ within_kept seat old mid now {cs} {ds} between left =
     let within : sum_by good (map seat now) + sum_by good_calls cs ≤ sum_by good (map seat mid) + sum_by good_calls ds = counted_within between in
     let same : sum_by good (map seat mid) ≡ sum_by good (map seat old) = same_good seat mid old left in
     omega (arith, within, same)
+
+-- no part of a tally is lost
+same_parts : {ss ts : List SeatState} {cs ds : List (List Call)} → AreKept ss cs ts ds → tally_parts ts ≡ tally_parts ss
+same_parts none = refl
+same_parts (kept s t c d ss ts cs ds one more) =
+    let parts : SeatState → ℕ = λ s. s.tally.parts in
+    let a : sum_by parts (t ∷ ts) ≡ 0 + t.tally.parts + sum_by parts ts = sum_by-append parts (t ∷ []) ts in
+    let b : sum_by parts (s ∷ ss) ≡ 0 + s.tally.parts + sum_by parts ss = sum_by-append parts (s ∷ []) ss in
+    let rest : sum_by parts ts ≡ sum_by parts ss = same_parts more in
+    omega (arith, a, b, one.parts, rest)
+
+-- of places from which a part was split off before, as many are left with that one
+pub parts_kept : {A : Type 0} (seat : A → SeatState) (old mid now : List A) {cs ds : List (List Call)} (split left : ℕ)
+    → AreKept (map seat mid) cs (map seat now) ds
+    → tally_parts (map seat mid) + split ≡ tally_parts (map seat old) → left ≡ split
+    → tally_parts (map seat now) + left ≡ tally_parts (map seat old)
+parts_kept seat old mid now split left between before same =
+    omega (arith, same_parts between, before, same)

@@ -1,6 +1,6 @@
 //! The flusher: rounds beside the workers, and flushes ahead of them.
 ghost use Rattle.std.specs.Prelude.{◌≡◌};
-ghost use Rattle.iova_keep.specs.Views.{RisesWithin};
+ghost use Rattle.iova_keep.specs.Views.{KeepsTally};
 
 use crate::roster::Roster;
 use crate::threads::SideTask;
@@ -90,7 +90,7 @@ where
     D: Sink,
     P: Pause,
 {
-    ghost good = { λ f. f.tally.good };
+    ghost tally = { λ f. f.tally };
 
     ghost calls = { λ f. D.calls f.sink };
 
@@ -169,7 +169,7 @@ where
     K: Keep<B>,
     D: Sink,
     P: Pause,
-    ensures { RisesWithin tally.old.good tally.new.good (D.calls sink.old) (D.calls sink.new) }
+    ensures { KeepsTally tally.old tally.new (D.calls sink.old) (D.calls sink.new) }
 {
     busy.is_busy = false;
     let mut start = keeper.stat().start;

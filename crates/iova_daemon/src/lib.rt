@@ -4,6 +4,7 @@
 ghost use Rattle.std.specs.Prelude.{◌≡◌, ◌+◌, ◌≤◌, Ok, Err, IfOk, IfErr, map, vec_len, slice_get};
 ghost use Rattle.std.specs.Option.{ForSome};
 ghost use Rattle.iova_keep.specs.Views.{RisesWithin};
+ghost use Rattle.iova_lock.specs.Books.{tally_parts};
 ghost use Rattle.iova_daemon.specs.Serving.{AreWithin, CountsWithin, IsServeRefusal};
 
 mod crossing;
@@ -209,6 +210,8 @@ where
     ensures within { IfOk result (λ r. CountsWithin (map (λ p. p.seat) posts.items)
         (map D.calls sinks.items) (map (λ p. p.seat) r.served.posts.items) r.tally
         (map D.calls r.sinks.items) (D.calls r.sink)) }
+    ensures parts { IfOk result (λ r. tally_parts (map (λ p. p.seat) r.served.posts.items)
+        + r.tally.parts ≡ tally_parts (map (λ p. p.seat) posts.items)) }
     ensures refusal { IfErr result IsServeRefusal }
 {
     // for the proof: what threads may share
@@ -289,6 +292,8 @@ where
     ensures within { IfOk result (λ k. AreWithin (map (λ p. p.seat) posts.items)
         (map D.calls sinks.items) (map (λ p. p.seat) k.posts.items) (map D.calls k.sinks.items)) }
     ensures flusher { IfOk result (λ k. RisesWithin 0 k.tally.good (D.calls sink) (D.calls k.sink)) }
+    ensures parts { IfOk result (λ k. tally_parts (map (λ p. p.seat) k.posts.items) + k.tally.parts
+        ≡ tally_parts (map (λ p. p.seat) posts.items)) }
     ensures refusal { IfErr result IsServeRefusal }
 {
     // for the proof: what a worker has may go to its thread
@@ -338,6 +343,8 @@ fn split_first<B: Names>(posts: &mut Vec<Post<B>>) -> Tally<B>
         ≡ map (λ p. p.seat.worker) posts.old.items }
     ensures tallies { map (λ p. p.seat.tally.good) posts.new.items
         ≡ map (λ p. p.seat.tally.good) posts.old.items }
+    ensures parts { tally_parts (map (λ p. p.seat) posts.new.items) + result.parts
+        ≡ tally_parts (map (λ p. p.seat) posts.old.items) }
     ensures length { vec_len posts.new ≡ vec_len posts.old }
 {
     posts[0].seat.tally().split()

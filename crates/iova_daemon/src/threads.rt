@@ -1,8 +1,8 @@
 //! The workers' threads, started and joined. What a worker does, and what is done beside them,
 //! stand behind bounds here.
-ghost use Rattle.std.specs.Prelude.{◌≡◌, ◌≤◌, ℕ, List, [], IfOk, IfErr, map, vec_len, vec_capacity, true};
+ghost use Rattle.std.specs.Prelude.{◌≡◌, ◌≤◌, List, [], IfOk, IfErr, map, vec_len, vec_capacity, true};
 ghost use Rattle.iova_sink.specs.Calls.{Call};
-ghost use Rattle.iova_keep.specs.Views.{SeatState, KeepsPlace, RisesWithin};
+ghost use Rattle.iova_keep.specs.Views.{SeatState, TallyState, KeepsPlace, KeepsTally};
 ghost use Rattle.iova_daemon.specs.Serving.{AreKept, IsServeRefusal};
 
 use crate::roster::Roster;
@@ -50,15 +50,15 @@ pub(crate) trait Work<P: Place, D: Sink> {
 
 /// What is done beside the workers, on the thread that started them.
 pub(crate) trait SideTask {
-    /// How many flushes it has counted as ended well.
-    ghost good: { Self → ℕ };
+    /// Where it counts the flushes that ended well.
+    ghost tally: { Self → TallyState };
 
     /// The calls of its sink.
     ghost calls: { Self → List Call };
 
     /// Does it until all workers have ended, or before.
     fn go_on(&mut self)
-        ensures { RisesWithin (good self.old) (good self.new) (calls self.old) (calls self.new) };
+        ensures { KeepsTally (tally self.old) (tally self.new) (calls self.old) (calls self.new) };
 }
 
 /// What is there once all threads have been joined.
@@ -112,7 +112,7 @@ where
     requires { vec_len places ≡ vec_len sinks }
     ensures kept { IfOk result (λ j. AreKept (map P.seat places.items) (map D.calls sinks.items)
         (map P.seat j.places.items) (map D.calls j.sinks.items)) }
-    ensures beside { IfOk result (λ j. RisesWithin (B.good beside) (B.good j.beside)
+    ensures beside { IfOk result (λ j. KeepsTally (B.tally beside) (B.tally j.beside)
         (B.calls beside) (B.calls j.beside)) }
     ensures refusal { IfErr result IsServeRefusal }
 {
@@ -124,7 +124,7 @@ where
             ensures kept { IfOk result
                 (λ j. AreKept (map P.seat places.items) (map D.calls sinks.items)
                 (map P.seat j.places.items) (map D.calls j.sinks.items)) }
-            ensures beside { IfOk result (λ j. RisesWithin (B.good beside) (B.good j.beside)
+            ensures beside { IfOk result (λ j. KeepsTally (B.tally beside) (B.tally j.beside)
                 (B.calls beside) (B.calls j.beside)) }
             ensures refusal { IfErr result IsServeRefusal }
         { run_in(scope, rt, context, places, sinks, beside) },
@@ -150,7 +150,7 @@ where
     requires { vec_len places ≡ vec_len sinks }
     ensures kept { IfOk result (λ j. AreKept (map P.seat places.items) (map D.calls sinks.items)
         (map P.seat j.places.items) (map D.calls j.sinks.items)) }
-    ensures beside { IfOk result (λ j. RisesWithin (B.good beside) (B.good j.beside)
+    ensures beside { IfOk result (λ j. KeepsTally (B.tally beside) (B.tally j.beside)
         (B.calls beside) (B.calls j.beside)) }
     ensures refusal { IfErr result IsServeRefusal }
 {

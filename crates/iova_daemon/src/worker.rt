@@ -1,6 +1,13 @@
 //! A slot of a worker: sessions at one post, one after another.
-ghost use Rattle.std.specs.Prelude.{◌≡◌};
-ghost use Rattle.iova_keep.specs.Views.{KeepsPlace};
+ghost use Rattle.std.specs.Prelude.{◌≡◌, ◌⊎◌, ◌+◌, ℕ, List, None, vec_capacity};
+ghost use Rattle.std.specs.Io.KnownBytes.{Appends, Consumes};
+ghost use Rattle.iova_keep.specs.Views.{KeepsPlace, WhereKnown};
+ghost use Rattle.iova_session.specs.declared.run.SessionEnd.{SessionEnd};
+ghost use Rattle.iova_session.specs.declared.session_limits.SessionLimits.{SessionLimits};
+ghost use Rattle.iova_session.specs.Desks.{AreAnswers};
+ghost use Rattle.iova_session.specs.Pairs.{Pair};
+ghost use Rattle.iova_session.specs.Posts.{EndsClient, RetriesAll};
+ghost use Rattle.iova_session.specs.Sessions.{ServesWithin};
 
 use crate::pool::{Accepted, Pool, Turn};
 use crate::roster::{Roster, Stands};
@@ -132,8 +139,8 @@ where
     }
 }
 
-/// Serves a session at the post, whose slot has told of so many waiting clients; gives of how many
-/// it has told then.
+/// Serves a session at the post over the link, from its first byte to the end of its client. The
+/// slot has told of so many waiting clients; gives of how many it has told then.
 fn serve_accepted<R, N, B, K, L, A, D, X>(
     context: &WorkerContext<&R, &N, K, &A, &Roster, &Pool<L>, &X>,
     keeper: &mut K,
@@ -151,7 +158,16 @@ where
     L: Link + Drop,
     A: Accept<L>,
     D: Sink,
-    ensures { KeepsPlace post.old.seat post.new.seat (D.calls sink.old.sink)
+    ensures session { (left : L) × (ended : SessionEnd) × (limits : SessionLimits)
+        × (taken : List ℕ) × (ps : List Pair) × (written : List ℕ) × (reads : ℕ)
+        × Consumes (L.left accepted.link) (L.left left) taken
+        × Appends (L.sent accepted.link) (L.sent left) written
+        × (L.reads left ≡ L.reads accepted.link + reads)
+        × ServesWithin limits.requests limits.reads taken ps written reads ended.end
+        × AreAnswers (K.identity keeper.old).number None 0 ps
+        × EndsClient ps ended.client post.old.seat.held post.new.seat.held post.old.waiting.items
+        post.new.waiting.items }
+    ensures place { KeepsPlace post.old.seat post.new.seat (D.calls sink.old.sink)
         (D.calls sink.new.sink) }
 {
     let Accepted { mut link, session } = accepted;
@@ -191,6 +207,10 @@ pub(crate) fn try_again<B: Names, K: Keep<B>, D: Sink>(
     post: &mut Post<B>,
     sink: &mut D,
 )
+    ensures tries { (post.new ≡ post.old) ⊎ WhereKnown (K.domain keeper.old) (K.domain keeper.new)
+        (RetriesAll (vec_capacity post.old.ranges) (K.identity keeper.old).number
+        post.old.waiting.items post.new.waiting.items post.old.seat post.new.seat
+        (D.calls sink.old) (D.calls sink.new)) }
     ensures place { KeepsPlace post.old.seat post.new.seat (D.calls sink.old) (D.calls sink.new) }
     ensures number { (K.identity keeper.new).number ≡ (K.identity keeper.old).number }
 {

@@ -60,6 +60,20 @@ impl<A: Sink, B: Sink> Sink for EitherSink<A, B> {
             EitherSink::Second(sink) => sink.unlock(),
         }
     }
+
+    fn wait_for_turn(&mut self) -> bool {
+        match self {
+            EitherSink::First(sink) => sink.wait_for_turn(),
+            EitherSink::Second(sink) => sink.wait_for_turn(),
+        }
+    }
+
+    fn pass_on(&mut self) {
+        match self {
+            EitherSink::First(sink) => sink.pass_on(),
+            EitherSink::Second(sink) => sink.pass_on(),
+        }
+    }
 }
 
 /// A daemon's sink: a file that takes records, or a peer that answers.

@@ -1,5 +1,5 @@
 -- What contracts see of seats and tallies, and what a keeper tells.
-use Rattle.std.specs.Prelude.{ℕ, zero, suc, ◌≡◌, ◌+◌, ◌*◌, ◌<◌, ◌≤◌, ◌%◌, ◌⊎◌, Bool, List, [], ◌∷◌, ◌++◌, length, Option, Some, None, Result, Ok, Err, MatchOption, if◌then◌else◌}
+use Rattle.std.specs.Prelude.{ℕ, zero, suc, ◌≡◌, ◌≢◌, ◌+◌, ◌*◌, ◌<◌, ◌≤◌, ◌%◌, ◌⊎◌, Bool, true, List, [], ◌∷◌, ◌++◌, length, Option, Some, None, Result, Ok, Err, MatchOption, if◌then◌else◌}
 use Rattle.std.specs.declared.sync.ledger.Blank.{Blank}
 use Rattle.iova_range.specs.declared.refusal.Refusal.{Refusal}
 use Rattle.iova_range.specs.declared.refusal.Refusal.TheVariants as refusal
@@ -48,14 +48,15 @@ pub record LedgersState : Type 0 where
 abbrev pub name_of : Blank → LedgerName
 name_of b = record { name = b.name; parts = b.parts }
 
--- the ledgers of four blanks
-abbrev pub names_of : Blanks → LedgerNames
-names_of b =
+-- the ledgers of four blanks, of a domain with so many workers
+abbrev pub names_of : ℕ → Blanks → LedgerNames
+names_of workers b =
     record {
       count = name_of b.count;
       frames = name_of b.frames;
       sum_lo = name_of b.sum_lo;
       good = name_of b.good;
+      workers = workers;
     }
 
 -- a blank is that of this ledger, by its name and its parts, and the parts are so many
@@ -63,16 +64,16 @@ abbrev pub IsBlankOf : Blank → LedgerName → ℕ → Type 0
 IsBlankOf b ledger parts = (b.name ≡ ledger.name) × (b.parts ≡ ledger.parts) × (b.parts ≡ parts)
 
 -- Four blanks are those of these ledgers of a domain with so many seats and workers: of the first
--- three each seat has a part, of the last each worker has all parts of a tally.
-abbrev pub AreBlanksOf : Blanks → LedgerNames → (seats workers : ℕ) → Type 0
-AreBlanksOf b ledgers seats workers =
+-- three each seat has a part, of the last so many, for its tally.
+abbrev pub AreBlanksOf : Blanks → LedgerNames → (seats parts workers : ℕ) → Type 0
+AreBlanksOf b ledgers seats parts workers =
     IsBlankOf b.count ledgers.count seats × IsBlankOf b.frames ledgers.frames seats
-    × IsBlankOf b.sum_lo ledgers.sum_lo seats
-    × IsBlankOf b.good ledgers.good (TALLY_PARTS * workers)
+    × IsBlankOf b.sum_lo ledgers.sum_lo seats × IsBlankOf b.good ledgers.good (parts * seats)
+    × (ledgers.workers ≡ workers)
 
--- one of the workers of a domain, by the parts that all tallies of the domain have
-abbrev pub IsWorker : ℕ → ℕ → Type 0
-IsWorker parts worker = TALLY_PARTS * worker < parts
+-- one of the workers of a domain
+abbrev pub IsWorker : LedgerNames → ℕ → Type 0
+IsWorker ledgers worker = worker < ledgers.workers
 
 -- a worker's new seat, with so many parts for its tally
 abbrev pub seat_with : ℕ → ℕ → SeatState
@@ -231,6 +232,10 @@ abbrev pub IsSecondBegin : Option Reply → Option Reply → Type 0
 IsSecondBegin o None = Unit {0}
 IsSecondBegin o (Some b) = ((q : Frames) × (o ≡ Some (reply.Queued q))) × IsReplyTo step.Begin b
 
+-- in a strict domain no range was queued
+abbrev pub QueuedNone : Bool → Option Reply → Type 0
+QueuedNone strict o = strict ≡ true → (q : Frames) → o ≢ Some (reply.Queued q)
+
 -- what the last closing of a hold may be heard to answer
 abbrev pub IsCloseHeard : Option Reply → Type 0
 IsCloseHeard (Some reply.Empty) = Unit {0}
@@ -256,6 +261,12 @@ pub record KeepsPlace (old new : SeatState) (before now : List Call) : Type 0 wh
   pub worker : new.worker ≡ old.worker
   pub parts : new.tally.parts ≡ old.tally.parts
   pub tally : RisesWithin old.tally.good new.tally.good before now
+
+-- what calls leave of a tally: its parts, and a count that rose by no more than the good calls of the
+-- sink
+pub record KeepsTally (old new : TallyState) (before now : List Call) : Type 0 where
+  pub parts : new.parts ≡ old.parts
+  pub good : RisesWithin old.good new.good before now
 
 -- what a hold leaves of a seat in which a flush ends, as `ok` says: its worker, its parts, and a
 -- tally that rose by one at most, and only where the flush ended well

@@ -6,7 +6,7 @@ ghost use Rattle.iova_model.specs.Clients.{totals, no_totals};
 ghost use Rattle.iova_model.specs.State.{State};
 ghost use Rattle.iova_model.specs.Valid.{Rises};
 ghost use Rattle.iova_model.specs.Effects.{MovesTotals, IsReplyTo, IsGivenTo, ended_well};
-ghost use Rattle.iova_keep.specs.Views.{TallyState, SeatState, Identity, WhereKnown, IsReserveRefusal, IsOpenRefusal, IsAllocRefusal, IsUnmapHeard, IsBeginHeard, IsReleaseBegin, IsSecondBegin, IsCloseHeard, MovesHeard, Lowers, KeepsPlaceAtEnd, queued_by, given_or, stat_of, IsKept, IsWorker, MovesSharesAlone};
+ghost use Rattle.iova_keep.specs.Views.{TallyState, SeatState, Identity, WhereKnown, IsReserveRefusal, IsOpenRefusal, IsAllocRefusal, IsUnmapHeard, IsBeginHeard, IsReleaseBegin, IsSecondBegin, IsCloseHeard, MovesHeard, QueuedNone, Lowers, KeepsPlaceAtEnd, queued_by, given_or, stat_of, IsKept, IsWorker, MovesSharesAlone};
 ghost use Rattle.iova_keep.specs.Batches.{DoesBatch, TellsAsks};
 ghost use Rattle.iova_keep.specs.Releases.{ReleasesFirst, ReleasesAgain, ReleasesLast};
 ghost use Rattle.iova_keep.specs.StepLogs.{StepLog, GoesOn};
@@ -108,7 +108,8 @@ pub trait Keep<B: Names> {
         ensures rest { MovesSharesAlone seat.old seat.new }
         ensures heard { IsUnmapHeard lo result.reply }
         ensures queued { MatchOption result.reply ⊥ (λ r. result.queued ≡ queued_by r) }
-        ensures begun { IsBeginHeard result.reply result.begun };
+        ensures begun { IsBeginHeard result.reply result.begun }
+        ensures full { result.begun ≡ None → result.reply ≢ Some (Reply.Refused Refusal.RingFull) };
 
     /// The second hold of an unmap: the flush ends, as `ok` says, and the unmap is tried again.
     /// `ok` is what a sink answered for this flush.
@@ -190,7 +191,10 @@ pub trait Keep<B: Names> {
         ensures rest { MovesSharesAlone seat.old seat.new }
         ensures heard { IsUnmapHeard lo result.reply }
         ensures queued { MatchOption result.reply ⊥ (λ r. result.queued ≡ queued_by r) }
-        ensures begun { IsReleaseBegin result.reply result.begun };
+        ensures begun { IsReleaseBegin result.reply result.begun }
+        ensures full { result.begun ≡ None → result.reply ≢ Some (Reply.Refused Refusal.RingFull) }
+        ensures strict { result.begun ≡ None
+            → QueuedNone (identity self.old).strict result.reply };
 
     /// The hold of a release after a ring that was full: the flush ends, as `ok` says, and the
     /// unmap is tried again; where it queued a range in a strict domain, a second flush begins.
@@ -215,7 +219,9 @@ pub trait Keep<B: Names> {
         ensures place { KeepsPlaceAtEnd seat.old seat.new ok }
         ensures heard { IsUnmapHeard lo result.reply }
         ensures queued { MatchOption result.reply ⊥ (λ r. result.queued ≡ queued_by r) }
-        ensures begun { IsSecondBegin result.reply result.begun };
+        ensures begun { IsSecondBegin result.reply result.begun }
+        ensures strict { result.begun ≡ None
+            → QueuedNone (identity self.old).strict result.reply };
 
     /// The last hold of a release, after a range that was queued: the flush ends, as `ok` says, and
     /// the worker's ring is drained. Whether the finish count is at least the flush's number then.
@@ -238,7 +244,7 @@ pub trait Keep<B: Names> {
         ensures log { GoesOn (log self.old) (log self.new) }
         ensures domain { WhereKnown (domain self.old) (domain self.new) (DrainsAll by result) }
         ensures refusal { IfErr result (λ e. e ≡ Refusal.NoWorker) }
-        ensures known { IsWorker B.ledgers.good.parts by → IsOk result }
+        ensures known { IsWorker B.ledgers by → IsOk result }
         ensures first { by ≡ 0 → IsOk result };
 
     /// Does the asks in order, in one hold, and stops before the first free whose ring is full, in

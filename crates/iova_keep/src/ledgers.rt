@@ -1,14 +1,14 @@
 //! The four ledgers of a domain, whose shares its seats and tallies hold.
 ghost use Rattle.std.specs.Prelude.{◌≡◌, ◌+◌, ◌*◌, ◌≤◌, ◌∷◌, [], IfOk, IsErr, Err};
-ghost use Rattle.iova_range.specs.declared.limits.TheConstants.{MAX_WORKERS, TALLY_PARTS};
+ghost use Rattle.iova_range.specs.declared.limits.TheConstants.{MAX_CLIENTS, TALLY_PARTS};
 ghost use Rattle.iova_model.specs.Clients.{totals_of, no_totals};
 ghost use Rattle.iova_model.specs.Effects.{add_totals};
 ghost use Rattle.iova_keep.specs.Views.{AreBlanksOf, TallyState, SeatState, LedgersState, Covers, seats_in_turn, MovesSharesAlone};
 
 use crate::names::{CountOf, FramesOf, GoodOf, Names, SumLoOf};
-use crate::seat::{Seat, Tally};
+use crate::seat::{Seat, Shares, Tally};
 use iova_model::totals::Totals;
-use iova_range::limits::TALLY_PARTS;
+use iova_range::limits::{MAX_CLIENTS, TALLY_PARTS};
 use iova_range::range::Range;
 use iova_range::refusal::Refusal;
 use std::alloc::Global;
@@ -31,18 +31,20 @@ pub struct Blanks {
 }
 
 impl Blanks {
-    /// Those of a domain with so many seats and workers.
-    pub fn new(seats: u64, workers: u64) -> Blanks
-        requires { workers ≤ MAX_WORKERS }
+    /// Those of a domain with so many seats, whose tallies have so many parts each.
+    pub fn new(seats: u64, parts: u64) -> Blanks
+        requires { (seats ≤ MAX_CLIENTS) × (parts ≤ TALLY_PARTS) }
         ensures seats { (result.count.parts ≡ seats) × (result.frames.parts ≡ seats)
             × (result.sum_lo.parts ≡ seats) }
-        ensures workers { result.good.parts ≡ TALLY_PARTS * workers }
+        ensures tallies { result.good.parts ≡ parts * seats }
     {
+        // for the proof: so many parts are a number
+        let _most = TALLY_PARTS * MAX_CLIENTS as u64;
         Blanks {
             count: Blank::new(seats),
             frames: Blank::new(seats),
             sum_lo: Blank::new(seats),
-            good: Blank::new(TALLY_PARTS * workers),
+            good: Blank::new(parts * seats),
         }
     }
 }
@@ -91,9 +93,9 @@ impl<B: Names> Ledgers<B> {
         parts: u64,
         blanks: Blanks,
     ) -> Result<(Ledgers<B>, Vec<Seat<B>>), Refusal>
-        requires blanks { AreBlanksOf blanks B.ledgers seats workers }
+        requires blanks { AreBlanksOf blanks B.ledgers seats parts workers }
         requires workers { 1 ≤ workers }
-        requires parts { (1 ≤ parts) × (parts * seats ≤ TALLY_PARTS * workers) }
+        requires parts { 1 ≤ parts }
         ensures ok { IfOk result (λ r. (r.0 ≡ record { shares = no_totals; ended = 0 })
             × (r.1.items ≡ seats_in_turn parts workers seats)) }
         ensures err { IsErr result → result ≡ Err Refusal.NoMemory }
@@ -181,23 +183,29 @@ impl<B: Names> Ledgers<B> {
         tally.good += 1;
     }
 
-    /// Changes nothing: whole shares have the totals for their amounts.
-    pub fn audit(
-        &mut self,
-        counted: &mut Share<CountOf<B>>,
-        framed: &mut Share<FramesOf<B>>,
-        summed: &mut Share<SumLoOf<B>>,
-    )
-        requires counted { counted.old.parts ≡ B.ledgers.count.parts }
-        requires framed { framed.old.parts ≡ B.ledgers.frames.parts }
-        requires summed { summed.old.parts ≡ B.ledgers.sum_lo.parts }
+    /// Changes nothing: whole shares have the totals of the holdings for their amounts.
+    pub fn audit(&mut self, whole: &mut Shares<B>)
+        requires counted { whole.old.counted.parts ≡ B.ledgers.count.parts }
+        requires framed { whole.old.framed.parts ≡ B.ledgers.frames.parts }
+        requires summed { whole.old.summed.parts ≡ B.ledgers.sum_lo.parts }
         ensures same { self.new ≡ self.old }
-        ensures sums { (self.old.shares.count ≡ counted.old.amount)
-            × (self.old.shares.frames ≡ framed.old.amount)
-            × (self.old.shares.sum_lo ≡ summed.old.amount) }
+        ensures ended { (whole.new.ended.parts ≡ whole.old.ended.parts)
+            × (whole.new.ended.amount ≡ whole.old.ended.amount) }
+        ensures sums { (self.old.shares.count ≡ whole.old.counted.amount)
+            × (self.old.shares.frames ≡ whole.old.framed.amount)
+            × (self.old.shares.sum_lo ≡ whole.old.summed.amount) }
     {
-        self.count.audit(counted);
-        self.frames.audit(framed);
-        self.sum_lo.audit(summed);
+        self.count.audit(&mut whole.counted);
+        self.frames.audit(&mut whole.framed);
+        self.sum_lo.audit(&mut whole.summed);
+    }
+
+    /// Changes nothing: a whole share has the number of the flushes that ended well for its amount.
+    pub fn audit_ended(&mut self, ended: &mut Share<GoodOf<B>>)
+        requires whole { ended.old.parts ≡ B.ledgers.good.parts }
+        ensures same { self.new ≡ self.old }
+        ensures sum { self.old.ended ≡ ended.old.amount }
+    {
+        self.good.audit(ended);
     }
 }

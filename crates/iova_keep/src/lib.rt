@@ -12,4 +12,5 @@ pub mod look;
 pub mod names;
 pub mod release;
 pub mod seat;
+pub mod turnstile;
 pub mod unmapped;

@@ -81,6 +81,32 @@ impl<B: Names> Tally<B> {
             share: self.share.split_off(1, 0),
         }
     }
+
+    /// Its share of the ledger: all its parts, and what it counted.
+    pub fn into_share(self) -> Share<GoodOf<B>>
+        ensures parts { result.parts ≡ self.parts }
+        ensures amount { result.amount ≡ self.good }
+    {
+        let Tally {
+            good: _,
+            parts: _,
+            share,
+        } = self;
+        share
+    }
+}
+
+/// Shares of a domain's four ledgers, of one seat or of several.
+#[derive(Drop)]
+pub struct Shares<B: Names> {
+    /// Of how many ranges are held.
+    pub counted: Share<CountOf<B>>,
+    /// Of their frames.
+    pub framed: Share<FramesOf<B>>,
+    /// Of the sum of their first frames.
+    pub summed: Share<SumLoOf<B>>,
+    /// Of the flushes that ended well.
+    pub ended: Share<GoodOf<B>>,
 }
 
 /// A place at the domain, of one of its workers: its shares of the count, the frames and the sum of
@@ -121,7 +147,7 @@ impl<B: Names> Model for Seat<B> {
     ghost invariant = { λ s. (s.counted.amount ≡ s.held.count) × (s.counted.parts ≡ 1)
         × (s.framed.amount ≡ s.held.frames) × (s.framed.parts ≡ 1)
         × (s.summed.amount ≡ s.held.sum_lo) × (s.summed.parts ≡ 1)
-        × IsWorker B.ledgers.good.parts s.worker };
+        × IsWorker B.ledgers s.worker };
 }
 
 impl<B: Names> Seat<B> {
@@ -140,7 +166,7 @@ impl<B: Names> Seat<B> {
         requires counted { (counted.amount ≡ 0) × (counted.parts ≡ 1) }
         requires framed { (framed.amount ≡ 0) × (framed.parts ≡ 1) }
         requires summed { (summed.amount ≡ 0) × (summed.parts ≡ 1) }
-        requires worker { IsWorker B.ledgers.good.parts worker }
+        requires worker { IsWorker B.ledgers worker }
         ensures { result ≡ record { worker = worker; held = no_totals; tally = tally } }
     {
         Seat {
@@ -171,7 +197,7 @@ impl<B: Names> Seat<B> {
     /// The worker, one of the domain's.
     pub fn worker(&self) -> u64
         ensures is { result ≡ self.now.worker }
-        ensures known { IsWorker B.ledgers.good.parts result }
+        ensures known { IsWorker B.ledgers result }
     {
         self.worker
     }
@@ -205,23 +231,29 @@ impl<B: Names> Seat<B> {
     }
 
     /// Shares with no part and no amount.
-    pub fn lend(&mut self) -> (Share<CountOf<B>>, Share<FramesOf<B>>, Share<SumLoOf<B>>)
+    pub fn lend(&mut self) -> Shares<B>
         ensures same { self.new ≡ self.old }
-        ensures none { (result.0.parts ≡ 0) × (result.0.amount ≡ 0) × (result.1.parts ≡ 0)
-            × (result.1.amount ≡ 0) × (result.2.parts ≡ 0) × (result.2.amount ≡ 0) }
+        ensures none { (result.counted.parts ≡ 0) × (result.counted.amount ≡ 0)
+            × (result.framed.parts ≡ 0) × (result.framed.amount ≡ 0)
+            × (result.summed.parts ≡ 0) × (result.summed.amount ≡ 0)
+            × (result.ended.parts ≡ 0) × (result.ended.amount ≡ 0) }
     {
-        (
-            self.counted.empty(),
-            self.framed.empty(),
-            self.summed.empty(),
-        )
+        Shares {
+            counted: self.counted.empty(),
+            framed: self.framed.empty(),
+            summed: self.summed.empty(),
+            ended: self.tally.share.empty(),
+        }
     }
 
-    /// The three shares, one part each.
-    pub fn into_shares(self) -> (Share<CountOf<B>>, Share<FramesOf<B>>, Share<SumLoOf<B>>)
-        ensures parts { (result.0.parts ≡ 1) × (result.1.parts ≡ 1) × (result.2.parts ≡ 1) }
-        ensures amounts { (result.0.amount ≡ self.held.count) × (result.1.amount ≡ self.held.frames)
-            × (result.2.amount ≡ self.held.sum_lo) }
+    /// Its shares: one part of each of the three, and all parts of its tally.
+    pub fn into_shares(self) -> Shares<B>
+        ensures parts { (result.counted.parts ≡ 1) × (result.framed.parts ≡ 1)
+            × (result.summed.parts ≡ 1) × (result.ended.parts ≡ self.tally.parts) }
+        ensures amounts { (result.counted.amount ≡ self.held.count)
+            × (result.framed.amount ≡ self.held.frames)
+            × (result.summed.amount ≡ self.held.sum_lo)
+            × (result.ended.amount ≡ self.tally.good) }
     {
         let Seat {
             worker: _,
@@ -229,8 +261,13 @@ impl<B: Names> Seat<B> {
             counted,
             framed,
             summed,
-            tally: _,
+            tally,
         } = self;
-        (counted, framed, summed)
+        Shares {
+            counted,
+            framed,
+            summed,
+            ended: tally.into_share(),
+        }
     }
 }

@@ -1,24 +1,31 @@
 //! A sink that several threads share.
+ghost use Rattle.std.specs.Prelude.{◌≡◌, ◌++◌, true, is_ok, Ok};
+ghost use Rattle.iova_sink.specs.Calls.{Invalidation, Gone, with_call, with_gone};
+ghost use Rattle.iova_links.specs.LockedSinks.{WasCalled};
+
+use iova_keep::turnstile::{Passage, Turnstile};
 use iova_range::range::Range;
 use iova_sink::calls::Calls;
 use iova_sink::sink::{Sink, SinkFault};
-use std::sync::{Condvar, Mutex, Wait};
+use std::sync::atomic::AtomicU64;
+use std::sync::atomic::Ordering::SeqCst;
+use std::sync::{Mutex, Wait};
 
-/// A sink, and the queue of the threads that want it for more than one call.
+/// How many of those that wait for a turn are woken where one ends: as many as find room for a full
+/// run of requests each in a ring that its flush has emptied. Each of them that needs no flush
+/// wakes the next one.
+const WOKEN: u64 = 16;
+
+/// A sink, and the way to it for whoever wants it for more than one call.
 pub struct SharedSink<D> {
     sink: Mutex<D>,
-    queue: Mutex<Queue>,
-    bell: Condvar,
-}
-
-/// Who has a sink, how many wait for it, and how many of its calls had no answer.
-#[derive(Clone, Copy)]
-struct Queue {
-    is_kept: bool,
-    /// It was kept for one of those that wait, who has not woken up yet.
-    is_handed: bool,
-    waiting: u64,
-    unanswered: u64,
+    way: Turnstile,
+    /// How many turns have ended: those that wait for one sleep on it.
+    ended: AtomicU64,
+    /// How many wait for the end of a turn.
+    waiting: AtomicU64,
+    /// How many calls had no answer.
+    unanswered: AtomicU64,
 }
 
 /// What it has is let go, which is proved here once for every crate above.
@@ -26,8 +33,10 @@ impl<D: Drop> Drop for SharedSink<D> {
     fn drop(self) {
         let SharedSink {
             sink: _,
-            queue: _,
-            bell: _,
+            way: _,
+            ended: _,
+            waiting: _,
+            unanswered: _,
         } = self;
     }
 }
@@ -37,66 +46,61 @@ impl<D> SharedSink<D> {
     pub fn new(sink: D) -> SharedSink<D> {
         SharedSink {
             sink: Mutex::new(sink),
-            queue: Mutex::new(Queue {
-                is_kept: false,
-                is_handed: false,
-                waiting: 0,
-                unanswered: 0,
-            }),
-            bell: Condvar::new(),
+            way: Turnstile::new(),
+            ended: AtomicU64::new(0),
+            waiting: AtomicU64::new(0),
+            unanswered: AtomicU64::new(0),
         }
-    }
-
-    /// Waits until the sink is this thread's. It is handed over to one of those that wait, which one
-    /// is the system's choice; nobody who comes later gets it before. Whether a call of the sink had
-    /// no answer meanwhile.
-    fn keep<R: Wait>(&self, rt: &R) -> bool {
-        let mut queue = self.queue.lock(rt);
-        if !queue.is_kept {
-            queue.is_kept = true;
-            return false;
-        }
-        let before = queue.unanswered;
-        queue.waiting = queue.waiting.saturating_add(1);
-        for _ in rt.forever() {
-            queue = self.bell.wait(rt, queue);
-            if queue.is_handed {
-                queue.is_handed = false;
-                queue.waiting = queue.waiting.saturating_sub(1);
-                return queue.unanswered != before;
-            }
-        }
-        unreachable!()
     }
 
     /// A call had no answer.
-    fn note_unanswered<R: Wait>(&self, rt: &R) {
-        let mut queue = self.queue.lock(rt);
-        queue.unanswered = queue.unanswered.wrapping_add(1);
+    fn note_unanswered(&self) {
+        self.unanswered.fetch_add(1, SeqCst);
     }
 
-    /// Hands the sink over to one that waits, where one does.
-    fn let_go<R: Wait>(&self, rt: &R) {
-        let mut queue = self.queue.lock(rt);
-        if queue.waiting > 0 {
-            queue.is_handed = true;
-            drop(queue);
-            self.bell.notify_one();
-        } else {
-            queue.is_kept = false;
+    /// Waits for the end of the turn that is under way, where one is, and tells whether it waited.
+    fn wait_for_turn<R: Wait>(&self, rt: &R) -> bool {
+        self.waiting.fetch_add(1, SeqCst);
+        // a turn that ends behind this look changes what the thread would sleep on
+        let ended = self.ended.load(SeqCst);
+        let is_taken = self.way.is_taken();
+        if is_taken {
+            self.ended.park(rt, (ended & 0xffff_ffff) as u32);
+        }
+        self.waiting.fetch_sub(1, SeqCst);
+        is_taken
+    }
+
+    /// A turn has ended, and nobody is on the way.
+    fn end_turn(&self) {
+        self.ended.fetch_add(1, SeqCst);
+        for _ in 0..self.waiting.load(SeqCst).min(WOKEN) {
+            self.ended.wake_one();
+        }
+    }
+
+    /// Wakes the next one of those that wait for a turn.
+    fn pass_on(&self) {
+        if self.waiting.load(SeqCst) > 0 {
+            self.ended.wake_one();
         }
     }
 }
 
-/// A sink that is shared, as one of the threads has it. Where a call of another thread had no answer
-/// while this one waited for the sink, its own calls fail at once until it lets the sink go: so a
-/// peer that is silent costs all that wait for it one time limit. Contracts see the calls that were
-/// made here: what others call in between, nobody knows.
+/// A sink that is shared, as one of the threads has it. Where a call of another thread had no
+/// answer while this one waited for the sink, its own calls fail at once until it lets the sink go:
+/// so a peer that is silent costs all that wait for it one time limit. Contracts see the calls that
+/// were made here, and that a good one of them was a call of the sink: what others call in between,
+/// nobody knows.
 pub struct LockedSink<'a, R, D> {
     rt: &'a R,
     sink: &'a SharedSink<D>,
     calls: Calls,
     is_silent: bool,
+    /// A call had no answer while this thread waited for a turn: its own is to fail.
+    was_silent: bool,
+    /// That this thread has the sink to itself.
+    passage: Option<Passage<'a>>,
 }
 
 /// What it has is let go, which is proved here once for every crate above.
@@ -107,6 +111,8 @@ impl<'a, R, D> Drop for LockedSink<'a, R, D> {
             sink: _,
             calls: _,
             is_silent: _,
+            was_silent: _,
+            passage: _,
         } = self;
     }
 }
@@ -119,6 +125,8 @@ impl<'a, R, D> LockedSink<'a, R, D> {
             sink,
             calls: Calls::new(),
             is_silent: false,
+            was_silent: false,
+            passage: None,
         }
     }
 }
@@ -127,7 +135,7 @@ impl<'a, R: Wait, D: Sink> LockedSink<'a, R, D> {
     /// Tells those that wait where this call had no answer.
     fn note(&self, told: Result<(), SinkFault>) {
         if told == Err(SinkFault::Broken) {
-            self.sink.note_unanswered(self.rt);
+            self.sink.note_unanswered();
         }
     }
 }
@@ -135,7 +143,10 @@ impl<'a, R: Wait, D: Sink> LockedSink<'a, R, D> {
 impl<'a, R: Wait, D: Sink> Sink for LockedSink<'a, R, D> {
     ghost calls = { λ s. s.calls };
 
-    fn invalidate(&mut self, domain: u64, no: u64) -> Result<(), SinkFault> {
+    fn invalidate(&mut self, domain: u64, no: u64) -> Result<(), SinkFault>
+        ensures calls { self.new.calls ≡ with_call self.old.calls domain no (is_ok result) }
+        ensures called { is_ok result ≡ true → WasCalled D.calls (Invalidation domain no true) }
+    {
         if self.is_silent {
             self.calls.add(domain, no, false);
             return Err(SinkFault::Broken);
@@ -146,7 +157,12 @@ impl<'a, R: Wait, D: Sink> Sink for LockedSink<'a, R, D> {
         told
     }
 
-    fn gone(&mut self, domain: u64, client: u64, ranges: &Vec<Range>) -> Result<(), SinkFault> {
+    fn gone(&mut self, domain: u64, client: u64, ranges: &Vec<Range>) -> Result<(), SinkFault>
+        ensures calls { self.new.calls ≡ with_gone self.old.calls domain client ranges.now.items
+            result }
+        ensures called { is_ok result ≡ true
+            → WasCalled D.calls (Gone domain client ranges.now.items (Ok tt)) }
+    {
         if self.is_silent {
             let told = Err(SinkFault::Broken);
             self.calls.add_gone(domain, client, ranges, told);
@@ -159,11 +175,27 @@ impl<'a, R: Wait, D: Sink> Sink for LockedSink<'a, R, D> {
     }
 
     fn lock(&mut self) {
-        self.is_silent = self.sink.keep(self.rt);
+        let before = self.sink.unanswered.load(SeqCst);
+        self.passage = Some(self.sink.way.pass(self.rt));
+        self.is_silent = self.was_silent || self.sink.unanswered.load(SeqCst) != before;
+        self.was_silent = false;
     }
 
     fn unlock(&mut self) {
         self.is_silent = false;
-        self.sink.let_go(self.rt);
+        self.passage = None;
+        self.sink.end_turn();
+    }
+
+    /// Where a call of that turn had no answer it doesn't ask again, and its own call fails.
+    fn wait_for_turn(&mut self) -> bool {
+        let before = self.sink.unanswered.load(SeqCst);
+        let has_waited = self.sink.wait_for_turn(self.rt);
+        self.was_silent = self.sink.unanswered.load(SeqCst) != before;
+        has_waited && !self.was_silent
+    }
+
+    fn pass_on(&mut self) {
+        self.sink.pass_on();
     }
 }

@@ -80,6 +80,14 @@ impl<'a, D: Sink, N: Log> Sink for NotingSink<'a, D, N> {
     fn unlock(&mut self) {
         self.sink.unlock();
     }
+
+    fn wait_for_turn(&mut self) -> bool {
+        self.sink.wait_for_turn()
+    }
+
+    fn pass_on(&mut self) {
+        self.sink.pass_on();
+    }
 }
 
 /// A notice of what happened to the flush, the client or the session of this number. Its target is

@@ -1,5 +1,5 @@
 -- What contracts see of a book and of a lock round it.
-use Rattle.std.specs.Prelude.{ℕ, zero, suc, ◌≡◌, ◌==◌, ◌&&◌, sum_by, Bool, true, false, List, [], ◌++◌, length, Option, Some, None, option_and_then, option_map}
+use Rattle.std.specs.Prelude.{ℕ, zero, suc, ◌≡◌, ◌+◌, ◌==◌, ◌&&◌, sum_by, Bool, true, false, List, [], ◌++◌, length, Option, Some, None, option_and_then, option_map}
 use Rattle.std.specs.List.{list_any}
 use Rattle.iova_range.specs.Bounds.{Extent}
 use Rattle.iova_range.specs.Frames.{Frames}
@@ -8,7 +8,7 @@ use Rattle.iova_model.specs.declared.step.Step.TheVariants as step
 use Rattle.iova_model.specs.declared.totals.Totals.{Totals}
 use Rattle.iova_model.specs.Clients.{Client, client_with, newer_client, totals, no_totals, holdings_in}
 use Rattle.iova_model.specs.State.{State, new_domain}
-use Rattle.iova_keep.specs.Views.{SeatState, IsKept}
+use Rattle.iova_keep.specs.Views.{SeatState, TallyState, IsKept}
 use Rattle.iova_keep.specs.StepLogs.{StepLog, IsRecorded, GoesOn}
 
 -- A book: its domain's number, whether it is strict, its domain, and its log; and the totals of its
@@ -21,11 +21,14 @@ pub record BookState : Type 0 where
   pub shares : Totals
   pub ended : ℕ
 
--- a lock round a book: the domain's number, how many workers it has, and how many seats there are
+-- a lock round a book: the domain's number, whether it is strict, how many workers it has, and how
+-- many seats there are; and the book that it was made over
 pub record SharedState : Type 0 where
   pub number : ℕ
+  pub strict : Bool
   pub workers : ℕ
   pub seats : ℕ
+  pub begun : BookState
 
 -- how many steps are recorded
 abbrev pub steps_in : Option StepLog → ℕ
@@ -95,6 +98,13 @@ have_seats (suc n) seats = have_seats n seats && has_seat n seats
 abbrev pub are_all : (count workers : ℕ) → List SeatState → Bool
 are_all count workers seats = (length seats == count) && have_seats workers seats
 
+-- how many parts of the ledger of flushes their tallies have, and how many flushes these counted
+abbrev pub tally_parts : List SeatState → ℕ
+tally_parts seats = sum_by (λ s. s.tally.parts) seats
+
+abbrev pub tally_good : List SeatState → ℕ
+tally_good seats = sum_by (λ s. s.tally.good) seats
+
 -- the sums of their shares
 abbrev pub held_sum : List SeatState → Totals
 held_sum seats =
@@ -103,3 +113,9 @@ held_sum seats =
       frames = sum_by (λ s. s.held.frames) seats;
       sum_lo = sum_by (λ s. s.held.sum_lo) seats;
     }
+
+-- a domain's totals are the sums of these seats' shares, and its flushes that ended well are those
+-- that the seats and one tally more counted
+pub record AreCounted (domain : State) (seats : List SeatState) (split : TallyState) : Type 0 where
+  pub totals : totals domain.clients ≡ held_sum seats
+  pub ended : domain.flushes.good ≡ tally_good seats + split.good

@@ -17,8 +17,8 @@ ghost use Rattle.iova_keep.specs.Views.{AreBlanksOf, TallyState, SeatState, Cove
 use iova_core::domain::Domain;
 use iova_core::{ClientId, Reply, Step};
 use iova_keep::ledgers::{Blanks, Ledgers};
-use iova_keep::names::{CountOf, FramesOf, Names, SumLoOf};
-use iova_keep::seat::{Seat, Tally};
+use iova_keep::names::Names;
+use iova_keep::seat::{Seat, Shares, Tally};
 use iova_model::totals::Totals;
 use iova_range::bounds::Bounds;
 use iova_range::limits::{MAX_ENTRIES, MAX_WORKERS, SEAT_PARTS, TALLY_PARTS};
@@ -29,7 +29,6 @@ use iova_record::recorded_domain::{RecordedDomain, Stored};
 use iova_report::report;
 use std::alloc::Global;
 use std::marker::Model;
-use std::sync::ledger::Share;
 
 /// Words that nobody reads, as long as a line of the processor's cache. Under a lock they keep what a
 /// hold reads and writes out of the line of the lock's word, which all that look for the lock take
@@ -70,8 +69,7 @@ impl<B: Names> Drop for Book<B> {
 }
 
 impl<B: Names> Model for Book<B> {
-    ghost use Rattle.std.specs.Prelude.{◌≡◌, ◌*◌};
-    ghost use Rattle.iova_range.specs.declared.limits.TheConstants.{TALLY_PARTS};
+    ghost use Rattle.std.specs.Prelude.{◌≡◌};
     ghost use Rattle.iova_model.specs.Clients.{totals};
     ghost use Rattle.iova_lock.specs.Books.{BookState};
 
@@ -88,7 +86,7 @@ impl<B: Names> Model for Book<B> {
 
     ghost invariant = { λ b. (b.ledgers.shares ≡ totals b.recorded.state.clients)
         × (b.ledgers.ended ≡ b.recorded.state.flushes.good)
-        × (B.ledgers.good.parts ≡ TALLY_PARTS * b.recorded.state.workers)
+        × (B.ledgers.workers ≡ b.recorded.state.workers)
         × (B.ledgers.count.parts ≡ b.seats) × (B.ledgers.frames.parts ≡ b.seats)
         × (B.ledgers.sum_lo.parts ≡ b.seats) };
 }
@@ -104,7 +102,7 @@ impl<B: Names> Book<B> {
         blanks: Blanks,
     ) -> Result<(Book<B>, Vec<Seat<B>>), Refusal>
         requires blanks { 1 ≤ workers → workers ≤ MAX_WORKERS
-            → AreBlanksOf blanks B.ledgers workers workers }
+            → AreBlanksOf blanks B.ledgers workers TALLY_PARTS workers }
         ensures ok { IfOk result (λ r. (r.0 ≡ new_book number bounds workers None)
             × (r.1.items ≡ new_seats workers)) }
         ensures workers { (result ≡ Err Refusal.NoWorker)
@@ -137,7 +135,7 @@ impl<B: Names> Book<B> {
         blanks: Blanks,
     ) -> Result<(Book<B>, Vec<Seat<B>>), Refusal>
         requires blanks { 1 ≤ workers → workers ≤ MAX_WORKERS
-            → AreBlanksOf blanks B.ledgers workers workers }
+            → AreBlanksOf blanks B.ledgers workers TALLY_PARTS workers }
         ensures ok { IfOk result (λ r. (r.0 ≡ new_book number bounds workers (Some (new_log pairs)))
             × (r.1.items ≡ new_seats workers)) }
         ensures workers { (result ≡ Err Refusal.NoWorker)
@@ -173,7 +171,7 @@ impl<B: Names> Book<B> {
     ) -> Result<(Book<B>, Vec<Seat<B>>), Refusal>
         requires workers { (1 ≤ workers) × (workers ≤ MAX_WORKERS) }
         requires seats { (workers ≤ seats) × (seats ≤ MAX_CLIENTS) }
-        requires blanks { AreBlanksOf blanks B.ledgers seats workers }
+        requires blanks { AreBlanksOf blanks B.ledgers seats SEAT_PARTS workers }
         ensures ok { IfOk result (λ r. (r.0 ≡ new_book number bounds workers
             (option_map new_log pairs)) × (r.1.items ≡ seats_in_turn SEAT_PARTS workers seats)) }
         ensures err { IsErr result → result ≡ Err Refusal.NoMemory }
@@ -199,9 +197,9 @@ impl<B: Names> Book<B> {
         recorded: RecordedDomain,
         blanks: Blanks,
     ) -> Result<(Book<B>, Vec<Seat<B>>), Refusal>
-        requires blanks { AreBlanksOf blanks B.ledgers seats workers }
+        requires blanks { AreBlanksOf blanks B.ledgers seats parts workers }
         requires workers { (1 ≤ workers) × (recorded.state.workers ≡ workers) }
-        requires parts { (1 ≤ parts) × (parts * seats ≤ TALLY_PARTS * workers) }
+        requires parts { 1 ≤ parts }
         requires new { (totals recorded.state.clients ≡ no_totals)
             × (recorded.state.flushes.good ≡ 0) }
         ensures ok { IfOk result (λ r. (r.0 ≡ record {
@@ -247,7 +245,7 @@ impl<B: Names> Book<B> {
     /// whatever it leaves there.
     pub fn is_kept(&self)
         ensures is { IsBook self.now }
-        ensures workers { B.ledgers.good.parts ≡ TALLY_PARTS * self.now.state.workers }
+        ensures workers { B.ledgers.workers ≡ self.now.state.workers }
     {
         // for the proof: what the domain keeps, and that its log is a transcript
         self.recorded.is_kept();
@@ -359,13 +357,21 @@ impl<B: Names> Book<B> {
     /// How many workers the domain has.
     pub(crate) fn workers(&self) -> u64
         ensures is { result ≡ self.now.state.workers }
-        ensures parts { B.ledgers.good.parts ≡ TALLY_PARTS * result }
+        ensures known { B.ledgers.workers ≡ result }
         ensures some { 1 ≤ result }
         ensures few { result ≤ MAX_WORKERS }
     {
         // for the proof: what the domain keeps
         self.recorded.is_kept();
         self.recorded.workers()
+    }
+
+    /// Whether the domain is strict from now on, which whoever has it knows.
+    #[inline(always)]
+    pub(crate) fn strict_as(&mut self, strict: bool)
+        ensures { self.new ≡ record self.old { strict = strict } }
+    {
+        self.strict = strict;
     }
 
     /// Whether the domain is strict.
@@ -404,7 +410,7 @@ impl<B: Names> Book<B> {
     pub(crate) fn into_domain(self) -> Domain
         ensures is { result ≡ self.state }
         ensures kept { IsKept result }
-        ensures workers { B.ledgers.good.parts ≡ TALLY_PARTS * result.workers }
+        ensures workers { B.ledgers.workers ≡ result.workers }
     {
         // for the proof: what the domain keeps
         self.recorded.is_kept();
@@ -420,22 +426,29 @@ impl<B: Names> Book<B> {
     }
 
     /// The totals, which whole shares have for their amounts.
-    pub(crate) fn audit(
-        &mut self,
-        counted: &mut Share<CountOf<B>>,
-        framed: &mut Share<FramesOf<B>>,
-        summed: &mut Share<SumLoOf<B>>,
-    ) -> Totals
-        requires counted { counted.old.parts ≡ B.ledgers.count.parts }
-        requires framed { framed.old.parts ≡ B.ledgers.frames.parts }
-        requires summed { summed.old.parts ≡ B.ledgers.sum_lo.parts }
+    pub(crate) fn audit(&mut self, whole: &mut Shares<B>) -> Totals
+        requires counted { whole.old.counted.parts ≡ B.ledgers.count.parts }
+        requires framed { whole.old.framed.parts ≡ B.ledgers.frames.parts }
+        requires summed { whole.old.summed.parts ≡ B.ledgers.sum_lo.parts }
         ensures same { self.new ≡ self.old }
+        ensures ended { (whole.new.ended.parts ≡ whole.old.ended.parts)
+            × (whole.new.ended.amount ≡ whole.old.ended.amount) }
         ensures locked { result ≡ totals self.old.state.clients }
-        ensures sums { (result.count ≡ counted.old.amount) × (result.frames ≡ framed.old.amount)
-            × (result.sum_lo ≡ summed.old.amount) }
+        ensures sums { (result.count ≡ whole.old.counted.amount)
+            × (result.frames ≡ whole.old.framed.amount)
+            × (result.sum_lo ≡ whole.old.summed.amount) }
     {
-        self.ledgers.audit(counted, framed, summed);
+        self.ledgers.audit(whole);
         self.recorded.totals()
+    }
+
+    /// How many of its flushes ended well is the amount of a whole share.
+    pub(crate) fn audit_ended(&mut self, whole: &mut Shares<B>)
+        requires ended { whole.old.ended.parts ≡ B.ledgers.good.parts }
+        ensures same { self.new ≡ self.old }
+        ensures sum { self.old.state.flushes.good ≡ whole.old.ended.amount }
+    {
+        self.ledgers.audit_ended(&mut whole.ended);
     }
 
     /// Runs a seat's step that may queue a range, unless one of the seat's shares is less than the
@@ -516,8 +529,8 @@ impl<B: Names> Book<B> {
     /// Drains `left` rings from `ring` on, and answers how many entries that frees.
     pub(crate) fn drain_rings(&mut self, ring: u64, left: u64, by: u64) -> u64
         requires few { ring + left ≤ MAX_WORKERS }
-        requires rings { TALLY_PARTS * (ring + left) ≡ B.ledgers.good.parts }
-        requires worker { IsWorker B.ledgers.good.parts by }
+        requires rings { ring + left ≡ B.ledgers.workers }
+        requires worker { IsWorker B.ledgers by }
         ensures drains { Does (Draining by (rings_from ring left) result) self.old.state
             self.new.state }
         ensures bound { result ≤ MAX_ENTRIES * left }
@@ -532,8 +545,8 @@ impl<B: Names> Book<B> {
 
     /// Drains a ring, and answers how many entries that frees.
     pub(crate) fn drain_one(&mut self, ring: u64, by: u64) -> u64
-        requires ring { IsWorker B.ledgers.good.parts ring }
-        requires worker { IsWorker B.ledgers.good.parts by }
+        requires ring { IsWorker B.ledgers ring }
+        requires worker { IsWorker B.ledgers by }
         ensures takes { Takes self.old.state (Step.Drain ring by) (Reply.Drained result)
             self.new.state }
         ensures bound { result ≤ MAX_ENTRIES }

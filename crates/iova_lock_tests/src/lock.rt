@@ -92,7 +92,7 @@ fn in_a_book<B: Names, R: Abort + Print>(
     no: usize,
     blanks: Blanks,
 ) -> Vec<String>
-    requires blanks { AreBlanksOf blanks B.ledgers 16 16 }
+    requires blanks { AreBlanksOf blanks B.ledgers 16 256 16 }
 {
     match Book::<B>::new(alloc, 7, bounds, 16, blanks) {
         Ok((book, mut seats)) => {
@@ -118,7 +118,7 @@ fn under_a_lock<B: Names + Send + Sync, R: Threads + Wait + Sync + Abort + Print
     no: usize,
     blanks: Blanks,
 ) -> Vec<String>
-    requires blanks { AreBlanksOf blanks B.ledgers 16 16 }
+    requires blanks { AreBlanksOf blanks B.ledgers 16 256 16 }
 {
     let pairs = case(no).1.pairs;
     let recorded = 0 < pairs && pairs <= 100;
@@ -237,7 +237,7 @@ fn a_book_and_a_lock(rt: HostRuntime) {
                 Bounds::new(1, case(no).1.last).expect(&rt, "bounds"),
                 strict,
                 no,
-                Blanks::new(16, 16),
+                Blanks::new(16, 256),
             );
             let of_lock = under_a_lock::<Brand, _>(
                 &rt,
@@ -245,7 +245,7 @@ fn a_book_and_a_lock(rt: HostRuntime) {
                 Bounds::new(1, case(no).1.last).expect(&rt, "bounds"),
                 strict,
                 no,
-                Blanks::new(16, 16),
+                Blanks::new(16, 256),
             );
             if let Task::Random = case(no).0 {
                 are_alike(&rt, &of_book, &of_lock, strict);
@@ -264,7 +264,7 @@ fn threads_of_a_lock(rt: HostRuntime) {
                 Bounds::new(1, case(no).1.last).expect(&rt, "bounds"),
                 strict,
                 no,
-                Blanks::new(16, 16),
+                Blanks::new(16, 256),
             );
         }
     }
@@ -279,7 +279,7 @@ fn refused_growths(rt: HostRuntime) {
             Bounds::new(1, case(no).1.last).expect(&rt, "bounds"),
             false,
             no,
-            Blanks::new(16, 16),
+            Blanks::new(16, 256),
         );
         let _said = under_a_lock::<Brand, _>(
             &rt,
@@ -287,7 +287,7 @@ fn refused_growths(rt: HostRuntime) {
             Bounds::new(1, case(no).1.last).expect(&rt, "bounds"),
             false,
             no,
-            Blanks::new(16, 16),
+            Blanks::new(16, 256),
         );
     }
 }

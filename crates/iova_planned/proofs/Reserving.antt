@@ -1,10 +1,14 @@
 -- Windows that are reserved one after another.
-use Rattle.std.proofs.Common.{ℕ, ◌≡◌, ◌∙◌, ◌+◌, ◌-◌, List, [], ◌∷◌, arith, refl, sym, subst}
+use Rattle.std.proofs.Common.{ℕ, ◌≡◌, ◌∙◌, ◌+◌, ◌-◌, List, [], ◌∷◌, Result, Ok, Err, length, arith, refl, sym, subst}
+use Rattle.std.specs.Prelude.{IfOk, ⊤}
+use Rattle.iova_range.specs.declared.refusal.Refusal.{Refusal}
 use Rattle.iova_range.specs.Frames.{Frames}
 use Rattle.iova_model.specs.declared.step.Step.TheVariants as step
 use Rattle.iova_model.specs.declared.step.Reply.TheVariants as reply
 use Rattle.iova_model.specs.State.{State}
 use Rattle.iova_keep.specs.Steps.{Takes}
+use Rattle.iova_keep.specs.StepLogs.{GoesOn}
+use Rattle.iova_record.proofs.GoingOn.{goes_on_here, goes_on_further}
 use Rattle.iova_lock.specs.Books.{BookState}
 use Rattle.iova_planned.specs.PlannedDomains.{IsReserved, ReservesAll}
 
@@ -16,17 +20,30 @@ reserved_one w got hi s t is takes =
     (t, got, subst (λ (n : ℕ). Takes s (step.Reserve w.lo n) (reply.Reserved got) t) last takes, refl)
 
 pub reserved_window : (w got : Frames) (hi : ℕ) (a b : BookState) → hi + 1 ≡ w.lo + w.len → Takes a.state (step.Reserve w.lo hi) (reply.Reserved got) b.state
-    → b.number ≡ a.number → b.strict ≡ a.strict → IsReserved (w ∷ []) a b
-reserved_window w got hi a b is takes number strict = record {
+    → b.number ≡ a.number → b.strict ≡ a.strict → GoesOn a.log b.log → IsReserved (w ∷ []) a b
+reserved_window w got hi a b is takes number strict log = record {
   domain = reserved_one w got hi a.state b.state is takes;
   number = number;
   strict = strict;
+  log = log;
 }
 
+-- none
+pub reserved_none : (ws : List Frames) (a : BookState) → length ws ≡ 0 → IsReserved ws a a
+reserved_none [] a none = record { domain = refl; number = refl; strict = refl; log = goes_on_here a.log }
+reserved_none (w ∷ ws) a none = absurd (omega (arith, none))
+
 -- and others after it
-pub reserved_more : (w : Frames) (ws : List Frames) (a b c : BookState) → IsReserved (w ∷ []) a b → IsReserved ws b c → IsReserved (w ∷ ws) a c
+reserved_more : (w : Frames) (ws : List Frames) (a b c : BookState) → IsReserved (w ∷ []) a b → IsReserved ws b c → IsReserved (w ∷ ws) a c
 reserved_more w ws a b c first more = record {
   domain = (first.domain.0, first.domain.1, first.domain.2, subst (λ (s : State). ReservesAll ws s c.state) first.domain.3 more.domain);
   number = more.number ∙ first.number;
   strict = more.strict ∙ first.strict;
+  log = goes_on_further first.log more.log;
 }
+
+-- the same, where others were tried
+pub reserved_rest : (r : Result ⊤ Refusal) (w : Frames) (ws : List Frames) (a b c : BookState) → IsReserved (w ∷ []) a b
+    → IfOk r (λ u. IsReserved ws b c) → IfOk r (λ u. IsReserved (w ∷ ws) a c)
+reserved_rest (Ok u) w ws a b c first more = reserved_more w ws a b c first more
+reserved_rest (Err e) w ws a b c first more = tt

@@ -7,7 +7,7 @@ use Rattle.iova_model.specs.declared.step.Reply.TheVariants as reply
 use Rattle.iova_keep.specs.Steps.{Takes}
 use Rattle.iova_range.specs.Bounds.{Extent}
 use Rattle.iova_range.specs.declared.limits.TheConstants.{DEFAULT_CLIENTS, MAX_POSTS, RECORDED_STEPS, SEAT_PARTS}
-use Rattle.iova_keep.specs.StepLogs.{StepLog, new_log}
+use Rattle.iova_keep.specs.StepLogs.{StepLog, new_log, GoesOn}
 use Rattle.iova_keep.specs.Views.{SeatState, seats_in_turn}
 use Rattle.iova_lock.specs.Books.{BookState, SharedState, new_book}
 use Rattle.iova_command.specs.declared.plan.Plan.{Plan}
@@ -51,3 +51,4 @@ pub record IsReserved (windows : List Frames) (new book : BookState) : Type 0 wh
   pub domain : ReservesAll windows new.state book.state
   pub number : book.number ≡ new.number
   pub strict : book.strict ≡ new.strict
+  pub log : GoesOn new.log book.log

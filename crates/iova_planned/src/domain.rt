@@ -31,10 +31,15 @@ pub fn new_domain<'a, R, B>(
 where
     R: AllocGlobal,
     B: Names,
-    requires blanks { AreBlanksOf blanks B.ledgers (seat_count plan.now) plan.now.workers }
+    requires blanks { AreBlanksOf blanks B.ledgers (seat_count plan.now) SEAT_PARTS
+        plan.now.workers }
     ensures number { IfSome result (λ r. r.0.number ≡ plan.now.domain) }
     ensures workers { IfSome result (λ r. r.0.workers ≡ plan.now.workers) }
     ensures seats { IfSome result (λ r. AreNewSeats r.0 (map (λ p. p.seat) r.1.items)) }
+    ensures count { IfSome result (λ r. r.0.seats ≡ seat_count plan.now) }
+    ensures strict { IfSome result (λ r. r.0.strict ≡ plan.now.strict) }
+    ensures begun { IfSome result (λ r. IsReserved windows.now (planned_book plan.now bounds)
+        r.0.begun) }
 {
     match reserved_book(rt.alloc(), plan, bounds, windows, blanks) {
         Some((book, seats)) => posted(rt.alloc(), Shared::over(rt, book), seats),
@@ -51,7 +56,8 @@ fn reserved_book<B: Names>(
     windows: &Windows,
     blanks: Blanks,
 ) -> Option<(Book<B>, Vec<Seat<B>>)>
-    requires blanks { AreBlanksOf blanks B.ledgers (seat_count plan.now) plan.now.workers }
+    requires blanks { AreBlanksOf blanks B.ledgers (seat_count plan.now) SEAT_PARTS
+        plan.now.workers }
     ensures reserved { IfSome result (λ r. IsReserved windows.now (planned_book plan.now bounds)
         r.0) }
     ensures workers { IfSome result (λ r. r.0.state.workers ≡ plan.now.workers) }
@@ -72,7 +78,6 @@ fn reserved_book<B: Names>(
 }
 
 /// Reserves these windows in the book, in their order, up to the first one that is refused.
-#[tactic(auto, using(crate::proofs::Reserving::reserved_more))]
 fn reserve_all<B: Names>(book: &mut Book<B>, windows: &[Range]) -> Result<(), Refusal>
     ensures reserved { IfOk result (λ u. IsReserved windows.now book.old book.new) }
     ensures refused { IfErr result IsReserveRefusal }
@@ -110,7 +115,8 @@ fn book_of<B: Names>(
     bounds: Bounds,
     blanks: Blanks,
 ) -> Option<(Book<B>, Vec<Seat<B>>)>
-    requires blanks { AreBlanksOf blanks B.ledgers (seat_count plan.now) plan.now.workers }
+    requires blanks { AreBlanksOf blanks B.ledgers (seat_count plan.now) SEAT_PARTS
+        plan.now.workers }
     ensures { IfSome result (λ r. (r.0 ≡ planned_book plan.now bounds)
         × (r.1.items ≡ seats_in_turn SEAT_PARTS plan.now.workers (seat_count plan.now))) }
 {

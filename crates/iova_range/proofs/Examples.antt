@@ -85,7 +85,7 @@ limits_of_kernel_traces : FRAME_BYTES ∷ MAX_TRACE_LINE ∷ LAST_DOMAIN_ID ∷ 
 limits_of_kernel_traces = refl
 
 limits_of_daemons : TALLY_PARTS ∷ SEAT_PARTS ∷ DAEMON_DESCRIPTORS ∷ MAX_PAIRS ∷ RECORDED_STEPS ∷ MAX_RECORDED_STEPS ∷ FLUSH_PAUSE ∷ ACCEPT_PAUSE ∷ MAX_ACCEPT_PAUSE ∷ []
-    ≡ 2048 ∷ 2 ∷ 32 ∷ 4000000 ∷ 100000 ∷ 1000000 ∷ 10 ∷ 10 ∷ 1000 ∷ []
+    ≡ 256 ∷ 2 ∷ 32 ∷ 4000000 ∷ 100000 ∷ 1000000 ∷ 10 ∷ 10 ∷ 1000 ∷ []
 limits_of_daemons = refl
 
 limits_of_answering_sinks : MAX_SINK_TIMEOUT ∷ SINK_TIMEOUT ∷ RETRY_PAUSE ∷ MAX_PEER_WAIT ∷ CONNECT_LOOK ∷ CONNECT_PAUSE ∷ MAX_CONNECT_PAUSE ∷ MAX_FLUSH_PAUSE ∷ []

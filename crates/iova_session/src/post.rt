@@ -72,19 +72,19 @@ pub fn posts_at<B: Names>(alloc: Global, seats: Vec<Seat<B>>) -> Option<Vec<Post
     Some(posts)
 }
 
-/// The posts' seats, in their order. None for want of memory.
-pub fn seats_of<B: Names>(alloc: Global, posts: Vec<Post<B>>) -> Option<Vec<Seat<B>>>
-    ensures { IfSome result (λ v. v.items ≡ map (λ p. p.seat) posts.items) }
+/// The posts' seats, in their order, in this room for them: so it takes no memory.
+pub fn seats_of<B: Names>(posts: Vec<Post<B>>, room: Vec<Seat<B>>) -> Vec<Seat<B>>
+    requires empty { room.items ≡ [] }
+    requires room { vec_len posts ≤ vec_capacity room }
+    ensures { result.items ≡ map (λ p. p.seat) posts.items }
 {
-    let Ok(mut seats) = Vec::with_capacity(alloc, posts.len()) else {
-        return None;
-    };
+    let mut seats = room;
     for post in posts {
         let Ok(()) = seats.push(post.into_seat()) else {
             unreachable!();
         };
     }
-    Some(seats)
+    seats
 }
 
 /// Takes room for one client more that waits, and for the ranges of one that leaves. Whether it was

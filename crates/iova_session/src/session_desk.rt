@@ -9,7 +9,7 @@ ghost use Rattle.iova_session.specs.Leading.{LeadsFrom, GoesOn};
 use crate::asking::{ask_alone, ask_first};
 use crate::desk::Desk;
 use crate::session::Session;
-use crate::together::{LastBatch, ask_together, tell};
+use crate::together::{LastBatch, MOST_TURNS, ask_at_room, tell};
 use iova_keep::keep::Keep;
 use iova_keep::names::Names;
 use iova_keep::seat::Seat;
@@ -192,7 +192,9 @@ pub(crate) fn ask_front<B: Names, K: Keep<B>, D: Sink>(
     let answer = match client {
         None => ask_first(keeper, seat, requests[0]),
         Some(id) => {
-            let count = ask_together(keeper, seat, session, id, requests, last, answers)?;
+            let count = ask_at_room(
+                keeper, seat, sink, session, id, requests, last, answers, MOST_TURNS,
+            )?;
             if count > 0 {
                 return Ok(count);
             }
@@ -200,7 +202,8 @@ pub(crate) fn ask_front<B: Names, K: Keep<B>, D: Sink>(
             ask_alone(alloc, keeper, seat, sink, id, session.listed(), requests[0])
         }
     };
-    last.stopped = is_freed(&answer);
+    last.is_strict = last.is_strict || is_freed(&answer);
+    last.stopped = last.is_strict;
     tell(session, requests[0], answer, answers);
     Ok(1)
 }

@@ -16,13 +16,19 @@ use iova_proto::answer::Answer;
 use iova_proto::request::Request;
 use iova_range::limits::MAX_RUN;
 use iova_range::refusal::Refusal;
+use iova_sink::sink::Sink;
 use std::alloc::Global;
+
+/// How many turns of other threads a session waits for until it takes one of its own.
+pub(crate) const MOST_TURNS: u64 = 8;
 
 /// What a desk keeps of the last hold of a session.
 #[derive(Drop)]
 pub(crate) struct LastBatch {
     /// It stopped at a free, or the domain is strict: a free is to be asked alone.
     pub(crate) stopped: bool,
+    /// A range was freed at once: each free has a flush of its own.
+    pub(crate) is_strict: bool,
     /// What the lock told, and room for what it tells next.
     pub(crate) told: Vec<Told>,
 }
@@ -32,6 +38,7 @@ impl LastBatch {
     pub(crate) fn new(alloc: Global) -> LastBatch {
         LastBatch {
             stopped: false,
+            is_strict: false,
             told: Vec::new(alloc),
         }
     }
@@ -86,6 +93,80 @@ pub(crate) fn ask_together<B: Names, K: Keep<B>>(
     tell_all(session, requests, last.told.as_slice(), answers);
     last.stopped = stops(count, requests.len());
     Ok(count)
+}
+
+/// The same. Where the first request is a free whose ring is full while another thread has the sink,
+/// it waits until that one's turn ends and asks again, so often at most: the ring may have room then,
+/// and no flush of its own is needed.
+pub(crate) fn ask_at_room<B: Names, K: Keep<B>, D: Sink>(
+    keeper: &mut K,
+    seat: &mut Seat<B>,
+    sink: &mut D,
+    session: &mut Session,
+    id: ClientId,
+    requests: &[Request],
+    last: &mut LastBatch,
+    answers: &mut Vec<Answer>,
+    turns: u64,
+) -> Result<usize, Refusal>
+    requires client { session.old.client ≡ Some id }
+    requires most { length requests.now ≤ MAX_RUN }
+    requires room { vec_len answers.old + length requests.now ≤ vec_capacity answers.old }
+    ensures same { K.identity keeper.new ≡ K.identity keeper.old }
+    ensures calls { D.calls sink.new ≡ D.calls sink.old }
+    ensures leads { (calls : List Call)
+        → IfOk result (λ n. WhereKnown (K.domain keeper.old) (K.domain keeper.new)
+        (GoesOn (K.identity keeper.old).strict session.old session.new seat.old seat.new calls calls)) }
+    ensures most { IfOk result (λ n. n ≤ length requests.now) }
+    ensures ok { IfOk result
+        (λ n. AnswersRun requests.now n session.old session.new answers.old.items answers.new.items
+        seat.old.held
+        seat.new.held) }
+    ensures client { session.new.client ≡ session.old.client }
+    ensures alone { IfOk result (λ n. n ≡ 0 → IsFirstAlone requests.now) }
+    ensures err { IfErr result (λ e. (e ≡ Refusal.NoMemory) × (session.new ≡ session.old)
+        × (answers.new.items ≡ answers.old.items) × (seat.new ≡ seat.old)
+        × WhereKnown (K.domain keeper.old) (K.domain keeper.new) IsSame) }
+    ensures none { IfOk result (λ n. n ≡ 0
+        → (session.new ≡ session.old) × (answers.new.items ≡ answers.old.items)
+        × (seat.new ≡ seat.old) × WhereKnown (K.domain keeper.old) (K.domain keeper.new) IsSame) }
+    ensures rest { MovesSharesAlone seat.old seat.new }
+    ensures kept { IfOk result (λ n. vec_capacity answers.old ≤ vec_capacity answers.new) }
+{
+    let count = ask_together(keeper, seat, session, id, requests, last, answers)?;
+    if count > 0 {
+        pass_on_where(sink, turns < MOST_TURNS);
+        return Ok(count);
+    }
+    if turns == 0 || !waits_for_room(last, requests) || !sink.wait_for_turn() {
+        return Ok(0);
+    }
+    last.stopped = false;
+    ask_at_room(
+        keeper,
+        seat,
+        sink,
+        session,
+        id,
+        requests,
+        last,
+        answers,
+        turns - 1,
+    )
+}
+
+/// Passes on where a turn was waited for.
+fn pass_on_where<D: Sink>(sink: &mut D, has_waited: bool)
+    ensures { D.calls sink.new ≡ D.calls sink.old }
+{
+    if has_waited {
+        sink.pass_on();
+    }
+}
+
+/// Whether the first request is a free that may find room where another thread has flushed.
+fn waits_for_room(last: &LastBatch, requests: &[Request]) -> bool {
+    !last.is_strict && matches!(requests.first(), Some(Request::Free { lo: _ }))
 }
 
 /// Writes the asks at the front of the requests, and gives how many they are: none where the first

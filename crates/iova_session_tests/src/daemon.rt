@@ -2,7 +2,7 @@
 //! wait, the flusher's rounds, and growths that are refused. The built program is tried over
 //! sockets by tests/run_service.
 ghost use Rattle.std.specs.Prelude.{◌≤◌};
-ghost use Rattle.iova_range.specs.declared.limits.TheConstants.{MAX_WORKERS};
+ghost use Rattle.iova_range.specs.declared.limits.TheConstants.{MAX_WORKERS, TALLY_PARTS};
 ghost use Rattle.iova_keep.specs.Views.{AreBlanksOf};
 
 mod doubles;
@@ -21,7 +21,7 @@ use iova_links::signals::Signals;
 use iova_lock::shared::Shared;
 use iova_model::totals::Totals;
 use iova_range::bounds::Bounds;
-use iova_range::limits::MAX_WORKERS;
+use iova_range::limits::{MAX_WORKERS, TALLY_PARTS};
 use iova_range::refusal::Refusal;
 use iova_range::stat::Stat;
 use iova_session::link::Link;
@@ -441,7 +441,7 @@ where
         notices,
         kind,
         workers,
-        Blanks::new(workers, workers),
+        Blanks::new(workers, TALLY_PARTS),
         sinks,
         accept,
         pause,
@@ -471,7 +471,7 @@ where
     D: Sink + Send + Drop,
     P: Pause + Drop,
     requires workers { (1 ≤ workers) × (workers ≤ MAX_WORKERS) }
-    requires blanks { AreBlanksOf blanks B.ledgers workers workers }
+    requires blanks { AreBlanksOf blanks B.ledgers workers TALLY_PARTS workers }
 {
     let Some((shared, mut posts)) = new_domain::<&R, B>(rt, alloc, kind, workers, blanks) else {
         return Err(BEFORE);
@@ -504,7 +504,7 @@ fn new_domain<Q, B>(
 where
     Q: Drop,
     B: Names,
-    requires blanks { AreBlanksOf blanks B.ledgers workers workers }
+    requires blanks { AreBlanksOf blanks B.ledgers workers TALLY_PARTS workers }
 {
     let Ok(bounds) = Bounds::new(1, 4095) else {
         return None;

@@ -1,4 +1,5 @@
 //! One session at a post of a fresh domain 0, for tests: over a book, and under a lock.
+ghost use Rattle.iova_range.specs.declared.limits.TheConstants.{TALLY_PARTS};
 ghost use Rattle.iova_keep.specs.Views.{AreBlanksOf};
 
 use iova_keep::keep::Keep;
@@ -10,7 +11,7 @@ use iova_lock::shared::Shared;
 use iova_model::place::Place;
 use iova_model::totals::Totals;
 use iova_range::bounds::Bounds;
-use iova_range::limits::{MAX_PAIRS, MAX_WORKERS};
+use iova_range::limits::{MAX_PAIRS, MAX_WORKERS, TALLY_PARTS};
 use iova_range::profile::Profile;
 use iova_range::refusal::Refusal;
 use iova_range::stat::Stat;
@@ -93,7 +94,7 @@ pub(crate) fn at_post<R: Wait, L: Link, D: Sink>(
             setup,
             bounds,
             workers,
-            Blanks::new(workers, workers),
+            Blanks::new(workers, TALLY_PARTS),
             link,
             sink,
             text,
@@ -104,7 +105,7 @@ pub(crate) fn at_post<R: Wait, L: Link, D: Sink>(
             setup,
             bounds,
             workers,
-            Blanks::new(workers, workers),
+            Blanks::new(workers, TALLY_PARTS),
             link,
             sink,
         )
@@ -120,7 +121,7 @@ fn in_book<B: Names, L: Link, D: Sink>(
     link: &mut L,
     sink: &mut D,
 ) -> Result<Seen, Refusal>
-    requires blanks { AreBlanksOf blanks B.ledgers workers workers }
+    requires blanks { AreBlanksOf blanks B.ledgers workers TALLY_PARTS workers }
 {
     let (book, mut seats) = if setup.pairs > 0 {
         Book::<B>::recorded(
@@ -149,7 +150,7 @@ pub(crate) fn new_shared<Q: Drop, B: Names>(
     workers: u64,
     blanks: Blanks,
 ) -> Result<(Shared<Q, B>, Vec<Seat<B>>), Refusal>
-    requires blanks { AreBlanksOf blanks B.ledgers workers workers }
+    requires blanks { AreBlanksOf blanks B.ledgers workers TALLY_PARTS workers }
 {
     let (strict, pairs) = kind;
     let (shared, seats) = if pairs > 0 {
@@ -172,7 +173,7 @@ fn in_shared<R: Wait, B: Names, L: Link, D: Sink>(
     sink: &mut D,
     text: &mut Vec<u8>,
 ) -> Result<Seen, Refusal>
-    requires blanks { AreBlanksOf blanks B.ledgers workers workers }
+    requires blanks { AreBlanksOf blanks B.ledgers workers TALLY_PARTS workers }
 {
     let (shared, mut seats) = new_shared::<&R, B>(
         rt,

@@ -1,5 +1,6 @@
 //! The sessions of tests/sessions at one post, one after another, over a book: how each of them
 //! ends, and that the client that waits meanwhile is ended by the round behind them.
+ghost use Rattle.iova_range.specs.declared.limits.TheConstants.{TALLY_PARTS};
 ghost use Rattle.iova_keep.specs.Views.{AreBlanksOf};
 
 use crate::session_files::SESSIONS;
@@ -11,6 +12,7 @@ use iova_keep::seat::Seat;
 use iova_lock::book::Book;
 use iova_model::totals::Totals;
 use iova_range::bounds::Bounds;
+use iova_range::limits::TALLY_PARTS;
 use iova_range::profile::Profile;
 use iova_range::refusal::Refusal;
 use iova_session::memory_link::MemoryLink;
@@ -121,7 +123,7 @@ fn in_book<B: Names>(
     blanks: Blanks,
     links: &mut [MemoryLink<'static>],
 ) -> Result<Option<Outcome>, Refusal>
-    requires blanks { AreBlanksOf blanks B.ledgers 1 1 }
+    requires blanks { AreBlanksOf blanks B.ledgers 1 TALLY_PARTS 1 }
 {
     let bounds = Bounds::new_in(Profile::one(), 1, 1023)?;
     let (book, mut seats) = Book::<B>::new(alloc, 0, bounds, 1, blanks)?;
@@ -133,7 +135,7 @@ fn in_book<B: Names>(
 
 fn in_new_book(alloc: Global) -> Result<Option<Outcome>, Refusal> {
     let mut links = links_of(alloc)?;
-    in_book::<Brand>(alloc, Blanks::new(1, 1), &mut links)
+    in_book::<Brand>(alloc, Blanks::new(1, TALLY_PARTS), &mut links)
 }
 
 #[test]

@@ -3,6 +3,7 @@
 #![tactic(auto)]
 
 mod again;
+mod ahead;
 pub mod asking;
 mod backoff;
 pub mod calls;

@@ -42,4 +42,20 @@ pub trait Sink {
     fn unlock(&mut self)
         ensures { calls self.new ≡ calls self.old }
     {}
+
+    /// Waits where another thread has the sink locked, until that one lets go of it or somebody
+    /// passes on, and tells whether it waited. What the other one's flush has freed may be enough
+    /// for this thread too, which then needs no flush of its own. A sink that isn't shared has
+    /// nothing to do.
+    fn wait_for_turn(&mut self) -> bool
+        ensures { calls self.new ≡ calls self.old }
+    {
+        false
+    }
+
+    /// Wakes the next one of those that wait for a turn: this thread waited for one, and needed no
+    /// flush of its own.
+    fn pass_on(&mut self)
+        ensures { calls self.new ≡ calls self.old }
+    {}
 }

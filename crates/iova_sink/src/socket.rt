@@ -2,7 +2,8 @@
 ghost use Rattle.std.specs.Prelude.{◌≡◌, ◌≢◌, ◌≤◌, ◌<◌, IfOk, IfSome, None, length, false};
 ghost use Rattle.iova_sink.specs.Channels.{with_failure};
 
-use crate::again::{is_interrupted, read_again, write_again};
+use crate::again::{is_interrupted, write_again};
+use crate::ahead::Connection;
 use crate::backoff::Backoff;
 use crate::channel::{Channel, ChannelFault, Standing};
 use crate::count::Count;
@@ -17,9 +18,6 @@ use std::os::unix::net::UnixStream;
 use std::rt::Clock;
 use std::time::Duration;
 
-/// How many bytes are read ahead at a time: more than an answer has.
-const AHEAD: usize = 64;
-
 /// A Unix socket at a path, with one time limit for each read and each write; one that a signal
 /// interrupts is made again, for what is left of its time. An answer is one read: what comes with it
 /// is read too, and is handed on with the next call that receives. A read looks a while for what
@@ -33,11 +31,10 @@ pub struct SocketChannel<'a, N: Net> {
     path: &'a str,
     limit: Duration,
     hurry: Option<&'a Hurry>,
-    stream: Option<UnixStream>,
+    connection: Option<Connection>,
     was_full: bool,
     backoff: Backoff,
     looks: Looks,
-    ahead: Ahead,
     failed: Count,
     strays: Count,
 }
@@ -50,76 +47,13 @@ impl<'a, N: Net> Drop for SocketChannel<'a, N> {
             path: _,
             limit: _,
             hurry: _,
-            stream: _,
+            connection: _,
             was_full: _,
             backoff: _,
             looks: _,
-            ahead: _,
             failed: _,
             strays: _,
         } = self;
-    }
-}
-
-/// Bytes that were read from the connection and not handed on yet.
-#[derive(Drop)]
-struct Ahead {
-    bytes: [u8; AHEAD],
-    from: usize,
-    to: usize,
-}
-
-impl Ahead {
-    fn new() -> Ahead {
-        Ahead {
-            bytes: [0; AHEAD],
-            from: 0,
-            to: 0,
-        }
-    }
-
-    fn is_empty(&self) -> bool {
-        self.from >= self.to
-    }
-
-    /// Those that are left are lost.
-    fn clear(&mut self) {
-        self.from = 0;
-        self.to = 0;
-    }
-
-    /// Reads the next bytes, where there are none: none at the end of the stream. It takes no
-    /// longer than this, whatever interrupts it.
-    fn fill<C: Clock>(
-        &mut self,
-        clock: &C,
-        stream: &UnixStream,
-        looks: &mut Looks,
-        limit: Duration,
-    ) -> io::Result<()> {
-        if self.is_empty() {
-            let begun = clock.monotonic()?;
-            let mut read = looks.read(stream, &mut self.bytes);
-            if is_interrupted(&read) {
-                read = read_again(clock, stream, &mut self.bytes, begun, limit);
-            }
-            self.from = 0;
-            self.to = read?;
-        }
-        Ok(())
-    }
-
-    /// Hands the next bytes on into the buffer, and gives how many.
-    fn take(&mut self, buffer: &mut [u8]) -> usize
-        ensures { result ≤ length buffer.new }
-    {
-        let Some(standing) = self.bytes.get(self.from..self.to) else {
-            return 0;
-        };
-        let n = standing.len().min(buffer.len());
-        buffer[..n].copy_from_slice(&standing[..n]);
-        self.from = self.from.saturating_add(n);
-        n
     }
 }
 
@@ -134,7 +68,7 @@ impl<'a, N: Net> Model for SocketChannel<'a, N> {
       received = None;
       failures = c.failed;
       strays = c.strays;
-      connected = is_some c.stream;
+      connected = is_some c.connection;
     } };
 }
 
@@ -155,11 +89,10 @@ impl<'a, N: Net + Clock> SocketChannel<'a, N> {
             path,
             limit: Duration::from_secs(seconds),
             hurry: None,
-            stream: None,
+            connection: None,
             was_full: false,
             backoff: Backoff::new(),
             looks: Looks::new(),
-            ahead: Ahead::new(),
             failed: Count::new(),
             strays: Count::new(),
         }
@@ -211,17 +144,17 @@ impl<'a, N: Net + Clock> Channel for SocketChannel<'a, N> {
     ghost talk = { λ c. c };
 
     fn is_open(&self) -> bool {
-        self.stream.is_some()
+        self.connection.is_some()
     }
 
     fn send(&mut self, bytes: &[u8]) -> Result<usize, ChannelFault> {
         if self.is_given_up() {
             return Err(self.fault());
         }
-        let Some(stream) = &self.stream else {
+        let Some(connection) = &self.connection else {
             return Err(self.fault());
         };
-        let written = written(self.net, stream, bytes, self.limit);
+        let written = written(self.net, connection.stream(), bytes, self.limit);
         if let Err(error) = &written {
             return Err(self.fault_of(error));
         }
@@ -235,15 +168,11 @@ impl<'a, N: Net + Clock> Channel for SocketChannel<'a, N> {
         if self.is_given_up() {
             return Err(self.fault());
         }
-        let Some(stream) = &self.stream else {
+        let Some(connection) = &mut self.connection else {
             return Err(self.fault());
         };
-        match self
-            .ahead
-            .fill(self.net, stream, &mut self.looks, self.limit)
-        {
-            Ok(()) => {
-                let n = self.ahead.take(buffer);
+        match connection.receive(self.net, &mut self.looks, self.limit, buffer) {
+            Ok(n) => {
                 if n > 0 {
                     self.backoff.reset();
                 }
@@ -256,14 +185,10 @@ impl<'a, N: Net + Clock> Channel for SocketChannel<'a, N> {
     /// Bytes that were read ahead stand there too. Where there are none, it reads a byte without
     /// waiting: one that stands there is lost.
     fn look(&mut self) -> Result<Standing, ChannelFault> {
-        let Some(stream) = &self.stream else {
+        let Some(connection) = &self.connection else {
             return Err(self.fault());
         };
-        if !self.ahead.is_empty() {
-            self.strays.up();
-            return Ok(Standing::Bytes);
-        }
-        match stands_in(stream) {
+        match stands_in(connection) {
             Ok(Standing::Bytes) => {
                 self.strays.up();
                 Ok(Standing::Bytes)
@@ -274,15 +199,14 @@ impl<'a, N: Net + Clock> Channel for SocketChannel<'a, N> {
     }
 
     fn connect(&mut self) -> Result<(), ChannelFault> {
-        self.stream = None;
-        self.ahead.clear();
+        self.connection = None;
         self.was_full = true;
         if self.is_given_up() || self.backoff.holds(self.net) {
             return Err(self.fault());
         }
         match connected(self.net, self.path, self.limit) {
             Ok(stream) => {
-                self.stream = Some(stream);
+                self.connection = Some(Connection::new(stream));
                 self.was_full = false;
                 Ok(())
             }
@@ -295,11 +219,10 @@ impl<'a, N: Net + Clock> Channel for SocketChannel<'a, N> {
 
     /// It is closed where it failed, so the next one may have to wait.
     fn close(&mut self) {
-        if self.stream.is_some() {
+        if self.connection.is_some() {
             self.backoff.note_failed(self.net);
         }
-        self.stream = None;
-        self.ahead.clear();
+        self.connection = None;
     }
 }
 
@@ -333,10 +256,13 @@ fn connected<N: Net>(net: &N, path: &str, limit: Duration) -> io::Result<UnixStr
     Ok(stream)
 }
 
-/// What stands in the connection.
-fn stands_in(stream: &UnixStream) -> io::Result<Standing> {
+/// What stands in the connection, or was read of it ahead.
+fn stands_in(connection: &Connection) -> io::Result<Standing> {
+    if connection.is_ahead() {
+        return Ok(Standing::Bytes);
+    }
     let mut byte = [0u8];
-    match read_now(stream, &mut byte) {
+    match read_now(connection.stream(), &mut byte) {
         Ok(0) => Ok(Standing::End),
         Ok(_) => Ok(Standing::Bytes),
         Err(error) => {

@@ -10,9 +10,7 @@ use Rattle.std.proofs.lemmas.List.{length-map, length-append}
 use Rattle.std.proofs.lemmas.List.Folds.{list_any-append}
 use Rattle.iova_keep.specs.Views.{SeatState, seat_with, seats_in_turn}
 use Rattle.iova_lock.specs.Books.{are_all, has_seat, have_seats}
-
-abbrev pub workers_of : List SeatState → List ℕ
-workers_of seats = map (λ s. s.worker) seats
+use Rattle.iovad.specs.Ends.{workers_of}
 
 -- only the workers of the seats count
 seat_by_worker : (worker : ℕ) (seats : List SeatState) → has_seat worker seats ≡ list_any (λ w. w == worker) (workers_of seats)
@@ -27,7 +25,7 @@ same_seats : (n : ℕ) (xs ys : List SeatState) → workers_of xs ≡ workers_of
 same_seats zero xs ys same = refl
 same_seats (suc n) xs ys same = ap₂ (λ a b. a && b) (same_seats n xs ys same) (same_seat n xs ys same)
 
-same_length : (xs ys : List SeatState) → workers_of xs ≡ workers_of ys → length xs ≡ length ys
+pub same_length : (xs ys : List SeatState) → workers_of xs ≡ workers_of ys → length xs ≡ length ys
 same_length xs ys same = sym (length-map xs (λ s. s.worker)) ∙ ap length same ∙ length-map ys (λ s. s.worker)
 
 -- seats in turn are those of all workers
@@ -97,11 +95,3 @@ first_parts seat workers n (q ∷ posts) same p is =
     let this : q ≡ p = ap (λ o. unwrap_or o q) is in
     let parts : (seat p).tally.parts ≡ SEAT_PARTS = ap (λ r. (seat r).tally.parts) (sym this) ∙ all.0 in
     subst (λ k. 2 ≤ k) (sym parts) (omega arith)
-
--- seats that are all there don't come back
-pub not_back : (workers count : ℕ) (seats : List SeatState) → workers ≤ count → workers_of seats ≡ workers_of (in_turn workers count)
-    → are_all count workers seats ≡ false → ⊥
-not_back workers count seats enough same back = true_is_false (sym (all_there workers count seats enough same) ∙ back)
-  where
-    true_is_false : true ≡ false → ⊥
-    true_is_false e = cc

@@ -1,9 +1,7 @@
 -- How a daemon serves a plan, and how that may end.
-use Rattle.std.specs.Prelude.{ℕ, zero, suc, ◌≡◌, ◌≢◌, ◌<◌, ◌≤◌, ◌*◌, min, List, map, Option, Some, None}
+use Rattle.std.specs.Prelude.{ℕ, zero, suc, ◌≡◌, ◌≢◌, ◌<◌, ◌≤◌, ◌*◌, min, Option, Some, None}
 use Rattle.iova_range.specs.Bounds.{Capacities, Extent, first_profile, second_profile}
-use Rattle.iova_range.specs.declared.limits.TheConstants.{MAX_REQUESTS, MAX_SESSION_READS, MAX_SESSION_REQUESTS, SEAT_PARTS}
-use Rattle.iova_keep.specs.Views.{seats_in_turn}
-use Rattle.iova_lock.specs.Books.{SharedState}
+use Rattle.iova_range.specs.declared.limits.TheConstants.{MAX_REQUESTS, MAX_SESSION_READS, MAX_SESSION_REQUESTS}
 use Rattle.iova_command.specs.declared.plan.Plan.{Plan}
 use Rattle.iova_session.specs.declared.session_limits.SessionLimits.{SessionLimits}
 use Rattle.iova_tools.specs.declared.fault.Fault.{Fault}
@@ -36,12 +34,6 @@ planned_limits (Some requests) = record {
   reads = min (planned_requests requests * 16) 18446744073709551615;
 }
 planned_limits None = record { requests = MAX_REQUESTS; reads = MAX_SESSION_READS }
-
--- the workers of all seats of a domain
-pub record AreOfAllSeats (shared : SharedState) (workers : List ℕ) : Type 0 where
-  pub turn : workers ≡ map (λ s. s.worker)
-      (seats_in_turn SEAT_PARTS shared.workers shared.seats)
-  pub enough : shared.workers ≤ shared.seats
 
 -- how serving what a plan says may end: the faults of the plan and of its regions come only where
 -- it has them, and else the daemon's own

@@ -1,9 +1,12 @@
 //! A daemon: the sessions of a plan, served on a socket, and the report of what they leave.
-ghost use Rattle.std.specs.Prelude.{◌≡◌, ◌<◌, ◌≤◌, ◌+◌, None, Err, IfErr, IfOk, map, length, unwrap_or, vec_len};
-ghost use Rattle.iova_keep.specs.Views.{AreBlanksOf};
+ghost use Rattle.std.specs.Prelude.{◌≡◌, ◌<◌, ◌≤◌, ◌+◌, ◌*◌, true, [], None, Err, IfErr, IfOk, map, length, unwrap_or, vec_len, vec_capacity};
+ghost use Rattle.iova_range.specs.declared.limits.TheConstants.{SEAT_PARTS};
+ghost use Rattle.iova_keep.specs.Views.{AreBlanksOf, KeepsPlace, seats_in_turn};
+ghost use Rattle.iova_lock.specs.Books.{AreCounted, are_all, tally_parts};
 ghost use Rattle.iova_command.specs.declared.plan.Plan.{Plan};
 ghost use Rattle.iova_planned.specs.PlannedDomains.{AreNewSeats, seat_count};
-ghost use Rattle.iovad.specs.Plans.{AreOfAllSeats, IsAboveProfile, IsBoundsOf, IsFaultOfServing, planned_limits};
+ghost use Rattle.iovad.specs.Plans.{IsAboveProfile, IsBoundsOf, IsFaultOfServing, planned_limits};
+ghost use Rattle.iovad.specs.Ends.{EndsAll, EndsCounted, IsAnswered, ServesAll, last_calls, workers_of};
 
 use iova_command::plan::Plan;
 use iova_command::plan_words::PlanWords;
@@ -22,6 +25,7 @@ use iova_files::standard::path_of_input;
 use iova_keep::keep::Keep;
 use iova_keep::ledgers::Blanks;
 use iova_keep::names::Names;
+use iova_keep::seat::{Seat, Tally};
 use iova_links::accept::Accept;
 use iova_links::dial::{Dial, UnixNet};
 use iova_links::locked_sink::SharedSink;
@@ -89,7 +93,8 @@ pub fn serve<'a, R, B>(rt: &R, plan: &Plan<'a>, blanks: Blanks) -> Result<(), Fa
 where
     R: Runtime + AllocGlobal + Net + Dial + Threads + Wait + Sync + Files<File = File> + Log,
     B: Names + Send + Sync,
-    requires blanks { AreBlanksOf blanks B.ledgers (seat_count plan.now) plan.now.workers }
+    requires blanks { AreBlanksOf blanks B.ledgers (seat_count plan.now) SEAT_PARTS
+        plan.now.workers }
     ensures order { plan.now.last < plan.now.start → result ≡ Err Fault.StartAboveLast }
     ensures profile { plan.now.start ≤ plan.now.last → IsAboveProfile plan.now
         → result ≡ Err Fault.LastAboveProfile }
@@ -178,6 +183,7 @@ where
     R: Runtime + AllocGlobal + Net + Dial + Threads + Wait + Sync + Files<File = File>,
     B: Names + Send + Sync,
     requires posts { AreNewSeats shared (map (λ p. p.seat) posts.items) }
+    requires parts { B.ledgers.good.parts ≡ SEAT_PARTS * shared.seats }
     ensures { IfErr result (IsFaultOfServing plan.now) }
 {
     let net = UnixNet::new(rt);
@@ -224,50 +230,150 @@ where
     R: Runtime + AllocGlobal + Net + Dial + Threads + Wait + Sync + Files<File = File>,
     B: Names + Send + Sync,
     requires posts { AreNewSeats shared (map (λ p. p.seat) posts.items) }
+    requires parts { B.ledgers.good.parts ≡ SEAT_PARTS * shared.seats }
     ensures { IfErr result (IsFaultOfServing plan.now) }
 {
-    match serve_links(run, plan, shared, posts) {
-        Ok((Served { shared, posts }, record)) => {
-            tell_end(run.notices);
-            finish(run, plan, shared, posts, record)
+    let is_new = is_new_file(run.rt, plan);
+    let rest = match Daemon::open(run, plan, shared, posts) {
+        Ok(daemon) => serve_opened(run, plan, daemon),
+        Err(why) => Err(why),
+    };
+    match rest {
+        Ok(rest) => finish(run, plan, rest),
+        Err(why) => {
+            if is_new {
+                remove_new_file(run.rt, plan);
+            }
+            Err(why.fault())
         }
-        Err(why) => Err(why.fault()),
     }
 }
 
-/// Tells that nobody is served any more.
-fn tell_end<R: Clock + Eprint>(notices: &Notices<'_, R>) {
-    info!(notices; target: "", "all sessions have ended");
-}
-
-/// Opens what the plan names, and serves its sessions. The posts that come back are those of all
-/// workers.
-fn serve_links<'a, 'p, R, B>(
+/// Serves with this daemon. A function of its own: that its sinks may go to threads is found where
+/// nothing else is known.
+fn serve_opened<'a, R, B>(
     run: &Running<'a, R>,
-    plan: &Plan<'p>,
-    shared: Shared<&'a R, B>,
-    posts: Vec<Post<B>>,
-) -> Result<(Served<&'a R, B>, Option<RecordFile<'p>>), Hindrance>
+    plan: &Plan<'_>,
+    daemon: Daemon<'a, '_, R, B, DaemonSink<'a, UnixNet<'a, R>>>,
+) -> Result<Rest, Hindrance>
 where
     R: Runtime + AllocGlobal + Net + Dial + Threads + Wait + Sync + Files<File = File>,
     B: Names + Send + Sync,
-    requires posts { AreNewSeats shared (map (λ p. p.seat) posts.items) }
-    ensures { IfOk result (λ r. AreOfAllSeats r.0.shared
-        (map (λ p. p.seat.worker) r.0.posts.items)) }
+    requires posts { AreNewSeats daemon.shared (map (λ p. p.seat) daemon.posts.items) }
+    requires parts { B.ledgers.good.parts ≡ SEAT_PARTS * daemon.shared.seats }
+    requires sinks { 2 ≤ vec_len daemon.sinks }
 {
-    let is_new = is_new_file(run.rt, plan);
-    let served = match open_all(run, plan, plan.workers as usize + 1) {
-        Ok((sinks, record)) => serve_recorded(run, plan, shared, posts, sinks, record),
-        Err(why) => {
-            drop(posts);
-            drop(shared);
-            Err(why)
-        }
-    };
-    if is_new && served.is_err() {
-        remove_new_file(run.rt, plan);
+    daemon.run(run, plan)
+}
+
+/// A daemon: its domain under a lock, a post at each of its seats, a sink for each worker and one
+/// for the flusher, its sockets, and the file of its record.
+struct Daemon<'a, 'p, R, B: Names, D> {
+    shared: Shared<&'a R, B>,
+    posts: Vec<Post<B>>,
+    sinks: Vec<D>,
+    sockets: Sockets<'p>,
+    record: Option<RecordFile<'p>>,
+}
+
+/// What it has is let go, which is proved here once.
+impl<'a, 'p, R, B: Names, D: Drop> Drop for Daemon<'a, 'p, R, B, D> {
+    fn drop(self) {
+        let Daemon {
+            shared: _,
+            posts: _,
+            sinks: _,
+            sockets: _,
+            record: _,
+        } = self;
     }
-    served
+}
+
+/// What a daemon leaves: its domain, and whether its record is written.
+#[derive(Drop)]
+struct Rest {
+    domain: Domain,
+    recorded: Result<(), Hindrance>,
+}
+
+impl<'a, 'p, R, B> Daemon<'a, 'p, R, B, DaemonSink<'a, UnixNet<'a, R>>>
+where
+    R: Runtime + AllocGlobal + Net + Dial + Threads + Wait + Sync + Files<File = File>,
+    B: Names + Send + Sync,
+{
+    /// Opens what the plan names: its sinks, the record's file, and its sockets, on which nobody is
+    /// accepted yet; and begins the record. Where it is refused, no file that was made is left.
+    fn open(
+        run: &Running<'a, R>,
+        plan: &Plan<'p>,
+        shared: Shared<&'a R, B>,
+        posts: Vec<Post<B>>,
+    ) -> Result<Daemon<'a, 'p, R, B, DaemonSink<'a, UnixNet<'a, R>>>, Hindrance>
+        requires posts { AreNewSeats shared (map (λ p. p.seat) posts.items) }
+        requires parts { B.ledgers.good.parts ≡ SEAT_PARTS * shared.seats }
+        ensures posts { IfOk result (λ d. AreNewSeats d.shared (map (λ p. p.seat) d.posts.items)) }
+        ensures parts { IfOk result (λ d. B.ledgers.good.parts ≡ SEAT_PARTS * d.shared.seats) }
+        ensures sinks { IfOk result (λ d. 2 ≤ vec_len d.sinks) }
+    {
+        let opened = open_all(run, plan, &shared, plan.workers as usize + 1);
+        match opened {
+            Ok(
+                Opened {
+                    sinks,
+                    sockets,
+                    record,
+                },
+            ) => Ok(Daemon {
+                shared,
+                posts,
+                sinks,
+                sockets,
+                record,
+            }),
+            Err(why) => {
+                drop(posts);
+                drop(shared);
+                Err(why)
+            }
+        }
+    }
+}
+
+impl<'a, 'p, R, B, D> Daemon<'a, 'p, R, B, D>
+where
+    R: Runtime + AllocGlobal + Net + Dial + Threads + Wait + Sync + Files<File = File>,
+    B: Names + Send + Sync,
+    D: Sink + Send + Drop,
+{
+    /// Serves the plan's sessions, and ends the service. Where nothing was served, no file that was
+    /// made for it is left.
+    fn run(self, run: &Running<'a, R>, plan: &Plan<'_>) -> Result<Rest, Hindrance>
+        requires posts { AreNewSeats self.shared (map (λ p. p.seat) self.posts.items) }
+        requires parts { B.ledgers.good.parts ≡ SEAT_PARTS * self.shared.seats }
+        requires sinks { 2 ≤ vec_len self.sinks }
+    {
+        let Daemon {
+            shared,
+            posts,
+            sinks,
+            sockets,
+            record,
+        } = self;
+        let mut record = record;
+        let rest = match share_all(run.rt.alloc(), sinks) {
+            Some(held) => serve_held(run, plan, shared, posts, &held, sockets, &mut record),
+            None => {
+                drop(posts);
+                drop(shared);
+                forget_sockets(run.rt, sockets);
+                Err(Hindrance::NoMemory)
+            }
+        };
+        if rest.is_err() {
+            undo(run.rt, &record);
+        }
+        rest
+    }
 }
 
 /// Whether nothing stands yet at the path of a file that takes records.
@@ -284,42 +390,6 @@ fn remove_new_file<R: Files<File = File>>(rt: &R, plan: &Plan<'_>) {
         && let Some(made) = MadeFile::at(rt, path)
     {
         made.remove(rt);
-    }
-}
-
-/// The same, with a sink for each worker and one for the flusher, and the record's file.
-fn serve_recorded<'a, 'p, R, B>(
-    run: &Running<'a, R>,
-    plan: &Plan<'p>,
-    shared: Shared<&'a R, B>,
-    posts: Vec<Post<B>>,
-    sinks: Vec<DaemonSink<'a, UnixNet<'a, R>>>,
-    record: Option<RecordFile<'p>>,
-) -> Result<(Served<&'a R, B>, Option<RecordFile<'p>>), Hindrance>
-where
-    R: Runtime + AllocGlobal + Net + Dial + Threads + Wait + Sync + Files<File = File>,
-    B: Names + Send + Sync,
-    requires posts { AreNewSeats shared (map (λ p. p.seat) posts.items) }
-    requires sinks { 2 ≤ vec_len sinks }
-    ensures { IfOk result (λ r. AreOfAllSeats r.0.shared
-        (map (λ p. p.seat.worker) r.0.posts.items)) }
-{
-    let mut record = record;
-    let served = match begin(run, plan, &shared, &mut record) {
-        Ok(sockets) => serve_opened(run, plan, shared, posts, sinks, sockets),
-        Err(why) => {
-            drop(sinks);
-            drop(posts);
-            drop(shared);
-            Err(why)
-        }
-    };
-    match served {
-        Ok(served) => Ok((served, record)),
-        Err(why) => {
-            undo(run.rt, &record);
-            Err(why)
-        }
     }
 }
 
@@ -392,62 +462,14 @@ fn remove_control<R: Files<File = File>>(rt: &R, file: &Option<MadeFile<'_>>) {
     }
 }
 
-/// Serves the plan's sessions on this socket, with these sinks, which posts share.
-fn serve_opened<'a, R, B>(
-    run: &Running<'a, R>,
-    plan: &Plan<'_>,
-    shared: Shared<&'a R, B>,
-    posts: Vec<Post<B>>,
-    sinks: Vec<DaemonSink<'a, UnixNet<'a, R>>>,
-    sockets: Sockets<'_>,
-) -> Result<Served<&'a R, B>, Hindrance>
-where
-    R: Runtime + AllocGlobal + Net + Dial + Threads + Wait + Sync + Files<File = File>,
-    B: Names + Send + Sync,
-    requires posts { AreNewSeats shared (map (λ p. p.seat) posts.items) }
-    requires sinks { 2 ≤ vec_len sinks }
-    ensures { IfOk result (λ r. AreOfAllSeats r.shared
-        (map (λ p. p.seat.worker) r.posts.items)) }
-{
-    serve_shared(run, plan, shared, posts, sinks, sockets)
-}
-
-/// The same with sinks of any kind.
-fn serve_shared<'a, R, B, D>(
-    run: &Running<'a, R>,
-    plan: &Plan<'_>,
-    shared: Shared<&'a R, B>,
-    posts: Vec<Post<B>>,
-    sinks: Vec<D>,
-    sockets: Sockets<'_>,
-) -> Result<Served<&'a R, B>, Hindrance>
-where
-    R: Runtime + AllocGlobal + Net + Dial + Threads + Wait + Sync + Files<File = File>,
-    B: Names + Send + Sync,
-    D: Sink + Send + Drop,
-    requires posts { AreNewSeats shared (map (λ p. p.seat) posts.items) }
-    requires sinks { 2 ≤ vec_len sinks }
-    ensures { IfOk result (λ r. AreOfAllSeats r.shared
-        (map (λ p. p.seat.worker) r.posts.items)) }
-{
-    match share_all(run.rt.alloc(), sinks) {
-        Some(held) => serve_held(run, plan, shared, posts, &held, sockets),
-        None => {
-            drop(posts);
-            drop(shared);
-            forget_sockets(run.rt, sockets);
-            Err(Hindrance::NoMemory)
-        }
-    }
-}
-
 /// Removes the files of the sockets.
 fn forget_sockets<R: Files<File = File>>(rt: &R, sockets: Sockets<'_>) {
     sockets.service.file.remove(rt);
     remove_control(rt, &sockets.control);
 }
 
-/// The same with these shared sinks.
+/// Serves the plan's sessions with a sink for each post, and one for the flusher, which are those
+/// of the workers in turn, and ends the service.
 fn serve_held<'a, R, B, D>(
     run: &Running<'a, R>,
     plan: &Plan<'_>,
@@ -455,18 +477,18 @@ fn serve_held<'a, R, B, D>(
     posts: Vec<Post<B>>,
     held: &[SharedSink<D>],
     sockets: Sockets<'_>,
-) -> Result<Served<&'a R, B>, Hindrance>
+    record: &mut Option<RecordFile<'_>>,
+) -> Result<Rest, Hindrance>
 where
     R: Runtime + AllocGlobal + Net + Dial + Threads + Wait + Sync + Files<File = File>,
     B: Names + Send + Sync,
     D: Sink + Send + Drop,
     requires posts { AreNewSeats shared (map (λ p. p.seat) posts.items) }
+    requires parts { B.ledgers.good.parts ≡ SEAT_PARTS * shared.seats }
     requires sinks { 2 ≤ length held.now }
-    ensures { IfOk result (λ r. AreOfAllSeats r.shared
-        (map (λ p. p.seat.worker) r.posts.items)) }
 {
     match sinks_in_turn(run.rt, run.rt.alloc(), held, posts.len()) {
-        Some(sinks) => serve_in_turn(run, plan, shared, posts, sinks, sockets),
+        Some(sinks) => serve_to_end(run, plan, shared, posts, sinks, sockets, record),
         None => {
             drop(posts);
             drop(shared);
@@ -476,23 +498,212 @@ where
     }
 }
 
-/// The same with a sink for each post, and one more. The socket's file is removed at the end.
-fn serve_in_turn<'a, R, B, D>(
+/// The same with these sinks.
+fn serve_to_end<'a, R, B, D>(
     run: &Running<'a, R>,
     plan: &Plan<'_>,
     shared: Shared<&'a R, B>,
     posts: Vec<Post<B>>,
     sinks: Vec<D>,
     sockets: Sockets<'_>,
-) -> Result<Served<&'a R, B>, Hindrance>
+    record: &mut Option<RecordFile<'_>>,
+) -> Result<Rest, Hindrance>
+where
+    R: Runtime + AllocGlobal + Net + Dial + Threads + Wait + Sync + Files<File = File>,
+    B: Names + Send + Sync,
+    D: Sink + Send + Drop,
+    requires posts { AreNewSeats shared (map (λ p. p.seat) posts.items) }
+    requires parts { B.ledgers.good.parts ≡ SEAT_PARTS * shared.seats }
+    requires sinks { vec_len sinks ≡ vec_len posts + 1 }
+{
+    let last = LastOpener { run };
+    match serve_and_end(run, &last, plan, shared, posts, sinks, sockets, record) {
+        Ok(
+            Ended {
+                rest,
+                sinks: _,
+                sink: _,
+                last: _,
+            },
+        ) => Ok(rest),
+        Err(why) => Err(why),
+    }
+}
+
+/// What a service leaves at its end, and the sinks that it was given: those of the posts, the
+/// flusher's, and that of the last round, where there was one.
+#[derive(Drop)]
+struct Ended<D, E> {
+    rest: Rest,
+    sinks: Vec<D>,
+    sink: D,
+    last: Option<E>,
+}
+
+/// Who opens a sink for the last round.
+trait OpenLast<E> {
+    /// One more sink of the plan's. None where it can't be opened.
+    fn open_last(&self) -> Option<E>;
+}
+
+/// What opens it.
+#[derive(Drop)]
+struct LastOpener<'r, 'a, R> {
+    run: &'r Running<'a, R>,
+}
+
+impl<'r, 'a, R> OpenLast<DaemonSink<'a, UnixNet<'a, R>>> for LastOpener<'r, 'a, R>
+where
+    R: Clock + Eprint + Net + Dial + Files<File = File>,
+{
+    fn open_last(&self) -> Option<DaemonSink<'a, UnixNet<'a, R>>> {
+        let run = self.run;
+        open_sink(
+            run.rt,
+            run.notices,
+            run.net,
+            run.signals.hurry(),
+            run.place.at_once(),
+            None,
+        )
+    }
+}
+
+/// Serves the plan's sessions with these sinks, one for each post and the flusher's, and ends the
+/// service: tries the clients that wait once more, writes the record, and takes the domain out of
+/// its lock, once all seats and tallies have come back. So all flushes that the domain counts as
+/// ended well, from its beginning to its end, are within the good calls that the sinks were given.
+fn serve_and_end<'a, R, B, D, E, O>(
+    run: &Running<'a, R>,
+    opener: &O,
+    plan: &Plan<'_>,
+    shared: Shared<&'a R, B>,
+    posts: Vec<Post<B>>,
+    sinks: Vec<D>,
+    sockets: Sockets<'_>,
+    record: &mut Option<RecordFile<'_>>,
+) -> Result<Ended<D, E>, Hindrance>
+where
+    R: Runtime + AllocGlobal + Net + Dial + Threads + Wait + Sync + Files<File = File>,
+    B: Names + Send + Sync,
+    D: Sink + Send + Drop,
+    E: Sink + Drop,
+    O: OpenLast<E>,
+    requires posts { AreNewSeats shared (map (λ p. p.seat) posts.items) }
+    requires parts { B.ledgers.good.parts ≡ SEAT_PARTS * shared.seats }
+    requires sinks { vec_len sinks ≡ vec_len posts + 1 }
+    ensures { IfOk result (λ e. IsAnswered e.rest.domain (map D.calls sinks.items)
+        (map D.calls e.sinks.items) (D.calls e.sink) (last_calls E.calls e.last)) }
+{
+    // so the end needs no memory for the seats
+    let Ok(room) = Vec::with_capacity(run.rt.alloc(), posts.len()) else {
+        drop(sinks);
+        drop(posts);
+        drop(shared);
+        forget_sockets(run.rt, sockets);
+        return Err(Hindrance::NoMemory);
+    };
+    match serve_sockets(run, plan, shared, posts, sinks, sockets) {
+        Ok(served) => Ok(end_service(run, opener, served, room, record)),
+        Err(why) => {
+            drop(room);
+            Err(why)
+        }
+    }
+}
+
+/// Ends a service: tries the clients that wait once more, at a stop flushes what is in a ring,
+/// writes the record, and takes the domain out of its lock.
+fn end_service<'a, R, B, D, E, O>(
+    run: &Running<'a, R>,
+    opener: &O,
+    served: ServedBy<&'a R, B, D>,
+    room: Vec<Seat<B>>,
+    record: &mut Option<RecordFile<'_>>,
+) -> Ended<D, E>
+where
+    R: Runtime + AllocGlobal + Net + Dial + Threads + Wait + Sync + Files<File = File>,
+    B: Names + Send + Sync,
+    D: Sink + Send + Drop,
+    E: Sink + Drop,
+    O: OpenLast<E>,
+    requires workers { workers_of (map (λ p. p.seat) served.served.posts.items)
+        ≡ workers_of (seats_in_turn SEAT_PARTS served.served.shared.workers
+        served.served.shared.seats) }
+    requires enough { served.served.shared.workers ≤ served.served.shared.seats }
+    requires parts { tally_parts (map (λ p. p.seat) served.served.posts.items)
+        + served.tally.parts ≡ B.ledgers.good.parts }
+    requires empty { room.items ≡ [] }
+    requires room { vec_len served.served.posts ≤ vec_capacity room }
+    ensures ended { EndsCounted (map (λ p. p.seat) served.entry.served.posts.items)
+        served.entry.tally (last_calls E.calls result.last) result.rest.domain }
+    ensures sinks { (result.sinks ≡ served.entry.sinks) × (result.sink ≡ served.entry.sink) }
+{
+    tell_end(run.notices);
+    let ServedBy {
+        served: Served { shared, posts },
+        sinks,
+        sink,
+        tally,
+    } = served;
+    let mut posts = posts;
+    let mut last = last_wanted(run, opener, &shared, &posts);
+    end_posts(run, &shared, &mut posts, &mut last);
+    Ended {
+        rest: rest_of(run, shared, seats_of(posts, room), tally, record),
+        sinks,
+        sink,
+        last,
+    }
+}
+
+/// Tells that nobody is served any more.
+fn tell_end<R: Clock + Eprint>(notices: &Notices<'_, R>) {
+    info!(notices; target: "", "all sessions have ended");
+}
+
+/// Writes what was recorded, and takes the domain out of its lock.
+fn rest_of<'a, R, B>(
+    run: &Running<'a, R>,
+    shared: Shared<&'a R, B>,
+    seats: Vec<Seat<B>>,
+    tally: Tally<B>,
+    record: &mut Option<RecordFile<'_>>,
+) -> Rest
+where
+    R: AllocGlobal + Clock + Eprint + Wait + Net + Dial + Files<File = File>,
+    B: Names,
+    requires all { are_all shared.seats shared.workers seats.items ≡ true }
+    requires parts { tally_parts seats.items + tally.parts ≡ B.ledgers.good.parts }
+    ensures { AreCounted result.domain seats.items tally }
+{
+    run.control.look_at_record(shared.recording());
+    let recorded = write_record(run, &shared, record);
+    run.notices.flush();
+    Rest {
+        domain: shared.into_counted(seats, tally),
+        recorded,
+    }
+}
+
+/// Serves the plan's sessions on these sockets. Their files are removed at the end.
+fn serve_sockets<'a, R, B, D>(
+    run: &Running<'a, R>,
+    plan: &Plan<'_>,
+    shared: Shared<&'a R, B>,
+    posts: Vec<Post<B>>,
+    sinks: Vec<D>,
+    sockets: Sockets<'_>,
+) -> Result<ServedBy<&'a R, B, D>, Hindrance>
 where
     R: Runtime + AllocGlobal + Net + Dial + Threads + Wait + Sync + Files<File = File>,
     B: Names + Send + Sync,
     D: Sink + Send + Drop,
     requires posts { AreNewSeats shared (map (λ p. p.seat) posts.items) }
     requires sinks { vec_len sinks ≡ vec_len posts + 1 }
-    ensures { IfOk result (λ r. AreOfAllSeats r.shared
-        (map (λ p. p.seat.worker) r.posts.items)) }
+    ensures { IfOk result (λ r. ServesAll shared.entry (map (λ p. p.seat) posts.items)
+        (map D.calls sinks.items) r.served.shared (map (λ p. p.seat) r.served.posts.items) r.tally
+        (map D.calls r.sinks.items) (D.calls r.sink)) }
 {
     let rt = run.rt;
     let Sockets { service, control } = sockets;
@@ -525,15 +736,16 @@ fn serve_threads<'a, R, B, D>(
     posts: Vec<Post<B>>,
     sinks: Vec<D>,
     accept: &SocketAccept<'_, R, Notices<'_, R>>,
-) -> Result<Served<&'a R, B>, Refusal>
+) -> Result<ServedBy<&'a R, B, D>, Refusal>
 where
     R: Runtime + AllocGlobal + Net + Dial + Threads + Wait + Sync + Files<File = File>,
     B: Names + Send + Sync,
     D: Sink + Send + Drop,
     requires posts { AreNewSeats shared (map (λ p. p.seat) posts.items) }
     requires sinks { vec_len sinks ≡ vec_len posts + 1 }
-    ensures { IfOk result (λ r. AreOfAllSeats r.shared
-        (map (λ p. p.seat.worker) r.posts.items)) }
+    ensures { IfOk result (λ r. ServesAll shared.entry (map (λ p. p.seat) posts.items)
+        (map D.calls sinks.items) r.served.shared (map (λ p. p.seat) r.served.posts.items) r.tally
+        (map D.calls r.sinks.items) (D.calls r.sink)) }
 {
     let service = service_of(run, plan);
     let served = serve_sessions::<
@@ -548,14 +760,7 @@ where
         Control<'_, R, Notices<'_, R>>,
     >(&service, shared, posts, sinks, accept, Ticks::new(run.rt));
     match served {
-        Ok(
-            ServedBy {
-                served,
-                sinks: _,
-                sink: _,
-                tally: _,
-            },
-        ) => Ok(served),
+        Ok(served) => Ok(served),
         Err(refusal) => Err(refusal),
     }
 }
@@ -611,16 +816,61 @@ fn serving_of(plan: &Plan<'_>, clients: u64) -> Serving
     }
 }
 
-/// So many sinks, and the record's file where one is wanted. Refused by `SocketFault` where the
-/// socket's place is taken, which a peer is not disturbed for, and else comes behind the sinks; by
-/// `NoMemory`, `CannotOpenSink` and `CannotWrite`.
-fn open_all<'a, 'p, R: AllocGlobal + Clock + Eprint + Net + Dial + Files<File = File>>(
+/// What the plan names, opened.
+#[derive(Drop)]
+struct Opened<'a, 'p, N: Net + Clock> {
+    sinks: Vec<DaemonSink<'a, N>>,
+    sockets: Sockets<'p>,
+    record: Option<RecordFile<'p>>,
+}
+
+/// Opens so many sinks, the record's file where one is wanted, and the sockets. Refused by
+/// `SocketFault` where the socket's place is taken, which a peer is not disturbed for, and else
+/// comes behind the sinks; by `NoMemory`, `CannotOpenSink` and `CannotWrite`.
+fn open_all<'a, 'p, Q, R, B>(
     run: &Running<'a, R>,
     plan: &Plan<'p>,
+    shared: &Shared<Q, B>,
     count: usize,
-) -> Result<(Vec<DaemonSink<'a, UnixNet<'a, R>>>, Option<RecordFile<'p>>), Hindrance>
+) -> Result<Opened<'a, 'p, UnixNet<'a, R>>, Hindrance>
+where
+    R: AllocGlobal + Clock + Eprint + Wait + Net + Dial + Files<File = File>,
+    Q: Wait,
+    B: Names,
     requires { 2 ≤ count }
-    ensures { IfOk result (λ r. 2 ≤ vec_len r.0) }
+    ensures { IfOk result (λ o. 2 ≤ vec_len o.sinks) }
+{
+    let sinks = open_sinks_first(run, plan, count)?;
+    match open_record(run, plan) {
+        Ok(record) => {
+            let mut record = record;
+            match begin(run, plan, shared, &mut record) {
+                Ok(sockets) => Ok(Opened {
+                    sinks,
+                    sockets,
+                    record,
+                }),
+                Err(why) => {
+                    undo(run.rt, &record);
+                    drop(sinks);
+                    Err(why)
+                }
+            }
+        }
+        Err(why) => {
+            drop(sinks);
+            Err(why)
+        }
+    }
+}
+
+/// So many sinks, where nothing stands in their way.
+fn open_sinks_first<'a, R: AllocGlobal + Clock + Eprint + Net + Dial + Files<File = File>>(
+    run: &Running<'a, R>,
+    plan: &Plan<'_>,
+    count: usize,
+) -> Result<Vec<DaemonSink<'a, UnixNet<'a, R>>>, Hindrance>
+    ensures { IfOk result (λ v. vec_len v ≡ count) }
 {
     let has_peer = has_peer(plan);
     if has_peer && !is_free(run.rt, run.notices, plan.socket) {
@@ -637,13 +887,7 @@ fn open_all<'a, 'p, R: AllocGlobal + Clock + Eprint + Net + Dial + Files<File = 
             return Err(Hindrance::SocketFault);
         }
     }
-    match open_record(run, plan) {
-        Ok(record) => Ok((sinks, record)),
-        Err(why) => {
-            drop(sinks);
-            Err(why)
-        }
-    }
+    Ok(sinks)
 }
 
 /// Whether the file that takes records is that of the reserved regions; then it is told.
@@ -680,24 +924,13 @@ fn open_record<'a, 'p, R: Clock + Eprint + Files<File = File>>(
     }
 }
 
-/// Gathers what was served on, writes the record where one is wanted, and prints the domain. The
-/// posts are those of all workers.
-fn finish<'a, R, B>(
-    run: &Running<'a, R>,
-    plan: &Plan<'_>,
-    shared: Shared<&'a R, B>,
-    posts: Vec<Post<B>>,
-    record: Option<RecordFile<'_>>,
-) -> Result<(), Fault<'static>>
+/// Prints the domain, and tells what is left of it.
+fn finish<'a, R>(run: &Running<'a, R>, plan: &Plan<'_>, rest: Rest) -> Result<(), Fault<'static>>
 where
-    R: Runtime + AllocGlobal + Net + Dial + Wait + Files<File = File>,
-    B: Names,
-    requires posts { AreOfAllSeats shared (map (λ p. p.seat.worker) posts.items) }
+    R: Runtime + AllocGlobal,
     ensures { IfErr result (IsFaultOfServing plan.now) }
 {
-    let recorded = gather_all(run, &shared, posts, record);
-    run.notices.flush();
-    let domain = shared.into_domain();
+    let Rest { domain, recorded } = rest;
     let told = tell(run.rt, plan, &domain, recorded);
     let left = look_at_rest(run.signals, plan, &domain);
     drop(domain);
@@ -735,33 +968,6 @@ fn tell<R: Runtime + AllocGlobal>(
         Ok(()) => print_domain(rt.alloc(), plan.domain, domain, &mut io::writer(rt)),
         Err(why) => Err(why.fault()),
     }
-}
-
-/// Gathers the seats of the posts, and writes the record where one is wanted.
-fn gather_all<'a, R, Q, B>(
-    run: &Running<'a, R>,
-    shared: &Shared<Q, B>,
-    posts: Vec<Post<B>>,
-    record: Option<RecordFile<'_>>,
-) -> Result<(), Hindrance>
-where
-    R: AllocGlobal + Clock + Eprint + Net + Dial + Files<File = File>,
-    Q: Wait,
-    B: Names,
-    requires posts { AreOfAllSeats shared.now (map (λ p. p.seat.worker) posts.items) }
-{
-    let mut record = record;
-    let mut posts = posts;
-    let mut keeper = shared;
-    end_posts(run, &mut keeper, &mut posts);
-    let Some(seats) = seats_of(run.rt.alloc(), posts) else {
-        return Err(Hindrance::NoMemory);
-    };
-    let Ok(_totals) = shared.gather(seats) else {
-        unreachable!();
-    };
-    run.control.look_at_record(shared.recording());
-    write_record(run, shared, &mut record)
 }
 
 /// The bounds of the plan's domain: in the second profile where the plan has a depot, else in the
@@ -862,30 +1068,24 @@ fn open_sinks<'a, R: AllocGlobal + Clock + Eprint + Net + Dial + Files<File = Fi
     Ok(sinks)
 }
 
-/// Ends the service of all posts, where a sink can be opened: tries the clients that wait once
-/// more, and at a stop flushes what is in a ring.
-fn end_posts<'a, R, B, K>(run: &Running<'a, R>, keeper: &mut K, posts: &mut [Post<B>])
+/// A sink for the last round, where one is wanted and can be opened: where clients wait, and at a
+/// stop where anything is in a ring.
+fn last_wanted<'a, R, Q, B, E, O>(
+    run: &Running<'a, R>,
+    opener: &O,
+    shared: &Shared<Q, B>,
+    posts: &[Post<B>],
+) -> Option<E>
 where
-    R: Clock + Eprint + Net + Dial + Files<File = File>,
+    Q: Wait,
     B: Names,
-    K: Keep<B>,
-    ensures { map (λ p. p.seat.worker) posts.new ≡ map (λ p. p.seat.worker) posts.old }
+    O: OpenLast<E>,
 {
-    let stops = run.signals.is_stopping();
-    let is_queued = stops && keeper.stat().ring > 0;
+    let is_queued = run.signals.is_stopping() && shared.stat().ring > 0;
     if !is_queued && !is_waited(posts) {
-        return;
+        return None;
     }
-    if let Some(mut sink) = open_sink(
-        run.rt,
-        run.notices,
-        run.net,
-        run.signals.hurry(),
-        run.place.at_once(),
-        None,
-    ) {
-        end_each(keeper, posts, &mut sink, stops);
-    }
+    opener.open_last()
 }
 
 /// Whether a client waits at one of the posts.
@@ -896,30 +1096,53 @@ fn is_waited<B: Names>(posts: &[Post<B>]) -> bool {
     !post.waiting.is_empty() || is_waited(more)
 }
 
-/// Ends the service of each of the posts.
-fn end_each<B, K, D>(keeper: &mut K, posts: &mut [Post<B>], sink: &mut D, stops: bool)
+/// Ends the service of all posts, where there is a sink for it.
+fn end_posts<'a, R, Q, B, E>(
+    run: &Running<'a, R>,
+    shared: &Shared<Q, B>,
+    posts: &mut [Post<B>],
+    last: &mut Option<E>,
+)
+where
+    Q: Wait,
+    B: Names,
+    E: Sink,
+    ensures { EndsAll (map (λ p. p.seat) posts.old) (map (λ p. p.seat) posts.new)
+        (last_calls E.calls last.old) (last_calls E.calls last.new) }
+{
+    let mut keeper = shared;
+    end_each(&mut keeper, posts, last, run.signals.is_stopping());
+}
+
+/// Ends the service of each of the posts, where there is a sink for it: tries the clients that wait
+/// once more, and at a stop flushes what is in a ring.
+fn end_each<B, K, E>(keeper: &mut K, posts: &mut [Post<B>], last: &mut Option<E>, stops: bool)
 where
     B: Names,
     K: Keep<B>,
-    D: Sink,
-    ensures { map (λ p. p.seat.worker) posts.new ≡ map (λ p. p.seat.worker) posts.old }
+    E: Sink,
+    ensures { EndsAll (map (λ p. p.seat) posts.old) (map (λ p. p.seat) posts.new)
+        (last_calls E.calls last.old) (last_calls E.calls last.new) }
 {
     let Some((post, more)) = posts.split_first_mut() else {
         return;
     };
-    end_at(keeper, post, sink, stops);
-    end_each(keeper, more, sink, stops);
+    end_at(keeper, post, last, stops);
+    end_each(keeper, more, last, stops);
 }
 
-/// Ends the service of this post, where there is anything to do.
-fn end_at<B, K, D>(keeper: &mut K, post: &mut Post<B>, sink: &mut D, stops: bool)
+/// Ends the service of this post, where there is a sink for it and anything to do.
+fn end_at<B, K, E>(keeper: &mut K, post: &mut Post<B>, last: &mut Option<E>, stops: bool)
 where
     B: Names,
     K: Keep<B>,
-    D: Sink,
-    ensures { post.new.seat.worker ≡ post.old.seat.worker }
+    E: Sink,
+    ensures { KeepsPlace post.old.seat post.new.seat (last_calls E.calls last.old)
+        (last_calls E.calls last.new) }
 {
-    if stops || !post.waiting.is_empty() {
+    if let Some(sink) = last
+        && (stops || !post.waiting.is_empty())
+    {
         let _left = end_post(keeper, post, sink, stops);
     }
 }

@@ -12,6 +12,7 @@ use iova_files::standard::hold_closed_streams;
 use iova_keep::ledgers::Blanks;
 use iova_links::dial::Dial;
 use iova_planned::seats::seat_count;
+use iova_range::limits::SEAT_PARTS;
 use iova_tools::asking::ask_at;
 use iova_tools::checking::check_planned;
 use iova_tools::controlling::control;
@@ -72,5 +73,5 @@ where
     R: Runtime + AllocGlobal + Net + Dial + Threads + Wait + Sync + Files<File = File> + Log,
 {
     let seats = seat_count(plan);
-    serve::<R, Brand>(rt, plan, Blanks::new(seats, plan.workers))
+    serve::<R, Brand>(rt, plan, Blanks::new(seats, SEAT_PARTS))
 }

@@ -77,7 +77,7 @@ fn gather_all<B: Names, R: Abort + Wait>(rt: &R, shared: &Shared<&R, B>, seats: 
 }
 
 fn at_five_seats<B: Names, R: Abort + Wait>(rt: &R, alloc: Global, bounds: Bounds, blanks: Blanks)
-    requires blanks { AreBlanksOf blanks B.ledgers 5 2 }
+    requires blanks { AreBlanksOf blanks B.ledgers 5 2 2 }
 {
     match Book::<B>::seated(alloc, 7, bounds, 2, 5, None, blanks) {
         Ok((book, mut seats)) => {

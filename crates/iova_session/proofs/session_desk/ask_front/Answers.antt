@@ -38,7 +38,8 @@ returns-then-is_err-clause-leads g c = goes_nowhere _ c.args.session.now _ _ _ _
 pub returns-in_err-count-in-Some-clause-leads : goal.returns-in_err-count-in-Some-clause-leads
 returns-in_err-count-in-Some-clause-leads g c =
     let n = c.in_err-count-in-Some.ensures.err in
-    goes_nowhere _ c.args.session.now c.ask_together.new.session c.args.seat.now c.ask_together.new.seat _ _ _ n.1 n.3 n.4
+    rw c.ask_at_room.ensures.calls
+    (goes_nowhere _ c.args.session.now c.ask_at_room.new.session c.args.seat.now c.ask_at_room.new.seat _ _ _ n.1 n.3 n.4)
 
 pub returns-clause-leads : goal.returns-clause-leads
 returns-clause-leads g c =
@@ -55,9 +56,9 @@ returns-clause-leads g c =
           let n = w.in_ok-count-in-Some.ensures.none (omega (arith, w.if-count-gt0.false)) in
           let more = rw (w.session-is, n.0, w.answer-is) at added in
           rw (w.keeper-is, w.seat-is, w.sink-is)
-          (alone_goes _ _ _ _ w.in-Some.id w.listed.result c.args.session.now c.tell.new.session _ w.ask_alone-answer.result c.args.seat.now w.ask_together.new.seat w.ask_alone-answer.new.seat _ _ _ _ _
-          (ap (λ (i : Identity). i.strict) w.ask_together.ensures.same) (ap (λ (i : Identity). i.number) w.ask_together.ensures.same) n.2 n.3
+          (alone_goes _ _ _ _ w.in-Some.id w.listed.result c.args.session.now c.tell.new.session _ w.ask_alone-answer.result c.args.seat.now w.ask_at_room.new.seat w.ask_alone-answer.new.seat _ _ _ _ _
+          (ap (λ (i : Identity). i.strict) w.ask_at_room.ensures.same) (ap (λ (i : Identity). i.number) w.ask_at_room.ensures.same) n.2 n.3
           c.requires.number (sym c.client-client.ensures.value ∙ w.in-Some.is) (sym (w.listed.ensures.value ∙ ap (λ (x : SessionState). x.listed) n.0)) more
           (record { worker = w.ask_alone-answer.ensures.place.worker; shares = w.ask_alone-answer.ensures.shares })
-          w.ask_alone-answer.ensures.does)
+          (rw w.ask_at_room.ensures.calls at w.ask_alone-answer.ensures.does))
     ]

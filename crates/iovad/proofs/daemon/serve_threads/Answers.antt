@@ -1,5 +1,4 @@
 use Rattle.std.proofs.Common.{◌∙◌, ◌≤◌, map, sym, ap, subst, arith}
-use Rattle.iovad.specs.Plans.{AreOfAllSeats}
 use Rattle.iovad.proofs.Gathering.{first_parts, some_posts, workers_at}
 use Rattle.iovad.proofs.daemon.serve_threads.Goals as goal
 
@@ -14,9 +13,11 @@ pub serve_sessions-served-requires-clause-parts : goal.serve_sessions-served-req
 serve_sessions-served-requires-clause-parts g c κs within =
     first_parts (λ p. p.seat) c.args.shared.workers c.args.shared.seats c.args.posts.items c.requires.posts.turn
 
--- the posts that come back are those of all seats
 pub returns-in-Ok : goal.returns-in-Ok
 returns-in-Ok g c =
-    let at_seats = workers_at (λ p. p.seat) c.args.posts.items ∙ ap (λ ss. map (λ s. s.worker) ss) c.requires.posts.turn in
-    subst (λ d. AreOfAllSeats d (map (λ p. p.seat.worker) c.in-Ok.field-0.served.posts.items)) (sym c.in-Ok.ensures.shared)
-    (record { turn = c.in-Ok.ensures.posts ∙ at_seats; enough = c.requires.posts.enough })
+    record {
+      same = c.in-Ok.ensures.shared;
+      workers = sym (workers_at (λ p. p.seat) c.in-Ok.served.served.posts.items) ∙ c.in-Ok.ensures.posts ∙ workers_at (λ p. p.seat) c.args.posts.items;
+      parts = c.in-Ok.ensures.parts;
+      within = c.in-Ok.ensures.within;
+    }

@@ -1,6 +1,6 @@
-use Rattle.iova_keep.specs.Views.{RisesWithin}
+use Rattle.iova_keep.specs.Views.{KeepsTally}
 use Rattle.iova_daemon.proofs.flusher.FlusherSideTask.go_on.Given as goal
 
 abbrev pub invariant-loop : goal.invariant-loop
 invariant-loop g l =
-    RisesWithin l.initial.self.tally.good l.self.tally.good (g.D.Sink.calls l.initial.self.sink) (g.D.Sink.calls l.self.sink)
+    KeepsTally l.initial.self.tally l.self.tally (g.D.Sink.calls l.initial.self.sink) (g.D.Sink.calls l.self.sink)

@@ -8,4 +8,4 @@ invariant-loop-at g l =
     × (l.counted.parts + l.at ≡ l.seats) × (l.counted.amount ≡ 0)
     × (l.framed.parts + l.at ≡ l.seats) × (l.framed.amount ≡ 0)
     × (l.summed.parts + l.at ≡ l.seats) × (l.summed.amount ≡ 0)
-    × (l.ended.parts + l.parts * l.at ≡ 2048 * l.workers) × (l.ended.amount ≡ 0)
+    × (l.ended.parts + l.parts * l.at ≡ l.parts * l.seats) × (l.ended.amount ≡ 0)

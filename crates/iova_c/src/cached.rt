@@ -1,0 +1,268 @@
+//! A place for one cache, and the calls of a cache that need no domain, in numbers.
+ghost use Rattle.std.specs.Prelude.{◌≡◌, None};
+ghost use Rattle.iova_c.specs.Answers.{unpacked};
+ghost use Rattle.iova_c.specs.Slots.{is_set};
+ghost use Rattle.iova_c.specs.Caches.{unmet_answer, kept_answer, some_answer, no_range, AllocCall, UnmapCall, SettleCall, PutCall, TakeCall, KeepCall, ReleaseCall, AnyCall, ApartCall, CountsCall};
+
+use crate::answer::{CacheCountsAnswer, NumberAnswer, RangeAnswer, number_of, unpack};
+use iova_cache::apart::Unput;
+use iova_cache::cache::{Cache, Kept, Unmet};
+use iova_range::limits::ORDERS;
+use iova_range::range::Range;
+use iova_range::refusal::Refusal;
+use std::alloc::Global;
+
+/// What a cache is refused by, beside the refusals of a domain: there is no cache in the room.
+pub const NO_CACHE: u64 = 201;
+
+/// There is no magazine for so many frames.
+pub const NO_ORDER: u64 = 202;
+
+/// The magazine is empty.
+pub const DRY: u64 = 203;
+
+/// Its newest range has a frame above the limit.
+pub const MISS: u64 = 204;
+
+/// It is full.
+pub const FULL: u64 = 205;
+
+/// A cache, or none.
+#[derive(Drop)]
+pub struct CacheSlot {
+    pub(crate) cache: Option<Cache>,
+}
+
+const _: () = prove!(size_of::<CacheSlot>() <= 512);
+
+const _: () = prove!(align_of::<CacheSlot>() <= 8);
+
+/// A slot with no cache.
+pub fn no_cache() -> CacheSlot
+    ensures { result.cache ≡ None }
+{
+    CacheSlot { cache: None }
+}
+
+/// The slot's cache is let go.
+pub fn clear(slot: &mut CacheSlot)
+    ensures { slot.new.cache ≡ None }
+{
+    slot.cache = None;
+}
+
+pub(crate) fn refused(number: u64) -> RangeAnswer
+    ensures { result ≡ no_range number }
+{
+    RangeAnswer {
+        refused: number,
+        lo: 0,
+        len: 0,
+    }
+}
+
+pub(crate) fn given(range: Range) -> RangeAnswer
+    ensures { result ≡ record { refused = 0; lo = range.lo; len = range.len } }
+{
+    RangeAnswer {
+        refused: 0,
+        lo: range.lo(),
+        len: range.len(),
+    }
+}
+
+#[inline(always)]
+fn of_unmet(res: Result<Range, Unmet>) -> RangeAnswer
+    ensures { result ≡ unmet_answer res }
+{
+    match res {
+        Ok(range) => given(range),
+        Err(Unmet::NoOrder) => refused(NO_ORDER),
+        Err(Unmet::Miss) => refused(MISS),
+        Err(Unmet::Empty) => refused(DRY),
+        Err(Unmet::NoMemory) => refused(17),
+    }
+}
+
+#[inline(always)]
+fn of_kept(res: Result<Range, Kept>) -> RangeAnswer
+    ensures { result ≡ kept_answer res }
+{
+    match res {
+        Ok(range) => given(range),
+        Err(Kept::NotHeld) => refused(8),
+        Err(Kept::NoOrder) => refused(NO_ORDER),
+        Err(Kept::RingFull) => refused(7),
+    }
+}
+
+fn of_some(number: u64, res: Option<Range>) -> RangeAnswer
+    ensures { result ≡ some_answer number res }
+{
+    match res {
+        Some(range) => given(range),
+        None => refused(number),
+    }
+}
+
+/// A range of the magazines, up to the limit. Where what the user holds has to grow, the work is
+/// out of line.
+pub fn alloc(slot: &mut CacheSlot, frames: u64, limit: u64) -> RangeAnswer
+    ensures { AllocCall slot.old.cache frames limit result slot.new.cache }
+{
+    match &mut slot.cache {
+        Some(cache) if cache.has_room() => of_unmet(cache.alloc_in_room(frames, limit)),
+        _ => unpack(alloc_elsewhere(slot, frames, limit)),
+    }
+}
+
+/// The same, answered in two registers.
+#[inline(never)]
+fn alloc_elsewhere(slot: &mut CacheSlot, frames: u64, limit: u64) -> (u64, u64)
+    ensures { AllocCall slot.old.cache frames limit (unpacked result) slot.new.cache }
+{
+    match &mut slot.cache {
+        Some(cache) => match cache.alloc(frames, limit) {
+            Ok(range) => (range.lo(), range.len()),
+            Err(Unmet::NoOrder) => (NO_ORDER, 0),
+            Err(Unmet::Miss) => (MISS, 0),
+            Err(Unmet::Empty) => (DRY, 0),
+            Err(Unmet::NoMemory) => (17, 0),
+        },
+        None => (NO_CACHE, 0),
+    }
+}
+
+/// What begins there is given up, with this count.
+pub fn unmap(slot: &mut CacheSlot, lo: u64, start: u64) -> RangeAnswer
+    ensures { UnmapCall slot.old.cache lo start result slot.new.cache }
+{
+    match &mut slot.cache {
+        Some(cache) => of_kept(cache.unmap(lo, start)),
+        None => refused(NO_CACHE),
+    }
+}
+
+/// What a flush has covered goes from the ring into the magazines.
+pub fn settle(slot: &mut CacheSlot, newest: u64) -> NumberAnswer
+    ensures { SettleCall slot.old.cache newest result slot.new.cache }
+{
+    match &mut slot.cache {
+        Some(cache) => NumberAnswer {
+            refused: 0,
+            number: cache.settle(newest),
+        },
+        None => NumberAnswer {
+            refused: NO_CACHE,
+            number: 0,
+        },
+    }
+}
+
+/// A cache whose domain is elsewhere, in place of the one that is there. 0, or the refusal's
+/// number.
+pub fn apart(alloc: Global, slot: &mut CacheSlot, sac: u64) -> u64
+    ensures { ApartCall slot.old.cache (is_set sac) result slot.new.cache }
+{
+    let sac = sac != 0;
+    match Cache::apart(alloc, sac) {
+        Ok(cache) => {
+            slot.cache = Some(cache);
+            0
+        }
+        Err(_) => 17,
+    }
+}
+
+/// A range comes into its magazine. 0, or the refusal's number.
+pub fn put(slot: &mut CacheSlot, lo: u64, len: u64) -> u64
+    ensures { PutCall slot.old.cache lo len result slot.new.cache }
+{
+    match &mut slot.cache {
+        Some(cache) => match cache.put(lo, len) {
+            Ok(()) => 0,
+            Err(Unput::NoOrder) => NO_ORDER,
+            Err(Unput::TooHigh) => 10,
+            Err(Unput::Full) => FULL,
+        },
+        None => NO_CACHE,
+    }
+}
+
+/// The newest range of an order goes out of the cache.
+pub fn take(slot: &mut CacheSlot, order: u64) -> RangeAnswer
+    ensures { TakeCall slot.old.cache order result slot.new.cache }
+{
+    match &mut slot.cache {
+        Some(cache) => {
+            if order >= ORDERS as u64 {
+                return refused(NO_ORDER);
+            }
+            of_some(DRY, cache.take(order as u8))
+        }
+        None => refused(NO_CACHE),
+    }
+}
+
+/// A range goes to the user. 0, or the refusal's number.
+pub fn keep(slot: &mut CacheSlot, lo: u64, len: u64) -> u64
+    ensures { KeepCall slot.old.cache lo len result slot.new.cache }
+{
+    match &mut slot.cache {
+        Some(cache) => match cache.keep(lo, len) {
+            Ok(()) => 0,
+            Err(refusal) => number_of(refusal),
+        },
+        None => NO_CACHE,
+    }
+}
+
+/// The range that begins there goes from the user out of the cache.
+pub fn release(slot: &mut CacheSlot, lo: u64) -> RangeAnswer
+    ensures { ReleaseCall slot.old.cache lo result slot.new.cache }
+{
+    match &mut slot.cache {
+        Some(cache) => of_some(8, cache.release(lo)),
+        None => refused(NO_CACHE),
+    }
+}
+
+/// Some range of the user goes out of the cache; empty where the user holds none.
+pub fn any(slot: &mut CacheSlot) -> RangeAnswer
+    ensures { AnyCall slot.old.cache result slot.new.cache }
+{
+    match &mut slot.cache {
+        Some(cache) => of_some(0, cache.any()),
+        None => refused(NO_CACHE),
+    }
+}
+
+/// How many ranges are where.
+pub fn counts(slot: &mut CacheSlot) -> CacheCountsAnswer
+    ensures { CountsCall slot.old.cache result slot.new.cache }
+{
+    match &slot.cache {
+        Some(cache) => CacheCountsAnswer {
+            refused: 0,
+            held: cache.held(),
+            waiting: cache.waiting() as u64,
+            order_0: cache.cached(0),
+            order_1: cache.cached(1),
+            order_2: cache.cached(2),
+            order_3: cache.cached(3),
+            order_4: cache.cached(4),
+            order_5: cache.cached(5),
+        },
+        None => CacheCountsAnswer {
+            refused: NO_CACHE,
+            held: 0,
+            waiting: 0,
+            order_0: 0,
+            order_1: 0,
+            order_2: 0,
+            order_3: 0,
+            order_4: 0,
+            order_5: 0,
+        },
+    }
+}

@@ -1,0 +1,109 @@
+-- A domain and any number of caches in front of it, for every list of what is done with them.
+use Rattle.std.specs.Prelude.{ℕ, ◌≡◌, ◌≢◌, ◌⊎◌, Bool, List, [], ◌∷◌, ◌++◌, sum_by, Some}
+use Rattle.iova_range.specs.declared.refusal.Refusal.{Refusal}
+use Rattle.iova_range.specs.Frames.{Frames}
+use Rattle.iova_model.specs.declared.step.Step.{Step}
+use Rattle.iova_model.specs.declared.step.Step.TheVariants as step
+use Rattle.iova_model.specs.declared.step.Reply.{Reply}
+use Rattle.iova_model.specs.declared.step.Reply.TheVariants as reply
+use Rattle.iova_model.specs.State.{State}
+use Rattle.iova_model.specs.Effects.{client_named, held_by}
+use Rattle.iova_core.specs.Domain.{IsStepOf}
+use Rattle.iova_cache.specs.Caches.{CacheState, ranges_of, new_cache}
+use Rattle.iova_cache.specs.Laws.{Act, Does, IsWhole}
+use Rattle.iova_cache.specs.Laws.Act.{Gives, TakesBack, Settles, Refills, Spills, Asks, Returns, Puts, Takes, Keeps, Releases, Grows, Refuses}
+
+pub record World : Type 0 where
+  pub domain : State
+  pub caches : List CacheState
+
+-- What the client of a cache holds begins where the cache's ranges begin: whatever first frames
+-- weigh, they weigh as much. (A range of a client is told apart by its first frame.)
+abbrev pub IsBooked : State → CacheState → Type 0
+IsBooked s c =
+    (weigh : ℕ → ℕ) → sum_by (λ r. weigh r.lo) (held_by c.client s.clients)
+    ≡ sum_by (λ r. weigh r.lo) (ranges_of c)
+
+abbrev pub AreBooked : State → List CacheState → Type 0
+AreBooked s [] = Unit {0}
+AreBooked s (c ∷ cs) = (IsWhole c × IsBooked s c) × AreBooked s cs
+
+-- no cache is this client's
+abbrev pub AreOthers : ℕ → List CacheState → Type 0
+AreOthers id [] = Unit {0}
+AreOthers id (c ∷ cs) = (c.client ≢ id) × AreOthers id cs
+
+-- no two are of one client
+abbrev pub AreApart : List CacheState → Type 0
+AreApart [] = Unit {0}
+AreApart (c ∷ cs) = AreOthers c.client cs × AreApart cs
+
+-- an act of a cache has taken its domain from s to t
+abbrev pub Moves : Act → State → State → Type 0
+Moves (Gives order limit r) s t = t ≡ s
+Moves (TakesBack r count) s t = t ≡ s
+Moves (Settles newest count) s t = t ≡ s
+Moves (Refills a b frames limit most count) s t = (s ≡ a) × (t ≡ b)
+Moves (Spills a b order most count) s t = (s ≡ a) × (t ≡ b)
+Moves (Asks a b frames limit r) s t = (s ≡ a) × (t ≡ b)
+Moves (Returns a b lo r) s t = (s ≡ a) × (t ≡ b)
+Moves (Puts order r) s t = ⊥
+Moves (Takes order r) s t = ⊥
+Moves (Keeps r) s t = ⊥
+Moves (Releases lo r) s t = ⊥
+Moves Grows s t = t ≡ s
+Moves Refuses s t = t ≡ s
+
+-- the step names the client of none of the caches
+abbrev pub NamesNone : Step → List CacheState → Type 0
+NamesNone st [] = Unit {0}
+NamesNone st (c ∷ cs) = (client_named st ≡ Some c.client → ⊥) × NamesNone st cs
+
+-- a request, or an unmap
+abbrev pub IsRequest : Step → Type 0
+IsRequest (step.Alloc w id frames limit) = Unit {0}
+IsRequest (step.Unmap w id lo) = Unit {0}
+IsRequest (step.Reserve lo hi) = ⊥
+IsRequest (step.Open w sac) = ⊥
+IsRequest step.Begin = ⊥
+IsRequest (step.End n ok) = ⊥
+IsRequest (step.Drain ring by) = ⊥
+IsRequest (step.Close w id) = ⊥
+IsRequest (step.CloseOne w id) = ⊥
+
+-- What happens: a cache does something, with its domain or without; the domain takes a step of
+-- somebody else's, or refuses one of a cache's; a cache of a new client is opened; one is left,
+-- whose client then is as any other.
+pub data Event : Type 0 where
+  Acts : (before later : List CacheState) (a : Act) (old new : CacheState)
+      (came went : List Frames) → Event
+  Steps : (st : Step) (r : Reply) → Event
+  Denies : (st : Step) (x : Refusal) → Event
+  Opens : (worker : ℕ) (sac : Bool) (id : ℕ) → Event
+  Leaves : (before later : List CacheState) (c : CacheState) → Event
+
+abbrev pub Happens : Event → World → World → Type 0
+Happens (Acts before later a old new came went) w v =
+    (w.caches ≡ before ++ old ∷ later) × ((v.caches ≡ before ++ new ∷ later)
+    × (Does a old came went new × Moves a w.domain v.domain))
+Happens (Steps st r) w v =
+    IsStepOf w.domain st r v.domain × ((v.caches ≡ w.caches) × NamesNone st w.caches)
+Happens (Denies st x) w v =
+    IsStepOf w.domain st (reply.Refused x) v.domain × ((v.caches ≡ w.caches) × IsRequest st)
+Happens (Opens worker sac id) w v =
+    IsStepOf w.domain (step.Open worker sac) (reply.Opened id) v.domain
+    × ((v.caches ≡ new_cache worker id sac ∷ w.caches)
+    × (AreOthers id w.caches × (held_by id v.domain.clients ≡ [])))
+Happens (Leaves before later c) w v =
+    (w.caches ≡ before ++ c ∷ later) × ((v.caches ≡ before ++ later) × (v.domain ≡ w.domain))
+
+abbrev pub Goes : List Event → World → World → Type 0
+Goes [] w v = v ≡ w
+Goes (e ∷ es) w v = (u : World) × (Happens e w u × Goes es u v)
+
+-- Whatever happens, one after another, each cache has what its client holds, and no two are of one
+-- client.
+abbrev pub PlacesAreKept : Type 0
+PlacesAreKept =
+    (es : List Event) (w v : World) → AreBooked w.domain w.caches → AreApart w.caches → Goes es w v
+    → AreBooked v.domain v.caches × AreApart v.caches

@@ -1,0 +1,164 @@
+//! A connection, and the bytes of it that were read before anybody asked for them.
+ghost use Rattle.std.specs.Prelude.{◌≡◌, ◌≢◌, ℕ, ◌+◌, ◌≤◌, ◌++◌, [], IfOk, IfErr, List, length, take, min};
+
+use crate::again::{is_interrupted, read_again};
+use crate::soon::Looks;
+use std::io;
+use std::marker::Model;
+use std::os::unix::net::UnixStream;
+use std::rt::Clock;
+use std::time::Duration;
+
+/// How many bytes are read ahead at a time: more than an answer has.
+const AHEAD: usize = 64;
+
+/// Bytes that were read from a connection and not handed on yet, in their order.
+#[derive(Drop)]
+struct Ahead {
+    bytes: [u8; AHEAD],
+    from: usize,
+    left: usize,
+}
+
+impl Model for Ahead {
+    ghost use Rattle.std.specs.Prelude.{◌+◌, ◌≤◌, ℕ, List, take, drop};
+
+    ghost Value = { List ℕ };
+
+    ghost view = { λ a. take a.left (drop a.from a.bytes) };
+
+    ghost invariant = { λ a. a.from + a.left ≤ 64 };
+}
+
+impl Ahead {
+    /// None.
+    fn new() -> Ahead
+        ensures { result ≡ [] }
+    {
+        Ahead {
+            bytes: [0; AHEAD],
+            from: 0,
+            left: 0,
+        }
+    }
+
+    /// How many there are.
+    fn len(&self) -> usize
+        ensures { result ≡ length self.now }
+    {
+        self.left
+    }
+
+    /// Reads the next bytes, where there are none, and gives how many: none at the end of the
+    /// stream. It takes no longer than this, whatever interrupts it.
+    #[tactic(auto, using(crate::proofs::HandedOn::read_first))]
+    fn fill<C: Clock>(
+        &mut self,
+        clock: &C,
+        stream: &UnixStream,
+        looks: &mut Looks,
+        limit: Duration,
+    ) -> io::Result<usize>
+        ensures read { IfOk result (λ n. (read : List ℕ) × (length read ≡ n)
+            × (self.new ≡ self.old ++ read)) }
+        ensures kept { self.old ≢ [] → self.new ≡ self.old }
+        ensures failed { IfErr result (λ e. self.new ≡ self.old) }
+    {
+        if self.len() > 0 {
+            return Ok(0);
+        }
+        let n = read_next(clock, stream, looks, limit, &mut self.bytes)?;
+        self.from = 0;
+        self.left = n;
+        Ok(n)
+    }
+
+    /// Hands the next bytes on into the buffer, and gives how many.
+    fn take(&mut self, buffer: &mut [u8]) -> usize
+        ensures order { self.old ≡ take result buffer.new ++ self.new }
+        ensures count { result ≡ min (length self.old) (length buffer.new) }
+    {
+        let n = self.left.min(buffer.len());
+        let standing = &self.bytes[self.from..];
+        buffer[..n].copy_from_slice(&standing[..n]);
+        self.from += n;
+        self.left -= n;
+        n
+    }
+}
+
+/// Reads what comes next. It takes no longer than this, whatever interrupts it.
+fn read_next<C: Clock>(
+    clock: &C,
+    stream: &UnixStream,
+    looks: &mut Looks,
+    limit: Duration,
+    buffer: &mut [u8],
+) -> io::Result<usize>
+    ensures { IfOk result (λ n. n ≤ length buffer.new) }
+{
+    let begun = clock.monotonic()?;
+    let read = looks.read(stream, buffer);
+    if is_interrupted(&read) {
+        return read_again(clock, stream, buffer, begun, limit);
+    }
+    read
+}
+
+/// A connection, with what was read of it ahead: so nothing of one before can be left.
+#[derive(Drop)]
+pub(crate) struct Connection {
+    stream: UnixStream,
+    ahead: Ahead,
+}
+
+impl Model for Connection {
+    ghost use Rattle.std.specs.Prelude.{ℕ, List};
+
+    ghost Value = { List ℕ };
+
+    ghost view = { λ c. c.ahead };
+}
+
+impl Connection {
+    /// This stream, of which nothing was read yet.
+    pub(crate) fn new(stream: UnixStream) -> Connection
+        ensures { result ≡ [] }
+    {
+        Connection {
+            stream,
+            ahead: Ahead::new(),
+        }
+    }
+
+    /// The stream.
+    pub(crate) fn stream(&self) -> &UnixStream {
+        &self.stream
+    }
+
+    /// Whether bytes of it were read ahead.
+    pub(crate) fn is_ahead(&self) -> bool {
+        self.ahead.len() > 0
+    }
+
+    /// Hands on into the buffer what was read ahead, or else what is read next, in the order in
+    /// which it was read, and gives how many bytes: none at the end of the stream. What is read
+    /// beyond the buffer is kept for the next call. It takes no longer than this, whatever
+    /// interrupts it.
+    pub(crate) fn receive<C: Clock>(
+        &mut self,
+        clock: &C,
+        looks: &mut Looks,
+        limit: Duration,
+        buffer: &mut [u8],
+    ) -> io::Result<usize>
+        ensures order { IfOk result (λ n. (read : List ℕ)
+            × (self.old ++ read ≡ take n buffer.new ++ self.new)) }
+        ensures ahead { IfOk result (λ n. self.old ≢ [] → self.old ≡ take n buffer.new ++ self.new) }
+        ensures bound { IfOk result (λ n. n ≤ length buffer.new) }
+        ensures failed { IfErr result (λ e. self.new ≡ self.old) }
+    {
+        let _read = self.ahead.fill(clock, &self.stream, looks, limit)?;
+        Ok(self.ahead.take(buffer))
+    }
+}

@@ -1,0 +1,48 @@
+-- What serving comes to, from the beginning of a domain to its end.
+use Rattle.std.specs.Prelude.{ℕ, ◌≡◌, ◌+◌, ◌≤◌, List, [], Option, Some, None, map, sum_by}
+use Rattle.iova_model.specs.State.{State}
+use Rattle.iova_sink.specs.Calls.{Call, good_calls}
+use Rattle.iova_keep.specs.Views.{SeatState, TallyState, RisesWithin}
+use Rattle.iova_lock.specs.Books.{SharedState, tally_parts, tally_good}
+use Rattle.iova_daemon.specs.Serving.{CountsWithin}
+
+-- the calls of a sink, where there is one
+abbrev pub last_calls : {E : Type 0} → (E → List Call) → Option E → List Call
+last_calls calls None = []
+last_calls calls (Some sink) = calls sink
+
+-- the workers of these seats
+abbrev pub workers_of : List SeatState → List ℕ
+workers_of seats = map (λ s. s.worker) seats
+
+-- What serving leaves: the same domain, seats of the same workers, all parts of their tallies, of
+-- which the flusher has one, and no more flushes counted as ended well than sinks were given good
+-- calls.
+pub record ServesAll (shared : SharedState) (seats : List SeatState) (calls : List (List Call))
+    (shared_now : SharedState) (seats_now : List SeatState) (tally : TallyState)
+    (calls_now : List (List Call)) (flusher_calls : List Call) : Type 0 where
+  pub same : shared_now ≡ shared
+  pub workers : workers_of seats_now ≡ workers_of seats
+  pub parts : tally_parts seats_now + tally.parts ≡ tally_parts seats
+  pub within : CountsWithin seats calls seats_now tally calls_now flusher_calls
+
+-- What the end of a service leaves of seats, all with one sink: their workers, their parts, and
+-- tallies that rose by no more than its good calls.
+pub record EndsAll (seats seats_now : List SeatState) (before now : List Call) : Type 0 where
+  pub workers : workers_of seats_now ≡ workers_of seats
+  pub parts : tally_parts seats_now ≡ tally_parts seats
+  pub good : RisesWithin (tally_good seats) (tally_good seats_now) before now
+
+-- A domain that is taken out of its lock counts as many flushes that ended well as were counted at
+-- these seats and by this tally before, and at most as many more as a sink was given good calls.
+abbrev pub EndsCounted : List SeatState → TallyState → List Call → State → Type 0
+EndsCounted seats tally last domain =
+    domain.flushes.good ≤ tally_good seats + tally.good + good_calls last
+
+-- All flushes that a domain counts as ended well, from its beginning to its end, are no more than
+-- the good calls that sinks were given meanwhile: those of the posts, which had some calls before,
+-- the flusher's, which was the last of them, and that of the last round.
+abbrev pub IsAnswered : State → List (List Call) → List (List Call) → List Call → List Call → Type 0
+IsAnswered domain before now flusher last =
+    domain.flushes.good + sum_by good_calls before
+    ≤ sum_by good_calls now + good_calls flusher + good_calls last
