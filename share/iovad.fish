@@ -9,7 +9,7 @@ function __iovad_is -d 'The command, and which of its places it is'
     for word in $words
         if test $is_value = 1
             set is_value 0
-        else if string match -qr '^--(clients|control|depot|did|domain|first|idle|last|log|log-level|peer|peer-wait|record|record-steps|reserve|reserved-regions|session-requests|sessions|sink|sink-timeout|socket|start|timeout|workers)$' -- $word
+        else if string match -qr '^--(clients|control|depot|did|domain|first|granule|idle|last|log|log-level|peer|peer-wait|record|record-steps|reserve|reserved-regions|session-requests|sessions|sink|sink-timeout|socket|start|timeout|workers)$' -- $word
             set is_value 1
         else if not string match -q -- '-?*' $word
             set place (math $place + 1)
@@ -22,7 +22,7 @@ complete -c iovad -s h -l help -d 'prints help'
 complete -c iovad -n __fish_use_subcommand -s V -l version -d 'prints the version'
 complete -c iovad -n __fish_use_subcommand -a replay -d 'answers each step of a trace'
 complete -c iovad -n __fish_use_subcommand -a serve -d 'serves sessions on a Unix socket'
-complete -c iovad -n __fish_use_subcommand -a control -d 'asks a daemon for its report or figures, or stops it'
+complete -c iovad -n __fish_use_subcommand -a control -d 'asks a daemon for its report or figures, watches it, or stops it'
 complete -c iovad -n __fish_use_subcommand -a ask -d 'sends requests to a socket and prints the answers'
 complete -c iovad -n __fish_use_subcommand -a check -d 'checks a log of mappings and flushes, or a kernel\'s trace'
 complete -c iovad -n __fish_use_subcommand -a help -d 'prints help'
@@ -50,9 +50,11 @@ complete -c iovad -n '__iovad_is serve' -l reserved-regions -r -F -d 'the reserv
 complete -c iovad -n '__iovad_is serve' -l sink-timeout -x -d 'the seconds that a peer has to answer'
 complete -c iovad -n '__iovad_is serve' -l log-level -x -a 'error warn info debug' -d 'which notices are told'
 complete -c iovad -n '__iovad_is serve' -l control -r -F -d 'the path of the control socket'
+complete -c iovad -n '__iovad_is serve' -l granule -x -d 'the bytes of a page frame, which metrics and info tell'
 complete -c iovad -n '__iovad_is control' -l timeout -x -d 'the seconds that a connection and the answer are waited for'
+complete -c iovad -n '__iovad_is control' -l top -d 'with watch: a screen in place of lines'
 complete -c iovad -n '__iovad_is control 0' -F
-complete -c iovad -n '__iovad_is control 1' -a 'report sessions metrics stop'
+complete -c iovad -n '__iovad_is control 1' -a 'report sessions metrics info watch stop'
 complete -c iovad -n '__iovad_is ask' -l timeout -x -d 'the seconds that a connection and each answer are waited for'
 complete -c iovad -n '__iovad_is ask' -F
 complete -c iovad -n '__iovad_is check' -l quiet -d 'prints the counts alone'

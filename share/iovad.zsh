@@ -6,7 +6,7 @@ _iovad() {
   local -a commands=(
     'replay:answers each step of a trace'
     'serve:serves sessions on a Unix socket'
-    'control:asks a daemon for its report or figures, or stops it'
+    'control:asks a daemon for its report or figures, watches it, or stops it'
     'ask:sends requests to a socket and prints the answers'
     'check:checks a log of mappings and flushes, or a kernel'\''s trace'
     'help:prints help'
@@ -45,13 +45,15 @@ _iovad() {
             '--reserved-regions[the reserved_regions of a group]:reserved-regions:_files' \
             '--sink-timeout[the seconds that a peer has to answer]:sink-timeout: ' \
             '--log-level[which notices are told]:log-level:(error warn info debug)' \
-            '--control[the path of the control socket]:control:_files'
+            '--control[the path of the control socket]:control:_files' \
+            '--granule[the bytes of a page frame, which metrics and info tell]:granule: '
           ;;
         control)
           _arguments '(- *)'{-h,--help}'[prints help]' \
             '--timeout[the seconds that a connection and the answer are waited for]:timeout: ' \
+            '--top[with watch\: a screen in place of lines]' \
             '1:word:_files' \
-            '2:word:(report sessions metrics stop)'
+            '2:word:(report sessions metrics info watch stop)'
           ;;
         ask)
           _arguments '(- *)'{-h,--help}'[prints help]' \

@@ -8,7 +8,7 @@ use Rattle.iova_command.specs.Numbers.{HasNumberOr, HasOptional}
 use Rattle.iova_command.specs.Sinks.{HasSink}
 use Rattle.iova_command.specs.Spans.{HasSpans}
 use Rattle.iova_command.specs.declared.asked.Asked.{Asked}
-use Rattle.iova_command.specs.declared.asked.Asked.TheVariants.{Replay, Serve, Ask, Check, Control}
+use Rattle.iova_command.specs.declared.asked.Asked.TheVariants.{Replay, Serve, Ask, Check, Control, Watch}
 use Rattle.iova_command.specs.declared.check_plan.CheckPlan.{CheckPlan}
 use Rattle.iova_command.specs.declared.plan.Plan.{Plan}
 
@@ -42,6 +42,7 @@ pub record Plans (rows : List Row) (plan : Plan) : Type 0 where
   pub sink_timeout : HasOptional rows (codes "sink-timeout") plan.sink_timeout
   pub log_level : HasLevel rows (codes "log-level") plan.log_level
   pub control : first_of (codes "control") rows ≡ option_map (λ path. path.now) plan.control
+  pub granule : HasOptional rows (codes "granule") plan.granule
 
 -- each part of a check is the option of its name
 pub record PlansCheck (rows : List Row) (plan : CheckPlan) : Type 0 where
@@ -69,6 +70,12 @@ AsksOf name rows (Check plan) = (name ≡ codes "check") × PlansCheck rows plan
 AsksOf name rows (Control path word timeout) =
     (name ≡ codes "control") × (first_of (codes "path") rows ≡ Some path.now)
     × HasControl rows (codes "word") word × HasOptional rows (codes "timeout") timeout
+    × HasOptional rows (codes "seconds") None × HasFlag rows (codes "top") false
+AsksOf name rows (Watch path seconds is_top timeout) =
+    (name ≡ codes "control") × (first_of (codes "path") rows ≡ Some path.now)
+    × (first_of (codes "word") rows ≡ Some (codes "watch"))
+    × HasOptional rows (codes "timeout") timeout
+    × HasOptional rows (codes "seconds") seconds × HasFlag rows (codes "top") is_top
 
 -- what matched words ask for; no subcommand asks for a replay of standard input
 abbrev pub AsksFor : Option (Text × List Row) → Asked → Type 0

@@ -5,7 +5,7 @@ use Rattle.clap.specs.declared.builder.command.Command.{Command}
 use Rattle.clap.specs.declared.builder.command.Command.TheViews.{out-Command}
 use Rattle.clap.specs.declared.builder.action.ArgAction.TheVariants.{Append, Set, SetTrue}
 use Rattle.clap.specs.declared.builder.value_parser.ValueParser.TheVariants as parser
-use Rattle.iova_range.specs.declared.limits.TheConstants.{LAST_DOMAIN_ID, MAX_ANSWER_TIMEOUT, MAX_CLIENTS, MAX_DEPOT, MAX_WORKERS, MAX_DOMAINS, MAX_IDLE, MAX_PEER_WAIT, MAX_RECORDED_STEPS, MAX_SESSION_REQUESTS, MAX_SESSIONS, MAX_SINK_TIMEOUT, WIDE_TOP}
+use Rattle.iova_range.specs.declared.limits.TheConstants.{FRAME_BYTES, LAST_DOMAIN_ID, MAX_ANSWER_TIMEOUT, MAX_CLIENTS, MAX_DEPOT, MAX_GRANULE, MAX_WATCH_PAUSE, MAX_WORKERS, MAX_DOMAINS, MAX_IDLE, MAX_PEER_WAIT, MAX_RECORDED_STEPS, MAX_SESSION_REQUESTS, MAX_SESSIONS, MAX_SINK_TIMEOUT, WIDE_TOP}
 
 -- an argument that must be there, named by its place
 abbrev pub place_rule : Text → Rule
@@ -26,10 +26,13 @@ option_rule id = record (optional_rule id) { required = true }
 abbrev pub repeated_rule : Text → Rule
 repeated_rule id = record (optional_rule id) { action = Some Append }
 
--- an option with a number from `low` to `high`
+-- a number from `low` to `high` that may be there, named by its place, and as an option
+abbrev pub optional_place_rule : Text → ℕ → ℕ → Rule
+optional_place_rule id low high =
+    record (new_rule id) { action = Some Set; value_names = 1; parser = Some (parser.Unsigned low high) }
+
 abbrev pub optional_number_rule : Text → ℕ → ℕ → Rule
-optional_number_rule id low high =
-    record (optional_rule id) { parser = Some (parser.Unsigned low high) }
+optional_number_rule id low high = record (optional_place_rule id low high) { long = Some id }
 
 abbrev pub replay_app : App
 replay_app =
@@ -40,7 +43,7 @@ replay_app =
 
 abbrev pub serve_app : App
 serve_app =
-    with_rule (with_rule
+    with_rule (with_rule (with_rule
     (with_rule (with_rule (with_rule (with_rule
     (with_rule (with_rule (with_rule (with_rule
     (with_rule (with_rule (with_rule (with_rule
@@ -66,7 +69,8 @@ serve_app =
     (optional_rule (codes "reserved-regions")))
     (optional_number_rule (codes "sink-timeout") 1 MAX_SINK_TIMEOUT))
     (optional_rule (codes "log-level")))
-    (optional_rule (codes "control"))
+    (optional_rule (codes "control")))
+    (optional_number_rule (codes "granule") FRAME_BYTES MAX_GRANULE)
 
 abbrev pub ask_app : App
 ask_app =
@@ -76,10 +80,12 @@ ask_app =
 
 abbrev pub control_app : App
 control_app =
-    with_rule (with_rule (with_rule (new_app (codes "control"))
+    with_rule (with_rule (with_rule (with_rule (with_rule (new_app (codes "control"))
     (optional_number_rule (codes "timeout") 1 MAX_ANSWER_TIMEOUT))
+    (flag_rule (codes "top")))
     (place_rule (codes "path")))
-    (place_rule (codes "word"))
+    (place_rule (codes "word")))
+    (optional_place_rule (codes "seconds") 1 MAX_WATCH_PAUSE)
 
 abbrev pub check_app : App
 check_app =

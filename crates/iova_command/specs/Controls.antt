@@ -2,13 +2,14 @@
 use Rattle.std.specs.Prelude.{◌≡◌, ◌≢◌, List, Option, Some, None, codes}
 use Rattle.clap.specs.Words.{Row, Text, first_of}
 use Rattle.iova_command.specs.declared.control_word.ControlWord.{ControlWord}
-use Rattle.iova_command.specs.declared.control_word.ControlWord.TheVariants.{Report, Sessions, Metrics, Stop}
+use Rattle.iova_command.specs.declared.control_word.ControlWord.TheVariants.{Report, Sessions, Metrics, Info, Stop}
 
 -- the text of a word
 abbrev pub control_name : ControlWord → Text
 control_name Report = codes "report"
 control_name Sessions = codes "sessions"
 control_name Metrics = codes "metrics"
+control_name Info = codes "info"
 control_name Stop = codes "stop"
 
 -- the word of a text, which is none where no word has that text

@@ -1,6 +1,7 @@
 pub mod Asks
 pub mod Commands
 pub mod Controls
+pub mod Granules
 pub mod Levels
 pub mod Numbers
 pub mod Refuses

@@ -35,4 +35,15 @@ pub enum Asked<'a> {
         /// How many seconds a connection and the answer are waited for, where it is said.
         timeout: Option<u64>,
     },
+    /// A daemon's figures, again and again.
+    Watch {
+        /// The path of its control socket.
+        path: &'a str,
+        /// How many seconds are between two looks, where it is said; else 1.
+        seconds: Option<u64>,
+        /// Whether each look has a screen; else it has a line.
+        is_top: bool,
+        /// How many seconds a connection and the answer are waited for, where it is said.
+        timeout: Option<u64>,
+    },
 }

@@ -1,14 +1,14 @@
 //! The command and its help.
 ghost use Rattle.std.specs.Prelude.{◌≡◌, ◌<◌, ◌^◌, IfOk, false};
 ghost use Rattle.clap.specs.Words.{App, rule_of, with_rule, with_subcommand};
-ghost use Rattle.iova_command.specs.Commands.{IsCommand, place_rule, flag_rule, option_rule, optional_rule, repeated_rule, optional_number_rule, replay_app, serve_app, ask_app, check_app, control_app, iovad_app};
+ghost use Rattle.iova_command.specs.Commands.{IsCommand, place_rule, flag_rule, option_rule, optional_rule, repeated_rule, optional_number_rule, optional_place_rule, replay_app, serve_app, ask_app, check_app, control_app, iovad_app};
 
 use crate::words::VERSION;
 use clap::{Arg, ArgAction, Command, value_parser};
 use iova_range::limits::{
-    LAST_DOMAIN_ID, MAX_ANSWER_TIMEOUT, MAX_CLIENTS, MAX_DEPOT, MAX_DOMAINS, MAX_IDLE,
-    MAX_PEER_WAIT, MAX_RECORDED_STEPS, MAX_SESSION_REQUESTS, MAX_SESSIONS, MAX_SINK_TIMEOUT,
-    MAX_WORKERS, WIDE_TOP,
+    FRAME_BYTES, LAST_DOMAIN_ID, MAX_ANSWER_TIMEOUT, MAX_CLIENTS, MAX_DEPOT, MAX_DOMAINS,
+    MAX_GRANULE, MAX_IDLE, MAX_PEER_WAIT, MAX_RECORDED_STEPS, MAX_SESSION_REQUESTS, MAX_SESSIONS,
+    MAX_SINK_TIMEOUT, MAX_WATCH_PAUSE, MAX_WORKERS, WIDE_TOP,
 };
 use std::alloc::{AllocError, Global};
 
@@ -18,11 +18,12 @@ const USAGE: &str = "iovad < FILE
        iovad serve --socket PATH --peer PATH|--sink FILE [--peer-wait SECONDS]
                    [--workers N] [--clients N] [--domain N] [--start N] [--last N]
                    [--sessions N] [--session-requests N] [--idle SECONDS] [--depot N]
-                   [--strict]
+                   [--strict] [--granule BYTES]
                    [--record FILE [--record-steps N]] [--reserve FIRST-LAST]..
                    [--reserved-regions FILE] [--sink-timeout SECONDS]
                    [--log-level error|warn|info|debug] [--control PATH]
-       iovad control [--timeout SECONDS] PATH report|sessions|metrics|stop
+       iovad control [--timeout SECONDS] PATH report|sessions|metrics|info|stop
+       iovad control [--timeout SECONDS] [--top] PATH watch [SECONDS]
        iovad ask [--timeout SECONDS] PATH
        iovad check [--quiet] [--first N] [--last N] [--reserved-regions PATH]
                    [--ftrace [--did N]] FILE";
@@ -69,6 +70,9 @@ const CONTROL_WORDS: &str = "Words:
   report   the domain's report
   sessions the sessions that are served
   metrics  what is counted, in the text form that Prometheus reads
+  info     the daemon's version, the bytes of a frame, workers and clients
+  watch    what is counted in a second, a line each second, or each SECONDS;
+           with --top a screen of it; until the daemon's end
   stop     the daemon's end: each session answers what it has read, clients
            that wait are tried once more, the rings are flushed, the report
            is printed, and the record is written";
@@ -333,13 +337,24 @@ fn serve_command<'a>(alloc: Global) -> Result<Command<'a>, AllocError>
             "The least grave notices that are told, error, warn, info or debug; without it warn",
         ),
     );
-    with_arg(
+    let command = with_arg(
         command,
         optional_path(
             alloc,
             "control",
             "PATH",
             "The path of a socket for iovad control, at most 107 bytes; without it there is none",
+        ),
+    );
+    with_arg(
+        command,
+        optional_number(
+            alloc,
+            "granule",
+            "BYTES",
+            FRAME_BYTES,
+            MAX_GRANULE,
+            "The bytes of a frame, a power of two, 4096 to 2097152; without it 4096",
         ),
     )
 }
@@ -376,9 +391,19 @@ fn control_command<'a>(alloc: Global) -> Result<Command<'a>, AllocError>
         MAX_ANSWER_TIMEOUT,
         "How long the answer may take, 1 to 86400; without it 10, for a stop without end",
     );
+    let top = flag(alloc, "top", "With watch: a screen in place of lines");
     let path = place(alloc, "path", "PATH", "The path of its control socket");
     let word = place(alloc, "word", "WORD", "What is asked for");
-    with_arg(with_arg(with_arg(Ok(command), timeout), path), word)
+    let seconds = optional_place(
+        alloc,
+        "seconds",
+        "SECONDS",
+        1,
+        MAX_WATCH_PAUSE,
+        "With watch: the time between two lines, 1 to 3600; without it 1",
+    );
+    let command = with_arg(with_arg(Ok(command), timeout), top);
+    with_arg(with_arg(with_arg(command, path), word), seconds)
 }
 
 fn check_command<'a>(alloc: Global) -> Result<Command<'a>, AllocError>
@@ -538,8 +563,24 @@ fn optional_number<'a>(
     ensures rule { rule_of result ≡ optional_number_rule name.entry.now low high }
     ensures local { result.global ≡ false }
 {
+    optional_place(alloc, name, value, low, high, help).long(name)
+}
+
+/// A number from `low` to `high` that may be there, known by its place.
+fn optional_place<'a>(
+    alloc: Global,
+    name: &'a str,
+    value: &'a str,
+    low: u64,
+    high: u64,
+    help: &'a str,
+) -> Arg<'a>
+    requires low { low < 2 ^ 63 }
+    requires high { high < 2 ^ 63 }
+    ensures rule { rule_of result ≡ optional_place_rule name.entry.now low high }
+    ensures local { result.global ≡ false }
+{
     Arg::new(alloc, name)
-        .long(name)
         .value_name(value)
         .action(ArgAction::Set)
         .value_parser(value_parser!(u64).range(low as i64..=high as i64))

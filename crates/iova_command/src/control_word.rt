@@ -11,6 +11,8 @@ pub enum ControlWord {
     Sessions,
     /// What is counted, in the text form that Prometheus reads.
     Metrics,
+    /// What is so from its start to its end: version, frames' bytes, workers, clients.
+    Info,
     /// The daemon's orderly end.
     Stop,
 }
@@ -24,6 +26,7 @@ impl ControlWord {
             ControlWord::Report => "report",
             ControlWord::Sessions => "sessions",
             ControlWord::Metrics => "metrics",
+            ControlWord::Info => "info",
             ControlWord::Stop => "stop",
         }
     }
@@ -36,6 +39,7 @@ impl ControlWord {
             "report" => Some(ControlWord::Report),
             "sessions" => Some(ControlWord::Sessions),
             "metrics" => Some(ControlWord::Metrics),
+            "info" => Some(ControlWord::Info),
             "stop" => Some(ControlWord::Stop),
             _ => None,
         }

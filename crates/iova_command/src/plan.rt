@@ -1,7 +1,8 @@
 //! What a daemon is to serve.
-ghost use Rattle.std.specs.Prelude.{◌≡◌, ◌<◌, ◌≤◌, IfSome, map, false};
+ghost use Rattle.std.specs.Prelude.{◌≡◌, ◌<◌, ◌≤◌, IfSome, map, false, true};
 ghost use Rattle.std.specs.Option.{ForSome};
 ghost use Rattle.clap.specs.Words.{rows_of, found_of};
+ghost use Rattle.iova_command.specs.Granules.{IsGranule, is_granule};
 ghost use Rattle.iova_command.specs.Levels.{HasLevel, IsChoiceOf};
 ghost use Rattle.iova_command.specs.Numbers.{HasNumber, HasNumberOr, HasOptional, IsPlain, begins_with_plus};
 ghost use Rattle.iova_command.specs.Spans.{HasSpans, InsertsSpan, InsertsSpans};
@@ -10,9 +11,9 @@ ghost use Rattle.iova_range.specs.declared.limits.TheConstants.{DEFAULT_DOMAIN, 
 use crate::sink_path::SinkPath;
 use clap::ArgMatches;
 use iova_range::limits::{
-    DEFAULT_DOMAIN, DEFAULT_LAST, DEFAULT_START, DEFAULT_WORKERS, MAX_CLIENTS, MAX_DEPOT,
-    MAX_DOMAINS, MAX_IDLE, MAX_PEER_WAIT, MAX_RECORDED_STEPS, MAX_SESSION_REQUESTS, MAX_SESSIONS,
-    MAX_SINK_TIMEOUT, MAX_WORKERS, WIDE_TOP,
+    DEFAULT_DOMAIN, DEFAULT_LAST, DEFAULT_START, DEFAULT_WORKERS, FRAME_BYTES, MAX_CLIENTS,
+    MAX_DEPOT, MAX_DOMAINS, MAX_GRANULE, MAX_IDLE, MAX_PEER_WAIT, MAX_RECORDED_STEPS,
+    MAX_SESSION_REQUESTS, MAX_SESSIONS, MAX_SINK_TIMEOUT, MAX_WORKERS, WIDE_TOP,
 };
 use iova_range::range::Range;
 use iova_regions::span::read_span;
@@ -65,6 +66,8 @@ pub struct Plan<'a> {
     pub log_level: LevelFilter,
     /// The path of the control socket, where one is wanted.
     pub control: Option<&'a str>,
+    /// How many bytes a frame has, where it is said; else 4096. It is told, and nothing else.
+    pub granule: Option<u64>,
     pub ghost workers_in_range: { (1 ≤ workers) × (workers ≤ MAX_WORKERS) },
     pub ghost clients_in_range: { ForSome clients (λ n. (1 ≤ n) × (n ≤ MAX_CLIENTS)) },
     pub ghost domain_in_range: { domain < MAX_DOMAINS },
@@ -78,6 +81,7 @@ pub struct Plan<'a> {
     pub ghost steps_in_range: { ForSome record_steps (λ n. (1 ≤ n) × (n ≤ MAX_RECORDED_STEPS)) },
     pub ghost wait_in_range: { ForSome peer_wait (λ n. n ≤ MAX_PEER_WAIT) },
     pub ghost timeout_in_range: { ForSome sink_timeout (λ n. n ≤ MAX_SINK_TIMEOUT) },
+    pub ghost granule_in_range: { ForSome granule IsGranule },
 }
 
 /// What it has is let go, which is proved here once for every crate above.
@@ -104,6 +108,7 @@ impl<'a> Drop for Plan<'a> {
             sink_timeout: _,
             log_level: _,
             control: _,
+            granule: _,
         } = self;
     }
 }
@@ -142,6 +147,7 @@ impl<'a> Plan<'a> {
             log_level: level(found, "log-level")?,
             control: found.get_str("control"),
             clients: optional(found, "clients", 1, MAX_CLIENTS as u64)?,
+            granule: granule(found, "granule")?,
         };
         if plan.record_steps.is_some() && plan.record.is_none() {
             return None;
@@ -151,6 +157,28 @@ impl<'a> Plan<'a> {
         }
         Some(plan)
     }
+}
+
+/// The bytes of a frame that an option names. None where they are no power of two in their range.
+fn granule(found: &ArgMatches<'_>, name: &str) -> Option<Option<u64>>
+    ensures range { IfSome result (λ o. ForSome o IsGranule) }
+    ensures read { IfSome result (λ o. HasOptional (rows_of (found_of found.now)) name.now o) }
+{
+    let granule = optional(found, name, FRAME_BYTES, MAX_GRANULE)?;
+    if let Some(bytes) = granule
+        && !is_granule(bytes)
+    {
+        return None;
+    }
+    Some(granule)
+}
+
+/// Whether a frame may have so many bytes: a power of two from 4 KiB to 2 MiB.
+pub(crate) fn is_granule(bytes: u64) -> bool
+    ensures { result ≡ is_granule bytes }
+{
+    matches!(bytes, 4_096 | 8_192 | 16_384 | 32_768 | 65_536)
+        || matches!(bytes, 131_072 | 262_144 | 524_288 | 1_048_576 | 2_097_152)
 }
 
 /// The level of an option that may be missing: warnings and errors then. None where it is none of

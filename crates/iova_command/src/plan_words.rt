@@ -53,7 +53,8 @@ fn write_sessions<W: fmt::Write>(plan: &Plan<'_>, f: &mut fmt::Formatter<W>) -> 
     write!(f, " --session-requests {}", requests)?;
     write_number("sessions", plan.sessions, f)?;
     write_number("idle", plan.idle, f)?;
-    write_text("control", plan.control, f)
+    write_text("control", plan.control, f)?;
+    write_number("granule", plan.granule, f)
 }
 
 /// Of which kind the domain is, what is recorded of it, and where its reserved regions stand.

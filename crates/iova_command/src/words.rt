@@ -1,5 +1,5 @@
 //! The process's words, and what they ask for.
-ghost use Rattle.std.specs.Prelude.{◌≡◌, IfErr, IfOk, IfSome, map, true};
+ghost use Rattle.std.specs.Prelude.{◌≡◌, IfErr, IfOk, IfSome, codes, map, true};
 ghost use Rattle.clap.specs.Words.{app_of, fault_of, found_of, is_simple, is_simple_and_free, rows_of, subcommand_of, subcommand_rows_of};
 ghost use Rattle.iova_command.specs.Asks.{AsksFor, AsksOf};
 ghost use Rattle.iova_command.specs.Commands.{iovad_app};
@@ -15,7 +15,7 @@ use crate::usage::WordsFault;
 use crate::wrong_word::wrong_word;
 use clap::error::ErrorKind;
 use clap::{ArgMatches, Command};
-use iova_range::limits::MAX_ANSWER_TIMEOUT;
+use iova_range::limits::{MAX_ANSWER_TIMEOUT, MAX_WATCH_PAUSE};
 use std::alloc::Global;
 use std::convert::AsStr;
 use std::rt::Env;
@@ -27,6 +27,9 @@ rattle-kit-13f logic dac8208d650f15bf";
 
 /// The name that stands for standard input.
 pub const STANDARD_INPUT: &str = "-";
+
+/// What asks for a daemon's figures again and again, and isn't a word of its socket.
+pub(crate) const WATCH: &str = "watch";
 
 /// The process's words, its name first. Refused where a word is not UTF-8, and by `NoMemory`.
 pub fn words<R: Env + AllocGlobal>(rt: &R) -> Result<Vec<String>, WordsFault>
@@ -97,16 +100,38 @@ fn asked_of_command<'a>(name: &str, found: &ArgMatches<'a>) -> Option<Asked<'a>>
             timeout: optional(found, "timeout", 1, MAX_ANSWER_TIMEOUT)?,
         }),
         "check" => Some(Asked::Check(CheckPlan::of(found)?)),
-        "control" => Some(Asked::Control {
-            path: found.get_str("path")?,
-            word: control_word(found, "word")?,
-            timeout: optional(found, "timeout", 1, MAX_ANSWER_TIMEOUT)?,
-        }),
+        "control" => asked_of_control(found),
         _ => Some(Asked::Replay {
             path: found.get_str("file")?,
             has_report: found.get_flag("report"),
             log: found.get_str("log"),
         }),
+    }
+}
+
+/// What `control` asks for, by what it matched: a word for the socket has neither a time nor a
+/// screen.
+fn asked_of_control<'a>(found: &ArgMatches<'a>) -> Option<Asked<'a>>
+    ensures { IfSome result (λ a. AsksOf (codes "control") (rows_of (found_of found.now)) a) }
+{
+    let path = found.get_str("path")?;
+    let timeout = optional(found, "timeout", 1, MAX_ANSWER_TIMEOUT)?;
+    let seconds = optional(found, "seconds", 1, MAX_WATCH_PAUSE)?;
+    let is_top = found.get_flag("top");
+    let word = found.get_str("word")?;
+    match (word, seconds, is_top) {
+        ("watch", seconds, is_top) => Some(Asked::Watch {
+            path,
+            seconds,
+            is_top,
+            timeout,
+        }),
+        (_, None, false) => Some(Asked::Control {
+            path,
+            word: control_word(found, "word")?,
+            timeout,
+        }),
+        _ => None,
     }
 }
 

@@ -1,11 +1,12 @@
 //! What is wrong with words that clap takes and that ask for nothing: the option, and its value.
 use crate::control_word::ControlWord;
-use crate::plan::{has_plus, level_of};
+use crate::plan::{has_plus, is_granule, level_of};
+use crate::words::WATCH;
 use clap::ArgMatches;
 use iova_range::limits::{
-    LAST_DOMAIN_ID, MAX_ANSWER_TIMEOUT, MAX_CLIENTS, MAX_DEPOT, MAX_DOMAINS, MAX_IDLE,
-    MAX_PEER_WAIT, MAX_RECORDED_STEPS, MAX_SESSION_REQUESTS, MAX_SESSIONS, MAX_SINK_TIMEOUT,
-    MAX_WORKERS, WIDE_TOP,
+    FRAME_BYTES, LAST_DOMAIN_ID, MAX_ANSWER_TIMEOUT, MAX_CLIENTS, MAX_DEPOT, MAX_DOMAINS,
+    MAX_GRANULE, MAX_IDLE, MAX_PEER_WAIT, MAX_RECORDED_STEPS, MAX_SESSION_REQUESTS, MAX_SESSIONS,
+    MAX_SINK_TIMEOUT, MAX_WATCH_PAUSE, MAX_WORKERS, WIDE_TOP,
 };
 use iova_regions::span::read_span;
 use std::alloc::{AllocError, Global};
@@ -38,13 +39,31 @@ fn wrong_in_command(
 
 fn wrong_to_control(alloc: Global, found: &ArgMatches<'_>) -> Result<Option<String>, AllocError> {
     let word = found.get_str("word").unwrap_or("");
-    if ControlWord::of(word).is_none() {
+    if word != WATCH && ControlWord::of(word).is_none() {
         let text = format!(in alloc;
-            "WORD: '{word}' is none of report, sessions, metrics and stop"
+            "WORD: '{word}' is none of report, sessions, metrics, info, stop and watch"
         )?;
         return Ok(Some(text));
     }
-    wrong_number(alloc, found, "timeout", 1, MAX_ANSWER_TIMEOUT)
+    if let Some(text) = wrong_number(alloc, found, "timeout", 1, MAX_ANSWER_TIMEOUT)? {
+        return Ok(Some(text));
+    }
+    let seconds = found.get_str("seconds");
+    if word != WATCH
+        && let Some(seconds) = seconds
+    {
+        let text = format!(in alloc; "SECONDS '{seconds}' is for watch, and not for {word}")?;
+        return Ok(Some(text));
+    }
+    if word != WATCH && found.get_flag("top") {
+        let text = format!(in alloc; "--top is for watch, and not for {word}")?;
+        return Ok(Some(text));
+    }
+    let seconds = seconds.unwrap_or("");
+    let text = format!(in alloc;
+        "SECONDS: '{seconds}' is not a number from 1 to {MAX_WATCH_PAUSE}"
+    )?;
+    Ok(Some(text))
 }
 
 fn wrong_to_check(alloc: Global, found: &ArgMatches<'_>) -> Result<Option<String>, AllocError> {
@@ -75,6 +94,7 @@ fn wrong_to_serve(alloc: Global, found: &ArgMatches<'_>) -> Result<Option<String
         ("depot", 0, MAX_DEPOT),
         ("record-steps", 1, MAX_RECORDED_STEPS),
         ("sink-timeout", 1, MAX_SINK_TIMEOUT),
+        ("granule", FRAME_BYTES, MAX_GRANULE),
     ];
     if let Some(text) = wrong_among(alloc, found, &numbers)? {
         return Ok(Some(text));
@@ -83,6 +103,14 @@ fn wrong_to_serve(alloc: Global, found: &ArgMatches<'_>) -> Result<Option<String
         return Ok(Some(text));
     }
     if let Some(text) = wrong_pair(alloc, found)? {
+        return Ok(Some(text));
+    }
+    if let Some(bytes) = found.get_one::<u64>("granule")
+        && !is_granule(bytes)
+    {
+        let text = format!(in alloc;
+            "--granule: '{bytes}' is not a power of two from {FRAME_BYTES} to {MAX_GRANULE}"
+        )?;
         return Ok(Some(text));
     }
     wrong_window(alloc, found)

@@ -1,6 +1,8 @@
 //! A daemon's control socket: what the daemon does now, asked in lines, and its stop.
-ghost use Rattle.std.specs.Prelude.{◌≤◌, length};
+ghost use Rattle.std.specs.Prelude.{◌≡◌, ◌≤◌, ◌++◌, false, length, true};
+ghost use Rattle.iova_control.specs.Texts.{answer_text};
 
+use crate::info::put_info;
 use crate::metrics::put_metrics;
 use crate::sessions::put_sessions;
 use arrayvec::{ArrayString, ArrayVec};
@@ -8,7 +10,7 @@ use iova_keep::look::Look;
 use iova_links::aside::{Aside, Standing};
 use iova_links::signals::Signals;
 use iova_range::limits::{
-    CONTROL_PAUSE, CONTROL_READS, MAX_CONTROL_SILENCE, MAX_CONTROLS, MAX_LINE,
+    CONTROL_PAUSE, CONTROL_READS, FRAME_BYTES, MAX_CONTROL_SILENCE, MAX_CONTROLS, MAX_LINE,
 };
 use iova_text::buffer::{LineBuffer, put, put_number};
 use log::{Log, warn};
@@ -46,6 +48,8 @@ pub struct Facts {
     pub workers: u64,
     /// How many sessions are served at a time.
     pub clients: u64,
+    /// How many bytes a page frame has.
+    pub granule: u64,
     /// Whether a peer answers; else a file takes records.
     pub has_peer: bool,
     /// Whether the domain's steps are recorded.
@@ -53,15 +57,21 @@ pub struct Facts {
 }
 
 impl Facts {
-    /// What is so of a daemon of this version, whose domain has so many workers, without more. Of a
-    /// version's text that is longer than 128 bytes nothing is kept.
-    pub fn new(version: &str, workers: u64) -> Facts {
+    /// What is so of a daemon of this version, whose domain has so many workers, without more:
+    /// frames of 4096 bytes, as many clients at a time, no peer and no record. Of a version's text
+    /// that is longer than 128 bytes nothing is kept.
+    pub fn new(version: &str, workers: u64) -> Facts
+        ensures numbers { (result.workers ≡ workers) × (result.clients ≡ workers)
+            × (result.granule ≡ FRAME_BYTES) }
+        ensures plain { (result.has_peer ≡ false) × (result.is_recorded ≡ false) }
+    {
         let mut kept = ArrayString::new();
         let _ = kept.try_push_str(version);
         Facts {
             version: kept,
             workers,
             clients: workers,
+            granule: FRAME_BYTES,
             has_peer: false,
             is_recorded: false,
         }
@@ -258,6 +268,10 @@ impl<'a, R: AllocGlobal, N: Log> Control<'a, R, N> {
                 put_metrics(&self.facts, self.signals, standing.figures(), domain, pad).is_ok()
                     && is_owed(&mut connection.owed, b"metrics", pad.text.as_bytes())
             }
+            b"info" => {
+                put_info(&self.facts, &mut pad.text).is_ok()
+                    && is_owed(&mut connection.owed, b"info", pad.text.as_bytes())
+            }
             b"stop" => {
                 self.signals.ask_to_stop();
                 connection.is_kept = true;
@@ -287,6 +301,8 @@ fn refuse(connection: &mut Connection) {
 /// it.
 fn is_owed(owed: &mut Vec<u8>, word: &[u8], text: &[u8]) -> bool
     requires { length word.now ≤ 32 }
+    ensures { result ≡ true
+        → owed.new.items ≡ owed.old.items ++ answer_text word.now text.now }
 {
     let mut line = LineBuffer::new();
     put(&mut line, word);

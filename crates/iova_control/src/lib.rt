@@ -3,5 +3,6 @@
 #![tactic(auto)]
 
 pub mod control;
+mod info;
 mod metrics;
 mod sessions;

@@ -1,4 +1,7 @@
 //! The sessions that a daemon serves, told a line each.
+ghost use Rattle.std.specs.Prelude.{OnOk};
+ghost use Rattle.iova_control.specs.Texts.{PutsBehind};
+
 use iova_keep::look::Look;
 use iova_links::aside::Standing;
 use iova_range::limits::MAX_CLIENTS;
@@ -13,7 +16,9 @@ pub fn put_sessions<K: Look, T: Standing>(
     standing: &T,
     domain: &K,
     text: &mut String,
-) -> Result<(), AllocError> {
+) -> Result<(), AllocError>
+    ensures { OnOk result (PutsBehind text.old.bytes.items text.new.bytes.items) }
+{
     let mut ranges = Vec::new(alloc);
     for worker in 0..workers {
         let sessions = standing.sessions(worker);
@@ -35,7 +40,9 @@ fn put_clients<K: Look, T: Standing>(
     domain: &K,
     ranges: &mut Vec<Range>,
     text: &mut String,
-) -> Result<u64, AllocError> {
+) -> Result<u64, AllocError>
+    ensures { OnOk result (PutsBehind text.old.bytes.items text.new.bytes.items) }
+{
     let mut told = 0;
     let mut behind = 0;
     for _ in 0..MAX_CLIENTS {

@@ -8,11 +8,12 @@ use iova_keep::calls::{flush, timeout};
 use iova_keep::keep::Keep;
 use iova_keep::names::Names;
 use iova_keep::seat::Tally;
-use iova_links::pause::Pause;
+use iova_links::pause::{Pause, milliseconds};
 use iova_range::limits::{FLUSH_PAUSE, MAX_FLUSH_PAUSE};
 use iova_range::refusal::Refusal;
 use iova_sink::sink::Sink;
 use log::{Log, warn};
+use std::rt::Clock;
 use std::sync::Wait;
 
 /// So many frames in rings, at least, let the flusher think that a ring may soon be full.
@@ -83,7 +84,7 @@ impl<'e, R, N, K, B: Names, D, P> Flusher<'e, R, N, K, B, D, P> {
 
 impl<'e, R, N, B, K, D, P> SideTask for Flusher<'e, R, N, K, B, D, P>
 where
-    R: Wait,
+    R: Wait + Clock,
     N: Log,
     B: Names,
     K: Keep<B>,
@@ -99,6 +100,7 @@ where
     /// the pause is twice as long, up to a second. Where a round freed many entries or a flush was
     /// made ahead before it, it flushes ahead in place of the next pause.
     fn go_on(&mut self) {
+        self.roster.end_round(milliseconds(self.rt));
         for _ in self.rt.forever() {
             if !rests(&mut self.pause, self.roster, self.rest) {
                 return;
@@ -116,11 +118,11 @@ where
             if (!looked && !self.pause.pause()) || self.roster.have_ended() {
                 return;
             }
+            let begun = milliseconds(self.rt);
             let round = timeout(&mut self.keeper, &mut self.tally, &mut self.sink);
-            if let Ok(freed) = round
-                && freed >= FLUSH_AHEAD
-            {
-                self.busy.is_busy = true;
+            if let Ok(freed) = round {
+                self.roster.end_round(begun);
+                self.busy.is_busy |= freed >= FLUSH_AHEAD;
             }
             self.rest = rest_behind(round, self.rest);
             note_round(self.notices, round);

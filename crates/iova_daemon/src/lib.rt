@@ -277,7 +277,7 @@ fn serve_kept<R, N, B, K, W, D, P, X>(
     pause: P,
 ) -> Result<Kept<B, D>, Refusal>
 where
-    R: Threads + Wait,
+    R: Threads + Wait + Clock,
     N: Log,
     B: Names + Send + Sync,
     K: Keep<B> + Drop,

@@ -1,11 +1,15 @@
 //! What the threads of a daemon share beside its domain and the pool of its slots.
+ghost use Rattle.std.specs.Prelude.{◌≡◌};
+
 use crate::Serving;
 use iova_links::aside::{Figures, Standing};
+use iova_links::pause::milliseconds;
 use iova_model::step::ClientId;
 use iova_range::limits::MAX_WORKERS;
 use iova_session::session_limits::SessionLimits;
 use std::alloc::Global;
 use std::array;
+use std::rt::Clock;
 use std::sync::atomic::{AtomicBool, AtomicU64, Ordering};
 use std::sync::{Mutex, Wait};
 
@@ -30,6 +34,8 @@ pub(crate) struct Roster {
     slots: u64,
     begun: AtomicU64,
     ended: AtomicU64,
+    /// When the flusher began its last round that ended well, in milliseconds of the clock.
+    round: AtomicU64,
 }
 
 /// A client that waits, and the slot that has it.
@@ -56,11 +62,14 @@ impl Roster {
             slots,
             begun: AtomicU64::new(0),
             ended: AtomicU64::new(0),
+            round: AtomicU64::new(0),
         }
     }
 
     /// How much a session may ask for.
-    pub(crate) fn limits(&self) -> SessionLimits {
+    pub(crate) fn limits(&self) -> SessionLimits
+        ensures { result ≡ self.now.serving.limits }
+    {
         self.serving.limits
     }
 
@@ -144,6 +153,14 @@ impl Roster {
         self.ended.fetch_add(1, Ordering::SeqCst);
     }
 
+    /// The flusher has ended a round well that it began then, in milliseconds of the clock, where
+    /// that could be read.
+    pub(crate) fn end_round(&self, begun: Option<u64>) {
+        if let Some(begun) = begun {
+            self.round.store(begun, Ordering::SeqCst);
+        }
+    }
+
     /// Whether all slots have ended.
     pub(crate) fn have_ended(&self) -> bool {
         self.ended.load(Ordering::SeqCst) >= self.slots
@@ -172,13 +189,16 @@ pub(crate) struct Stands<'a, R> {
     pub roster: &'a Roster,
 }
 
-impl<'a, R: Wait> Standing for Stands<'a, R> {
+impl<'a, R: Wait + Clock> Standing for Stands<'a, R> {
     fn figures(&self) -> Figures {
+        let round = self.roster.round.load(Ordering::SeqCst);
+        let now = milliseconds(self.rt).unwrap_or(round);
         Figures {
             served: self.roster.served.load(Ordering::SeqCst),
             accepted: self.roster.met.load(Ordering::SeqCst),
             waiting: self.roster.waiting.load(Ordering::SeqCst),
             full: self.roster.full.load(Ordering::SeqCst),
+            since_round: now.saturating_sub(round),
         }
     }
 

@@ -3,8 +3,9 @@ ghost use Rattle.std.specs.Prelude.{◌≡◌, ◌⊎◌, ◌+◌, ℕ, List, No
 ghost use Rattle.std.specs.Io.KnownBytes.{Appends, Consumes};
 ghost use Rattle.iova_keep.specs.Views.{KeepsPlace, WhereKnown};
 ghost use Rattle.iova_session.specs.declared.run.SessionEnd.{SessionEnd};
-ghost use Rattle.iova_session.specs.declared.session_limits.SessionLimits.{SessionLimits};
-ghost use Rattle.iova_session.specs.Desks.{AreAnswers};
+ghost use Rattle.iova_session.specs.Desks.{AreAnswers, client_after};
+ghost use Rattle.iova_session.specs.Domains.{LeavesOthers};
+ghost use Rattle.iova_session.specs.Leading.{SessionLeads};
 ghost use Rattle.iova_session.specs.Pairs.{Pair};
 ghost use Rattle.iova_session.specs.Posts.{EndsClient, RetriesAll};
 ghost use Rattle.iova_session.specs.Sessions.{ServesWithin};
@@ -158,15 +159,22 @@ where
     L: Link + Drop,
     A: Accept<L>,
     D: Sink,
-    ensures session { (left : L) × (ended : SessionEnd) × (limits : SessionLimits)
+    ensures session { (left : L) × (ended : SessionEnd)
         × (taken : List ℕ) × (ps : List Pair) × (written : List ℕ) × (reads : ℕ)
         × Consumes (L.left accepted.link) (L.left left) taken
         × Appends (L.sent accepted.link) (L.sent left) written
         × (L.reads left ≡ L.reads accepted.link + reads)
-        × ServesWithin limits.requests limits.reads taken ps written reads ended.end
+        × ServesWithin context.now.roster.now.serving.limits.requests
+        context.now.roster.now.serving.limits.reads taken ps written reads ended.end
         × AreAnswers (K.identity keeper.old).number None 0 ps
         × EndsClient ps ended.client post.old.seat.held post.new.seat.held post.old.waiting.items
-        post.new.waiting.items }
+        post.new.waiting.items
+        × WhereKnown (K.domain keeper.old) (K.domain keeper.new)
+        (LeavesOthers (client_after None ps) ended.client)
+        × ∥ WhereKnown (K.domain keeper.old) (K.domain keeper.new)
+        (SessionLeads (K.identity keeper.old).strict (K.identity keeper.old).number ps ended.client
+        post.old.seat post.new.seat post.old.waiting.items post.new.waiting.items
+        (D.calls sink.old.sink) (D.calls sink.new.sink)) ∥₁ }
     ensures place { KeepsPlace post.old.seat post.new.seat (D.calls sink.old.sink)
         (D.calls sink.new.sink) }
 {
@@ -189,7 +197,12 @@ where
 }
 
 /// Does what there is to do aside, until all workers have ended.
-pub(crate) fn go_aside<R: Wait, X: Aside, K: Look>(rt: &R, roster: &Roster, aside: &X, keeper: &K) {
+pub(crate) fn go_aside<R: Wait + Clock, X: Aside, K: Look>(
+    rt: &R,
+    roster: &Roster,
+    aside: &X,
+    keeper: &K,
+) {
     for _ in rt.forever() {
         if roster.have_ended() {
             return;

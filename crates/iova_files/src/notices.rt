@@ -1,4 +1,5 @@
 //! Where a daemon's notices go.
+use iova_links::pause::milliseconds;
 use iova_links::signals::Signals;
 use iova_range::limits::NOTICE_PAUSE;
 use log::kv::Source;
@@ -82,10 +83,7 @@ impl<'a, R> CountedConsole<'a, R> {
 impl<'a, R: Clock> CountedConsole<'a, R> {
     /// The time since some start, in milliseconds.
     fn now(&self) -> u64 {
-        match self.rt.monotonic() {
-            Ok(time) => u64::try_from(time.as_millis()).unwrap_or(u64::MAX),
-            Err(_) => u64::MAX,
-        }
+        milliseconds(self.rt).unwrap_or(u64::MAX)
     }
 }
 

@@ -13,6 +13,9 @@ pub struct Figures {
     pub waiting: u64,
     /// How often the last place for a session was taken.
     pub full: u64,
+    /// How many milliseconds ago the flusher began its last round that ended well, or began to make
+    /// rounds: nothing waits longer in a ring.
+    pub since_round: u64,
 }
 
 /// What tells how a daemon stands.

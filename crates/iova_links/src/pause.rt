@@ -21,6 +21,12 @@ pub fn shorter(limit: Option<Duration>, time: Duration) -> Duration
     }
 }
 
+/// The time of the clock in milliseconds. None where it can't be read.
+pub fn milliseconds<C: Clock>(clock: &C) -> Option<u64> {
+    let time = clock.monotonic().ok()?;
+    u64::try_from(time.as_millis()).ok()
+}
+
 /// What a flusher waits for before each round, and between its looks at a busy domain.
 pub trait Pause {
     /// Waits for the next round. False: there is none, the flusher stops.

@@ -35,6 +35,14 @@ const RUN_BYTES: usize = 64;
 /// What an answer that refuses begins with.
 const REFUSAL: &[u8] = b"no ";
 
+/// What the answer to `alloc` begins with.
+const GIVEN: &[u8] = b"given ";
+
+/// What the answer to `free` begins with, in a domain that queues and in a strict one.
+const QUEUED: &[u8] = b"queued ";
+
+const FREED: &[u8] = b"freed ";
+
 /// A connected Unix socket that a daemon serves. A read that finds no byte, and a write that finds
 /// no room, are made again turn after turn, until there were as many as its patience has. One that
 /// is interrupted is made again too, and takes no turn: an interruption is no failure of this link.
@@ -179,7 +187,7 @@ impl<'a, R: Wait> Link for ServedLink<'a, R> {
         };
         match written {
             Some(n) => {
-                note_refusals(self.signals, self.patience, n, bytes);
+                note_answers(self.signals, self.patience, n, bytes);
                 Ok(n)
             }
             None => {
@@ -294,23 +302,36 @@ fn note_lines(signals: &Signals, patience: Patience, n: usize, buf: &[u8]) {
     }
 }
 
-/// Counts the refusals among the answers whose first byte was written: without a control socket
-/// nobody can ask how many there were.
+/// Counts the refusals, the ranges that were given and those that were freed among the answers
+/// whose first byte was written: without a control socket nobody can ask how many there were.
 #[inline(always)]
-fn note_refusals(signals: &Signals, patience: Patience, n: usize, bytes: &[u8]) {
+fn note_answers(signals: &Signals, patience: Patience, n: usize, bytes: &[u8]) {
     if patience.turn.is_some() {
-        if bytes.starts_with(REFUSAL) {
-            signals.count_refusal(number_at(bytes, REFUSAL.len()));
-        }
+        let (mut allocs, mut frees) = (0u64, 0u64);
+        note_answer(signals, bytes, &mut allocs, &mut frees);
         for at in memchr_iter(b'\n', bytes) {
             let begin = at.saturating_add(1);
             if begin < n
                 && let Some(line) = bytes.get(begin..)
-                && line.starts_with(REFUSAL)
             {
-                signals.count_refusal(number_at(line, REFUSAL.len()));
+                note_answer(signals, line, &mut allocs, &mut frees);
             }
         }
+        signals.count_ranges(allocs, frees);
+    }
+}
+
+/// Counts the answer that begins here.
+#[inline(always)]
+fn note_answer(signals: &Signals, line: &[u8], allocs: &mut u64, frees: &mut u64) {
+    match line.first() {
+        Some(b'g') => *allocs = allocs.saturating_add(u64::from(line.starts_with(GIVEN))),
+        Some(b'q') => *frees = frees.saturating_add(u64::from(line.starts_with(QUEUED))),
+        Some(b'f') => *frees = frees.saturating_add(u64::from(line.starts_with(FREED))),
+        Some(b'n') if line.starts_with(REFUSAL) => {
+            signals.count_refusal(number_at(line, REFUSAL.len()));
+        }
+        _ => {}
     }
 }
 

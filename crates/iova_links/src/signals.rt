@@ -11,6 +11,8 @@ pub struct Signals {
     started: u64,
     hurry: Hurry,
     requests: AtomicU64,
+    allocs: AtomicU64,
+    frees: AtomicU64,
     notices: AtomicU64,
     links: AtomicU64,
     failed_flushes: AtomicU64,
@@ -26,6 +28,8 @@ impl Drop for Signals {
             started: _,
             hurry: _,
             requests: _,
+            allocs: _,
+            frees: _,
             notices: _,
             links: _,
             failed_flushes: _,
@@ -44,6 +48,8 @@ impl Signals {
             started,
             hurry: Hurry::new(),
             requests: AtomicU64::new(0),
+            allocs: AtomicU64::new(0),
+            frees: AtomicU64::new(0),
             notices: AtomicU64::new(0),
             links: AtomicU64::new(0),
             failed_flushes: AtomicU64::new(0),
@@ -94,6 +100,22 @@ impl Signals {
     /// How many requests came.
     pub fn requests(&self) -> u64 {
         self.requests.load(Ordering::Relaxed)
+    }
+
+    /// So many ranges more were given to clients, and so many were freed by them.
+    pub fn count_ranges(&self, allocs: u64, frees: u64) {
+        self.allocs.fetch_add(allocs, Ordering::Relaxed);
+        self.frees.fetch_add(frees, Ordering::Relaxed);
+    }
+
+    /// How many ranges were given to clients.
+    pub fn allocs(&self) -> u64 {
+        self.allocs.load(Ordering::Relaxed)
+    }
+
+    /// How many ranges clients freed, one by one.
+    pub fn frees(&self) -> u64 {
+        self.frees.load(Ordering::Relaxed)
     }
 
     /// When the daemon has started, in seconds since the beginning of 1970.

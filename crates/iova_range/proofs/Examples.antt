@@ -3,7 +3,7 @@ use Rattle.std.proofs.Common.{◌≡◌, ◌≤◌, List, [], ◌∷◌, Some, N
 use Rattle.std.specs.Prelude.{codes}
 use Rattle.iova_range.specs.declared.refusal.Refusal.{Refusal}
 use Rattle.iova_range.specs.declared.refusal.Refusal.TheVariants.{Zero, TooBig, NoClient, Closing, HoldingsFull, NoSpace, RingFull, NotHeld, Taken, BadWindow, WindowsFull, NoWorker, FlightsFull, NoFlight, Worn, ClientsFull, NoMemory, SinkFault, LinkFault, BadLine, TooMany, BadTrace, NoDomain, Twice, BadProfile}
-use Rattle.iova_range.specs.declared.limits.TheConstants.{MAX_WORKERS, MAX_CLIENTS, MAX_HOLDINGS, MAX_WINDOWS, MAX_FRAMES, MAX_FLIGHTS, MAX_SERIAL, SAC_LIMIT, ORDERS, MAGAZINE, SMALL_MAGAZINE, MAX_DEPOT, RING_SLOTS, MAX_ENTRIES, MAX_LINE, MAX_STEPS, MAX_READS, MAX_DOMAINS, MAX_REQUESTS, MAX_SESSION_READS, MAX_LISTED, MAX_RUN, MAX_SESSIONS, MAX_SESSION_REQUESTS, MAX_IDLE, FRAME_BYTES, MAX_TRACE_LINE, LAST_DOMAIN_ID, TALLY_PARTS, SEAT_PARTS, DAEMON_DESCRIPTORS, MAX_PAIRS, RECORDED_STEPS, MAX_RECORDED_STEPS, FLUSH_PAUSE, ACCEPT_PAUSE, MAX_ACCEPT_PAUSE, MAX_SINK_TIMEOUT, SINK_TIMEOUT, RETRY_PAUSE, MAX_PEER_WAIT, CONNECT_LOOK, CONNECT_PAUSE, MAX_CONNECT_PAUSE, MAX_FLUSH_PAUSE, MAX_POSTS, DEFAULT_CLIENTS, CONTROL_TIMEOUT, MAX_ANSWER_TIMEOUT, MAX_REFUSAL}
+use Rattle.iova_range.specs.declared.limits.TheConstants.{MAX_WORKERS, MAX_CLIENTS, MAX_HOLDINGS, MAX_WINDOWS, MAX_FRAMES, MAX_FLIGHTS, MAX_SERIAL, SAC_LIMIT, ORDERS, MAGAZINE, SMALL_MAGAZINE, MAX_DEPOT, RING_SLOTS, MAX_ENTRIES, MAX_LINE, MAX_STEPS, MAX_READS, MAX_DOMAINS, MAX_REQUESTS, MAX_SESSION_READS, MAX_LISTED, MAX_RUN, MAX_SESSIONS, MAX_SESSION_REQUESTS, MAX_IDLE, FRAME_BYTES, MAX_TRACE_LINE, LAST_DOMAIN_ID, TALLY_PARTS, SEAT_PARTS, DAEMON_DESCRIPTORS, MAX_PAIRS, RECORDED_STEPS, MAX_RECORDED_STEPS, FLUSH_PAUSE, ACCEPT_PAUSE, MAX_ACCEPT_PAUSE, MAX_SINK_TIMEOUT, SINK_TIMEOUT, RETRY_PAUSE, MAX_PEER_WAIT, CONNECT_LOOK, CONNECT_PAUSE, MAX_CONNECT_PAUSE, MAX_FLUSH_PAUSE, MAX_POSTS, DEFAULT_CLIENTS, CONTROL_TIMEOUT, MAX_ANSWER_TIMEOUT, MAX_REFUSAL, MAX_GRANULE, MAX_WATCH_PAUSE}
 use Rattle.iova_range.specs.Frames.{Frames, covers, meets, join}
 use Rattle.iova_range.specs.Sizes.{need, align_of, order_of}
 use Rattle.iova_range.specs.Bounds.{Capacities, first_profile, second_profile, IsProfile, AreBounds}
@@ -81,7 +81,7 @@ limits_of_traces_and_sessions = refl
 limits_of_served_sessions : MAX_SESSION_REQUESTS ∷ MAX_IDLE ∷ [] ≡ 9223372036854775807 ∷ 86400 ∷ []
 limits_of_served_sessions = refl
 
-limits_of_kernel_traces : FRAME_BYTES ∷ MAX_TRACE_LINE ∷ LAST_DOMAIN_ID ∷ [] ≡ 4096 ∷ 1024 ∷ 65535 ∷ []
+limits_of_kernel_traces : FRAME_BYTES ∷ MAX_GRANULE ∷ MAX_TRACE_LINE ∷ LAST_DOMAIN_ID ∷ [] ≡ 4096 ∷ 2097152 ∷ 1024 ∷ 65535 ∷ []
 limits_of_kernel_traces = refl
 
 limits_of_daemons : TALLY_PARTS ∷ SEAT_PARTS ∷ DAEMON_DESCRIPTORS ∷ MAX_PAIRS ∷ RECORDED_STEPS ∷ MAX_RECORDED_STEPS ∷ FLUSH_PAUSE ∷ ACCEPT_PAUSE ∷ MAX_ACCEPT_PAUSE ∷ []
@@ -92,8 +92,8 @@ limits_of_answering_sinks : MAX_SINK_TIMEOUT ∷ SINK_TIMEOUT ∷ RETRY_PAUSE �
     ≡ 3600 ∷ 10 ∷ 1000 ∷ 3600 ∷ 20 ∷ 10 ∷ 1000 ∷ 1000 ∷ []
 limits_of_answering_sinks = refl
 
-limits_of_clients_and_control : MAX_POSTS ∷ DEFAULT_CLIENTS ∷ CONTROL_TIMEOUT ∷ MAX_ANSWER_TIMEOUT ∷ MAX_REFUSAL ∷ []
-    ≡ 1024 ∷ 64 ∷ 10 ∷ 86400 ∷ 25 ∷ []
+limits_of_clients_and_control : MAX_POSTS ∷ DEFAULT_CLIENTS ∷ CONTROL_TIMEOUT ∷ MAX_ANSWER_TIMEOUT ∷ MAX_WATCH_PAUSE ∷ MAX_REFUSAL ∷ []
+    ≡ 1024 ∷ 64 ∷ 10 ∷ 86400 ∷ 3600 ∷ 25 ∷ []
 limits_of_clients_and_control = refl
 
 -- Profiles and bounds.

@@ -16,6 +16,9 @@ pub const MAX_WINDOWS: usize = 64;
 /// The bytes of a page frame (`PAGE_SIZE` of Linux 5.15 on x86_64).
 pub const FRAME_BYTES: u64 = 4_096;
 
+/// The most bytes of a frame, where a domain's is another: a large page's.
+pub const MAX_GRANULE: u64 = 2_097_152;
+
 /// The most frames of one request.
 pub const MAX_FRAMES: u64 = 1_048_576;
 
@@ -195,6 +198,9 @@ pub const CONTROL_TIMEOUT: u64 = 10;
 
 /// The greatest time that whoever asks a daemon may give it to answer, in seconds: a day.
 pub const MAX_ANSWER_TIMEOUT: u64 = 86_400;
+
+/// The most seconds between two looks of whoever watches a daemon: an hour.
+pub const MAX_WATCH_PAUSE: u64 = 3_600;
 
 /// How often a folder's lock is tried, with a pause after each time: a second in all.
 pub const FOLDER_LOOKS: u64 = 100;

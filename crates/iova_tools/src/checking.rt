@@ -1,4 +1,7 @@
 //! A log, or a kernel's trace, checked as the words ask for it.
+ghost use Rattle.std.specs.Prelude.{OnOk};
+ghost use Rattle.iova_check.specs.Runs.{Checks};
+ghost use Rattle.iova_tools.specs.Sound.{ChecksSound, form_of};
 ghost use Rattle.iova_tools.specs.Verdicts.{EndsCheck};
 
 use crate::fault::Fault;
@@ -8,6 +11,7 @@ use iova_check::allowed::Asked;
 use iova_check::checker::Checker;
 use iova_check::counts::Counts;
 use iova_check::fault::CheckFault;
+use iova_check::law::promise_is_told;
 use iova_check::run::{check, check_trace, write_counts};
 use iova_command::check_plan::CheckPlan;
 use iova_command::words::STANDARD_INPUT;
@@ -61,13 +65,20 @@ fn widest() -> Bounds {
     }
 }
 
-/// Checks what comes from this reader.
+/// Checks what comes from this reader. It ends without a fault only where all bytes were read, some
+/// line maps frames, each frame of each such line may be mapped, and none of them was given out
+/// again while a device might still reach it.
 fn check_from<'a, R: Runtime + AllocGlobal, I: Read>(
     rt: &R,
     reader: &mut I,
     plan: &CheckPlan<'a>,
     windows: &Windows,
-) -> Result<(), Fault<'a>> {
+) -> Result<(), Fault<'a>>
+    ensures { OnOk result (ChecksSound plan.now windows.now (I.remaining reader.old)
+        (I.remaining reader.new)) }
+{
+    // for the proof: what a finding of a line says of the lines before it
+    promise_is_told();
     let asked = Asked {
         first: plan.first,
         last: plan.last,
@@ -114,7 +125,11 @@ fn checked_by<R: Runtime + AllocGlobal, I: Read, W: Write>(
     asked: &Asked<'_>,
     reader: &mut I,
     writer: &mut W,
-) -> Result<Checker, CheckFault> {
+) -> Result<Checker, CheckFault>
+    ensures { Checks (record { form = form_of plan.now.ftrace plan.now.did; asked = asked.now })
+        (I.remaining reader.old) (I.remaining reader.new)
+        (W.contents writer.old) (W.contents writer.new) result }
+{
     let mut notices = Notices { rt };
     if plan.ftrace {
         check_trace(rt.alloc(), asked, plan.did, reader, writer, &mut notices)

@@ -45,7 +45,7 @@ where
 }
 
 /// Sends the word, and takes all that comes within the time.
-fn asked<R: Net + Clock>(
+pub(crate) fn asked<R: Net + Clock>(
     rt: &R,
     path: &str,
     word: ControlWord,
@@ -67,7 +67,7 @@ fn asked<R: Net + Clock>(
 
 /// What is to be printed of the answer: all behind its first line, which has the word and how many
 /// lines follow, or `stopping`. None where it is neither, or isn't whole.
-fn told(answer: &[u8], word: ControlWord) -> Option<&[u8]> {
+pub(crate) fn told(answer: &[u8], word: ControlWord) -> Option<&[u8]> {
     if word == ControlWord::Stop {
         return if answer == b"stopping\n".as_slice() {
             Some(answer)

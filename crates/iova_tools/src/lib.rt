@@ -10,4 +10,6 @@ pub mod fault;
 pub mod outcome;
 pub mod regions;
 pub mod replaying;
+mod sight;
 pub mod verdict;
+pub mod watching;

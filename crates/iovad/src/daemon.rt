@@ -38,7 +38,7 @@ use iova_lock::shared::Shared;
 use iova_planned::domain::new_domain;
 use iova_planned::seats::clients_of;
 use iova_range::bounds::Bounds;
-use iova_range::limits::{MAX_SESSION_REQUESTS, STOP_PAUSE};
+use iova_range::limits::{FRAME_BYTES, MAX_SESSION_REQUESTS, STOP_PAUSE};
 use iova_range::profile::Profile;
 use iova_range::refusal::Refusal;
 use iova_regions::region::Counted;
@@ -206,6 +206,7 @@ where
 fn facts_of(plan: &Plan<'_>, clients: u64) -> Facts {
     let mut facts = Facts::new(VERSION, plan.workers);
     facts.clients = clients;
+    facts.granule = plan.granule.unwrap_or(FRAME_BYTES);
     facts.has_peer = has_peer(plan);
     facts.is_recorded = plan.record.is_some();
     facts

@@ -18,6 +18,7 @@ use iova_tools::checking::check_planned;
 use iova_tools::controlling::control;
 use iova_tools::fault::Fault;
 use iova_tools::replaying::replay;
+use iova_tools::watching::{Watch, watch};
 use log::Log;
 use std::fs::File;
 use std::io::IsTerminal;
@@ -64,6 +65,20 @@ where
             word,
             timeout,
         } => control(rt, path, word, timeout),
+        Asked::Watch {
+            path,
+            seconds,
+            is_top,
+            timeout,
+        } => {
+            let how = Watch {
+                seconds: seconds.unwrap_or(1),
+                is_top,
+                is_at_terminal: is_by_hand,
+                timeout,
+            };
+            watch(rt, path, how)
+        }
     }
 }
 

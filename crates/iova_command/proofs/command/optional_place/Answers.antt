@@ -1,7 +1,7 @@
 use Rattle.std.proofs.Common.{rules, ◌∙◌, ap, Some, w64}
 use Rattle.std.proofs.Math.Facts.{to_z_pos}
 use Rattle.iova_command.proofs.Builders.{narrowed}
-use Rattle.iova_command.proofs.command.optional_number.Goals as goal
+use Rattle.iova_command.proofs.command.optional_place.Goals as goal
 
 pub returns-clause-rule : goal.returns-clause-rule
 returns-clause-rule c =

@@ -27,4 +27,5 @@ returns c =
     let regions = with_one _ _ _ c.with_arg-command-18.result c.optional_path-4.result reserved c.optional_path-4.ensures.rule c.optional_path-4.ensures.local c.with_arg-command-18.ensures in
     let timeout = with_one _ _ _ c.with_arg-command-19.result c.optional_number-12.result regions c.optional_number-12.ensures.rule c.optional_number-12.ensures.local c.with_arg-command-19.ensures in
     let level = with_one _ _ _ c.with_arg-command-20.result c.optional_path-5.result timeout c.optional_path-5.ensures.rule c.optional_path-5.ensures.local c.with_arg-command-20.ensures in
-    with_one _ _ _ c.with_arg.result c.optional_path-6.result level c.optional_path-6.ensures.rule c.optional_path-6.ensures.local c.with_arg.ensures
+    let control = with_one _ _ _ c.with_arg-command-21.result c.optional_path-6.result level c.optional_path-6.ensures.rule c.optional_path-6.ensures.local c.with_arg-command-21.ensures in
+    with_one _ _ _ c.with_arg.result c.optional_number-13.result control c.optional_number-13.ensures.rule c.optional_number-13.ensures.local c.with_arg.ensures

@@ -10,14 +10,6 @@ returns-in_ok-optional-in-ask c = (
   c.in_ok-optional-in-ask.ensures.read,
 )
 
-pub returns-in_ok-optional-in-control : goal.returns-in_ok-optional-in-control
-returns-in_ok-optional-in-control c = (
-  search rules,
-  text_read (found_of c.args.found.now) _ c.get_str-in-control.result c.in_ok-get_str-in-control.field-0 c.get_str-in-control.ensures c.in_ok-get_str-in-control.was,
-  c.in_ok-control_word-in-control.ensures,
-  c.in_ok-optional-in-control.ensures.read,
-)
-
 pub returns-in_ok-get_str-in_default : goal.returns-in_ok-get_str-in_default
 returns-in_ok-get_str-in_default c = (
   search rules,

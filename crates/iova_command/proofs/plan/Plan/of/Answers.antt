@@ -24,4 +24,5 @@ returns c = record {
   sink_timeout = c.in_ok-optional-7.ensures.read;
   log_level = c.in_ok-level.ensures;
   control = optional_text_read (found_of c.args.found.now) _ c.get_str-4.result c.get_str-4.ensures;
+  granule = c.in_ok-granule.ensures.read;
 }
