@@ -1,10 +1,10 @@
 -- A log of which nothing was told is sound.
 use Rattle.std.proofs.Common.{ℕ, zero, suc, ◌≡◌, ◌∙◌, ◌+◌, ◌<◌, ◌≤◌, Bool, true, false, inl, inr, List, [], ◌∷◌, Option, Some, None, Result, Ok, Err, refl, sym, ap, subst, arith}
-use Rattle.std.specs.Prelude.{◌≢◌, ◌⊎◌, ◌==◌, nat_lt, nat_le, OnOk, ⊤}
+use Rattle.std.specs.Prelude.{◌≢◌, ◌⊎◌, ◌==◌, ◌||◌, if◌then◌else◌, nat_lt, nat_le, OnOk, ⊤}
 use Rattle.std.specs.Borrow.{Bor}
 use Rattle.std.specs.List.{list_any}
-use Rattle.std.proofs.lemmas.Bool.{and_parts, cases_eq, cond-false, cond-true, eq-eqb, leb-true, ltb-true, ne_eqb}
-use Rattle.iova_range.specs.Frames.{covers}
+use Rattle.std.proofs.lemmas.Bool.{and_parts, both_ways, cases_eq, cond-false, cond-true, eq-eqb, leb-true, lt-ltb, ltb-true, ne_eqb}
+use Rattle.iova_range.specs.Frames.{Frames, covers}
 use Rattle.iova_check.specs.declared.checker.Checker.{Checker}
 use Rattle.iova_check.specs.declared.event.Event.{Event}
 use Rattle.iova_check.specs.declared.event.Event.TheVariants as event
@@ -24,8 +24,10 @@ use Rattle.iova_check.specs.History.{flight_of, next_line, stage_of}
 use Rattle.iova_check.specs.Output.{IsTold}
 use Rattle.iova_check.specs.Promise.{IsKeptAt, IsLine, PromiseIsTold, is_line, lines_before, maps}
 use Rattle.iova_check.specs.Runs.{AreRead, Checks}
-use Rattle.iova_tools.specs.Sound.{IsSound, ReadsSound}
-use Rattle.iova_tools.specs.Verdicts.{EndsCheck, ends_with, fault_of_verdict, verdict_of}
+use Rattle.iova_command.specs.declared.check_plan.CheckPlan.{CheckPlan}
+use Rattle.iova_tools.specs.Sound.{ChecksSound, IsAskedBy, IsSound, ReadsSound}
+use Rattle.iova_tools.specs.Verdicts.{EndsCheck, ends_with, fault_of_verdict, has_gap, verdict_of}
+use Rattle.iova_tools.specs.declared.verdict.Verdict.TheVariants as verdict
 use Rattle.iova_tools.specs.declared.fault.Fault.{Fault}
 
 -- The newest line
@@ -114,15 +116,34 @@ sound_lines law bounds (e ∷ past) text found told none f n is =
 
 -- The end of a check
 
-counts_of_sound : (findings maps lost too_long : ℕ) → Ok tt ≡ ends_with (fault_of_verdict (verdict_of findings maps lost too_long))
-    → (findings ≡ 0) × (maps ≢ 0) × (lost ≡ 0) × (too_long ≡ 0)
-counts_of_sound (suc findings) maps lost too_long is = absurd cc
-counts_of_sound zero zero lost too_long is = absurd cc
-counts_of_sound zero (suc maps) (suc lost) too_long is = absurd cc
-counts_of_sound zero (suc maps) zero (suc too_long) is = absurd cc
-counts_of_sound zero (suc maps) zero zero is = (refl, λ none. absurd (omega arith), refl, refl)
+sound_flags : (found gap : Bool) → Ok tt ≡ ends_with (fault_of_verdict (if found then verdict.Found else (if gap then verdict.Incomplete else verdict.Sound)))
+    → (found ≡ false) × (gap ≡ false)
+sound_flags true gap is = absurd cc
+sound_flags false true is = absurd cc
+sound_flags false false is = (refl, refl)
 
-pub sound_end : PromiseIsTold → (source : Source) (input left output filled : Option (List ℕ)) (checked : Result Checker CheckFault) (told : Result Bool CheckFault)
+neither_flag : (a b : Bool) → (a || b) ≡ false → (a ≡ false) × (b ≡ false)
+neither_flag true b is = absurd cc
+neither_flag false true is = absurd cc
+neither_flag false false is = (refl, refl)
+
+none_below : (n : ℕ) → nat_lt 0 n ≡ false → n ≡ 0
+none_below zero is = refl
+none_below (suc n) is = absurd (both_ways (nat_lt 0 (suc n)) is (lt-ltb 0 (suc n) (omega arith)))
+
+counts_of_sound : (findings mapped lost too_long : ℕ) → Ok tt ≡ ends_with (fault_of_verdict (verdict_of findings mapped lost too_long))
+    → (findings ≡ 0) × (mapped ≢ 0) × (lost ≡ 0) × (too_long ≡ 0)
+counts_of_sound findings mapped lost too_long is =
+    let flags = sound_flags (nat_lt 0 findings) (has_gap mapped lost too_long) is in
+    let gaps = neither_flag (mapped == 0) (nat_lt 0 lost || nat_lt 0 too_long) flags.1 in
+    let rest = neither_flag (nat_lt 0 lost) (nat_lt 0 too_long) gaps.1 in (
+      none_below findings flags.0,
+      λ none. both_ways (mapped == 0) gaps.0 (eq-eqb mapped 0 none),
+      none_below lost rest.0,
+      none_below too_long rest.1,
+    )
+
+sound_end : PromiseIsTold → (source : Source) (input left output filled : Option (List ℕ)) (checked : Result Checker CheckFault) (told : Result Bool CheckFault)
     (ended : Result ⊤ Fault) (path : Bor (List ℕ)) → Checks source input left output filled checked → EndsCheck path checked told ended
     → OnOk ended (ReadsSound source input left)
 sound_end law source input left output filled checked told (Err e) path checks ends = tt
@@ -150,3 +171,14 @@ sound_end law source input left output filled (Ok c) (Ok found) (Ok u) path chec
         none_too_long = sym counted.too_long ∙ sound.3;
       };
     }
+
+asked_by : (plan : CheckPlan) (windows : List Frames) (source : Source) (input left : Option (List ℕ)) (ended : Result ⊤ Fault) → IsAskedBy plan windows source
+    → OnOk ended (ReadsSound source input left) → OnOk ended (ChecksSound plan windows input left)
+asked_by plan windows source input left (Err e) asked reads = tt
+asked_by plan windows source input left (Ok u) asked reads = record { source = source; asked = asked; reads = reads }
+
+pub checks_sound : PromiseIsTold → (plan : CheckPlan) (windows : List Frames) (source : Source) (input left output filled : Option (List ℕ))
+    (checked : Result Checker CheckFault) (told : Result Bool CheckFault) (ended : Result ⊤ Fault) (path : Bor (List ℕ)) → IsAskedBy plan windows source
+    → Checks source input left output filled checked → EndsCheck path checked told ended → OnOk ended (ChecksSound plan windows input left)
+checks_sound law plan windows source input left output filled checked told ended path asked checks ends =
+    asked_by plan windows source input left ended asked (sound_end law source input left output filled checked told ended path checks ends)

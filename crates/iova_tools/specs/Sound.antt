@@ -44,7 +44,7 @@ pub record IsAskedBy (plan : CheckPlan) (windows : List Frames) (source : Source
   pub form : source.form ≡ form_of plan.ftrace plan.did
   pub first : source.asked.first ≡ plan.first
   pub last : source.asked.last ≡ plan.last
-  pub windows : source.asked.windows.now ≡ windows
+  pub kept_out : source.asked.windows.now ≡ windows
 
 -- such a text was read to its end, and is sound
 pub record ChecksSound (plan : CheckPlan) (windows : List Frames)

@@ -1,5 +1,5 @@
 //! A log, or a kernel's trace, checked as the words ask for it.
-ghost use Rattle.std.specs.Prelude.{OnOk};
+ghost use Rattle.std.specs.Prelude.{ℕ, List, OnOk, Option};
 ghost use Rattle.iova_check.specs.Runs.{Checks};
 ghost use Rattle.iova_tools.specs.Sound.{ChecksSound, form_of};
 ghost use Rattle.iova_tools.specs.Verdicts.{EndsCheck};
@@ -84,19 +84,32 @@ fn check_from<'a, R: Runtime + AllocGlobal, I: Read>(
         last: plan.last,
         windows: windows.ranges(),
     };
-    let mut output = io::writer(rt);
-    let checked = if plan.quiet {
-        checked_by(rt, plan, &asked, reader, &mut io::sink())
-    } else {
-        checked_by(rt, plan, &asked, reader, &mut output)
-    };
-    let told = write_counts(&checked, &mut output);
+    let checked = checked_here(rt, plan, &asked, reader);
+    let told = write_counts(&checked, &mut io::writer(rt));
     if let Ok(checker) = &checked {
         tell_gaps(rt, plan, &checker.counts);
     }
     let ended = end_of_check(&checked, told, plan.path);
     drop(checked);
     ended
+}
+
+/// Checks it, and prints the findings where they are wanted.
+fn checked_here<R: Runtime + AllocGlobal, I: Read>(
+    rt: &R,
+    plan: &CheckPlan<'_>,
+    asked: &Asked<'_>,
+    reader: &mut I,
+) -> Result<Checker, CheckFault>
+    ensures { (output : Option (List ℕ)) × (filled : Option (List ℕ))
+        × Checks (record { form = form_of plan.now.ftrace plan.now.did; asked = asked.now })
+        (I.remaining reader.old) (I.remaining reader.new) output filled result }
+{
+    if plan.quiet {
+        checked_by(rt, plan, asked, reader, &mut io::sink())
+    } else {
+        checked_by(rt, plan, asked, reader, &mut io::writer(rt))
+    }
 }
 
 /// What ends a check: the fault that it or the writing of its counts met, else what its counts come

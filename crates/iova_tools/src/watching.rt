@@ -35,7 +35,7 @@ const CLEAR_BELOW: &str = "\x1b[J";
 
 /// How a daemon is watched.
 #[derive(Clone, Copy)]
-pub struct Watch {
+pub struct WatchPlan {
     /// How many seconds are between two looks.
     pub seconds: u64,
     /// Whether each look has a screen of its own; else it has a line.
@@ -50,33 +50,33 @@ pub struct Watch {
 /// one look to the next, a second's part of it, until the daemon ends. Each look is a connection of
 /// its own. Refused by `SocketFault` where nobody answers at the first look, or not in time, or not
 /// as asked; by `CannotWrite`, and by `NoMemory`.
-pub fn watch<R>(rt: &R, path: &str, watch: Watch) -> Result<(), Fault<'static>>
+pub fn watch<R>(rt: &R, path: &str, plan: WatchPlan) -> Result<(), Fault<'static>>
 where
     R: Runtime + AllocGlobal + Net + Log,
 {
     let mut answer = Vec::new(rt.alloc());
     let mut text = String::new(rt.alloc());
-    let Some(mut before) = look(rt, path, watch, &mut answer, false)? else {
+    let Some(mut before) = look(rt, path, plan, &mut answer, false)? else {
         return Err(Fault::SocketFault);
     };
     for line in 0..u64::MAX {
-        thread::sleep(rt, Duration::from_secs(watch.seconds));
-        let Some(now) = look(rt, path, watch, &mut answer, true)? else {
+        thread::sleep(rt, Duration::from_secs(plan.seconds));
+        let Some(now) = look(rt, path, plan, &mut answer, true)? else {
             return Ok(());
         };
         text.clear();
-        if watch.is_top {
+        let put = if plan.is_top {
             answer.clear();
-            let Some(sessions) = answered(rt, path, ControlWord::Sessions, watch, &mut answer)?
+            let Some(sessions) = answered(rt, path, ControlWord::Sessions, plan, &mut answer)?
             else {
                 return Ok(());
             };
-            put_screen(&mut text, path, watch, before, now, sessions)?;
+            put_screen(&mut text, path, plan, before, now, sessions)
         } else {
-            if line % LINES == 0 {
-                writeln!(text, "{RATES}{STATE}")?;
-            }
-            put_line(&mut text, before, now)?;
+            put_lines(&mut text, line % LINES == 0, before, now)
+        };
+        if put.is_err() {
+            return Err(Fault::NoMemory);
         }
         if io::writer(rt).write_all(text.as_bytes()).is_err() {
             return Err(Fault::CannotWrite);
@@ -90,7 +90,7 @@ where
 fn look<R>(
     rt: &R,
     path: &str,
-    watch: Watch,
+    plan: WatchPlan,
     answer: &mut Vec<u8>,
     was_there: bool,
 ) -> Result<Option<Sight>, Fault<'static>>
@@ -99,9 +99,9 @@ where
 {
     answer.clear();
     let found = if was_there {
-        answered(rt, path, ControlWord::Metrics, watch, answer)?
+        answered(rt, path, ControlWord::Metrics, plan, answer)?
     } else {
-        first_answer(rt, path, watch, answer)?
+        first_answer(rt, path, plan, answer)?
     };
     let time = match rt.monotonic() {
         Ok(time) => u64::try_from(time.as_millis()).unwrap_or(0),
@@ -114,13 +114,13 @@ where
 fn first_answer<'b, R>(
     rt: &R,
     path: &str,
-    watch: Watch,
+    plan: WatchPlan,
     answer: &'b mut Vec<u8>,
 ) -> Result<Option<&'b str>, Fault<'static>>
 where
     R: Runtime + AllocGlobal + Net + Log,
 {
-    if let Err(error) = asked(rt, path, ControlWord::Metrics, watch.timeout, answer) {
+    if let Err(error) = asked(rt, path, ControlWord::Metrics, plan.timeout, answer) {
         tell_cause(rt, "connect", path, &error);
         return Err(Fault::SocketFault);
     }
@@ -133,13 +133,13 @@ fn answered<'b, R>(
     rt: &R,
     path: &str,
     word: ControlWord,
-    watch: Watch,
+    plan: WatchPlan,
     answer: &'b mut Vec<u8>,
 ) -> Result<Option<&'b str>, Fault<'static>>
 where
     R: Runtime + AllocGlobal + Net + Log,
 {
-    match asked(rt, path, word, watch.timeout, answer) {
+    match asked(rt, path, word, plan.timeout, answer) {
         Ok(()) if answer.is_empty() => Ok(None),
         Ok(()) => text_of(rt, path, word, answer),
         Err(error) if is_end(error.kind()) => Ok(None),
@@ -178,6 +178,19 @@ fn text_of<'b, R: Log>(
     Err(Fault::SocketFault)
 }
 
+/// A line of what was counted, with a header in front where one is due.
+fn put_lines(
+    text: &mut String,
+    has_header: bool,
+    before: Sight,
+    now: Sight,
+) -> Result<(), AllocError> {
+    if has_header {
+        writeln!(text, "{RATES}{STATE}")?;
+    }
+    put_line(text, before, now)
+}
+
 /// What a second has of what was counted between two looks, and what is so now.
 fn put_line(text: &mut String, before: Sight, now: Sight) -> Result<(), AllocError> {
     let rates = now.rates_since(before);
@@ -202,16 +215,16 @@ fn put_line(text: &mut String, before: Sight, now: Sight) -> Result<(), AllocErr
 fn put_screen(
     text: &mut String,
     path: &str,
-    watch: Watch,
+    plan: WatchPlan,
     before: Sight,
     now: Sight,
     sessions: &str,
 ) -> Result<(), AllocError> {
-    let end = if watch.is_at_terminal { CLEAR_LINE } else { "" };
-    if watch.is_at_terminal {
+    let end = if plan.is_at_terminal { CLEAR_LINE } else { "" };
+    if plan.is_at_terminal {
         write!(text, "{HOME}")?;
     }
-    let (served, clients, seconds) = (now.sessions, now.clients, watch.seconds);
+    let (served, clients, seconds) = (now.sessions, now.clients, plan.seconds);
     writeln!(
         text,
         "{path}: {served} of {clients} clients, each {seconds} s{end}"
@@ -220,7 +233,7 @@ fn put_screen(
     put_bars(text, now, end)?;
     put_busiest(text, sessions, end)?;
     put_wrong(text, before, now, end)?;
-    if watch.is_at_terminal {
+    if plan.is_at_terminal {
         write!(text, "{CLEAR_BELOW}")?;
     }
     Ok(())
@@ -269,7 +282,7 @@ fn put_busiest(text: &mut String, sessions: &str, end: &str) -> Result<(), Alloc
         let Some((frames, at)) = most_below(sessions, bound) else {
             break;
         };
-        bound = (frames, at + 1);
+        bound = (frames, at.saturating_add(1));
         let mut words = sessions.lines().nth(at).unwrap_or("").split(' ');
         let worker = words.next().unwrap_or("");
         let client = words.next().unwrap_or("");
@@ -308,9 +321,8 @@ fn most_below(sessions: &str, bound: (u64, usize)) -> Option<(u64, usize)> {
 /// What is wrong, and what is to be done.
 fn put_wrong(text: &mut String, before: Sight, now: Sight, end: &str) -> Result<(), AllocError> {
     let rates = now.rates_since(before);
-    let free = now.places[0]
-        .saturating_add(now.places[3])
-        .saturating_add(now.places[4]);
+    let [free, _, _, magazine, depot, _] = now.places;
+    let left = free.saturating_add(magazine).saturating_add(depot);
     let wrongs = [
         (
             now.owed > 0 || now.failed > before.failed,

@@ -18,7 +18,7 @@ use iova_tools::checking::check_planned;
 use iova_tools::controlling::control;
 use iova_tools::fault::Fault;
 use iova_tools::replaying::replay;
-use iova_tools::watching::{Watch, watch};
+use iova_tools::watching::{WatchPlan, watch};
 use log::Log;
 use std::fs::File;
 use std::io::IsTerminal;
@@ -71,7 +71,7 @@ where
             is_top,
             timeout,
         } => {
-            let how = Watch {
+            let how = WatchPlan {
                 seconds: seconds.unwrap_or(1),
                 is_top,
                 is_at_terminal: is_by_hand,
