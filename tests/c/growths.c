@@ -78,35 +78,46 @@ static int is_whole(iova_domain *domain, iova_cache *cache, uint64_t client) {
     return !counts.refused && iova_client_of(domain, client).holdings == ranges;
 }
 
-static iova_range take(iova_domain *domain, iova_cache *cache, uint64_t frames) {
-    iova_range range = iova_cache_alloc(cache, frames, IOVA_NO_LIMIT);
-    if (range.refused == IOVA_DRY) {
-        iova_number came = iova_cache_refill(domain, cache, frames, IOVA_NO_LIMIT, 8);
-        range.refused = came.refused;
-        if (!came.refused)
-            range = iova_cache_alloc(cache, frames, IOVA_NO_LIMIT);
-    }
-    return range;
-}
+/* The calls of a cache that may be refused memory, and how often each was. */
+enum { MAKE, REFILL, ALLOC, MAP, ALLOC_BY, APART, KEEP, CALLS };
+static const char *const names[CALLS] = {"make", "refill", "alloc", "map", "alloc_by", "apart", "keep"};
+static long refused_of[CALLS];
 
-/* A cache of the domain, and one whose domain is elsewhere. */
-static int run_cache(iova_domain *domain) {
+#define AGAIN_OF(which, answer, call)                                                                                          \
+    do {                                                                                                                       \
+        long before_it = refusals;                                                                                             \
+        AGAIN(answer, call);                                                                                                   \
+        refused_of[which] += refusals - before_it;                                                                             \
+    } while (0)
+
+/* A cache of the domain, whose user takes ranges by one of its calls and gives all of them up. */
+static int run_cache(iova_domain *domain, int by) {
     enum { HELD = 300 };
-    iova_cache cache, apart;
+    iova_cache cache;
     iova_number client, count;
     iova_range range;
-    uint64_t held[HELD], refused;
+    iova_mapping mapping;
+    uint64_t held[HELD];
     iova_cache_init(&cache);
-    iova_cache_init(&apart);
-    AGAIN(client, iova_cache_make(domain, &cache, 0, 0));
-    if (iova_counts_of(domain).clients != 1)
+    uint64_t clients = iova_counts_of(domain).clients;
+    AGAIN_OF(MAKE, client, iova_cache_make(domain, &cache, 0, 0));
+    if (iova_counts_of(domain).clients != clients + 1)
         return fails("a client of a cache that wasn't made", iova_counts_of(domain).clients);
     for (int at = 0; at < HELD; at++) {
-        if (at % 5)
-            AGAIN(range, take(domain, &cache, 1 + (uint64_t)at % 8));
-        else
-            AGAIN(range, iova_cache_alloc_by(domain, &cache, 9, IOVA_NO_LIMIT));
-        held[at] = range.lo;
+        int order = at % 4;
+        uint64_t frames = 1u << order;
+        if (by != ALLOC_BY && iova_cache_counts_of(&cache).magazines[order] == 0)
+            AGAIN_OF(REFILL, count, iova_cache_refill(domain, &cache, frames, IOVA_NO_LIMIT, 8));
+        if (by == MAP) {
+            AGAIN_OF(MAP, mapping, iova_cache_map(&cache, 4096 * frames, UINT64_MAX));
+            held[at] = mapping.address / 4096;
+        } else {
+            if (by == ALLOC)
+                AGAIN_OF(ALLOC, range, iova_cache_alloc(&cache, frames, IOVA_NO_LIMIT));
+            else
+                AGAIN_OF(ALLOC_BY, range, iova_cache_alloc_by(domain, &cache, frames, IOVA_NO_LIMIT));
+            held[at] = range.lo;
+        }
         if (!is_whole(domain, &cache, client.number))
             return fails("ranges that are lost", (uint64_t)at);
     }
@@ -124,16 +135,46 @@ static int run_cache(iova_domain *domain) {
     count = iova_cache_spill(domain, &cache, 0, 64);
     if (count.refused || growths != before || !is_whole(domain, &cache, client.number))
         return fails("a call that takes no memory", count.refused);
-    if (iova_cache_apart(&apart, 0) && (refusals++, refused = iova_cache_apart(&apart, 0)))
-        return fails("apart", refused);
-    for (uint64_t at = 0; at < HELD; at++)
-        if (iova_cache_keep(&apart, 64 * at, 40) && (refusals++, refused = iova_cache_keep(&apart, 64 * at, 40)))
-            return fails("keep", refused);
-    if (iova_cache_counts_of(&apart).held != HELD)
-        return fails("what is kept", iova_cache_counts_of(&apart).held);
-    iova_cache_clear(&apart);
     count = iova_cache_end(domain, &cache);
-    return count.refused ? fails("end", count.refused) : 0;
+    if (count.refused)
+        return fails("end", count.refused);
+    while (iova_client_of(domain, client.number).refused == 0) {
+        range = iova_close_one(domain, 0, client.number);
+        if (range.refused == IOVA_RING_FULL) {
+            iova_end(domain, iova_begin(domain).number, 1);
+            iova_drain(domain, 0, 0);
+        } else if (range.refused)
+            return fails("close", range.refused);
+    }
+    return 0;
+}
+
+/* A call that answers a refusal alone, again where it was refused memory. */
+#define AGAIN_ALONE(which, call)                                                                                               \
+    do {                                                                                                                       \
+        uint64_t refused_first = call;                                                                                         \
+        if (refused_first == IOVA_NO_MEMORY) {                                                                                 \
+            refusals++;                                                                                                        \
+            refused_of[which]++;                                                                                               \
+            refused_first = call;                                                                                              \
+        }                                                                                                                      \
+        if (refused_first)                                                                                                     \
+            return fails(#call, refused_first);                                                                                \
+    } while (0)
+
+/* A cache whose domain is elsewhere. */
+static int run_apart(void) {
+    enum { HELD = 300 };
+    iova_cache cache;
+    iova_cache_init(&cache);
+    AGAIN_ALONE(APART, iova_cache_apart(&cache, 0));
+    for (uint64_t at = 0; at < HELD; at++) {
+        AGAIN_ALONE(KEEP, iova_cache_keep(&cache, 64 * at, 40));
+        if (iova_cache_counts_of(&cache).held != at + 1)
+            return fails("what is kept", iova_cache_counts_of(&cache).held);
+    }
+    iova_cache_clear(&cache);
+    return 0;
 }
 
 int main(void) {
@@ -142,7 +183,7 @@ int main(void) {
         iova_domain *domain = iova_domain_new();
         if (domain == NULL)
             continue;
-        int failed = run(domain) || run_cache(domain);
+        int failed = run(domain) || run_cache(domain, ALLOC) || run_cache(domain, MAP) || run_cache(domain, ALLOC_BY) || run_apart();
         iova_domain_free(domain);
         if (failed)
             return 1;
@@ -153,6 +194,11 @@ int main(void) {
         if (growths < refuse_at)
             break;
     }
+    for (int call = 0; call < CALLS; call++)
+        if (refused_of[call] == 0) {
+            printf("growths: no growth was refused in %s of a cache\n", names[call]);
+            return 1;
+        }
     if (refusals < 20) {
         printf("growths: only %ld refusals\n", refusals);
         return 1;

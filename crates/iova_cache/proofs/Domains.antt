@@ -1,20 +1,21 @@
 -- What a request and an unmap make of what their client holds.
-use Rattle.std.proofs.Common.{◌≡◌, ◌≢◌, ◌+◌, ◌==◌, ℕ, Bool, true, false, cond, List, [], ◌∷◌, ◌++◌, Option, Some, None, find, refl, sym, ap, ◌∙◌, arith, sum_by}
+use Rattle.std.proofs.Common.{◌≡◌, ◌+◌, ◌==◌, ◌<◌, ◌≤◌, if◌then◌else◌, ℕ, Bool, true, false, cond, List, [], ◌∷◌, Option, Some, None, find, refl, sym, ap, ◌∙◌, arith, sum_by}
 use Rattle.std.proofs.lemmas.Bool.Decides.{nat_tests}
 use Rattle.std.proofs.lemmas.List.Sums.{sum_by-cons}
 use Rattle.iova_range.specs.declared.refusal.Refusal.{Refusal}
 use Rattle.iova_range.specs.Frames.{Frames}
 use Rattle.iova_range.specs.Sizes.{need}
 use Rattle.iova_model.specs.declared.step.Step.TheVariants as step
-use Rattle.iova_model.specs.declared.step.Reply.{Reply}
 use Rattle.iova_model.specs.declared.step.Reply.TheVariants as reply
 use Rattle.iova_model.specs.declared.step.Point.{Point}
 use Rattle.iova_model.specs.Clients.{Client, client_with, client_of, change_client, with_holding, without_holding, begins_at}
 use Rattle.iova_model.specs.State.{State}
+use Rattle.iova_model.specs.Valid.{IsValid, Rises}
 use Rattle.iova_model.specs.Next
 use Rattle.iova_model.specs.Effects.{held_in, held_by}
-use Rattle.iova_model.proofs.Unless.{AllFail, unless_cases}
+use Rattle.iova_model.proofs.Unless.{unless_cases}
 use Rattle.iova_laws.proofs.Finds.{owned, changed_found, walk_walked}
+use Rattle.iova_laws.proofs.Kept.{found_valid}
 use Rattle.iova_laws.proofs.Weights.{ranges_are, ranges-insert, ranges-remove}
 use Rattle.iova_core.specs.Domain.{IsStepOf}
 
@@ -136,3 +137,49 @@ queued_held weigh s t w id lo q st =
     let at_old = ap (λ l. sum_by weigh l) old in
     let at_new = ap (λ l. sum_by weigh l) new in
     (omega (arith, less, a, b, at_old, at_new), at)
+
+-- A range of a client is told by its first frame.
+
+abbrev is_range : Frames → Frames → ℕ
+is_range r x = if x.lo == r.lo then (if x.len == r.len then 1 else 0) else 0
+
+one_range : (x r : Frames) → x.lo ≡ r.lo → x.len ≡ r.len → x ≡ r
+one_range x r lo len = ap (λ (n : ℕ). record { lo = n; len = x.len }) lo ∙ ap (λ (n : ℕ). record { lo = r.lo; len = n }) len
+
+none_above : (r : Frames) (from : ℕ) (xs : List Frames) → Rises from xs → r.lo < from → sum_by (is_range r) xs ≡ 0
+none_above r from [] rises lt = refl
+none_above r from (x ∷ xs) rises lt =
+    let rest = none_above r (x.lo + 1) xs rises.1 (omega (arith, rises.0)) in
+    let more = sum_by-cons (is_range r) x xs in
+    let low = rises.0 in
+    grind (arith, nat_tests)
+
+one_found : (lo : ℕ) (q r : Frames) (from : ℕ) (xs : List Frames) → Rises from xs → find (begins_at lo) xs ≡ Some q → r.lo ≡ lo → 1 ≤ sum_by (is_range r) xs → q ≡ r
+one_found lo q r from [] rises found at some = absurd (let bad : ◌≡◌ {A = Option Frames} None (Some q) = found in cc)
+one_found lo q r from (x ∷ xs) rises found at some = step (x.lo == lo) refl found (λ rest here. one_found lo q r (x.lo + 1) xs rises.1 rest at here)
+  where
+    step : (b : Bool) → (x.lo == lo) ≡ b → cond b (Some x) (find (begins_at lo) xs) ≡ Some q → (find (begins_at lo) xs ≡ Some q → 1 ≤ sum_by (is_range r) xs → q ≡ r) → q ≡ r
+    step true is here later =
+        let same : x ≡ q = let both : Some x ≡ Some q = here in cc in
+        let begun : x.lo ≡ lo = grind (arith, nat_tests) in
+        let rest = none_above r (x.lo + 1) xs rises.1 (omega (arith, begun, at)) in
+        let more = sum_by-cons (is_range r) x xs in
+        let long : x.len ≡ r.len = grind (arith, nat_tests) in
+        let first : x.lo ≡ r.lo = begun ∙ sym at in
+        sym same ∙ one_range x r first long
+    step false is here later =
+        let more = sum_by-cons (is_range r) x xs in
+        let none : is_range r x ≡ 0 = grind (arith, nat_tests) in
+        later here (omega (arith, more, none, some))
+
+-- what the domain takes back from a client is what the client has there
+pub same_range : (s t : State) (w id lo : ℕ) (q r : Frames) (rest : List Frames) → IsValid s → IsStepOf s (step.Unmap w id lo) (reply.Queued q) t
+    → ((weigh : Frames → ℕ) → sum_by weigh (held_by id s.clients) ≡ weigh r + sum_by weigh rest) → r.lo ≡ lo → q ≡ r
+same_range s t w id lo q r rest valid st has at =
+    let g = queued s w id lo q (sym st.1) in
+    let own = found_valid s.workers id g.client s.clients s.serial g.found valid.clients in
+    let old : held_by id s.clients ≡ g.client.holdings = ap held_in g.found in
+    let same = ap (λ l. sum_by (is_range r) l) old in
+    let self : is_range r r ≡ 1 = grind (arith, nat_tests) in
+    let some : 1 ≤ sum_by (is_range r) g.client.holdings = omega (arith, same, has (is_range r), self) in
+    one_found lo q r 0 g.client.holdings own.rising g.here at some

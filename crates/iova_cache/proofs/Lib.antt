@@ -9,3 +9,7 @@ mod Runs
 mod Waits
 mod Domains
 mod Worlds
+mod Users
+mod Steps
+mod Pending
+mod Reuse

@@ -6,3 +6,4 @@ pub mod Exchanges
 pub mod Apart
 pub mod Laws
 pub mod Worlds
+pub mod Reuse

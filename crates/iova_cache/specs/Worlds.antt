@@ -1,12 +1,14 @@
 -- A domain and any number of caches in front of it, for every list of what is done with them.
-use Rattle.std.specs.Prelude.{ℕ, ◌≡◌, ◌≢◌, ◌⊎◌, Bool, List, [], ◌∷◌, ◌++◌, sum_by, Some}
+use Rattle.std.specs.Prelude.{ℕ, ◌≡◌, ◌≢◌, ◌≤◌, ◌==◌, Bool, true, false, if◌then◌else◌, List, [], ◌∷◌, ◌++◌, sum_by, Some}
 use Rattle.iova_range.specs.declared.refusal.Refusal.{Refusal}
-use Rattle.iova_range.specs.Frames.{Frames}
+use Rattle.iova_range.specs.Frames.{Frames, covers}
 use Rattle.iova_model.specs.declared.step.Step.{Step}
 use Rattle.iova_model.specs.declared.step.Step.TheVariants as step
 use Rattle.iova_model.specs.declared.step.Reply.{Reply}
 use Rattle.iova_model.specs.declared.step.Reply.TheVariants as reply
+use Rattle.iova_model.specs.Clients.{Client}
 use Rattle.iova_model.specs.State.{State}
+use Rattle.iova_model.specs.Valid.{IsValid}
 use Rattle.iova_model.specs.Effects.{client_named, held_by}
 use Rattle.iova_core.specs.Domain.{IsStepOf}
 use Rattle.iova_cache.specs.Caches.{CacheState, ranges_of, new_cache}
@@ -17,12 +19,11 @@ pub record World : Type 0 where
   pub domain : State
   pub caches : List CacheState
 
--- What the client of a cache holds begins where the cache's ranges begin: whatever first frames
--- weigh, they weigh as much. (A range of a client is told apart by its first frame.)
+-- What the client of a cache holds are the cache's ranges, in any order: whatever ranges weigh, they
+-- weigh as much.
 abbrev pub IsBooked : State → CacheState → Type 0
 IsBooked s c =
-    (weigh : ℕ → ℕ) → sum_by (λ r. weigh r.lo) (held_by c.client s.clients)
-    ≡ sum_by (λ r. weigh r.lo) (ranges_of c)
+    (weigh : Frames → ℕ) → sum_by weigh (held_by c.client s.clients) ≡ sum_by weigh (ranges_of c)
 
 abbrev pub AreBooked : State → List CacheState → Type 0
 AreBooked s [] = Unit {0}
@@ -101,9 +102,45 @@ abbrev pub Goes : List Event → World → World → Type 0
 Goes [] w v = v ≡ w
 Goes (e ∷ es) w v = (u : World) × (Happens e w u × Goes es u v)
 
+-- a domain as it may be, and caches each of which has what its client holds
+pub record IsWorld (w : World) : Type 0 where
+  pub valid : IsValid w.domain
+  pub booked : AreBooked w.domain w.caches
+  pub apart : AreApart w.caches
+
 -- Whatever happens, one after another, each cache has what its client holds, and no two are of one
 -- client.
 abbrev pub PlacesAreKept : Type 0
-PlacesAreKept =
-    (es : List Event) (w v : World) → AreBooked w.domain w.caches → AreApart w.caches → Goes es w v
-    → AreBooked v.domain v.caches × AreApart v.caches
+PlacesAreKept = (es : List Event) (w v : World) → IsWorld w → Goes es w v → IsWorld v
+
+-- Who uses what.
+
+-- what the users of caches hold
+abbrev pub held_over : List CacheState → List Frames
+held_over [] = []
+held_over (c ∷ cs) = c.held ++ held_over cs
+
+-- a cache is this client's
+abbrev pub has_cache : ℕ → List CacheState → Bool
+has_cache id [] = false
+has_cache id (c ∷ cs) = if id == c.client then true else has_cache id cs
+
+-- what those clients hold that have no cache
+abbrev pub held_without : List CacheState → List Client → List Frames
+held_without cs [] = []
+held_without cs
+    (x ∷ xs) = if has_cache x.id cs then held_without cs xs else x.holdings ++ held_without cs xs
+
+-- what users hold: those of caches, and the other clients of the domain
+abbrev pub in_use : World → List Frames
+in_use w = held_over w.caches ++ held_without w.caches w.domain.clients
+
+-- whether a range has the frame, as a number
+abbrev pub has_frame : ℕ → Frames → ℕ
+has_frame frame r = if covers frame r then 1 else 0
+
+-- Whatever happens, one after another, each frame is in one range at most of those that users hold.
+abbrev pub FramesHaveOneUser : Type 0
+FramesHaveOneUser =
+    (es : List Event) (w v : World) → IsWorld w → Goes es w v
+    → (frame : ℕ) → sum_by (has_frame frame) (in_use v) ≤ 1

@@ -1,10 +1,12 @@
 //! The laws of a cache: what follows from the definitions of its calls for every list of them. Each
 //! function has a law as its contract, and no body.
 ghost use Rattle.iova_cache.specs.Laws.{RangesAreKept, EntriesWait};
-ghost use Rattle.iova_cache.specs.Worlds.{PlacesAreKept};
+ghost use Rattle.iova_cache.specs.Worlds.{PlacesAreKept, FramesHaveOneUser};
+ghost use Rattle.iova_cache.specs.Reuse.{ReuseOverCachesIsFlushed};
 
 use iova_laws::refusals::refusals_keep_the_state;
-use iova_laws::replies::others_keep_their_holdings;
+use iova_laws::replies::{others_keep_their_holdings, steps_are_answered_in_kind};
+use iova_laws::validity::steps_keep_validity;
 
 /// No range is lost and none is made, whatever is done with a cache, one act after another: what it
 /// has at the end and what went out of it are what it had and what came into it.
@@ -19,12 +21,36 @@ pub fn entries_wait()
 {}
 
 /// Whatever is done with a domain and any number of caches in front of it, one after another, each
-/// cache has what its client holds. The domain keeps its own promises meanwhile, so no frame has
-/// two users.
+/// cache has what its client holds: range by range, at one of its three places. So no frame is lost
+/// between them.
 pub fn places_are_kept()
     ensures { PlacesAreKept }
 {
-    // for the proof: what a step leaves to those whom it doesn't name, and one that is refused
+    // for the proof: what a step leaves to those whom it doesn't name, one that is refused, and that
+    // it keeps a domain as it may be
     others_keep_their_holdings();
     refusals_keep_the_state();
+    steps_keep_validity();
+}
+
+/// A frame has one user at most: it is in one range at most of those that the users of caches hold
+/// and that other clients of the domain hold.
+pub fn frames_have_one_user()
+    ensures { FramesHaveOneUser }
+{
+    places_are_kept();
+}
+
+/// A frame that a user gave up is given to a user again, by whichever cache or by the domain, only
+/// where a flush that began afterwards has ended well. It holds where the caches are told so: a
+/// range that is given up gets a number that is no smaller than that of the last flush that has
+/// begun, and caches are settled by numbers that aren't above that of a flush that has ended well.
+pub fn reuse_over_caches_is_flushed()
+    ensures { ReuseOverCachesIsFlushed }
+{
+    // for the proof: the same of the domain's steps, and that a step has answers of its own kind
+    others_keep_their_holdings();
+    refusals_keep_the_state();
+    steps_keep_validity();
+    steps_are_answered_in_kind();
 }
