@@ -21,7 +21,7 @@ use Rattle.iova_model.specs.declared.step.Reply.TheVariants as reply
 use Rattle.iova_core.specs.Domain.{IsStepOf}
 use Rattle.iova_cache.specs.Exchanges.{request, giving_up, IsAsked, IsDenied, IsOwnRefusal, IsReturned, IsRefilled, IsRefillRefusal, IsSpilled, IsUnspilled}
 use Rattle.iova_c.specs.Answers.{number_answer}
-use Rattle.iova_cache.specs.Apart.{IsPutIn, IsTakenOut, IsKept, IsReleased}
+use Rattle.iova_cache.specs.Apart.{IsPutIn, IsTakenOut, IsKept, IsUnkept, IsReleased}
 use Rattle.iova_c.specs.declared.cached.TheConstants.{NO_CACHE, NO_ORDER, DRY, MISS, FULL}
 use Rattle.iova_c.specs.declared.bytes.TheConstants.{FRAME_BYTES}
 use Rattle.iova_c.specs.declared.answer.RangeAnswer.{RangeAnswer}
@@ -160,6 +160,7 @@ TakeCall (Some c) order a new =
 pub record Keeps (old new : CacheState) (lo len : ℕ) (res : Result (Unit {0}) Refusal)
     : Type 0 where
   pub kept : OnOk res (IsKept old new (record { lo = lo; len = len }))
+  pub refused : IfErr res (IsUnkept old lo len)
   pub unchanged : OnErr res (new ≡ old)
 
 abbrev pub KeepCall : Option CacheState → ℕ → ℕ → ℕ → Option CacheState → Type 0
@@ -275,7 +276,7 @@ SpillCall (Some s) (Some c) order most a t new =
 pub record AllocatesBy (s t : State) (old new : CacheState) (frames limit : ℕ)
     (res : Result Frames Refusal) : Type 0 where
   pub asked : IfOk res (IsAsked old new s t frames limit)
-  pub refused : IfErr res (λ x. (IsOwnRefusal frames x × (new ≡ old) × (t ≡ s))
+  pub refused : IfErr res (λ x. (IsOwnRefusal old frames x × (new ≡ old) × (t ≡ s))
       ⊎ IsDenied old new s t (request old frames limit) x)
 
 abbrev pub AllocByCall : Option State → Option CacheState → ℕ → ℕ → RangeAnswer → Option State

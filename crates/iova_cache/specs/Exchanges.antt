@@ -1,5 +1,5 @@
 -- What a cache and its domain exchange, in one call that has both.
-use Rattle.std.specs.Prelude.{ℕ, ◌≡◌, ◌-◌, ◌<◌, ◌≤◌, ◌⊎◌, List, [], ◌∷◌, ◌++◌, length, min}
+use Rattle.std.specs.Prelude.{ℕ, ◌≡◌, ◌-◌, ◌<◌, ◌≤◌, ◌⊎◌, false, List, [], ◌∷◌, ◌++◌, length, min}
 use Rattle.iova_range.specs.declared.limits.TheConstants.{MAX_FRAMES, MOST_CACHED}
 use Rattle.iova_range.specs.declared.refusal.Refusal.{Refusal}
 use Rattle.iova_range.specs.declared.refusal.Refusal.TheVariants as refusal
@@ -32,11 +32,11 @@ pub record IsAsked (old new : CacheState) (s t : State) (frames limit : ℕ) (r 
   pub client : IsSameClient old new
 
 -- what the cache refuses a request for before it asks the domain
-abbrev pub IsOwnRefusal : ℕ → Refusal → Type 0
-IsOwnRefusal frames refusal.Zero = frames ≡ 0
-IsOwnRefusal frames refusal.TooBig = MAX_FRAMES < frames
-IsOwnRefusal frames refusal.NoMemory = Unit {0}
-IsOwnRefusal frames x = ⊥
+abbrev pub IsOwnRefusal : CacheState → ℕ → Refusal → Type 0
+IsOwnRefusal c frames refusal.Zero = frames ≡ 0
+IsOwnRefusal c frames refusal.TooBig = MAX_FRAMES < frames
+IsOwnRefusal c frames refusal.NoMemory = c.room ≡ false
+IsOwnRefusal c frames x = ⊥
 
 -- It has refused, and the cache has what it had.
 pub record IsDenied (old new : CacheState) (s t : State) (asked : Step) (x : Refusal) : Type 0 where

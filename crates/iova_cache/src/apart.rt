@@ -1,9 +1,9 @@
 //! A cache whose domain is elsewhere, and what is where in a cache.
-ghost use Rattle.std.specs.Prelude.{◌≡◌, ◌≢◌, ◌≤◌, ◌<◌, ◌^◌, ℕ, [], find, length, None, Err, IfOk, OnOk, OnErr, IfSome, IfNone, IsOkUnless};
+ghost use Rattle.std.specs.Prelude.{◌≡◌, ◌≢◌, ◌≤◌, ◌<◌, ◌^◌, ℕ, [], find, length, None, Err, IfErr, OnOk, OnErr, IfSome, IfNone, IfOk, IsOkUnless};
 ghost use Rattle.iova_model.specs.Clients.{begins_at};
 ghost use Rattle.iova_cache.specs.Magazines.{magazine_of};
 ghost use Rattle.iova_cache.specs.Caches.{new_cache};
-ghost use Rattle.iova_cache.specs.Apart.{IsPutIn, IsTakenOut, IsKept, IsReleased};
+ghost use Rattle.iova_cache.specs.Apart.{IsPutIn, IsTakenOut, IsKept, IsUnkept, IsReleased};
 
 use crate::cache::Cache;
 use iova_range::limits::{MAX_FRAMES, MOST_CACHED, ORDERS};
@@ -82,15 +82,24 @@ impl Cache {
     /// two. `NoMemory` where what the user holds can't grow.
     pub fn keep(&mut self, lo: u64, len: u64) -> Result<(), Refusal>
         ensures kept { OnOk result (IsKept self.old self.new (record { lo = lo; len = len })) }
+        ensures refused { IfErr result (IsUnkept self.old lo len) }
         ensures unchanged { OnErr result (self.new ≡ self.old) }
     {
-        if lo >= TOP || len == 0 || len > MAX_FRAMES {
+        if lo >= TOP {
+            return Err(Refusal::BadWindow);
+        }
+        if len == 0 {
+            return Err(Refusal::BadWindow);
+        }
+        if len > MAX_FRAMES {
             return Err(Refusal::BadWindow);
         }
         if len <= MOST_CACHED && order_of(len).is_none() {
             return Err(Refusal::BadWindow);
         }
-        self.make_room()?;
+        let Ok(()) = self.make_room() else {
+            return Err(Refusal::NoMemory);
+        };
         self.held.insert(Range::new(lo, len));
         Ok(())
     }

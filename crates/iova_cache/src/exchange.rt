@@ -148,7 +148,7 @@ impl Cache {
         ensures asked { IfOk result (IsAsked self.old self.new domain.old domain.new frames
             limit) }
         ensures refused { IfErr result (λ x.
-            (IsOwnRefusal frames x × (self.new ≡ self.old) × (domain.new ≡ domain.old))
+            (IsOwnRefusal self.old frames x × (self.new ≡ self.old) × (domain.new ≡ domain.old))
             ⊎ IsDenied self.old self.new domain.old domain.new (request self.old frames limit)
             x) }
     {
