@@ -5,9 +5,9 @@
  *
  * IOVAD is the socket of `iovad serve`, BROKER that of the broker's drivers. The disk is split into so many SHARES,
  * and this driver has the one of this number, from 0 on: WHAT STANDS THERE IS OVERWRITTEN by so many I/Os (ios.h), up
- * to 256 of them in flight, and all that was written is read back. It prints `started` once 192 are in flight, or
- * after ten seconds, and at its end its counts. What the device was seen to use is appended to LOG. At a SIGTERM no
- * further I/O begins, and all is read back.
+ * to 256 of them in flight, and all that was written is read back. It prints `started` and how many are in flight once
+ * those are 200, or after ten seconds, and at its end its counts. What the device was seen to use is appended to LOG.
+ * At a SIGTERM no further I/O begins, and all is read back.
  */
 #define _GNU_SOURCE
 #include "../vfio/client.h"
@@ -22,7 +22,7 @@
 enum {
     BATCH = IOVAD_IN_FLIGHT, /* requests on their way */
     FRAME = 4096,
-    STARTED = 192, /* commands in flight, or so many milliseconds after the first */
+    STARTED = 200, /* commands in flight, or so many milliseconds after the first */
     STARTED_LATE = 10000,
     NO_SPACE = 6, /* of the daemon's refusals: nothing fits now */
 };
@@ -172,7 +172,7 @@ static int turn(struct client *client) {
     int late = nvme_milliseconds() - client->begun > STARTED_LATE;
     if ((client->submitted >= STARTED || late) && !client->has_started) {
         client->has_started = 1;
-        printf("started\n");
+        printf("started %d\n", client->submitted);
         fflush(stdout);
     }
     for (int at = 0; at < client->count; at += BATCH)

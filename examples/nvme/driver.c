@@ -265,13 +265,11 @@ static int begin(struct worker *worker) {
 static int retire(struct worker *worker) {
     struct driver *driver = worker->driver;
     int step = driver->mode == STRICT ? 1 : GATHERED;
-    for (int at = 0; at < worker->count && driver->mode != STATIC; at += step) {
-        int count = worker->count - at < step ? worker->count - at : step;
-        for (int which = at; which < at + count; which++)
-            note(driver, "use", worker->gathered[which]->address, worker->gathered[which]->bytes);
-        if (take_back(worker, worker->gathered + at, count))
+    for (int at = 0; at < worker->count; at++)
+        note(driver, "use", worker->gathered[at]->address, worker->gathered[at]->bytes);
+    for (int at = 0; at < worker->count && driver->mode != STATIC; at += step)
+        if (take_back(worker, worker->gathered + at, worker->count - at < step ? worker->count - at : step))
             return 1;
-    }
     for (int at = 0; at < worker->count; at++)
         load_retire(&worker->load, worker->gathered[at]);
     worker->count = 0;

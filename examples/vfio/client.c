@@ -15,7 +15,7 @@
 #include <stdlib.h>
 #include <sys/mman.h>
 
-enum { DEPTH = IOVAD_IN_FLIGHT, FRAME = 4096, PAGES = 8, COPIED = 4, PIECE = 4095 };
+enum { DEPTH = IOVAD_IN_FLIGHT, FRAME = 4096, PAGES = 8, COPIED = 4, PIECE = 4095, TRIES = CLIENT_PATIENCE * 50 };
 
 struct buffer {
     uint64_t first, frames, mark;
@@ -194,7 +194,7 @@ int main(int argc, char **words) {
     int failed = 0, tries = 0;
     signal(SIGTERM, end); /* calls that wait go on */
     drop_memory(&driver);
-    while (driver.turns < turns && !ending && tries < 500 && !driver.refused) {
+    while (driver.turns < turns && !ending && tries < TRIES && !driver.refused) {
         failed = open_both(&driver, words[1], words[2]);
         driver.dice = (uint32_t)driver.client;
         while (!failed && driver.turns < turns && !ending && !(failed = turn(&driver)))
