@@ -14,7 +14,7 @@ WINDOW = (0x2800, 0x37FF)  # frames, of the part `window`
 # What has to be found: its name, which is a part's, the program, and the edit of a file that makes it wrong.
 WRONG = (
     ("frees_first", "disk", "nvme/driver.c", "unmap_all(worker, ios, count) || give_up_all(worker, ios, count)",
-     "give_up_all(worker, ios, count) || usleep(10000) || unmap_all(worker, ios, count)"),
+     "give_up_all(worker, ios, count) || usleep(30000) || unmap_all(worker, ios, count)"),
     ("takes_twice", "disk", "nvme/driver.c", "while (nvme_take(&worker->queue, &taken)) {",
      "while (nvme_take(&worker->queue, &taken) && load_end(&worker->load, &taken)) {"),
     ("shares_a_list", "disk", "nvme/ios.h", "list = (uint64_t)slot * NVME_LIST_BYTES",
