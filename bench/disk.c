@@ -1,16 +1,17 @@
 // Asks the library for what a log of a disk's driver says: each `map` an address of as many frames, each `unmap` gives it
-// up, each `begin` and `end` is a flush of nothing. One worker for all threads of the driver, whose one ring is flushed
-// where it is full, one client, no lock. Prints how many ranges were mapped.
+// up, each `begin` is a flush that invalidates nothing. One cache of a shared domain (iova_shared.h) for all threads of the
+// driver, which flushes where its ring is full, too. Prints how many ranges were mapped.
 #include <inttypes.h>
-#include <iova.h>
+#include <iova_shared.h>
 #include <stdio.h>
+#include <stdlib.h>
 #include <string.h>
 
 enum { BUCKETS = 1 << 16 };
 
 struct step {
-  enum { MAP, UNMAP, BEGIN, END } kind;
-  uint64_t frames, number; // number: of an unmap, which step's address it gives up; of a begin or end the flush's
+  enum { MAP, UNMAP, FLUSH } kind;
+  uint64_t frames, number; // number: of an unmap, which step's address it gives up
 };
 
 struct live {
@@ -19,30 +20,29 @@ struct live {
 };
 
 static struct step *steps;
-static uint64_t *addresses, count, flights[64];
-static uint64_t mapped;
+static uint64_t *addresses, count, mapped;
+static iova_shared shared;
+static iova_shared_cache cache;
+
+static int invalidate(void *nothing) { return nothing == NULL; }
 
 // What is counted: the calls, and this loop of some instructions round each.
-__attribute__((noinline)) static int replay(iova_domain *domain, uint64_t client) {
+__attribute__((noinline)) static int replay(void) {
   for (uint64_t at = 0; at < count; at++) {
     struct step *step = &steps[at];
+    uint64_t refused;
     if (step->kind == MAP) {
-      iova_mapping given = iova_map(domain, 0, client, step->frames * IOVA_FRAME_BYTES, IOVA_NO_MASK);
-      if (given.refused)
-        return 1;
+      iova_mapping given = iova_shared_map(&cache, step->frames * IOVA_FRAME_BYTES, IOVA_NO_MASK);
+      refused = given.refused;
       addresses[at] = given.address;
       mapped++;
     } else if (step->kind == UNMAP) {
-      uint64_t address = addresses[step->number], refused = iova_unmap_bytes(domain, 0, client, address).refused;
-      if (refused == IOVA_RING_FULL && !iova_end(domain, iova_begin(domain).number, 1))
-        refused = iova_unmap_bytes(domain, 0, client, address).refused;
-      if (refused)
-        return 1;
-    } else if (step->kind == BEGIN) {
-      flights[step->number % 64] = iova_begin(domain).number;
-    } else if (iova_end(domain, flights[step->number % 64], 1)) {
-      return 1;
+      refused = iova_shared_unmap_bytes(&cache, addresses[step->number]).refused;
+    } else {
+      refused = iova_shared_flush(&shared);
     }
+    if (refused)
+      return 1;
   }
   return 0;
 }
@@ -54,7 +54,7 @@ static int read_log(FILE *file, uint64_t *last) {
   uint64_t room = 0, lo, frames;
   while (fgets(line, sizeof line, file)) {
     struct step step = {MAP, 0, 0};
-    if (sscanf(line, "iovalog 1 1 %" SCNu64, last) == 1 || strncmp(line, "use ", 4) == 0)
+    if (sscanf(line, "iovalog 1 1 %" SCNu64, last) == 1 || strncmp(line, "use ", 4) == 0 || strncmp(line, "end ", 4) == 0)
       continue;
     if (count == room) {
       room = 2 * room + 1024;
@@ -77,10 +77,8 @@ static int read_log(FILE *file, uint64_t *last) {
       step = (struct step){UNMAP, 0, old->step};
       *at = old->next;
       free(old);
-    } else if (sscanf(line, "begin %" SCNu64, &step.number) == 1) {
-      step.kind = BEGIN;
-    } else if (sscanf(line, "end %" SCNu64 " ok", &step.number) == 1) {
-      step.kind = END;
+    } else if (strncmp(line, "begin ", 6) == 0) {
+      step.kind = FLUSH;
     } else {
       return 1;
     }
@@ -97,11 +95,13 @@ int main(void) {
     fprintf(stderr, "disk: this is no log of a driver\n");
     return 1;
   }
-  if (replay(domain, iova_open(domain, 0, 0).number)) {
+  if (iova_shared_init(&shared, domain, invalidate, NULL) || iova_shared_open(&cache, &shared, 0, 0) || replay()) {
     fprintf(stderr, "disk: the library refuses a step\n");
     return 1;
   }
   printf("%" PRIu64 "\n", mapped);
+  iova_shared_close(&cache);
+  iova_shared_clear(&shared);
   iova_domain_free(domain);
   free(steps);
   free(addresses);

@@ -14,7 +14,7 @@ WINDOW = (0x2800, 0x37FF)  # frames, of the part `window`
 # What has to be found: its name, which is a part's, the program, and the edit of a file that makes it wrong.
 WRONG = (
     ("frees_first", "disk", "nvme/driver.c", "unmap_all(worker, ios, count) || give_up_all(worker, ios, count)",
-     "give_up_all(worker, ios, count) || usleep(2000) || unmap_all(worker, ios, count)"),
+     "give_up_all(worker, ios, count) || usleep(30000) || unmap_all(worker, ios, count)"),
     ("takes_twice", "disk", "nvme/driver.c", "while (nvme_take(&worker->queue, &taken)) {",
      "while (nvme_take(&worker->queue, &taken) && load_end(&worker->load, &taken)) {"),
     ("shares_a_list", "disk", "nvme/ios.h", "list = (uint64_t)slot * NVME_LIST_BYTES",
@@ -26,7 +26,7 @@ WRONG = (
 )
 # And outside of the machine, since QEMU translates a command's addresses when it comes: a queue that isn't deleted would have it
 # write into the guest's memory when that is another's.
-KEEPS_THE_QUEUE = ("nvme/queues.c", "client != NO_CLIENT && pair->client != client", "client != NO_CLIENT")
+KEEPS_THE_QUEUE = ("disk_broker", "nvme/queues.c", "client != NO_CLIENT && pair->client != client", "client != NO_CLIENT")
 PROGRAMS = {
     "disk": ("nvme/driver.c",),
     "disk_broker": ("vfio/broker.c", "nvme/queues.c"),
@@ -91,17 +91,6 @@ def maps(part):
     return [(int(line.split()[1]), int(line.split()[2])) for line in part.text("log").splitlines() if line.startswith("map ")]
 
 
-def words(part):
-    said, trace = part.said, part.trace_counts
-    return (
-        f"{said['reads'] + said['writes']} I/Os, {said['KiB'] >> 10} MiB, mapped {said['mapped']} times, unmapped by "
-        f"{said['calls']} calls, {said['flushes']} flushes, {said['waits']} waits, {said['wrong']} wrong, "
-        f"{said['milliseconds']} ms; {len(part.faults)} faults; the kernel's trace: {trace['maps']} maps, "
-        f"{trace['flushes']} flushes, {len(part.trace)} finding; the log: {part.log_counts['maps']} maps, "
-        f"{part.log_counts['flushes']} flushes, {len(part.log)} findings"
-    )
-
-
 def check_driver(part, ios):
     """All I/Os were made, each with the right bytes, and mapped for itself, and none at a wrong time."""
     said = part.said
@@ -115,7 +104,12 @@ def check_driver(part, ios):
         part.check_trace_findings()
     else:
         part.check_trace()
-    print(f"{part.name}: {words(part)}", flush=True)
+    print(
+        f"{part.name}: {said['reads'] + said['writes']} I/Os, {said['KiB'] >> 10} MiB, mapped {said['mapped']} times, unmapped by "
+        f"{said['calls']} calls, {said['flushes']} flushes, {said['waits']} waits, {said['wrong']} wrong, "
+        f"{said['milliseconds']} ms; {part.words()}",
+        flush=True,
+    )
 
 
 def check_lazy(part, disk):

@@ -12,6 +12,7 @@ import shutil
 import signal
 import subprocess
 import tempfile
+import time
 
 from patience import within
 
@@ -22,6 +23,7 @@ GUEST = os.path.join(HERE, "vfio")
 KEPT = os.path.join(TOP, "out", "vfio")
 PATIENCE = 1200  # seconds that a machine has: without KVM, on a machine that others use
 SLOW = 30  # seconds until its first part begins: 5 where processors are free
+SILENT = 300  # seconds of processor time in which it says nothing: else it does each five seconds of its own
 SANE = ("-O1", "-g", "-fsanitize=address,undefined", "-fno-sanitize-recover=all")
 MODULES = ("virtio_pci", "virtio_blk", "vfio_iommu_type1", "vfio-pci")
 WANTED = {
@@ -147,7 +149,7 @@ class Machine:
     """Runs by itself to its end. What its parts left is in `out` then."""
 
     def __init__(self, work, root, image, devices):
-        self.work, self.results = work, os.path.join(work, "results")
+        self.work, self.results, self.is_silent = work, os.path.join(work, "results"), False
         shell(["sh", "-c", f"cd {root} && find . | cpio -o -H newc --quiet | gzip -1 >{work}/initrd.gz"])
         with open(self.results, "wb") as file:
             file.truncate(512 << 20)
@@ -168,19 +170,29 @@ class Machine:
         self.process.kill()
         self.process.wait()
 
+    def processor_seconds(self):
+        """What it has had of processors."""
+        with open(f"/proc/{self.process.pid}/stat", encoding="ascii") as file:
+            words = file.read().rpartition(")")[2].split()
+        return (int(words[11]) + int(words[12])) / os.sysconf("SC_CLK_TCK")
+
     def bring_out(self, patience):
-        """Waits for its end, and no longer than so many seconds."""
-        try:
-            self.process.wait(timeout=patience)
-        except subprocess.TimeoutExpired:
-            self.end()
+        """Waits for its end, and no longer than so many seconds, or until it has run for long and said nothing."""
+        end, said, had = time.monotonic() + patience, None, 0
+        while self.process.poll() is None:
+            text, has = self.console(), self.processor_seconds()
+            if text != said:
+                said, had = text, has
+            self.is_silent = has - had > SILENT
+            if self.is_silent or time.monotonic() > end:
+                self.end()
+            time.sleep(0.2)
         out = os.path.join(self.work, "out")
         shutil.rmtree(out, ignore_errors=True)
         os.makedirs(out)
         subprocess.run(["tar", "xf", self.results, "-C", out], stderr=subprocess.DEVNULL, check=False)
         os.unlink(self.results)
         return out
-
 
     def console(self):
         try:
@@ -189,9 +201,15 @@ class Machine:
         except FileNotFoundError:
             return ""
 
+    def hung(self):
+        """The part in which it hung: it ran, and the part didn't go on. Nothing where it didn't."""
+        if self.is_silent or "the parts hang" in self.console():
+            return (re.findall(r"^part (\w+)", self.console(), re.MULTILINE) or ["its start"])[-1]
+        return ""
+
     def was_cut_off(self):
         """Whether its time ran out: this side's, or that of its first program."""
-        return self.process.returncode == -signal.SIGKILL or "the parts take too long" in self.console()
+        return self.process.returncode == -signal.SIGKILL or bool(re.search("the parts (take too long|hang)", self.console()))
 
     def hardly_ran(self):
         """Whether by its own clock it took long to come to its first part, or was ended before it. One that ended by itself
@@ -201,7 +219,7 @@ class Machine:
 
     def was_slow(self):
         """Whether its parts may not have come to their end: it hardly ran, or more wants to run here than there are processors."""
-        return self.hardly_ran() or within(1) > 2
+        return self.hardly_ran() or bool(self.hung()) or within(1) > 2
 
 
 # What it left.
@@ -299,17 +317,17 @@ class Part:
         return found[0] if found else "nothing was found"
 
     def words(self):
-        said, trace = self.said, self.trace_counts
+        """What the kernel and the log told."""
         return (
-            f"{said['provoked']} faults provoked, {len(self.faults)} told; the kernel's trace: {trace['maps']} maps, "
-            f"{trace['flushes']} flushes, 1 finding, which is VFIO's own (without the flushes {self.reused} `reused`); "
-            f"the log: {self.log_counts['maps']} maps, {self.log_counts['flushes']} flushes, "
+            f"{self.said['provoked']} faults provoked, {len(self.faults)} told; the kernel's trace: {self.trace_counts['maps']} maps, "
+            f"{self.trace_counts['flushes']} flushes, {len(self.trace)} finding, VFIO's own (without the flushes {self.reused} "
+            f"`reused`); the log: {self.log_counts['maps']} maps, {self.log_counts['flushes']} flushes, "
             f"{self.log_counts['uses']} uses, {len(self.log)} findings"
         )
 
 
 def check_parts(out, iovad, slow, *parts):
-    """Looks at each part by its function. What a slow machine hasn't come to the end of is left out."""
+    """Looks at each part by its function. What a slow machine, or one that hung before, hasn't come to the end of is left out."""
     for name, check_it in parts:
         part = Part(out, name, iovad)
         if part.text("status") or not slow:
@@ -318,7 +336,7 @@ def check_parts(out, iovad, slow, *parts):
             except (IndexError, ValueError) as fault:
                 part.check("what it left", repr(fault), "whole lines")
         else:
-            print(f"left out: {name} in the machine, which is too slow", flush=True)
+            print(f"left out: {name}, to whose end the machine didn't come", flush=True)
 
 
 def check_between(out, slow):

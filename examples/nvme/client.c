@@ -5,12 +5,12 @@
  *
  * IOVAD is the socket of `iovad serve`, BROKER that of the broker's drivers. The disk is split into so many SHARES,
  * and this driver has the one of this number, from 0 on: WHAT STANDS THERE IS OVERWRITTEN by so many I/Os (ios.h), up
- * to 256 of them in flight, and all that was written is read back. It prints `started` once 192 are in flight, or
- * after ten seconds, and at its end its counts. What the device was seen to use is appended to LOG. At a SIGTERM no
- * further I/O begins, and all is read back.
+ * to 256 of them in flight, and all that was written is read back. It prints `started` and how many are in flight once
+ * those are 200, or after ten seconds, and at its end its counts. What the device was seen to use is appended to LOG.
+ * At a SIGTERM no further I/O begins, and all is read back.
  */
 #define _GNU_SOURCE
-#include "iova_client.h"
+#include "../vfio/client.h"
 #include "ios.h"
 
 #include <fcntl.h>
@@ -22,10 +22,9 @@
 enum {
     BATCH = IOVAD_IN_FLIGHT, /* requests on their way */
     FRAME = 4096,
-    STARTED = 192, /* commands in flight, or so many milliseconds after the first */
+    STARTED = 200, /* commands in flight, or so many milliseconds after the first */
     STARTED_LATE = 10000,
-    NO_SPACE = 6,  /* of the daemon's refusals: nothing fits now */
-    RING_FULL = 7, /* a flush is under way */
+    NO_SPACE = 6, /* of the daemon's refusals: nothing fits now */
 };
 
 struct client {
@@ -48,42 +47,16 @@ static void end(int number) {
     ending = 1;
 }
 
-static int fails(const char *what, const char *why) {
-    fprintf(stderr, "client: %s: %s\n", what, why);
-    return 1;
-}
-
-static int fails_by(const char *what, uint64_t error) { return fails(what, iovad_error_name(error)); }
+static int fails_by(const char *what, uint64_t error) { return client_fails(what, iovad_error_name(error)); }
 
 /* The bytes of the rings, and of these and the lists: whole frames. */
 static uint64_t rings(void) { return nvme_queue_bytes(DEPTH + 1); }
 static uint64_t fixed(void) { return rings() + LISTS; }
 
-/* One message to the broker, with the memory where `fd` isn't -1. */
-static int tell(struct client *client, const char *text, int fd) {
-    char room[CMSG_SPACE(sizeof fd)] = {0};
-    struct iovec part = {(void *)(uintptr_t)text, strlen(text)};
-    struct msghdr message = {.msg_iov = &part, .msg_iovlen = 1};
-    if (fd >= 0) {
-        message.msg_control = room;
-        message.msg_controllen = sizeof room;
-        struct cmsghdr *more = CMSG_FIRSTHDR(&message);
-        more->cmsg_level = SOL_SOCKET;
-        more->cmsg_type = SCM_RIGHTS;
-        more->cmsg_len = CMSG_LEN(sizeof fd);
-        memcpy(CMSG_DATA(more), &fd, sizeof fd);
-    }
-    return sendmsg(client->broker, &message, MSG_NOSIGNAL) < 0 ? fails("the broker", strerror(errno)) : 0;
-}
+static int tell(struct client *client, const char *text, int fd) { return client_tell(client->broker, text, fd); }
 
-/* Whether the broker's next answer begins with this word. A signal interrupts a call that has a time limit. */
 static int hear(struct client *client, const char *word, char *said, size_t room) {
-    ssize_t count;
-    do
-        count = recv(client->broker, said, room - 1, 0);
-    while (count < 0 && errno == EINTR);
-    said[count < 0 ? 0 : count] = 0;
-    return strncmp(said, word, strlen(word)) == 0 ? 0 : fails(word, count > 0 ? said : "the broker has left");
+    return client_hear(client->broker, word, said, room);
 }
 
 static int ask_broker(struct client *client, const char *text, const char *word, char *said, size_t room) {
@@ -121,7 +94,7 @@ static int map_some(struct client *client) {
     char said[64];
     for (int at = 0; at < asked; at++)
         if (iovad_ask_alloc(&client->session, client->waiting[at]->bytes / FRAME, UINT64_MAX))
-            return -fails("the daemon", "it takes no request");
+            return -client_fails("the daemon", "it takes no request");
     for (int at = 0; at < asked; at++) {
         struct io *io = client->waiting[at];
         iovad_range range = iovad_take_alloc(&client->session);
@@ -144,24 +117,8 @@ static int map_some(struct client *client) {
     return failed ? -1 : got;
 }
 
-/* Gives addresses up. Where a ring was full, since a flush was under way, it says so once more. */
 static int free_all(struct client *client, uint64_t *left, int count) {
-    uint64_t error = 0, end = nvme_milliseconds() + NVME_PATIENCE;
-    while (count > 0 && !error) {
-        if (nvme_milliseconds() > end)
-            return fails("free", "no flush ends");
-        int asked = count, again = 0;
-        for (int at = 0; at < asked && !error; at++)
-            error = iovad_ask_free(&client->session, left[at]);
-        for (int at = 0; at < asked && !error; at++) {
-            iovad_range range = iovad_take_free(&client->session);
-            if (range.error == RING_FULL)
-                left[again++] = left[at];
-            else
-                error = range.error;
-        }
-        count = again;
-    }
+    uint64_t error = client_free(&client->session, left, count);
     return error ? fails_by("free", error) : 0;
 }
 
@@ -215,7 +172,7 @@ static int turn(struct client *client) {
     int late = nvme_milliseconds() - client->begun > STARTED_LATE;
     if ((client->submitted >= STARTED || late) && !client->has_started) {
         client->has_started = 1;
-        printf("started\n");
+        printf("started %d\n", client->submitted);
         fflush(stdout);
     }
     for (int at = 0; at < client->count; at += BATCH)
@@ -237,7 +194,7 @@ static int run(struct client *client) {
         if (moved > 0)
             end = nvme_milliseconds() + NVME_PATIENCE;
         else if (nvme_milliseconds() > end)
-            return fails("the disk", "it answers nothing");
+            return client_fails("the disk", "it answers nothing");
         else
             usleep(500);
     }
@@ -251,10 +208,10 @@ static int start(struct client *client, uint64_t share, uint64_t shares, uint64_
     uint64_t frames = fixed() / FRAME;
     client->fd = memfd_create("driver", MFD_CLOEXEC);
     if (client->fd < 0 || ftruncate(client->fd, (off_t)(fixed() + POOL)))
-        return fails("memory", strerror(errno));
+        return client_fails("memory", strerror(errno));
     void *memory = mmap(NULL, fixed() + POOL, PROT_READ | PROT_WRITE, MAP_SHARED, client->fd, 0);
     if (memory == MAP_FAILED)
-        return fails("memory", strerror(errno));
+        return client_fails("memory", strerror(errno));
     client->memory = memory;
     uint64_t error = iovad_ask_alloc(&client->session, frames, UINT64_MAX);
     iovad_range range = iovad_take_alloc(&client->session);
@@ -268,7 +225,7 @@ static int start(struct client *client, uint64_t share, uint64_t shares, uint64_
         return 1;
     struct nvme *nvme = &client->nvme;
     if (sscanf(said, "queue %" SCNu64 " %" SCNu64 " %" SCNu64, &nvme->most, &nvme->block, &nvme->blocks) != 3)
-        return fails("queue", said);
+        return client_fails("queue", said);
     client->queue = nvme_rings_over(1, DEPTH + 1, client->memory);
     uint64_t blocks = nvme->block > BLOCK || !nvme->block ? 0 : nvme->blocks / (BLOCK / nvme->block);
     load_make(load, client->number, client->memory + fixed());
@@ -279,7 +236,7 @@ static int start(struct client *client, uint64_t share, uint64_t shares, uint64_
     load->generations = calloc(blocks, sizeof *load->generations);
     load->busy = calloc(blocks, 1);
     int good = load->generations && load->busy && load->blocks >= LARGE / BLOCK;
-    return good ? 0 : fails("the disk", "it is too small, or too big");
+    return good ? 0 : client_fails("the disk", "it is too small, or too big");
 }
 
 /* The queue goes first: its rings are mapped as long as it is there. */
@@ -292,18 +249,16 @@ static int stop(struct client *client) {
 }
 
 static int open_both(struct client *client, const char *daemon, const char *broker) {
-    struct sockaddr_un to = {.sun_family = AF_UNIX};
     const struct timeval patience = {NVME_PATIENCE / 1000, 0};
     iovad_opened opened = iovad_open(&client->session, daemon, 0, 0);
     if (opened.error)
         return fails_by("the daemon", opened.error);
     iovad_within(&client->session, NVME_PATIENCE);
     client->number = opened.number;
-    snprintf(to.sun_path, sizeof to.sun_path, "%s", broker);
-    client->broker = socket(AF_UNIX, SOCK_SEQPACKET | SOCK_CLOEXEC, 0);
-    int failed = client->broker < 0 || connect(client->broker, (struct sockaddr *)(void *)&to, sizeof to) ||
+    client->broker = client_connect(broker);
+    int failed = client->broker < 0 ||
                  setsockopt(client->broker, SOL_SOCKET, SO_RCVTIMEO, &patience, sizeof patience);
-    return failed ? fails("the broker", strerror(errno)) : 0;
+    return failed ? client_fails("the broker", strerror(errno)) : 0;
 }
 
 int main(int argc, char **words) {
@@ -315,7 +270,7 @@ int main(int argc, char **words) {
     }
     signal(SIGTERM, end); /* calls that wait go on */
     if (argc > 6 && (client.log = open(words[6], O_WRONLY | O_APPEND | O_CLOEXEC)) < 0)
-        return fails(words[6], strerror(errno));
+        return client_fails(words[6], strerror(errno));
     int failed = open_both(&client, words[1], words[2]) ||
                  start(&client, share, shares, strtoull(words[5], NULL, 10)) || run(&client) || stop(&client);
     iovad_close(&client.session);

@@ -10,7 +10,7 @@
  * looks at the disk from elsewhere.
  *
  *  --strict   each completion: unmap, give up, flush
- *  --lazy     completions are gathered: one unmap for neighbours, all given up, one flush
+ *  --lazy     completions are gathered: one unmap for neighbours, all given up; a flush where 255 wait
  *  --static   all memory is mapped once, and nothing is unmapped: as fast as it gets, and the device reaches all
  *  --mask     the last byte that the device reaches, as 0xffffffff for one of 32 bits, or 0xffffff for 16 MiB
  *  --window   a part of the space, in bytes, that is kept back
@@ -19,20 +19,20 @@
  * What was mapped, used, unmapped and flushed is written to --log, which `iovad check` reads, and counts go to standard
  * output.
  *
- * The addresses come and go by two functions, take_address and give_back. One call at a time works on a domain of
- * libiova, so there is a mutex round it, and each thread is a worker of the domain, with magazines of its own.
+ * The addresses come and go by two functions, take_address and give_back. Each thread has a cache of the one domain
+ * (iova_shared.h), so that most I/Os touch nothing that another thread has.
  */
 #define _GNU_SOURCE
 #include "../vfio/device.h"
 #include "ios.h"
 
 #include <getopt.h>
-#include <iova.h>
+#include <iova_shared.h>
 #include <pthread.h>
 
 enum {
     THREADS = 4,
-    GATHERED = 128, /* so many ranges wait for a flush at most: the ring has room for 255 */
+    GATHERED = 128, /* so many ranges are unmapped together at most */
     WINDOWS = 64,
     HUGE_PAGE = 2 << 20,
     PIECE = 4095, /* bytes that `edu` copies at most */
@@ -42,16 +42,18 @@ enum mode { LAZY, STRICT, STATIC };
 
 struct driver;
 
-/* A thread: it is a worker of the domain, and has a queue pair. */
+/* A thread: it is a worker of the domain, with a cache, and has a queue pair. */
 struct worker {
     struct driver *driver;
-    uint64_t number, client;       /* of the domain */
+    iova_shared_cache cache;
+    uint64_t mapped, unmapped, waits;
+    uint64_t calls;                /* of VFIO's that unmapped something */
     struct nvme_queue queue;
     struct load load;
     struct io *gathered[DEPTH];    /* I/Os that have ended, and are still mapped */
     int count;
     uint8_t *lists;                /* PRP lists, and where the device reaches them */
-    uint64_t lists_address, calls; /* calls of VFIO's that unmapped something */
+    uint64_t lists_address;
     pthread_t thread;
     int failed;
 };
@@ -66,13 +68,14 @@ struct driver {
     uint8_t *busy, *pool, *rings;  /* of a block, whether a command has it; data; queues */
     struct io pool_at, rings_at;   /* and where the device reaches both */
     int failed, ended;             /* ended: no I/O is left */
-    pthread_mutex_t lock;          /* for what is below */
     iova_domain *domain;
+    iova_shared shared;            /* the domain, for all threads */
+    uint64_t caches;               /* that are open */
     struct worker *waiting;        /* who has found no room, and comes first */
-    uint64_t mapped, unmapped, flushes, waits, copies;
-    uint64_t fixed, milliseconds;  /* ranges that stay mapped; what the I/Os took */
-    FILE *log;                     /* lines are whole by themselves */
-    struct worker workers[THREADS + 1]; /* the last one is for the device beside it */
+    uint64_t flushes, copies;
+    uint64_t fixed, milliseconds;  /* frames that stay mapped; what the I/Os took */
+    FILE *log;                     /* which has a lock of its own: lines are whole */
+    struct worker workers[THREADS + 1]; /* behind the threads' is that of main, and of the device beside it */
 };
 
 static int fails(const char *what, uint64_t refused) {
@@ -102,67 +105,91 @@ static uint64_t reserve(struct driver *driver) {
     return refused;
 }
 
+/* A flush, between its begin and its end; libiova calls it, on whichever thread. VFIO has emptied the IOTLB of what was
+ * unmapped at each unmap, so there is nothing left to do: where that isn't so it is done here. */
+static int invalidate(void *with) {
+    struct driver *driver = with;
+    uint64_t number = __atomic_add_fetch(&driver->flushes, 1, __ATOMIC_RELAXED);
+    if (driver->log)
+        fprintf(driver->log, "begin %" PRIu64 "\nend %" PRIu64 " ok\n", number, number);
+    return 1;
+}
+
 static int make_domain(struct driver *driver) {
     driver->domain = iova_domain_new();
     uint64_t refused = driver->domain ? reserve(driver) : IOVA_NO_MEMORY;
+    if (!refused)
+        refused = iova_shared_init(&driver->shared, driver->domain, invalidate, driver);
     for (uint64_t number = 0; number <= driver->threads && !refused; number++) {
-        iova_number opened = iova_open(driver->domain, number, 0);
-        driver->workers[number].client = opened.number;
-        refused = opened.refused;
+        refused = iova_shared_open(&driver->workers[number].cache, &driver->shared, number, 0);
+        driver->caches += !refused;
     }
     return refused ? fails("the domain", refused) : 0;
 }
 
-/* What was given up before may be given again after this. VFIO has emptied the IOTLB of it at the unmap, so between
- * begin and end there is nothing to do. Under the lock. */
-static uint64_t flush(struct driver *driver) {
-    iova_number begun = iova_begin(driver->domain);
-    uint64_t refused = begun.refused ? begun.refused : iova_end(driver->domain, begun.number, 1);
-    if (driver->log)
-        fprintf(driver->log, "begin %" PRIu64 "\nend %" PRIu64 " ok\n", begun.number, begun.number);
-    driver->flushes++;
-    return refused;
+/* Once no device reaches anything. */
+static void end_domain(struct driver *driver) {
+    if (driver->caches > 0) {
+        while (driver->caches > 0)
+            iova_shared_close(&driver->workers[--driver->caches].cache);
+        iova_shared_clear(&driver->shared);
+    }
+    iova_domain_free(driver->domain);
 }
 
-/* An address for a thread, within a mask. Where there is none, what flushes have covered is taken out of all rings,
- * and it is sought once more; then the thread is the next to get one, and the others begin nothing until it has. The
- * log has it before another thread may give it up. */
+/* What lies in this thread's cache no other finds, so it goes back where one waits, and where this thread is done. */
+static void make_room(struct worker *worker) {
+    iova_shared_counts counts = iova_shared_counts_of(&worker->cache);
+    if (counts.waiting)
+        iova_shared_flush(&worker->driver->shared);
+    if (counts.waiting + counts.cached)
+        iova_shared_give_back(&worker->cache);
+}
+
+/* Whether nobody has anything but what stays mapped, nor does anything wait for a flush: nothing will come back. */
+static int is_all_back(struct driver *driver) {
+    pthread_mutex_lock(&driver->shared.lock);
+    iova_counts counts = iova_counts_of(driver->domain);
+    pthread_mutex_unlock(&driver->shared.lock);
+    return counts.client == driver->fixed && counts.ring == 0;
+}
+
+/* An address for a thread, within a mask. Where there is none the thread is the next to get one: the others begin
+ * nothing until it has, and give back what they don't use. The log has an address behind its being given. */
 static iova_mapping take_address(struct worker *worker, uint64_t bytes, uint64_t mask) {
     struct driver *driver = worker->driver;
+    struct worker *first = __atomic_load_n(&driver->waiting, __ATOMIC_RELAXED), *nobody = NULL;
     iova_mapping given = {.refused = IOVA_NO_SPACE};
-    pthread_mutex_lock(&driver->lock);
-    if (!driver->waiting || driver->waiting == worker) {
-        given = iova_map(driver->domain, worker->number, worker->client, bytes, mask);
-        for (uint64_t ring = 0; given.refused == IOVA_NO_SPACE && ring <= driver->threads; ring++)
-            iova_drain(driver->domain, ring, worker->number);
-        if (given.refused == IOVA_NO_SPACE)
-            given = iova_map(driver->domain, worker->number, worker->client, bytes, mask);
-        int none = given.refused == IOVA_NO_SPACE;
-        driver->waits += none && !driver->waiting;
-        __atomic_store_n(&driver->waiting, none ? worker : NULL, __ATOMIC_RELAXED);
+    if (first && first != worker) {
+        make_room(worker);
+        return given;
     }
+    int never = first && is_all_back(driver);
+    given = iova_shared_map(&worker->cache, bytes, mask);
+    if (given.refused == IOVA_NO_SPACE && never)
+        given.refused = IOVA_TOO_BIG;
+    else if (given.refused == IOVA_NO_SPACE)
+        worker->waits += __atomic_compare_exchange_n(&driver->waiting, &nobody, worker, 0, __ATOMIC_RELAXED,
+                                                     __ATOMIC_RELAXED);
+    else if (first)
+        __atomic_store_n(&driver->waiting, NULL, __ATOMIC_RELAXED);
     if (!given.refused) {
         note(driver, "map", given.address, bytes);
-        driver->mapped++;
-    } else if (driver->waiting == worker && driver->mapped - driver->unmapped == driver->fixed) {
-        given.refused = IOVA_TOO_BIG; /* nothing will come back */
+        worker->mapped++;
     }
-    pthread_mutex_unlock(&driver->lock);
     return given;
 }
 
-/* Gives addresses back that nothing is mapped at any more, and flushes. */
+/* Gives addresses back at which nothing is mapped any more: the log has that by now. A flush lets them go; where it
+ * isn't made here, the cache makes one where 255 wait. */
 static uint64_t give_back(struct worker *worker, struct io **ios, int count) {
     struct driver *driver = worker->driver;
     uint64_t refused = 0;
-    pthread_mutex_lock(&driver->lock);
-    for (int at = 0; at < count && !refused; at++)
-        refused = iova_unmap_bytes(driver->domain, worker->number, worker->client, ios[at]->address).refused;
-    if (!refused)
-        refused = flush(driver);
-    driver->unmapped += (uint64_t)count;
-    pthread_mutex_unlock(&driver->lock);
-    return refused;
+    for (int at = 0; at < count && !refused; at++) {
+        refused = iova_shared_unmap_bytes(&worker->cache, ios[at]->address).refused;
+        worker->unmapped += !refused;
+    }
+    return refused || driver->mode != STRICT ? refused : iova_shared_flush(&driver->shared);
 }
 
 /* Maps memory for the device: 1, or 0 where there is no room now, or -1. */
@@ -238,13 +265,11 @@ static int begin(struct worker *worker) {
 static int retire(struct worker *worker) {
     struct driver *driver = worker->driver;
     int step = driver->mode == STRICT ? 1 : GATHERED;
-    for (int at = 0; at < worker->count && driver->mode != STATIC; at += step) {
-        int count = worker->count - at < step ? worker->count - at : step;
-        for (int which = at; which < at + count; which++)
-            note(driver, "use", worker->gathered[which]->address, worker->gathered[which]->bytes);
-        if (take_back(worker, worker->gathered + at, count))
+    for (int at = 0; at < worker->count; at++)
+        note(driver, "use", worker->gathered[at]->address, worker->gathered[at]->bytes);
+    for (int at = 0; at < worker->count && driver->mode != STATIC; at += step)
+        if (take_back(worker, worker->gathered + at, worker->count - at < step ? worker->count - at : step))
             return 1;
-    }
     for (int at = 0; at < worker->count; at++)
         load_retire(&worker->load, worker->gathered[at]);
     worker->count = 0;
@@ -297,6 +322,7 @@ static void *work(void *given) {
     }
     if (worker->failed)
         __atomic_store_n(&driver->failed, 1, __ATOMIC_RELAXED);
+    make_room(worker);
     return NULL;
 }
 
@@ -336,12 +362,17 @@ static void *work_beside(void *given) {
 
 /* All together. */
 
+/* Maps memory that stays mapped. */
+static int map_fixed(struct driver *driver, uint8_t *memory, uint64_t bytes, struct io *io) {
+    int mapped = map(&driver->workers[driver->threads], memory, bytes, driver->mask, io);
+    return mapped == 0 ? fails("the driver's own memory", IOVA_NO_SPACE) : mapped < 0;
+}
+
 /* The data's memory lies on large pages where the kernel has some, so that there is less to map. */
 static int make_memory(struct driver *driver) {
     uint64_t queue = nvme_queue_bytes(DEPTH + 1) + LISTS;
     uint64_t rings = nvme_queue_bytes(NVME_ADMIN_ENTRIES) + NVME_PAGE + driver->threads * queue;
     uint64_t pool = driver->threads * POOL, bytes = pool + rings + HUGE_PAGE;
-    struct worker *first = &driver->workers[0];
     uint8_t *memory = mmap(NULL, bytes, PROT_READ | PROT_WRITE, MAP_PRIVATE | MAP_ANONYMOUS, -1, 0);
     if (memory == MAP_FAILED)
         return fails("memory", 0);
@@ -349,9 +380,8 @@ static int make_memory(struct driver *driver) {
     driver->rings = driver->pool + pool;
     madvise(driver->pool, pool, MADV_HUGEPAGE);
     memset(driver->pool, 0, pool);
-    if (map(first, driver->rings, rings, driver->mask, &driver->rings_at) <= 0)
-        return 1;
-    return driver->mode == STATIC && map(first, driver->pool, pool, driver->mask, &driver->pool_at) <= 0;
+    return map_fixed(driver, driver->rings, rings, &driver->rings_at) ||
+           (driver->mode == STATIC && map_fixed(driver, driver->pool, pool, &driver->pool_at));
 }
 
 static int make_worker(struct driver *driver, uint64_t number, uint64_t ios) {
@@ -378,7 +408,7 @@ static int start(struct driver *driver, uint64_t ios) {
     if (nvme_start(nvme, driver->device.registers, driver->rings, driver->rings_at.address) ||
         nvme_ask_queues(nvme, (uint32_t)driver->threads))
         return 1;
-    driver->fixed = driver->mapped;
+    driver->fixed = iova_counts_of(driver->domain).client;
     driver->most = nvme->most < LARGE ? nvme->most : LARGE;
     if (nvme->entries < driver->depth + 1)
         driver->depth = nvme->entries - 1;
@@ -413,7 +443,8 @@ static int run(struct driver *driver) {
 /* The controller is disabled before anything is unmapped: it forgets its queues, and commands that are in flight. */
 static int stop(struct driver *driver) {
     struct io *all[] = {&driver->rings_at, &driver->pool_at};
-    return nvme_enable(&driver->nvme, 0) || take_back(&driver->workers[0], all, driver->mode == STATIC ? 2 : 1);
+    struct worker *own = &driver->workers[driver->threads];
+    return nvme_enable(&driver->nvme, 0) || take_back(own, all, driver->mode == STATIC ? 2 : 1);
 }
 
 static int leave_generations(struct driver *driver, const char *path) {
@@ -423,18 +454,21 @@ static int leave_generations(struct driver *driver, const char *path) {
 }
 
 static void print_counts(struct driver *driver) {
-    uint64_t reads = 0, writes = 0, bytes = 0, calls = 0, wrong = 0;
+    uint64_t reads = 0, writes = 0, bytes = 0, wrong = 0, mapped = 0, unmapped = 0, calls = 0, waits = 0;
     for (struct worker *worker = driver->workers; worker <= driver->workers + driver->threads; worker++) {
         reads += worker->load.reads;
         writes += worker->load.writes;
         bytes += worker->load.bytes;
         wrong += worker->load.wrong;
+        mapped += worker->mapped;
+        unmapped += worker->unmapped;
         calls += worker->calls;
+        waits += worker->waits;
     }
     printf("reads %" PRIu64 " writes %" PRIu64 " KiB %" PRIu64 " mapped %" PRIu64 " unmapped %" PRIu64 " calls %" PRIu64
            " flushes %" PRIu64 " waits %" PRIu64 " copies %" PRIu64 " wrong %" PRIu64 " milliseconds %" PRIu64 "\n",
-           reads, writes, bytes >> 10, driver->mapped, driver->unmapped, calls, driver->flushes, driver->waits,
-           driver->copies, wrong, driver->milliseconds);
+           reads, writes, bytes >> 10, mapped, unmapped, calls, driver->flushes, waits, driver->copies, wrong,
+           driver->milliseconds);
     driver->failed |= wrong != 0;
 }
 
@@ -479,11 +513,8 @@ int main(int argc, char **words) {
                         "              ADDRESS IOS\n");
         return 2;
     }
-    pthread_mutex_init(&driver.lock, NULL);
-    for (uint64_t number = 0; number <= driver.threads; number++) {
+    for (uint64_t number = 0; number <= driver.threads; number++)
         driver.workers[number].driver = &driver;
-        driver.workers[number].number = number;
-    }
     if (said.log && !(driver.log = fopen(said.log, "w")))
         return fails(said.log, 0);
     int failed = device_open(&driver.device, words[optind]) ||
@@ -493,11 +524,11 @@ int main(int argc, char **words) {
     if (said.generations && !failed)
         failed = leave_generations(&driver, said.generations);
     failed |= driver.nvme.registers && stop(&driver);
-    print_counts(&driver);
-    failed |= driver.failed;
     device_close(&driver.beside);
     device_close(&driver.device);
-    iova_domain_free(driver.domain);
+    end_domain(&driver);
+    print_counts(&driver);
+    failed |= driver.failed;
     free(driver.generations);
     free(driver.busy);
     if (driver.log && fclose(driver.log))

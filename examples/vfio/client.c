@@ -8,15 +8,14 @@
  * goes away it begins anew with the next one, up to so many turns. At a SIGTERM it ends its turn, and is over.
  */
 #define _GNU_SOURCE
-#include "iova_client.h"
+#include "client.h"
 
 #include <inttypes.h>
 #include <signal.h>
-#include <stdio.h>
 #include <stdlib.h>
 #include <sys/mman.h>
 
-enum { DEPTH = IOVAD_IN_FLIGHT, FRAME = 4096, PAGES = 8, COPIED = 4, PIECE = 4095, RING_FULL = 7 };
+enum { DEPTH = IOVAD_IN_FLIGHT, FRAME = 4096, PAGES = 8, COPIED = 4, PIECE = 4095, TRIES = CLIENT_PATIENCE * 50 };
 
 struct buffer {
     uint64_t first, frames, mark;
@@ -43,44 +42,19 @@ static void end(int number) {
 
 /* Why there is no answer, or that it was a refusal. */
 static int fails_by(struct driver *driver, const char *what, uint64_t error) {
-    fprintf(stderr, "client: %s: %s\n", what, iovad_error_name(error));
     driver->refused |= error < IOVAD_BAD_PATH;
-    return 1;
-}
-
-static int fails(const char *what, const char *why) {
-    fprintf(stderr, "client: %s: %s\n", what, why);
-    return 1;
+    return client_fails(what, iovad_error_name(error));
 }
 
 static uint32_t roll(struct driver *driver) { return (driver->dice = driver->dice * 1664525 + 1013904223) >> 16; }
 
-/* One message to the broker, with a file descriptor where it isn't -1. */
-static int tell(struct driver *driver, const char *text, int fd) {
-    char room[CMSG_SPACE(sizeof fd)] = {0};
-    struct iovec part = {(void *)(uintptr_t)text, strlen(text)};
-    struct msghdr message = {.msg_iov = &part, .msg_iovlen = 1};
-    if (fd >= 0) {
-        message.msg_control = room;
-        message.msg_controllen = sizeof room;
-        struct cmsghdr *more = CMSG_FIRSTHDR(&message);
-        more->cmsg_level = SOL_SOCKET;
-        more->cmsg_type = SCM_RIGHTS;
-        more->cmsg_len = CMSG_LEN(sizeof fd);
-        memcpy(CMSG_DATA(more), &fd, sizeof fd);
-    }
-    return sendmsg(driver->broker, &message, MSG_NOSIGNAL) < 0 ? fails("the broker", strerror(errno)) : 0;
-}
+static int tell(struct driver *driver, const char *text, int fd) { return client_tell(driver->broker, text, fd); }
 
-/* Whether the broker's next answer is this one. */
-static int hear(struct driver *driver, const char *text) {
+static int hear(struct driver *driver, const char *word) {
     char said[64];
-    ssize_t count = recv(driver->broker, said, sizeof said - 1, 0);
-    said[count < 0 ? 0 : count] = 0;
-    if (strcmp(said, text) == 0)
-        return 0;
-    driver->refused |= count > 0;
-    return fails(text, count > 0 ? said : "the broker has left");
+    int heard = client_hear(driver->broker, word, said, sizeof said);
+    driver->refused |= heard > 0;
+    return heard;
 }
 
 /* Addresses from the daemon: 16 requests in flight. */
@@ -104,10 +78,10 @@ static int make(struct driver *driver, struct buffer *buffer) {
     buffer->mark = driver->client << 40 | driver->turns << 20 | buffer->first;
     buffer->fd = memfd_create("buffer", MFD_CLOEXEC);
     if (buffer->fd < 0 || ftruncate(buffer->fd, (off_t)bytes))
-        return fails("memory", strerror(errno));
+        return client_fails("memory", strerror(errno));
     void *memory = mmap(NULL, bytes, PROT_READ | PROT_WRITE, MAP_SHARED, buffer->fd, 0);
     if (memory == MAP_FAILED)
-        return fails("memory", strerror(errno));
+        return client_fails("memory", strerror(errno));
     buffer->memory = memory;
     for (size_t at = 0; at < bytes; at += FRAME)
         memcpy(buffer->memory + at, &buffer->mark, sizeof buffer->mark);
@@ -161,25 +135,11 @@ static int unmap_all(struct driver *driver) {
     return failed;
 }
 
-/* Gives the addresses up. Where a ring was full, since a flush was under way, it says so once more. */
 static int free_all(struct driver *driver) {
-    uint64_t error = 0, left[DEPTH];
-    int count = DEPTH;
+    uint64_t left[DEPTH];
     for (int at = 0; at < DEPTH; at++)
         left[at] = driver->buffers[at].first;
-    while (count > 0 && !error) {
-        int asked = count, again = 0;
-        for (int at = 0; at < asked && !error; at++)
-            error = iovad_ask_free(&driver->session, left[at]);
-        for (int at = 0; at < asked && !error; at++) {
-            iovad_range range = iovad_take_free(&driver->session);
-            if (range.error == RING_FULL)
-                left[again++] = left[at];
-            else
-                error = range.error;
-        }
-        count = again;
-    }
+    uint64_t error = client_free(&driver->session, left, DEPTH);
     return error ? fails_by(driver, "free", error) : 0;
 }
 
@@ -209,14 +169,12 @@ static int turn(struct driver *driver) {
 
 /* The daemon first: once it answers, the broker has forgotten an earlier daemon's clients. */
 static int open_both(struct driver *driver, const char *daemon, const char *broker) {
-    struct sockaddr_un to = {.sun_family = AF_UNIX};
     iovad_opened opened = iovad_open(&driver->session, daemon, 0, 0);
     if (opened.error)
         return 1;
     driver->client = opened.number;
-    snprintf(to.sun_path, sizeof to.sun_path, "%s", broker);
-    driver->broker = socket(AF_UNIX, SOCK_SEQPACKET | SOCK_CLOEXEC, 0);
-    return driver->broker < 0 || connect(driver->broker, (struct sockaddr *)(void *)&to, sizeof to);
+    driver->broker = client_connect(broker);
+    return driver->broker < 0;
 }
 
 static void close_both(struct driver *driver) {
@@ -236,7 +194,7 @@ int main(int argc, char **words) {
     int failed = 0, tries = 0;
     signal(SIGTERM, end); /* calls that wait go on */
     drop_memory(&driver);
-    while (driver.turns < turns && !ending && tries < 500 && !driver.refused) {
+    while (driver.turns < turns && !ending && tries < TRIES && !driver.refused) {
         failed = open_both(&driver, words[1], words[2]);
         driver.dice = (uint32_t)driver.client;
         while (!failed && driver.turns < turns && !ending && !(failed = turn(&driver)))

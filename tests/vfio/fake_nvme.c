@@ -1,7 +1,8 @@
 /* An NVMe controller without a machine, over fake.h: linked into examples/nvme. A thread of its own takes commands as
  * they come, ends them by chance in another order, and reaches memory only then; where an address isn't mapped it
  * counts a fault, and the command fails. The environment says what it is like: DISK is the file of its disk, MDTS its
- * limit, and RATE how many commands end in a second at most.
+ * limit, RATE how many commands of a queue end in a second at most, and KEEP how many of a queue it is slow with: where
+ * no more are in it, an eighth of that.
  */
 #include "fake.h"
 
@@ -16,6 +17,7 @@ struct ring {
     uint32_t entries, head, tail, phase;
     struct nvme_command pending[PENDING];
     uint32_t count;
+    uint64_t next; /* in microseconds: before that no command ends */
 };
 
 static struct {
@@ -25,7 +27,7 @@ static struct {
     uint64_t disk_bytes, mdts;
     uint32_t dice;
     int ready;
-    uint64_t pause, next; /* microseconds from an end to the next, and when that may be */
+    uint64_t pause, keep; /* microseconds from an end to the next; commands of a queue */
 } disk;
 
 static uint32_t roll(uint32_t sides) { return (disk.dice = disk.dice * 1664525 + 1013904223) % 65521 % sides; }
@@ -113,13 +115,13 @@ static uint64_t now(void) {
     return (uint64_t)time.tv_sec * 1000000 + (uint64_t)time.tv_nsec / 1000;
 }
 
-/* How many commands may end now. */
-static uint32_t due(uint32_t number, uint32_t count) {
+/* How many commands of a queue may end now. */
+static uint32_t due(uint32_t number, struct ring *ring) {
     if (!number || !disk.pause)
-        return roll(count + 1);
-    if (now() < disk.next || count == 0)
+        return roll(ring->count + 1);
+    if (now() < ring->next || ring->count == 0)
         return 0;
-    disk.next = (now() - disk.next > 100 * disk.pause ? now() : disk.next) + disk.pause;
+    ring->next = now() + (ring->count > disk.keep ? disk.pause : 8 * disk.pause);
     return 1;
 }
 
@@ -136,7 +138,7 @@ static int turn(uint32_t number) {
         ring->head = (ring->head + 1) % ring->entries;
         moved = 1;
     }
-    uint32_t some = moved ? 0 : due(number, ring->count);
+    uint32_t some = moved ? 0 : due(number, ring);
     for (; some > 0 && (ring->tail + 1) % ring->entries != head; some--) {
         uint32_t which = number ? roll(ring->count) : 0, answer = 0;
         struct nvme_command command = ring->pending[which];
@@ -174,7 +176,7 @@ static void *fake_work(void *nothing) {
 }
 
 static int fake_open(void) {
-    const char *path = getenv("DISK"), *mdts = getenv("MDTS"), *rate = getenv("RATE");
+    const char *path = getenv("DISK"), *mdts = getenv("MDTS"), *rate = getenv("RATE"), *keep = getenv("KEEP");
     struct stat file;
     int fd = path ? __real_open(path, O_RDWR | O_CLOEXEC) : -1;
     if (fd < 0 || fstat(fd, &file))
@@ -183,6 +185,7 @@ static int fake_open(void) {
     disk.disk = __real_mmap(NULL, disk.disk_bytes, PROT_READ | PROT_WRITE, MAP_SHARED, fd, 0);
     __real_close(fd);
     disk.pause = rate ? 1000000 / strtoull(rate, NULL, 10) : 0;
+    disk.keep = keep ? strtoull(keep, NULL, 10) : 0;
     disk.mdts = mdts ? strtoull(mdts, NULL, 10) : 8;
     set_word(NVME_CAP, 1023);   /* MQES */
     set_word(NVME_CAP + 4, 32); /* DSTRD 0, MPSMIN 0 */
