@@ -1,11 +1,13 @@
 // The suite of tests/run_bindings over iova.hpp: calls from standard input, a line each, and their answers.
 #include <iova.hpp>
 
+#include <atomic>
 #include <iostream>
 #include <map>
 #include <optional>
 #include <sstream>
 #include <stdexcept>
+#include <thread>
 
 using u64 = std::uint64_t;
 
@@ -21,8 +23,18 @@ struct machine {
     std::optional<iova::domain> domain;
     std::map<std::string, iova::client> clients;
     std::map<std::string, iova::mapping> mappings;
+    std::optional<iova::shared> shared;
+    std::map<std::string, iova::cache> caches;
+    std::map<std::string, iova::cached> cached;
+    u64 flushes = 0;
+    bool invalidates = true;
 
     void forget() {
+        cached.clear();
+        caches.clear();
+        shared.reset();
+        flushes = 0;
+        invalidates = true;
         mappings.clear();
         clients.clear();
         domain.reset();
@@ -42,6 +54,87 @@ struct machine {
             std::cout << "empty\n";
         else
             std::cout << word << ' ' << answer.lo << ' ' << answer.len << '\n';
+    }
+
+    // Whether it is a call of a shared domain, behind which is told how many flushes there were.
+    bool share(const std::string &word, std::istream &line) {
+        std::string name, other;
+        u64 a = 0, b = 0;
+        std::error_code error;
+        if (word == "share") {
+            shared.emplace(std::move(*domain), [this] {
+                flushes++;
+                return invalidates;
+            });
+            domain.reset();
+            std::cout << "shared\n";
+            return true;
+        } else if (word == "invalidates") {
+            line >> other;
+            invalidates = other == "ok";
+            std::cout << "so\n";
+        } else if (word == "cache") {
+            line >> name >> a >> other;
+            iova::cache made(*shared, a, other == "sac" ? iova::reach::sac : iova::reach::dac, error);
+            if (!is_refused(error))
+                std::cout << "cache " << (caches[name] = std::move(made)).number() << '\n';
+        } else if (word == "cmap") {
+            line >> name >> other >> a >> b;
+            iova::cached made = caches[other].map(a, b, error);
+            if (!is_refused(error)) {
+                std::cout << "mapped " << made.address() << ' ' << made.bytes() << '\n';
+                cached[name] = std::move(made);
+            }
+        } else if (word == "cunmap") {
+            line >> name;
+            cached[name].unmap(error);
+            if (!is_refused(error)) {
+                std::cout << "unmapped\n";
+                cached.erase(name);
+            }
+        } else if (word == "ckeep") {
+            line >> name;
+            std::cout << "kept " << cached[name].release() << '\n';
+            cached.erase(name);
+        } else if (word == "cfree") {
+            line >> name >> a;
+            caches[name].unmap(a, error);
+            if (!is_refused(error))
+                std::cout << "unmapped\n";
+        } else if (word == "cdrop") {
+            line >> name;
+            if (cached.erase(name) + caches.erase(name) != 1)
+                throw std::runtime_error("no " + name);
+            std::cout << "dropped\n";
+        } else if (word == "cflush") {
+            shared->flush(error);
+            if (!is_refused(error))
+                std::cout << "flushed\n";
+        } else if (word == "cback") {
+            line >> name;
+            caches[name].give_back();
+            std::cout << "given back\n";
+        } else if (word == "ccounts") {
+            line >> name;
+            const ::iova_shared_counts c = caches[name].counts();
+            std::cout << "counts " << c.held << ' ' << c.waiting << ' ' << c.cached << '\n';
+        } else if (word == "cowed") {
+            line >> name;
+            std::cout << "owed " << caches[name].owed() << '\n';
+        } else if (word == "scounts") {
+            counts(shared->locked([](iova::domain &its) { return its.counts(); }));
+        } else if (word == "sowed") {
+            std::cout << "owed " << shared->locked([](iova::domain &its) { return its.owed(); }) << '\n';
+        } else {
+            return false;
+        }
+        std::cout << "flushes " << flushes << '\n';
+        return true;
+    }
+
+    static void counts(const ::iova_counts &c) {
+        std::cout << "counts " << c.free << ' ' << c.reserved << ' ' << c.client << ' ' << c.magazine << ' ' << c.depot << ' '
+                  << c.ring << ' ' << c.clients << ' ' << c.windows << '\n';
     }
 
     // Whether it is a step of a trace.
@@ -160,12 +253,10 @@ struct machine {
             line >> a;
             std::cout << "name " << make_error_code(static_cast<iova::refusal>(a)).message() << '\n';
         } else if (word == "counts") {
-            const ::iova_counts c = domain->counts();
-            std::cout << "counts " << c.free << ' ' << c.reserved << ' ' << c.client << ' ' << c.magazine << ' ' << c.depot << ' '
-                      << c.ring << ' ' << c.clients << ' ' << c.windows << '\n';
+            counts(domain->counts());
         } else if (word == "report") {
             report();
-        } else if (!step(word, line)) {
+        } else if (!share(word, line) && !step(word, line)) {
             throw std::runtime_error("no call " + word);
         }
     }
@@ -229,9 +320,53 @@ static void try_throws() {
         throw std::runtime_error("memory");
 }
 
+// A shared domain from two threads, whose invalidation fails by throwing.
+static void try_threads() {
+    std::atomic<bool> is_broken{false};
+    iova::shared shared(iova::domain(1, 1048575, 2), [&]() -> bool {
+        if (is_broken)
+            throw std::runtime_error("broken");
+        return true;
+    });
+    const auto works = [&](u64 worker) {
+        iova::cache first(shared, worker);
+        iova::cache cache = std::move(first);
+        for (int round = 0; round < 2000; round++) {
+            iova::cached one = cache.map(20000, UINT32_MAX), other = cache.map(1000000);
+            if (one.bytes() != 32768 || other.bytes() != 245 * 4096 || one.address() % 32768 || first)
+                throw std::runtime_error("what a thread is given");
+            one = std::move(other);
+        }
+        throws(iova::refusal::zero, std::errc::invalid_argument, [&] { cache.map(0); });
+    };
+    std::thread one(works, 0), other(works, 1);
+    one.join();
+    other.join();
+    throws(iova::refusal::no_worker, std::errc::invalid_argument, [&] { iova::cache(shared, 2); });
+    {
+        iova::cache cache(shared);
+        iova::cached kept = cache.map(1);
+        std::error_code error;
+        std::thread([&] { kept.unmap_by_other(error); }).join();
+        if (error || kept || cache.counts().held != 1)
+            throw std::runtime_error("what another thread gives up");
+        cache.give_back();
+        if (cache.counts().held != 0)
+            throw std::runtime_error("what another thread gave up");
+        is_broken = true;
+        throws(iova::refusal::sink_fault, std::errc(), [&] { shared.flush(); });
+        is_broken = false;
+    }
+    shared.flush();
+    shared.locked([](iova::domain &its) { its.reserve(5, 6); });
+    if (shared.locked([](iova::domain &its) { return its.counts(); }).client != 0)
+        throw std::runtime_error("what threads leave");
+}
+
 int main() {
     std::ios::sync_with_stdio(false);
     try_throws();
+    try_threads();
     machine its;
     std::string text, word;
     while (std::getline(std::cin, text)) {

@@ -6,11 +6,19 @@ from iova import Domain, Refusal, Refused
 
 domain = None
 clients, mappings = {}, {}
+caches, cached, iotlb = {}, {}, {}
 RANGE = "{} {}".format
 
 
 def forget():
     global domain
+    for one in list(cached.values()):
+        one.__exit__(None, None, None)
+    for cache in list(caches.values()):
+        cache.close()
+    cached.clear()
+    caches.clear()
+    iotlb.clear()
     for mapping in list(mappings.values()):
         mapping.__exit__(None, None, None)
     for client in list(clients.values()):
@@ -97,7 +105,80 @@ def of_counts():
     return "counts " + " ".join(str(count) for count in domain.counts())
 
 
+def share():
+    iotlb.update(is_good=True, flushes=0)
+    return "shared"
+
+
+def invalidate():
+    iotlb["flushes"] += 1
+    return iotlb["is_good"]
+
+
+def invalidates(how):
+    iotlb["is_good"] = how == "ok"
+    return "so"
+
+
+def open_cache(name, worker, reach):
+    caches[name] = domain.cache(invalidate, int(worker), reach == "sac")
+    return f"cache {caches[name].number}"
+
+
+def map_cached(name, cache, bytes_, mask):
+    made = caches[cache].map(int(bytes_), mask=int(mask))
+    cached[name] = made
+    return f"mapped {made.address} {made.bytes}"
+
+
+def unmap_cached(name):
+    cached[name].unmap()
+    del cached[name]
+    return "unmapped"
+
+
+def drop_cached(name):
+    if name in cached:
+        cached.pop(name).__exit__(None, None, None)
+    else:
+        caches.pop(name).close()
+    return "dropped"
+
+
+def free_cached(name, address):
+    caches[name].unmap(int(address))
+    return "unmapped"
+
+
+def flush_cached():
+    next(iter(caches.values())).flush()
+    return "flushed"
+
+
+def give_back(name):
+    caches[name].give_back()
+    return "given back"
+
+
+# Of a shared domain: each is told with how many flushes there were.
+SHARED = {
+    "invalidates": invalidates,
+    "cache": open_cache,
+    "cmap": map_cached,
+    "cunmap": unmap_cached,
+    "cdrop": drop_cached,
+    "ckeep": lambda name: f"kept {cached.pop(name).address}",
+    "cfree": free_cached,
+    "cflush": flush_cached,
+    "cback": give_back,
+    "ccounts": lambda name: "counts {} {} {}".format(*caches[name].counts()),
+    "cowed": lambda name: f"owed {caches[name].owed}",
+    "scounts": of_counts,
+    "sowed": lambda: f"owed {domain.owed}",
+}
 CALLS = {
+    **SHARED,
+    "share": share,
     "iovatrace": lambda *words: make(words, False),
     "domain": lambda *words: make(("1",) + words, True),
     "second": lambda *words: make(("2",) + words, True),
@@ -132,4 +213,6 @@ for text in sys.stdin:
         answer = f"no {refused.number} {refused}"
     if answer is not None:
         print(answer)
+    if word in SHARED:
+        print("flushes", iotlb["flushes"])
 forget()

@@ -11,12 +11,13 @@ A Domain hands them out in this process, by libiova; a Service is a client of th
 log. Frames are pages of 4,096 bytes, numbered by their address divided by 4,096.
 """
 from .checking import Finding, Verdict, check
+from .cache import Cache, CacheCounts, Cached
 from .library import NO_LIMIT, NO_MASK, Refusal, Refused, version
 from .domain import Bounds, Client, Counts, Domain, Flushes, Frames, Mapping, Place, PlaceKind, Totals
 from .service import Answer, Batch, Flushed, Freed, Service, ServiceError, Stat, TimedOut
 
 __version__ = "0.2.0"
 __all__ = [
-    "Answer", "Batch", "Bounds", "Client", "Counts", "Domain", "Finding", "Flushed", "Flushes", "Frames", "Freed", "Mapping", "NO_LIMIT",
-    "NO_MASK", "Place", "PlaceKind", "Refusal", "Refused", "Service", "ServiceError", "Stat", "TimedOut", "Totals", "Verdict", "check", "version",
+    "Answer", "Batch", "Bounds", "Cache", "CacheCounts", "Cached", "Client", "Counts", "Domain", "Finding", "Flushed", "Flushes", "Frames",
+    "Freed", "Mapping", "NO_LIMIT", "NO_MASK", "Place", "PlaceKind", "Refusal", "Refused", "Service", "ServiceError", "Stat", "TimedOut", "Totals", "Verdict", "check", "version",
 ]

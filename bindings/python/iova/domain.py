@@ -4,7 +4,8 @@ import enum
 from types import TracebackType
 from typing import Any, Callable, List, NamedTuple, Optional, Tuple, Type
 
-from .library import NO_LIMIT, NO_MASK, Listed, Refused, _Struct, library
+from .cache import Cache
+from .library import NO_LIMIT, NO_MASK, Listed, Refused, _Struct, library, in_64_bits
 
 _RING_FULL = 7
 
@@ -97,12 +98,6 @@ def _range(answer: Any) -> Frames:
     return Frames(answer.lo, answer.len)
 
 
-def _within(*numbers: int) -> None:
-    for number in numbers:
-        if not 0 <= number < 2**64:
-            raise ValueError(f"{number} isn't a number from 0 to 2^64 - 1")
-
-
 class Mapping(_Struct):
     """Bytes in a row that a device may use: those of Client.map. `address` and `bytes` are multiples of 4,096.
 
@@ -157,7 +152,7 @@ class Client:
         frames, and as Domain.alloc says. Refused as that is; for 0 bytes by ZERO, for more than 4 GiB by TOO_BIG, for a mask below 8,191
         by NO_SPACE."""
         if (bytes | mask) >> 64:
-            _within(bytes, mask)
+            in_64_bits(bytes, mask)
         given: Mapping = self._map(self._room, self.worker, self.number, bytes, mask)
         if given.refused:
             raise Refused(given.refused)
@@ -192,7 +187,7 @@ class Domain:
     """
 
     def __init__(self, start: int, last: int, workers: int = 1, depot: Optional[int] = None) -> None:
-        _within(start, last, workers, depot or 0)
+        in_64_bits(start, last, workers, depot or 0)
         its = library(Mapping)
         self._calls = its.calls
         # room aligned to 8
@@ -201,6 +196,7 @@ class Domain:
         self._workers = workers
         # what a with couldn't give up: a client's mapping, or, without an address, a client
         self._owed: List[Tuple[int, int, Optional[int]]] = []
+        self._caches: List[Cache] = []
         self._calls["domain_init"](self._at)
         if depot is None:
             refused = self._calls["domain_make"](self._at, start, last, workers)
@@ -213,6 +209,10 @@ class Domain:
         """A client of the worker. With `sac` (single address cycle) it is first sought a place below 4 GiB. Refused as open() is."""
         return Client(self, worker, self.open(worker, sac))
 
+    def cache(self, invalidate: Callable[[], object], worker: int = 0, sac: bool = False) -> Cache:
+        """A cache of ranges, which is a client of the worker and flushes by `invalidate` where it has to. Refused as open() is."""
+        return Cache(self, invalidate, worker, sac)
+
     def flush(self, invalidate: Callable[[], object]) -> int:
         """A flush of the IOTLB: `invalidate` is called once it has begun, and answers whether the invalidation was done; what it raises is
         raised, and the flush has failed. Then each ring is drained into its own worker's magazines, and what is owed is given up. Answers
@@ -224,27 +224,35 @@ class Domain:
         finally:
             self.end(number, is_done)
         left = sum(self.drain(worker, worker) for worker in range(self._workers))
+        self._pay()
+        return left
+
+    def _pay(self) -> None:
         owed, self._owed = self._owed, []
         for worker, client, address in owed:
             if address is None:
                 self._close(worker, client)
             elif self._calls["unmap_bytes"](self._at, worker, client, address).refused == _RING_FULL:
                 self._owed.append((worker, client, address))
-        return left
 
     @property
     def owed(self) -> int:
         """How many mappings and clients are still to be given up, since their worker's ring was full."""
         return len(self._owed)
 
-    def _close(self, worker: int, client: int) -> None:
+    def _close(self, worker: int, client: int, flush: Callable[[], bool] = lambda: False) -> None:
+        flushes = 0
         while True:
             left = self._calls["close_one"](self._at, worker, client)
             if left.refused == _RING_FULL:
-                self._owed.append((worker, client, None))
+                flushes += 1
+                if flushes > 4 or not flush():
+                    self._owed.append((worker, client, None))
+                    return
+            elif left.refused or left.len == 0:
                 return
-            if left.refused or left.len == 0:
-                return
+            else:
+                flushes = 0
 
     def close(self) -> None:
         """Ends the domain, and gives back all memory that it took."""
@@ -273,25 +281,25 @@ class Domain:
     def reserve(self, lo: int, hi: int) -> Frames:
         """Makes one window of the frames `lo` to `hi` and of all windows that overlap them, and answers it: frames that nobody is given.
         Refused by BAD_WINDOW, TAKEN, WINDOWS_FULL, NO_MEMORY."""
-        _within(lo, hi)
+        in_64_bits(lo, hi)
         return _range(self._calls["reserve"](self._at, lo, hi))
 
     def open(self, worker: int, sac: bool = False) -> int:
         """Opens a client of the worker, and answers its number. Refused by NO_WORKER, WORN, CLIENTS_FULL, NO_MEMORY."""
-        _within(worker)
+        in_64_bits(worker)
         return _number(self._calls["open"](self._at, worker, 1 if sac else 0))
 
     def alloc(self, worker: int, client: int, frames: int, limit: int = NO_LIMIT) -> Frames:
         """Gives the client the highest range that fits, none of its frames above frame `limit`. Fewer than 32 frames are rounded up to a
         power of two, and the range begins at a multiple of the least power of two that isn't below its length. Refused by NO_WORKER, ZERO,
         TOO_BIG, NO_CLIENT, CLOSING, HOLDINGS_FULL, NO_MEMORY, NO_SPACE. NO_SPACE has emptied all caches, and NO_MEMORY may have."""
-        _within(worker, client, frames, limit)
+        in_64_bits(worker, client, frames, limit)
         return _range(self._calls["alloc"](self._at, worker, client, frames, limit))
 
     def unmap(self, worker: int, client: int, lo: int) -> Frames:
         """Puts the client's holding that begins at frame `lo` into the worker's ring, where it waits for a flush, and answers it. Refused by
         NO_WORKER, NO_CLIENT, CLOSING, NOT_HELD, RING_FULL."""
-        _within(worker, client, lo)
+        in_64_bits(worker, client, lo)
         return _range(self._calls["unmap"](self._at, worker, client, lo))
 
     def begin(self) -> int:
@@ -300,7 +308,7 @@ class Domain:
 
     def end(self, number: int, ok: bool) -> None:
         """Ends the flush of this number: `ok` says that the invalidation was done. Refused by NO_FLIGHT."""
-        _within(number)
+        in_64_bits(number)
         refused = self._calls["end"](self._at, number, 1 if ok else 0)
         if refused:
             raise Refused(refused)
@@ -308,18 +316,18 @@ class Domain:
     def drain(self, ring: int, by: int) -> int:
         """Takes what flushes have covered out of the ring of worker `ring` into the magazines of worker `by`, and answers how many ranges.
         Refused by NO_WORKER."""
-        _within(ring, by)
+        in_64_bits(ring, by)
         return _number(self._calls["drain"](self._at, ring, by))
 
     def close_client(self, worker: int, client: int) -> int:
         """Marks the client closing: it is given nothing more. Answers how many ranges it holds. Refused by NO_WORKER, NO_CLIENT."""
-        _within(worker, client)
+        in_64_bits(worker, client)
         return _number(self._calls["close"](self._at, worker, client))
 
     def close_one(self, worker: int, client: int) -> Optional[Frames]:
         """Marks the client closing, and puts its lowest holding into the worker's ring; answers it, or None where it has none, and then it
         is gone. Refused by NO_WORKER, NO_CLIENT; by RING_FULL, and then it is marked."""
-        _within(worker, client)
+        in_64_bits(worker, client)
         left = _range(self._calls["close_one"](self._at, worker, client))
         return left if left.len else None
 
@@ -327,7 +335,7 @@ class Domain:
 
     def place(self, frame: int) -> Place:
         """Where the frame is."""
-        _within(frame)
+        in_64_bits(frame)
         kind, number = _fields(self._calls["place_of"](self._at, frame))
         return Place(PlaceKind(kind), number)
 
@@ -341,7 +349,7 @@ class Domain:
 
     def share(self, worker: int) -> Totals:
         """What the clients of the worker hold. Refused by NO_WORKER."""
-        _within(worker)
+        in_64_bits(worker)
         return Totals(*_fields(self._calls["share_of"](self._at, worker)))
 
     def bounds(self) -> Bounds:
@@ -354,7 +362,7 @@ class Domain:
 
     def holdings(self, client: int) -> List[Frames]:
         """The ranges that the client holds, rising by first frame. Refused by NO_CLIENT."""
-        _within(client)
+        in_64_bits(client)
         return self._listed(lambda at, room: self._calls["holdings_of"](self._at, client, at, room))
 
     def windows(self) -> List[Frames]:

@@ -42,6 +42,11 @@ class Refusal(enum.IntEnum):
     TWICE = 24
     BAD_PROFILE = 25
     OTHER_VERSION = 200
+    NO_CACHE = 201
+    NO_ORDER = 202
+    DRY = 203
+    MISS = 204
+    FULL = 205
 
     @property
     def word(self) -> str:
@@ -55,6 +60,13 @@ class Refused(Exception):
         self.number = number
         self.refusal: Optional[Refusal] = Refusal(number) if number in Refusal._value2member_map_ else None
         super().__init__(self.refusal.word if self.refusal else f"refusal {number}")
+
+
+def in_64_bits(*numbers: int) -> None:
+    """Raises ValueError where one of them isn't a number of 64 bits."""
+    for number in numbers:
+        if not 0 <= number < 2**64:
+            raise ValueError(f"{number} isn't a number from 0 to 2^64 - 1")
 
 
 class _Struct(ctypes.Structure):
@@ -73,6 +85,10 @@ CountsAnswer = struct("CountsAnswer", "free", "reserved", "client", "magazine", 
 TotalsAnswer = struct("TotalsAnswer", "count", "frames", "sum_lo")
 BoundsAnswer = struct("BoundsAnswer", "start", "last", "magazine", "depot", "workers")
 FlushesAnswer = struct("FlushesAnswer", "start", "finish", "owed", "newest", "good", "in_flight")
+
+
+class CacheCountsAnswer(_Struct):
+    _fields_ = [("refused", _u64), ("held", _u64), ("waiting", _u64), ("magazines", _u64 * 6)]
 
 
 class Listed(ctypes.Structure):
@@ -104,6 +120,19 @@ _CALLS: Dict[str, Any] = {
     "flushes_of": (FlushesAnswer, 1),
     "holdings_of": (Number, 4),
     "windows_of": (Number, 3),
+    "cache_size": (ctypes.c_size_t, 0),
+    "cache_init": (None, 1),
+    "cache_clear": (None, 1),
+    "cache_make": (Number, 4),
+    "cache_alloc": (Range, 3),
+    "cache_unmap": (Range, 3),
+    "cache_settle": (Number, 2),
+    "cache_refill": (Number, 5),
+    "cache_spill": (Number, 4),
+    "cache_alloc_by": (Range, 4),
+    "cache_unmap_by": (Range, 3),
+    "cache_end": (Number, 2),
+    "cache_counts_of": (CacheCountsAnswer, 1),
 }
 
 

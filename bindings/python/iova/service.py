@@ -6,8 +6,8 @@ import time
 from types import TracebackType
 from typing import Any, Callable, Deque, Generic, List, NamedTuple, Optional, Type, TypeVar
 
-from .domain import Frames, _within
-from .library import NO_LIMIT, Refused
+from .domain import Frames
+from .library import NO_LIMIT, Refused, in_64_bits
 
 IN_FLIGHT = 16
 """Requests in flight at most."""
@@ -93,7 +93,7 @@ class Service:
     """
 
     def __init__(self, path: str, domain: int = 0, sac: bool = False, within: Optional[float] = None) -> None:
-        _within(domain)
+        in_64_bits(domain)
         self.within = within
         self._until = None if within is None else time.monotonic() + within
         self._lost: Optional[ServiceError] = None
@@ -261,11 +261,11 @@ class Batch:
         self._service = service
 
     def alloc(self, frames: int, limit: int = NO_LIMIT) -> "Answer[Frames]":
-        _within(frames, limit)
+        in_64_bits(frames, limit)
         return self._service._ask(f"alloc {frames} {limit}", lambda: self._frames(_GIVEN))
 
     def free(self, lo: int) -> "Answer[Freed]":
-        _within(lo)
+        in_64_bits(lo)
 
         def freed() -> Freed:
             found = self._service._line(_FREED)

@@ -4,7 +4,7 @@ use std::fmt;
 use std::mem;
 
 use crate::domain::{Domain, Frames};
-use crate::refusal::told;
+use crate::refusal::{refusal, told};
 use crate::{sys, Refusal};
 
 /// A client of a worker. Dropped, it is closed, with all that it still has: that waits for a flush in the worker's ring.
@@ -81,11 +81,6 @@ impl<'d> Client<'d> {
     pub fn holdings(&self) -> Vec<Frames> {
         self.domain.holdings(self.number).unwrap_or_default()
     }
-}
-
-#[cold]
-fn refusal(number: u64) -> Refusal {
-    Refusal::of(number).unwrap_or(Refusal::Other(number))
 }
 
 impl Drop for Client<'_> {

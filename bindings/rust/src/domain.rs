@@ -260,7 +260,7 @@ impl Domain {
         }
     }
 
-    fn pay(&self) {
+    pub(crate) fn pay(&self) {
         self.owed.borrow_mut().retain(|owed| match *owed {
             Owed::Unmap { worker, client, address } => {
                 self.unmap_bytes(worker, client, address) == Err(Refusal::RingFull)
@@ -434,7 +434,7 @@ fn of_range(answer: sys::Range) -> Result<Frames, Refusal> {
 }
 
 #[inline(always)]
-fn of_number(answer: sys::Number) -> Result<u64, Refusal> {
+pub(crate) fn of_number(answer: sys::Number) -> Result<u64, Refusal> {
     told(answer.refused, answer.number)
 }
 

@@ -19,17 +19,21 @@
 //! }
 //! ```
 //!
+//! Threads share a domain by [`Shared`], each with a [`Cache`] of its own.
+//!
 //! Frames are pages of 4,096 bytes, numbered by their address divided by 4,096. A call takes frames, not bytes, where its name has no
 //! `map` or `bytes` in it.
 #![deny(missing_docs)]
 #![deny(rustdoc::broken_intra_doc_links)]
 
+mod cache;
 mod client;
 mod domain;
 mod refusal;
 pub mod service;
 mod sys;
 
+pub use cache::{Cache, CacheCounts, Cached, Shared};
 pub use client::{Client, Range};
 pub use domain::{Bounds, Counts, Domain, Flushes, Frames, Mapping, Place, Reach, Totals};
 pub use refusal::Refusal;

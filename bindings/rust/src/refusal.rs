@@ -97,6 +97,16 @@ refusals! {
     BadProfile = 25,
     /// The library doesn't serve a program that was built for this version of the crate.
     OtherVersion = 200,
+    /// Of caches: there is none in the room.
+    NoCache = 201,
+    /// Of caches: not a length of magazines, which have ranges of 1, 2, 4, 8, 16 and 32 frames.
+    NoOrder = 202,
+    /// Of caches: the magazine of that length is empty.
+    Dry = 203,
+    /// Of caches: they have ranges, and the newest has a frame above the limit.
+    Miss = 204,
+    /// Of caches: the magazine of that length is full.
+    Full = 205,
 }
 
 impl fmt::Display for Refusal {
@@ -117,4 +127,10 @@ pub(crate) fn told<T>(refused: u64, value: T) -> Result<T, Refusal> {
         None => Ok(value),
         Some(refusal) => Err(refusal),
     }
+}
+
+/// The refusal with this number, which isn't 0.
+#[cold]
+pub(crate) fn refusal(number: u64) -> Refusal {
+    Refusal::of(number).unwrap_or(Refusal::Other(number))
 }

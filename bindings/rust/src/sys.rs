@@ -14,6 +14,18 @@ impl Room {
     }
 }
 
+/// `iova_cache`: the same for a cache.
+#[repr(C)]
+pub struct CacheRoom {
+    opaque: [u64; 512 / 8],
+}
+
+impl CacheRoom {
+    pub const fn new() -> Self {
+        CacheRoom { opaque: [0; 512 / 8] }
+    }
+}
+
 /// `iova_range`.
 #[repr(C)]
 #[derive(Clone, Copy)]
@@ -77,6 +89,16 @@ pub struct Listed {
     pub len: u64,
 }
 
+/// `iova_cache_counts`.
+#[repr(C)]
+#[derive(Clone, Copy)]
+pub struct CacheCounts {
+    pub refused: u64,
+    pub held: u64,
+    pub waiting: u64,
+    pub magazines: [u64; 6],
+}
+
 extern "C" {
     pub fn iova_version() -> u64;
     pub fn iova_domain_size() -> usize;
@@ -103,4 +125,16 @@ extern "C" {
     pub fn iova_flushes_of(domain: *mut Room) -> Answer<Flushes>;
     pub fn iova_holdings_of(domain: *mut Room, client: u64, list: *mut Listed, room: usize) -> Number;
     pub fn iova_windows_of(domain: *mut Room, list: *mut Listed, room: usize) -> Number;
+    pub fn iova_cache_size() -> usize;
+    pub fn iova_cache_init(cache: *mut CacheRoom);
+    pub fn iova_cache_make(domain: *mut Room, cache: *mut CacheRoom, worker: u64, sac: u64) -> Number;
+    pub fn iova_cache_alloc(cache: *mut CacheRoom, frames: u64, limit: u64) -> Range;
+    pub fn iova_cache_unmap(cache: *mut CacheRoom, lo: u64, start: u64) -> Range;
+    pub fn iova_cache_settle(cache: *mut CacheRoom, newest: u64) -> Number;
+    pub fn iova_cache_refill(domain: *mut Room, cache: *mut CacheRoom, frames: u64, limit: u64, most: u64) -> Number;
+    pub fn iova_cache_spill(domain: *mut Room, cache: *mut CacheRoom, order: u64, most: u64) -> Number;
+    pub fn iova_cache_alloc_by(domain: *mut Room, cache: *mut CacheRoom, frames: u64, limit: u64) -> Range;
+    pub fn iova_cache_unmap_by(domain: *mut Room, cache: *mut CacheRoom, lo: u64) -> Range;
+    pub fn iova_cache_end(domain: *mut Room, cache: *mut CacheRoom) -> Number;
+    pub fn iova_cache_counts_of(cache: *mut CacheRoom) -> CacheCounts;
 }

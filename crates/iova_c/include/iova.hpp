@@ -24,6 +24,7 @@
 
 #include <cstddef>
 #include <cstdint>
+#include <functional>
 #include <memory>
 #include <string>
 #include <system_error>
@@ -32,6 +33,7 @@
 #include <vector>
 
 #include "iova.h"
+#include "iova_shared.h"
 
 namespace iova {
 
@@ -62,7 +64,12 @@ enum class refusal : int {
     no_domain = IOVA_NO_DOMAIN,
     twice = IOVA_TWICE,
     bad_profile = IOVA_BAD_PROFILE,
-    other_version = IOVA_OTHER_VERSION
+    other_version = IOVA_OTHER_VERSION,
+    no_cache = IOVA_NO_CACHE,
+    no_order = IOVA_NO_ORDER,
+    dry = IOVA_DRY,
+    miss = IOVA_MISS,
+    full = IOVA_FULL
 };
 
 namespace detail {
@@ -184,6 +191,7 @@ struct state {
 } // namespace detail
 
 class client;
+class shared;
 
 /* The address space of one device. It may be moved, and is empty then; an empty one refuses nothing: no call is made on it. */
 class domain {
@@ -292,6 +300,7 @@ class domain {
 
   private:
     friend class client;
+    friend class shared;
 
     domain() noexcept = default;
 
@@ -461,6 +470,264 @@ class client {
 
     detail::state *domain_ = nullptr;
     std::uint64_t worker_ = 0, number_ = 0;
+};
+
+/* A domain that threads share, each by a cache of its own: iova_shared.h, whose rules hold. It has the domain, and must outlive its
+ * caches. A program of it is linked with the threads of POSIX (-pthread). */
+class shared {
+  public:
+    /* Takes a domain over that has no clients. `invalidate` invalidates the whole domain, and answers whether it did. It is called
+     * without a lock by whichever thread flushes, and by several at once, and calls nothing of this object or its caches. Where it
+     * throws, the flush has failed. Refused by no_memory. */
+    shared(domain domain, std::function<bool()> invalidate)
+        : its_(std::make_unique<state>(std::move(domain), std::move(invalidate))) {
+        std::error_code error;
+        its_->is_ready = !detail::is_refused(::iova_shared_init(&its_->room, its_->domain.at(), state::invalidates, its_.get()), error);
+        detail::told(error, "iova::shared");
+    }
+
+    /* What `call` answers of the domain, with the lock held: reserve, counts and their kin, and no flush. */
+    template <class Call> auto locked(Call &&call) {
+        struct held {
+            ::pthread_mutex_t *lock;
+            explicit held(::pthread_mutex_t *its) : lock(its) { ::pthread_mutex_lock(lock); }
+            held(const held &) = delete;
+            held &operator=(const held &) = delete;
+            ~held() { ::pthread_mutex_unlock(lock); }
+        } hold(&its_->room.lock);
+        return std::forward<Call>(call)(its_->domain);
+    }
+
+    /* A flush now, and then what a cache couldn't give up when it went. Refused by sink_fault where the invalidation failed, and by
+     * worn. */
+    void flush(std::error_code &error) {
+        if (!detail::is_refused(::iova_shared_flush(&its_->room), error))
+            locked([](iova::domain &domain) { domain.its_->pay(); });
+    }
+
+    void flush() {
+        std::error_code error;
+        flush(error);
+        detail::told(error, "iova::shared::flush");
+    }
+
+  private:
+    friend class cache;
+
+    struct state {
+        iova::domain domain;
+        std::function<bool()> invalidate;
+        ::iova_shared room;
+        bool is_ready = false;
+
+        state(iova::domain its, std::function<bool()> how) : domain(std::move(its)), invalidate(std::move(how)) {}
+        state(const state &) = delete;
+        state &operator=(const state &) = delete;
+        ~state() {
+            if (is_ready)
+                ::iova_shared_clear(&room);
+        }
+
+        void owes(std::uint64_t worker, std::uint64_t client) noexcept {
+            ::pthread_mutex_lock(&room.lock);
+            domain.its_->keep({worker, client, 0, true});
+            ::pthread_mutex_unlock(&room.lock);
+        }
+
+        static int invalidates(void *with) {
+            try {
+                return static_cast<state *>(with)->invalidate();
+            } catch (...) {
+                return 0;
+            }
+        }
+    };
+
+    std::unique_ptr<state> its_;
+};
+
+namespace detail {
+
+struct cache_state {
+    ::iova_shared_cache room;
+    std::vector<std::uint64_t> owes; /* addresses that a destructor couldn't give up */
+
+    void keep(std::uint64_t address) noexcept {
+        try {
+            owes.push_back(address);
+        } catch (...) {
+            /* it stays the cache's, and goes with it */
+        }
+    }
+
+    void pay() noexcept {
+        std::size_t kept = 0;
+        for (std::size_t at = 0; at < owes.size(); at++)
+            if (::iova_shared_unmap_bytes(&room, owes[at]).refused == IOVA_RING_FULL)
+                owes[kept++] = owes[at];
+        owes.resize(kept);
+    }
+};
+
+} // namespace detail
+
+/* Bytes in a row of a thread's cache, which a device may use until the object goes. It may be moved, and is empty then. */
+class cached {
+  public:
+    cached() noexcept = default;
+    cached(cached &&other) noexcept
+        : cache_(std::exchange(other.cache_, nullptr)), address_(other.address_), bytes_(other.bytes_) {}
+    cached &operator=(cached &&other) noexcept {
+        if (this != &other) {
+            give_up();
+            cache_ = std::exchange(other.cache_, nullptr);
+            address_ = other.address_;
+            bytes_ = other.bytes_;
+        }
+        return *this;
+    }
+    ~cached() { give_up(); }
+
+    /* Whether there is a range. */
+    explicit operator bool() const noexcept { return cache_ != nullptr; }
+
+    /* The address of the first byte, a multiple of 4,096, and how many bytes there are, one too. */
+    std::uint64_t address() const noexcept { return address_; }
+    std::uint64_t bytes() const noexcept { return bytes_; }
+
+    /* Gives the range up, as the destructor does, and says why that is refused: by ring_full where 255 wait and no flush went well, and
+     * then it stays. */
+    void unmap(std::error_code &error) noexcept {
+        error.clear();
+        if (cache_ && !detail::is_refused(::iova_shared_unmap_bytes(&cache_->room, address_).refused, error))
+            cache_ = nullptr;
+    }
+
+    void unmap() {
+        std::error_code error;
+        unmap(error);
+        detail::told(error, "iova::cached::unmap");
+    }
+
+    /* unmap on another thread than the cache's, which takes it at its next call. Refused by ring_full where 255 are to be taken. */
+    void unmap_by_other(std::error_code &error) noexcept {
+        error.clear();
+        if (cache_ && !detail::is_refused(::iova_shared_unmap_by_other(&cache_->room, address_ / IOVA_FRAME_BYTES), error))
+            cache_ = nullptr;
+    }
+
+    /* The address, which the program gives up itself, by cache::unmap. */
+    std::uint64_t release() noexcept {
+        cache_ = nullptr;
+        return address_;
+    }
+
+  private:
+    friend class cache;
+
+    cached(detail::cache_state *cache, const ::iova_mapping &given) noexcept
+        : cache_(cache), address_(given.address), bytes_(given.bytes) {}
+
+    void give_up() noexcept {
+        if (cache_ && ::iova_shared_unmap_bytes(&cache_->room, address_).refused == IOVA_RING_FULL)
+            cache_->keep(address_);
+    }
+
+    detail::cache_state *cache_ = nullptr;
+    std::uint64_t address_ = 0, bytes_ = 0;
+};
+
+/* A thread's cache of a shared domain, of which it is one client: most of what it gives and takes back needs no lock. One thread at a
+ * time uses it and what it gave, which must not outlive it. It may be moved, and is empty then. */
+class cache {
+  public:
+    cache() noexcept = default;
+
+    /* Refused by no_worker, worn, clients_full, no_memory. */
+    explicit cache(shared &shared, std::uint64_t worker = 0, reach reach = reach::dac) {
+        std::error_code error;
+        open(shared, worker, reach, error);
+        detail::told(error, "iova::cache");
+    }
+
+    cache(shared &shared, std::uint64_t worker, reach reach, std::error_code &error) { open(shared, worker, reach, error); }
+
+    cache(cache &&other) noexcept : its_(std::move(other.its_)), shared_(other.shared_) {}
+    cache &operator=(cache &&other) noexcept {
+        if (this != &other) {
+            end();
+            its_ = std::move(other.its_);
+            shared_ = other.shared_;
+        }
+        return *this;
+    }
+    ~cache() { end(); }
+
+    explicit operator bool() const noexcept { return its_ != nullptr; }
+    std::uint64_t number() const noexcept { return its_->room.client; }
+    std::uint64_t worker() const noexcept { return its_->room.worker; }
+
+    /* A range for so many bytes, none above the address `mask`: iova_shared_map, with its refusals. */
+    cached map(std::uint64_t bytes, std::uint64_t mask, std::error_code &error) noexcept {
+        if (!its_->owes.empty())
+            its_->pay();
+        const ::iova_mapping given = ::iova_shared_map(&its_->room, bytes, mask);
+        if (detail::is_refused(given.refused, error))
+            return cached();
+        return cached(its_.get(), given);
+    }
+
+    cached map(std::uint64_t bytes, std::uint64_t mask = IOVA_NO_MASK) {
+        std::error_code error;
+        cached given = map(bytes, mask, error);
+        detail::told(error, "iova::cache::map");
+        return given;
+    }
+
+    /* Gives up the range in whose first frame the address is: one that was released. Refused by not_held, and as cached::unmap is. */
+    void unmap(std::uint64_t address, std::error_code &error) noexcept {
+        detail::is_refused(::iova_shared_unmap_bytes(&its_->room, address).refused, error);
+    }
+
+    void unmap(std::uint64_t address) {
+        std::error_code error;
+        unmap(address, error);
+        detail::told(error, "iova::cache::unmap");
+    }
+
+    /* Gives back to the domain what nobody uses and what waits for no flush: for a thread that makes no call for long. */
+    void give_back() noexcept {
+        its_->pay();
+        ::iova_shared_give_back(&its_->room);
+    }
+
+    /* How many ranges were to be given up, when their objects went, and found 255 that wait: they go at a later call. */
+    std::size_t owed() const noexcept { return its_->owes.size(); }
+
+    /* How many ranges are where. It walks over what the user holds. */
+    ::iova_shared_counts counts() const noexcept { return ::iova_shared_counts_of(&its_->room); }
+
+    /* The cache ends, with all that it gave, and its client is closed. Where the domain's ring has no room, and no flush goes well, the
+     * domain owes that, and does it behind the next shared::flush. */
+    void end() noexcept {
+        if (!its_)
+            return;
+        if (::iova_shared_close(&its_->room))
+            shared_->owes(its_->room.worker, its_->room.client);
+        its_.reset();
+    }
+
+  private:
+    void open(shared &shared, std::uint64_t worker, reach reach, std::error_code &error) {
+        auto made = std::make_unique<detail::cache_state>();
+        if (detail::is_refused(::iova_shared_open(&made->room, &shared.its_->room, worker, reach == iova::reach::sac), error))
+            return;
+        its_ = std::move(made);
+        shared_ = shared.its_.get();
+    }
+
+    std::unique_ptr<detail::cache_state> its_;
+    shared::state *shared_ = nullptr;
 };
 
 } // namespace iova

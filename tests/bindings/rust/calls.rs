@@ -3,8 +3,10 @@
 use std::collections::HashMap;
 use std::io::{self, BufRead, Write};
 use std::panic::{self, AssertUnwindSafe};
+use std::sync::atomic::{AtomicBool, AtomicU64, Ordering};
+use std::sync::Arc;
 
-use iova::{Client, Domain, Frames, Range, Reach, Refusal};
+use iova::{Cache, Cached, Client, Counts, Domain, Frames, Range, Reach, Refusal, Shared};
 
 /// What a domain of the script has; it goes before the domain does.
 #[derive(Default)]
@@ -121,14 +123,89 @@ fn call<'d>(domain: &'d Domain, objects: &mut Objects<'d>, words: &[&str]) -> Re
             held.iter().fold("holdings".to_string(), |told, one| format!("{told} {}+{}", one.lo, one.len))
         }
         "name" => format!("name {}", Refusal::of(v(1)).map_or("", Refusal::name)),
-        "counts" => {
-            let c = domain.counts();
-            let all = [c.free, c.reserved, c.client, c.magazine, c.depot, c.ring, c.clients, c.windows];
-            all.iter().fold("counts".to_string(), |told, count| format!("{told} {count}"))
-        }
+        "counts" => counts(domain.counts()),
         "report" => report(domain),
         _ => step(domain, words)?,
     })
+}
+
+fn counts(c: Counts) -> String {
+    let all = [c.free, c.reserved, c.client, c.magazine, c.depot, c.ring, c.clients, c.windows];
+    all.iter().fold("counts".to_string(), |told, count| format!("{told} {count}"))
+}
+
+/// What a shared domain of the script has. The ranges go before the caches that they are of.
+struct Caches<'s> {
+    ranges: HashMap<String, Cached<'s>>,
+    caches: HashMap<String, Box<Cache<'s>>>,
+    shared: &'s Shared,
+    iotlb: &'s Iotlb,
+}
+
+/// Whether the invalidation fails, and how many there were.
+#[derive(Default)]
+struct Iotlb {
+    fails: AtomicBool,
+    flushes: AtomicU64,
+}
+
+impl<'s> Caches<'s> {
+    fn cache(&self, name: &str) -> &'s Cache<'s> {
+        // SAFETY: it lies in a box, and is dropped behind all ranges that are of it: the script sees to that, as the borrow checker does
+        // where the names are Rust's.
+        unsafe { &*(&*self.caches[name] as *const Cache<'s>) }
+    }
+
+    fn call(&mut self, words: &[&str]) -> Result<String, Refusal> {
+        let v = |at: usize| number(words[at]);
+        Ok(match words[0] {
+            "invalidates" => {
+                self.iotlb.fails.store(words[1] != "ok", Ordering::Relaxed);
+                "so".to_string()
+            }
+            "cache" => {
+                let cache = self.shared.cache_of(v(2), reach(words[3]))?;
+                let told = format!("cache {}", cache.number());
+                self.caches.insert(words[1].to_string(), Box::new(cache));
+                told
+            }
+            "cmap" => {
+                let range = self.cache(words[2]).map(v(3), v(4))?;
+                let told = format!("mapped {} {}", range.address(), range.bytes());
+                self.ranges.insert(words[1].to_string(), range);
+                told
+            }
+            "cunmap" => match self.ranges.remove(words[1]).expect("a range").unmap() {
+                Ok(()) => "unmapped".to_string(),
+                Err((refusal, range)) => {
+                    self.ranges.insert(words[1].to_string(), range);
+                    return Err(refusal);
+                }
+            },
+            "cdrop" => {
+                let gone = (self.ranges.remove(words[1]).is_some(), self.caches.remove(words[1]).is_some());
+                assert!(gone.0 != gone.1);
+                "dropped".to_string()
+            }
+            "ckeep" => {
+                format!("kept {}", self.ranges.remove(words[1]).expect("a range").into_address())
+            }
+            "cfree" => self.cache(words[1]).unmap(v(2)).map(|()| "unmapped".to_string())?,
+            "cflush" => self.shared.flush().map(|()| "flushed".to_string())?,
+            "cback" => {
+                self.cache(words[1]).give_back();
+                "given back".to_string()
+            }
+            "ccounts" => {
+                let c = self.cache(words[1]).counts();
+                format!("counts {} {} {}", c.held, c.waiting, c.cached)
+            }
+            "cowed" => format!("owed {}", self.cache(words[1]).owed()),
+            "scounts" => counts(self.shared.counts()),
+            "sowed" => format!("owed {}", self.shared.owed()),
+            word => panic!("no call {word}"),
+        })
+    }
 }
 
 fn is_new(line: &str) -> bool {
@@ -157,6 +234,30 @@ fn main() -> io::Result<()> {
         };
         if words[0] != "iovatrace" {
             writeln!(out, "made")?;
+        }
+        if at < lines.len() && lines[at] == "share" {
+            at += 1;
+            writeln!(out, "shared")?;
+            let iotlb = Arc::new(Iotlb::default());
+            let its = Arc::clone(&iotlb);
+            let shared = Shared::new(domain, move || {
+                its.flushes.fetch_add(1, Ordering::Relaxed);
+                !its.fails.load(Ordering::Relaxed)
+            });
+            let mut its = Caches { ranges: HashMap::new(), caches: HashMap::new(), shared: &shared, iotlb: &iotlb };
+            while at < lines.len() && !is_new(&lines[at]) {
+                let words: Vec<&str> = lines[at].split_whitespace().collect();
+                at += 1;
+                if words.is_empty() || words[0].starts_with('#') {
+                    continue;
+                }
+                match its.call(&words) {
+                    Ok(told) => writeln!(out, "{told}")?,
+                    Err(refusal) => writeln!(out, "no {} {refusal}", refusal.number())?,
+                }
+                writeln!(out, "flushes {}", iotlb.flushes.load(Ordering::Relaxed))?;
+            }
+            continue;
         }
         let mut objects = Objects::default();
         while at < lines.len() && !is_new(&lines[at]) {
