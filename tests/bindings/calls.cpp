@@ -181,14 +181,23 @@ struct machine {
     }
 
     void make(u64 profile, std::istream &line, bool is_told) {
-        u64 start = 0, last = 0, workers = 0, depot = 0;
+        u64 start = 0, last = 0, workers = 0, depot = 0, granule = 0;
         std::error_code error;
-        line >> start >> last >> workers >> depot;
+        line >> start >> last >> workers;
+        if (profile == 2)
+            line >> depot;
+        const bool has_granule = static_cast<bool>(line >> granule);
         forget();
-        if (profile == 1)
+        if (profile == 1 && has_granule)
+            domain.emplace(start, last, workers, granule, error);
+        else if (profile == 1)
             domain.emplace(start, last, workers, error);
+        else if (has_granule)
+            domain.emplace(iova::domain::second(start, last, workers, depot, granule, error));
         else
             domain.emplace(iova::domain::second(start, last, workers, depot, error));
+        if (!error && domain->granule() != (has_granule ? granule : 4096))
+            throw std::runtime_error("another granule");
         if (!is_refused(error) && is_told)
             std::cout << "made\n";
     }
@@ -318,12 +327,14 @@ static void try_throws() {
     throws(iova::refusal::flights_full, std::errc(), [&] { domain.flush([] { return true; }); });
     if (make_error_code(iova::refusal::no_memory) != std::errc::not_enough_memory)
         throw std::runtime_error("memory");
+    throws(iova::refusal::bad_profile, std::errc::invalid_argument, [] { iova::domain(1, 1, 1, 12288); });
+    throws(iova::refusal::bad_profile, std::errc::invalid_argument, [] { iova::domain::second(1, 1, 1, 8, 4095); });
 }
 
 // A shared domain from two threads, whose invalidation fails by throwing.
 static void try_threads() {
     std::atomic<bool> is_broken{false};
-    iova::shared shared(iova::domain(1, 1048575, 2), [&]() -> bool {
+    iova::shared shared(iova::domain(1, 1048575, 2, 16384), [&]() -> bool {
         if (is_broken)
             throw std::runtime_error("broken");
         return true;
@@ -333,7 +344,7 @@ static void try_threads() {
         iova::cache cache = std::move(first);
         for (int round = 0; round < 2000; round++) {
             iova::cached one = cache.map(20000, UINT32_MAX), other = cache.map(1000000);
-            if (one.bytes() != 32768 || other.bytes() != 245 * 4096 || one.address() % 32768 || first)
+            if (one.bytes() != 32768 || other.bytes() != 62 * 16384 || one.address() % 32768 || first)
                 throw std::runtime_error("what a thread is given");
             one = std::move(other);
         }
@@ -343,6 +354,7 @@ static void try_threads() {
     one.join();
     other.join();
     throws(iova::refusal::no_worker, std::errc::invalid_argument, [&] { iova::cache(shared, 2); });
+    throws(iova::refusal::bad_profile, std::errc::invalid_argument, [&] { iova::cache(shared, 0, iova::reach::sac); });
     {
         iova::cache cache(shared);
         iova::cached kept = cache.map(1);

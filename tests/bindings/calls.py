@@ -33,8 +33,11 @@ def forget():
 def make(words, is_told):
     global domain
     forget()
-    profile, start, last, workers, *depot = (int(word) for word in words)
-    domain = Domain(start, last, workers, *depot) if profile == 2 else Domain(start, last, workers)
+    profile, start, last, workers, *more = (int(word) for word in words)
+    depot = [more.pop(0)] if profile == 2 else [None]
+    domain = Domain(start, last, workers, *depot, **({"granule": more[0]} if more else {}))
+    if domain.granule != (more[0] if more else 4096):
+        raise ValueError("another granule")
     return "made" if is_told else None
 
 

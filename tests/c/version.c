@@ -40,6 +40,9 @@ int main(void) {
     want("make of nothing", iova_domain_make(&domain, 0, 0, 0), REFUSAL ? REFUSAL : IOVA_BAD_WINDOW);
     want("make", iova_domain_make(&domain, 1, 1023, 1), REFUSAL);
     want("make second", iova_domain_make_second(&domain, 1, 1023, 1, 33), REFUSAL ? REFUSAL : IOVA_BAD_PROFILE);
+    want("make by a granule", iova_domain_make_granule(&domain, 1, 1023, 1, 65536), REFUSAL);
+    want("make by none", iova_domain_make_granule(&domain, 1, 1023, 1, 0), REFUSAL ? REFUSAL : IOVA_BAD_PROFILE);
+    want("make second by a granule", iova_domain_make_second_granule(&domain, 1, 1023, 1, 8, 65536), REFUSAL);
     iova_domain *other = iova_domain_new();
     if (!other)
         return 2;

@@ -8,7 +8,7 @@
         domain.flush(lambda: True)  # invalidates the IOTLB, and says whether it did
 
 A Domain hands them out in this process, by libiova; a Service is a client of the daemon iovad; check() has the program iovad check a
-log. Frames are pages of 4,096 bytes, numbered by their address divided by 4,096.
+log. Frames are pages of 4,096 bytes, or of the domain's granule, numbered by their address divided by it.
 """
 from .checking import Finding, Verdict, check
 from .cache import Cache, CacheCounts, Cached

@@ -8,7 +8,7 @@ from .library import NO_LIMIT, NO_MASK, Refused, Refusal, in_64_bits
 if TYPE_CHECKING:
     from .domain import Domain
 
-_FRAME_BYTES, _ORDERS, _MAGAZINE, _RING, _EXCHANGED = 4096, 6, 256, 255, 64
+_ORDERS, _MAGAZINE, _RING, _EXCHANGED = 6, 256, 255, 64
 
 
 class CacheCounts(NamedTuple):
@@ -20,7 +20,7 @@ class CacheCounts(NamedTuple):
 
 
 class Cached:
-    """Bytes in a row of a cache that a device may use: those of Cache.map. `address` and `bytes` are multiples of 4,096.
+    """Bytes in a row of a cache that a device may use: those of Cache.map. `address` and `bytes` are multiples of the domain's granule.
 
     It is given up by unmap(), or at the end of a with. Nothing is given up where the object is merely forgotten: then it stays its
     cache's, and goes with that.
@@ -30,7 +30,7 @@ class Cached:
 
     def __init__(self, cache: "Cache", lo: int, length: int) -> None:
         self.cache: Optional[Cache] = cache
-        self._lo, self.address, self.bytes = lo, lo * _FRAME_BYTES, length * _FRAME_BYTES
+        self._lo, self.address, self.bytes = lo, lo * cache._granule, length * cache._granule
 
     def unmap(self) -> None:
         """The device no longer uses it: it waits in the cache for a flush. Refused by RING_FULL where 255 wait and no flush goes well, and
@@ -65,7 +65,7 @@ class Cache:
     def __init__(self, domain: "Domain", invalidate: Callable[[], object], worker: int, sac: bool) -> None:
         in_64_bits(worker)
         self.domain, self.worker, self.invalidate = domain, worker, invalidate
-        self._calls = domain._calls
+        self._calls, self._granule = domain._calls, domain.granule
         self._words = (ctypes.c_uint64 * ((self._calls["cache_size"]() + 7) // 8))()
         self._at = ctypes.addressof(self._words)
         self._clean = 0  # at least so many of the oldest that wait were covered by a flush
@@ -79,10 +79,10 @@ class Cache:
         domain._caches.append(self)
 
     def map(self, bytes: int, mask: int = NO_MASK) -> Cached:
-        """A range for so many bytes, none above the address `mask`. The bytes are rounded up to frames, up to 32 of them to a power of
-        two. Refused as Domain.alloc is."""
+        """A range for so many bytes, none above the address `mask`. The bytes are rounded up to frames of the domain's granule, up to 32 of
+        them to a power of two. Refused as Domain.alloc is."""
         in_64_bits(bytes, mask)
-        return self.alloc(-(-bytes // _FRAME_BYTES), max(mask - (_FRAME_BYTES - 1), 0) // _FRAME_BYTES)
+        return self.alloc(-(-bytes // self._granule), max(mask - (self._granule - 1), 0) // self._granule)
 
     def alloc(self, frames: int, limit: int = NO_LIMIT) -> Cached:
         """The same for so many frames, none above frame `limit`. Up to 32 need not be the highest that fit."""
@@ -102,7 +102,7 @@ class Cache:
         """Gives up the range in whose first frame the address is, of which there is no Cached any more. Refused as Cached.unmap is, and by
         NOT_HELD."""
         in_64_bits(address)
-        self._give_up(address // _FRAME_BYTES)
+        self._give_up(address // self._granule)
 
     def flush(self) -> None:
         """A flush of the domain now, and then what it owes. Refused by SINK_FAULT where the invalidation failed, and by FLIGHTS_FULL and

@@ -99,7 +99,7 @@ def _range(answer: Any) -> Frames:
 
 
 class Mapping(_Struct):
-    """Bytes in a row that a device may use: those of Client.map. `address` and `bytes` are multiples of 4,096.
+    """Bytes in a row that a device may use: those of Client.map. `address` and `bytes` are multiples of the domain's granule.
 
     It is given up by unmap(), or at the end of a with. Nothing is given up where the object is merely forgotten: then it stays its
     client's, and goes with that.
@@ -149,8 +149,8 @@ class Client:
 
     def map(self, bytes: int, mask: int = NO_MASK) -> Mapping:
         """A range for so many bytes, none above the address `mask`, as 2**32 - 1 for a device of 32 bits. The bytes are rounded up to
-        frames, and as Domain.alloc says. Refused as that is; for 0 bytes by ZERO, for more than 4 GiB by TOO_BIG, for a mask below 8,191
-        by NO_SPACE."""
+        frames, and as Domain.alloc says. Refused as that is; for 0 bytes by ZERO, for more than 1,048,576 frames (4 GiB of 4,096 bytes)
+        by TOO_BIG, for a mask in which two frames don't end (below 8,191) by NO_SPACE."""
         if (bytes | mask) >> 64:
             in_64_bits(bytes, mask)
         given: Mapping = self._map(self._room, self.worker, self.number, bytes, mask)
@@ -179,15 +179,16 @@ class Client:
 
 class Domain:
     """The address space of one device: frames `start` to `last`, `1 <= start <= last <= 2**36 - 1`, with 1 to 16 workers, which stand for
-    processors. With `depot`, 0 to 32, the second profile: frames up to 2**40 - 1, magazines of 127 entries.
+    processors. With `depot`, 0 to 32, the second profile: frames up to 2**40 - 1, magazines of 127 entries. A frame has `granule` bytes, a
+    power of two from 4,096 to 2,097,152: calls in bytes round by it, and all numbers of frames are as ever.
 
     Refused by BAD_PROFILE, BAD_WINDOW, NO_WORKER, NO_MEMORY; by OTHER_VERSION where the library doesn't serve this package. At the end of
     a with, or by close(), it ends, and each later call is refused by NO_DOMAIN. The calls that take numbers are the steps of iova.h; mostly
     a program has a Client and its mappings in their place. One thread at a time works on it.
     """
 
-    def __init__(self, start: int, last: int, workers: int = 1, depot: Optional[int] = None) -> None:
-        in_64_bits(start, last, workers, depot or 0)
+    def __init__(self, start: int, last: int, workers: int = 1, depot: Optional[int] = None, granule: int = 4096) -> None:
+        in_64_bits(start, last, workers, depot or 0, granule)
         its = library(Mapping)
         self._calls = its.calls
         # room aligned to 8
@@ -199,14 +200,15 @@ class Domain:
         self._caches: List[Cache] = []
         self._calls["domain_init"](self._at)
         if depot is None:
-            refused = self._calls["domain_make"](self._at, start, last, workers)
+            refused = self._calls["domain_make_granule"](self._at, start, last, workers, granule)
         else:
-            refused = self._calls["domain_make_second"](self._at, start, last, workers, depot)
+            refused = self._calls["domain_make_second_granule"](self._at, start, last, workers, depot, granule)
         if refused:
             raise Refused(refused)
 
     def client(self, worker: int = 0, sac: bool = False) -> Client:
-        """A client of the worker. With `sac` (single address cycle) it is first sought a place below 4 GiB. Refused as open() is."""
+        """A client of the worker. With `sac` (single address cycle) it is first sought a place below 4 GiB, in frames of 4,096 bytes.
+        Refused as open() is."""
         return Client(self, worker, self.open(worker, sac))
 
     def cache(self, invalidate: Callable[[], object], worker: int = 0, sac: bool = False) -> Cache:
@@ -285,7 +287,8 @@ class Domain:
         return _range(self._calls["reserve"](self._at, lo, hi))
 
     def open(self, worker: int, sac: bool = False) -> int:
-        """Opens a client of the worker, and answers its number. Refused by NO_WORKER, WORN, CLIENTS_FULL, NO_MEMORY."""
+        """Opens a client of the worker, and answers its number. Refused by NO_WORKER, WORN, CLIENTS_FULL, NO_MEMORY; by BAD_PROFILE with
+        `sac` where the granule isn't 4,096."""
         in_64_bits(worker)
         return _number(self._calls["open"](self._at, worker, 1 if sac else 0))
 
@@ -355,6 +358,11 @@ class Domain:
     def bounds(self) -> Bounds:
         """The bounds, the sizes of the caches and the workers."""
         return Bounds(*_fields(self._calls["bounds_of"](self._at)))
+
+    @property
+    def granule(self) -> int:
+        """How many bytes a frame has."""
+        return _number(self._calls["granule_of"](self._at))
 
     def flushes(self) -> Flushes:
         """The numbers of the flushes."""

@@ -14,7 +14,6 @@ use crate::domain::{of_number, Counts, Flushes, Frames, Reach, Totals};
 use crate::refusal::{refusal, told};
 use crate::{sys, Domain, Refusal};
 
-const FRAME_BYTES: u64 = 4096;
 const ORDERS: u64 = 6;
 const MAGAZINE: u64 = 256;
 const RING: u64 = 255;
@@ -65,6 +64,7 @@ struct Held {
 pub struct Shared {
     held: Mutex<Held>,
     invalidate: Box<dyn Fn() -> bool + Send + Sync>,
+    granule: u64,
     workers: u64,
     /// The last flush that has begun.
     begun: Apart,
@@ -90,6 +90,7 @@ impl Shared {
     pub fn new(domain: Domain, invalidate: impl Fn() -> bool + Send + Sync + 'static) -> Shared {
         let flushes = domain.flushes();
         Shared {
+            granule: domain.granule(),
             workers: domain.bounds().workers,
             begun: Apart(AtomicU64::new(flushes.start)),
             ended: Apart(AtomicU64::new(flushes.newest)),
@@ -191,6 +192,11 @@ impl Shared {
         for worker in 0..self.workers {
             let _ = self.lock().domain.drain(worker, worker);
         }
+    }
+
+    /// How many bytes a frame has.
+    pub fn granule(&self) -> u64 {
+        self.granule
     }
 
     /// [`Domain::reserve`], with its refusals.
@@ -300,14 +306,16 @@ impl<'s> Cache<'s> {
         self.shared
     }
 
-    /// A range for so many bytes, none above the address `dma_mask`, which is given up when it is dropped. The bytes are rounded up to frames,
-    /// up to 32 of them to a power of two. Refused as [`Domain::map`] is; by `HoldingsFull` the user itself has 4,096
+    /// A range for so many bytes, none above the address `dma_mask`, which is given up when it is dropped. The bytes are rounded up to frames
+    /// of the domain's granule, up to 32 of them to a power of two. Refused as [`Domain::map`] is; by `HoldingsFull` the user itself has 4,096
     /// ranges that it holds or that wait.
     #[inline]
     pub fn map(&self, bytes: u64, dma_mask: u64) -> Result<Cached<'_>, Refusal> {
-        let frames = bytes / FRAME_BYTES + u64::from(bytes % FRAME_BYTES != 0);
+        let shift = self.shared.granule.trailing_zeros();
         // the mask ends a frame where its last byte is in it
-        self.alloc(frames, dma_mask.saturating_sub(FRAME_BYTES - 1) / FRAME_BYTES)
+        let below = self.shared.granule - 1;
+        let frames = (bytes >> shift) + u64::from(bytes & below != 0);
+        self.alloc(frames, dma_mask.saturating_sub(below) >> shift)
     }
 
     /// The same for so many frames, none above frame `limit`. Up to 32 need not be the highest that fit.
@@ -329,7 +337,7 @@ impl<'s> Cache<'s> {
     /// Gives up the range in whose first frame the address is: one that [`Cached::into_address`] let go of. The device no longer uses it, and
     /// its mapping is cleared. Refused by `NotHeld`; by `RingFull` where 255 wait and no flush goes well, and then it stays.
     pub fn unmap(&self, address: u64) -> Result<(), Refusal> {
-        told(self.give_up_at(address / FRAME_BYTES).refused, ())
+        told(self.give_up_at(address / self.shared.granule).refused, ())
     }
 
     /// Gives back to the domain what nobody uses and what waits for no flush: for a thread that makes no call for long.
@@ -631,16 +639,16 @@ pub struct Cached<'c> {
 }
 
 impl Cached<'_> {
-    /// The address of the first byte, a multiple of 4,096.
+    /// The address of the first byte, a multiple of the domain's granule.
     #[inline]
     pub fn address(&self) -> u64 {
-        self.lo * FRAME_BYTES
+        self.lo * self.cache.shared.granule
     }
 
-    /// How many bytes there are, a multiple of 4,096.
+    /// How many bytes there are, a multiple of it too.
     #[inline]
     pub fn bytes(&self) -> u64 {
-        self.len * FRAME_BYTES
+        self.len * self.cache.shared.granule
     }
 
     /// The same in frames.

@@ -66,8 +66,8 @@ impl<'d> Client<'d> {
             domain: self.domain,
             worker: self.worker,
             client: self.number,
-            address: given.lo << 12,
-            bytes: given.len << 12,
+            address: given.lo * self.domain.granule(),
+            bytes: given.len * self.domain.granule(),
         })
     }
 
@@ -109,13 +109,13 @@ pub struct Range<'d> {
 }
 
 impl Range<'_> {
-    /// The address of the first byte, a multiple of 4,096.
+    /// The address of the first byte, a multiple of the domain's granule.
     #[inline]
     pub fn address(&self) -> u64 {
         self.address
     }
 
-    /// How many bytes there are, a multiple of 4,096.
+    /// How many bytes there are, a multiple of it too.
     #[inline]
     pub fn bytes(&self) -> u64 {
         self.bytes
@@ -123,7 +123,8 @@ impl Range<'_> {
 
     /// The same in frames.
     pub fn frames(&self) -> Frames {
-        Frames { lo: self.address >> 12, len: self.bytes >> 12 }
+        let granule = self.domain.granule();
+        Frames { lo: self.address / granule, len: self.bytes / granule }
     }
 
     /// Gives it up, and says why that is refused, with the range: by `RingFull`, or, where the client is gone, by `NoClient`.

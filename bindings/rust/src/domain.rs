@@ -21,9 +21,9 @@ pub struct Frames {
 /// Bytes in a row, of which nothing is given up when the value goes.
 #[derive(Clone, Copy, Debug, PartialEq, Eq, Hash)]
 pub struct Mapping {
-    /// The address of the first byte, a multiple of 4,096.
+    /// The address of the first byte, a multiple of the domain's granule.
     pub address: u64,
-    /// How many bytes there are, a multiple of 4,096.
+    /// How many bytes there are, a multiple of it too.
     pub bytes: u64,
 }
 
@@ -116,7 +116,7 @@ pub enum Place {
 /// How far a client's device reaches.
 #[derive(Clone, Copy, Debug, PartialEq, Eq)]
 pub enum Reach {
-    /// Single address cycle: a place below 4 GiB is tried first.
+    /// Single address cycle: a place below 4 GiB is tried first, in frames of 4,096 bytes.
     Sac,
     /// Dual address cycle: any place.
     Dac,
@@ -157,17 +157,19 @@ enum Owed {
 pub struct Domain {
     room: Box<UnsafeCell<sys::Room>>,
     workers: u64,
+    granule: u64,
     owed: RefCell<Vec<Owed>>,
 }
 
 impl Domain {
-    fn made(workers: u64, make: impl FnOnce(*mut sys::Room) -> u64) -> Result<Domain, Refusal> {
+    fn made(workers: u64, granule: u64, make: impl FnOnce(*mut sys::Room) -> u64) -> Result<Domain, Refusal> {
         // SAFETY: neither takes anything.
         let (version, bytes) = unsafe { (sys::iova_version(), sys::iova_domain_size()) };
         if version / 1_000_000 != VERSION / 1_000_000 || version < VERSION || bytes > std::mem::size_of::<sys::Room>() {
             return Err(Refusal::OtherVersion);
         }
-        let domain = Domain { room: Box::new(UnsafeCell::new(sys::Room::new())), workers, owed: RefCell::new(Vec::new()) };
+        let room = Box::new(UnsafeCell::new(sys::Room::new()));
+        let domain = Domain { room, workers, granule, owed: RefCell::new(Vec::new()) };
         // SAFETY: the room is large enough, aligned to 8, and no other call was made on it.
         unsafe { sys::iova_domain_init(domain.at()) };
         let refused = make(domain.at());
@@ -179,15 +181,35 @@ impl Domain {
     /// Refused by `BadWindow`, `NoWorker`, `NoMemory`, the first that applies; before them by `OtherVersion`, where the library doesn't
     /// serve this crate.
     pub fn new(start: u64, last: u64, workers: u64) -> Result<Domain, Refusal> {
+        Domain::with_granule(start, last, workers, 4096)
+    }
+
+    /// The same of frames that have `granule` bytes, a power of two from 4,096 to 2,097,152, as the page size of the machine or of the
+    /// IOMMU's large pages. Calls in bytes round by it, and all numbers of frames are as ever. `BadProfile`, where it is no such power,
+    /// comes before the other refusals of the library.
+    pub fn with_granule(start: u64, last: u64, workers: u64, granule: u64) -> Result<Domain, Refusal> {
         // SAFETY: the room was made ready.
-        Domain::made(workers, |room| unsafe { sys::iova_domain_make(room, start, last, workers) })
+        let make = |room| unsafe { sys::iova_domain_make_granule(room, start, last, workers, granule) };
+        Domain::made(workers, granule, make)
     }
 
     /// A domain of the second profile: frames up to 2^40 - 1, magazines of 127 entries, a depot of at most `depot` magazines for each
     /// size, 0 to 32. `BadProfile` comes before the other refusals of the library.
     pub fn second(start: u64, last: u64, workers: u64, depot: u64) -> Result<Domain, Refusal> {
+        Domain::second_with_granule(start, last, workers, depot, 4096)
+    }
+
+    /// The same of frames that have `granule` bytes, as by [`Domain::with_granule`].
+    pub fn second_with_granule(start: u64, last: u64, workers: u64, depot: u64, granule: u64) -> Result<Domain, Refusal> {
         // SAFETY: the room was made ready.
-        Domain::made(workers, |room| unsafe { sys::iova_domain_make_second(room, start, last, workers, depot) })
+        let make = |room| unsafe { sys::iova_domain_make_second_granule(room, start, last, workers, depot, granule) };
+        Domain::made(workers, granule, make)
+    }
+
+    /// How many bytes a frame has.
+    #[inline]
+    pub fn granule(&self) -> u64 {
+        self.granule
     }
 
     /// The room, for one call of the library. A domain isn't `Sync`, and no call of the library calls back, so there is no other call
@@ -271,7 +293,7 @@ impl Domain {
 
     /// Gives the client a range for so many bytes, whose every byte has an address up to `dma_mask`, as `u32::MAX` for a device of 32
     /// bits. The bytes are rounded up to frames, and as [`Domain::alloc`] says. Refused as that is; for 0 bytes by `Zero`, for more than
-    /// 4 GiB by `TooBig`, and for a mask below 8,191 by `NoSpace`.
+    /// 1,048,576 frames (4 GiB of 4,096 bytes) by `TooBig`, and for a mask in which two frames don't end (below 8,191) by `NoSpace`.
     #[inline]
     pub fn map(&self, worker: u64, client: u64, bytes: u64, dma_mask: u64) -> Result<Mapping, Refusal> {
         // SAFETY: there is a domain in the room.
@@ -294,7 +316,8 @@ impl Domain {
         of_range(unsafe { sys::iova_reserve(self.at(), lo, hi) })
     }
 
-    /// Opens a client of the worker, and answers its number. Refused by `NoWorker`, `Worn`, `ClientsFull`, `NoMemory`.
+    /// Opens a client of the worker, and answers its number. Refused by `NoWorker`, `Worn`, `ClientsFull`, `NoMemory`; by `BadProfile`
+    /// where the reach is [`Reach::Sac`] and the granule isn't 4,096.
     pub fn open(&self, worker: u64, reach: Reach) -> Result<u64, Refusal> {
         // SAFETY: there is a domain in the room.
         of_number(unsafe { sys::iova_open(self.at(), worker, (reach == Reach::Sac).into()) })

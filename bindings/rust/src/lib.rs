@@ -21,8 +21,8 @@
 //!
 //! Threads share a domain by [`Shared`], each with a [`Cache`] of its own.
 //!
-//! Frames are pages of 4,096 bytes, numbered by their address divided by 4,096. A call takes frames, not bytes, where its name has no
-//! `map` or `bytes` in it.
+//! Frames are pages of 4,096 bytes, or of the domain's [granule](Domain::with_granule), numbered by their address divided by it. A call
+//! takes frames, not bytes, where its name has no `map` or `bytes` in it.
 #![deny(missing_docs)]
 #![deny(rustdoc::broken_intra_doc_links)]
 

@@ -47,7 +47,7 @@ macro_rules! refusals {
 refusals! {
     /// No frame was asked for.
     Zero = 1,
-    /// More than 1,048,576 frames (4 GiB) were asked for.
+    /// More than 1,048,576 frames (4 GiB of 4,096 bytes) were asked for.
     TooBig = 2,
     /// The worker has no such client.
     NoClient = 3,
@@ -93,7 +93,7 @@ refusals! {
     NoDomain = 23,
     /// Of sessions: a second hello.
     Twice = 24,
-    /// A depot of more than 32 was asked for.
+    /// A depot of more than 32, bytes that are no granule, or single address cycles with another granule than 4,096.
     BadProfile = 25,
     /// The library doesn't serve a program that was built for this version of the crate.
     OtherVersion = 200,

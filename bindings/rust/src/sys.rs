@@ -103,8 +103,15 @@ extern "C" {
     pub fn iova_version() -> u64;
     pub fn iova_domain_size() -> usize;
     pub fn iova_domain_init(domain: *mut Room);
-    pub fn iova_domain_make(domain: *mut Room, start: u64, last: u64, workers: u64) -> u64;
-    pub fn iova_domain_make_second(domain: *mut Room, start: u64, last: u64, workers: u64, depot: u64) -> u64;
+    pub fn iova_domain_make_granule(domain: *mut Room, start: u64, last: u64, workers: u64, granule: u64) -> u64;
+    pub fn iova_domain_make_second_granule(
+        domain: *mut Room,
+        start: u64,
+        last: u64,
+        workers: u64,
+        depot: u64,
+        granule: u64,
+    ) -> u64;
     pub fn iova_domain_clear(domain: *mut Room);
     pub fn iova_map(domain: *mut Room, worker: u64, client: u64, bytes: u64, dma_mask: u64) -> Mapping;
     pub fn iova_unmap_bytes(domain: *mut Room, worker: u64, client: u64, address: u64) -> Mapping;

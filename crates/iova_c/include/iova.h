@@ -18,8 +18,9 @@
  * Link with -liova: it needs the C library alone, of which it calls malloc, realloc and free. docs/C.md, which is man 3 iova, says
  * which versions of the library a program runs with.
  *
- * Frames are pages of 4,096 bytes, numbered by their address divided by 4,096. A call takes frames, not bytes, where its name
- * has no `map` or `bytes` in it. Workers are numbered from 0, clients and flushes as the library numbers them, from 1.
+ * Frames are pages of 4,096 bytes, or of the domain's granule (iova_domain_make_granule), numbered by their address divided by
+ * it. A call takes frames, not bytes, where its name has no `map` or `bytes` in it. Workers are numbered from 0, clients and
+ * flushes as the library numbers them, from 1.
  *
  * What a program owes:
  *  - a domain lies in room of at least iova_domain_size() bytes, aligned to 8, and iova_domain_init comes before all other
@@ -44,8 +45,9 @@ extern "C" {
 /* The version of this header, as iova_version has that of the library: 0.2.0. */
 #define IOVA_VERSION 2000
 
-/* The bytes of a frame. */
+/* The bytes of a frame where a domain has no other granule, and the most that a granule may be. */
 #define IOVA_FRAME_BYTES 4096
+#define IOVA_MOST_GRANULE 2097152
 
 /* A limit that no frame is above, and a mask that every address is within. */
 #define IOVA_NO_LIMIT UINT64_MAX
@@ -58,7 +60,7 @@ extern "C" {
 enum iova_refusal {
     IOVA_NOT_REFUSED = 0,
     IOVA_ZERO = 1,          /* no frame was asked for */
-    IOVA_TOO_BIG = 2,       /* more than 1,048,576 frames (4 GiB) were asked for */
+    IOVA_TOO_BIG = 2,       /* more than 1,048,576 frames (4 GiB of 4,096 bytes) were asked for */
     IOVA_NO_CLIENT = 3,     /* the worker has no such client */
     IOVA_CLOSING = 4,       /* the client is closing */
     IOVA_HOLDINGS_FULL = 5, /* the client has 4,096 holdings */
@@ -81,7 +83,7 @@ enum iova_refusal {
     IOVA_BAD_TRACE = 22,    /* sessions: not a line of a trace */
     IOVA_NO_DOMAIN = 23,    /* no domain was made in this room, or it was cleared */
     IOVA_TWICE = 24,        /* sessions: a second hello */
-    IOVA_BAD_PROFILE = 25,  /* a depot of more than 32 was asked for */
+    IOVA_BAD_PROFILE = 25,  /* a depot of more than 32, bytes that are no granule, or `sac` with another granule than 4,096 */
     IOVA_OTHER_VERSION = 200, /* with IOVA_BUILT_FOR: the library doesn't serve a program of that version */
     IOVA_NO_CACHE = 201,      /* caches: no cache was made in this room, or it was ended or cleared */
     IOVA_NO_ORDER = 202,      /* caches: not a length of magazines, which have ranges of 1, 2, 4, 8, 16 and 32 frames */
@@ -120,7 +122,7 @@ typedef struct iova_number {
     uint64_t refused, number;
 } iova_number;
 
-/* Bytes in a row: the address of the first, and how many. Both are multiples of 4,096. */
+/* Bytes in a row: the address of the first, and how many. Both are multiples of the domain's granule. */
 typedef struct iova_mapping {
     uint64_t refused, address, bytes;
 } iova_mapping;
@@ -205,6 +207,13 @@ uint64_t iova_domain_make(iova_domain *domain, uint64_t start, uint64_t last, ui
  * 32. IOVA_BAD_PROFILE comes before the other refusals. */
 uint64_t iova_domain_make_second(iova_domain *domain, uint64_t start, uint64_t last, uint64_t workers, uint64_t depot);
 
+/* The same two of frames that have `granule` bytes: a power of two from 4,096 to 2,097,152, as the page size of the machine or
+ * of the IOMMU's large pages. Calls in bytes round by it; all numbers of frames, and all bounds and limits on them, are as ever.
+ * Refusals: IOVA_BAD_PROFILE first, where it is no such power too. */
+uint64_t iova_domain_make_granule(iova_domain *domain, uint64_t start, uint64_t last, uint64_t workers, uint64_t granule);
+uint64_t iova_domain_make_second_granule(iova_domain *domain, uint64_t start, uint64_t last, uint64_t workers, uint64_t depot,
+                                         uint64_t granule);
+
 /* Ends the domain and gives back all memory that it took. The room is as after iova_domain_init: it may be used for another
  * domain, or left. */
 void iova_domain_clear(iova_domain *domain);
@@ -228,9 +237,9 @@ static inline void iova_domain_free(iova_domain *domain) {
 /* What drivers call. */
 
 /* Gives the client a range for so many bytes, whose every byte has an address up to `dma_mask`, as UINT32_MAX for a device of
- * 32 bits. The bytes are rounded up to frames, and as iova_alloc says; `bytes` of the answer is what was given. Refusals: those
- * of iova_alloc; for 0 bytes IOVA_ZERO, for more than 4 GiB IOVA_TOO_BIG, and for a mask below 8,191 IOVA_NO_SPACE, since frame
- * 0 is never given. */
+ * 32 bits. The bytes are rounded up to frames of the domain's granule, and as iova_alloc says; `bytes` of the answer is what was
+ * given. Refusals: those of iova_alloc; for 0 bytes IOVA_ZERO, for more than 1,048,576 frames (4 GiB of 4,096 bytes)
+ * IOVA_TOO_BIG, and for a mask in which two frames don't end (below 8,191) IOVA_NO_SPACE, since frame 0 is never given. */
 iova_mapping iova_map(iova_domain *domain, uint64_t worker, uint64_t client, uint64_t bytes, uint64_t dma_mask);
 
 /* Gives up the range in whose first frame `address` is: the client no longer holds it, and it waits in the worker's ring for a
@@ -244,7 +253,8 @@ iova_mapping iova_unmap_bytes(iova_domain *domain, uint64_t worker, uint64_t cli
 iova_range iova_reserve(iova_domain *domain, uint64_t lo, uint64_t hi);
 
 /* Opens a client of the worker, and answers its number. Where `sac` isn't 0 (single address cycle), it is first sought a place
- * below 4 GiB. IOVA_NO_WORKER, IOVA_WORN, IOVA_CLIENTS_FULL, IOVA_NO_MEMORY. */
+ * below 4 GiB, in frames of 4,096 bytes. IOVA_BAD_PROFILE where `sac` isn't 0 and the domain has another granule;
+ * IOVA_NO_WORKER, IOVA_WORN, IOVA_CLIENTS_FULL, IOVA_NO_MEMORY. */
 iova_number iova_open(iova_domain *domain, uint64_t worker, uint64_t sac);
 
 /* Gives the client the highest range that fits, none of its frames above frame `limit`. Fewer than 32 frames are rounded up to
@@ -295,6 +305,9 @@ iova_client iova_client_of(iova_domain *domain, uint64_t client);
 
 /* The bounds, the sizes of the caches and the workers. */
 iova_bounds iova_bounds_of(iova_domain *domain);
+
+/* How many bytes a frame has: 4,096, or the granule that the domain was made with. */
+iova_number iova_granule_of(iova_domain *domain);
 
 /* The numbers of the flushes. */
 iova_flushes iova_flushes_of(iova_domain *domain);
@@ -350,13 +363,15 @@ size_t iova_cache_size(void);
  * room that has a cache, call iova_cache_end or iova_cache_clear first. */
 void iova_cache_init(iova_cache *cache);
 
-/* Makes a cache with no range in the room, of a new client of the worker, and answers the client's number. `sac` as for
- * iova_open: frames above 4 GiB are given only by the domain, where it has none below. Refusals, and then what was there stays:
- * IOVA_NO_DOMAIN, and those of iova_open. A cache that is there is let go, and its client keeps what it has. */
+/* Makes a cache with no range in the room, of a new client of the worker, and answers the client's number. It has the domain's
+ * granule. `sac` as for iova_open: frames above 4 GiB are given only by the domain, where it has none below. Refusals, and then
+ * what was there stays: IOVA_NO_DOMAIN, and those of iova_open. A cache that is there is let go, and its client keeps what it
+ * has. */
 iova_number iova_cache_make(iova_domain *domain, iova_cache *cache, uint64_t worker, uint64_t sac);
 
 /* Makes a cache whose domain is elsewhere, as that of a client of the daemon: its ranges come by iova_cache_put and
- * iova_cache_keep, and go by iova_cache_take and iova_cache_release. Calls that take a domain are refused by IOVA_NO_CLIENT.
+ * iova_cache_keep, and go by iova_cache_take and iova_cache_release. In bytes its frames have 4,096. Calls that take a domain
+ * are refused by IOVA_NO_CLIENT.
  * Answers 0, or IOVA_NO_MEMORY, and then what was there stays. */
 uint64_t iova_cache_apart(iova_cache *cache, uint64_t sac);
 
@@ -374,7 +389,8 @@ iova_range iova_cache_alloc(iova_cache *cache, uint64_t frames, uint64_t limit);
  * iova_cache_unmap_by; then IOVA_RING_FULL exactly where 255 wait. */
 iova_range iova_cache_unmap(iova_cache *cache, uint64_t lo, uint64_t start);
 
-/* iova_cache_alloc in bytes, as iova_map is iova_alloc. The same refusals; a mask below 8,191 is IOVA_MISS, if not IOVA_DRY. */
+/* iova_cache_alloc in bytes, as iova_map is iova_alloc. The same refusals; a mask in which two frames don't end (below 8,191) is
+ * IOVA_MISS, if not IOVA_DRY. */
 iova_mapping iova_cache_map(iova_cache *cache, uint64_t bytes, uint64_t dma_mask);
 
 /* iova_cache_unmap of the range in whose first frame `address` is. The answer is the whole range. */
@@ -441,9 +457,9 @@ uint64_t iova_type_size(uint64_t type);
  *
  *   #define IOVA_BUILT_FOR IOVA_VERSION
  *
- * before this header, or by -DIOVA_BUILT_FOR=2000, has its iova_domain_make and iova_domain_make_second refused by
- * IOVA_OTHER_VERSION, before all other refusals, where iova_serves says no. Its iova_domain_init then writes nothing into the
- * room, so no other call is made on it. */
+ * before this header, or by -DIOVA_BUILT_FOR=2000, has its iova_domain_make, iova_domain_make_second and their kin with a
+ * granule refused by IOVA_OTHER_VERSION, before all other refusals, where iova_serves says no. Its iova_domain_init then writes
+ * nothing into the room, so no other call is made on it. */
 static inline void iova_domain_init_for(uint64_t version, iova_domain *domain) {
     if (iova_serves(version))
         iova_domain_init(domain);
@@ -459,11 +475,26 @@ static inline uint64_t iova_domain_make_second_for(uint64_t version, iova_domain
     return iova_serves(version) ? iova_domain_make_second(domain, start, last, workers, depot) : (uint64_t)IOVA_OTHER_VERSION;
 }
 
+static inline uint64_t iova_domain_make_granule_for(uint64_t version, iova_domain *domain, uint64_t start, uint64_t last,
+                                                    uint64_t workers, uint64_t granule) {
+    return iova_serves(version) ? iova_domain_make_granule(domain, start, last, workers, granule) : (uint64_t)IOVA_OTHER_VERSION;
+}
+
+static inline uint64_t iova_domain_make_second_granule_for(uint64_t version, iova_domain *domain, uint64_t start, uint64_t last,
+                                                           uint64_t workers, uint64_t depot, uint64_t granule) {
+    return iova_serves(version) ? iova_domain_make_second_granule(domain, start, last, workers, depot, granule)
+                                : (uint64_t)IOVA_OTHER_VERSION;
+}
+
 #ifdef IOVA_BUILT_FOR
 #define iova_domain_init(domain) iova_domain_init_for(IOVA_BUILT_FOR, domain)
 #define iova_domain_make(domain, start, last, workers) iova_domain_make_for(IOVA_BUILT_FOR, domain, start, last, workers)
 #define iova_domain_make_second(domain, start, last, workers, depot) \
     iova_domain_make_second_for(IOVA_BUILT_FOR, domain, start, last, workers, depot)
+#define iova_domain_make_granule(domain, start, last, workers, granule) \
+    iova_domain_make_granule_for(IOVA_BUILT_FOR, domain, start, last, workers, granule)
+#define iova_domain_make_second_granule(domain, start, last, workers, depot, granule) \
+    iova_domain_make_second_granule_for(IOVA_BUILT_FOR, domain, start, last, workers, depot, granule)
 #endif
 
 #ifdef __cplusplus

@@ -17,7 +17,7 @@
  * how much it is. A mapping may outlive the client that it came from, and is the client's no more then. Both must not outlive the
  * domain, which may be moved.
  *
- * Frames are pages of 4,096 bytes. One call at a time works on a domain, its clients and its mappings together. The rest of what a
+ * Frames are pages of 4,096 bytes, or of the domain's granule. One call at a time works on a domain, its clients and its mappings together. The rest of what a
  * program owes stands in iova.h. */
 #ifndef IOVA_HPP
 #define IOVA_HPP
@@ -198,30 +198,40 @@ class domain {
   public:
     /* Frames `first` to `last`, and 1 to 16 workers: iova_domain_make. Refused by bad_window, no_worker, no_memory; where the library
      * doesn't serve this header (iova_serves), by other_version. */
-    domain(std::uint64_t first, std::uint64_t last, std::uint64_t workers = 1) {
+    domain(std::uint64_t first, std::uint64_t last, std::uint64_t workers = 1, std::uint64_t granule = IOVA_FRAME_BYTES) {
         std::error_code error;
-        make(first, last, workers, error);
+        make(first, last, workers, granule, error);
         detail::told(error, "iova::domain");
     }
 
     domain(std::uint64_t first, std::uint64_t last, std::uint64_t workers, std::error_code &error) {
-        make(first, last, workers, error);
+        make(first, last, workers, IOVA_FRAME_BYTES, error);
     }
 
-    /* The second profile: iova_domain_make_second. Refused by bad_profile too. */
+    /* Of frames that have `granule` bytes, a power of two from 4,096 to 2,097,152: iova_domain_make_granule. Refused by bad_profile
+     * where it is none. */
+    domain(std::uint64_t first, std::uint64_t last, std::uint64_t workers, std::uint64_t granule, std::error_code &error) {
+        make(first, last, workers, granule, error);
+    }
+
+    /* The second profile: iova_domain_make_second_granule. Refused by bad_profile too. */
     static domain second(std::uint64_t first, std::uint64_t last, std::uint64_t workers, std::uint64_t depot,
-                         std::error_code &error) {
+                         std::uint64_t granule, std::error_code &error) {
         domain made;
-        if (made.ready(error) && detail::is_refused(::iova_domain_make_second(made.at(), first, last, workers, depot), error))
-            made.its_.reset();
-        else if (made.its_)
-            made.its_->workers = workers;
+        made.make([&](::iova_domain *at) { return ::iova_domain_make_second_granule(at, first, last, workers, depot, granule); },
+                  workers, error);
         return made;
     }
 
-    static domain second(std::uint64_t first, std::uint64_t last, std::uint64_t workers, std::uint64_t depot) {
+    static domain second(std::uint64_t first, std::uint64_t last, std::uint64_t workers, std::uint64_t depot,
+                         std::error_code &error) {
+        return second(first, last, workers, depot, IOVA_FRAME_BYTES, error);
+    }
+
+    static domain second(std::uint64_t first, std::uint64_t last, std::uint64_t workers, std::uint64_t depot,
+                         std::uint64_t granule = IOVA_FRAME_BYTES) {
         std::error_code error;
-        domain made = second(first, last, workers, depot, error);
+        domain made = second(first, last, workers, depot, granule, error);
         detail::told(error, "iova::domain::second");
         return made;
     }
@@ -234,6 +244,9 @@ class domain {
     ::iova_domain *at() const noexcept { return &its_->room; }
 
     std::uint64_t workers() const noexcept { return its_->workers; }
+
+    /* How many bytes a frame has. */
+    std::uint64_t granule() const noexcept { return ::iova_granule_of(at()).number; }
 
     /* How many mappings and clients are still to be given up, since a ring was full. */
     std::size_t owed() const noexcept { return its_->owes.size(); }
@@ -304,22 +317,20 @@ class domain {
 
     domain() noexcept = default;
 
-    bool ready(std::error_code &error) {
+    template <class Make> void make(Make &&make, std::uint64_t workers, std::error_code &error) {
         if (!::iova_serves(IOVA_VERSION)) {
             error = make_error_code(refusal::other_version);
-            return false;
+            return;
         }
         its_ = std::make_unique<detail::state>();
-        return true;
-    }
-
-    void make(std::uint64_t first, std::uint64_t last, std::uint64_t workers, std::error_code &error) {
-        if (!ready(error))
-            return;
-        if (detail::is_refused(::iova_domain_make(at(), first, last, workers), error))
+        if (detail::is_refused(make(at()), error))
             its_.reset();
         else
             its_->workers = workers;
+    }
+
+    void make(std::uint64_t first, std::uint64_t last, std::uint64_t workers, std::uint64_t granule, std::error_code &error) {
+        make([&](::iova_domain *at) { return ::iova_domain_make_granule(at, first, last, workers, granule); }, workers, error);
     }
 
     std::unique_ptr<detail::state> its_;
@@ -348,7 +359,7 @@ class mapping {
     /* Whether there is a range. */
     explicit operator bool() const noexcept { return domain_ != nullptr; }
 
-    /* The address of the first byte, a multiple of 4,096, and how many bytes there are, one too. */
+    /* The address of the first byte, a multiple of the domain's granule, and how many bytes there are, one too. */
     std::uint64_t address() const noexcept { return address_; }
     std::uint64_t bytes() const noexcept { return bytes_; }
 
@@ -391,7 +402,7 @@ class client {
   public:
     client() noexcept = default;
 
-    /* Refused by no_worker, worn, clients_full, no_memory. */
+    /* Refused by no_worker, worn, clients_full, no_memory; by bad_profile where the reach is `sac` and the granule isn't 4,096. */
     explicit client(domain &domain, std::uint64_t worker = 0, reach reach = reach::dac) {
         std::error_code error;
         open(domain, worker, reach, error);
@@ -591,7 +602,7 @@ class cached {
     /* Whether there is a range. */
     explicit operator bool() const noexcept { return cache_ != nullptr; }
 
-    /* The address of the first byte, a multiple of 4,096, and how many bytes there are, one too. */
+    /* The address of the first byte, a multiple of the domain's granule, and how many bytes there are, one too. */
     std::uint64_t address() const noexcept { return address_; }
     std::uint64_t bytes() const noexcept { return bytes_; }
 
@@ -612,7 +623,7 @@ class cached {
     /* unmap on another thread than the cache's, which takes it at its next call. Refused by ring_full where 255 are to be taken. */
     void unmap_by_other(std::error_code &error) noexcept {
         error.clear();
-        if (cache_ && !detail::is_refused(::iova_shared_unmap_by_other(&cache_->room, address_ / IOVA_FRAME_BYTES), error))
+        if (cache_ && !detail::is_refused(::iova_shared_unmap_by_other(&cache_->room, address_ >> cache_->room.shift), error))
             cache_ = nullptr;
     }
 
@@ -643,7 +654,7 @@ class cache {
   public:
     cache() noexcept = default;
 
-    /* Refused by no_worker, worn, clients_full, no_memory. */
+    /* Refused by no_worker, worn, clients_full, no_memory; by bad_profile where the reach is `sac` and the granule isn't 4,096. */
     explicit cache(shared &shared, std::uint64_t worker = 0, reach reach = reach::dac) {
         std::error_code error;
         open(shared, worker, reach, error);

@@ -68,6 +68,7 @@ extern "C" {
 typedef struct iova_shared {
     pthread_mutex_t lock;
     iova_domain *domain;
+    uint64_t granule; /* the bytes of a frame */
     int (*invalidate)(void *with);
     void *with;
     struct iova_shared_cache *caches; /* those that are open; under the lock */
@@ -81,6 +82,7 @@ typedef struct iova_shared {
 typedef struct iova_shared_cache {
     iova_cache cache;
     iova_shared *shared;
+    unsigned shift; /* of the bytes of a frame */
     uint64_t worker, client;
     uint64_t frames, limit, lo;     /* what the thread's call asks for, and is answered where it goes the long way */
     iova_range answer;
@@ -414,6 +416,7 @@ static inline uint64_t iova_shared_init(iova_shared *shared, iova_domain *domain
     if (flushes.refused)
         return flushes.refused;
     shared->domain = domain;
+    shared->granule = iova_granule_of(domain).number;
     shared->invalidate = invalidate;
     shared->with = with;
     shared->caches = NULL;
@@ -432,6 +435,7 @@ static inline uint64_t iova_shared_open(iova_shared_cache *cache, iova_shared *s
     iova_number client;
     iova_cache_init(&cache->cache);
     cache->shared = shared;
+    cache->shift = (unsigned)__builtin_ctzll(shared->granule);
     cache->worker = worker;
     cache->clean = cache->called = cache->left_count = cache->left_wrong = 0;
     cache->is_closing = 0;
@@ -478,24 +482,25 @@ static inline iova_range iova_shared_unmap(iova_shared_cache *cache, uint64_t lo
     return cache->answer;
 }
 
-static inline iova_mapping iova_own_mapping(iova_range range) {
+static inline iova_mapping iova_own_mapping(iova_range range, unsigned shift) {
     iova_mapping mapping;
     mapping.refused = range.refused;
-    mapping.address = range.lo * IOVA_FRAME_BYTES;
-    mapping.bytes = range.len * IOVA_FRAME_BYTES;
+    mapping.address = range.lo << shift;
+    mapping.bytes = range.len << shift;
     return mapping;
 }
 
-/* The same in bytes, as iova_map and iova_unmap_bytes are. */
+/* The same in bytes, as iova_map and iova_unmap_bytes are: by the domain's granule. */
 static inline iova_mapping iova_shared_map(iova_shared_cache *cache, uint64_t bytes, uint64_t dma_mask) {
-    uint64_t frames = bytes / IOVA_FRAME_BYTES + (bytes % IOVA_FRAME_BYTES != 0);
-    uint64_t below = IOVA_FRAME_BYTES - 1; /* the mask ends a frame where its last byte is in it */
-    uint64_t limit = dma_mask < below ? 0 : (dma_mask - below) / IOVA_FRAME_BYTES;
-    return iova_own_mapping(iova_shared_alloc(cache, frames, limit));
+    unsigned shift = cache->shift;
+    uint64_t below = (UINT64_C(1) << shift) - 1; /* the mask ends a frame where its last byte is in it */
+    uint64_t frames = (bytes >> shift) + ((bytes & below) != 0);
+    uint64_t limit = dma_mask < below ? 0 : (dma_mask - below) >> shift;
+    return iova_own_mapping(iova_shared_alloc(cache, frames, limit), shift);
 }
 
 static inline iova_mapping iova_shared_unmap_bytes(iova_shared_cache *cache, uint64_t address) {
-    return iova_own_mapping(iova_shared_unmap(cache, address / IOVA_FRAME_BYTES));
+    return iova_own_mapping(iova_shared_unmap(cache, address >> cache->shift), cache->shift);
 }
 
 /* The range that begins at frame `lo` of another thread's cache is given up, by whatever thread: the cache's own thread

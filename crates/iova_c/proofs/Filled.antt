@@ -6,7 +6,7 @@ use Rattle.iova_range.specs.declared.refusal.Refusal.TheVariants as refusal
 use Rattle.iova_range.specs.Frames.{Frames}
 use Rattle.iova_model.specs.declared.step.Step.{Step}
 use Rattle.iova_model.specs.declared.step.Reply.TheVariants as reply
-use Rattle.iova_model.specs.State.{State}
+use Rattle.iova_c.specs.declared.slot.Paged.{Paged}
 use Rattle.iova_c.specs.declared.answer.Listed.{Listed}
 use Rattle.iova_c.specs.Lists.{listed_range, with_ranges}
 use Rattle.iova_c.specs.Slots.{HasStepped}
@@ -34,5 +34,5 @@ filled list old ranges i e front rest =
     ∙ ap (λ z. z ++ drop i list) (front ∙ ap (λ k. map listed_range (take k ranges)) on ∙ ap (map listed_range) (take_min (length old) ranges))
     ∙ ap (λ z. map listed_range (take (length old) ranges) ++ z) (rest ∙ ap (λ k. drop k old) e ∙ drop_min (length ranges) old)
 
-pub refuses : (slot : Option State) (st : Step) → slot ≡ None → HasStepped slot st (reply.Refused refusal.NoDomain) slot
+pub refuses : (slot : Option Paged) (st : Step) → slot ≡ None → HasStepped slot st (reply.Refused refusal.NoDomain) slot
 refuses slot st e = subst (λ x. HasStepped x st (reply.Refused refusal.NoDomain) x) (sym e) (refl, refl)

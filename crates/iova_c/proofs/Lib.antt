@@ -1,3 +1,4 @@
 mod Words
+mod Granules
 mod Addresses
 mod Filled

@@ -4,7 +4,6 @@ use Rattle.iova_model.specs.declared.step.Reply.{Reply}
 use Rattle.iova_model.specs.declared.step.Reply.TheVariants as reply
 use Rattle.iova_range.specs.Refusals.{refusal_number}
 use Rattle.iova_range.specs.Frames.{Frames}
-use Rattle.iova_c.specs.declared.bytes.TheConstants.{FRAME_BYTES}
 use Rattle.iova_c.specs.declared.answer.RangeAnswer.{RangeAnswer}
 use Rattle.iova_c.specs.declared.answer.NumberAnswer.{NumberAnswer}
 use Rattle.iova_c.specs.declared.answer.MappingAnswer.{MappingAnswer}
@@ -54,37 +53,37 @@ word_answer reply.Ended = 0
 word_answer (reply.Drained number) = 0
 word_answer (reply.Marked number) = 0
 
--- the addresses of a range, in bytes
-abbrev pub mapping_of : Frames → MappingAnswer
-mapping_of range =
-    record { refused = 0; address = range.lo * FRAME_BYTES; bytes = range.len * FRAME_BYTES }
+-- the addresses of a range, in bytes, of which a frame has so many
+abbrev pub mapping_of : ℕ → Frames → MappingAnswer
+mapping_of granule range =
+    record { refused = 0; address = range.lo * granule; bytes = range.len * granule }
 
 -- the range of a reply to `Alloc` or `Unmap`, in bytes
-abbrev pub mapping_answer : Reply → MappingAnswer
-mapping_answer (reply.Given range) = mapping_of range
-mapping_answer (reply.Queued range) = mapping_of range
-mapping_answer (reply.Refused refusal) =
+abbrev pub mapping_answer : ℕ → Reply → MappingAnswer
+mapping_answer granule (reply.Given range) = mapping_of granule range
+mapping_answer granule (reply.Queued range) = mapping_of granule range
+mapping_answer granule (reply.Refused refusal) =
     record { refused = refusal_number refusal; address = 0; bytes = 0 }
-mapping_answer (reply.Reserved range) = record { refused = 0; address = 0; bytes = 0 }
-mapping_answer (reply.Opened number) = record { refused = 0; address = 0; bytes = 0 }
-mapping_answer reply.Empty = record { refused = 0; address = 0; bytes = 0 }
-mapping_answer (reply.Begun number) = record { refused = 0; address = 0; bytes = 0 }
-mapping_answer reply.Ended = record { refused = 0; address = 0; bytes = 0 }
-mapping_answer (reply.Drained number) = record { refused = 0; address = 0; bytes = 0 }
-mapping_answer (reply.Marked number) = record { refused = 0; address = 0; bytes = 0 }
+mapping_answer granule (reply.Reserved range) = record { refused = 0; address = 0; bytes = 0 }
+mapping_answer granule (reply.Opened number) = record { refused = 0; address = 0; bytes = 0 }
+mapping_answer granule reply.Empty = record { refused = 0; address = 0; bytes = 0 }
+mapping_answer granule (reply.Begun number) = record { refused = 0; address = 0; bytes = 0 }
+mapping_answer granule reply.Ended = record { refused = 0; address = 0; bytes = 0 }
+mapping_answer granule (reply.Drained number) = record { refused = 0; address = 0; bytes = 0 }
+mapping_answer granule (reply.Marked number) = record { refused = 0; address = 0; bytes = 0 }
 
 -- the range's first address and its length in bytes are below 2^64
-abbrev pub FitsInBytes : Frames → Type 0
-FitsInBytes range = (range.lo < 2 ^ 52) × (range.len < 2 ^ 52)
+abbrev pub FitsInBytes : ℕ → Frames → Type 0
+FitsInBytes granule range = (range.lo * granule < 2 ^ 64) × (range.len * granule < 2 ^ 64)
 
-abbrev pub HasAddresses : Reply → Type 0
-HasAddresses (reply.Given range) = FitsInBytes range
-HasAddresses (reply.Queued range) = FitsInBytes range
-HasAddresses (reply.Refused refusal) = Unit {0}
-HasAddresses (reply.Reserved range) = Unit {0}
-HasAddresses (reply.Opened number) = Unit {0}
-HasAddresses reply.Empty = Unit {0}
-HasAddresses (reply.Begun number) = Unit {0}
-HasAddresses reply.Ended = Unit {0}
-HasAddresses (reply.Drained number) = Unit {0}
-HasAddresses (reply.Marked number) = Unit {0}
+abbrev pub HasAddresses : ℕ → Reply → Type 0
+HasAddresses granule (reply.Given range) = FitsInBytes granule range
+HasAddresses granule (reply.Queued range) = FitsInBytes granule range
+HasAddresses granule (reply.Refused refusal) = Unit {0}
+HasAddresses granule (reply.Reserved range) = Unit {0}
+HasAddresses granule (reply.Opened number) = Unit {0}
+HasAddresses granule reply.Empty = Unit {0}
+HasAddresses granule (reply.Begun number) = Unit {0}
+HasAddresses granule reply.Ended = Unit {0}
+HasAddresses granule (reply.Drained number) = Unit {0}
+HasAddresses granule (reply.Marked number) = Unit {0}

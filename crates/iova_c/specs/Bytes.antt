@@ -1,15 +1,14 @@
--- Bytes and masks, in frames.
+-- Bytes and masks, in frames of so many bytes.
 use Rattle.std.specs.Prelude.{ℕ, ◌+◌, ◌-◌, ◌/◌}
-use Rattle.iova_c.specs.declared.bytes.TheConstants.{FRAME_BYTES}
 
 -- the least number of frames that has so many bytes
-abbrev pub frames_of : ℕ → ℕ
-frames_of bytes = (bytes + (FRAME_BYTES - 1)) / FRAME_BYTES
+abbrev pub frames_of : ℕ → ℕ → ℕ
+frames_of granule bytes = (bytes + (granule - 1)) / granule
 
 -- the last frame whose last byte's address isn't above the mask, 0 where there is none
-abbrev pub last_frame : ℕ → ℕ
-last_frame mask = (mask - (FRAME_BYTES - 1)) / FRAME_BYTES
+abbrev pub last_frame : ℕ → ℕ → ℕ
+last_frame granule mask = (mask - (granule - 1)) / granule
 
 -- the frame that has the byte at the address
-abbrev pub frame_at : ℕ → ℕ
-frame_at address = address / FRAME_BYTES
+abbrev pub frame_at : ℕ → ℕ → ℕ
+frame_at granule address = address / granule

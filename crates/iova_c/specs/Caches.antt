@@ -1,5 +1,5 @@
 -- What a call does to a slot for a cache, which holds one or none.
-use Rattle.std.specs.Prelude.{ℕ, ◌≡◌, ◌≢◌, ◌^◌, ◌<◌, ◌≤◌, ◌⊎◌, ◌*◌, Bool, [], length, find, Option, None, Some, Result, Ok, Err, IfOk, IfErr, OnOk, OnErr, IfSome, IfNone}
+use Rattle.std.specs.Prelude.{ℕ, ◌≡◌, ◌≢◌, ◌^◌, ◌<◌, ◌≤◌, ◌⊎◌, ◌*◌, Bool, true, [], length, find, Option, None, Some, Result, Ok, Err, IfOk, IfErr, OnOk, OnErr, IfSome, IfNone}
 use Rattle.iova_range.specs.declared.limits.TheConstants.{MOST_CACHED, ORDERS}
 use Rattle.iova_range.specs.declared.refusal.Refusal.{Refusal}
 use Rattle.iova_range.specs.Refusals.{refusal_number}
@@ -23,7 +23,10 @@ use Rattle.iova_cache.specs.Exchanges.{request, giving_up, IsAsked, IsDenied, Is
 use Rattle.iova_c.specs.Answers.{number_answer}
 use Rattle.iova_cache.specs.Apart.{IsPutIn, IsTakenOut, IsKept, IsUnkept, IsReleased}
 use Rattle.iova_c.specs.declared.cached.TheConstants.{NO_CACHE, NO_ORDER, DRY, MISS, FULL}
-use Rattle.iova_c.specs.declared.bytes.TheConstants.{FRAME_BYTES}
+use Rattle.iova_c.specs.declared.granule.TheConstants.{FRAME_BYTES}
+use Rattle.iova_c.specs.declared.slot.Paged.{Paged}
+use Rattle.iova_c.specs.declared.cached.Cached.{Cached}
+use Rattle.iova_c.specs.Slots.{with_domain}
 use Rattle.iova_c.specs.declared.answer.RangeAnswer.{RangeAnswer}
 use Rattle.iova_c.specs.declared.answer.NumberAnswer.{NumberAnswer}
 use Rattle.iova_c.specs.declared.answer.MappingAnswer.{MappingAnswer}
@@ -76,10 +79,19 @@ abbrev pub word_of : Result (Unit {0}) Refusal → ℕ
 word_of (Ok u) = 0
 word_of (Err x) = refusal_number x
 
--- the addresses of a range that is answered
-abbrev pub in_bytes : RangeAnswer → MappingAnswer
-in_bytes a =
-    record { refused = a.refused; address = a.lo * FRAME_BYTES; bytes = a.len * FRAME_BYTES }
+-- the addresses of a range that is answered, in bytes, of which a frame has so many
+abbrev pub in_bytes : ℕ → RangeAnswer → MappingAnswer
+in_bytes granule a =
+    record { refused = a.refused; address = a.lo * granule; bytes = a.len * granule }
+
+-- how many bytes a frame of the slot's cache has
+abbrev pub granule_in : Option Cached → ℕ
+granule_in (Some c) = c.granule
+granule_in None = FRAME_BYTES
+
+-- the same with another state of the cache
+abbrev pub with_cache : Cached → CacheState → Cached
+with_cache c x = record { cache = x; granule = c.granule }
 
 -- The calls. Each is what the slot's cache does, or is refused by NO_CACHE and changes nothing.
 
@@ -93,11 +105,11 @@ pub record Allocates (old new : CacheState) (frames limit : ℕ) (res : Result F
       × (magazine_of old.magazines order ≡ [])
   pub unchanged : OnErr res (new ≡ old)
 
-abbrev pub AllocCall : Option CacheState → ℕ → ℕ → RangeAnswer → Option CacheState → Type 0
+abbrev pub AllocCall : Option Cached → ℕ → ℕ → RangeAnswer → Option Cached → Type 0
 AllocCall None frames limit a new = (a ≡ no_range NO_CACHE) × (new ≡ None)
 AllocCall (Some c) frames limit a new =
-    (c' : CacheState) × ((res : Result Frames Unmet) × (Allocates c c' frames limit res
-    × ((a ≡ unmet_answer res) × (new ≡ Some c'))))
+    (c' : CacheState) × ((res : Result Frames Unmet) × (Allocates c.cache c' frames limit res
+    × ((a ≡ unmet_answer res) × (new ≡ Some (with_cache c c')))))
 
 pub record Unmaps (old new : CacheState) (lo start : ℕ) (res : Result Frames Kept) : Type 0 where
   pub given_up : IfOk res (λ r. (find (begins_at lo) old.held ≡ Some r) × (r.len ≤ MOST_CACHED)
@@ -110,26 +122,28 @@ pub record Unmaps (old new : CacheState) (lo start : ℕ) (res : Result Frames K
       × (find (begins_at lo) old.held ≡ Some r) × (r.len ≤ MOST_CACHED))
   pub unchanged : OnErr res (new ≡ old)
 
-abbrev pub UnmapCall : Option CacheState → ℕ → ℕ → RangeAnswer → Option CacheState → Type 0
+abbrev pub UnmapCall : Option Cached → ℕ → ℕ → RangeAnswer → Option Cached → Type 0
 UnmapCall None lo start a new = (a ≡ no_range NO_CACHE) × (new ≡ None)
 UnmapCall (Some c) lo start a new =
-    (c' : CacheState) × ((res : Result Frames Kept) × (Unmaps c c' lo start res
-    × ((a ≡ kept_answer res) × (new ≡ Some c'))))
+    (c' : CacheState) × ((res : Result Frames Kept) × (Unmaps c.cache c' lo start res
+    × ((a ≡ kept_answer res) × (new ≡ Some (with_cache c c')))))
 
 -- the same in bytes
-abbrev pub MapCall : Option CacheState → ℕ → ℕ → MappingAnswer → Option CacheState → Type 0
+abbrev pub MapCall : Option Cached → ℕ → ℕ → MappingAnswer → Option Cached → Type 0
 MapCall old frames limit a new =
-    (range : RangeAnswer) × (AllocCall old frames limit range new × (a ≡ in_bytes range))
+    (range : RangeAnswer) × (AllocCall old frames limit range new
+    × (a ≡ in_bytes (granule_in old) range))
 
-abbrev pub UnmapBytesCall : Option CacheState → ℕ → ℕ → MappingAnswer → Option CacheState → Type 0
+abbrev pub UnmapBytesCall : Option Cached → ℕ → ℕ → MappingAnswer → Option Cached → Type 0
 UnmapBytesCall old lo start a new =
-    (range : RangeAnswer) × (UnmapCall old lo start range new × (a ≡ in_bytes range))
+    (range : RangeAnswer) × (UnmapCall old lo start range new
+    × (a ≡ in_bytes (granule_in old) range))
 
-abbrev pub SettleCall : Option CacheState → ℕ → NumberAnswer → Option CacheState → Type 0
+abbrev pub SettleCall : Option Cached → ℕ → NumberAnswer → Option Cached → Type 0
 SettleCall None newest a new = (a ≡ record { refused = NO_CACHE; number = 0 }) × (new ≡ None)
 SettleCall (Some c) newest a new =
-    (c' : CacheState) × ((count : ℕ) × (IsSettled c c' newest count
-    × ((a ≡ record { refused = 0; number = count }) × (new ≡ Some c'))))
+    (c' : CacheState) × ((count : ℕ) × (IsSettled c.cache c' newest count
+    × ((a ≡ record { refused = 0; number = count }) × (new ≡ Some (with_cache c c')))))
 
 pub record Puts (old new : CacheState) (lo len : ℕ) (res : Result (Unit {0}) Unput) : Type 0 where
   pub put : OnOk res ((order : ℕ) × IsPutIn old new order (record { lo = lo; len = len }))
@@ -139,23 +153,23 @@ pub record Puts (old new : CacheState) (lo len : ℕ) (res : Result (Unit {0}) U
       × (length (magazine_of old.magazines order) ≡ 256)
   pub unchanged : OnErr res (new ≡ old)
 
-abbrev pub PutCall : Option CacheState → ℕ → ℕ → ℕ → Option CacheState → Type 0
+abbrev pub PutCall : Option Cached → ℕ → ℕ → ℕ → Option Cached → Type 0
 PutCall None lo len a new = (a ≡ NO_CACHE) × (new ≡ None)
 PutCall (Some c) lo len a new =
-    (c' : CacheState) × ((res : Result (Unit {0}) Unput) × (Puts c c' lo len res
-    × ((a ≡ unput_answer res) × (new ≡ Some c'))))
+    (c' : CacheState) × ((res : Result (Unit {0}) Unput) × (Puts c.cache c' lo len res
+    × ((a ≡ unput_answer res) × (new ≡ Some (with_cache c c')))))
 
 pub record Takes (old new : CacheState) (order : ℕ) (res : Option Frames) : Type 0 where
   pub taken : IfSome res (IsTakenOut old new order)
   pub empty : IfNone res (magazine_of old.magazines order ≡ [])
   pub unchanged : IfNone res (new ≡ old)
 
-abbrev pub TakeCall : Option CacheState → ℕ → RangeAnswer → Option CacheState → Type 0
+abbrev pub TakeCall : Option Cached → ℕ → RangeAnswer → Option Cached → Type 0
 TakeCall None order a new = (a ≡ no_range NO_CACHE) × (new ≡ None)
 TakeCall (Some c) order a new =
     ((ORDERS ≤ order) × ((a ≡ no_range NO_ORDER) × (new ≡ Some c)))
-    ⊎ ((c' : CacheState) × ((res : Option Frames) × (Takes c c' order res
-    × ((a ≡ some_answer DRY res) × (new ≡ Some c')))))
+    ⊎ ((c' : CacheState) × ((res : Option Frames) × (Takes c.cache c' order res
+    × ((a ≡ some_answer DRY res) × (new ≡ Some (with_cache c c'))))))
 
 pub record Keeps (old new : CacheState) (lo len : ℕ) (res : Result (Unit {0}) Refusal)
     : Type 0 where
@@ -163,41 +177,42 @@ pub record Keeps (old new : CacheState) (lo len : ℕ) (res : Result (Unit {0}) 
   pub refused : IfErr res (IsUnkept old lo len)
   pub unchanged : OnErr res (new ≡ old)
 
-abbrev pub KeepCall : Option CacheState → ℕ → ℕ → ℕ → Option CacheState → Type 0
+abbrev pub KeepCall : Option Cached → ℕ → ℕ → ℕ → Option Cached → Type 0
 KeepCall None lo len a new = (a ≡ NO_CACHE) × (new ≡ None)
 KeepCall (Some c) lo len a new =
-    (c' : CacheState) × ((res : Result (Unit {0}) Refusal) × (Keeps c c' lo len res
-    × ((a ≡ word_of res) × (new ≡ Some c'))))
+    (c' : CacheState) × ((res : Result (Unit {0}) Refusal) × (Keeps c.cache c' lo len res
+    × ((a ≡ word_of res) × (new ≡ Some (with_cache c c')))))
 
 pub record Releases (old new : CacheState) (lo : ℕ) (res : Option Frames) : Type 0 where
   pub released : IfSome res (IsReleased old new lo)
   pub none : IfNone res (find (begins_at lo) old.held ≡ None)
   pub unchanged : IfNone res (new ≡ old)
 
-abbrev pub ReleaseCall : Option CacheState → ℕ → RangeAnswer → Option CacheState → Type 0
+abbrev pub ReleaseCall : Option Cached → ℕ → RangeAnswer → Option Cached → Type 0
 ReleaseCall None lo a new = (a ≡ no_range NO_CACHE) × (new ≡ None)
 ReleaseCall (Some c) lo a new =
-    (c' : CacheState) × ((res : Option Frames) × (Releases c c' lo res
-    × ((a ≡ some_answer 8 res) × (new ≡ Some c'))))
+    (c' : CacheState) × ((res : Option Frames) × (Releases c.cache c' lo res
+    × ((a ≡ some_answer 8 res) × (new ≡ Some (with_cache c c')))))
 
 pub record Loses (old new : CacheState) (res : Option Frames) : Type 0 where
   pub gone : IfSome res (λ r. IsReleased old new r.lo r)
   pub none : IfNone res (old.held ≡ [])
   pub unchanged : IfNone res (new ≡ old)
 
-abbrev pub AnyCall : Option CacheState → RangeAnswer → Option CacheState → Type 0
+abbrev pub AnyCall : Option Cached → RangeAnswer → Option Cached → Type 0
 AnyCall None a new = (a ≡ no_range NO_CACHE) × (new ≡ None)
 AnyCall (Some c) a new =
-    (c' : CacheState) × ((res : Option Frames) × (Loses c c' res
-    × ((a ≡ some_answer 0 res) × (new ≡ Some c'))))
+    (c' : CacheState) × ((res : Option Frames) × (Loses c.cache c' res
+    × ((a ≡ some_answer 0 res) × (new ≡ Some (with_cache c c')))))
 
 -- A new cache of a client that is elsewhere is in the slot, in place of what was there; or memory
 -- was refused, and that stays.
-abbrev pub ApartCall : Option CacheState → Bool → ℕ → Option CacheState → Type 0
+abbrev pub ApartCall : Option Cached → Bool → ℕ → Option Cached → Type 0
 ApartCall old sac a new =
-    ((a ≡ 0) × (new ≡ Some (new_cache 0 0 sac))) ⊎ ((a ≡ 17) × (new ≡ old))
+    ((a ≡ 0) × (new ≡ Some (record { cache = new_cache 0 0 sac; granule = FRAME_BYTES })))
+    ⊎ ((a ≡ 17) × (new ≡ old))
 
-abbrev pub counts_in : Option CacheState → CacheCountsAnswer
+abbrev pub counts_in : Option Cached → CacheCountsAnswer
 counts_in None = record {
   refused = NO_CACHE;
   held = 0;
@@ -211,17 +226,17 @@ counts_in None = record {
 }
 counts_in (Some c) = record {
   refused = 0;
-  held = length c.held;
-  waiting = length c.ring;
-  order_0 = length (magazine_of c.magazines 0);
-  order_1 = length (magazine_of c.magazines 1);
-  order_2 = length (magazine_of c.magazines 2);
-  order_3 = length (magazine_of c.magazines 3);
-  order_4 = length (magazine_of c.magazines 4);
-  order_5 = length (magazine_of c.magazines 5);
+  held = length c.cache.held;
+  waiting = length c.cache.ring;
+  order_0 = length (magazine_of c.cache.magazines 0);
+  order_1 = length (magazine_of c.cache.magazines 1);
+  order_2 = length (magazine_of c.cache.magazines 2);
+  order_3 = length (magazine_of c.cache.magazines 3);
+  order_4 = length (magazine_of c.cache.magazines 4);
+  order_5 = length (magazine_of c.cache.magazines 5);
 }
 
-abbrev pub CountsCall : Option CacheState → CacheCountsAnswer → Option CacheState → Type 0
+abbrev pub CountsCall : Option Cached → CacheCountsAnswer → Option Cached → Type 0
 CountsCall old a new = (a ≡ counts_in old) × (new ≡ old)
 
 -- The calls that have a domain too.
@@ -246,32 +261,34 @@ pub record Refills (s t : State) (old new : CacheState) (frames limit most : ℕ
   pub refused : IfErr res (λ x. (new ≡ old) × ((IsRefillRefusal frames x × (t ≡ s))
       ⊎ IsStepOf s (request old frames limit) (reply.Refused x) t))
 
-abbrev pub RefillCall : Option State → Option CacheState → ℕ → ℕ → ℕ → NumberAnswer → Option State
-    → Option CacheState → Type 0
+abbrev pub RefillCall : Option Paged → Option Cached → ℕ → ℕ → ℕ → NumberAnswer → Option Paged
+    → Option Cached → Type 0
 RefillCall s None frames limit most a t new =
     (a ≡ no_number NO_CACHE) × ((t ≡ s) × (new ≡ None))
 RefillCall None (Some c) frames limit most a t new =
     (a ≡ no_number 23) × ((t ≡ None) × (new ≡ Some c))
 RefillCall (Some s) (Some c) frames limit most a t new =
     (s' : State) × ((c' : CacheState) × ((res : Result ℕ Refusal)
-    × (Refills s s' c c' frames limit most res
-    × ((a ≡ count_answer res) × ((t ≡ Some s') × (new ≡ Some c'))))))
+    × (Refills s.domain s' c.cache c' frames limit most res
+    × ((a ≡ count_answer res) × ((t ≡ Some (with_domain s s'))
+    × (new ≡ Some (with_cache c c')))))))
 
 pub record Spills (s t : State) (old new : CacheState) (order most : ℕ) (res : Result ℕ Refusal)
     : Type 0 where
   pub spilled : IfOk res (IsSpilled old new s t order most)
   pub refused : IfErr res (λ x. (new ≡ old) × IsUnspilled old s t order x)
 
-abbrev pub SpillCall : Option State → Option CacheState → ℕ → ℕ → NumberAnswer → Option State
-    → Option CacheState → Type 0
+abbrev pub SpillCall : Option Paged → Option Cached → ℕ → ℕ → NumberAnswer → Option Paged
+    → Option Cached → Type 0
 SpillCall s None order most a t new = (a ≡ no_number NO_CACHE) × ((t ≡ s) × (new ≡ None))
 SpillCall None (Some c) order most a t new =
     (a ≡ no_number 23) × ((t ≡ None) × (new ≡ Some c))
 SpillCall (Some s) (Some c) order most a t new =
     ((ORDERS ≤ order) × ((a ≡ no_number NO_ORDER) × ((t ≡ Some s) × (new ≡ Some c))))
     ⊎ ((s' : State) × ((c' : CacheState) × ((res : Result ℕ Refusal)
-    × (Spills s s' c c' order most res
-    × ((a ≡ count_answer res) × ((t ≡ Some s') × (new ≡ Some c')))))))
+    × (Spills s.domain s' c.cache c' order most res
+    × ((a ≡ count_answer res) × ((t ≡ Some (with_domain s s'))
+    × (new ≡ Some (with_cache c c'))))))))
 
 pub record AllocatesBy (s t : State) (old new : CacheState) (frames limit : ℕ)
     (res : Result Frames Refusal) : Type 0 where
@@ -279,15 +296,16 @@ pub record AllocatesBy (s t : State) (old new : CacheState) (frames limit : ℕ)
   pub refused : IfErr res (λ x. (IsOwnRefusal old frames x × (new ≡ old) × (t ≡ s))
       ⊎ IsDenied old new s t (request old frames limit) x)
 
-abbrev pub AllocByCall : Option State → Option CacheState → ℕ → ℕ → RangeAnswer → Option State
-    → Option CacheState → Type 0
+abbrev pub AllocByCall : Option Paged → Option Cached → ℕ → ℕ → RangeAnswer → Option Paged
+    → Option Cached → Type 0
 AllocByCall s None frames limit a t new = (a ≡ no_range NO_CACHE) × ((t ≡ s) × (new ≡ None))
 AllocByCall None (Some c) frames limit a t new =
     (a ≡ no_range 23) × ((t ≡ None) × (new ≡ Some c))
 AllocByCall (Some s) (Some c) frames limit a t new =
     (s' : State) × ((c' : CacheState) × ((res : Result Frames Refusal)
-    × (AllocatesBy s s' c c' frames limit res
-    × ((a ≡ refusal_answer res) × ((t ≡ Some s') × (new ≡ Some c'))))))
+    × (AllocatesBy s.domain s' c.cache c' frames limit res
+    × ((a ≡ refusal_answer res) × ((t ≡ Some (with_domain s s'))
+    × (new ≡ Some (with_cache c c')))))))
 
 pub record UnmapsBy (s t : State) (old new : CacheState) (lo : ℕ) (res : Result Frames Refusal)
     : Type 0 where
@@ -297,33 +315,41 @@ pub record UnmapsBy (s t : State) (old new : CacheState) (lo : ℕ) (res : Resul
       × (find (begins_at lo) old.held ≡ None) × (t ≡ s))
       ⊎ IsStepOf s (giving_up old lo) (reply.Refused x) t))
 
-abbrev pub UnmapByCall : Option State → Option CacheState → ℕ → RangeAnswer → Option State
-    → Option CacheState → Type 0
+abbrev pub UnmapByCall : Option Paged → Option Cached → ℕ → RangeAnswer → Option Paged
+    → Option Cached → Type 0
 UnmapByCall s None lo a t new = (a ≡ no_range NO_CACHE) × ((t ≡ s) × (new ≡ None))
 UnmapByCall None (Some c) lo a t new = (a ≡ no_range 23) × ((t ≡ None) × (new ≡ Some c))
 UnmapByCall (Some s) (Some c) lo a t new =
     (s' : State) × ((c' : CacheState) × ((res : Result Frames Refusal)
-    × (UnmapsBy s s' c c' lo res
-    × ((a ≡ refusal_answer res) × ((t ≡ Some s') × (new ≡ Some c'))))))
+    × (UnmapsBy s.domain s' c.cache c' lo res
+    × ((a ≡ refusal_answer res) × ((t ≡ Some (with_domain s s'))
+    × (new ≡ Some (with_cache c c')))))))
 
--- A new cache of a new client is in the slot, in place of what was there; or it was refused, and
--- that stays.
-abbrev pub MakeCall : Option State → Option CacheState → ℕ → Bool → NumberAnswer → Option State
-    → Option CacheState → Type 0
+-- A new cache of a new client is in the slot, in place of what was there, and has the domain's
+-- granule; or it was refused, and that stays. Single address cycles are refused in a domain of
+-- another granule than 4 KiB.
+pub record Makes (p : Paged) (old : Option Cached) (worker : ℕ) (sac : Bool) (a : NumberAnswer)
+    (t : Option Paged) (new : Option Cached) : Type 0 where
+  pub no_cycles : sac ≡ true → p.granule ≢ FRAME_BYTES
+      → (a ≡ no_number (refusal_number refusal.BadProfile)) × ((t ≡ Some p) × (new ≡ old))
+  pub made : (sac ≡ true → p.granule ≡ FRAME_BYTES) → (s' : State) × ((t ≡ Some (with_domain p s'))
+      × (((id : ℕ) × (IsStepOf p.domain (step.Open worker sac) (reply.Opened id) s'
+      × ((a ≡ record { refused = 0; number = id })
+      × (new ≡ Some (record { cache = new_cache worker id sac; granule = p.granule })))))
+      ⊎ ((x : Refusal) × ((((x ≡ refusal.NoMemory) × (s' ≡ p.domain))
+      ⊎ IsStepOf p.domain (step.Open worker sac) (reply.Refused x) s')
+      × ((a ≡ no_number (refusal_number x)) × (new ≡ old))))))
+
+abbrev pub MakeCall : Option Paged → Option Cached → ℕ → Bool → NumberAnswer → Option Paged
+    → Option Cached → Type 0
 MakeCall None old worker sac a t new = (a ≡ no_number 23) × ((t ≡ None) × (new ≡ old))
-MakeCall (Some s) old worker sac a t new =
-    (s' : State) × ((t ≡ Some s')
-    × (((id : ℕ) × (IsStepOf s (step.Open worker sac) (reply.Opened id) s'
-    × ((a ≡ record { refused = 0; number = id }) × (new ≡ Some (new_cache worker id sac)))))
-    ⊎ ((x : Refusal) × ((((x ≡ refusal.NoMemory) × (s' ≡ s))
-    ⊎ IsStepOf s (step.Open worker sac) (reply.Refused x) s')
-    × ((a ≡ no_number (refusal_number x)) × (new ≡ old))))))
+MakeCall (Some p) old worker sac a t new = Makes p old worker sac a t new
 
 -- The cache is gone in any case, and its client is marked.
-abbrev pub EndCall : Option State → Option CacheState → NumberAnswer → Option State
-    → Option CacheState → Type 0
+abbrev pub EndCall : Option Paged → Option Cached → NumberAnswer → Option Paged
+    → Option Cached → Type 0
 EndCall s None a t new = (a ≡ no_number NO_CACHE) × ((t ≡ s) × (new ≡ None))
 EndCall None (Some c) a t new = (a ≡ no_number 23) × ((t ≡ None) × (new ≡ None))
 EndCall (Some s) (Some c) a t new =
-    (s' : State) × ((r : Reply) × (IsStepOf s (step.Close c.worker c.client) r s'
-    × ((a ≡ number_answer r) × ((t ≡ Some s') × (new ≡ None)))))
+    (s' : State) × ((r : Reply) × (IsStepOf s.domain (step.Close c.cache.worker c.cache.client) r s'
+    × ((a ≡ number_answer r) × ((t ≡ Some (with_domain s s')) × (new ≡ None)))))

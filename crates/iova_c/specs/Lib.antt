@@ -1,5 +1,6 @@
 pub mod Answers
 pub mod Bytes
+pub mod Granules
 pub mod Slots
 pub mod Readers
 pub mod Lists

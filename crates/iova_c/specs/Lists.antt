@@ -5,7 +5,7 @@ use Rattle.iova_range.specs.declared.refusal.Refusal.TheVariants as refusal
 use Rattle.iova_range.specs.Refusals.{refusal_number}
 use Rattle.iova_range.specs.Frames.{Frames}
 use Rattle.iova_model.specs.Clients.{Client, client_with}
-use Rattle.iova_model.specs.State.{State}
+use Rattle.iova_c.specs.declared.slot.Paged.{Paged}
 use Rattle.iova_c.specs.declared.answer.NumberAnswer.{NumberAnswer}
 use Rattle.iova_c.specs.declared.answer.Listed.{Listed}
 
@@ -27,18 +27,18 @@ abbrev pub holdings_of : Option Client → Result (List Frames) Refusal
 holdings_of None = Err refusal.NoClient
 holdings_of (Some c) = Ok c.holdings
 
-abbrev pub held_in : ℕ → Option State → Result (List Frames) Refusal
+abbrev pub held_in : ℕ → Option Paged → Result (List Frames) Refusal
 held_in id None = Err refusal.NoDomain
-held_in id (Some s) = holdings_of (client_with id s.clients)
+held_in id (Some p) = holdings_of (client_with id p.domain.clients)
 
-abbrev pub windows_in : Option State → Result (List Frames) Refusal
+abbrev pub windows_in : Option Paged → Result (List Frames) Refusal
 windows_in None = Err refusal.NoDomain
-windows_in (Some s) = Ok s.windows
+windows_in (Some p) = Ok p.domain.windows
 
-abbrev pub ListsHoldings : Option State → ℕ → List Listed → NumberAnswer → List Listed
-    → Option State → Type 0
+abbrev pub ListsHoldings : Option Paged → ℕ → List Listed → NumberAnswer → List Listed
+    → Option Paged → Type 0
 ListsHoldings old id list answer list' new = Lists (held_in id old) list answer list' × (new ≡ old)
 
-abbrev pub ListsWindows : Option State → List Listed → NumberAnswer → List Listed → Option State
+abbrev pub ListsWindows : Option Paged → List Listed → NumberAnswer → List Listed → Option Paged
     → Type 0
 ListsWindows old list answer list' new = Lists (windows_in old) list answer list' × (new ≡ old)

@@ -6,12 +6,16 @@ use Rattle.iova_range.specs.declared.refusal.Refusal.TheVariants as refusal
 use Rattle.iova_range.specs.Refusals.{refusal_number}
 use Rattle.iova_model.specs.State.{State, new_domain}
 use Rattle.iova_model.specs.declared.step.Step.{Step}
+use Rattle.iova_model.specs.declared.step.Step.TheVariants as step
 use Rattle.iova_model.specs.declared.step.Reply.{Reply}
 use Rattle.iova_model.specs.declared.step.Reply.TheVariants as reply
 use Rattle.iova_core.specs.Domain.{IsStepOf}
+use Rattle.iova_c.specs.declared.granule.TheConstants.{FRAME_BYTES}
+use Rattle.iova_c.specs.declared.slot.Paged.{Paged}
 use Rattle.iova_c.specs.declared.answer.RangeAnswer.{RangeAnswer}
 use Rattle.iova_c.specs.declared.answer.NumberAnswer.{NumberAnswer}
 use Rattle.iova_c.specs.declared.answer.MappingAnswer.{MappingAnswer}
+use Rattle.iova_c.specs.Granules.{IsGranule}
 use Rattle.iova_c.specs.Answers.{range_answer, number_answer, word_answer, mapping_answer}
 
 -- C's yes and no: 0 is no, and any other number is yes
@@ -19,25 +23,46 @@ abbrev pub is_set : ℕ → Bool
 is_set zero = false
 is_set (suc n) = true
 
--- The domain of a slot takes the step, with this reply. Without a domain the step is refused, and
--- nothing has changed.
-abbrev pub HasStepped : Option State → Step → Reply → Option State → Type 0
-HasStepped (Some s) st r new = (s' : State) × IsStepOf s st r s' × (new ≡ Some s')
+-- the same with another state of the domain
+abbrev pub with_domain : Paged → State → Paged
+with_domain p s = record { domain = s; granule = p.granule }
+
+-- The domain of a slot takes the step, with this reply, and keeps its granule. Without a domain the
+-- step is refused, and nothing has changed.
+abbrev pub HasStepped : Option Paged → Step → Reply → Option Paged → Type 0
+HasStepped (Some p) st r new =
+    (s' : State) × IsStepOf p.domain st r s' × (new ≡ Some (with_domain p s'))
 HasStepped None st r new = (r ≡ reply.Refused refusal.NoDomain) × (new ≡ None)
+
+-- how many bytes a frame of the slot's domain has
+abbrev pub granule_of : Option Paged → ℕ
+granule_of (Some p) = p.granule
+granule_of None = FRAME_BYTES
 
 -- What a call answers of a step that the slot's domain takes, and what it leaves.
 
-abbrev pub RangeStep : Option State → Step → RangeAnswer → Option State → Type 0
+abbrev pub RangeStep : Option Paged → Step → RangeAnswer → Option Paged → Type 0
 RangeStep old st answer new = (r : Reply) × HasStepped old st r new × (answer ≡ range_answer r)
 
-abbrev pub NumberStep : Option State → Step → NumberAnswer → Option State → Type 0
+abbrev pub NumberStep : Option Paged → Step → NumberAnswer → Option Paged → Type 0
 NumberStep old st answer new = (r : Reply) × HasStepped old st r new × (answer ≡ number_answer r)
 
-abbrev pub WordStep : Option State → Step → ℕ → Option State → Type 0
+abbrev pub WordStep : Option Paged → Step → ℕ → Option Paged → Type 0
 WordStep old st answer new = (r : Reply) × HasStepped old st r new × (answer ≡ word_answer r)
 
-abbrev pub MappingStep : Option State → Step → MappingAnswer → Option State → Type 0
-MappingStep old st answer new = (r : Reply) × HasStepped old st r new × (answer ≡ mapping_answer r)
+-- in bytes, by the domain's granule
+abbrev pub MappingStep : Option Paged → Step → MappingAnswer → Option Paged → Type 0
+MappingStep old st answer new =
+    (r : Reply) × HasStepped old st r new × (answer ≡ mapping_answer (granule_of old) r)
+
+-- Single address cycles are 4 GiB in frames of 4 KiB. A client for them is refused in a domain of
+-- another granule, and nothing has changed.
+pub record OpenStep (old : Option Paged) (worker : ℕ) (sac : Bool) (answer : NumberAnswer)
+    (new : Option Paged) : Type 0 where
+  pub refused : sac ≡ true → granule_of old ≢ FRAME_BYTES
+      → (answer ≡ record { refused = refusal_number refusal.BadProfile; number = 0 }) × (new ≡ old)
+  pub opened : (sac ≡ true → granule_of old ≡ FRAME_BYTES)
+      → NumberStep old (step.Open worker sac) answer new
 
 -- A domain has from 1 to 16 workers.
 abbrev pub IsWorkerCount : ℕ → Type 0
@@ -46,9 +71,10 @@ IsWorkerCount workers = (1 ≤ workers) × (workers ≤ MAX_WORKERS)
 -- What making a domain answers and leaves: with 0 a new one in the slot, with the number of a
 -- refusal what was there. Bounds of the profile and a worker count are refused only for want of
 -- memory.
-pub record IsMade (old : Option State) (extent : Extent) (workers answer : ℕ)
-    (new : Option State) : Type 0 where
-  pub made : answer ≡ 0 → new ≡ Some (new_domain extent workers)
+pub record IsMade (granule : ℕ) (old : Option Paged) (extent : Extent) (workers answer : ℕ)
+    (new : Option Paged) : Type 0 where
+  pub made : answer ≡ 0
+      → new ≡ Some (record { domain = new_domain extent workers; granule = granule })
   pub kept : answer ≢ 0 → new ≡ old
   pub bad_window : (answer ≡ refusal_number refusal.BadWindow)
       ↔ (AreBounds extent.profile extent.start extent.last → ⊥)
@@ -57,14 +83,19 @@ pub record IsMade (old : Option State) (extent : Extent) (workers answer : ℕ)
   pub no_other : (answer ≡ 0) ⊎ (answer ≡ refusal_number refusal.BadWindow)
       ⊎ (answer ≡ refusal_number refusal.NoWorker) ⊎ (answer ≡ refusal_number refusal.NoMemory)
 
--- in the first profile
-abbrev pub HasMade : Option State → ℕ → ℕ → ℕ → ℕ → Option State → Type 0
-HasMade old start last workers answer new =
-    IsMade old (record { start = start; last = last; profile = first_profile }) workers answer new
+-- in the first profile, in frames of so many bytes
+pub record HasMade (granule : ℕ) (old : Option Paged) (start last workers answer : ℕ)
+    (new : Option Paged) : Type 0 where
+  pub bad_granule : (IsGranule granule → ⊥)
+      → (answer ≡ refusal_number refusal.BadProfile) × (new ≡ old)
+  pub made : IsGranule granule → IsMade granule old
+      (record { start = start; last = last; profile = first_profile }) workers answer new
 
 -- in the second one, whose depot has a limit
-pub record HasMadeSecond (old : Option State) (start last workers depot answer : ℕ)
-    (new : Option State) : Type 0 where
+pub record HasMadeSecond (granule : ℕ) (old : Option Paged) (start last workers depot answer : ℕ)
+    (new : Option Paged) : Type 0 where
+  pub bad_granule : (IsGranule granule → ⊥)
+      → (answer ≡ refusal_number refusal.BadProfile) × (new ≡ old)
   pub bad_profile : MAX_DEPOT < depot → (answer ≡ refusal_number refusal.BadProfile) × (new ≡ old)
-  pub made : depot ≤ MAX_DEPOT → IsMade old
+  pub made : IsGranule granule → depot ≤ MAX_DEPOT → IsMade granule old
       (record { start = start; last = last; profile = second_profile depot }) workers answer new

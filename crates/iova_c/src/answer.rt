@@ -4,7 +4,6 @@ ghost use Rattle.std.specs.Prelude.{◌≡◌, ◌≤◌, ◌*◌, ◌+◌, ◌^
 ghost use Rattle.iova_range.specs.Refusals.{refusal_number};
 ghost use Rattle.iova_c.specs.Answers.{range_answer, unpacked, number_answer, word_answer, mapping_answer, HasAddresses};
 
-use crate::bytes::FRAME_BYTES;
 use iova_core::Reply;
 use iova_range::range::Range;
 use iova_range::refusal::Refusal;
@@ -241,16 +240,17 @@ pub fn of_word(reply: Reply) -> u64
     }
 }
 
-/// Of `Alloc` and `Unmap`: the range in bytes.
-pub fn of_mapping(reply: Reply) -> MappingAnswer
-    requires { HasAddresses reply }
-    ensures { result ≡ mapping_answer reply }
+/// Of `Alloc` and `Unmap`: the range in bytes, of which a frame has so many.
+#[inline(always)]
+pub fn of_mapping(granule: u64, reply: Reply) -> MappingAnswer
+    requires { HasAddresses granule reply }
+    ensures { result ≡ mapping_answer granule reply }
 {
     match reply {
         Reply::Given(range) | Reply::Queued(range) => MappingAnswer {
             refused: 0,
-            address: range.lo() * FRAME_BYTES,
-            bytes: range.len() * FRAME_BYTES,
+            address: range.lo() * granule,
+            bytes: range.len() * granule,
         },
         Reply::Refused(refusal) => MappingAnswer {
             refused: number_of(refusal),

@@ -7,7 +7,7 @@ ghost use Rattle.std.specs.Ptr.{lies_at, room_at};
 ghost use denote.Memory.{mem};
 ghost use Rattle.iova_c.specs.Bytes.{frame_at, frames_of, last_frame};
 ghost use Rattle.iova_c.specs.Slots.{is_set};
-ghost use Rattle.iova_c.specs.Caches.{AllocCall, UnmapCall, MapCall, UnmapBytesCall, SettleCall, PutCall, TakeCall, KeepCall, ReleaseCall, AnyCall, ApartCall, CountsCall, MakeCall, RefillCall, SpillCall, AllocByCall, UnmapByCall, EndCall};
+ghost use Rattle.iova_c.specs.Caches.{granule_in, AllocCall, UnmapCall, MapCall, UnmapBytesCall, SettleCall, PutCall, TakeCall, KeepCall, ReleaseCall, AnyCall, ApartCall, CountsCall, MakeCall, RefillCall, SpillCall, AllocByCall, UnmapByCall, EndCall};
 ghost use Rattle.iova_c.specs.contracts.cached.CacheSlot.{the_row};
 ghost use Rattle.iova_c.specs.contracts.slot.Slot.{the_row as slot_row};
 
@@ -104,7 +104,8 @@ pub unsafe extern "C" fn iova_cache_map(
     ghost old: { CacheSlot }
     requires* { sem 𝓛 (lies_at the_row full_share cache old) }
     ensures* { ∃ₛ (λ (new : CacheSlot). sem 𝓛 (lies_at the_row full_share cache new)
-        ∗ ⌜ MapCall old.cache (frames_of bytes) (last_frame mask) result new.cache ⌝) }
+        ∗ ⌜ MapCall old.cache (frames_of (granule_in old.cache) bytes)
+        (last_frame (granule_in old.cache) mask) result new.cache ⌝) }
 {
     map_cached(&mut *(cache as *mut CacheSlot), bytes, mask)
 }
@@ -119,7 +120,8 @@ pub unsafe extern "C" fn iova_cache_unmap_bytes(
     ghost old: { CacheSlot }
     requires* { sem 𝓛 (lies_at the_row full_share cache old) }
     ensures* { ∃ₛ (λ (new : CacheSlot). sem 𝓛 (lies_at the_row full_share cache new)
-        ∗ ⌜ UnmapBytesCall old.cache (frame_at address) start result new.cache ⌝) }
+        ∗ ⌜ UnmapBytesCall old.cache (frame_at (granule_in old.cache) address) start result
+        new.cache ⌝) }
 {
     unmap_bytes_cached(&mut *(cache as *mut CacheSlot), address, start)
 }

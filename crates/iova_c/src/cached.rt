@@ -5,6 +5,7 @@ ghost use Rattle.iova_c.specs.Slots.{is_set};
 ghost use Rattle.iova_c.specs.Caches.{unmet_answer, kept_answer, some_answer, no_range, AllocCall, UnmapCall, SettleCall, PutCall, TakeCall, KeepCall, ReleaseCall, AnyCall, ApartCall, CountsCall};
 
 use crate::answer::{CacheCountsAnswer, NumberAnswer, RangeAnswer, number_of, unpack};
+use crate::granule::{Granule, usual};
 use iova_cache::apart::Unput;
 use iova_cache::cache::{Cache, Kept, Unmet};
 use iova_range::limits::ORDERS;
@@ -27,10 +28,17 @@ pub const MISS: u64 = 204;
 /// It is full.
 pub const FULL: u64 = 205;
 
+/// A cache, and how many bytes the frames of its domain have.
+#[derive(Drop)]
+pub struct Cached {
+    pub(crate) cache: Cache,
+    pub(crate) granule: Granule,
+}
+
 /// A cache, or none.
 #[derive(Drop)]
 pub struct CacheSlot {
-    pub(crate) cache: Option<Cache>,
+    pub(crate) cache: Option<Cached>,
 }
 
 const _: () = prove!(size_of::<CacheSlot>() <= 512);
@@ -111,7 +119,9 @@ pub fn alloc(slot: &mut CacheSlot, frames: u64, limit: u64) -> RangeAnswer
     ensures { AllocCall slot.old.cache frames limit result slot.new.cache }
 {
     match &mut slot.cache {
-        Some(cache) if cache.has_room() => of_unmet(cache.alloc_in_room(frames, limit)),
+        Some(cached) if cached.cache.has_room() => of_unmet(
+            cached.cache.alloc_in_room(frames, limit),
+        ),
         _ => unpack(alloc_elsewhere(slot, frames, limit)),
     }
 }
@@ -122,7 +132,7 @@ fn alloc_elsewhere(slot: &mut CacheSlot, frames: u64, limit: u64) -> (u64, u64)
     ensures { AllocCall slot.old.cache frames limit (unpacked result) slot.new.cache }
 {
     match &mut slot.cache {
-        Some(cache) => match cache.alloc(frames, limit) {
+        Some(cached) => match cached.cache.alloc(frames, limit) {
             Ok(range) => (range.lo(), range.len()),
             Err(Unmet::NoOrder) => (NO_ORDER, 0),
             Err(Unmet::Miss) => (MISS, 0),
@@ -138,7 +148,7 @@ pub fn unmap(slot: &mut CacheSlot, lo: u64, start: u64) -> RangeAnswer
     ensures { UnmapCall slot.old.cache lo start result slot.new.cache }
 {
     match &mut slot.cache {
-        Some(cache) => of_kept(cache.unmap(lo, start)),
+        Some(cached) => of_kept(cached.cache.unmap(lo, start)),
         None => refused(NO_CACHE),
     }
 }
@@ -148,9 +158,9 @@ pub fn settle(slot: &mut CacheSlot, newest: u64) -> NumberAnswer
     ensures { SettleCall slot.old.cache newest result slot.new.cache }
 {
     match &mut slot.cache {
-        Some(cache) => NumberAnswer {
+        Some(cached) => NumberAnswer {
             refused: 0,
-            number: cache.settle(newest),
+            number: cached.cache.settle(newest),
         },
         None => NumberAnswer {
             refused: NO_CACHE,
@@ -159,15 +169,18 @@ pub fn settle(slot: &mut CacheSlot, newest: u64) -> NumberAnswer
     }
 }
 
-/// A cache whose domain is elsewhere, in place of the one that is there. 0, or the refusal's
-/// number.
+/// A cache whose domain is elsewhere and has frames of 4,096 bytes, in place of the one that is
+/// there. 0, or the refusal's number.
 pub fn apart(alloc: Global, slot: &mut CacheSlot, sac: u64) -> u64
     ensures { ApartCall slot.old.cache (is_set sac) result slot.new.cache }
 {
     let sac = sac != 0;
     match Cache::apart(alloc, sac) {
         Ok(cache) => {
-            slot.cache = Some(cache);
+            slot.cache = Some(Cached {
+                cache,
+                granule: usual(),
+            });
             0
         }
         Err(_) => 17,
@@ -179,7 +192,7 @@ pub fn put(slot: &mut CacheSlot, lo: u64, len: u64) -> u64
     ensures { PutCall slot.old.cache lo len result slot.new.cache }
 {
     match &mut slot.cache {
-        Some(cache) => match cache.put(lo, len) {
+        Some(cached) => match cached.cache.put(lo, len) {
             Ok(()) => 0,
             Err(Unput::NoOrder) => NO_ORDER,
             Err(Unput::TooHigh) => 10,
@@ -194,11 +207,11 @@ pub fn take(slot: &mut CacheSlot, order: u64) -> RangeAnswer
     ensures { TakeCall slot.old.cache order result slot.new.cache }
 {
     match &mut slot.cache {
-        Some(cache) => {
+        Some(cached) => {
             if order >= ORDERS as u64 {
                 return refused(NO_ORDER);
             }
-            of_some(DRY, cache.take(order as u8))
+            of_some(DRY, cached.cache.take(order as u8))
         }
         None => refused(NO_CACHE),
     }
@@ -209,7 +222,7 @@ pub fn keep(slot: &mut CacheSlot, lo: u64, len: u64) -> u64
     ensures { KeepCall slot.old.cache lo len result slot.new.cache }
 {
     match &mut slot.cache {
-        Some(cache) => match cache.keep(lo, len) {
+        Some(cached) => match cached.cache.keep(lo, len) {
             Ok(()) => 0,
             Err(refusal) => number_of(refusal),
         },
@@ -222,7 +235,7 @@ pub fn release(slot: &mut CacheSlot, lo: u64) -> RangeAnswer
     ensures { ReleaseCall slot.old.cache lo result slot.new.cache }
 {
     match &mut slot.cache {
-        Some(cache) => of_some(8, cache.release(lo)),
+        Some(cached) => of_some(8, cached.cache.release(lo)),
         None => refused(NO_CACHE),
     }
 }
@@ -232,7 +245,7 @@ pub fn any(slot: &mut CacheSlot) -> RangeAnswer
     ensures { AnyCall slot.old.cache result slot.new.cache }
 {
     match &mut slot.cache {
-        Some(cache) => of_some(0, cache.any()),
+        Some(cached) => of_some(0, cached.cache.any()),
         None => refused(NO_CACHE),
     }
 }
@@ -242,16 +255,16 @@ pub fn counts(slot: &mut CacheSlot) -> CacheCountsAnswer
     ensures { CountsCall slot.old.cache result slot.new.cache }
 {
     match &slot.cache {
-        Some(cache) => CacheCountsAnswer {
+        Some(cached) => CacheCountsAnswer {
             refused: 0,
-            held: cache.held(),
-            waiting: cache.waiting() as u64,
-            order_0: cache.cached(0),
-            order_1: cache.cached(1),
-            order_2: cache.cached(2),
-            order_3: cache.cached(3),
-            order_4: cache.cached(4),
-            order_5: cache.cached(5),
+            held: cached.cache.held(),
+            waiting: cached.cache.waiting() as u64,
+            order_0: cached.cache.cached(0),
+            order_1: cached.cache.cached(1),
+            order_2: cached.cache.cached(2),
+            order_3: cached.cache.cached(3),
+            order_4: cached.cache.cached(4),
+            order_5: cached.cache.cached(5),
         },
         None => CacheCountsAnswer {
             refused: NO_CACHE,

@@ -5,7 +5,8 @@ ghost use Rattle.iova_c.specs.Slots.{is_set};
 ghost use Rattle.iova_c.specs.Caches.{MakeCall, no_number, no_range, count_answer, refusal_answer, RefillCall, SpillCall, AllocByCall, UnmapByCall, EndCall};
 
 use crate::answer::{NumberAnswer, RangeAnswer, number_of, of_number};
-use crate::cached::{CacheSlot, NO_CACHE, NO_ORDER, given, refused};
+use crate::cached::{CacheSlot, Cached, NO_CACHE, NO_ORDER, given, refused};
+use crate::granule::FRAME_BYTES;
 use crate::slot::Slot;
 use iova_cache::cache::Cache;
 use iova_range::limits::ORDERS;
@@ -47,6 +48,7 @@ fn of_refusal(res: Result<Range, Refusal>) -> RangeAnswer
 }
 
 /// A cache of a new client of the worker, in place of the one that is there. Answers the client.
+/// Single address cycles are refused as by `steps::open`.
 pub fn make(
     alloc: Global,
     slot: &mut Slot,
@@ -58,16 +60,24 @@ pub fn make(
         cache.new.cache }
 {
     let sac = sac != 0;
-    let Some(domain) = &mut slot.domain else {
-        return not_counted(no_domain());
-    };
-    match Cache::open(alloc, domain, worker, sac) {
-        Ok(opened) => {
-            let number = opened.client();
-            cache.cache = Some(opened);
-            NumberAnswer { refused: 0, number }
+    match &mut slot.domain {
+        Some(paged) => {
+            if sac && paged.granule.bytes() != FRAME_BYTES {
+                return not_counted(number_of(Refusal::BadProfile));
+            }
+            match Cache::open(alloc, &mut paged.domain, worker, sac) {
+                Ok(opened) => {
+                    let number = opened.client();
+                    cache.cache = Some(Cached {
+                        cache: opened,
+                        granule: paged.granule.again(),
+                    });
+                    NumberAnswer { refused: 0, number }
+                }
+                Err(refusal) => not_counted(number_of(refusal)),
+            }
         }
-        Err(refusal) => not_counted(number_of(refusal)),
+        None => not_counted(no_domain()),
     }
 }
 
@@ -82,13 +92,13 @@ pub fn refill(
     ensures { RefillCall slot.old.domain cache.old.cache frames limit most result slot.new.domain
         cache.new.cache }
 {
-    let Some(cache) = &mut cache.cache else {
-        return not_counted(NO_CACHE);
-    };
-    let Some(domain) = &mut slot.domain else {
-        return not_counted(no_domain());
-    };
-    of_count(cache.refill(domain, frames, limit, most))
+    match &mut cache.cache {
+        Some(cached) => match &mut slot.domain {
+            Some(paged) => of_count(cached.cache.refill(&mut paged.domain, frames, limit, most)),
+            None => not_counted(no_domain()),
+        },
+        None => not_counted(NO_CACHE),
+    }
 }
 
 /// Ranges of the magazines of an order go back to the domain.
@@ -96,16 +106,18 @@ pub fn spill(slot: &mut Slot, cache: &mut CacheSlot, order: u64, most: u64) -> N
     ensures { SpillCall slot.old.domain cache.old.cache order most result slot.new.domain
         cache.new.cache }
 {
-    let Some(cache) = &mut cache.cache else {
-        return not_counted(NO_CACHE);
-    };
-    let Some(domain) = &mut slot.domain else {
-        return not_counted(no_domain());
-    };
-    if order >= ORDERS as u64 {
-        return not_counted(NO_ORDER);
+    match &mut cache.cache {
+        Some(cached) => match &mut slot.domain {
+            Some(paged) => {
+                if order >= ORDERS as u64 {
+                    return not_counted(NO_ORDER);
+                }
+                of_count(cached.cache.spill(&mut paged.domain, order as u8, most))
+            }
+            None => not_counted(no_domain()),
+        },
+        None => not_counted(NO_CACHE),
     }
-    of_count(cache.spill(domain, order as u8, most))
 }
 
 /// A range of the domain for the user.
@@ -113,13 +125,13 @@ pub fn alloc_by(slot: &mut Slot, cache: &mut CacheSlot, frames: u64, limit: u64)
     ensures { AllocByCall slot.old.domain cache.old.cache frames limit result slot.new.domain
         cache.new.cache }
 {
-    let Some(cache) = &mut cache.cache else {
-        return refused(NO_CACHE);
-    };
-    let Some(domain) = &mut slot.domain else {
-        return refused(no_domain());
-    };
-    of_refusal(cache.alloc_by(domain, frames, limit))
+    match &mut cache.cache {
+        Some(cached) => match &mut slot.domain {
+            Some(paged) => of_refusal(cached.cache.alloc_by(&mut paged.domain, frames, limit)),
+            None => refused(no_domain()),
+        },
+        None => refused(NO_CACHE),
+    }
 }
 
 /// What begins there goes from the user to the domain's ring.
@@ -127,13 +139,13 @@ pub fn unmap_by(slot: &mut Slot, cache: &mut CacheSlot, lo: u64) -> RangeAnswer
     ensures { UnmapByCall slot.old.domain cache.old.cache lo result slot.new.domain
         cache.new.cache }
 {
-    let Some(cache) = &mut cache.cache else {
-        return refused(NO_CACHE);
-    };
-    let Some(domain) = &mut slot.domain else {
-        return refused(no_domain());
-    };
-    of_refusal(cache.unmap_by(domain, lo))
+    match &mut cache.cache {
+        Some(cached) => match &mut slot.domain {
+            Some(paged) => of_refusal(cached.cache.unmap_by(&mut paged.domain, lo)),
+            None => refused(no_domain()),
+        },
+        None => refused(NO_CACHE),
+    }
 }
 
 /// The cache is gone, and its client is marked closing.
@@ -143,8 +155,8 @@ pub fn end(slot: &mut Slot, cache: &mut CacheSlot) -> NumberAnswer
     let Some(ended) = cache.cache.take() else {
         return not_counted(NO_CACHE);
     };
-    let Some(domain) = &mut slot.domain else {
-        return not_counted(no_domain());
-    };
-    of_number(ended.end(domain))
+    match &mut slot.domain {
+        Some(paged) => of_number(ended.cache.end(&mut paged.domain)),
+        None => not_counted(no_domain()),
+    }
 }

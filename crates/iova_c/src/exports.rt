@@ -7,8 +7,8 @@ ghost use Rattle.std.specs.Ptr.{lies_at, room_at};
 ghost use denote.Memory.{mem};
 ghost use Rattle.iova_c.specs.Bytes.{frame_at, frames_of, last_frame};
 ghost use Rattle.iova_c.specs.Lists.{ListsHoldings, ListsWindows};
-ghost use Rattle.iova_c.specs.Readers.{Reads, place_answer, counts_answer, totals_answer, share_answer, client_answer, bounds_answer, flushes_answer};
-ghost use Rattle.iova_c.specs.Slots.{is_set, RangeStep, NumberStep, WordStep, MappingStep, HasMade, HasMadeSecond};
+ghost use Rattle.iova_c.specs.Readers.{Reads, place_answer, counts_answer, totals_answer, share_answer, client_answer, bounds_answer, flushes_answer, granule_answer};
+ghost use Rattle.iova_c.specs.Slots.{is_set, granule_of, OpenStep, RangeStep, NumberStep, WordStep, MappingStep, HasMade, HasMadeSecond};
 ghost use Rattle.iova_c.specs.contracts.slot.Slot.{the_row};
 
 use crate::answer::{
@@ -16,8 +16,9 @@ use crate::answer::{
     PlaceAnswer, RangeAnswer, TotalsAnswer,
 };
 use crate::bytes::{map, unmap_bytes};
+use crate::granule::FRAME_BYTES;
 use crate::lists::{holdings, windows};
-use crate::readers::{bounds, client_of, counts, flushes, place, share, totals};
+use crate::readers::{bounds, client_of, counts, flushes, granule, place, share, totals};
 use crate::slot::{Slot, clear, empty, make, make_second};
 use crate::steps::{alloc, begin, close, close_one, drain, end, open, reserve, unmap};
 use iova_core::Step;
@@ -48,8 +49,8 @@ pub unsafe extern "C" fn iova_domain_init(domain: *mut SlotRoom)
     (domain as *mut Slot).write(empty());
 }
 
-/// Makes a domain for the slot, in place of the one that it has. Answers 0, or the number of the
-/// refusal.
+/// Makes a domain for the slot, in place of the one that it has, in frames of 4,096 bytes. Answers
+/// 0, or the number of the refusal.
 #[unsafe(no_mangle)]
 pub unsafe extern "C" fn iova_domain_make(
     alloc: Global,
@@ -61,9 +62,16 @@ pub unsafe extern "C" fn iova_domain_make(
     ghost old: { Slot }
     requires* { sem 𝓛 (lies_at the_row full_share domain old) }
     ensures* { ∃ₛ (λ (new : Slot). sem 𝓛 (lies_at the_row full_share domain new)
-        ∗ ⌜ HasMade old.domain start last workers result new.domain ⌝) }
+        ∗ ⌜ HasMade FRAME_BYTES old.domain start last workers result new.domain ⌝) }
 {
-    make(alloc, &mut *(domain as *mut Slot), start, last, workers)
+    make(
+        alloc,
+        &mut *(domain as *mut Slot),
+        start,
+        last,
+        workers,
+        FRAME_BYTES,
+    )
 }
 
 /// The same in the second profile.
@@ -79,7 +87,7 @@ pub unsafe extern "C" fn iova_domain_make_second(
     ghost old: { Slot }
     requires* { sem 𝓛 (lies_at the_row full_share domain old) }
     ensures* { ∃ₛ (λ (new : Slot). sem 𝓛 (lies_at the_row full_share domain new)
-        ∗ ⌜ HasMadeSecond old.domain start last workers depot result new.domain ⌝) }
+        ∗ ⌜ HasMadeSecond FRAME_BYTES old.domain start last workers depot result new.domain ⌝) }
 {
     make_second(
         alloc,
@@ -88,6 +96,59 @@ pub unsafe extern "C" fn iova_domain_make_second(
         last,
         workers,
         depot,
+        FRAME_BYTES,
+    )
+}
+
+/// `iova_domain_make` in frames of so many bytes.
+#[unsafe(no_mangle)]
+pub unsafe extern "C" fn iova_domain_make_granule(
+    alloc: Global,
+    domain: *mut SlotRoom,
+    start: u64,
+    last: u64,
+    workers: u64,
+    granule: u64,
+) -> u64
+    ghost old: { Slot }
+    requires* { sem 𝓛 (lies_at the_row full_share domain old) }
+    ensures* { ∃ₛ (λ (new : Slot). sem 𝓛 (lies_at the_row full_share domain new)
+        ∗ ⌜ HasMade granule old.domain start last workers result new.domain ⌝) }
+{
+    make(
+        alloc,
+        &mut *(domain as *mut Slot),
+        start,
+        last,
+        workers,
+        granule,
+    )
+}
+
+/// `iova_domain_make_second` in frames of so many bytes.
+#[unsafe(no_mangle)]
+pub unsafe extern "C" fn iova_domain_make_second_granule(
+    alloc: Global,
+    domain: *mut SlotRoom,
+    start: u64,
+    last: u64,
+    workers: u64,
+    depot: u64,
+    granule: u64,
+) -> u64
+    ghost old: { Slot }
+    requires* { sem 𝓛 (lies_at the_row full_share domain old) }
+    ensures* { ∃ₛ (λ (new : Slot). sem 𝓛 (lies_at the_row full_share domain new)
+        ∗ ⌜ HasMadeSecond granule old.domain start last workers depot result new.domain ⌝) }
+{
+    make_second(
+        alloc,
+        &mut *(domain as *mut Slot),
+        start,
+        last,
+        workers,
+        depot,
+        granule,
     )
 }
 
@@ -120,7 +181,7 @@ pub unsafe extern "C" fn iova_open(domain: *mut SlotRoom, worker: u64, sac: u64)
     ghost old: { Slot }
     requires* { sem 𝓛 (lies_at the_row full_share domain old) }
     ensures* { ∃ₛ (λ (new : Slot). sem 𝓛 (lies_at the_row full_share domain new)
-        ∗ ⌜ NumberStep old.domain (Step.Open worker (is_set sac)) result new.domain ⌝) }
+        ∗ ⌜ OpenStep old.domain worker (is_set sac) result new.domain ⌝) }
 {
     open(&mut *(domain as *mut Slot), worker, sac)
 }
@@ -229,8 +290,9 @@ pub unsafe extern "C" fn iova_map(
     ghost old: { Slot }
     requires* { sem 𝓛 (lies_at the_row full_share domain old) }
     ensures* { ∃ₛ (λ (new : Slot). sem 𝓛 (lies_at the_row full_share domain new)
-        ∗ ⌜ MappingStep old.domain (Step.Alloc worker client (frames_of bytes) (last_frame mask))
-        result new.domain ⌝) }
+        ∗ ⌜ MappingStep old.domain (Step.Alloc worker client
+        (frames_of (granule_of old.domain) bytes) (last_frame (granule_of old.domain) mask)) result
+        new.domain ⌝) }
 {
     map(&mut *(domain as *mut Slot), worker, client, bytes, mask)
 }
@@ -246,8 +308,8 @@ pub unsafe extern "C" fn iova_unmap_bytes(
     ghost old: { Slot }
     requires* { sem 𝓛 (lies_at the_row full_share domain old) }
     ensures* { ∃ₛ (λ (new : Slot). sem 𝓛 (lies_at the_row full_share domain new)
-        ∗ ⌜ MappingStep old.domain (Step.Unmap worker client (frame_at address)) result new.domain
-        ⌝) }
+        ∗ ⌜ MappingStep old.domain
+        (Step.Unmap worker client (frame_at (granule_of old.domain) address)) result new.domain ⌝) }
 {
     unmap_bytes(&mut *(domain as *mut Slot), worker, client, address)
 }
@@ -316,6 +378,17 @@ pub unsafe extern "C" fn iova_bounds_of(domain: *mut SlotRoom) -> BoundsAnswer
         ∗ ⌜ Reads bounds_answer old.domain result new.domain ⌝) }
 {
     bounds(&mut *(domain as *mut Slot))
+}
+
+/// How many bytes a frame has.
+#[unsafe(no_mangle)]
+pub unsafe extern "C" fn iova_granule_of(domain: *mut SlotRoom) -> NumberAnswer
+    ghost old: { Slot }
+    requires* { sem 𝓛 (lies_at the_row full_share domain old) }
+    ensures* { ∃ₛ (λ (new : Slot). sem 𝓛 (lies_at the_row full_share domain new)
+        ∗ ⌜ Reads granule_answer old.domain result new.domain ⌝) }
+{
+    granule(&mut *(domain as *mut Slot))
 }
 
 /// The numbers of the flushes.

@@ -8,6 +8,7 @@ pub mod cache_exports;
 pub mod cached;
 pub mod exchanged;
 pub mod exports;
+pub mod granule;
 pub mod lists;
 pub mod names;
 pub mod readers;

@@ -35,10 +35,10 @@ fn refused(refusal: Refusal) -> NumberAnswer
 pub fn holdings(slot: &mut Slot, client: u64, list: &mut [Listed]) -> NumberAnswer
     ensures { ListsHoldings slot.old.domain client list.old result list.new slot.new.domain }
 {
-    let Some(domain) = &slot.domain else {
+    let Some(paged) = &slot.domain else {
         return refused(Refusal::NoDomain);
     };
-    let Some(holdings) = domain.holdings_of(client) else {
+    let Some(holdings) = paged.domain.holdings_of(client) else {
         return refused(Refusal::NoClient);
     };
     put_ranges(holdings, list);
@@ -52,10 +52,10 @@ pub fn holdings(slot: &mut Slot, client: u64, list: &mut [Listed]) -> NumberAnsw
 pub fn windows(slot: &mut Slot, list: &mut [Listed]) -> NumberAnswer
     ensures { ListsWindows slot.old.domain list.old result list.new slot.new.domain }
 {
-    let Some(domain) = &slot.domain else {
+    let Some(paged) = &slot.domain else {
         return refused(Refusal::NoDomain);
     };
-    let windows = domain.windows();
+    let windows = paged.domain.windows();
     put_ranges(windows, list);
     NumberAnswer {
         refused: 0,

@@ -1,10 +1,11 @@
 //! What a slot's domain holds. Each call leaves the slot as it is, and answers `NoDomain` where it
-//! has no domain.
+//! has no paged.domain.
 ghost use Rattle.std.specs.Prelude.{◌≡◌};
-ghost use Rattle.iova_c.specs.Readers.{Reads, place_answer, counts_answer, totals_answer, share_answer, client_answer, bounds_answer, flushes_answer};
+ghost use Rattle.iova_c.specs.Readers.{Reads, place_answer, counts_answer, totals_answer, share_answer, client_answer, bounds_answer, flushes_answer, granule_answer};
 
 use crate::answer::{
-    BoundsAnswer, ClientAnswer, CountsAnswer, FlushesAnswer, PlaceAnswer, TotalsAnswer, number_of,
+    BoundsAnswer, ClientAnswer, CountsAnswer, FlushesAnswer, NumberAnswer, PlaceAnswer,
+    TotalsAnswer, number_of,
 };
 use crate::slot::Slot;
 use iova_core::{Place, Totals};
@@ -25,14 +26,14 @@ fn a_place(kind: u64, number: u64) -> PlaceAnswer
 pub fn place(slot: &mut Slot, frame: u64) -> PlaceAnswer
     ensures { Reads (place_answer frame) slot.old.domain result slot.new.domain }
 {
-    let Some(domain) = &slot.domain else {
+    let Some(paged) = &slot.domain else {
         return PlaceAnswer {
             refused: number_of(Refusal::NoDomain),
             kind: 0,
             number: 0,
         };
     };
-    match domain.place(frame) {
+    match paged.domain.place(frame) {
         None => a_place(0, 0),
         Some(Place::Free) => a_place(1, 0),
         Some(Place::Reserved) => a_place(2, 0),
@@ -46,7 +47,7 @@ pub fn place(slot: &mut Slot, frame: u64) -> PlaceAnswer
 pub fn counts(slot: &mut Slot) -> CountsAnswer
     ensures { Reads counts_answer slot.old.domain result slot.new.domain }
 {
-    let Some(domain) = &slot.domain else {
+    let Some(paged) = &slot.domain else {
         return CountsAnswer {
             refused: number_of(Refusal::NoDomain),
             free: 0,
@@ -59,7 +60,7 @@ pub fn counts(slot: &mut Slot) -> CountsAnswer
             windows: 0,
         };
     };
-    let counts = domain.counts();
+    let counts = paged.domain.counts();
     CountsAnswer {
         refused: 0,
         free: counts.free,
@@ -68,8 +69,8 @@ pub fn counts(slot: &mut Slot) -> CountsAnswer
         magazine: counts.magazine,
         depot: counts.depot,
         ring: counts.ring,
-        clients: domain.clients() as u64,
-        windows: domain.windows().len() as u64,
+        clients: paged.domain.clients() as u64,
+        windows: paged.domain.windows().len() as u64,
     }
 }
 
@@ -105,7 +106,7 @@ pub fn totals(slot: &mut Slot) -> TotalsAnswer
     ensures { Reads totals_answer slot.old.domain result slot.new.domain }
 {
     match &slot.domain {
-        Some(domain) => some_totals(domain.totals()),
+        Some(paged) => some_totals(paged.domain.totals()),
         None => refused_totals(number_of(Refusal::NoDomain)),
     }
 }
@@ -115,7 +116,9 @@ pub fn share(slot: &mut Slot, worker: u64) -> TotalsAnswer
     ensures { Reads (share_answer worker) slot.old.domain result slot.new.domain }
 {
     match &slot.domain {
-        Some(domain) if worker < domain.workers() => some_totals(domain.share_of(worker)),
+        Some(paged) if worker < paged.domain.workers() => some_totals(
+            paged.domain.share_of(worker),
+        ),
         Some(_) => refused_totals(number_of(Refusal::NoWorker)),
         None => refused_totals(number_of(Refusal::NoDomain)),
     }
@@ -136,16 +139,16 @@ fn no_client(refused: u64) -> ClientAnswer
 pub fn client_of(slot: &mut Slot, client: u64) -> ClientAnswer
     ensures { Reads (client_answer client) slot.old.domain result slot.new.domain }
 {
-    let Some(domain) = &slot.domain else {
+    let Some(paged) = &slot.domain else {
         return no_client(number_of(Refusal::NoDomain));
     };
-    let Some(worker) = domain.owner(client) else {
+    let Some(worker) = paged.domain.owner(client) else {
         return no_client(number_of(Refusal::NoClient));
     };
-    let Some(closing) = domain.is_closing(client) else {
+    let Some(closing) = paged.domain.is_closing(client) else {
         return no_client(number_of(Refusal::NoClient));
     };
-    let Some(holdings) = domain.holdings_of(client) else {
+    let Some(holdings) = paged.domain.holdings_of(client) else {
         return no_client(number_of(Refusal::NoClient));
     };
     ClientAnswer {
@@ -159,7 +162,7 @@ pub fn client_of(slot: &mut Slot, client: u64) -> ClientAnswer
 pub fn bounds(slot: &mut Slot) -> BoundsAnswer
     ensures { Reads bounds_answer slot.old.domain result slot.new.domain }
 {
-    let Some(domain) = &slot.domain else {
+    let Some(paged) = &slot.domain else {
         return BoundsAnswer {
             refused: number_of(Refusal::NoDomain),
             start: 0,
@@ -169,21 +172,21 @@ pub fn bounds(slot: &mut Slot) -> BoundsAnswer
             workers: 0,
         };
     };
-    let bounds = domain.bounds();
+    let bounds = paged.domain.bounds();
     BoundsAnswer {
         refused: 0,
         start: bounds.start(),
         last: bounds.last(),
         magazine: bounds.profile().mag() as u64,
         depot: bounds.profile().depot() as u64,
-        workers: domain.workers(),
+        workers: paged.domain.workers(),
     }
 }
 
 pub fn flushes(slot: &mut Slot) -> FlushesAnswer
     ensures { Reads flushes_answer slot.old.domain result slot.new.domain }
 {
-    let Some(domain) = &slot.domain else {
+    let Some(paged) = &slot.domain else {
         return FlushesAnswer {
             refused: number_of(Refusal::NoDomain),
             start: 0,
@@ -196,11 +199,27 @@ pub fn flushes(slot: &mut Slot) -> FlushesAnswer
     };
     FlushesAnswer {
         refused: 0,
-        start: domain.start(),
-        finish: domain.finish(),
-        owed: domain.owed(),
-        newest: domain.newest_done(),
-        good: domain.good(),
-        in_flight: domain.in_flight() as u64,
+        start: paged.domain.start(),
+        finish: paged.domain.finish(),
+        owed: paged.domain.owed(),
+        newest: paged.domain.newest_done(),
+        good: paged.domain.good(),
+        in_flight: paged.domain.in_flight() as u64,
+    }
+}
+
+/// How many bytes a frame has.
+pub fn granule(slot: &mut Slot) -> NumberAnswer
+    ensures { Reads granule_answer slot.old.domain result slot.new.domain }
+{
+    match &slot.domain {
+        Some(paged) => NumberAnswer {
+            refused: 0,
+            number: paged.granule.bytes(),
+        },
+        None => NumberAnswer {
+            refused: number_of(Refusal::NoDomain),
+            number: 0,
+        },
     }
 }

@@ -3,6 +3,7 @@ ghost use Rattle.std.specs.Prelude.{◌≡◌, None};
 ghost use Rattle.iova_c.specs.Slots.{HasStepped, HasMade, HasMadeSecond};
 
 use crate::answer::number_of;
+use crate::granule::{Granule, granule_of};
 use iova_core::domain::Domain;
 use iova_core::{Reply, Step};
 use iova_range::bounds::Bounds;
@@ -10,10 +11,17 @@ use iova_range::profile::Profile;
 use iova_range::refusal::Refusal;
 use std::alloc::Global;
 
+/// A domain, and how many bytes its frames have.
+#[derive(Drop)]
+pub struct Paged {
+    pub(crate) domain: Domain,
+    pub(crate) granule: Granule,
+}
+
 /// A domain, or none.
 #[derive(Drop)]
 pub struct Slot {
-    pub(crate) domain: Option<Domain>,
+    pub(crate) domain: Option<Paged>,
 }
 
 const _: () = prove!(size_of::<Slot>() <= 1536);
@@ -33,7 +41,7 @@ pub fn step(slot: &mut Slot, step: Step) -> Reply
     ensures { HasStepped slot.old.domain step result slot.new.domain }
 {
     match &mut slot.domain {
-        Some(domain) => domain.step(step),
+        Some(paged) => paged.domain.step(step),
         None => Reply::Refused(Refusal::NoDomain),
     }
 }
@@ -43,40 +51,51 @@ pub fn step(slot: &mut Slot, step: Step) -> Reply
 pub fn step_elsewhere(slot: &mut Slot, step: Step) -> Reply
     ensures { HasStepped slot.old.domain step result slot.new.domain }
 {
-    let Some(domain) = &mut slot.domain else {
-        return Reply::Refused(Refusal::NoDomain);
-    };
-    domain.step_elsewhere(step)
+    match &mut slot.domain {
+        Some(paged) => paged.domain.step_elsewhere(step),
+        None => Reply::Refused(Refusal::NoDomain),
+    }
 }
 
 /// Whether the slot has a domain in which this `Unmap` calls nothing. Nothing is promised.
 #[inline(always)]
 pub fn queues_at_once(slot: &Slot, worker: u64, client: u64, lo: u64) -> bool {
     match &slot.domain {
-        Some(domain) => domain.queues_at_once(worker, client, lo),
+        Some(paged) => paged.domain.queues_at_once(worker, client, lo),
         None => false,
     }
 }
 
-/// A new domain of the first profile for the slot, in place of the one that it has. Answers 0, or
-/// the number of the refusal, by which nothing has changed: `BadWindow`, `NoWorker`, `NoMemory`.
-pub fn make(alloc: Global, slot: &mut Slot, start: u64, last: u64, workers: u64) -> u64
-    ensures { HasMade slot.old.domain start last workers result slot.new.domain }
+/// A new domain of the first profile for the slot, in frames of so many bytes, in place of the one
+/// that it has. Answers 0, or the number of the refusal, by which nothing has changed: `BadProfile`
+/// exactly where the bytes are no granule; `BadWindow`, `NoWorker`, `NoMemory`.
+pub fn make(
+    alloc: Global,
+    slot: &mut Slot,
+    start: u64,
+    last: u64,
+    workers: u64,
+    granule: u64,
+) -> u64
+    ensures { HasMade granule slot.old.domain start last workers result slot.new.domain }
 {
-    match Bounds::new(start, last) {
+    match granule_of(granule) {
         Err(refusal) => number_of(refusal),
-        Ok(bounds) => match Domain::new(alloc, bounds, workers) {
+        Ok(granule) => match Bounds::new(start, last) {
             Err(refusal) => number_of(refusal),
-            Ok(domain) => {
-                slot.domain = Some(domain);
-                0
-            }
+            Ok(bounds) => match Domain::new(alloc, bounds, workers) {
+                Err(refusal) => number_of(refusal),
+                Ok(domain) => {
+                    slot.domain = Some(Paged { domain, granule });
+                    0
+                }
+            },
         },
     }
 }
 
-/// The same in the second profile, with so many magazines of each order in the depot. `BadProfile`,
-/// and then as above.
+/// The same in the second profile, with so many magazines of each order in the depot. `BadProfile`
+/// where they are too many too, and then as above.
 pub fn make_second(
     alloc: Global,
     slot: &mut Slot,
@@ -84,19 +103,24 @@ pub fn make_second(
     last: u64,
     workers: u64,
     depot: u64,
+    granule: u64,
 ) -> u64
-    ensures { HasMadeSecond slot.old.domain start last workers depot result slot.new.domain }
+    ensures { HasMadeSecond granule slot.old.domain start last workers depot result
+        slot.new.domain }
 {
-    match Profile::two(depot) {
+    match granule_of(granule) {
         Err(refusal) => number_of(refusal),
-        Ok(profile) => match Bounds::new_in(profile, start, last) {
+        Ok(granule) => match Profile::two(depot) {
             Err(refusal) => number_of(refusal),
-            Ok(bounds) => match Domain::new(alloc, bounds, workers) {
+            Ok(profile) => match Bounds::new_in(profile, start, last) {
                 Err(refusal) => number_of(refusal),
-                Ok(domain) => {
-                    slot.domain = Some(domain);
-                    0
-                }
+                Ok(bounds) => match Domain::new(alloc, bounds, workers) {
+                    Err(refusal) => number_of(refusal),
+                    Ok(domain) => {
+                        slot.domain = Some(Paged { domain, granule });
+                        0
+                    }
+                },
             },
         },
     }

@@ -1,11 +1,15 @@
 //! The nine steps of a slot's domain, in numbers.
 ghost use Rattle.std.specs.Prelude.{◌≡◌, ◌≢◌};
 ghost use Rattle.iova_c.specs.Answers.{unpacked};
-ghost use Rattle.iova_c.specs.Slots.{is_set, RangeStep, NumberStep, WordStep};
+ghost use Rattle.iova_c.specs.Slots.{is_set, granule_of, OpenStep, RangeStep, NumberStep, WordStep};
 
-use crate::answer::{NumberAnswer, RangeAnswer, of_number, of_range, of_word, pack, unpack};
+use crate::answer::{
+    NumberAnswer, RangeAnswer, number_of, of_number, of_range, of_word, pack, unpack,
+};
+use crate::granule::FRAME_BYTES;
 use crate::slot::{Slot, queues_at_once, step, step_elsewhere};
-use iova_core::Step;
+use iova_core::{Reply, Step};
+use iova_range::refusal::Refusal;
 
 pub fn reserve(slot: &mut Slot, lo: u64, hi: u64) -> RangeAnswer
     ensures { RangeStep slot.old.domain (Step.Reserve lo hi) result slot.new.domain }
@@ -13,10 +17,25 @@ pub fn reserve(slot: &mut Slot, lo: u64, hi: u64) -> RangeAnswer
     of_range(step(slot, Step::Reserve { lo, hi }))
 }
 
+/// How many bytes a frame of the slot's domain has.
+fn granule(slot: &Slot) -> u64
+    ensures { result ≡ granule_of slot.now.domain }
+{
+    match &slot.domain {
+        Some(paged) => paged.granule.bytes(),
+        None => FRAME_BYTES,
+    }
+}
+
+/// Single address cycles are refused by `BadProfile` in a domain whose frames don't have 4,096
+/// bytes.
 pub fn open(slot: &mut Slot, worker: u64, sac: u64) -> NumberAnswer
-    ensures { NumberStep slot.old.domain (Step.Open worker (is_set sac)) result slot.new.domain }
+    ensures { OpenStep slot.old.domain worker (is_set sac) result slot.new.domain }
 {
     let sac = sac != 0;
+    if sac && granule(slot) != FRAME_BYTES {
+        return of_number(Reply::Refused(Refusal::BadProfile));
+    }
     of_number(step(slot, Step::Open { worker, sac }))
 }
 

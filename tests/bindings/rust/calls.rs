@@ -36,7 +36,9 @@ fn made(words: &[&str]) -> Result<Domain, Refusal> {
     match words[0] {
         "iovatrace" if v[0] == 1 => Domain::new(v[1], v[2], v[3]),
         "iovatrace" => Domain::second(v[1], v[2], v[3], v[4]),
+        "domain" if v.len() == 4 => Domain::with_granule(v[0], v[1], v[2], v[3]),
         "domain" => Domain::new(v[0], v[1], v[2]),
+        _ if v.len() == 5 => Domain::second_with_granule(v[0], v[1], v[2], v[3], v[4]),
         _ => Domain::second(v[0], v[1], v[2], v[3]),
     }
 }

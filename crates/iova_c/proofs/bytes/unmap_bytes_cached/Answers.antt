@@ -1,9 +1,11 @@
-use Rattle.std.proofs.Common.{◌≡◌, ◌≤◌, ◌<◌, ◌==◌, ℕ, Bool, true, false, cond, List, [], ◌∷◌, find, Option, None, Some, Result, Ok, Err, refl, ap, arith}
+use Rattle.std.proofs.Common.{◌≡◌, ◌≤◌, ◌<◌, ◌*◌, ◌^◌, ◌==◌, ℕ, Bool, true, false, cond, List, [], ◌∷◌, find, Option, None, Some, Result, Ok, Err, refl, ap, arith}
 use Rattle.std.proofs.lemmas.Bool.Decides.{nat_tests}
+use Rattle.std.proofs.lemmas.Nat.{mul-le}
 use Rattle.iova_range.specs.Frames.{Frames}
 use Rattle.iova_model.specs.Clients.{begins_at}
 use Rattle.iova_cache.specs.declared.cache.Kept.{Kept}
 use Rattle.iova_cache.specs.Caches.{CacheState}
+use Rattle.iova_c.specs.declared.cached.Cached.{Cached}
 use Rattle.iova_c.specs.declared.answer.RangeAnswer.{RangeAnswer}
 use Rattle.iova_c.specs.Caches.{UnmapCall, Unmaps, kept_answer}
 use Rattle.iova_c.proofs.bytes.unmap_bytes_cached.Goals as goal
@@ -20,15 +22,22 @@ begins lo (x ∷ rs) r is = step (x.lo == lo) refl is (λ rest. begins lo rs r r
         rw same at begun
     step false at here later = later here
 
-given_low : (c c' : CacheState) (lo start : ℕ) (res : Result Frames Kept) (a : RangeAnswer) → Unmaps c c' lo start res → a ≡ kept_answer res → a.lo ≤ lo
-given_low c c' lo start (Ok r) a u is = let at = begins lo c.held r u.given_up.0 in let same = ap (λ (a : RangeAnswer). a.lo) is in omega (arith, at, same)
-given_low c c' lo start (Err x) a u is = let same = ap (λ (a : RangeAnswer). a.lo) is in omega (arith, same)
+-- what is answered begins no later, and has no more frames than a magazine's ranges
+given_low : (c c' : CacheState) (lo start : ℕ) (res : Result Frames Kept) (a : RangeAnswer) → Unmaps c c' lo start res → a ≡ kept_answer res → (a.lo ≤ lo) × (a.len ≤ 32)
+given_low c c' lo start (Ok r) a u is =
+    let at = begins lo c.held r u.given_up.0 in let few = u.given_up.1 in let first = ap (λ (a : RangeAnswer). a.lo) is in let long = ap (λ (a : RangeAnswer). a.len) is in
+    (omega (arith, at, first), omega (arith, few, long))
+given_low c c' lo start (Err x) a u is =
+    let first = ap (λ (a : RangeAnswer). a.lo) is in let long = ap (λ (a : RangeAnswer). a.len) is in (omega (arith, first), omega (arith, long))
 
-low : (o n : Option CacheState) (lo start : ℕ) (a : RangeAnswer) → UnmapCall o lo start a n → a.lo ≤ lo
-low None n lo start a h = let same = ap (λ (a : RangeAnswer). a.lo) h.0 in omega (arith, same)
-low (Some c) n lo start a h = given_low c h.0 lo start h.1.0 a h.1.1.0 h.1.1.1.0
+low : (o n : Option Cached) (lo start : ℕ) (a : RangeAnswer) → UnmapCall o lo start a n → (a.lo ≤ lo) × (a.len ≤ 32)
+low None n lo start a h =
+    let first = ap (λ (a : RangeAnswer). a.lo) h.0 in let long = ap (λ (a : RangeAnswer). a.len) h.0 in (omega (arith, first), omega (arith, long))
+low (Some c) n lo start a h = given_low c.cache h.0 lo start h.1.0 a h.1.1.0 h.1.1.1.0
 
-pub in_bytes-requires-clause-lo : goal.in_bytes-requires-clause-lo
-in_bytes-requires-clause-lo c =
+pub in_bytes-requires-2-clause-lo : goal.in_bytes-requires-2-clause-lo
+in_bytes-requires-2-clause-lo c =
     let most = low c.args.slot.now.cache c.unmap.new.slot.cache _ c.args.start c.unmap.result c.unmap.ensures in
-    omega (arith, most, c.ranges.address)
+    let before = c.frame_at-lo.ensures.before in let fits = c.ranges.address.fits in
+    let times = mul-le c.unmap.result.lo c.in-Some.cached.granule c.frame_at-lo.result c.in-Some.cached.granule most.0 (omega arith) in
+    rw c.bytes-granule.ensures.is (omega (arith, times, before, fits))

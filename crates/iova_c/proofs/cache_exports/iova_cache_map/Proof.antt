@@ -3,6 +3,7 @@ use Rattle.iova_c.proofs.Words.{ℕ, ◌^◌, ◌<◌, [], ◌∷◌, ◌++◌, 
 use Rattle.iova_c.specs.contracts.cached.CacheSlot.{the_row}
 use Rattle.iova_c.specs.Bytes.{frames_of}
 use Rattle.iova_c.specs.Bytes.{last_frame}
+use Rattle.iova_c.specs.Caches.{granule_in}
 use Rattle.iova_c.specs.Caches.{MapCall}
 use Rattle.iova_c.specs.contracts.answer.MappingAnswer.{the_row as Out}
 use Rattle.iova_c.proofs.answer.MappingAnswer.TheLaws as out_laws
@@ -24,7 +25,7 @@ iova_cache_map_spec 𝓤 𝓛 𝓜 𝓡 wired =
     let x1 : ℕ = a.1.1.0 in let fx1 : x1 < 2 ^ 64 = are.1.1.0.1 in
     let At : Ptr → (walk_of 𝓛 ended hs c).Ghost = λ p. ((tt, tt, tt, (p, (x0, (x1, tt))), (rawptr_vals p, (vint w64 x0 ∷ [], (vint w64 x1 ∷ [], tt)))), old) in
     let Ends : Ptr → Val → SProp 𝓤 = λ p. (walk_of 𝓛 ended hs c).post (At p) in
-    let Told : Out.Denot → R.Denot → Type 0 = λ result new. MapCall old.cache (frames_of x0) (last_frame x1) result new.cache in
+    let Told : Out.Denot → R.Denot → Type 0 = λ result new. MapCall old.cache (frames_of (granule_in old.cache) x0) (last_frame (granule_in old.cache) x1) result new.cache in
     let New : Ptr → Out.Denot → R.Denot → SProp 𝓤 = λ p r new. sep 𝓤 (sem 𝓛 (lies_at R full_share p new)) (fact 𝓤 (Told r new)) in
     let Runs : Ptr → SProp 𝓤 = λ p. WpFn 𝓤 H 𝓣.C 𝓣.Λ code.function ((rawptr_vals p ++ (vint w64 x0 ∷ vint w64 x1 ∷ []))) (Ends p) in
     qed 𝓛 (raw (on_entry 𝓛 ended.signature tt tt a (rawptr_vals a.0, (vint w64 x0 ∷ [], (vint w64 x1 ∷ [], tt)))) ∷ ‵ (lies_at R full_share a.0 old) ∷ []) ∵ move ! (1 ∷ []) $

@@ -2,6 +2,7 @@
 use Rattle.iova_c.proofs.Words.{ℕ, ◌^◌, ◌<◌, [], ◌∷◌, ◌++◌, refl, sym, subst, w64, MutBor, full_share, named, Val, vint, vptr, SProp, ent, sep, emp, ex, ex_i, never, id⊢, Lft, GName, ftrue, flft, flent, WpFn, sem, Body, suffices, ‵, raw, ◌⊛◌, some, later, ◌$◌, ◌∵◌, !, qed, by, move, keep, use0, use1, use2, use3, split, join, pick, fsplit, fjoin, await, lft_new, lft_end, stop, addr, of_opd, and_then, no_more, returns, enter, alloc_all, pass_all, free_all, look_at, get, through, sets, lands_as, fact, fact_i, tables, yes, RattleType, Is, shows, part_at, mem, uint_vals, uint_Tells, uint_Makes, uint_Lawful, u64, MutRef, lends_ref, ref_back, Ptr, block_ptr, RawPtr, rawptr_vals, rawptr_Tells, lies_at, in_a_block, plain, owned, peeks, heard, nothing, calls_at, Lasts, lasts, triple_of, Stays, stay_dropped, walk_of, Goes-dropped, fm, proved, leaves}
 use Rattle.iova_c.specs.contracts.slot.Slot.{the_row}
 use Rattle.iova_c.specs.Slots.{HasMade}
+use Rattle.iova_c.specs.declared.granule.TheConstants.{FRAME_BYTES}
 use denote.RattleType.{owns}
 use denote.Signature.{types_at}
 use Rattle.std.specs.contracts.alloc.Global.{the_row as Heap}
@@ -26,7 +27,7 @@ iova_domain_make_spec 𝓤 𝓛 𝓜 𝓡 wired =
     let x2 : ℕ = a.1.1.1.1.0 in let fx2 : x2 < 2 ^ 64 = are.1.1.1.1.0.1 in
     let At : Ptr → (walk_of 𝓛 ended hs c).Ghost = λ p. ((tt, tt, tt, (al, (p, (x0, (x1, (x2, tt))))), (w ∷ [], (rawptr_vals p, (vint w64 x0 ∷ [], (vint w64 x1 ∷ [], (vint w64 x2 ∷ [], tt)))))), old) in
     let Ends : Ptr → Val → SProp 𝓤 = λ p. (walk_of 𝓛 ended hs c).post (At p) in
-    let Told : ℕ → R.Denot → Type 0 = λ result new. HasMade old.domain x0 x1 x2 result new.domain in
+    let Told : ℕ → R.Denot → Type 0 = λ result new. HasMade FRAME_BYTES old.domain x0 x1 x2 result new.domain in
     let New : Ptr → ℕ → R.Denot → SProp 𝓤 = λ p r new. sep 𝓤 (sem 𝓛 (lies_at R full_share p new)) (fact 𝓤 (Told r new)) in
     let Runs : Ptr → SProp 𝓤 = λ p. WpFn 𝓤 H 𝓣.C 𝓣.Λ code.function (w ∷ (rawptr_vals p ++ (vint w64 x0 ∷ vint w64 x1 ∷ vint w64 x2 ∷ []))) (Ends p) in
     qed 𝓛 ((‵ ftrue ⊛ ‵ (owns (types_at ended.signature.params κs) a (w ∷ [], (rawptr_vals a.1.0, (vint w64 x0 ∷ [], (vint w64 x1 ∷ [], (vint w64 x2 ∷ [], tt))))))) ∷ ‵ (lies_at R full_share a.1.0 old) ∷ []) ∵ split ! $ move ! (1 ∷ []) $ fsplit ! $ move ! (3 ∷ []) $

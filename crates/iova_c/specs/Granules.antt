@@ -1,0 +1,14 @@
+-- How many bytes a frame has.
+use Rattle.std.specs.Prelude.{ℕ, ◌≡◌, ◌≤◌, ◌^◌}
+
+-- a power of two from 4 KiB to 2 MiB
+abbrev pub IsGranule : ℕ → Type 0
+IsGranule bytes = (order : ℕ) × (12 ≤ order) × (order ≤ 21) × (bytes ≡ 2 ^ order)
+
+-- so many bytes, which are this power of two
+pub record IsShifted (bytes shift : ℕ) : Type 0 where
+  pub power : bytes ≡ 2 ^ shift
+  pub twelve : 12 ≤ shift
+  pub twenty_one : shift ≤ 21
+  pub least : 4096 ≤ bytes
+  pub most : bytes ≤ 2097152
