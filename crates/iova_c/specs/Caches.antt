@@ -325,20 +325,26 @@ UnmapByCall (Some s) (Some c) lo a t new =
     × ((a ≡ refusal_answer res) × ((t ≡ Some (with_domain s s'))
     × (new ≡ Some (with_cache c c')))))))
 
--- A new cache of a new client is in the slot, in place of what was there, and has the domain's
--- granule; or it was refused, and that stays. Single address cycles are refused in a domain of
--- another granule than 4 KiB.
+-- A cache of a new client of the domain is there; or it was refused, and what was there stays.
+abbrev pub MakesIn : Paged → Option Cached → ℕ → Bool → NumberAnswer → Paged → Option Cached
+    → Type 0
+MakesIn p old worker sac a q new =
+    (s' : State) × ((q ≡ with_domain p s')
+    × (((id : ℕ) × (IsStepOf p.domain (step.Open worker sac) (reply.Opened id) s'
+    × ((a ≡ record { refused = 0; number = id })
+    × (new ≡ Some (record { cache = new_cache worker id sac; granule = p.granule })))))
+    ⊎ ((x : Refusal) × ((((x ≡ refusal.NoMemory) × (s' ≡ p.domain))
+    ⊎ IsStepOf p.domain (step.Open worker sac) (reply.Refused x) s')
+    × ((a ≡ no_number (refusal_number x)) × (new ≡ old))))))
+
+-- The same of a slot's domain. Single address cycles are refused in a domain of another granule
+-- than 4 KiB.
 pub record Makes (p : Paged) (old : Option Cached) (worker : ℕ) (sac : Bool) (a : NumberAnswer)
     (t : Option Paged) (new : Option Cached) : Type 0 where
   pub no_cycles : sac ≡ true → p.granule ≢ FRAME_BYTES
       → (a ≡ no_number (refusal_number refusal.BadProfile)) × ((t ≡ Some p) × (new ≡ old))
-  pub made : (sac ≡ true → p.granule ≡ FRAME_BYTES) → (s' : State) × ((t ≡ Some (with_domain p s'))
-      × (((id : ℕ) × (IsStepOf p.domain (step.Open worker sac) (reply.Opened id) s'
-      × ((a ≡ record { refused = 0; number = id })
-      × (new ≡ Some (record { cache = new_cache worker id sac; granule = p.granule })))))
-      ⊎ ((x : Refusal) × ((((x ≡ refusal.NoMemory) × (s' ≡ p.domain))
-      ⊎ IsStepOf p.domain (step.Open worker sac) (reply.Refused x) s')
-      × ((a ≡ no_number (refusal_number x)) × (new ≡ old))))))
+  pub made : (sac ≡ true → p.granule ≡ FRAME_BYTES)
+      → (q : Paged) × ((t ≡ Some q) × MakesIn p old worker sac a q new)
 
 abbrev pub MakeCall : Option Paged → Option Cached → ℕ → Bool → NumberAnswer → Option Paged
     → Option Cached → Type 0

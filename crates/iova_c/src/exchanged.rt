@@ -2,12 +2,12 @@
 ghost use Rattle.std.specs.Prelude.{◌≡◌};
 ghost use Rattle.iova_range.specs.Refusals.{refusal_number};
 ghost use Rattle.iova_c.specs.Slots.{is_set};
-ghost use Rattle.iova_c.specs.Caches.{MakeCall, no_number, no_range, count_answer, refusal_answer, RefillCall, SpillCall, AllocByCall, UnmapByCall, EndCall};
+ghost use Rattle.iova_c.specs.Caches.{MakeCall, MakesIn, no_number, no_range, count_answer, refusal_answer, RefillCall, SpillCall, AllocByCall, UnmapByCall, EndCall};
 
 use crate::answer::{NumberAnswer, RangeAnswer, number_of, of_number};
 use crate::cached::{CacheSlot, Cached, NO_CACHE, NO_ORDER, given, refused};
 use crate::granule::FRAME_BYTES;
-use crate::slot::Slot;
+use crate::slot::{Paged, Slot};
 use iova_cache::cache::Cache;
 use iova_range::limits::ORDERS;
 use iova_range::range::Range;
@@ -65,19 +65,32 @@ pub fn make(
             if sac && paged.granule.bytes() != FRAME_BYTES {
                 return not_counted(number_of(Refusal::BadProfile));
             }
-            match Cache::open(alloc, &mut paged.domain, worker, sac) {
-                Ok(opened) => {
-                    let number = opened.client();
-                    cache.cache = Some(Cached {
-                        cache: opened,
-                        granule: paged.granule.again(),
-                    });
-                    NumberAnswer { refused: 0, number }
-                }
-                Err(refusal) => not_counted(number_of(refusal)),
-            }
+            make_in(alloc, paged, cache, worker, sac)
         }
         None => not_counted(no_domain()),
+    }
+}
+
+/// A cache of a new client of this domain, whatever its granule is.
+fn make_in(
+    alloc: Global,
+    paged: &mut Paged,
+    cache: &mut CacheSlot,
+    worker: u64,
+    sac: bool,
+) -> NumberAnswer
+    ensures { MakesIn paged.old cache.old.cache worker sac result paged.new cache.new.cache }
+{
+    match Cache::open(alloc, &mut paged.domain, worker, sac) {
+        Ok(opened) => {
+            let number = opened.client();
+            cache.cache = Some(Cached {
+                cache: opened,
+                granule: paged.granule.again(),
+            });
+            NumberAnswer { refused: 0, number }
+        }
+        Err(refusal) => not_counted(number_of(refusal)),
     }
 }
 

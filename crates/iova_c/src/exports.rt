@@ -19,7 +19,7 @@ use crate::bytes::{map, unmap_bytes};
 use crate::granule::FRAME_BYTES;
 use crate::lists::{holdings, windows};
 use crate::readers::{bounds, client_of, counts, flushes, granule, place, share, totals};
-use crate::slot::{Slot, clear, empty, make, make_second};
+use crate::slot::{Slot, clear, empty, make, make_granule, make_second, make_second_granule};
 use crate::steps::{alloc, begin, close, close_one, drain, end, open, reserve, unmap};
 use iova_core::Step;
 use std::alloc::Global;
@@ -64,14 +64,7 @@ pub unsafe extern "C" fn iova_domain_make(
     ensures* { ∃ₛ (λ (new : Slot). sem 𝓛 (lies_at the_row full_share domain new)
         ∗ ⌜ HasMade FRAME_BYTES old.domain start last workers result new.domain ⌝) }
 {
-    make(
-        alloc,
-        &mut *(domain as *mut Slot),
-        start,
-        last,
-        workers,
-        FRAME_BYTES,
-    )
+    make(alloc, &mut *(domain as *mut Slot), start, last, workers)
 }
 
 /// The same in the second profile.
@@ -96,7 +89,6 @@ pub unsafe extern "C" fn iova_domain_make_second(
         last,
         workers,
         depot,
-        FRAME_BYTES,
     )
 }
 
@@ -115,7 +107,7 @@ pub unsafe extern "C" fn iova_domain_make_granule(
     ensures* { ∃ₛ (λ (new : Slot). sem 𝓛 (lies_at the_row full_share domain new)
         ∗ ⌜ HasMade granule old.domain start last workers result new.domain ⌝) }
 {
-    make(
+    make_granule(
         alloc,
         &mut *(domain as *mut Slot),
         start,
@@ -141,7 +133,7 @@ pub unsafe extern "C" fn iova_domain_make_second_granule(
     ensures* { ∃ₛ (λ (new : Slot). sem 𝓛 (lies_at the_row full_share domain new)
         ∗ ⌜ HasMadeSecond granule old.domain start last workers depot result new.domain ⌝) }
 {
-    make_second(
+    make_second_granule(
         alloc,
         &mut *(domain as *mut Slot),
         start,

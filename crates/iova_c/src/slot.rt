@@ -3,7 +3,7 @@ ghost use Rattle.std.specs.Prelude.{◌≡◌, None};
 ghost use Rattle.iova_c.specs.Slots.{HasStepped, HasMade, HasMadeSecond};
 
 use crate::answer::number_of;
-use crate::granule::{Granule, granule_of};
+use crate::granule::{FRAME_BYTES, Granule, granule_of};
 use iova_core::domain::Domain;
 use iova_core::{Reply, Step};
 use iova_range::bounds::Bounds;
@@ -69,7 +69,7 @@ pub fn queues_at_once(slot: &Slot, worker: u64, client: u64, lo: u64) -> bool {
 /// A new domain of the first profile for the slot, in frames of so many bytes, in place of the one
 /// that it has. Answers 0, or the number of the refusal, by which nothing has changed: `BadProfile`
 /// exactly where the bytes are no granule; `BadWindow`, `NoWorker`, `NoMemory`.
-pub fn make(
+pub fn make_granule(
     alloc: Global,
     slot: &mut Slot,
     start: u64,
@@ -96,7 +96,7 @@ pub fn make(
 
 /// The same in the second profile, with so many magazines of each order in the depot. `BadProfile`
 /// where they are too many too, and then as above.
-pub fn make_second(
+pub fn make_second_granule(
     alloc: Global,
     slot: &mut Slot,
     start: u64,
@@ -124,6 +124,28 @@ pub fn make_second(
             },
         },
     }
+}
+
+/// A new domain of the first profile in frames of 4,096 bytes.
+pub fn make(alloc: Global, slot: &mut Slot, start: u64, last: u64, workers: u64) -> u64
+    ensures { HasMade FRAME_BYTES slot.old.domain start last workers result slot.new.domain }
+{
+    make_granule(alloc, slot, start, last, workers, FRAME_BYTES)
+}
+
+/// A new domain of the second profile in frames of 4,096 bytes.
+pub fn make_second(
+    alloc: Global,
+    slot: &mut Slot,
+    start: u64,
+    last: u64,
+    workers: u64,
+    depot: u64,
+) -> u64
+    ensures { HasMadeSecond FRAME_BYTES slot.old.domain start last workers depot result
+        slot.new.domain }
+{
+    make_second_granule(alloc, slot, start, last, workers, depot, FRAME_BYTES)
 }
 
 /// Ends the slot's domain.

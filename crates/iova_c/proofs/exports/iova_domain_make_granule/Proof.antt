@@ -6,8 +6,8 @@ use denote.RattleType.{owns}
 use denote.Signature.{types_at}
 use Rattle.std.specs.contracts.alloc.Global.{the_row as Heap}
 use Rattle.std.proofs.alloc.Global.TheLaws as heap_laws
-use Rattle.iova_c.specs.contracts.slot.make as of
-use Rattle.iova_c.proofs.slot.make.Met.{met}
+use Rattle.iova_c.specs.contracts.slot.make_granule as of
+use Rattle.iova_c.proofs.slot.make_granule.Met.{met}
 use Rattle.iova_c.specs.contracts.exports.iova_domain_make_granule.{ended, clauses}
 use Rattle.iova_c.specs.contracts.exports.iova_domain_make_granule.Key.{name as #self}
 use Rattle.iova_c.proofs.exports.iova_domain_make_granule.Statement.{statement}
@@ -42,7 +42,7 @@ iova_domain_make_granule_spec 𝓤 𝓛 𝓜 𝓡 wired =
     let y : k.Ghost = (((κ, tt), (full_share, tt), tt, (al, (m, (x0, (x1, (x2, (x3, tt)))))), (w ∷ [], (vptr b o ∷ [], (vint w64 x0 ∷ [], (vint w64 x1 ∷ [], (vint w64 x2 ∷ [], (vint w64 x3 ∷ [], tt))))))), tt) in
     nothing ! $ owned ! u64 (Is u64) (uint_Makes 𝓛 w64) x3 _ (refl, fx3) $ fjoin ! $ owned ! u64 (Is u64) (uint_Makes 𝓛 w64) x2 _ (refl, fx2) $ fjoin ! $ owned ! u64 (Is u64) (uint_Makes 𝓛 w64) x1 _ (refl, fx1) $ fjoin ! $ owned ! u64 (Is u64) (uint_Makes 𝓛 w64) x0 _ (refl, fx0) $ fjoin ! $ move ! (1 ∷ 0 ∷ []) $ fjoin ! $ move ! (3 ∷ 0 ∷ []) $ fjoin ! $
     nothing ! $ move ! (3 ∷ 0 ∷ []) $ join ! $ join ! $ nothing ! $ move ! (1 ∷ 0 ∷ []) $ join ! $ use1 𝓛 (raw (k.pre y)) (id⊢ 𝓤 (k.pre y)) $
-    calls_at ! (fm 𝓛 𝓜 𝓡) k (met 𝓤 𝓛 𝓜 𝓡 (code.calls-iova_c::slot::make 𝓡.env wired)) y (and_then ! (get ! refl) (and_then ! (get ! refl) (and_then ! (get ! refl) (and_then ! (get ! refl) (and_then ! (get ! refl) (and_then ! (get ! refl) (no_more !))))))) (λ v.
+    calls_at ! (fm 𝓛 𝓜 𝓡) k (met 𝓤 𝓛 𝓜 𝓡 (code.calls-iova_c::slot::make_granule 𝓡.env wired)) y (and_then ! (get ! refl) (and_then ! (get ! refl) (and_then ! (get ! refl) (and_then ! (get ! refl) (and_then ! (get ! refl) (and_then ! (get ! refl) (no_more !))))))) (λ v.
     use1 𝓛 (later (some (λ (r : ℕ). ((‵ (flft κ full_share) ⊛ ‵ ftrue) ⊛ ‵ (u64.own_val r (v ∷ []))) ⊛ some (λ (ws : Lasts of.ended (κ, tt) (al, (m, (x0, (x1, (x2, (x3, tt))))))). ‵ (lasts of.ended (κ, tt) (al, (m, (x0, (x1, (x2, (x3, tt)))))) ws) ⊛ raw (fact 𝓤 (Told r ws.1.0)))))) (id⊢ 𝓤 (k.post y v)) $
     await ! tt $ pick ! (λ r. split ! $ move ! (1 ∷ []) $ pick ! (λ ws. split ! $ move ! (1 ∷ []) $ heard ! (Told r ws.1.0) (λ e.
     -- [the last values; the token and the result; the lender's part; the locals]
