@@ -90,7 +90,8 @@ static void note(struct driver *driver, const char *what, uint64_t address, uint
 
 /* The address space. */
 
-/* The frames that the IOMMU has and the device reaches, but for the platform's windows. */
+/* The frames that the IOMMU has and the device reaches, but for the platform's windows. `last` is the last frame whose
+ * bytes are all within the mask. Each cache is a worker of the domain: one for each thread, and main's. */
 static uint64_t reserve(struct driver *driver) {
     struct device_window windows[WINDOWS];
     uint64_t last = (driver->mask - (FRAME - 1)) / FRAME;
@@ -105,8 +106,9 @@ static uint64_t reserve(struct driver *driver) {
     return refused;
 }
 
-/* A flush, between its begin and its end; libiova calls it, on whichever thread. VFIO has emptied the IOTLB of what was
- * unmapped at each unmap, so there is nothing left to do: where that isn't so it is done here. */
+/* A flush, between its begin and its end; iova_shared.h calls it, on whichever thread. VFIO has emptied the IOTLB of what
+ * was unmapped at each unmap, so there is nothing left to do: where that isn't so it is done here. 1: done. 0 would say
+ * that it failed, and then no address that waits for it is given again. */
 static int invalidate(void *with) {
     struct driver *driver = with;
     uint64_t number = __atomic_add_fetch(&driver->flushes, 1, __ATOMIC_RELAXED);

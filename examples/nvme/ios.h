@@ -30,7 +30,7 @@ struct mark {
 
 struct io {
     uint8_t *memory;
-    uint64_t address, room; /* where the device reaches it, and the bytes that were given there */
+    uint64_t address, room; /* where the device reaches it; the bytes given there, at least `bytes` */
     uint64_t bytes, block;  /* bytes is 0 where no command has the slot */
     int write, ended;
 };

@@ -58,7 +58,7 @@ static void note(struct driver *driver, const char *what, const struct buffer *b
 }
 
 /* A flush, between its begin and its end: VFIO has emptied the IOTLB of what was unmapped at each unmap, so there is
- * nothing to do. */
+ * nothing to do. 1: done; 0 would say that it failed. */
 static int invalidate(void *with) {
     struct driver *driver = with;
     driver->flushes++;
