@@ -8,7 +8,7 @@ import subprocess
 import tempfile
 import time
 
-from patience import PATIENCE
+from harness import PATIENCE
 
 NAMES = ("chromium", "chromium-browser", "google-chrome")
 

@@ -14,10 +14,8 @@ import subprocess
 import tempfile
 import time
 
-from patience import within
+from harness import HERE, TOP, check, within
 
-HERE = os.path.dirname(os.path.realpath(__file__))
-TOP = os.path.dirname(HERE)
 EXAMPLES = os.path.join(TOP, "examples")
 GUEST = os.path.join(HERE, "vfio")
 KEPT = os.path.join(TOP, "out", "vfio")
@@ -223,17 +221,6 @@ class Machine:
 
 
 # What it left.
-
-score = collections.Counter()
-
-
-def check(name, got, want):
-    if got == want:
-        score["passed"] += 1
-    else:
-        score["failed"] += 1
-        print(f"failed: {name}: got {got!r}, wanted {want!r}", flush=True)
-
 
 def last(text):
     """The last line."""
