@@ -12,7 +12,7 @@ use Rattle.iova_tree.specs.Spans.{Span, range_of_span, all_of, is_kind, of_kind,
 use Rattle.iova_range.specs.Bounds.{Extent}
 use Rattle.iova_tree.specs.Space.{IsSpace, IsTreeKept, space_of, RiseApart, LieWithin}
 use Rattle.iova_tree.proofs.Apart.{rise_lower}
-use Rattle.iova_tree.proofs.Spans.{rising-weaken, rising-end, rising-front, rising-back}
+use Rattle.iova_tree.proofs.Spans.{rising_with, node-gaps, node-middle, first_below_end, rising-weaken, rising-end, rising-front, rising-back}
 
 len_end : (x : Span) → x.lo < x.end → x.lo + (x.end - x.lo) ≡ x.end
 len_end x lt = omega arith
@@ -52,26 +52,36 @@ or_none : (a : Bool) → (a || false) ≡ a
 or_none true = refl
 or_none false = refl
 
-covered_middle : (frame : ℕ) (l : List Span) (k : Span) (r : List Span) → is_covered frame (all_of (l ++ k ∷ r)) ≡ (is_covered frame (all_of l) || (covers frame (range_of_span k) || is_covered frame (all_of r)))
-covered_middle frame l k r = ap (list_any (covers frame)) (all_of-append l (k ∷ r)) ∙ list_any-append (covers frame) (all_of l) (range_of_span k ∷ all_of r)
+covered_append : (frame : ℕ) (l r : List Span) → is_covered frame (all_of (l ++ r)) ≡ (is_covered frame (all_of l) || is_covered frame (all_of r))
+covered_append frame l r = ap (list_any (covers frame)) (all_of-append l r) ∙ list_any-append (covers frame) (all_of l) (all_of r)
 
-pub covered_left : (frame : ℕ) (l : List Span) (k : Span) (r : List Span) → IsRisingFrom 0 (l ++ k ∷ r) → frame < k.lo → is_covered frame (all_of (l ++ k ∷ r)) ≡ is_covered frame (all_of l)
-covered_left frame l k r s lt =
-    let back = rising-back 0 l (k ∷ r) s in
-    covered_middle frame l k r ∙ rw (covers_apart frame k back.1 (inl lt), covered_below k.end frame r back.2 (omega (arith, back.1))) (or_none _)
+covered_none : (frame : ℕ) (l : List Span) → 0 < length l → IsRisingFrom 0 l → frame < first_lo l → is_covered frame (all_of l) ≡ false
+covered_none frame [] some r lt = absurd (omega arith)
+covered_none frame (x ∷ l) some r lt = covered_below x.lo frame (x ∷ l) (omega arith, r.1, r.2) lt
 
-pub covered_own : (frame : ℕ) (l : List Span) (k : Span) (r : List Span) → IsRisingFrom 0 (l ++ k ∷ r) → k.lo ≤ frame → frame < k.end → is_covered frame (all_of (l ++ k ∷ r)) ≡ true
-covered_own frame l k r s le lt =
-    let back = rising-back 0 l (k ∷ r) s in
-    let own : covers frame (range_of_span k) ≡ true = rw (len_end k back.1) (grind (arith, nat_tests)) in
-    let none = covered_above 0 frame l (rising-front 0 l (k ∷ r) s) (omega (arith, back.0)) in
-    covered_middle frame l k r ∙ rw (none, own) refl
+-- The ranges of a node: those of the lower side, of its own block, which isn't empty, and of the upper side.
 
-pub covered_right : (frame : ℕ) (l : List Span) (k : Span) (r : List Span) → IsRisingFrom 0 (l ++ k ∷ r) → k.end ≤ frame → is_covered frame (all_of (l ++ k ∷ r)) ≡ is_covered frame (all_of r)
-covered_right frame l k r s le =
-    let back = rising-back 0 l (k ∷ r) s in
-    let none = covered_above 0 frame l (rising-front 0 l (k ∷ r) s) (omega (arith, back.0, back.1)) in
-    covered_middle frame l k r ∙ rw (none, covers_apart frame k back.1 (inr le)) refl
+pub covered_left : (frame : ℕ) (l k r : List Span) → 0 < length k → IsRisingFrom 0 (l ++ (k ++ r)) → frame < first_lo k → is_covered frame (all_of (l ++ (k ++ r))) ≡ is_covered frame (all_of l)
+covered_left frame l [] r some s lt = absurd (omega arith)
+covered_left frame l (x ∷ k) r some s lt =
+    let back = rising-back 0 l (x ∷ (k ++ r)) s in
+    rw (covered_append frame l (x ∷ (k ++ r)), covered_below x.lo frame (x ∷ (k ++ r)) (omega arith, back.1, back.2) lt) (or_none _)
+
+pub covered_own : (frame : ℕ) (l k r : List Span) → 0 < length k → IsRisingFrom 0 (l ++ (k ++ r)) → first_lo k ≤ frame → frame < end_after 0 k → is_covered frame (all_of (l ++ (k ++ r))) ≡ is_covered frame (all_of k)
+covered_own frame l k r some s le lt =
+    let g = node-gaps l k r some s in
+    let low = covered_above 0 frame l (rising-front 0 l (k ++ r) s) (omega (arith, g.0)) in
+    let high = covered_below (end_after 0 k) frame r g.1 lt in
+    rw (covered_append frame l (k ++ r), low, covered_append frame k r, high) (or_none _)
+
+pub covered_right : (frame : ℕ) (l k r : List Span) → 0 < length k → IsRisingFrom 0 (l ++ (k ++ r)) → end_after 0 k ≤ frame → is_covered frame (all_of (l ++ (k ++ r))) ≡ is_covered frame (all_of r)
+covered_right frame l k r some s le =
+    let g = node-gaps l k r some s in
+    let m = node-middle l k r s in
+    let e = first_below_end 0 k some m in
+    let low = covered_above 0 frame l (rising-front 0 l (k ++ r) s) (omega (arith, g.0)) in
+    let own = covered_above 0 frame k m le in
+    rw (covered_append frame l (k ++ r), low, covered_append frame k r, own) refl
 
 or_swap : (a b c : Bool) → (b || (a || c)) ≡ (a || (b || c))
 or_swap true true c = refl
@@ -117,25 +127,13 @@ none_meets_above kind a [] r le = refl
 none_meets_above kind a (x ∷ l) r le =
     any_step (is_kind kind x) (meets a) (range_of_span x) (of_kind kind l) (meets_beside a x r.1 (inr le)) (none_meets_from kind x.end a l r.2 (omega (arith, r.1)))
 
-any_kind_step : (b : Bool) (p : Frames → Bool) (f : Frames) (ys : List Frames) → list_any p (cond b (f ∷ ys) ys) ≡ ((b && p f) || list_any p ys)
-any_kind_step true p f ys = refl
-any_kind_step false p f ys = refl
-
-pub meets_middle : (kind : Bool) (a : Frames) (l : List Span) (k : Span) (r : List Span)
-    → list_any (meets a) (of_kind kind (l ++ k ∷ r)) ≡ (list_any (meets a) (of_kind kind l) || ((is_kind kind k && meets a (range_of_span k)) || list_any (meets a) (of_kind kind r)))
-meets_middle kind a l k r =
-    ap (list_any (meets a)) (of_kind-append kind l (k ∷ r)) ∙ list_any-append (meets a) (of_kind kind l) (of_kind kind (k ∷ r))
-    ∙ ap (λ z. list_any (meets a) (of_kind kind l) || z) (any_kind_step (is_kind kind k) (meets a) (range_of_span k) (of_kind kind r))
+pub meets_node : (kind : Bool) (a : Frames) (l k r : List Span)
+    → list_any (meets a) (of_kind kind (l ++ (k ++ r))) ≡ (list_any (meets a) (of_kind kind l) || (list_any (meets a) (of_kind kind k) || list_any (meets a) (of_kind kind r)))
+meets_node kind a l k r =
+    ap (list_any (meets a)) (of_kind-append kind l (k ++ r)) ∙ list_any-append (meets a) (of_kind kind l) (of_kind kind (k ++ r))
+    ∙ ap (λ z. list_any (meets a) (of_kind kind l) || z) (ap (list_any (meets a)) (of_kind-append kind k r) ∙ list_any-append (meets a) (of_kind kind k) (of_kind kind r))
 
 -- One more.
-
-pub rising_with : (e : ℕ) (x : Span) (l : List Span) → IsRisingFrom e (with_span x l) → (e ≤ x.lo) × (x.lo < x.end)
-rising_with e x [] r = (r.0, r.1)
-rising_with e x (y ∷ l) r = split (nat_lt x.lo y.lo) r (λ s. rising_with y.end x l s)
-  where
-    split : (b : Bool) → IsRisingFrom e (cond b (x ∷ y ∷ l) (y ∷ with_span x l)) → (IsRisingFrom y.end (with_span x l) → (y.end ≤ x.lo) × (x.lo < x.end)) → (e ≤ x.lo) × (x.lo < x.end)
-    split true r rest = (r.0, r.1)
-    split false r rest = let i = rest r.2 in (omega (arith, i.0, r.0, r.1), i.1)
 
 -- what rises above a range's first frame stands after it
 insert_front : (f : Frames) (e : ℕ) (kind : Bool) (l : List Span) → IsRisingFrom e l → f.lo < e → insert_rising f (of_kind kind l) ≡ f ∷ of_kind kind l

@@ -1,5 +1,5 @@
 -- The search between ranges: a search in two parts, what it finds is the greatest fit, and what it skips has no place.
-use Rattle.std.proofs.Common.{◌≡◌, ℕ, ◌+◌, ◌-◌, ◌*◌, ◌/◌, ◌%◌, ◌<◌, ◌≤◌, ◌⊎◌, inl, inr, min, Bool, true, false, not, cond, ltb, List, [], ◌∷◌, ◌++◌, Option, Some, None, refl, ap, ◌∙◌, sym, subst, arith}
+use Rattle.std.proofs.Common.{◌≡◌, ℕ, ◌+◌, ◌-◌, ◌*◌, ◌/◌, ◌%◌, ◌<◌, ◌≤◌, ◌⊎◌, inl, inr, min, Bool, true, false, not, cond, ltb, List, [], ◌∷◌, ◌++◌, length, Option, Some, None, refl, ap, ◌∙◌, sym, subst, arith}
 use Rattle.std.specs.Prelude.{nat_le, nat_lt, ◌&&◌}
 use Rattle.std.specs.Int.{IsPowerOfTwo}
 use Rattle.std.proofs.lemmas.Bool.{ltb-true, ltb-false, and_parts}
@@ -34,12 +34,27 @@ pub highest_after-first : (w : Wanted) (e : ℕ) (l : List Span) → highest_aft
 highest_after-first w e [] = refl
 highest_after-first w e (x ∷ l) = refl
 
-highest_between-last : (w : Wanted) (l : List Span) (k : Span) (r : List Span) → highest_between w (l ++ k ∷ r) ≡ higher (highest_after w k.end r) (higher (place_behind w l k.lo) (highest_between w l))
+pub highest_between-last : (w : Wanted) (l : List Span) (k : Span) (r : List Span) → highest_between w (l ++ k ∷ r) ≡ higher (highest_after w k.end r) (higher (place_behind w l k.lo) (highest_between w l))
 highest_between-last w [] k r = sym (higher-none _)
 highest_between-last w (x ∷ l) k r = highest_after-middle w x.end l k r
 
-pub highest_between-middle : (w : Wanted) (l : List Span) (k : Span) (r : List Span) → highest_between w (l ++ k ∷ r) ≡ higher (highest_between w r) (higher (place_before w k.end r) (higher (place_behind w l k.lo) (highest_between w l)))
-highest_between-middle w l k r = highest_between-last w l k r ∙ rw (highest_after-first w k.end r, higher_assoc (highest_between w r) (place_before w k.end r) (higher (place_behind w l k.lo) (highest_between w l))) refl
+highest_after-append : (w : Wanted) (e : ℕ) (l r : List Span) → highest_after w e (l ++ r) ≡ higher (highest_after w (end_after e l) r) (highest_after w e l)
+highest_after-append w e [] r = sym (higher-none _)
+highest_after-append w e (x ∷ l) r = rw (highest_after-append w x.end l r, higher_assoc (highest_after w (end_after x.end l) r) (highest_after w x.end l) (place e (min x.lo w.cap) w)) refl
+
+-- the ranges of a node: those of the lower side, of its own block, which isn't empty, and of the upper side
+pub highest_between-node : (w : Wanted) (l k r : List Span) → 0 < length k
+    → highest_between w (l ++ (k ++ r)) ≡ higher (highest_between w r) (higher (place_before w (end_after 0 k) r) (higher (highest_between w k) (higher (place_behind w l (first_lo k)) (highest_between w l))))
+highest_between-node w l [] r some = absurd (omega arith)
+highest_between-node w l (h ∷ t) r some =
+    let low = higher (place_behind w l h.lo) (highest_between w l) in
+    rw (
+      highest_between-last w l h (t ++ r),
+      highest_after-append w h.end t r,
+      highest_after-first w (end_after h.end t) r,
+      higher_assoc (higher (highest_between w r) (place_before w (end_after h.end t) r)) (highest_after w h.end t) low,
+      higher_assoc (highest_between w r) (place_before w (end_after h.end t) r) (higher (highest_after w h.end t) low),
+    ) refl
 
 -- One gap.
 

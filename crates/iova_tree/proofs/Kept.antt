@@ -9,16 +9,13 @@ use Rattle.iova_model.specs.Fit.{IsBest, is_covered, is_clear}
 use Rattle.iova_model.specs.Clients.{insert_rising, remove_at, begins_at}
 use Rattle.iova_model.specs.Next.{union, windows_with}
 use Rattle.iova_model.proofs.Placing.{IsBest-same}
-use Rattle.iova_tree.specs.Spans.{Span, range_of_span, all_of, windows_of, inserted_of, with_span, IsRisingFrom, Holds}
+use Rattle.iova_tree.specs.Spans.{Span, range_of_span, all_of, windows_of, inserted_of, span_of, with_span, IsRisingFrom, Holds}
 use Rattle.iova_tree.specs.Space.{IsTreeKept, IsInside, LieWithin, space_of, ranges_of, clear_of}
-use Rattle.iova_tree.proofs.Spans.{rising-weaken}
+use Rattle.iova_tree.proofs.Spans.{rising-weaken, rising_with}
 use Rattle.iova_tree.proofs.Apart.{LiesWithin, is_clear-append}
-use Rattle.iova_tree.proofs.Allocated.{within_with, within_without, of_kind-with, of_kind-other, taken_kind, kind_taken, holds_kind, length_within, covered_kinds, rising_with, kept_space}
+use Rattle.iova_tree.proofs.Allocated.{within_with, within_without, of_kind-with, of_kind-other, taken_kind, kind_taken, holds_kind, length_within, covered_kinds, kept_space}
 use Rattle.iova_tree.proofs.Unions.{union_within, union_clear_others, union_clear}
 use Rattle.iova_tree.proofs.Windows.{length-insert_rising}
-
-abbrev pub span_of : Frames → Bool → Span
-span_of r window = record { lo = r.lo; end = r.lo + r.len; window = window }
 
 pub frames_span : (r : Frames) (window : Bool) → range_of_span (span_of r window) ≡ r
 frames_span r window = let e : r.lo + r.len - r.lo ≡ r.len = omega arith in rw e refl

@@ -4,6 +4,7 @@ mod Spans
 mod Low
 mod Rotations
 mod Root
+mod Blocks
 mod Placed
 mod Taken
 mod Fits
@@ -15,4 +16,4 @@ mod Windows
 mod Spaces
 mod Taking
 mod Kept
-mod Newest
+mod Joined

@@ -1,5 +1,5 @@
 -- How high a balanced tree stands.
-use Rattle.std.proofs.Common.{◌≡◌, ℕ, ◌+◌, ◌*◌, ◌/◌, ◌^◌, ◌<◌, ◌≤◌, max, Bool, true, false, List, ◌∷◌, ◌++◌, length, refl, subst, arith, length-append}
+use Rattle.std.proofs.Common.{◌≡◌, ℕ, ◌+◌, ◌*◌, ◌/◌, ◌^◌, ◌<◌, ◌≤◌, max, Bool, true, false, List, ◌++◌, length, refl, subst, arith, length-append}
 use Rattle.std.specs.Prelude.{nat_le}
 use Rattle.std.proofs.lemmas.Nat.{pow-add}
 use Rattle.std.proofs.lemmas.Bool.Decides.{nat_tests}
@@ -10,8 +10,8 @@ use Rattle.iova_tree.specs.declared.subtree.Link.{Link}
 use Rattle.iova_tree.specs.declared.subtree.Link.TheVariants.{Empty, Rooted}
 
 -- of the two sides the lower one has half of what the node needs, and so has the other
-pub low_node : (l : List Span) (k : Span) (r : List Span) (a b : ℕ) → DifferByAtMost 1 a b → IsLow l a → IsLow r b → IsLow (l ++ k ∷ r) (max a b + 1)
-low_node l k r a b d p q = split (nat_le a b) refl
+pub low_node : (l k r : List Span) (a b : ℕ) → 0 < length k → DifferByAtMost 1 a b → IsLow l a → IsLow r b → IsLow (l ++ (k ++ r)) (max a b + 1)
+low_node l k r a b some d p q = split (nat_le a b) refl
   where
     double : (m h n : ℕ) → h ≤ m + 2 → 2 ^ (m / 2) ≤ n → 2 ^ (h / 2) ≤ n * 2
     double m h n le s =
@@ -26,17 +26,17 @@ low_node l k r a b d p q = split (nat_le a b) refl
     join : (s m n : ℕ) → s ≤ m → s ≤ n → s * 2 ≤ m + n
     join s m n x y = omega arith
 
-    split : (c : Bool) → nat_le a b ≡ c → IsLow (l ++ k ∷ r) (max a b + 1)
+    split : (c : Bool) → nat_le a b ≡ c → IsLow (l ++ (k ++ r)) (max a b + 1)
     split true e =
         let le : a ≤ b = grind (arith, nat_tests) in
         let s = double a (max a b + 1) (2 ^ (a / 2)) (omega (arith, d.1)) (omega arith) in
         let j = join (2 ^ (a / 2)) (length l + 1) (length r + 1) p (let h = higher a b le in omega (arith, q)) in
-        omega (arith, length-append l (k ∷ r))
+        omega (arith, some, length-append l (k ++ r), length-append k r)
     split false e =
         let lt : b < a = grind (arith, nat_tests) in
         let s = double b (max a b + 1) (2 ^ (b / 2)) (omega (arith, d.0)) (omega arith) in
         let j = join (2 ^ (b / 2)) (length l + 1) (length r + 1) (let h = higher b a (omega arith) in omega (arith, p)) q in
-        omega (arith, length-append l (k ∷ r))
+        omega (arith, some, length-append l (k ++ r), length-append k r)
 
 power_mono : (i j : ℕ) → i ≤ j → 2 ^ i ≤ 2 ^ j
 power_mono i j le = pow-le-pow_right (omega arith) le

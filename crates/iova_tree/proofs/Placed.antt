@@ -1,15 +1,22 @@
--- A node after an insert on one of its sides.
-use Rattle.std.proofs.Common.{◌≡◌, ℕ, ◌+◌, ◌<◌, ◌≤◌, max, List, ◌∷◌, ◌++◌, refl, sym, arith}
-use Rattle.iova_tree.specs.Spans.{Span, IsRisingFrom, with_span, end_after, room_between, room_below, room_after, first_or}
-use Rattle.iova_tree.specs.Node.{node_spans, own_span, IsBalanced, PlacesBelow, HasSameSummary, DifferByAtMost, IsHeightAfterRebalance}
+-- A node after a range has come in.
+use Rattle.std.proofs.Common.{◌≡◌, ℕ, ◌+◌, ◌<◌, ◌≤◌, max, List, [], ◌++◌, length, refl, sym, arith, append_assoc}
+use Rattle.iova_tree.specs.Spans.{Span, IsRisingFrom, IsBefore, with_span, first_lo, end_after, room_between, first_or}
+use Rattle.iova_tree.specs.Node.{node_spans, IsBalanced, Grows, HasSameSummary, DifferByAtMost, IsHeightAfterRebalance}
 use Rattle.iova_tree.specs.declared.subtree.Node.{Node}
-use Rattle.iova_tree.proofs.Spans.{rising-front, rising-back, rising-after, with_span-left, with_span-right, room_between-middle, room_below-same, room_after-same}
+use Rattle.iova_tree.proofs.Spans.{rising-front, rising-after, end_some, before_all, with_span-left, with_span-right, with_span-here, node-gaps, node-middle, length-with, room_between-node, room_below-same, room_after-same}
 
-pub free_left : (x : Span) (n : Node) → x.lo < n.lo → IsRisingFrom 0 (with_span x (node_spans n)) → IsRisingFrom 0 (with_span x n.left.0)
-free_left x n p s = rising-front 0 (with_span x n.left.0) _ (rw (with_span-left x (own_span n) n.left.0 n.right.0 p) at s)
+pub free_left : (x : Span) (n : Node) → x.lo < first_lo n.block → IsBalanced 1 n → IsRisingFrom 0 (with_span x (node_spans n)) → IsRisingFrom 0 (with_span x n.left.0)
+free_left x n p b s = rising-front 0 (with_span x n.left.0) _ (rw (with_span-left x n.left.0 n.block n.right.0 b.some p) at s)
 
-pub free_right : (x : Span) (n : Node) → n.lo ≤ x.lo → IsRisingFrom 0 (node_spans n) → IsRisingFrom 0 (with_span x (node_spans n)) → IsRisingFrom 0 (with_span x n.right.0)
-free_right x n p r s = rising-after 0 n.left.0 (own_span n) (with_span x n.right.0) (rw (with_span-right 0 x (own_span n) n.left.0 n.right.0 p r) at s)
+pub free_right : (x : Span) (n : Node) → end_after 0 n.block ≤ x.lo → IsBalanced 1 n → IsRisingFrom 0 (with_span x (node_spans n)) → IsRisingFrom 0 (with_span x n.right.0)
+free_right x n p b s =
+    rising-after 0 n.block _ (rising-after 0 n.left.0 _ (rw (with_span-right x n.left.0 n.block n.right.0 b.some p b.rising) at s))
+
+pub free_here : (x : Span) (n : Node) → IsBalanced 1 n → end_after 0 n.left.0 ≤ x.lo → IsBefore x n.right.0 → IsRisingFrom 0 (with_span x (node_spans n)) → IsRisingFrom 0 (with_span x n.block)
+free_here x n b le before s = node-middle n.left.0 (with_span x n.block) n.right.0 (rw (with_span-here x n.left.0 n.block n.right.0 b.rising le before) at s)
+
+pub free_first : (k : List Span) (n : Node) → IsRisingFrom 0 (k ++ node_spans n) → IsRisingFrom 0 (k ++ n.left.0)
+free_first k n s = rising-front 0 (k ++ n.left.0) (n.block ++ n.right.0) (rw (← append_assoc k n.left.0 (n.block ++ n.right.0)) at s)
 
 settles_left : (l r l' h : ℕ) → DifferByAtMost 1 l r → l ≤ l' → l' ≤ l + 1 → IsHeightAfterRebalance l' r h → max l r + 1 ≤ h
 settles_left l r l' h d p q w = grind arith
@@ -17,26 +24,111 @@ settles_left l r l' h d p q w = grind arith
 settles_right : (l r r' h : ℕ) → DifferByAtMost 1 l r → r ≤ r' → r' ≤ r + 1 → IsHeightAfterRebalance l r' h → max l r + 1 ≤ h
 settles_right l r r' h d p q w = grind arith
 
-pub places_left : (x : Span) (n : Node) (l : List Span × ℕ) → x.lo < n.lo → IsBalanced 1 n → IsRisingFrom 0 (with_span x (node_spans n)) → l.0 ≡ with_span x n.left.0 → n.left.1 ≤ l.1 → l.1 ≤ n.left.1 + 1 → PlacesBelow x n (record n { left = l })
-places_left x n l p b s e h k =
-    let same : l.0 ++ own_span n ∷ n.right.0 ≡ with_span x (node_spans n) = rw e (sym (with_span-left x (own_span n) n.left.0 n.right.0 p)) in
-    record { spans = same; balanced = record { rising = rw same s; level = (omega (arith, b.level.0, b.level.1), omega (arith, b.level.0, b.level.1)) }; not_lower = omega arith; at_most_one_higher = omega arith; settles = λ z w. settles_left n.left.1 n.right.1 l.1 z b.level h k w }
+grows_left : (ranges : List Span) (n : Node) (l : List Span × ℕ) → IsBalanced 1 n → IsRisingFrom 0 ranges → l.0 ++ (n.block ++ n.right.0) ≡ ranges → n.left.1 ≤ l.1 → l.1 ≤ n.left.1 + 1 → Grows ranges n (record n { left = l })
+grows_left ranges n l b s e h k = record {
+  is = e;
+  balanced = record { some = b.some; rising = rw e s; level = (omega (arith, b.level.0, b.level.1), omega (arith, b.level.0, b.level.1)) };
+  not_lower = omega arith;
+  at_most_one_higher = omega arith;
+  settles = λ z w. settles_left n.left.1 n.right.1 l.1 z b.level h k w;
+}
 
-pub places_right : (x : Span) (n : Node) (r : List Span × ℕ) → n.lo ≤ x.lo → IsBalanced 1 n → IsRisingFrom 0 (with_span x (node_spans n)) → r.0 ≡ with_span x n.right.0 → n.right.1 ≤ r.1 → r.1 ≤ n.right.1 + 1 → PlacesBelow x n (record n { right = r })
+pub places_left : (x : Span) (n : Node) (l : List Span × ℕ) → x.lo < first_lo n.block → IsBalanced 1 n → IsRisingFrom 0 (with_span x (node_spans n)) → l.0 ≡ with_span x n.left.0 → n.left.1 ≤ l.1 → l.1 ≤ n.left.1 + 1
+    → Grows (with_span x (node_spans n)) n (record n { left = l })
+places_left x n l p b s e h k = grows_left _ n l b s (rw (e, with_span-left x n.left.0 n.block n.right.0 b.some p) refl) h k
+
+pub places_right : (x : Span) (n : Node) (r : List Span × ℕ) → end_after 0 n.block ≤ x.lo → IsBalanced 1 n → IsRisingFrom 0 (with_span x (node_spans n)) → r.0 ≡ with_span x n.right.0 → n.right.1 ≤ r.1 → r.1 ≤ n.right.1 + 1
+    → Grows (with_span x (node_spans n)) n (record n { right = r })
 places_right x n r p b s e h k =
-    let same : n.left.0 ++ own_span n ∷ r.0 ≡ with_span x (node_spans n) = rw e (sym (with_span-right 0 x (own_span n) n.left.0 n.right.0 p b.rising)) in
-    record { spans = same; balanced = record { rising = rw same s; level = (omega (arith, b.level.0, b.level.1), omega (arith, b.level.0, b.level.1)) }; not_lower = omega arith; at_most_one_higher = omega arith; settles = λ z w. settles_right n.left.1 n.right.1 r.1 z b.level h k w }
+    let same : n.left.0 ++ (n.block ++ r.0) ≡ with_span x (node_spans n) = rw (e, with_span-right x n.left.0 n.block n.right.0 b.some p b.rising) refl in record {
+      is = same;
+      balanced = record { some = b.some; rising = rw same s; level = (omega (arith, b.level.0, b.level.1), omega (arith, b.level.0, b.level.1)) };
+      not_lower = omega arith;
+      at_most_one_higher = omega arith;
+      settles = λ z w. settles_right n.left.1 n.right.1 r.1 z b.level h k w;
+    }
 
-pub same_left : (x : Span) (n : Node) (l : List Span × ℕ) → PlacesBelow x n (record n { left = l }) → IsBalanced 1 n → l.1 ≡ n.left.1 → room_between l.0 ≡ room_between n.left.0 → end_after 0 l.0 ≡ end_after 0 n.left.0 → HasSameSummary n (record n { left = l })
-same_left x n l p b h q e =
-    let k = own_span n in
-    let r : room_below n.lo l.0 ≡ room_below n.lo n.left.0 = room_below-same n.lo l.0 n.left.0 (rising-front 0 l.0 (k ∷ n.right.0) p.balanced.rising) (rising-front 0 n.left.0 (k ∷ n.right.0) b.rising) q e in
-    record { height = rw h refl; room = rw (room_between-middle l.0 k n.right.0, room_between-middle n.left.0 k n.right.0, r) refl; balanced = record { rising = p.balanced.rising; level = rw h b.level } }
+pub places_first : (k : List Span) (n : Node) (l : List Span × ℕ) → IsBalanced 1 n → IsRisingFrom 0 (k ++ node_spans n) → l.0 ≡ k ++ n.left.0 → n.left.1 ≤ l.1 → l.1 ≤ n.left.1 + 1 → Grows (k ++ node_spans n) n (record n { left = l })
+places_first k n l b s e h q = grows_left _ n l b s (rw (e, append_assoc k n.left.0 (n.block ++ n.right.0)) refl) h q
 
-pub same_right : (x : Span) (n : Node) (r : List Span × ℕ) → PlacesBelow x n (record n { right = r }) → IsBalanced 1 n → r.1 ≡ n.right.1 → room_between r.0 ≡ room_between n.right.0 → first_or 0 r.0 ≡ first_or 0 n.right.0 → HasSameSummary n (record n { right = r })
-same_right x n r p b h q e =
-    let k = own_span n in
-    let s = rising-back 0 n.left.0 (k ∷ n.right.0) b.rising in
-    let t = rising-back 0 n.left.0 (k ∷ r.0) p.balanced.rising in
-    let same : room_after n.end r.0 ≡ room_after n.end n.right.0 = room_after-same n.end r.0 n.right.0 (omega (arith, s.0, s.1)) t.2 s.2 q e in
-    record { height = rw h refl; room = rw (room_between-middle n.left.0 k r.0, room_between-middle n.left.0 k n.right.0, same) refl; balanced = record { rising = p.balanced.rising; level = rw h b.level } }
+-- the node's own block has one range more
+pub places_here : (x : Span) (n : Node) → IsBalanced 1 n → end_after 0 n.left.0 ≤ x.lo → IsBefore x n.right.0 → IsRisingFrom 0 (with_span x (node_spans n)) → Grows (with_span x (node_spans n)) n (record n { block = with_span x n.block })
+places_here x n b le before s =
+    let e = with_span-here x n.left.0 n.block n.right.0 b.rising le before in record {
+      is = sym e;
+      balanced = record { some = omega (arith, length-with x n.block); rising = rw (sym e) s; level = (omega (arith, b.level.0, b.level.1), omega (arith, b.level.0, b.level.1)) };
+      not_lower = omega arith;
+      at_most_one_higher = omega arith;
+      settles = λ z w. settles_left n.left.1 n.right.1 n.left.1 z b.level (omega arith) (omega arith) w;
+    }
+
+-- a full block in two parts, into one of which the range has come; the upper one stands below the upper side
+pub places_split : (x : Span) (n : Node) (low high : List Span) (r : List Span × ℕ) → IsBalanced 1 n → end_after 0 n.left.0 ≤ x.lo → IsBefore x n.right.0 → IsRisingFrom 0 (with_span x (node_spans n))
+    → low ++ high ≡ with_span x n.block → 0 < length low → r.0 ≡ high ++ n.right.0 → n.right.1 ≤ r.1 → r.1 ≤ n.right.1 + 1
+    → Grows (with_span x (node_spans n)) n (record n { block = low; right = r })
+places_split x n low high r b le before s parts some e h q =
+    let here = with_span-here x n.left.0 n.block n.right.0 b.rising le before in
+    let same : n.left.0 ++ (low ++ r.0) ≡ with_span x (node_spans n) = rw (here, e, ← append_assoc low high n.right.0, parts) refl in record {
+      is = same;
+      balanced = record { some = some; rising = rw same s; level = (omega (arith, b.level.0, b.level.1), omega (arith, b.level.0, b.level.1)) };
+      not_lower = omega arith;
+      at_most_one_higher = omega arith;
+      settles = λ z w. settles_right n.left.1 n.right.1 r.1 z b.level h q w;
+    }
+
+-- What a node knows of its ranges, where little has changed.
+
+same_room-left : (l l' k r : List Span) → 0 < length k → IsRisingFrom 0 l → IsRisingFrom 0 l' → room_between l' ≡ room_between l → end_after 0 l' ≡ end_after 0 l → room_between (l' ++ (k ++ r)) ≡ room_between (l ++ (k ++ r))
+same_room-left l l' k r some s t q e =
+    let same = room_below-same (first_lo k) l' l t s q e in
+    rw (room_between-node l' k r some, room_between-node l k r some, same) refl
+
+same_room-right : (l k r r' : List Span) → 0 < length k → 1 ≤ end_after 0 k → IsRisingFrom (end_after 0 k) r → IsRisingFrom (end_after 0 k) r' → room_between r' ≡ room_between r → first_or 0 r' ≡ first_or 0 r → room_between (l ++ (k ++ r')) ≡ room_between (l ++ (k ++ r))
+same_room-right l k r r' some above s t q e =
+    let same = room_after-same (end_after 0 k) r' r above t s q e in
+    rw (room_between-node l k r' some, room_between-node l k r some, same) refl
+
+same_room-here : (l k k' r : List Span) → 0 < length k → 0 < length k' → room_between k' ≡ room_between k → first_lo k' ≡ first_lo k → end_after 0 k' ≡ end_after 0 k → room_between (l ++ (k' ++ r)) ≡ room_between (l ++ (k ++ r))
+same_room-here l k k' r some some' q f e = rw (room_between-node l k' r some', room_between-node l k r some, q, f, e) refl
+
+pub same_left : (n : Node) (l : List Span × ℕ) → IsBalanced 2 (record n { left = l }) → IsBalanced 1 n → l.1 ≡ n.left.1 → room_between l.0 ≡ room_between n.left.0 → end_after 0 l.0 ≡ end_after 0 n.left.0 → HasSameSummary n (record n { left = l })
+same_left n l p b h q e = record {
+  height = rw h refl;
+  room = same_room-left n.left.0 l.0 n.block n.right.0 b.some (rising-front 0 n.left.0 _ b.rising) (rising-front 0 l.0 _ p.rising) q e;
+  balanced = record { some = b.some; rising = p.rising; level = rw h b.level };
+}
+
+pub same_right : (n : Node) (r : List Span × ℕ) → IsBalanced 2 (record n { right = r }) → IsBalanced 1 n → r.1 ≡ n.right.1 → room_between r.0 ≡ room_between n.right.0 → first_or 0 r.0 ≡ first_or 0 n.right.0 → HasSameSummary n (record n { right = r })
+same_right n r p b h q e =
+    let above = end_some 0 n.block (node-middle n.left.0 n.block n.right.0 b.rising) b.some in
+    record {
+      height = rw h refl;
+      room = same_room-right n.left.0 n.block n.right.0 r.0 b.some above (node-gaps n.left.0 n.block n.right.0 b.some b.rising).1 (node-gaps n.left.0 n.block r.0 b.some p.rising).1 q e;
+      balanced = record { some = b.some; rising = p.rising; level = rw h b.level };
+    }
+
+pub same_here : (n : Node) (k : List Span) → IsBalanced 2 (record n { block = k }) → IsBalanced 1 n → room_between k ≡ room_between n.block → first_lo k ≡ first_lo n.block → end_after 0 k ≡ end_after 0 n.block → HasSameSummary n (record n { block = k })
+same_here n k p b q f e = record {
+  height = refl;
+  room = same_room-here n.left.0 n.block k n.right.0 b.some p.some q f e;
+  balanced = record { some = p.some; rising = p.rising; level = b.level };
+}
+
+-- Where a range goes that goes to neither side.
+
+pub low_left : (x : Span) (n : Node) → first_lo n.block ≤ x.lo → IsBalanced 1 n → end_after 0 n.left.0 ≤ x.lo
+low_left x n le b = let g = (node-gaps n.left.0 n.block n.right.0 b.some b.rising).0 in omega arith
+
+pub low_none : (x : Span) (n : Node) → n.left ≡ ([], 0) → end_after 0 n.left.0 ≤ x.lo
+low_none x n none = rw none (omega arith)
+
+pub high_right : (x : Span) (n : Node) → x.lo < end_after 0 n.block → IsBalanced 1 n → IsBefore x n.right.0
+high_right x n lt b = before_all (end_after 0 n.block) x n.right.0 lt (node-gaps n.left.0 n.block n.right.0 b.some b.rising).1
+
+pub high_none : (x : Span) (n : Node) → n.right ≡ ([], 0) → IsBefore x n.right.0
+high_none x n none = rw none tt
+
+pub free_split : (x : Span) (n : Node) (low high : List Span) → IsBalanced 1 n → end_after 0 n.left.0 ≤ x.lo → IsBefore x n.right.0 → IsRisingFrom 0 (with_span x (node_spans n)) → with_span x n.block ≡ low ++ high → IsRisingFrom 0 (high ++ n.right.0)
+free_split x n low high b le before s parts =
+    let t = rising-after 0 n.left.0 _ (rw (with_span-here x n.left.0 n.block n.right.0 b.rising le before) at s) in
+    rising-after 0 low (high ++ n.right.0) (rw (parts, append_assoc low high n.right.0) at t)

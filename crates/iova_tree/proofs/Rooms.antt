@@ -312,3 +312,16 @@ split_at from until j some lt low high =
 
 pub differ : (a b : ℕ) → a < b → 0 < bit_xor a b
 differ a b lt = let sum = xor_add_and a b in let both = and_le_l a b in omega arith
+
+-- a gap has no more room than one around it
+pub room_mono : (from until a b : ℕ) → from ≤ a → b ≤ until → room a b ≤ room from until
+room_mono from until a b low high = split (nat_le 1 (room a b)) refl
+  where
+    split : (c : Bool) → nat_le 1 (room a b) ≡ c → room a b ≤ room from until
+    split true e =
+        let f = room-fits a b (grind (arith, nat_tests)) in
+        let start : a ≤ f.0 = f.2 in
+        let end : f.0 + room a b ≤ b = f.3 in
+        let small = room-below a b in
+        room-covers from until (room a b) (omega arith) (f.0, f.1, omega arith, omega arith)
+    split false e = let none : room a b < 1 = grind (arith, nat_tests) in omega arith

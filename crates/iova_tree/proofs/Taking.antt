@@ -1,28 +1,17 @@
 -- How the walk over the windows takes their ranges out of the tree.
-use Rattle.std.proofs.Common.{◌≡◌, ℕ, ◌+◌, ◌^◌, ◌<◌, ◌≤◌, zero, suc, true, false, List, [], ◌∷◌, length, Option, Some, None, Box, slice_index_or, refl, sym, ap, ◌∙◌, subst, arith}
-use Rattle.std.specs.Prelude.{IfSome, IfNone, find, remove, IsSome, All}
+use Rattle.std.proofs.Common.{◌≡◌, ℕ, ◌+◌, ◌^◌, ◌<◌, ◌≤◌, ◌-◌, zero, suc, true, false, List, [], ◌∷◌, length, Option, Some, None, slice_index_or, refl, sym, ap, ◌∙◌, subst, arith}
+use Rattle.std.specs.Prelude.{find, remove, IsSome, All}
 use Rattle.std.proofs.lemmas.Bool.Decides.{nat_tests}
-use Rattle.std.specs.declared.alloc.Global.{Global}
-use Rattle.iova_range.specs.Frames.{Frames}
+use Rattle.iova_range.specs.Frames.{Frames, join}
 use Rattle.iova_model.specs.Clients.{begins_at, remove_at}
-use Rattle.iova_tree.specs.declared.subtree.Node.{Node}
-use Rattle.iova_tree.specs.Spans.{Span, windows_of, inserted_of, is_kind, with_span, IsRisingFrom, Holds}
-use Rattle.iova_tree.specs.Space.{RiseApart, LieWithin}
-use Rattle.iova_tree.specs.Node.{IsSingle, own_span}
+use Rattle.iova_tree.specs.Spans.{Span, range_of_span, span_of, windows_of, is_kind, with_span, with_replaced, IsRisingFrom, Holds}
+use Rattle.iova_tree.specs.Space.{RiseApart, LieWithin, IsPartOf, IsLeftOf, IsLeftBut, AreTakenBut}
+use Rattle.iova_tree.proofs.Spans.{rising-weaken, rising_with, with_span-cancel, replaced-with, holds_with, one_of}
 use Rattle.iova_tree.proofs.Allocated.{of_kind-other, taken_kind, kind_taken, within_without, kind_rises, holds_kind, length_within}
 use Rattle.iova_tree.proofs.Apart.{StandsAt, rise_within}
 
--- The windows in the tree are those in the list, the other ranges are as they were, and where the list is shorter than
--- it was there is a node to spare.
-pub record Takes (old now : List Span) (before windows : List Frames) (spare : Option (Box Node Global)) : Type 0 where
-  pub windows_same : windows ≡ windows_of now
-  pub inserted : inserted_of now ≡ inserted_of old
-  pub kept : (from until : ℕ) → LieWithin from old until → LieWithin from now until
-  pub single : IfSome spare (λ (node : Box Node Global). IsSingle node.value × (node.value.window ≡ true))
-  pub none : IfNone spare (windows ≡ before)
-
-pub takes_first : (old : List Span) (before : List Frames) → before ≡ windows_of old → Takes old old before before None
-takes_first old before same = record { windows_same = same; inserted = refl; kept = λ from until h. h; single = tt; none = refl }
+pub left_first : (old : List Span) (before : List Frames) → before ≡ windows_of old → IsLeftOf old before old
+left_first old before same = record { windows_are = same; inserted = refl; within = λ from until h. h }
 
 -- a range of some that rise apart is the one that is found where it begins
 pub stands_own : (from until : ℕ) (xs : List Frames) (p : ℕ) (d : Frames) → RiseApart from xs until → p < length xs → StandsAt (slice_index_or xs p d).lo xs p
@@ -47,47 +36,87 @@ pub record IsAt (now : List Span) (windows : List Frames) (i : ℕ) (w : Frames)
   pub without : remove windows i ≡ remove_at w.lo (windows_of now)
   pub above_zero : 1 ≤ w.lo
 
-pub is_at : (old now : List Span) (before windows : List Frames) (spare : Option (Box Node Global)) (i until : ℕ) (w : Frames) → Takes old now before windows spare → LieWithin 1 old until → i < length windows → w ≡ slice_index_or windows i w → IsAt now windows i w
-is_at old now before windows spare i until w t within lt is =
-    let rise : RiseApart 1 (windows_of now) until = kind_rises true 1 until now (t.kept 1 until within) in
-    let here : w ≡ slice_index_or (windows_of now) i w = rw t.windows_same at is in
-    let lt' : i < length (windows_of now) = rw t.windows_same at lt in
+pub is_at : (old now : List Span) (windows : List Frames) (i until : ℕ) (w : Frames) → IsLeftOf old windows now → LieWithin 1 old until → i < length windows → w ≡ slice_index_or windows i w → IsAt now windows i w
+is_at old now windows i until w t within lt is =
+    let rise : RiseApart 1 (windows_of now) until = kind_rises true 1 until now (t.within 1 until within) in
+    let here : w ≡ slice_index_or (windows_of now) i w = rw t.windows_are at is in
+    let lt' : i < length (windows_of now) = rw t.windows_are at lt in
     let s : StandsAt w.lo (windows_of now) i = subst (λ (x : Frames). StandsAt x.lo (windows_of now) i) (sym here) (stands_own 1 until (windows_of now) i w rise lt') in
     let start : 1 ≤ w.lo = subst (λ (x : Frames). 1 ≤ x.lo) (sym here) (rise_within 1 until (windows_of now) i w rise lt').start in
     record {
       found = s.found w ∙ ap (λ (x : Frames). Some x) (sym here);
-      without = rw t.windows_same s.without;
+      without = rw t.windows_are s.without;
       above_zero = start;
     }
+
+some_frames : {v w : Frames} → Some v ≡ Some w → v ≡ w
+some_frames {v} {w} e = cc
 
 some_is : {o : Option Frames} {w : Frames} → o ≡ Some w → IsSome o
 some_is e = rw e refl
 
-pub at_held : (now : List Span) (windows : List Frames) (i : ℕ) (w : Frames) → IsAt now windows i w → Holds w.lo now
+at_held : (now : List Span) (windows : List Frames) (i : ℕ) (w : Frames) → IsAt now windows i w → Holds w.lo now
 at_held now windows i w a = holds_kind true w.lo now (some_is a.found)
 
-pub few_taken : (old now : List Span) (before windows : List Frames) (spare : Option (Box Node Global)) (until : ℕ) → Takes old now before windows spare → until ≤ 2 ^ 40 → LieWithin 1 old until → length now ≤ 2 ^ 40
-few_taken old now before windows spare until t small within =
-    let n = length_within 1 until now (t.kept 1 until within) in omega arith
+span_is : (x : Span) (w : Frames) → x.window ≡ true → x.lo < x.end → range_of_span x ≡ w → x ≡ span_of w true
+span_is x w kind lt is =
+    let e : x.lo + (x.end - x.lo) ≡ x.end = omega arith in
+    rw (← is, e, ← kind) refl
 
--- its node is taken out
-pub takes_one : (old now next : List Span) (before windows : List Frames) (spare : Option (Box Node Global)) (i until : ℕ) (w : Frames) (node : Box Node Global)
-    → Takes old now before windows spare → LieWithin 1 old until → IsAt now windows i w → node.value.lo ≡ w.lo → IsSingle node.value → now ≡ with_span (own_span node.value) next
-    → Takes old next before (remove windows i) (Some node)
-takes_one old now next before windows spare i until w node t within a begins single taken =
-    let x = own_span node.value in
-    let rising : IsRisingFrom 1 (with_span x next) = rw taken at (t.kept 1 until within).0 in
-    let found : IsSome (find (begins_at x.lo) (windows_of (with_span x next))) = subst (λ (l : List Span). IsSome (find (begins_at x.lo) (windows_of l))) taken (subst (λ (lo : ℕ). IsSome (find (begins_at lo) (windows_of now))) (sym begins) (some_is a.found)) in
-    let kind : node.value.window ≡ true = kind_taken true 1 x next rising found in
+-- the window at place i goes from the list alone
+pub left_but : (old now : List Span) (windows : List Frames) (i until : ℕ) (w : Frames) → IsLeftOf old windows now → LieWithin 1 old until → IsAt now windows i w → IsLeftBut w old (remove windows i) now
+left_but old now windows i until w t within a =
+    let rise : IsRisingFrom 1 now = (t.within 1 until within).0 in
+    let o = one_of 1 w.lo now rise (at_held now windows i w a) in
+    let x = o.one in
+    let rising : IsRisingFrom 1 (with_span x o.others) = rw o.is at rise in
+    let there : IsSome (find (begins_at x.lo) (windows_of (with_span x o.others))) = subst (λ (l : List Span). IsSome (find (begins_at x.lo) (windows_of l))) o.is (subst (λ (lo : ℕ). IsSome (find (begins_at lo) (windows_of now))) (sym o.begins) (some_is a.found)) in
+    let kind : x.window ≡ true = kind_taken true 1 x o.others rising there in
+    let k = taken_kind true 1 x o.others kind rising in
+    let found : find (begins_at w.lo) (windows_of now) ≡ Some (range_of_span x) = subst (λ (l : List Span). find (begins_at w.lo) (windows_of l) ≡ Some (range_of_span x)) (sym o.is) (subst (λ (lo : ℕ). find (begins_at lo) (windows_of (with_span x o.others)) ≡ Some (range_of_span x)) o.begins k.0) in
+    let same : range_of_span x ≡ w = some_frames (sym found ∙ a.found) in
+    let is : x ≡ span_of w true = span_is x w kind (rising_with 1 x o.others rising).1 same in
     let other : is_kind false x ≡ false = rw kind refl in
     record {
-      windows_same = a.without ∙ (subst (λ (l : List Span). remove_at w.lo (windows_of l) ≡ windows_of next) (sym taken) (subst (λ (lo : ℕ). remove_at lo (windows_of (with_span x next)) ≡ windows_of next) begins (taken_kind true 1 x next kind rising).1));
-      inserted = sym (of_kind-other false x next other) ∙ (rw taken at t.inserted);
-      kept = λ f u h. within_without f u x next (rw taken at (t.kept f u h));
-      single = (single, kind);
-      none = tt;
+      rest = o.others;
+      left = record {
+        windows_are = a.without ∙ (subst (λ (l : List Span). remove_at w.lo (windows_of l) ≡ windows_of o.others) (sym o.is) (subst (λ (lo : ℕ). remove_at lo (windows_of (with_span x o.others)) ≡ windows_of o.others) o.begins k.1));
+        inserted = sym (of_kind-other false x o.others other) ∙ (rw o.is at t.inserted);
+        within = λ f u h. within_without f u x o.others (rw o.is at (t.within f u h));
+      };
+      is = rw (← is) o.is;
+      within = t.within;
     }
+
+-- the one that stayed is there
+pub but_held : (k : Frames) (old now : List Span) (windows : List Frames) → IsLeftBut k old windows now → Holds k.lo now
+but_held k old now windows t = rw t.is (holds_with (span_of k true) t.rest)
+
+pub few_but : (k : Frames) (old now : List Span) (windows : List Frames) (until : ℕ) → IsLeftBut k old windows now → until ≤ 2 ^ 40 → LieWithin 1 old until → length now ≤ 2 ^ 40
+few_but k old now windows until t small within =
+    let n = length_within 1 until now (t.within 1 until within) in omega arith
+
+-- and once it is taken out, the others are left
+pub left_once : (k : Frames) (old now next : List Span) (windows : List Frames) (until : ℕ) (x : Span) → IsLeftBut k old windows now → LieWithin 1 old until → now ≡ with_span x next → x.lo ≡ k.lo → IsLeftOf old windows next
+left_once k old now next windows until x t within taken lo =
+    let rising : IsRisingFrom 0 now = rising-weaken 0 1 now (omega arith) (t.within 1 until within).0 in
+    let same : t.rest ≡ next = with_span-cancel (span_of k true) x t.rest next (rw t.is at rising) (sym t.is ∙ taken) lo in
+    rw (← same) t.left
 
 -- none of the windows has frame 0
 pub above_zero : (old : List Span) (before : List Frames) (until : ℕ) → LieWithin 1 old until → before ≡ windows_of old → All (λ (w : Frames). 1 ≤ w.lo) before
 above_zero old before until within same = rw same (λ k d lt. (rise_within 1 until (windows_of old) k d (kind_rises true 1 until old within) lt).start)
+
+pub above_any : (kept : Option Frames) (old now : List Span) (windows : List Frames) (i until : ℕ) (w : Frames) → AreTakenBut kept old windows now → LieWithin 1 old until → i < length windows → w ≡ slice_index_or windows i w → 1 ≤ w.lo
+above_any None old now windows i until w t within lt is = (is_at old now windows i until w t within lt is).above_zero
+above_any (Some k) old now windows i until w t within lt is = (is_at old t.rest windows i until w t.left within lt is).above_zero
+
+pub part_join : (a b : Frames) → IsPartOf b (join a b)
+part_join a b = record { start = omega arith; end = omega arith }
+
+-- with the union in its place
+pub replaced_is : (k u : Frames) (old now : List Span) (windows : List Frames) (until : ℕ) → (t : IsLeftBut k old windows now) → LieWithin 1 old until → IsPartOf k u → IsRisingFrom 0 (with_span (span_of u true) t.rest)
+    → with_replaced k.lo (span_of u true) now ≡ with_span (span_of u true) t.rest
+replaced_is k u old now windows until t within part rises =
+    let rising : IsRisingFrom 0 now = rising-weaken 0 1 now (omega arith) (t.within 1 until within).0 in
+    rw t.is (replaced-with 0 0 (span_of k true) (span_of u true) t.rest (rw t.is at rising) rises part.start part.end)

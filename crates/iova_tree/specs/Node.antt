@@ -1,23 +1,14 @@
 -- What a node and a subtree are seen as.
-use Rattle.std.specs.Prelude.{◌≡◌, ℕ, ◌+◌, ◌^◌, ◌<◌, ◌≤◌, max, Bool, false, ◌&&◌, List, [], ◌∷◌, ◌++◌, Option, Some, None}
+use Rattle.std.specs.Prelude.{◌≡◌, ℕ, ◌+◌, ◌^◌, ◌<◌, ◌≤◌, max, List, [], ◌++◌, length, Option, Some, None}
 use Rattle.std.proofs.Common.{Box}
 use Rattle.std.specs.declared.alloc.Global.{Global}
-use Rattle.iova_range.specs.Frames.{Frames, meets}
-use Rattle.iova_tree.specs.Spans.{Span, range_of_span, is_kind, IsRisingFrom, end_after, first_lo, room_between, with_span, IsLow}
+use Rattle.iova_tree.specs.Spans.{Span, IsRisingFrom, end_after, first_lo, room_between, with_span, with_replaced, IsLow}
 use Rattle.iova_tree.specs.declared.subtree.Node.{Node}
 use Rattle.iova_tree.specs.declared.subtree.Link.{Link}
 use Rattle.iova_tree.specs.declared.subtree.Link.TheVariants.{Empty, Rooted}
 
--- the range that the node holds itself
-abbrev pub own_span : Node → Span
-own_span n = record { lo = n.lo; end = n.end; window = n.window }
-
--- it was inserted, and has a frame in common with r
-abbrev pub is_inserted_in : Span → Frames → Bool
-is_inserted_in x r = is_kind false x && meets r (range_of_span x)
-
 abbrev pub node_spans : Node → List Span
-node_spans n = n.left.0 ++ own_span n ∷ n.right.0
+node_spans n = n.left.0 ++ (n.block ++ n.right.0)
 
 abbrev pub node_height : Node → ℕ
 node_height n = max n.left.1 n.right.1 + 1
@@ -45,8 +36,9 @@ DifferByAtMost by l r = (l ≤ r + by) × (r ≤ l + by)
 abbrev pub IsHeightOfBoth : ℕ → ℕ → ℕ → Type 0
 IsHeightOfBoth l r h = (max l r ≤ h) × (h ≤ max l r + 1)
 
--- the ranges rise apart and the heights of the sides differ by at most `by`
+-- the ranges rise apart, some are the node's own, and the heights of the sides differ by at most `by`
 pub record IsBalanced (by : ℕ) (n : Node) : Type 0 where
+  pub some : 0 < length n.block
   pub rising : IsRisingFrom 0 (node_spans n)
   pub level : DifferByAtMost by n.left.1 n.right.1
 
@@ -95,20 +87,14 @@ HasSameHeightAndRoom old new = (new.1 ≡ old.1) × (room_between new.0 ≡ room
 abbrev pub IsSingle : Node → Type 0
 IsSingle n = (n.left ≡ ([], 0)) × (n.right ≡ ([], 0))
 
--- the ranges `new` are those of `old` but the node's, which has no sides and begins at lo
-pub record IsTakenOut (lo : ℕ) (n : Node) (old new : List Span) : Type 0 where
-  pub begins : n.lo ≡ lo
-  pub single : IsSingle n
-  pub taken : old ≡ with_span (own_span n) new
-
 -- a subtree's ranges and height, as the node at its root gives them
 abbrev pub IsRootOf : List Span × ℕ → Option (Box Node Global) → Type 0
 IsRootOf v None = v ≡ ([], 0)
 IsRootOf v (Some b) = (v ≡ (node_spans b.value, node_height b.value)) × IsBalanced 1 b.value
 
--- the node m has the ranges of n and x, and one level more at most
-pub record PlacesBelow (x : Span) (n m : Node) : Type 0 where
-  pub spans : node_spans m ≡ with_span x (node_spans n)
+-- the node m has these ranges, and of n one level more at most
+pub record Grows (spans : List Span) (n m : Node) : Type 0 where
+  pub is : node_spans m ≡ spans
   pub balanced : IsBalanced 2 m
   pub not_lower : node_height n ≤ node_height m
   pub at_most_one_higher : node_height m ≤ node_height n + 1
@@ -120,9 +106,10 @@ pub record HasSameSummary (n m : Node) : Type 0 where
   pub room : room_between (node_spans m) ≡ room_between (node_spans n)
   pub balanced : IsBalanced 1 m
 
--- the node m has the ranges of n but the first, which `first` has, and one level less at most
+-- the node m has the ranges of n but the first block, which `first` has, and one level less at most
 pub record TakesFirst (first n m : Node) : Type 0 where
-  pub spans : node_spans n ≡ own_span first ∷ node_spans m
+  pub some : 0 < length first.block
+  pub spans : node_spans n ≡ first.block ++ node_spans m
   pub balanced : IsBalanced 2 m
   pub settles : (h : ℕ) → IsHeightAfterRebalance m.left.1 m.right.1 h
       → (h ≤ node_height n) × (node_height n ≤ h + 1)
@@ -134,12 +121,9 @@ pub record TakesBelow (x : Span) (n m : Node) : Type 0 where
   pub settles : (h : ℕ) → IsHeightAfterRebalance m.left.1 m.right.1 h
       → (h ≤ node_height n) × (node_height n ≤ h + 1)
 
--- the ranges with that of the newest node, where there is one
-abbrev pub with_newest : Option (Box Node Global) → List Span → List Span
-with_newest None l = l
-with_newest (Some b) l = with_span (own_span b.value) l
-
--- the newest node has no sides, and its range lies apart from the others
-abbrev pub StandsBeside : Option (Box Node Global) → List Span → Type 0
-StandsBeside None l = Unit {0}
-StandsBeside (Some b) l = IsSingle b.value × IsRisingFrom 0 (with_span (own_span b.value) l)
+-- the node m has the ranges of n with x in the place of the one that begins at lo, and stands as high
+pub record Replaces (lo : ℕ) (x : Span) (n m : Node) : Type 0 where
+  pub spans : node_spans m ≡ with_replaced lo x (node_spans n)
+  pub balanced : IsBalanced 1 m
+  pub left : m.left.1 ≡ n.left.1
+  pub right : m.right.1 ≡ n.right.1

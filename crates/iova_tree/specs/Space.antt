@@ -1,5 +1,5 @@
 -- The ranges of a tree.
-use Rattle.std.specs.Prelude.{ℕ, ◌≡◌, ◌+◌, ◌≤◌, Bool, true, false, not, List, [], ◌∷◌, ◌++◌, length, filter, Option}
+use Rattle.std.specs.Prelude.{ℕ, ◌≡◌, ◌+◌, ◌≤◌, true, false, not, List, [], ◌∷◌, ◌++◌, length, filter, Option, Some, None}
 use Rattle.std.specs.List.{AllByRecursion, list_any}
 use Rattle.iova_range.specs.declared.limits.TheConstants.{MAX_WINDOWS}
 use Rattle.iova_range.specs.declared.refusal.Refusal.{Refusal}
@@ -7,7 +7,7 @@ use Rattle.iova_range.specs.Frames.{Frames, meets}
 use Rattle.iova_range.specs.Bounds.{Extent, IsExtent}
 use Rattle.iova_model.specs.Fit.{is_clear, is_covered}
 use Rattle.iova_model.specs.Next.{first_refusal, from_to, windows_with, window_tests}
-use Rattle.iova_tree.specs.Spans.{Span, IsRisingFrom, end_after, inserted_of, windows_of}
+use Rattle.iova_tree.specs.Spans.{Span, IsRisingFrom, end_after, inserted_of, windows_of, with_span, span_of}
 
 -- What a `Tree` is seen as: the bounds; the ranges that were inserted; the windows. Both rise by
 -- first frame.
@@ -76,3 +76,27 @@ reserve_refusal s lo hi =
 -- the ranges that have no frame in common with r
 abbrev pub clear_of : Frames → List Frames → List Frames
 clear_of r ranges = filter (λ w. not (meets r w)) ranges
+
+-- all frames of a are some of b
+pub record IsPartOf (a b : Frames) : Type 0 where
+  pub start : b.lo ≤ a.lo
+  pub end : a.lo + a.len ≤ b.lo + b.len
+
+-- what is left of the ranges `old` once windows were taken out: these windows, and the other ranges
+-- as they were, where they lay
+pub record IsLeftOf (old : List Span) (windows : List Frames) (rest : List Span) : Type 0 where
+  pub windows_are : windows ≡ windows_of rest
+  pub inserted : inserted_of rest ≡ inserted_of old
+  pub within : (from until : ℕ) → LieWithin from old until → LieWithin from rest until
+
+-- what is left once windows were taken out, but for k, which still stands among the ranges `now`
+pub record IsLeftBut (k : Frames) (old : List Span) (windows : List Frames) (now : List Span) : Type 0 where
+  pub rest : List Span
+  pub left : IsLeftOf old windows rest
+  pub is : now ≡ with_span (span_of k true) rest
+  pub within : (from until : ℕ) → LieWithin from old until → LieWithin from now until
+
+-- the windows were taken out, the last of them but from the list alone
+abbrev pub AreTakenBut : Option Frames → List Span → List Frames → List Span → Type 0
+AreTakenBut None old windows now = IsLeftOf old windows now
+AreTakenBut (Some k) old windows now = IsLeftBut k old windows now

@@ -1,5 +1,5 @@
 -- Allocated ranges in a row: where they end, whether they rise apart, the room between them.
-use Rattle.std.specs.Prelude.{◌≡◌, ℕ, ◌+◌, ◌-◌, ◌/◌, ◌^◌, ◌<◌, ◌≤◌, ◌⊎◌, max, Bool, true, false, not, nat_lt, List, [], ◌∷◌, length, if◌then◌else◌}
+use Rattle.std.specs.Prelude.{◌≡◌, ℕ, ◌+◌, ◌-◌, ◌/◌, ◌^◌, ◌<◌, ◌≤◌, ◌⊎◌, max, Bool, true, false, not, nat_lt, nat_le, nat_eq, ◌&&◌, List, [], ◌∷◌, length, slice_index_or, insert, remove, if◌then◌else◌}
 use Rattle.iova_range.specs.Frames.{Frames}
 use Rattle.iova_tree.specs.Room.{room}
 
@@ -9,8 +9,25 @@ pub record Span : Type 0 where
   pub end : ℕ
   pub window : Bool
 
+-- what a window adds to twice its end
+abbrev pub mark_of : Bool → ℕ
+mark_of true = 1
+mark_of false = 0
+
 abbrev pub range_of_span : Span → Frames
 range_of_span x = record { lo = x.lo; len = x.end - x.lo }
+
+-- the range as one of the tree
+abbrev pub span_of : Frames → Bool → Span
+span_of r window = record { lo = r.lo; end = r.lo + r.len; window = window }
+
+-- the frame is one of its own
+abbrev pub has_frame : ℕ → Span → Bool
+has_frame frame x = nat_le x.lo frame && nat_lt frame x.end
+
+-- it was inserted, and has one of the frames from lo on, below end
+abbrev pub is_taken_between : ℕ → ℕ → Span → Bool
+is_taken_between lo end x = not x.window && (nat_lt x.lo end && nat_lt lo x.end)
 
 abbrev pub all_of : List Span → List Frames
 all_of [] = []
@@ -71,10 +88,33 @@ abbrev pub with_span : Span → List Span → List Span
 with_span x [] = x ∷ []
 with_span x (y ∷ t) = if nat_lt x.lo y.lo then x ∷ y ∷ t else y ∷ with_span x t
 
+-- the ranges without the one that begins at lo
+abbrev pub without_span : ℕ → List Span → List Span
+without_span lo [] = []
+without_span lo (x ∷ t) = if nat_eq x.lo lo then t else x ∷ without_span lo t
+
+-- the ranges with y in the place of the one that begins at lo
+abbrev pub with_replaced : ℕ → Span → List Span → List Span
+with_replaced lo y [] = []
+with_replaced lo y (x ∷ t) = if nat_eq x.lo lo then y ∷ t else x ∷ with_replaced lo y t
+
+-- all of the ranges begin above x
+abbrev pub IsBefore : Span → List Span → Type 0
+IsBefore x [] = Unit {0}
+IsBefore x (y ∷ t) = x.lo < y.lo
+
 -- one of the ranges begins at lo
 abbrev pub Holds : ℕ → List Span → Type 0
 Holds lo [] = ⊥
 Holds lo (x ∷ t) = (x.lo ≡ lo) ⊎ Holds lo t
+
+-- the range that begins at lo stands at place n
+pub record StandsHere (lo : ℕ) (l : List Span) (n : ℕ) : Type 0 where
+  pub within : n < length l
+  pub begins : (x : Span) → (slice_index_or l n x).lo ≡ lo
+  pub without : remove l n ≡ without_span lo l
+  pub replaced : (x : Span) → insert (remove l n) n x ≡ with_replaced lo x l
+  pub again : (x : Span) → l ≡ with_span (slice_index_or l n x) (without_span lo l)
 
 -- a balanced tree of so many ranges is not higher
 abbrev pub IsLow : List Span → ℕ → Type 0

@@ -2,11 +2,11 @@
 //! fits between them.
 #![tactic(auto)]
 
+mod block;
 mod position;
-mod ranges;
 mod room;
 mod search;
+mod span;
 mod subtree;
 pub mod tree;
 mod window;
-mod with_newest;

@@ -1,18 +1,20 @@
-//! A balanced tree of ranges that rise apart. A link knows of the ranges below it where they begin
-//! and end, how high they stand, and the greatest size that fits aligned into a gap between two
-//! neighbours: so a search enters no part of the tree in which nothing fits.
+//! A balanced tree of blocks of ranges that rise apart. A link knows of the ranges below it where
+//! they begin and end, how high their nodes stand, and the greatest size that fits aligned into a
+//! gap between two neighbours: so a search enters no part of the tree in which nothing fits.
 ghost use Rattle.std.specs.Prelude.{◌≡◌, ◌+◌, ◌^◌, ◌<◌, ◌≤◌, max, [], ◌∷◌, ◌++◌, ◌-◌};
-ghost use Rattle.std.specs.Prelude.{true, false, ◌&&◌, length, IfOk, IfSome, IfNone, Some};
+ghost use Rattle.std.specs.Prelude.{true, false, length, IfOk, OnOk, OnErr, IfSome, IfNone, Some, None, IsSome};
 ghost use Rattle.std.specs.Int.{IsPowerOfTwo};
-ghost use Rattle.iova_range.specs.Frames.{covers};
-ghost use Rattle.iova_tree.specs.Spans.{range_of_span, first_lo, first_or, end_after, room_after, room_below, room_between, with_span, IsRisingFrom, Holds, IsLow};
-ghost use Rattle.iova_tree.specs.Fit.{IsWanted, place_before, place_behind, highest_between};
-ghost use Rattle.iova_tree.specs.Node.{node_height, node_spans, own_span, link_spans, link_height, link_room, IsSubtree, IsUnsettled, IsSettledHeight, IsSingle, IsBalanced, Rebalances, IsRootOf, PlacesBelow, HasSameSummary, TakesFirst, TakesBelow, DifferByAtMost, HasSameHeightAndRoom, is_inserted_in, IsHeightOfBoth};
+ghost use Rattle.std.specs.List.{list_any};
+ghost use Rattle.iova_range.specs.Frames.{meets};
+ghost use Rattle.iova_model.specs.Fit.{is_covered};
+ghost use Rattle.iova_tree.specs.Spans.{all_of, inserted_of, first_lo, first_or, end_after, room_after, room_below, room_between, with_span, with_replaced, IsRisingFrom, Holds, IsBefore, IsLow};
+ghost use Rattle.iova_tree.specs.Fit.{IsWanted, place_before, place_behind, highest_between, highest_free};
+ghost use Rattle.iova_tree.specs.Node.{node_height, node_spans, link_spans, link_height, link_room, IsSubtree, IsUnsettled, IsSettledHeight, IsSingle, IsBalanced, Rebalances, IsRootOf, Grows, HasSameSummary, TakesFirst, TakesBelow, Replaces, DifferByAtMost, HasSameHeightAndRoom, IsHeightOfBoth};
 
-use crate::ranges::Ranges;
+use crate::block::{BLOCK, Block};
 use crate::room::room_with;
 use crate::search::{Wanted, place_in};
-use iova_range::range::Range;
+use crate::span::Span;
 use std::alloc::{AllocError, Global};
 use std::marker::Model;
 use std::mem;
@@ -46,20 +48,17 @@ enum Link {
     },
 }
 
-/// The frames from `lo` on and below `end`, which are a window or were inserted, between those of
-/// the two sides.
+/// A block of ranges, between those of the two sides.
 #[cycle(ranges)]
 #[derive(Drop)]
 pub struct Node {
-    lo: u64,
-    end: u64,
-    window: bool,
+    block: Block,
     left: Subtree,
     right: Subtree,
 }
 
-// What a range costs in memory, without what the heap adds.
-const _: () = prove!(size_of::<Node>() == 88);
+// What a block costs in memory, without what the heap adds.
+const _: () = prove!(size_of::<Node>() == 464);
 
 impl Model for Subtree {
     ghost use Rattle.std.specs.Prelude.{ℕ, List, length};
@@ -167,16 +166,18 @@ impl Subtree {
         }
     }
 
-    // Adds a node; tells whether room or height have changed.
-    #[cycle(place)]
-    fn place(&mut self, fresh: Box<Node>) -> bool
-        requires single { IsSingle fresh.value }
-        requires free { IsRisingFrom 0 (with_span (own_span fresh.value) self.old.0) }
+    // Lets a range in; tells whether room or height have changed. None where the range wants a node
+    // and there is no spare one: then nothing has changed.
+    #[cycle(put)]
+    fn put(&mut self, span: Span, spare: Option<Box<Node>>) -> Option<bool>
+        requires single { IfSome spare (λ node. IsSingle node.value) }
+        requires free { IsRisingFrom 0 (with_span span self.old.0) }
         requires height_fits { self.old.1 < 2 ^ 7 }
-        ensures spans { self.new.0 ≡ with_span (own_span fresh.value) self.old.0 }
+        ensures needs { IfNone result ((spare ≡ None) × (self.new ≡ self.old)) }
+        ensures spans { IfSome result (λ changed. self.new.0 ≡ with_span span self.old.0) }
         ensures not_lower { self.old.1 ≤ self.new.1 }
         ensures at_most_one_higher { self.new.1 ≤ self.old.1 + 1 }
-        ensures same { result ≡ false → HasSameHeightAndRoom self.old self.new }
+        ensures same { result ≡ Some false → HasSameHeightAndRoom self.old self.new }
     {
         let Link::Rooted {
             first,
@@ -185,25 +186,52 @@ impl Subtree {
             ..
         } = &mut self.link
         else {
-            *self = Subtree::of(fresh);
-            return true;
+            let Some(mut node) = spare else {
+                return None;
+            };
+            node.block = Block::single(span);
+            *self = Subtree::of(node);
+            return Some(true);
         };
-        if place_below(root, fresh) {
-            return renew(&mut self.link);
+        let Some(deep) = put_below(root, span, spare) else {
+            return None;
+        };
+        if deep {
+            return Some(renew(&mut self.link));
         }
         // for the proof: the node is low
         let _height = root.height();
         *first = root.first();
         *end = root.last_end();
-        false
+        Some(false)
     }
 
-    // Takes the lowest range's node out.
+    // Adds a node below all others.
+    #[cycle(place_first)]
+    fn place_first(&mut self, fresh: Box<Node>)
+        requires single { IsSingle fresh.value }
+        requires some { 0 < length fresh.value.block }
+        requires free { IsRisingFrom 0 (fresh.value.block ++ self.old.0) }
+        requires height_fits { self.old.1 < 2 ^ 7 }
+        ensures spans { self.new.0 ≡ fresh.value.block ++ self.old.0 }
+        ensures not_lower { self.old.1 ≤ self.new.1 }
+        ensures at_most_one_higher { self.new.1 ≤ self.old.1 + 1 }
+    {
+        let Link::Rooted { root, .. } = &mut self.link else {
+            *self = Subtree::of(fresh);
+            return;
+        };
+        place_first_below(root, fresh);
+        let _ = renew(&mut self.link);
+    }
+
+    // Takes the node of the lowest block out.
     #[cycle(take_first)]
     fn take_first(&mut self) -> Box<Node>
         requires something { 0 < length self.old.0 }
         requires height_fits { self.old.1 < 2 ^ 7 }
-        ensures first { self.old.0 ≡ own_span result.value ∷ self.new.0 }
+        ensures some { 0 < length result.value.block }
+        ensures first { self.old.0 ≡ result.value.block ++ self.new.0 }
         ensures not_higher { self.new.1 ≤ self.old.1 }
         ensures at_most_one_lower { self.old.1 ≤ self.new.1 + 1 }
     {
@@ -221,15 +249,13 @@ impl Subtree {
         first
     }
 
-    // Takes out the node of the range that begins at `lo`; tells whether room or height have
-    // changed.
+    // Takes out the range that begins at `lo`; tells whether room or height have changed.
     #[cycle(take)]
-    fn take(&mut self, lo: u64) -> (Box<Node>, bool)
+    fn take(&mut self, lo: u64) -> (Span, bool)
         requires held { Holds lo self.old.0 }
         requires height_fits { self.old.1 < 2 ^ 7 }
-        ensures begins { result.0.value.lo ≡ lo }
-        ensures single { IsSingle result.0.value }
-        ensures taken { self.old.0 ≡ with_span (own_span result.0.value) self.new.0 }
+        ensures begins { result.0.lo ≡ lo }
+        ensures taken { self.old.0 ≡ with_span result.0 self.new.0 }
         ensures not_higher { self.new.1 ≤ self.old.1 }
         ensures at_most_one_lower { self.old.1 ≤ self.new.1 + 1 }
         ensures same { result.1 ≡ false → HasSameHeightAndRoom self.old self.new }
@@ -243,23 +269,38 @@ impl Subtree {
         else {
             unreachable!()
         };
-        if root.lo == lo {
-            let Subtree { link } = take_sides(root);
-            let Link::Rooted { root: own, .. } = mem::replace(&mut self.link, link) else {
-                unreachable!()
-            };
-            return (own, true);
+        if root.block.is_only(lo) {
+            let sides = take_sides(root);
+            let gone = root.block.remove(lo);
+            *self = sides;
+            return (gone, true);
         }
-        let (own, deep) = take_below(root, lo);
+        let (gone, deep) = take_below(root, lo);
         if deep {
             let changed = renew(&mut self.link);
-            return (own, changed);
+            return (gone, changed);
         }
         // for the proof: the node is low
         let _height = root.height();
         *first = root.first();
         *end = root.last_end();
-        (own, false)
+        (gone, false)
+    }
+
+    // Puts a range in the place of the one that begins at `lo`.
+    #[cycle(exchange)]
+    fn exchange(&mut self, lo: u64, span: Span)
+        requires held { Holds lo self.old.0 }
+        requires free { IsRisingFrom 0 (with_replaced lo span self.old.0) }
+        requires height_fits { self.old.1 < 2 ^ 7 }
+        ensures spans { self.new.0 ≡ with_replaced lo span self.old.0 }
+        ensures height { self.new.1 ≡ self.old.1 }
+    {
+        let Link::Rooted { root, .. } = &mut self.link else {
+            unreachable!()
+        };
+        exchange_below(root, lo, span);
+        let _ = renew(&mut self.link);
     }
 
     // The highest place between two neighbours. A link below which nothing fits costs no call.
@@ -334,30 +375,72 @@ impl Subtree {
     }
 }
 
-impl Ranges for Subtree {
-    ghost spans = { λ s. s.0 };
-
+impl Subtree {
+    /// Lets a range in, whose frames are free. It takes memory where a block is full; where that is
+    /// refused nothing has changed.
     #[inline]
-    fn insert(&mut self, fresh: Box<Node>) {
+    pub fn insert(&mut self, alloc: Global, span: Span) -> Result<(), AllocError>
+        requires free { IsRisingFrom 0 (with_span span self.old.0) }
+        requires few { length self.old.0 ≤ 2 ^ 40 }
+        ensures ok { OnOk result (self.new.0 ≡ with_span span self.old.0) }
+        ensures err { OnErr result (self.new ≡ self.old) }
+    {
+        if self.insert_with(span, None) {
+            return Ok(());
+        }
+        let node = Node::single(alloc, span)?;
+        let _ = self.insert_with(span, Some(node));
+        Ok(())
+    }
+
+    // Lets a range in. Where that takes a node, and there is no spare one, the answer is false and
+    // nothing has changed.
+    #[inline]
+    fn insert_with(&mut self, span: Span, spare: Option<Box<Node>>) -> bool
+        requires single { IfSome spare (λ node. IsSingle node.value) }
+        requires free { IsRisingFrom 0 (with_span span self.old.0) }
+        requires few { length self.old.0 ≤ 2 ^ 40 }
+        ensures added { result ≡ true → self.new.0 ≡ with_span span self.old.0 }
+        ensures unchanged { result ≡ false → self.new ≡ self.old }
+        ensures spare { IsSome spare → result ≡ true }
+    {
         // for the proof: a subtree of so many ranges is low
         let _link = &self.link;
-        let _ = self.place(fresh);
+        self.put(span, spare).is_some()
     }
 
+    /// Takes out the range that begins at `lo`. It takes no memory.
     #[inline]
-    fn remove(&mut self, lo: u64) -> Box<Node> {
+    pub fn remove(&mut self, lo: u64) -> Span
+        requires held { Holds lo self.old.0 }
+        requires few { length self.old.0 ≤ 2 ^ 40 }
+        ensures begins { result.lo ≡ lo }
+        ensures taken { self.old.0 ≡ with_span result self.new.0 }
+    {
         // for the proof: a subtree of so many ranges is low
         let _link = &self.link;
-        let (node, _) = self.take(lo);
-        node
+        let (gone, _) = self.take(lo);
+        gone
     }
 
-    #[inline]
-    fn take_newest(&mut self, lo: u64) -> Option<Box<Node>> {
-        None
+    /// Puts a range in the place of the one that begins at `lo`. It takes no memory.
+    pub fn replace(&mut self, lo: u64, span: Span)
+        requires held { Holds lo self.old.0 }
+        requires free { IsRisingFrom 0 (with_replaced lo span self.old.0) }
+        requires few { length self.old.0 ≤ 2 ^ 40 }
+        ensures { self.new.0 ≡ with_replaced lo span self.old.0 }
+    {
+        // for the proof: a subtree of so many ranges is low
+        let _link = &self.link;
+        self.exchange(lo, span);
     }
 
-    fn highest(&self, start: u64, wanted: &Wanted) -> Option<u64> {
+    /// The highest place from `start` on: above all ranges, between two neighbours, or below all.
+    pub fn highest(&self, start: u64, wanted: &Wanted) -> Option<u64>
+        requires wanted { IsWanted wanted.now }
+        requires rising { IsRisingFrom start self.now.0 }
+        ensures { result ≡ highest_free wanted.now start self.now.0 }
+    {
         if let Some(at) = place_in(self.end_or(start), wanted.cap, wanted) {
             return Some(at);
         }
@@ -367,21 +450,30 @@ impl Ranges for Subtree {
         self.place_before(start, wanted)
     }
 
-    fn covers(&self, frame: u64) -> bool {
+    /// Whether one of the ranges has the frame.
+    pub fn covers(&self, frame: u64) -> bool
+        ensures { result ≡ is_covered frame (all_of self.now.0) }
+    {
         let Link::Rooted { root, .. } = &self.link else {
             return false;
         };
         let node: &Node = root;
-        if frame < node.lo {
+        if frame < node.block.first() {
             node.left.covers(frame)
-        } else if frame < node.end {
-            true
+        } else if frame < node.block.end() {
+            node.block.covers(frame)
         } else {
             node.right.covers(frame)
         }
     }
 
-    fn meets_inserted(&self, lo: u64, end: u64) -> bool {
+    /// Whether one of the ranges that are no windows has a frame in common with those from `lo` on,
+    /// below `end`.
+    pub fn meets_inserted(&self, lo: u64, end: u64) -> bool
+        requires { lo < end }
+        ensures { result ≡ list_any (meets (record { lo = lo; len = end - lo }))
+            (inserted_of self.now.0) }
+    {
         let Link::Rooted {
             first,
             end: last_end,
@@ -398,7 +490,7 @@ impl Ranges for Subtree {
             return false;
         }
         let node: &Node = root;
-        if node.is_taken(lo, end) {
+        if node.block.meets_inserted(lo, end) {
             return true;
         }
         node.left.meets_inserted(lo, end) || node.right.meets_inserted(lo, end)
@@ -407,17 +499,14 @@ impl Ranges for Subtree {
 
 impl Node {
     /// A node of its own.
-    pub fn single(alloc: Global, lo: u64, end: u64, window: bool) -> Result<Box<Self>, AllocError>
-        ensures own { IfOk result (λ node. own_span node.value
-            ≡ record { lo = lo; end = end; window = window }) }
+    pub fn single(alloc: Global, span: Span) -> Result<Box<Self>, AllocError>
+        requires { span.lo < span.end }
         ensures single { IfOk result (λ node. IsSingle node.value) }
     {
         let node = Box::new(
             alloc,
             Node {
-                lo,
-                end,
-                window,
+                block: Block::single(span),
                 left: Subtree::new(),
                 right: Subtree::new(),
             },
@@ -425,64 +514,24 @@ impl Node {
         Ok(node)
     }
 
-    /// Its frames.
-    #[inline]
-    pub fn range(&self) -> Range
-        requires { self.now.lo < self.now.end }
-        ensures { result ≡ range_of_span (own_span self.now) }
-    {
-        Range::new(self.lo, self.end - self.lo)
-    }
-
-    /// Its first frame.
-    #[inline]
-    pub fn lo(&self) -> u64
-        ensures { result ≡ self.now.lo }
-    {
-        self.lo
-    }
-
-    /// The frame after its last.
-    #[inline]
-    pub fn end(&self) -> u64
-        ensures { result ≡ self.now.end }
-    {
-        self.end
-    }
-
-    /// Whether it has the frame.
-    #[inline]
-    pub fn has(&self, frame: u64) -> bool
-        requires { self.now.lo < self.now.end }
-        ensures { result ≡ covers frame (range_of_span (own_span self.now)) }
-    {
-        self.lo <= frame && frame < self.end
-    }
-
-    /// Whether it is no window, and has one of the frames from `lo` on, below `end`.
-    #[inline]
-    pub fn is_taken(&self, lo: u64, end: u64) -> bool
-        requires own { self.now.lo < self.now.end }
-        requires asked { lo < end }
-        ensures { result ≡ is_inserted_in (own_span self.now) (record { lo = lo; len = end - lo }) }
-    {
-        !self.window && self.lo < end && lo < self.end
-    }
-
     // The highest place between two neighbours, of its ranges and those below.
     #[cycle(highest_within)]
     #[inline(never)]
     fn highest_within(&self, wanted: &Wanted) -> Option<u64>
-        requires { IsWanted wanted.now }
+        requires wanted { IsWanted wanted.now }
+        requires some { 0 < length self.now.block }
         ensures { result ≡ highest_between wanted.now (node_spans self.now) }
     {
         if let Some(at) = self.right.highest_within(wanted) {
             return Some(at);
         }
-        if let Some(at) = self.right.place_before(self.end, wanted) {
+        if let Some(at) = self.right.place_before(self.block.end(), wanted) {
             return Some(at);
         }
-        if let Some(at) = self.left.place_behind(self.lo, wanted) {
+        if let Some(at) = self.block.highest_between(wanted) {
+            return Some(at);
+        }
+        if let Some(at) = self.left.place_behind(self.block.first(), wanted) {
             return Some(at);
         }
         self.left.highest_within(wanted)
@@ -505,57 +554,119 @@ impl Node {
         requires { IsBalanced 1 self.now }
         ensures { result ≡ room_between (node_spans self.now) }
     {
-        let between = self.left.room().max(self.right.room());
-        let below = self.left.room_below(self.lo, between);
-        self.right.room_after(self.end, below)
+        let sides = self.left.room().max(self.right.room());
+        let known = sides.max(self.block.room());
+        let below = self.left.room_below(self.block.first(), known);
+        self.right.room_after(self.block.end(), below)
     }
 
     // Where the lowest range begins.
     #[inline]
     fn first(&self) -> u64
+        requires { IsBalanced 1 self.now }
         ensures { result ≡ first_lo (node_spans self.now) }
     {
-        self.left.first_or(self.lo)
+        self.left.first_or(self.block.first())
     }
 
     // Where the highest range ends.
     #[inline]
     fn last_end(&self) -> u64
+        requires { IsBalanced 1 self.now }
         ensures { result ≡ end_after 0 (node_spans self.now) }
     {
-        self.right.end_or(self.end)
+        self.right.end_or(self.block.end())
     }
 }
 
-/// Gives a node other frames, from `lo` on and below `end`.
-pub fn stretch(node: &mut Box<Node>, lo: u64, end: u64)
-    ensures { node.new.value ≡ record node.old.value { lo = lo; end = end } }
-{
-    node.lo = lo;
-    node.end = end;
-}
-
-// Adds a node on one side; tells whether the room or the height of this node has changed.
-#[cycle(place)]
+// Lets a range in on one side or in the node's own block; tells whether the room or the height of
+// this node has changed. None where it wants a node and there is no spare one.
+#[cycle(put)]
 #[inline]
-fn place_below(node: &mut Node, fresh: Box<Node>) -> bool
-    requires single { IsSingle fresh.value }
-    requires free { IsRisingFrom 0 (with_span (own_span fresh.value) (node_spans node.old)) }
+fn put_below(node: &mut Node, span: Span, spare: Option<Box<Node>>) -> Option<bool>
+    requires single { IfSome spare (λ spare. IsSingle spare.value) }
+    requires free { IsRisingFrom 0 (with_span span (node_spans node.old)) }
     requires balanced { IsBalanced 1 node.old }
     requires height_fits { node_height node.old < 2 ^ 7 }
-    ensures placed { PlacesBelow (own_span fresh.value) node.old node.new }
-    ensures same { result ≡ false → HasSameSummary node.old node.new }
+    ensures needs { IfNone result ((spare ≡ None) × (node.new ≡ node.old)) }
+    ensures grows { IfSome result (λ changed.
+        Grows (with_span span (node_spans node.old)) node.old node.new) }
+    ensures same { result ≡ Some false → HasSameSummary node.old node.new }
 {
-    if fresh.lo < node.lo {
+    if span.lo() < node.block.first() && !node.left.is_empty() {
         let end = node.left.end_or(0);
-        node.left.place(fresh) || node.left.end_or(0) != end
-    } else {
-        let first = node.right.first_or(0);
-        node.right.place(fresh) || node.right.first_or(0) != first
+        let Some(deep) = node.left.put(span, spare) else {
+            return None;
+        };
+        return Some(deep || node.left.end_or(0) != end);
     }
+    if span.lo() >= node.block.end() && !node.right.is_empty() {
+        let first = node.right.first_or(0);
+        let Some(deep) = node.right.put(span, spare) else {
+            return None;
+        };
+        return Some(deep || node.right.first_or(0) != first);
+    }
+    if !node.block.is_full() {
+        return Some(put_here(node, span));
+    }
+    let Some(fresh) = spare else {
+        return None;
+    };
+    split_here(node, span, fresh);
+    Some(true)
 }
 
-// Takes the lowest range's node out of the lower side, where there is one.
+// Lets a range into the node's own block; tells whether the room of this node may have changed.
+#[inline]
+fn put_here(node: &mut Node, span: Span) -> bool
+    requires free { IsRisingFrom 0 (with_span span (node_spans node.old)) }
+    requires balanced { IsBalanced 1 node.old }
+    requires room { length node.old.block < BLOCK }
+    requires above_left { end_after 0 node.old.left.0 ≤ span.lo }
+    requires below_right { IsBefore span node.old.right.0 }
+    ensures grows { Grows (with_span span (node_spans node.old)) node.old node.new }
+    ensures same { result ≡ false → HasSameSummary node.old node.new }
+{
+    let first = node.block.first();
+    let end = node.block.end();
+    let room = node.block.room();
+    node.block.insert(span);
+    !node.block.has_outline(first, end, room)
+}
+
+// Lets a range into a node whose own block is full: the upper part of the block stands in a fresh
+// node then, the lowest of the upper side.
+#[inline(never)]
+fn split_here(node: &mut Node, span: Span, mut fresh: Box<Node>)
+    requires single { IsSingle fresh.value }
+    requires free { IsRisingFrom 0 (with_span span (node_spans node.old)) }
+    requires balanced { IsBalanced 1 node.old }
+    requires height_fits { node_height node.old < 2 ^ 7 }
+    requires full { BLOCK ≤ length node.old.block }
+    requires above_left { end_after 0 node.old.left.0 ≤ span.lo }
+    requires below_right { IsBefore span node.old.right.0 }
+    ensures grows { Grows (with_span span (node_spans node.old)) node.old node.new }
+{
+    fresh.block = node.block.split(span);
+    node.right.place_first(fresh);
+}
+
+// Adds a node below all others of the lower side.
+#[cycle(place_first)]
+#[inline]
+fn place_first_below(node: &mut Node, fresh: Box<Node>)
+    requires single { IsSingle fresh.value }
+    requires some { 0 < length fresh.value.block }
+    requires free { IsRisingFrom 0 (fresh.value.block ++ node_spans node.old) }
+    requires balanced { IsBalanced 1 node.old }
+    requires height_fits { node_height node.old < 2 ^ 7 }
+    ensures { Grows (fresh.value.block ++ node_spans node.old) node.old node.new }
+{
+    node.left.place_first(fresh);
+}
+
+// Takes the node of the lowest block out of the lower side, where there is one.
 #[cycle(take_first)]
 #[inline]
 fn take_first_below(node: &mut Node) -> Option<Box<Node>>
@@ -571,28 +682,69 @@ fn take_first_below(node: &mut Node) -> Option<Box<Node>>
     }
 }
 
-// Takes a node out of one side; tells whether the room or the height of this node has changed.
+// Takes a range out of one side or of the node's own block, which keeps one; tells whether the room
+// or the height of this node has changed.
 #[cycle(take)]
 #[inline]
-fn take_below(node: &mut Node, lo: u64) -> (Box<Node>, bool)
+fn take_below(node: &mut Node, lo: u64) -> (Span, bool)
     requires held { Holds lo (node_spans node.old) }
-    requires elsewhere { node.old.lo ≡ lo → ⊥ }
+    requires others { Holds lo node.old.block → 2 ≤ length node.old.block }
     requires height_fits { node_height node.old < 2 ^ 7 }
     requires balanced { IsBalanced 1 node.old }
-    ensures begins { result.0.value.lo ≡ lo }
-    ensures single { IsSingle result.0.value }
-    ensures taken { TakesBelow (own_span result.0.value) node.old node.new }
+    ensures begins { result.0.lo ≡ lo }
+    ensures taken { TakesBelow result.0 node.old node.new }
     ensures same { result.1 ≡ false → HasSameSummary node.old node.new }
 {
-    if lo < node.lo {
+    if lo < node.block.first() {
         let end = node.left.end_or(0);
         let (gone, deep) = node.left.take(lo);
-        (gone, deep || node.left.end_or(0) != end)
-    } else {
-        let first = node.right.first_or(0);
-        let (gone, deep) = node.right.take(lo);
-        (gone, deep || node.right.first_or(0) != first)
+        return (gone, deep || node.left.end_or(0) != end);
     }
+    if lo < node.block.end() {
+        return take_here(node, lo);
+    }
+    let first = node.right.first_or(0);
+    let (gone, deep) = node.right.take(lo);
+    (gone, deep || node.right.first_or(0) != first)
+}
+
+// Takes a range out of the node's own block, which keeps one; tells whether the room of this node
+// may have changed.
+#[inline]
+fn take_here(node: &mut Node, lo: u64) -> (Span, bool)
+    requires held { Holds lo node.old.block }
+    requires others { 2 ≤ length node.old.block }
+    requires balanced { IsBalanced 1 node.old }
+    ensures begins { result.0.lo ≡ lo }
+    ensures taken { TakesBelow result.0 node.old node.new }
+    ensures same { result.1 ≡ false → HasSameSummary node.old node.new }
+{
+    let first = node.block.first();
+    let end = node.block.end();
+    let room = node.block.room();
+    let gone = node.block.remove(lo);
+    (gone, !node.block.has_outline(first, end, room))
+}
+
+// Puts a range in the place of one on one side or in the node's own block.
+#[cycle(exchange)]
+#[inline]
+fn exchange_below(node: &mut Node, lo: u64, span: Span)
+    requires held { Holds lo (node_spans node.old) }
+    requires free { IsRisingFrom 0 (with_replaced lo span (node_spans node.old)) }
+    requires height_fits { node_height node.old < 2 ^ 7 }
+    requires balanced { IsBalanced 1 node.old }
+    ensures { Replaces lo span node.old node.new }
+{
+    if lo < node.block.first() {
+        node.left.exchange(lo, span);
+        return;
+    }
+    if lo < node.block.end() {
+        node.block.replace(lo, span);
+        return;
+    }
+    node.right.exchange(lo, span);
 }
 
 // Takes both sides from a node, and makes one subtree of them.

@@ -7,11 +7,10 @@ ghost use Rattle.iova_model.specs.Clients.{insert_rising, remove_at, begins_at};
 ghost use Rattle.iova_model.specs.Next.{from_to, union, windows_with};
 ghost use Rattle.iova_tree.specs.Space.{Space, ranges_of, IsInside, IsFree, IsSpace, with_window, reserve_refusal, clear_of};
 
-use crate::ranges::Ranges;
 use crate::search::Wanted;
-use crate::subtree::{Node, Subtree, stretch};
+use crate::span::Span;
+use crate::subtree::Subtree;
 use crate::window::{absorb, count_clear, insert_window};
-use crate::with_newest::{Allocated, WithNewest};
 use iova_range::bounds::Bounds;
 use iova_range::limits::{MAX_FRAMES, MAX_WINDOWS};
 use iova_range::range::Range;
@@ -24,7 +23,7 @@ use std::marker::Model;
 pub struct Tree {
     alloc: Global,
     bounds: Bounds,
-    ranges: Allocated,
+    ranges: Subtree,
     windows: Vec<Range>,
 }
 
@@ -45,9 +44,9 @@ impl Model for Tree {
 
     ghost Value = { Space };
 
-    ghost view = { λ t. space_of t.bounds t.ranges t.windows.items };
+    ghost view = { λ t. space_of t.bounds t.ranges.0 t.windows.items };
 
-    ghost invariant = { λ t. IsTreeKept t.bounds t.ranges t.windows.items };
+    ghost invariant = { λ t. IsTreeKept t.bounds t.ranges.0 t.windows.items };
 }
 
 impl Tree {
@@ -63,7 +62,7 @@ impl Tree {
         Ok(Tree {
             alloc,
             bounds,
-            ranges: WithNewest::new(WithNewest::new(Subtree::new())),
+            ranges: Subtree::new(),
             windows: Vec::new(alloc),
         })
     }
@@ -106,10 +105,10 @@ impl Tree {
     {
         // for the proof: the last frame is below 2^40
         let _last = self.bounds.last();
-        let Ok(node) = Node::single(self.alloc, range.lo(), range.hi() + 1, false) else {
+        let span = Span::new(range.lo(), range.hi() + 1, false);
+        let Ok(()) = self.ranges.insert(self.alloc, span) else {
             return Err(Refusal::NoMemory);
         };
-        self.ranges.insert(node);
         Ok(())
     }
 
@@ -122,8 +121,7 @@ impl Tree {
     {
         // for the proof: the last frame is below 2^40
         let _last = self.bounds.last();
-        let node = self.ranges.remove(lo);
-        node.range()
+        self.ranges.remove(lo).range()
     }
 
     /// Whether the frame is inside the bounds and in no allocated range.
@@ -182,8 +180,8 @@ impl Tree {
         Ok(asked)
     }
 
-    // Makes a window of frames that are free. It takes its node and its place in the list before it
-    // changes anything.
+    // Makes a window of frames that are free. It takes its place in the list before it changes
+    // anything.
     fn add_window(&mut self, window: Range) -> Result<(), Refusal>
         requires inside { IsInside self.old.bounds window }
         requires free { is_clear window (ranges_of self.old) ≡ true }
@@ -197,16 +195,16 @@ impl Tree {
         let Ok(()) = self.windows.reserve(1) else {
             return Err(Refusal::NoMemory);
         };
-        let Ok(node) = Node::single(self.alloc, window.lo(), window.hi() + 1, true) else {
+        let span = Span::new(window.lo(), window.hi() + 1, true);
+        let Ok(()) = self.ranges.insert(self.alloc, span) else {
             return Err(Refusal::NoMemory);
         };
         insert_window(&mut self.windows, window);
-        self.ranges.insert(node);
         Ok(())
     }
 
     // Makes one window of `asked` and of the windows that have a frame in common with it, and gives
-    // it. It takes no memory: the node and the place of one of these are the new one's.
+    // it. It takes no memory: the new one takes the place of one of these.
     fn join_windows(&mut self, asked: Range) -> Range
         requires inside { IsInside self.old.bounds asked }
         requires clear { list_any (meets asked) self.old.inserted ≡ false }
@@ -218,13 +216,11 @@ impl Tree {
     {
         // for the proof: the last frame is below 2^40
         let _last = self.bounds.last();
-        let (window, spare) = absorb(&mut self.ranges, &mut self.windows, asked);
-        let Some(mut node) = spare else {
-            unreachable!()
-        };
-        stretch(&mut node, window.lo(), window.hi() + 1);
+        let (window, kept) = absorb(&mut self.ranges, &mut self.windows, asked);
+        let Some(kept) = kept else { unreachable!() };
         insert_window(&mut self.windows, window);
-        self.ranges.insert(node);
+        let span = Span::new(window.lo(), window.hi() + 1, true);
+        self.ranges.replace(kept.lo(), span);
         window
     }
 }

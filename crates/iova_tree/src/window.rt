@@ -1,17 +1,15 @@
 //! Windows that join.
-ghost use Rattle.std.specs.Prelude.{◌≡◌, ◌^◌, ◌≤◌, ◌<◌, ℕ, true, length, vec_len, vec_capacity, IfSome, IfNone};
+ghost use Rattle.std.specs.Prelude.{◌≡◌, ◌^◌, ◌≤◌, ◌<◌, ◌+◌, ℕ, true, length, vec_len, vec_capacity, IfSome, IfNone};
 ghost use Rattle.iova_model.specs.Fit.{is_clear};
 ghost use Rattle.iova_model.specs.Clients.{insert_rising};
 ghost use Rattle.iova_model.specs.Next.{union};
-ghost use Rattle.iova_tree.specs.Spans.{windows_of, inserted_of};
-ghost use Rattle.iova_tree.specs.Space.{RiseApart, LieWithin, clear_of};
-ghost use Rattle.iova_tree.specs.Node.{IsSingle};
+ghost use Rattle.iova_tree.specs.Spans.{windows_of};
+ghost use Rattle.iova_tree.specs.Space.{RiseApart, LieWithin, clear_of, IsPartOf, AreTakenBut};
 
 use crate::position::position_of;
-use crate::ranges::Ranges;
-use crate::subtree::Node;
-use crate::with_newest::Allocated;
+use crate::subtree::Subtree;
 use iova_range::range::Range;
+use std::mem;
 
 /// How many of the ranges have no frame in common with `range`.
 pub fn count_clear(ranges: &[Range], range: Range) -> usize
@@ -32,37 +30,36 @@ pub fn insert_window(windows: &mut Vec<Range>, window: Range)
     windows.insert(at, window).unwrap();
 }
 
-/// Takes out the windows that have a frame in common with `window`, from the tree too, and gives
-/// one window of all these and `window` itself, with the node of one of them. None has frame 0. It
-/// takes no memory.
+/// Takes out the windows that have a frame in common with `window`, and gives one window of all
+/// these and `window` itself. One of them stays in the tree, which the second result is: the window
+/// of all takes its place. None has frame 0. It takes no memory.
 pub fn absorb(
-    ranges: &mut Allocated,
+    ranges: &mut Subtree,
     windows: &mut Vec<Range>,
     window: Range,
-) -> (Range, Option<Box<Node>>)
+) -> (Range, Option<Range>)
     requires own { 1 ≤ window.lo }
-    requires within { (until : ℕ) × (until ≤ 2 ^ 40) × LieWithin 1 ranges.old until }
-    requires same { windows.old.items ≡ windows_of ranges.old }
+    requires within { (until : ℕ) × (until ≤ 2 ^ 40) × LieWithin 1 ranges.old.0 until }
+    requires same { windows.old.items ≡ windows_of ranges.old.0 }
     ensures value { result.0 ≡ union window windows.old.items }
     ensures rest { windows.new.items ≡ clear_of window windows.old.items }
     ensures room { vec_capacity windows.new ≡ vec_capacity windows.old }
-    ensures windows { windows.new.items ≡ windows_of ranges.new }
-    ensures inserted { inserted_of ranges.new ≡ inserted_of ranges.old }
-    ensures kept { (from until : ℕ) → LieWithin from ranges.old until
-        → LieWithin from ranges.new until }
-    ensures spare { IfSome result.1 (λ node. IsSingle node.value × (node.value.window ≡ true)) }
+    ensures left { AreTakenBut result.1 ranges.old.0 windows.new.items ranges.new.0 }
+    ensures part { IfSome result.1 (λ kept. IsPartOf kept result.0) }
     ensures none { IfNone result.1 (windows.new.items ≡ windows.old.items) }
 {
     let mut all = window;
-    let mut spare = None;
+    let mut kept: Option<Range> = None;
     let mut i = windows.len();
     while i > 0 {
         i -= 1;
         if window.meets(windows[i]) {
             let other = windows.remove(i);
-            spare = Some(ranges.remove(other.lo()));
             all = all.join(other);
+            if let Some(before) = mem::replace(&mut kept, Some(other)) {
+                let _ = ranges.remove(before.lo());
+            }
         }
     }
-    (all, spare)
+    (all, kept)
 }

@@ -9,22 +9,18 @@ of-requires-clause-balanced c =
     let l = c.in-Some.left.value in
     let is : n.left.0 ≡ node_spans l = cc (ap (λ d. d.0) c.in-Some.ensures.0) in
     let s = rw is at c.requires.balanced.rising in
-    let e = c.in-Some.ensures in
     rw (c.swap.ensures.y_after, c.put_left.ensures, c.take_left.ensures.rest, c.take_right-inner.ensures.taken)
-    (record { rising = inner_right _ _ _ _ _ s; level = (grind arith, grind arith) })
+    (record { some = c.requires.balanced.some; rising = inner_right l.left.0 l.block l.right.0 n.block n.right.0 s; level = (grind arith, grind arith) })
 
 pub of-requires-2-clause-balanced : goal.of-requires-2-clause-balanced
 of-requires-2-clause-balanced c =
     let n = c.args.node.now.value in
     let l = c.in-Some.left.value in
     let m = c.in-Some-open.middle.value in
-    let is : n.left.0 ≡ node_spans l = cc (ap (λ d. d.0) c.in-Some.ensures.0) in
     let mis : l.right.0 ≡ node_spans m = cc (ap (λ d. d.0) c.in-Some-open.ensures.0) in
     let s = rw mis at c.in-Some.ensures.1.rising in
-    let e = c.in-Some.ensures in
-    let f = c.in-Some-open.ensures in
     rw (c.put_right-2.ensures, c.take_right.ensures.rest, c.take_left-low.ensures.taken)
-    (record { rising = inner_left _ _ _ _ _ s; level = (grind arith, grind arith) })
+    (record { some = c.in-Some.ensures.1.some; rising = inner_left l.left.0 l.block m.left.0 m.block m.right.0 s; level = (grind arith, grind arith) })
 
 pub of-requires-3-clause-balanced : goal.of-requires-3-clause-balanced
 of-requires-3-clause-balanced c =
@@ -33,9 +29,7 @@ of-requires-3-clause-balanced c =
     let m = c.in-Some-open.middle.value in
     let is : n.left.0 ≡ node_spans l = cc (ap (λ d. d.0) c.in-Some.ensures.0) in
     let mis : l.right.0 ≡ node_spans m = cc (ap (λ d. d.0) c.in-Some-open.ensures.0) in
-    let t = inner_right _ _ _ _ _ (rw is at c.requires.balanced.rising) in
+    let t = inner_right l.left.0 l.block l.right.0 n.block n.right.0 (rw is at c.requires.balanced.rising) in
     let s = rw mis at t in
-    let e = c.in-Some.ensures in
-    let f = c.in-Some-open.ensures in
     rw (c.swap-2.ensures.y_after, c.put_left-2.ensures, c.take_left.ensures.rest, c.take_right-high.ensures.taken, c.take_left-low.ensures.rest)
-    (record { rising = inner_right _ _ _ _ _ s; level = (grind arith, grind arith) })
+    (record { some = c.requires.balanced.some; rising = inner_right m.left.0 m.block m.right.0 n.block n.right.0 s; level = (grind arith, grind arith) })

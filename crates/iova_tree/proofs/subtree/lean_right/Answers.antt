@@ -9,9 +9,8 @@ of-requires-clause-balanced c =
     let r = c.in-Some.right.value in
     let is : n.right.0 ≡ node_spans r = cc (ap (λ d. d.0) c.in-Some.ensures.0) in
     let s = rw is at c.requires.balanced.rising in
-    let e = c.in-Some.ensures in
     rw (c.swap.ensures.y_after, c.put_right.ensures, c.take_right.ensures.rest, c.take_left-inner.ensures.taken)
-    (record { rising = inner_left _ _ _ _ _ s; level = (grind arith, grind arith) })
+    (record { some = c.requires.balanced.some; rising = inner_left n.left.0 n.block r.left.0 r.block r.right.0 s; level = (grind arith, grind arith) })
 
 pub of-requires-2-clause-balanced : goal.of-requires-2-clause-balanced
 of-requires-2-clause-balanced c =
@@ -19,10 +18,8 @@ of-requires-2-clause-balanced c =
     let m = c.in-Some-open.middle.value in
     let mis : r.left.0 ≡ node_spans m = cc (ap (λ d. d.0) c.in-Some-open.ensures.0) in
     let s = rw mis at c.in-Some.ensures.1.rising in
-    let e = c.in-Some.ensures in
-    let f = c.in-Some-open.ensures in
     rw (c.put_left-2.ensures, c.take_left.ensures.rest, c.take_right-high.ensures.taken)
-    (record { rising = inner_right _ _ _ _ _ s; level = (grind arith, grind arith) })
+    (record { some = c.in-Some.ensures.1.some; rising = inner_right m.left.0 m.block m.right.0 r.block r.right.0 s; level = (grind arith, grind arith) })
 
 pub of-requires-3-clause-balanced : goal.of-requires-3-clause-balanced
 of-requires-3-clause-balanced c =
@@ -31,9 +28,7 @@ of-requires-3-clause-balanced c =
     let m = c.in-Some-open.middle.value in
     let is : n.right.0 ≡ node_spans r = cc (ap (λ d. d.0) c.in-Some.ensures.0) in
     let mis : r.left.0 ≡ node_spans m = cc (ap (λ d. d.0) c.in-Some-open.ensures.0) in
-    let t = inner_left _ _ _ _ _ (rw is at c.requires.balanced.rising) in
+    let t = inner_left n.left.0 n.block r.left.0 r.block r.right.0 (rw is at c.requires.balanced.rising) in
     let s = rw mis at t in
-    let e = c.in-Some.ensures in
-    let f = c.in-Some-open.ensures in
     rw (c.swap-2.ensures.y_after, c.put_right-2.ensures, c.take_right.ensures.rest, c.take_left-low.ensures.taken, c.take_right-high.ensures.rest)
-    (record { rising = inner_left _ _ _ _ _ s; level = (grind arith, grind arith) })
+    (record { some = c.requires.balanced.some; rising = inner_left n.left.0 n.block m.left.0 m.block m.right.0 s; level = (grind arith, grind arith) })

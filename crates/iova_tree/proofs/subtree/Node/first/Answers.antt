@@ -1,9 +1,7 @@
-use Rattle.std.proofs.Common.{◌∙◌, sym}
-use Rattle.iova_tree.specs.Node.{own_span}
-use Rattle.iova_tree.proofs.Spans.{first_lo-middle}
+use Rattle.iova_tree.proofs.Spans.{first_lo-node}
 use Rattle.iova_tree.proofs.subtree.Node.first.Goals as goal
 
 pub returns : goal.returns
 returns c =
     let n = c.args.self.now in
-    c.first_or.ensures ∙ sym (first_lo-middle n.left.0 (own_span n) n.right.0)
+    rw (first_lo-node n.left.0 n.block n.right.0 c.requires.some, ← c.first.ensures) c.first_or.ensures

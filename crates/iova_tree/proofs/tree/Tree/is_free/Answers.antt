@@ -14,7 +14,7 @@ free false cov e h = refl
 pub returns : goal.returns
 returns c =
     let i = c.self.inside in
-    let e = covered_kept i.bounds i.ranges i.windows.items c.args.frame c.self.invariant in
+    let e = covered_kept i.bounds i.ranges.0 i.windows.items c.args.frame c.self.invariant in
     let start = rw c.start.ensures.is at c.if-frame-start.false in
     let last = rw c.last.ensures.is at c.if-frame-last.false in
     let cov = e ∙ sym c.covers.ensures in

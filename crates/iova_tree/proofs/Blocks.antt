@@ -1,0 +1,331 @@
+-- The ranges of a block, read from one end to the other.
+use Rattle.std.proofs.Common.{ℕ, zero, suc, ◌≡◌, ◌+◌, ◌-◌, ◌<◌, ◌≤◌, inl, inr, max, min, ◌&&◌, ◌||◌, Bool, true, false, not, cond, List, [], ◌∷◌, ◌++◌, length, take, drop, slice_index_or, refl, sym, ap, ◌∙◌, arith, take-append-drop, length-drop}
+use Rattle.std.specs.Prelude.{nat_lt, nat_le, nat_eq, insert, remove}
+use Rattle.std.specs.List.Sorted.{IsNonDecreasingBy}
+use Rattle.std.proofs.Math.Seq.{take-suc, drop-cons}
+use Rattle.std.proofs.lemmas.Bool.{lt-ltb}
+use Rattle.std.proofs.lemmas.Bool.Decides.{nat_tests}
+use Rattle.std.proofs.lemmas.List.{length-take-le, get_or_default, append-nil, drop_all}
+use Rattle.std.proofs.lemmas.List.Edits.{insert_end}
+use Rattle.iova_tree.specs.Room.{room}
+use Rattle.iova_tree.specs.Spans.{Span, end_after, first_lo, room_between, room_below, with_span, without_span, range_of_span, has_frame, is_taken_between, all_of, inserted_of, IsRisingFrom, Holds, StandsHere}
+use Rattle.iova_range.specs.Frames.{Frames, covers, meets}
+use Rattle.iova_model.specs.Fit.{is_covered}
+use Rattle.std.specs.List.{list_any}
+use Rattle.iova_tree.specs.declared.search.Wanted.{Wanted}
+use Rattle.iova_tree.specs.Fit.{higher, place, place_behind, highest_between}
+use Rattle.iova_tree.proofs.Rooms.{room-short, room_mono}
+use Rattle.iova_tree.proofs.Spans.{end_after-middle, room_between-middle, with_span-before, with_span-behind, rising-front, rising-after, rising-without, with_span-front, with_span-later, rising_with, holds_above, rising-back}
+use Rattle.iova_tree.proofs.Fits.{highest_between-last}
+
+end_after-at : (e : ℕ) (l : List Span) (d : Span) (k : ℕ) → length l ≡ suc k → end_after e l ≡ (slice_index_or l k d).end
+end_after-at e [] d k n = absurd (omega arith)
+end_after-at e (x ∷ []) d zero n = refl
+end_after-at e (x ∷ []) d (suc k) n = absurd (omega arith)
+end_after-at e (x ∷ (y ∷ t)) d zero n = absurd (omega arith)
+end_after-at e (x ∷ (y ∷ t)) d (suc k) n = end_after-at x.end (y ∷ t) d k (omega arith)
+
+pub end_after-last : (e : ℕ) (l : List Span) (x : Span) → 0 < length l → x ≡ slice_index_or l (length l - 1) x → x.end ≡ end_after e l
+end_after-last e l x some is = sym (end_after-at e l x (length l - 1) (omega arith) ∙ ap (λ (y : Span). y.end) (sym is))
+
+-- the first ranges but one, and that one
+pub end_after-take : (e k : ℕ) (l : List Span) (d : Span) → k < length l → end_after e (take (suc k) l) ≡ (slice_index_or l k d).end
+end_after-take e k l d lt = rw (take-suc l k d lt) (end_after-middle e (take k l) (slice_index_or l k d) [])
+
+room_below-some : (lo : ℕ) (l : List Span) → 0 < length l → room_below lo l ≡ max (room_between l) (room (end_after 0 l) lo)
+room_below-some lo [] some = absurd (omega arith)
+room_below-some lo (x ∷ l) some = refl
+
+place_behind-some : (w : Wanted) (l : List Span) (lo : ℕ) → 0 < length l → place_behind w l lo ≡ place (end_after 0 l) (min lo w.cap) w
+place_behind-some w [] lo some = absurd (omega arith)
+place_behind-some w (x ∷ l) lo some = refl
+
+-- one more range at the end, which is not the first
+room_between-take : (k : ℕ) (l : List Span) (d : Span) → suc k < length l
+    → room_between (take (suc (suc k)) l) ≡ max (room_between (take (suc k) l)) (room (slice_index_or l k d).end (slice_index_or l (suc k) d).lo)
+room_between-take k l d lt =
+    let x = slice_index_or l (suc k) d in
+    let n : length (take (suc k) l) ≡ suc k = length-take-le (suc k) l (omega arith) in
+    let e = end_after-take 0 k l d (omega arith) in
+    let m = room_between-middle (take (suc k) l) x [] in
+    let b = room_below-some x.lo (take (suc k) l) (omega (arith, n)) in
+    rw (take-suc l (suc k) d lt, m, b, e) (omega arith)
+
+highest_between-take : (w : Wanted) (k : ℕ) (l : List Span) (d : Span) → suc k < length l
+    → highest_between w (take (suc (suc k)) l) ≡ higher (place (slice_index_or l k d).end (min (slice_index_or l (suc k) d).lo w.cap) w) (highest_between w (take (suc k) l))
+highest_between-take w k l d lt =
+    let x = slice_index_or l (suc k) d in
+    let n : length (take (suc k) l) ≡ suc k = length-take-le (suc k) l (omega arith) in
+    let e = end_after-take 0 k l d (omega arith) in
+    let b = place_behind-some w (take (suc k) l) x.lo (omega (arith, n)) in
+    rw (take-suc l (suc k) d lt, highest_between-last w (take (suc k) l) x [], b, e) refl
+
+-- the ranges y and x stand at the places before `at`
+pub room_between-next : (at : ℕ) (l : List Span) (x y : Span) → 1 ≤ at → at < length l → x ≡ slice_index_or l at x → y ≡ slice_index_or l (at - 1) y
+    → room_between (take (at + 1) l) ≡ max (room_between (take at l)) (room y.end x.lo)
+room_between-next zero l x y some lt p q = absurd (omega arith)
+room_between-next (suc k) l x y some lt p q =
+    let i : suc k - 1 ≡ k = omega arith in
+    let j : suc k + 1 ≡ suc (suc k) = omega arith in
+    let y_is : slice_index_or l k x ≡ y = get_or_default l k x y (omega arith) ∙ sym (rw i at q) in
+    rw (j, room_between-take k l x lt, y_is, ← p) refl
+
+pub highest_between-next : (w : Wanted) (at : ℕ) (l : List Span) (x y : Span) → 1 < at → at ≤ length l → x ≡ slice_index_or l (at - 1) x → y ≡ slice_index_or l (at - 1 - 1) y
+    → highest_between w (take at l) ≡ higher (place y.end (min x.lo w.cap) w) (highest_between w (take (at - 1) l))
+highest_between-next w zero l x y some lt p q = absurd (omega arith)
+highest_between-next w (suc zero) l x y some lt p q = absurd (omega arith)
+highest_between-next w (suc (suc k)) l x y some lt p q =
+    let i : suc (suc k) - 1 ≡ suc k = omega arith in
+    let j : suc k - 1 ≡ k = omega arith in
+    let x_is : x ≡ slice_index_or l (suc k) x = rw i at p in
+    let y_is : slice_index_or l k x ≡ y = get_or_default l k x y (omega arith) ∙ sym (rw j at (rw i at q)) in
+    rw (i, highest_between-take w k l x (omega arith), y_is, ← x_is) refl
+
+-- each of them has a frame
+pub some_end : (e : ℕ) (l : List Span) (k : ℕ) (x : Span) → IsRisingFrom e l → k < length l → x ≡ slice_index_or l k x → 1 ≤ x.end
+some_end e [] k x r lt is = absurd (omega arith)
+some_end e (y ∷ l) zero x r lt is = rw is (omega (arith, r.1))
+some_end e (y ∷ l) (suc k) x r lt is = some_end y.end l k x r.2 (omega arith) is
+
+-- the ranges at neighbouring places
+pub apart_at : (e : ℕ) (l : List Span) (at : ℕ) (x y : Span) → IsRisingFrom e l → 1 ≤ at → at < length l → x ≡ slice_index_or l at x → y ≡ slice_index_or l (at - 1) y → y.end ≤ x.lo
+apart_at e [] at x y r some lt p q = absurd (omega arith)
+apart_at e (z ∷ l) zero x y r some lt p q = absurd (omega arith)
+apart_at e (z ∷ []) (suc k) x y r some lt p q = absurd (omega arith)
+apart_at e (z ∷ (u ∷ t)) (suc zero) x y r some lt p q = rw (p, q) r.2.0
+apart_at e (z ∷ (u ∷ t)) (suc (suc k)) x y r some lt p q =
+    let j : suc (suc k) - 1 ≡ suc k = omega arith in
+    let i : suc k - 1 ≡ k = omega arith in
+    apart_at z.end (u ∷ t) (suc k) x y r.2 (omega arith) (omega arith) p (rw i (rw j at q))
+
+pub first_lo-drop : (k : ℕ) (l : List Span) (x : Span) → k < length l → x ≡ slice_index_or l k x → first_lo (drop k l) ≡ x.lo
+first_lo-drop k l x lt is = rw (drop-cons l k x lt) (ap (λ (y : Span). y.lo) (sym is))
+
+pub end_after-front : (l : List Span) (at : ℕ) (y : Span) → 1 ≤ at → at ≤ length l → y ≡ slice_index_or l (at - 1) y → end_after 0 (take at l) ≡ y.end
+end_after-front l zero y some le is = absurd (omega arith)
+end_after-front l (suc k) y some le is =
+    let i : suc k - 1 ≡ k = omega arith in
+    end_after-take 0 k l y (omega arith) ∙ ap (λ (z : Span). z.end) (sym (rw i at is))
+
+rising_front : (l : List Span) (e : ℕ) → 0 < length l → IsRisingFrom e l → e ≤ first_lo l
+rising_front [] e some r = absurd (omega arith)
+rising_front (x ∷ l) e some r = r.0
+
+-- Two parts that are not empty, and a range between them.
+
+room-joined : (f g : List Span) → 0 < length f → 0 < length g → room_between (f ++ g) ≡ max (room_between f) (max (room (end_after 0 f) (first_lo g)) (room_between g))
+room-joined [] g p q = absurd (omega arith)
+room-joined (x ∷ f) [] p q = absurd (omega arith)
+room-joined (x ∷ f) (k ∷ r) p q = let m = room_between-middle (x ∷ f) k r in rw m (omega arith)
+
+pub room-first : (x : Span) (g : List Span) → 0 < length g → room_between (x ∷ g) ≡ max (room x.end (first_lo g)) (room_between g)
+room-first x [] p = absurd (omega arith)
+room-first x (k ∷ r) p = refl
+
+pub room-last : (f : List Span) (x : Span) → 0 < length f → room_between (f ++ x ∷ []) ≡ max (room_between f) (room (end_after 0 f) x.lo)
+room-last f x p = let j = room-joined f (x ∷ []) p (omega arith) in rw j (omega arith)
+
+-- where the gap around it is smaller than the most room, it changes nothing
+pub room-inside : (f : List Span) (x : Span) (g : List Span) → 0 < length f → 0 < length g → end_after 0 f ≤ x.lo → x.end ≤ first_lo g → x.lo ≤ x.end → first_lo g - end_after 0 f < room_between (f ++ g)
+    → room_between (f ++ x ∷ g) ≡ room_between (f ++ g)
+room-inside f x g p q low high own gap =
+    let j = room-joined f g p q in
+    let k = room-joined f (x ∷ g) p (omega arith) in
+    let h = room-first x g q in
+    let short = room-short (end_after 0 f) (first_lo g) in
+    let a = room_mono (end_after 0 f) (first_lo g) (end_after 0 f) x.lo (omega arith) (omega arith) in
+    let b = room_mono (end_after 0 f) (first_lo g) x.end (first_lo g) (omega arith) (omega arith) in
+    omega arith
+
+-- once it is gone there is one gap in place of two
+pub room-outside : (f : List Span) (x : Span) (g : List Span) → 0 < length f → 0 < length g → end_after 0 f ≤ x.lo → x.end ≤ first_lo g → x.lo ≤ x.end
+    → room_between (f ++ g) ≡ max (room_between (f ++ x ∷ g)) (room (end_after 0 f) (first_lo g))
+room-outside f x g p q low high own =
+    let j = room-joined f g p q in
+    let k = room-joined f (x ∷ g) p (omega arith) in
+    let h = room-first x g q in
+    let a = room_mono (end_after 0 f) (first_lo g) (end_after 0 f) x.lo (omega arith) (omega arith) in
+    let b = room_mono (end_after 0 f) (first_lo g) x.end (first_lo g) (omega arith) (omega arith) in
+    omega arith
+
+-- Where a range comes in, and where one is.
+
+with_span-strict : (e : ℕ) (x y : Span) (t : List Span) → IsRisingFrom e (with_span x (y ∷ t)) → x.lo ≤ y.lo → x.lo < y.lo
+with_span-strict e x y t r le = split (nat_lt x.lo y.lo) refl
+  where
+    split : (b : Bool) → nat_lt x.lo y.lo ≡ b → x.lo < y.lo
+    split true h = grind (arith, nat_tests)
+    split false h =
+        let later : y.lo ≤ x.lo = grind (arith, nat_tests) in
+        let s = rw (with_span-later x y t later) at r in
+        let w = rising_with y.end x t s.2 in
+        absurd (omega (arith, s.1, w.0))
+
+pub with_span-at : (e : ℕ) (x : Span) (l : List Span) (n : ℕ) → IsRisingFrom e (with_span x l) → n ≤ length l
+    → ((k : ℕ) (d : Span) → k < n → (slice_index_or l k d).lo < x.lo) → ((k : ℕ) (d : Span) → n ≤ k → k < length l → x.lo ≤ (slice_index_or l k d).lo)
+    → insert l n x ≡ with_span x l
+with_span-at e x [] zero r le below above = refl
+with_span-at e x [] (suc n) r le below above = absurd (omega arith)
+with_span-at e x (y ∷ t) zero r le below above =
+    let lt = with_span-strict e x y t r (above 0 y (omega arith) (omega arith)) in
+    rw (lt-ltb x.lo y.lo lt) refl
+with_span-at e x (y ∷ t) (suc n) r le below above =
+    let lt : y.lo < x.lo = below 0 y (omega arith) in
+    let later = with_span-later x y t (omega arith) in
+    let s = rw later at r in
+    rw later (ap (λ (m : List Span). y ∷ m) (with_span-at y.end x t n s.2 (omega arith) (λ k d h. below (suc k) d (omega arith)) (λ k d h m. above (suc k) d (omega arith) (omega arith))))
+
+pub stands_here : (e lo : ℕ) (l : List Span) (n : ℕ) → IsRisingFrom e l → Holds lo l → n ≤ length l
+    → ((k : ℕ) (d : Span) → k < n → (slice_index_or l k d).lo < lo) → ((k : ℕ) (d : Span) → n ≤ k → k < length l → lo ≤ (slice_index_or l k d).lo)
+    → StandsHere lo l n
+stands_here e lo [] n r h le below above = absurd h
+stands_here e lo (y ∷ t) zero r (inl is) le below above =
+    let test : nat_eq y.lo lo ≡ true = grind (arith, nat_tests) in
+    record {
+      within = omega arith;
+      begins = λ d. is;
+      without = rw test refl;
+      replaced = λ d. rw test refl;
+      again = λ d. rw test (sym (with_span-front y t r.1 r.2));
+    }
+stands_here e lo (y ∷ t) zero r (inr h) le below above =
+    let low = above 0 y (omega arith) (omega arith) in
+    let high = holds_above y.end lo t r.2 h in
+    absurd (omega (arith, r.1))
+stands_here e lo (y ∷ t) (suc n) r (inl is) le below above = let lt = below 0 y (omega arith) in absurd (omega arith)
+stands_here e lo (y ∷ t) (suc n) r (inr h) le below above =
+    let high = holds_above y.end lo t r.2 h in
+    let test : nat_eq y.lo lo ≡ false = grind (arith, nat_tests, r.1) in
+    let i = stands_here y.end lo t n r.2 h (omega arith) (λ k d q. below (suc k) d (omega arith)) (λ k d p q. above (suc k) d (omega arith) (omega arith)) in
+    record {
+      within = omega (arith, i.within);
+      begins = i.begins;
+      without = rw test (ap (λ (m : List Span). y ∷ m) i.without);
+      replaced = λ d. rw test (ap (λ (m : List Span). y ∷ m) (i.replaced d));
+      again = λ d.
+          let b = i.begins d in
+          rw test (ap (λ (m : List Span). y ∷ m) (i.again d) ∙ sym (with_span-later (slice_index_or t n d) y (without_span lo t) (omega (arith, r.1))));
+    }
+
+rising_above : (e : ℕ) (l : List Span) → IsRisingFrom e l → (k : ℕ) (d : Span) → k < length l → e ≤ (slice_index_or l k d).lo
+rising_above e [] r k d lt = absurd (omega arith)
+rising_above e (y ∷ t) r zero d lt = r.0
+rising_above e (y ∷ t) r (suc k) d lt = let i = rising_above y.end t r.2 k d (omega arith) in omega (arith, r.0, r.1)
+
+pub rising_sorted : (e : ℕ) (l : List Span) → IsRisingFrom e l → IsNonDecreasingBy (λ (x : Span). x.lo) l
+rising_sorted e [] r i j d le lt = absurd (omega arith)
+rising_sorted e (y ∷ t) r zero zero d le lt = omega arith
+rising_sorted e (y ∷ t) r zero (suc j) d le lt = let i = rising_above y.end t r.2 j d (omega arith) in omega (arith, r.1)
+rising_sorted e (y ∷ t) r (suc i) zero d le lt = absurd (omega arith)
+rising_sorted e (y ∷ t) r (suc i) (suc j) d le lt = rising_sorted y.end t r.2 i j d (omega arith) (omega arith)
+
+-- The most room once a range has come in at a place.
+
+pub inserted_last : (l : List Span) (at : ℕ) (x y : Span) → 1 ≤ at → at ≡ length l → y ≡ slice_index_or l (at - 1) y → room_between (insert l at x) ≡ max (room_between l) (room y.end x.lo)
+inserted_last l at x y some is own =
+    let e = end_after-last 0 l y (omega arith) (rw is at own) in
+    rw (is, insert_end l x, room-last l x (omega arith), e) refl
+
+pub inserted_inside : (l : List Span) (at : ℕ) (x y z : Span) → 1 ≤ at → at < length l → y ≡ slice_index_or l (at - 1) y → z ≡ slice_index_or l at z → IsRisingFrom 0 (insert l at x)
+    → z.lo - y.end < room_between l → room_between (insert l at x) ≡ room_between l
+inserted_inside l at x y z some lt own next free gap =
+    let n : length (take at l) ≡ at = length-take-le at l (omega arith) in
+    let m = length-drop at l in
+    let e = end_after-front l at y some (omega arith) own in
+    let f = first_lo-drop at l z lt next in
+    let b = rising-back 0 (take at l) (x ∷ drop at l) free in
+    let h = rising_front (drop at l) x.end (omega arith) b.2 in
+    let whole : take at l ++ drop at l ≡ l = take-append-drop at l in
+    room-inside (take at l) x (drop at l) (omega arith) (omega arith) b.0 h (omega (arith, b.1)) (rw (e, f, whole) gap) ∙ ap room_between whole
+
+-- The most room once the range at a place is gone.
+
+parts_at : (l : List Span) (at : ℕ) (x : Span) → at < length l → x ≡ slice_index_or l at x → l ≡ take at l ++ x ∷ drop (suc at) l
+parts_at l at x lt is = sym (take-append-drop at l) ∙ ap (λ (m : List Span). take at l ++ m) (drop-cons l at x lt ∙ ap (λ (y : Span). y ∷ drop (suc at) l) (sym is))
+
+pub removed_first : (l : List Span) (y z : Span) → 1 < length l → y ≡ slice_index_or l 0 y → z ≡ slice_index_or l 1 z → z.lo - y.end < room_between l → room_between (remove l 0) ≡ room_between l
+removed_first [] y z lt p q gap = absurd (omega arith)
+removed_first (x ∷ []) y z lt p q gap = absurd (omega arith)
+removed_first (x ∷ (k ∷ r)) y z lt p q gap =
+    let short = room-short x.end k.lo in
+    let g : k.lo - x.end < room_between (x ∷ (k ∷ r)) = rw (q, p) at gap in
+    omega arith
+
+pub removed_last : (l : List Span) (at : ℕ) (x y : Span) → 1 ≤ at → at + 1 ≡ length l → y ≡ slice_index_or l (at - 1) y → x ≡ slice_index_or l at x → x.lo - y.end < room_between l → room_between (remove l at) ≡ room_between l
+removed_last l at x y some is own last gap =
+    let n : length (take at l) ≡ at = length-take-le at l (omega arith) in
+    let e = end_after-front l at y some (omega arith) own in
+    let none : drop (suc at) l ≡ [] = drop_all (suc at) l (omega arith) in
+    let whole : l ≡ take at l ++ x ∷ [] = rw none at (parts_at l at x (omega arith) last) in
+    let r : room_between l ≡ max (room_between (take at l)) (room y.end x.lo) = rw e at (ap room_between whole ∙ room-last (take at l) x (omega arith)) in
+    let short = room-short y.end x.lo in
+    rw (none, append-nil (take at l)) (omega arith)
+
+pub removed_inside : (l : List Span) (at : ℕ) (y z : Span) → 1 ≤ at → at + 1 < length l → y ≡ slice_index_or l (at - 1) y → z ≡ slice_index_or l (at + 1) z → IsRisingFrom 0 l
+    → room_between (remove l at) ≡ max (room_between l) (room y.end z.lo)
+removed_inside l at y z some lt own next rising =
+    let x = slice_index_or l at y in
+    let n : length (take at l) ≡ at = length-take-le at l (omega arith) in
+    let m = length-drop (suc at) l in
+    let j : at + 1 ≡ suc at = omega arith in
+    let e = end_after-front l at y some (omega arith) own in
+    let f = first_lo-drop (suc at) l z (omega arith) (rw j at next) in
+    let is : x ≡ slice_index_or l at x = get_or_default l at y x (omega arith) in
+    let whole = parts_at l at x (omega arith) is in
+    let b = rising-back 0 (take at l) (x ∷ drop (suc at) l) (rw whole at rising) in
+    let h = rising_front (drop (suc at) l) x.end (omega arith) b.2 in
+    room-outside (take at l) x (drop (suc at) l) (omega arith) (omega arith) b.0 h (omega (arith, b.1)) ∙ rw (← whole, e, f) refl
+
+-- What is covered, and what is taken.
+
+pub covered_any : (e frame : ℕ) (l : List Span) → IsRisingFrom e l → list_any (has_frame frame) l ≡ is_covered frame (all_of l)
+covered_any e frame [] r = refl
+covered_any e frame (x ∷ l) r =
+    let own : has_frame frame x ≡ covers frame (range_of_span x) = same x.lo x.end r.1 in
+    rw (own, covered_any x.end frame l r.2) refl
+  where
+    same : (lo end : ℕ) → lo < end → (nat_le lo frame && nat_lt frame end) ≡ covers frame (record { lo = lo; len = end - lo })
+    same lo end lt = let e : lo + (end - lo) ≡ end = omega arith in rw e refl
+
+taken_step : (b c : Bool) (f : Frames) (a : Frames) (t : List Frames) → c ≡ meets a f → ((not b && c) || list_any (meets a) t) ≡ list_any (meets a) (cond (not b) (f ∷ t) t)
+taken_step true c f a t e = refl
+taken_step false c f a t e = rw e refl
+
+pub taken_any : (e lo end : ℕ) (l : List Span) → lo < end → IsRisingFrom e l → list_any (is_taken_between lo end) l ≡ list_any (meets (record { lo = lo; len = end - lo })) (inserted_of l)
+taken_any e lo end [] lt r = refl
+taken_any e lo end (x ∷ l) lt r =
+    let own : (nat_lt x.lo end && nat_lt lo x.end) ≡ meets (record { lo = lo; len = end - lo }) (range_of_span x) = same x.lo x.end r.1 in
+    rw (taken_any x.end lo end l lt r.2) (taken_step x.window _ (range_of_span x) (record { lo = lo; len = end - lo }) (inserted_of l) own)
+  where
+    and_swap : (a b : Bool) → (a && b) ≡ (b && a)
+    and_swap true true = refl
+    and_swap true false = refl
+    and_swap false true = refl
+    and_swap false false = refl
+
+    same : (from until : ℕ) → from < until → (nat_lt from end && nat_lt lo until) ≡ meets (record { lo = lo; len = end - lo }) (record { lo = from; len = until - from })
+    same from until q =
+        let a : lo + (end - lo) ≡ end = omega arith in
+        let b : from + (until - from) ≡ until = omega arith in
+        rw (a, b) (and_swap (nat_lt from end) (nat_lt lo until))
+
+-- What comes into one of two parts.
+
+pub record IsInPart (x : Span) (l low high : List Span) : Type 0 where
+  pub free : IsRisingFrom 0 low × IsRisingFrom 0 high
+  pub is : with_span x l ≡ low ++ high
+
+pub cut_low : (x : Span) (l low high : List Span) → l ≡ low ++ high → 0 < length high → x.lo < first_lo high → IsRisingFrom 0 (with_span x l) → IsInPart x l (with_span x low) high
+cut_low x l low [] parts some lt r = absurd (omega arith)
+cut_low x l low (y ∷ t) parts some lt r =
+    let e : with_span x l ≡ with_span x low ++ y ∷ t = rw parts (with_span-before x low (y ∷ t) lt) in
+    let s = rw e at r in
+    record { free = (rising-front 0 (with_span x low) (y ∷ t) s, rising-after 0 (with_span x low) (y ∷ t) s); is = e }
+
+pub cut_high : (x : Span) (l low high : List Span) → l ≡ low ++ high → 0 < length high → first_lo high ≤ x.lo → IsRisingFrom 0 (with_span x l) → IsInPart x l low (with_span x high)
+cut_high x l low high parts some le r =
+    let rising : IsRisingFrom 0 (low ++ high) = rw (← parts) (rising-without 0 x l r) in
+    let front = rising-front 0 low high rising in
+    let g = rising_front high (end_after 0 low) some (rising-back 0 low high rising) in
+    let e : with_span x l ≡ low ++ with_span x high = rw parts (with_span-behind 0 x low high front (omega arith)) in
+    record { free = (front, rising-after 0 low (with_span x high) (rw e at r)); is = e }

@@ -1,0 +1,334 @@
+//! Ranges that rise apart, side by side in a block: what a node of the tree holds.
+ghost use Rattle.std.specs.Prelude.{◌≡◌, ◌<◌, ◌≤◌, ◌-◌, [], ◌∷◌, ◌++◌, length, true, false, insert, remove, IfSome};
+ghost use Rattle.iova_tree.specs.Spans.{Span as Seen, first_lo, end_after, room_between, with_span, without_span, with_replaced, has_frame, is_taken_between, all_of, inserted_of, IsRisingFrom, Holds, StandsHere};
+ghost use Rattle.std.specs.List.{list_any};
+ghost use Rattle.iova_range.specs.Frames.{meets};
+ghost use Rattle.iova_model.specs.Fit.{is_covered};
+ghost use Rattle.iova_tree.specs.Fit.{IsWanted, highest_between};
+
+use crate::room::room_with;
+use crate::search::{Wanted, place_in};
+use crate::span::Span;
+use arrayvec::ArrayVec;
+use std::marker::Model;
+
+/// The most ranges of a block.
+pub const BLOCK: usize = 24;
+
+/// Ranges that rise apart, at most `BLOCK`, with the greatest size that fits aligned between two
+/// neighbours.
+#[derive(Drop)]
+pub struct Block {
+    spans: ArrayVec<Span, BLOCK>,
+    room: u32,
+}
+
+impl Model for Block {
+    ghost use Rattle.std.specs.Prelude.{◌≡◌, List};
+    ghost use Rattle.iova_tree.specs.Spans.{Span as Seen, IsRisingFrom, room_between};
+
+    ghost Value = { List Seen };
+
+    ghost view = { λ b. b.spans.items };
+
+    ghost invariant = { λ b. IsRisingFrom 0 b.spans.items
+        × (b.room ≡ room_between b.spans.items) };
+}
+
+impl Block {
+    /// A block of one range.
+    pub fn single(span: Span) -> Self
+        requires { span.lo < span.end }
+        ensures { result ≡ span ∷ [] }
+    {
+        let mut spans = ArrayVec::new();
+        spans.push(span);
+        Block { spans, room: 0 }
+    }
+
+    /// Whether it has as many as it takes.
+    #[inline]
+    pub fn is_full(&self) -> bool
+        ensures room { result ≡ false → length self.now < BLOCK }
+        ensures full { result ≡ true → BLOCK ≤ length self.now }
+    {
+        self.spans.is_full()
+    }
+
+    /// Whether the range that begins at `lo` is the only one.
+    #[inline]
+    pub fn is_only(&self, lo: u64) -> bool
+        requires { 0 < length self.now }
+        ensures one { result ≡ true → length self.now ≡ 1 }
+        ensures begins { result ≡ true → Holds lo self.now }
+        ensures others { result ≡ false → Holds lo self.now → 2 ≤ length self.now }
+    {
+        self.spans.len() == 1 && self.first() == lo
+    }
+
+    /// Where the lowest begins.
+    #[inline]
+    pub fn first(&self) -> u64
+        requires { 0 < length self.now }
+        ensures { result ≡ first_lo self.now }
+    {
+        self.spans.as_slice()[0].lo()
+    }
+
+    /// Where the highest ends.
+    #[inline]
+    pub fn end(&self) -> u64
+        requires { 0 < length self.now }
+        ensures { result ≡ end_after 0 self.now }
+    {
+        let spans = self.spans.as_slice();
+        spans[spans.len() - 1].end()
+    }
+
+    /// The most room between two neighbours.
+    #[inline]
+    pub fn room(&self) -> u32
+        ensures { result ≡ room_between self.now }
+    {
+        self.room
+    }
+
+    /// Whether it begins and ends there, with so much room between two neighbours.
+    #[inline]
+    pub fn has_outline(&self, first: u64, end: u64, room: u32) -> bool
+        requires { 0 < length self.now }
+        ensures first { result ≡ true → first_lo self.now ≡ first }
+        ensures end { result ≡ true → end_after 0 self.now ≡ end }
+        ensures room { result ≡ true → room_between self.now ≡ room }
+    {
+        self.room == room && self.first() == first && self.end() == end
+    }
+
+    /// The highest place between two neighbours.
+    #[inline]
+    pub fn highest_between(&self, wanted: &Wanted) -> Option<u64>
+        requires { IsWanted wanted.now }
+        ensures { result ≡ highest_between wanted.now self.now }
+    {
+        if (self.room as u64) < wanted.size {
+            return None;
+        }
+        highest_of(self.spans.as_slice(), wanted)
+    }
+
+    /// Lets a range in, whose frames are free.
+    pub fn insert(&mut self, span: Span)
+        requires room { length self.old < BLOCK }
+        requires free { IsRisingFrom 0 (with_span span self.old) }
+        ensures { self.new ≡ with_span span self.old }
+    {
+        let spans = self.spans.as_slice();
+        let at = place_of(spans, span.lo());
+        let known = room_with_one(spans, at, span, self.room);
+        self.spans.insert(at, span);
+        self.room = match known {
+            Some(room) => room,
+            None => room_of_all(self.spans.as_slice()),
+        };
+    }
+
+    /// Takes out the range that begins at `lo`.
+    pub fn remove(&mut self, lo: u64) -> Span
+        requires { Holds lo self.old }
+        ensures begins { result.lo ≡ lo }
+        ensures rest { self.new ≡ without_span lo self.old }
+        ensures taken { self.old ≡ with_span result self.new }
+    {
+        let spans = self.spans.as_slice();
+        let at = place_of(spans, lo);
+        let known = room_without(spans, at, self.room);
+        let gone = self.spans.remove(at);
+        self.room = match known {
+            Some(room) => room,
+            None => room_of_all(self.spans.as_slice()),
+        };
+        gone
+    }
+
+    /// Puts a range that covers it in the place of the one that begins at `lo`.
+    pub fn replace(&mut self, lo: u64, span: Span)
+        requires held { Holds lo self.old }
+        requires free { IsRisingFrom 0 (with_replaced lo span self.old) }
+        ensures { self.new ≡ with_replaced lo span self.old }
+    {
+        let at = place_of(self.spans.as_slice(), lo);
+        let _ = self.spans.remove(at);
+        self.spans.insert(at, span);
+        self.room = room_of_all(self.spans.as_slice());
+    }
+
+    /// Whether one of the ranges has the frame.
+    pub fn covers(&self, frame: u64) -> bool
+        ensures { result ≡ is_covered frame (all_of self.now) }
+    {
+        covers_any(self.spans.as_slice(), frame)
+    }
+
+    /// Whether one of the ranges that are no windows has a frame in common with those from `lo` on,
+    /// below `end`.
+    pub fn meets_inserted(&self, lo: u64, end: u64) -> bool
+        requires { lo < end }
+        ensures { result ≡ list_any (meets (record { lo = lo; len = end - lo }))
+            (inserted_of self.now) }
+    {
+        meets_any(self.spans.as_slice(), lo, end)
+    }
+
+    /// Lets a range into a full block, whose upper part is another block then.
+    pub fn split(&mut self, span: Span) -> Self
+        requires full { BLOCK ≤ length self.old }
+        requires free { IsRisingFrom 0 (with_span span self.old) }
+        ensures parts { with_span span self.old ≡ self.new ++ result }
+        ensures low { 0 < length self.new }
+        ensures high { 0 < length result }
+    {
+        let mut high = self.cut(span.lo());
+        if span.lo() < high.first() {
+            self.insert(span);
+        } else {
+            high.insert(span);
+        }
+        high
+    }
+
+    // Takes out the upper half, or three quarters where `lo` is below these: so ranges that come
+    // each below all others leave blocks that are three quarters full.
+    fn cut(&mut self, lo: u64) -> Self
+        requires { BLOCK ≤ length self.old }
+        ensures parts { self.old ≡ self.new ++ result }
+        ensures low { 0 < length self.new }
+        ensures high { 0 < length result }
+        ensures room { length self.new < BLOCK }
+        ensures room_above { length result < BLOCK }
+    {
+        let spans = self.spans.as_slice();
+        let keep = if lo < spans[BLOCK / 4].lo() {
+            BLOCK / 4
+        } else {
+            BLOCK / 2
+        };
+        let mut high = ArrayVec::new();
+        let _ = high.try_extend_from_slice(&spans[keep..]);
+        let room = room_of_all(high.as_slice());
+        self.spans.truncate(keep);
+        self.room = room_of_all(self.spans.as_slice());
+        Block { spans: high, room }
+    }
+}
+
+// How many of the ranges begin below `lo`.
+#[inline]
+fn place_of(spans: &[Span], lo: u64) -> usize
+    requires { IsRisingFrom 0 spans.now }
+    ensures within { result ≤ length spans.now }
+    ensures comes_in { (x : Seen) → x.lo ≡ lo → IsRisingFrom 0 (with_span x spans.now)
+        → insert spans.now result x ≡ with_span x spans.now }
+    ensures stands { Holds lo spans.now → StandsHere lo spans.now result }
+{
+    spans.partition_point(|span| span.lo() < lo)
+}
+
+// The most room between two neighbours once `span` comes in at this place, where it is known
+// without a look at all of them.
+#[inline]
+fn room_with_one(spans: &[Span], at: usize, span: Span, known: u32) -> Option<u32>
+    requires within { at ≤ length spans.now }
+    requires known { known ≡ room_between spans.now }
+    requires rising { IsRisingFrom 0 spans.now }
+    requires free { IsRisingFrom 0 (insert spans.now at span) }
+    ensures { IfSome result (λ room. room ≡ room_between (insert spans.now at span)) }
+{
+    if spans.is_empty() {
+        return Some(0);
+    }
+    if at == 0 {
+        return Some(room_with(known, span.end(), spans[0].lo()));
+    }
+    let from = spans[at - 1].end();
+    if at == spans.len() {
+        return Some(room_with(known, from, span.lo()));
+    }
+    if spans[at].lo() - from < known as u64 {
+        Some(known)
+    } else {
+        None
+    }
+}
+
+// The most room between two neighbours once the range at this place is gone, where it is known
+// without a look at all of them.
+#[inline]
+fn room_without(spans: &[Span], at: usize, known: u32) -> Option<u32>
+    requires within { at < length spans.now }
+    requires known { known ≡ room_between spans.now }
+    requires rising { IsRisingFrom 0 spans.now }
+    ensures { IfSome result (λ room. room ≡ room_between (remove spans.now at)) }
+{
+    let count = spans.len();
+    if count == 1 {
+        return Some(0);
+    }
+    if at == 0 {
+        let gap = spans[1].lo() - spans[0].end();
+        return if gap < known as u64 {
+            Some(known)
+        } else {
+            None
+        };
+    }
+    let from = spans[at - 1].end();
+    if at + 1 == count {
+        let gap = spans[at].lo() - from;
+        return if gap < known as u64 {
+            Some(known)
+        } else {
+            None
+        };
+    }
+    Some(room_with(known, from, spans[at + 1].lo()))
+}
+
+// The highest place between two neighbours of these.
+fn highest_of(spans: &[Span], wanted: &Wanted) -> Option<u64>
+    requires { IsWanted wanted.now }
+    ensures { result ≡ highest_between wanted.now spans.now }
+{
+    for at in (1..spans.len()).rev() {
+        let until = spans[at].lo().min(wanted.cap);
+        if let Some(place) = place_in(spans[at - 1].end(), until, wanted) {
+            return Some(place);
+        }
+    }
+    None
+}
+
+// The most room between two neighbours of these.
+fn room_of_all(spans: &[Span]) -> u32
+    requires { IsRisingFrom 0 spans.now }
+    ensures { result ≡ room_between spans.now }
+{
+    let mut room = 0;
+    for at in 1..spans.len() {
+        room = room_with(room, spans[at - 1].end(), spans[at].lo());
+    }
+    room
+}
+
+// Whether one of these has the frame.
+fn covers_any(spans: &[Span], frame: u64) -> bool
+    ensures { result ≡ list_any (has_frame frame) spans.now }
+{
+    spans.iter().any(|span| span.has(frame))
+}
+
+// Whether one of these that are no windows has a frame from `lo` on, below `end`.
+fn meets_any(spans: &[Span], lo: u64, end: u64) -> bool
+    ensures { result ≡ list_any (is_taken_between lo end) spans.now }
+{
+    spans.iter().any(|span| span.is_taken(lo, end))
+}
