@@ -49,7 +49,7 @@ static void nothing_without_a_cache(void) {
     MUST(iova_cache_counts_of(&one).refused == IOVA_NO_CACHE);
     MUST(iova_cache_put(&one, 1, 1) == IOVA_NO_CACHE && iova_cache_keep(&one, 1, 1) == IOVA_NO_CACHE);
     MUST(iova_cache_take(&one, 0).refused == IOVA_NO_CACHE && iova_cache_release(&one, 1).refused == IOVA_NO_CACHE);
-    MUST(iova_cache_any(&one).refused == IOVA_NO_CACHE);
+    MUST(iova_cache_any(&one).refused == IOVA_NO_CACHE && iova_cache_make_room(&one) == IOVA_NO_CACHE);
     MUST(iova_cache_make(domain, &one, 1, 0).refused == IOVA_NO_WORKER);
     MUST(iova_cache_alloc(&one, 1, IOVA_NO_LIMIT).refused == IOVA_NO_CACHE);
     iova_cache_clear(&one);

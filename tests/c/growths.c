@@ -79,8 +79,8 @@ static int is_whole(iova_domain *domain, iova_cache *cache, uint64_t client) {
 }
 
 /* The calls of a cache that may be refused memory, and how often each was. */
-enum { MAKE, REFILL, ALLOC, MAP, ALLOC_BY, APART, KEEP, CALLS };
-static const char *const names[CALLS] = {"make", "refill", "alloc", "map", "alloc_by", "apart", "keep"};
+enum { MAKE, REFILL, ALLOC, MAP, ALLOC_BY, APART, MAKE_ROOM, KEEP, CALLS };
+static const char *const names[CALLS] = {"make", "refill", "alloc", "map", "alloc_by", "apart", "make_room", "keep"};
 static long refused_of[CALLS];
 
 #define AGAIN_OF(which, answer, call)                                                                                          \
@@ -162,14 +162,20 @@ static int run_cache(iova_domain *domain, int by) {
             return fails(#call, refused_first);                                                                                \
     } while (0)
 
-/* A cache whose domain is elsewhere. */
-static int run_apart(void) {
+/* A cache whose domain is elsewhere, which makes room for each range first, or not. */
+static int run_apart(int by) {
     enum { HELD = 300 };
     iova_cache cache;
     iova_cache_init(&cache);
     AGAIN_ALONE(APART, iova_cache_apart(&cache, 0));
     for (uint64_t at = 0; at < HELD; at++) {
-        AGAIN_ALONE(KEEP, iova_cache_keep(&cache, 64 * at, 40));
+        if (by == MAKE_ROOM) {
+            AGAIN_ALONE(MAKE_ROOM, iova_cache_make_room(&cache));
+            long before = growths;
+            if (iova_cache_keep(&cache, 64 * at, 40) || growths != before)
+                return fails("a range that there is room for", at);
+        } else
+            AGAIN_ALONE(KEEP, iova_cache_keep(&cache, 64 * at, 40));
         if (iova_cache_counts_of(&cache).held != at + 1)
             return fails("what is kept", iova_cache_counts_of(&cache).held);
     }
@@ -183,7 +189,8 @@ int main(void) {
         iova_domain *domain = iova_domain_new();
         if (domain == NULL)
             continue;
-        int failed = run(domain) || run_cache(domain, ALLOC) || run_cache(domain, MAP) || run_cache(domain, ALLOC_BY) || run_apart();
+        int failed = run(domain) || run_cache(domain, ALLOC) || run_cache(domain, MAP) || run_cache(domain, ALLOC_BY) || run_apart(MAKE_ROOM) ||
+                     run_apart(KEEP);
         iova_domain_free(domain);
         if (failed)
             return 1;

@@ -3,12 +3,15 @@
  *     lost IOVAD FOLDER
  *
  * The daemon is killed, ends the session, or answers too late: each call tells it, what the user held is kept, and
- * iovad_cache_reopen lists it. A strict domain is refused, one with no frame to give or with a full ring is not. */
+ * iovad_cache_reopen lists it. A strict domain is refused, one with no frame to give or with a full ring is not. Each
+ * growth is refused in turn, also where the daemon takes nothing back, and no range is lost. It is linked as refusing.h
+ * says. */
 #define _GNU_SOURCE
 #include <iova.h>
 #include <iova_client.h>
 
 #include "daemon.h"
+#include "refusing.h"
 
 enum { SECONDS = 600, MOST = 2000 };
 
@@ -173,17 +176,23 @@ static void domain_has_nothing(void) {
     daemon_end(served, SIGKILL);
 }
 
-/* Where no record is written no flush goes well: the range that a cache begins with can't be freed. */
-static void ring_is_full(void) {
-    iovad_session other;
+/* Where no record is written no flush goes well: the daemon's ring stays full. */
+static pid_t serve_with_full_ring(iovad_session *other) {
     uint64_t lo[255];
     pid_t served = daemon_start(path, SECONDS, "--sink", "/dev/full", "--workers", "1", "--clients", "4", "--start", "1",
                                 "--last", "1048575", "--session-requests", "0", NULL);
-    MUST(!iovad_open(&other, path, 0, 0).error);
+    MUST(!iovad_open(other, path, 0, 0).error);
     for (int k = 0; k < 255; k++)
-        MUST((lo[k] = iovad_alloc(&other, 1, UINT64_MAX).lo) != 0);
+        MUST((lo[k] = iovad_alloc(other, 1, UINT64_MAX).lo) != 0);
     for (int k = 0; k < 255; k++)
-        MUST(!iovad_free(&other, lo[k]).error);
+        MUST(!iovad_free(other, lo[k]).error);
+    return served;
+}
+
+/* The range that a cache begins with can't be freed then. */
+static void ring_is_full(void) {
+    iovad_session other;
+    pid_t served = serve_with_full_ring(&other);
     MUST(!iovad_cache_open(&cache, path, 0, 0).error && iovad_cache_counts_of(&cache).cached == 1);
     take(290);
     want_counts();
@@ -199,6 +208,56 @@ static void ring_is_full(void) {
     iovad_bye(&other);
     count = 0;
     daemon_end(served, SIGKILL);
+}
+
+/* Each growth of a call is refused in turn; then the call is made again. A cache has what the daemon lists for it. */
+static void memory_is_refused(void) {
+    iovad_session other;
+    uint64_t opens = 0, gives = 0, reopens = 0, error = IOVA_NO_MEMORY;
+    pid_t served = serve_with_full_ring(&other);
+    for (long which = 1; error; which++) {
+        refuse_at = growths + which;
+        error = iovad_cache_open(&cache, path, 0, 0).error;
+        refuse_at = 0;
+        MUST(!error || (error == IOVA_NO_MEMORY && iovad_cache_alloc(&cache, 1, UINT64_MAX).error == IOVAD_ENDED));
+        opens += error != 0;
+    }
+    for (count = 0; count < 700; count++) {
+        uint64_t frames = count % 3 ? 1 + count % 32 : 33 + count % 32;
+        uint64_t limit = count % 5 ? UINT64_MAX : 1048575 - count;
+        refuse_at = growths + 1;
+        iovad_range range = iovad_cache_alloc(&cache, frames, limit);
+        refuse_at = 0;
+        if (range.error == IOVA_NO_MEMORY) {
+            gives++;
+            want_counts();
+            range = iovad_cache_alloc(&cache, frames, limit);
+        }
+        MUST(!range.error && range.len >= frames);
+        held[count].lo = range.lo;
+        held[count].len = range.len;
+    }
+    want_counts();
+    for (long which = 1; error || which == 1; which++) {
+        refuse_at = growths + which;
+        iovad_held lost = iovad_cache_reopen(&cache, list, MOST);
+        refuse_at = 0;
+        error = lost.error;
+        MUST(error ? error == IOVA_NO_MEMORY && !cache.session.lost : lost.count == count);
+        if (error)
+            want_counts();
+        reopens += error != 0;
+    }
+    MUST(opens && gives && reopens);
+    qsort(list, count, sizeof *list, by_first);
+    qsort(held, count, sizeof *held, by_first);
+    MUST(memcmp(list, held, count * sizeof *list) == 0);
+    count = 0;
+    want_counts();
+    MUST(!iovad_cache_close(&cache));
+    iovad_bye(&other);
+    daemon_end(served, SIGKILL);
+    MUST(blocks == 0);
 }
 
 int main(int words, char **word) {
@@ -219,5 +278,6 @@ int main(int words, char **word) {
     domain_is_strict();
     domain_has_nothing();
     ring_is_full();
+    memory_is_refused();
     return 0;
 }

@@ -437,6 +437,10 @@ uint64_t iova_cache_put(iova_cache *cache, uint64_t lo, uint64_t len);
 /* The newest range of the magazines of an order goes out of the cache. IOVA_NO_ORDER (more than 5), IOVA_DRY. */
 iova_range iova_cache_take(iova_cache *cache, uint64_t order);
 
+/* Makes room for one range more of the user's, so that the next iova_cache_keep takes no memory. It is called before the domain
+ * is asked for that range: one that is given and can't be kept would be in no place. Answers 0, or IOVA_NO_MEMORY. */
+uint64_t iova_cache_make_room(iova_cache *cache);
+
 /* A range of its domain goes to the user. Answers 0, or a refusal: IOVA_BAD_WINDOW where `lo` is 2^40 or more, or `len` isn't what
  * a domain gives: 1 to 1,048,576 frames, and up to 32 a power of two; IOVA_NO_MEMORY. */
 uint64_t iova_cache_keep(iova_cache *cache, uint64_t lo, uint64_t len);

@@ -847,15 +847,16 @@ IOVAD_OWN_COLD void iovad_own_give_back(iovad_cache *cache) {
     }
 }
 
-/* A range of more than 32 frames, or one that the magazines don't have. */
+/* A range of more than 32 frames, or one that the magazines don't have. There is room for it before the daemon is asked:
+ * it would be in no place of the cache's where it couldn't be kept and the daemon didn't take it back. */
 IOVAD_OWN_COLD iovad_range iovad_own_alloc_by(iovad_cache *cache, uint64_t frames, uint64_t limit) {
-    iovad_range range;
+    iovad_range range = iovad_own_range(iova_cache_make_room(&cache->ranges), 0, 0);
+    if (range.error)
+        return range;
     iovad_own_flushed(cache);
     range = iovad_alloc(&cache->session, frames, limit);
-    if (!range.error && iova_cache_keep(&cache->ranges, range.lo, range.len)) {
-        iovad_free(&cache->session, range.lo);
-        return iovad_own_range(IOVA_NO_MEMORY, 0, 0);
-    }
+    if (!range.error && iova_cache_keep(&cache->ranges, range.lo, range.len))
+        range = iovad_own_range(iovad_own_lose(&cache->session, IOVAD_MALFORMED), 0, 0); /* no range of a request */
     return range;
 }
 
@@ -954,7 +955,9 @@ static inline iovad_opened iovad_own_cache_connect(iovad_cache *cache, iovad_ran
     if (opened.error)
         return opened;
     *kept = iovad_alloc(&cache->session, 1, UINT64_MAX);
-    if (kept->len) {
+    if (kept->len > 1 || kept->lo >> 40)
+        iovad_own_lose(&cache->session, IOVAD_MALFORMED); /* no range that a magazine takes */
+    else if (kept->len) {
         iovad_range freed = iovad_free(&cache->session, kept->lo);
         if (!freed.error)
             kept->len = 0; /* else its ring is full, and the range is kept */

@@ -1,5 +1,5 @@
 -- What a call does to a slot for a cache, which holds one or none.
-use Rattle.std.specs.Prelude.{ℕ, ◌≡◌, ◌≢◌, ◌^◌, ◌<◌, ◌≤◌, ◌⊎◌, ◌*◌, Bool, true, [], length, find, Option, None, Some, Result, Ok, Err, IfOk, IfErr, OnOk, OnErr, IfSome, IfNone}
+use Rattle.std.specs.Prelude.{ℕ, ◌≡◌, ◌≢◌, ◌^◌, ◌<◌, ◌≤◌, ◌⊎◌, ◌*◌, Bool, true, false, [], length, find, Option, None, Some, Result, Ok, Err, IfOk, IfErr, OnOk, OnErr, IfSome, IfNone, IsOkUnless}
 use Rattle.iova_range.specs.declared.limits.TheConstants.{MOST_CACHED, ORDERS}
 use Rattle.iova_range.specs.declared.refusal.Refusal.{Refusal}
 use Rattle.iova_range.specs.Refusals.{refusal_number}
@@ -12,7 +12,7 @@ use Rattle.iova_cache.specs.declared.cache.Kept.TheVariants as kept
 use Rattle.iova_cache.specs.declared.apart.Unput.{Unput}
 use Rattle.iova_cache.specs.declared.apart.Unput.TheVariants as unput
 use Rattle.iova_cache.specs.Magazines.{magazine_of, Misses}
-use Rattle.iova_cache.specs.Caches.{CacheState, HasOrder, IsMet, IsGivenUp, IsSettled, reach, new_cache}
+use Rattle.iova_cache.specs.Caches.{CacheState, HasOrder, HasMoreRoom, IsMet, IsGivenUp, IsSettled, reach, new_cache}
 use Rattle.iova_range.specs.declared.refusal.Refusal.TheVariants as refusal
 use Rattle.iova_model.specs.State.{State}
 use Rattle.iova_model.specs.declared.step.Step.TheVariants as step
@@ -170,6 +170,18 @@ TakeCall (Some c) order a new =
     ((ORDERS ≤ order) × ((a ≡ no_range NO_ORDER) × (new ≡ Some c)))
     ⊎ ((c' : CacheState) × ((res : Option Frames) × (Takes c.cache c' order res
     × ((a ≡ some_answer DRY res) × (new ≡ Some (with_cache c c'))))))
+
+pub record MakesRoom (old new : CacheState) (res : Result (Unit {0}) Refusal) : Type 0 where
+  pub room : OnOk res (HasMoreRoom old new)
+  pub full : OnErr res (old.room ≡ false)
+  pub refused : IsOkUnless res refusal.NoMemory
+  pub unchanged : OnErr res (new ≡ old)
+
+abbrev pub RoomCall : Option Cached → ℕ → Option Cached → Type 0
+RoomCall None a new = (a ≡ NO_CACHE) × (new ≡ None)
+RoomCall (Some c) a new =
+    (c' : CacheState) × ((res : Result (Unit {0}) Refusal) × (MakesRoom c.cache c' res
+    × ((a ≡ word_of res) × (new ≡ Some (with_cache c c')))))
 
 pub record Keeps (old new : CacheState) (lo len : ℕ) (res : Result (Unit {0}) Refusal)
     : Type 0 where

@@ -7,14 +7,15 @@ ghost use Rattle.std.specs.Ptr.{lies_at, room_at};
 ghost use denote.Memory.{mem};
 ghost use Rattle.iova_c.specs.Bytes.{frame_at, frames_of, last_frame};
 ghost use Rattle.iova_c.specs.Slots.{is_set};
-ghost use Rattle.iova_c.specs.Caches.{granule_in, AllocCall, UnmapCall, MapCall, UnmapBytesCall, SettleCall, PutCall, TakeCall, KeepCall, ReleaseCall, AnyCall, ApartCall, CountsCall, MakeCall, RefillCall, SpillCall, AllocByCall, UnmapByCall, EndCall};
+ghost use Rattle.iova_c.specs.Caches.{granule_in, AllocCall, UnmapCall, MapCall, UnmapBytesCall, SettleCall, PutCall, TakeCall, RoomCall, KeepCall, ReleaseCall, AnyCall, ApartCall, CountsCall, MakeCall, RefillCall, SpillCall, AllocByCall, UnmapByCall, EndCall};
 ghost use Rattle.iova_c.specs.contracts.cached.CacheSlot.{the_row};
 ghost use Rattle.iova_c.specs.contracts.slot.Slot.{the_row as slot_row};
 
 use crate::answer::{CacheCountsAnswer, MappingAnswer, NumberAnswer, RangeAnswer};
 use crate::bytes::{map_cached, unmap_bytes_cached};
 use crate::cached::{
-    CacheSlot, alloc, any, apart, clear, counts, keep, no_cache, put, release, settle, take, unmap,
+    CacheSlot, alloc, any, apart, clear, counts, keep, make_room, no_cache, put, release, settle,
+    take, unmap,
 };
 use crate::exchanged::{alloc_by, end, make, refill, spill, unmap_by};
 use crate::exports::SlotRoom;
@@ -168,6 +169,17 @@ pub unsafe extern "C" fn iova_cache_take(cache: *mut CacheRoom, order: u64) -> R
         ∗ ⌜ TakeCall old.cache order result new.cache ⌝) }
 {
     take(&mut *(cache as *mut CacheSlot), order)
+}
+
+/// Room for one range more of the user's.
+#[unsafe(no_mangle)]
+pub unsafe extern "C" fn iova_cache_make_room(cache: *mut CacheRoom) -> u64
+    ghost old: { CacheSlot }
+    requires* { sem 𝓛 (lies_at the_row full_share cache old) }
+    ensures* { ∃ₛ (λ (new : CacheSlot). sem 𝓛 (lies_at the_row full_share cache new)
+        ∗ ⌜ RoomCall old.cache result new.cache ⌝) }
+{
+    make_room(&mut *(cache as *mut CacheSlot))
 }
 
 /// A range goes to the user.

@@ -2,7 +2,7 @@
 ghost use Rattle.std.specs.Prelude.{◌≡◌, None};
 ghost use Rattle.iova_c.specs.Answers.{unpacked};
 ghost use Rattle.iova_c.specs.Slots.{is_set};
-ghost use Rattle.iova_c.specs.Caches.{unmet_answer, kept_answer, some_answer, no_range, AllocCall, UnmapCall, SettleCall, PutCall, TakeCall, KeepCall, ReleaseCall, AnyCall, ApartCall, CountsCall};
+ghost use Rattle.iova_c.specs.Caches.{unmet_answer, kept_answer, some_answer, no_range, AllocCall, UnmapCall, SettleCall, PutCall, TakeCall, RoomCall, KeepCall, ReleaseCall, AnyCall, ApartCall, CountsCall};
 
 use crate::answer::{CacheCountsAnswer, NumberAnswer, RangeAnswer, number_of, unpack};
 use crate::granule::{Granule, usual};
@@ -214,6 +214,19 @@ pub fn take(slot: &mut CacheSlot, order: u64) -> RangeAnswer
             of_some(DRY, cached.cache.take(order as u8))
         }
         None => refused(NO_CACHE),
+    }
+}
+
+/// Room for one range more of the user's. 0, or the refusal's number.
+pub fn make_room(slot: &mut CacheSlot) -> u64
+    ensures { RoomCall slot.old.cache result slot.new.cache }
+{
+    match &mut slot.cache {
+        Some(cached) => match cached.cache.make_room() {
+            Ok(()) => 0,
+            Err(refusal) => number_of(refusal),
+        },
+        None => NO_CACHE,
     }
 }
 

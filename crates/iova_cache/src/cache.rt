@@ -174,8 +174,9 @@ impl Cache {
         self.get(order_of_need(frames), limit)
     }
 
-    /// Room for one range more. `NoMemory` where memory is refused, and nothing has changed.
-    pub(crate) fn make_room(&mut self) -> Result<(), Refusal>
+    /// Makes room for one range more of the user's, so that the next one comes in without memory.
+    /// `NoMemory` where there is no room and memory is refused, and nothing has changed.
+    pub fn make_room(&mut self) -> Result<(), Refusal>
         ensures room { OnOk result (HasMoreRoom self.old self.new) }
         ensures full { OnErr result (self.old.room ≡ false) }
         ensures refused { IsOkUnless result Refusal.NoMemory }
