@@ -1,6 +1,7 @@
 /* Each growth is refused in turn, by a malloc and a realloc that count: then the call is refused by IOVA_NO_MEMORY or does without,
  * no frame is lost, the same call succeeds once there is memory, and at the end nothing is left. */
 #include "iova.h"
+#include "iova_shared.h"
 #include "refusing.h"
 
 #include <inttypes.h>
@@ -79,8 +80,9 @@ static int is_whole(iova_domain *domain, iova_cache *cache, uint64_t client) {
 }
 
 /* The calls of a cache that may be refused memory, and how often each was. */
-enum { MAKE, REFILL, ALLOC, MAP, ALLOC_BY, APART, MAKE_ROOM, KEEP, CALLS };
-static const char *const names[CALLS] = {"make", "refill", "alloc", "map", "alloc_by", "apart", "make_room", "keep"};
+enum { MAKE, REFILL, ALLOC, MAP, ALLOC_BY, APART, MAKE_ROOM, KEEP, SHARED_OPEN, SHARED_ALLOC, SHARED_MAP, CALLS };
+static const char *const names[CALLS] = {"make", "refill", "alloc", "map", "alloc_by", "apart",
+                                    "make_room", "keep", "open of a thread", "alloc of a thread", "map of a thread"};
 static long refused_of[CALLS];
 
 #define AGAIN_OF(which, answer, call)                                                                                          \
@@ -183,6 +185,56 @@ static int run_apart(int by) {
     return 0;
 }
 
+static int ends_well(void *with) { return with != NULL; }
+
+/* A thread's cache of a shared domain, whose user takes ranges by one of its calls and gives all of them up. */
+static int run_shared(iova_domain *domain, int by) {
+    enum { HELD = 300 };
+    static iova_shared shared;
+    static iova_shared_cache cache;
+    uint64_t held[HELD], clients = iova_counts_of(domain).clients, refused;
+    iova_range range;
+    iova_mapping mapping;
+    iova_shared_counts counts;
+    if (iova_shared_init(&shared, domain, ends_well, domain))
+        return fails("shared_init", 0);
+    refused = iova_shared_open(&cache, &shared, 0, 0);
+    if (refused == IOVA_NO_MEMORY) {
+        refusals++;
+        refused_of[SHARED_OPEN]++;
+        if (shared.caches || iova_counts_of(domain).clients != clients)
+            return fails("a thread's cache that wasn't opened", clients);
+        refused = iova_shared_open(&cache, &shared, 0, 0);
+    }
+    if (refused || shared.caches != &cache || iova_counts_of(domain).clients != clients + 1)
+        return fails("shared_open", refused);
+    for (int at = 0; at < HELD; at++) {
+        uint64_t frames = at % 10 ? 1u << at % 4 : 33;
+        if (by == SHARED_ALLOC) {
+            AGAIN_OF(SHARED_ALLOC, range, iova_shared_alloc(&cache, frames, IOVA_NO_LIMIT));
+            held[at] = range.lo;
+        } else {
+            AGAIN_OF(SHARED_MAP, mapping, iova_shared_map(&cache, 4096 * frames, UINT64_MAX));
+            held[at] = mapping.address / 4096;
+        }
+        counts = iova_shared_counts_of(&cache);
+        if (counts.held != (uint64_t)at + 1 || !is_whole(domain, &cache.cache, cache.client))
+            return fails("ranges of a thread that are lost", (uint64_t)at);
+    }
+    for (int at = 0; at < HELD; at++) {
+        range = iova_shared_unmap(&cache, held[at]);
+        if (range.refused || range.lo != held[at] || !is_whole(domain, &cache.cache, cache.client))
+            return fails("shared_unmap", range.refused);
+    }
+    if (iova_shared_flush(&shared) || iova_shared_give_back(&cache) || !is_whole(domain, &cache.cache, cache.client))
+        return fails("shared_give_back", 0);
+    refused = iova_shared_close(&cache);
+    if (refused || shared.caches || iova_counts_of(domain).clients != clients)
+        return fails("shared_close", refused);
+    iova_shared_clear(&shared);
+    return 0;
+}
+
 int main(void) {
     for (refuse_at = 1;; refuse_at++) {
         growths = 0;
@@ -190,7 +242,7 @@ int main(void) {
         if (domain == NULL)
             continue;
         int failed = run(domain) || run_cache(domain, ALLOC) || run_cache(domain, MAP) || run_cache(domain, ALLOC_BY) || run_apart(MAKE_ROOM) ||
-                     run_apart(KEEP);
+                     run_apart(KEEP) || run_shared(domain, SHARED_ALLOC) || run_shared(domain, SHARED_MAP);
         iova_domain_free(domain);
         if (failed)
             return 1;

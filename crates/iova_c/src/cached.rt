@@ -1,8 +1,8 @@
 //! A place for one cache, and the calls of a cache that need no domain, in numbers.
-ghost use Rattle.std.specs.Prelude.{◌≡◌, None};
+ghost use Rattle.std.specs.Prelude.{◌≡◌, None, IfSome, IfNone};
 ghost use Rattle.iova_c.specs.Answers.{unpacked};
 ghost use Rattle.iova_c.specs.Slots.{is_set};
-ghost use Rattle.iova_c.specs.Caches.{unmet_answer, kept_answer, some_answer, no_range, AllocCall, UnmapCall, SettleCall, PutCall, TakeCall, RoomCall, KeepCall, ReleaseCall, AnyCall, ApartCall, CountsCall};
+ghost use Rattle.iova_c.specs.Caches.{some_answer, no_range, a_range, AllocCall, UnmapCall, SettleCall, PutCall, TakeCall, RoomCall, KeepCall, ReleaseCall, AnyCall, ApartCall, CountsCall};
 
 use crate::answer::{CacheCountsAnswer, NumberAnswer, RangeAnswer, number_of, unpack};
 use crate::granule::{Granule, usual};
@@ -79,31 +79,6 @@ pub(crate) fn given(range: Range) -> RangeAnswer
     }
 }
 
-#[inline(always)]
-fn of_unmet(res: Result<Range, Unmet>) -> RangeAnswer
-    ensures { result ≡ unmet_answer res }
-{
-    match res {
-        Ok(range) => given(range),
-        Err(Unmet::NoOrder) => refused(NO_ORDER),
-        Err(Unmet::Miss) => refused(MISS),
-        Err(Unmet::Empty) => refused(DRY),
-        Err(Unmet::NoMemory) => refused(17),
-    }
-}
-
-#[inline(always)]
-fn of_kept(res: Result<Range, Kept>) -> RangeAnswer
-    ensures { result ≡ kept_answer res }
-{
-    match res {
-        Ok(range) => given(range),
-        Err(Kept::NotHeld) => refused(8),
-        Err(Kept::NoOrder) => refused(NO_ORDER),
-        Err(Kept::RingFull) => refused(7),
-    }
-}
-
 fn of_some(number: u64, res: Option<Range>) -> RangeAnswer
     ensures { result ≡ some_answer number res }
 {
@@ -113,20 +88,32 @@ fn of_some(number: u64, res: Option<Range>) -> RangeAnswer
     }
 }
 
-/// A range of the magazines, up to the limit. Where what the user holds has to grow, the work is
-/// out of line.
+/// A range of the magazines, where it takes the fewest instructions.
+#[inline(always)]
+fn alloc_at_once(slot: &mut CacheSlot, frames: u64, limit: u64) -> Option<Range>
+    ensures met { IfSome result (λ r. AllocCall slot.old.cache frames limit (a_range r)
+        slot.new.cache) }
+    ensures unchanged { IfNone result (slot.new ≡ slot.old) }
+{
+    match &mut slot.cache {
+        Some(cached) => cached.cache.alloc_at_once(frames, limit),
+        None => None,
+    }
+}
+
+/// A range of the magazines, up to the limit. What is seldom done is out of line.
+#[inline(always)]
 pub fn alloc(slot: &mut CacheSlot, frames: u64, limit: u64) -> RangeAnswer
     ensures { AllocCall slot.old.cache frames limit result slot.new.cache }
 {
-    match &mut slot.cache {
-        Some(cached) if cached.cache.has_room() => of_unmet(
-            cached.cache.alloc_in_room(frames, limit),
-        ),
-        _ => unpack(alloc_elsewhere(slot, frames, limit)),
+    match alloc_at_once(slot, frames, limit) {
+        Some(range) => given(range),
+        None => unpack(alloc_elsewhere(slot, frames, limit)),
     }
 }
 
 /// The same, answered in two registers.
+#[cold]
 #[inline(never)]
 fn alloc_elsewhere(slot: &mut CacheSlot, frames: u64, limit: u64) -> (u64, u64)
     ensures { AllocCall slot.old.cache frames limit (unpacked result) slot.new.cache }
@@ -143,13 +130,44 @@ fn alloc_elsewhere(slot: &mut CacheSlot, frames: u64, limit: u64) -> (u64, u64)
     }
 }
 
-/// What begins there is given up, with this count.
+/// What begins there is given up, where it takes the fewest instructions.
+#[inline(always)]
+fn unmap_at_once(slot: &mut CacheSlot, lo: u64, start: u64) -> Option<Range>
+    ensures given_up { IfSome result (λ r. UnmapCall slot.old.cache lo start (a_range r)
+        slot.new.cache) }
+    ensures unchanged { IfNone result (slot.new ≡ slot.old) }
+{
+    match &mut slot.cache {
+        Some(cached) => cached.cache.unmap_at_once(lo, start),
+        None => None,
+    }
+}
+
+/// What begins there is given up, with this count. What is seldom done is out of line.
+#[inline(always)]
 pub fn unmap(slot: &mut CacheSlot, lo: u64, start: u64) -> RangeAnswer
     ensures { UnmapCall slot.old.cache lo start result slot.new.cache }
 {
+    match unmap_at_once(slot, lo, start) {
+        Some(range) => given(range),
+        None => unpack(unmap_elsewhere(slot, lo, start)),
+    }
+}
+
+/// The same, answered in two registers.
+#[cold]
+#[inline(never)]
+fn unmap_elsewhere(slot: &mut CacheSlot, lo: u64, start: u64) -> (u64, u64)
+    ensures { UnmapCall slot.old.cache lo start (unpacked result) slot.new.cache }
+{
     match &mut slot.cache {
-        Some(cached) => of_kept(cached.cache.unmap(lo, start)),
-        None => refused(NO_CACHE),
+        Some(cached) => match cached.cache.unmap(lo, start) {
+            Ok(range) => (range.lo(), range.len()),
+            Err(Kept::NotHeld) => (8, 0),
+            Err(Kept::NoOrder) => (NO_ORDER, 0),
+            Err(Kept::RingFull) => (7, 0),
+        },
+        None => (NO_CACHE, 0),
     }
 }
 

@@ -1,5 +1,5 @@
 -- The magazines, as a range comes and goes.
-use Rattle.std.proofs.Common.{◌≡◌, ◌+◌, ◌^◌, ◌<◌, ℕ, zero, suc, List, [], ◌∷◌, ◌++◌, length, get_or, set, replicate, subst, refl, sym, ap, ◌∙◌, arith, length-append}
+use Rattle.std.proofs.Common.{◌≡◌, ◌+◌, ◌^◌, ◌<◌, ◌≤◌, ℕ, zero, suc, List, [], ◌∷◌, ◌++◌, length, get_or, set, replicate, subst, refl, sym, ap, ◌∙◌, arith, length-append}
 use Rattle.std.specs.List.{AllByRecursion}
 use Rattle.std.proofs.lemmas.List.{get_or_default, length-set}
 use Rattle.std.specs.Prelude.{Result, Ok, Err, OnErr, ◌≢◌}
@@ -108,3 +108,14 @@ never_refused P (Err Miss) ms now order last f same kind miss empty =
     absurd (omega (arith, below, m.above))
 never_refused P (Err Empty) ms now order last f same kind miss empty =
     let none = rw same at empty refl in absurd (some_newest (magazine_of ms order) f.range f.newest none)
+
+pub newest_of : (m : List Frames) → 1 ≤ length m → (r : Frames) × IsNewest r m
+newest_of [] some = absurd (omega arith)
+newest_of (x ∷ []) some = (x, record { rest = []; is = refl })
+newest_of (x ∷ (y ∷ ys)) some = let n = newest_of (y ∷ ys) (omega arith) in (n.0, record { rest = x ∷ n.1.rest; is = ap (λ l. x ∷ l) n.1.is })
+
+pub not_none : (m : List Frames) (r : Frames) → IsNewest r m → 1 ≤ length m
+not_none m r n = let long = ap length n.is in let more = length-append n.rest (r ∷ []) in omega (arith, long, more)
+
+pub newest_size : (ms : List (List Frames)) (order : ℕ) (m : List Frames) (r : Frames) → AreMagazines ms → order < 6 → m ≡ get_or ms order m → IsNewest r m → r.len ≡ 2 ^ order
+newest_size ms order m r a lt is n = sized_last (2 ^ order) n.rest r (rw n.is at (magazine_at ms order m a lt is))

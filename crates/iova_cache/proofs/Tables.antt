@@ -1,80 +1,247 @@
 -- The buckets of a table: where a range is found, and what a range more and one less make of them.
-use Rattle.std.proofs.Common.{◌≡◌, ◌≢◌, ◌+◌, ◌-◌, ◌<◌, ◌≤◌, ◌==◌, ◌^◌, ℕ, zero, suc, Bool, true, false, cond, not, List, [], ◌∷◌, ◌++◌, length, get_or, find, Option, Some, None, IfSome, IfNone, refl, sym, ap, ◌∙◌, arith, sum_by, set, replicate, take, append_assoc, append-nil, length-append}
-use Rattle.std.specs.Option.{option_or}
+use Rattle.std.proofs.Common.{◌≡◌, ◌≢◌, ◌+◌, ◌-◌, ◌*◌, ◌<◌, ◌≤◌, ◌==◌, ◌^◌, ℕ, zero, suc, Bool, true, false, cond, List, [], ◌∷◌, ◌++◌, length, get_or, find, Option, Some, None, IfSome, IfNone, refl, sym, ap, ◌∙◌, arith, sum_by, set, replicate, take, drop, append_assoc, append-nil, length-append}
+use Rattle.std.specs.Prelude.{nat_lt}
+use Rattle.std.specs.Option.{option_or, is_some}
 use Rattle.std.proofs.Math.Pow.{pow_mono}
-use Rattle.std.proofs.lemmas.List.{take_more}
-use Rattle.std.specs.Prelude.{Result, Ok, Err, IfOk, OnErr, slice_get}
-use Rattle.iova_cache.specs.declared.cache.Kept.{Kept}
-use Rattle.std.proofs.lemmas.Bool.Decides.{nat_tests}
-use Rattle.std.proofs.lemmas.List.{length-set, set-get_or, length-replicate}
+use Rattle.std.proofs.lemmas.Nat.{pow-add}
+use Rattle.std.proofs.lemmas.List.{take_all, take_more, drop_more, get_or-drop, get_or-take, length-take-le, length-drop, get_or-set_same, get_or-set_other, get_or_default, length-set, length-replicate, get_or-replicate}
 use Rattle.std.proofs.lemmas.List.Sums.{sum_by-append, sum_by-cons, sum_by-set}
 use Rattle.std.proofs.lemmas.List.Folds.{find-append}
+use Rattle.std.proofs.lemmas.Bool.Decides.{nat_tests}
 use Rattle.iova_range.specs.Frames.{Frames}
 use Rattle.iova_model.specs.Clients.{begins_at}
-use Rattle.iova_cache.specs.Held.{Gains, all_ranges, home_of, strays, AreHome, AreRoomy, IsTable}
+use Rattle.iova_cache.specs.Held.{Held, Gains, all_ranges, home_of, onward, around, all_onward, all_around, in_order, of_home, stray_at, AreStrays, IsTable}
 
--- one range of a bucket counts, where it has another home
-abbrev pub away : (ℕ → ℕ) → ℕ → Frames → ℕ
-away home place r = cond (home r.lo == place) 0 1
+-- Whatever ranges weigh, their order doesn't matter.
 
--- Where a range is.
-
-none_strays : (home : ℕ → ℕ) (lo place : ℕ) (b : List Frames) → home lo ≢ place → strays home place b ≡ 0 → find (begins_at lo) b ≡ None
-none_strays home lo place [] ne h = refl
-none_strays home lo place (r ∷ rs) ne h =
-    let all = sum_by-cons (away home place) r rs in
-    let zero_here : away home place r ≡ 0 = omega (arith, all, h) in
-    let rest : strays home place rs ≡ 0 = omega (arith, all, h) in
-    step (r.lo == lo) refl (home r.lo == place) refl zero_here (none_strays home lo place rs ne rest)
+split : (weigh : Frames → ℕ) (home : ℕ → ℕ) (place : ℕ) (rs : List Frames) → sum_by weigh (onward home place rs) + sum_by weigh (around home place rs) ≡ sum_by weigh rs
+split weigh home place [] = refl
+split weigh home place (r ∷ rs) = step (nat_lt place (home r.lo)) (split weigh home place rs)
   where
-    step : (b : Bool) → (r.lo == lo) ≡ b → (c : Bool) → (home r.lo == place) ≡ c → cond {A = ℕ} c 0 1 ≡ 0 → find (begins_at lo) rs ≡ None → cond b (Some r) (find (begins_at lo) rs) ≡ None
-    step true is true at zero_here ih =
-        let same : r.lo ≡ lo = grind (arith, nat_tests) in
-        let own : home r.lo ≡ place = grind (arith, nat_tests) in
-        absurd (ne (sym (ap home same) ∙ own))
-    step true is false at zero_here ih = absurd (omega arith)
-    step false is c at zero_here ih = ih
+    step : (b : Bool) → sum_by weigh (onward home place rs) + sum_by weigh (around home place rs) ≡ sum_by weigh rs → sum_by weigh (cond b (onward home place rs) (r ∷ onward home place rs)) + sum_by weigh (cond b (r ∷ around home place rs) (around home place rs)) ≡ sum_by weigh (r ∷ rs)
+    step true ih = omega (arith, ih, sum_by-cons weigh r rs, sum_by-cons weigh r (around home place rs))
+    step false ih = omega (arith, ih, sum_by-cons weigh r rs, sum_by-cons weigh r (onward home place rs))
 
-none_behind : (home : ℕ → ℕ) (lo place : ℕ) (bs : List (List Frames)) → home lo < place → AreHome home place bs → find (begins_at lo) (all_ranges bs) ≡ None
-none_behind home lo place [] lt h = refl
-none_behind home lo place (b ∷ bs) lt h =
-    let ne : home lo ≢ place = omega arith in
-    rw (find-append (begins_at lo) b (all_ranges bs), none_strays home lo place b ne h.0) (none_behind home lo (place + 1) bs (omega arith) h.1)
+split_all : (weigh : Frames → ℕ) (home : ℕ → ℕ) (place : ℕ) (bs : List (List Frames)) → sum_by weigh (all_onward home place bs) + sum_by weigh (all_around home place bs) ≡ sum_by weigh (all_ranges bs)
+split_all weigh home place [] = refl
+split_all weigh home place (b ∷ bs) =
+    omega (arith, split weigh home place b, split_all weigh home (place + 1) bs, sum_by-append weigh b (all_ranges bs), sum_by-append weigh (onward home place b) (all_onward home (place + 1) bs), sum_by-append weigh (around home place b) (all_around home (place + 1) bs))
+
+pub sum_in_order : (weigh : Frames → ℕ) (home : ℕ → ℕ) (bs : List (List Frames)) → sum_by weigh (in_order home bs) ≡ sum_by weigh (all_ranges bs)
+sum_in_order weigh home bs = sum_by-append weigh (all_onward home 0 bs) (all_around home 0 bs) ∙ split_all weigh home 0 bs
+
+-- as many as each weighs one
+pub ones : (rs : List Frames) → sum_by (λ r. 1) rs ≡ length rs
+ones [] = refl
+ones (r ∷ rs) = omega (arith, ones rs, sum_by-cons (λ (r : Frames). 1) r rs)
+
+pub length_in_order : (home : ℕ → ℕ) (bs : List (List Frames)) → length (in_order home bs) ≡ length (all_ranges bs)
+length_in_order home bs = sym (ones (in_order home bs)) ∙ (sum_in_order (λ r. 1) home bs ∙ ones (all_ranges bs))
+
+pub length_same : (rs ts : List Frames) → ((weigh : Frames → ℕ) → sum_by weigh ts ≡ sum_by weigh rs) → length ts ≡ length rs
+length_same rs ts same = sym (ones ts) ∙ (same (λ r. 1) ∙ ones rs)
+
+pub length_gains : (r : Frames) (rs ts : List Frames) → Gains r rs ts → length ts ≡ 1 + length rs
+length_gains r rs ts g = sym (ones ts) ∙ (g (λ r. 1) ∙ ap (λ n. 1 + n) (ones rs))
+
+-- Where a range is looked for.
 
 or_none : (o : Option Frames) → option_or o None ≡ o
 or_none None = refl
 or_none (Some r) = refl
 
-pub find_at_home : (home : ℕ → ℕ) (lo place k : ℕ) (bs : List (List Frames)) (d : List Frames) → place + k ≡ home lo → k < length bs → AreHome home place bs
-    → find (begins_at lo) (all_ranges bs) ≡ find (begins_at lo) (get_or bs k d)
-find_at_home home lo place k [] d at lt h = absurd (omega arith)
-find_at_home home lo place zero (b ∷ bs) d at lt h =
-    rw (find-append (begins_at lo) b (all_ranges bs), none_behind home lo (place + 1) bs (omega arith) h.1) (or_none (find (begins_at lo) b))
-find_at_home home lo place (suc k) (b ∷ bs) d at lt h =
-    let ne : home lo ≢ place = omega arith in
-    rw (find-append (begins_at lo) b (all_ranges bs), none_strays home lo place b ne h.0) (find_at_home home lo (place + 1) k bs d (omega arith) (omega arith) h.1)
+found_onward : (home : ℕ → ℕ) (lo place : ℕ) (rs : List Frames) → home lo ≤ place → find (begins_at lo) (onward home place rs) ≡ find (begins_at lo) rs
+found_onward home lo place [] le = refl
+found_onward home lo place (r ∷ rs) le = step (nat_lt place (home r.lo)) refl (r.lo == lo) refl (found_onward home lo place rs le)
+  where
+    step : (b : Bool) → nat_lt place (home r.lo) ≡ b → (c : Bool) → (r.lo == lo) ≡ c → find (begins_at lo) (onward home place rs) ≡ find (begins_at lo) rs
+        → find (begins_at lo) (cond b (onward home place rs) (r ∷ onward home place rs)) ≡ cond c (Some r) (find (begins_at lo) rs)
+    step true far true is ih =
+        let same : home r.lo ≡ home lo = ap home (let e : r.lo ≡ lo = grind (arith, nat_tests) in e) in
+        let lt : place < home r.lo = grind (arith, nat_tests) in
+        absurd (omega arith)
+    step true far false is ih = ih
+    step false near c is ih = rw is (ap (λ o. cond c (Some r) o) ih)
 
--- One bucket for another.
+none_onward : (home : ℕ → ℕ) (lo place : ℕ) (rs : List Frames) → place < home lo → find (begins_at lo) (onward home place rs) ≡ None
+none_onward home lo place [] lt = refl
+none_onward home lo place (r ∷ rs) lt = step (nat_lt place (home r.lo)) refl (r.lo == lo) refl (none_onward home lo place rs lt)
+  where
+    step : (b : Bool) → nat_lt place (home r.lo) ≡ b → (c : Bool) → (r.lo == lo) ≡ c → find (begins_at lo) (onward home place rs) ≡ None → find (begins_at lo) (cond b (onward home place rs) (r ∷ onward home place rs)) ≡ None
+    step true far c is ih = ih
+    step false near true is ih =
+        let same : home r.lo ≡ home lo = ap home (let e : r.lo ≡ lo = grind (arith, nat_tests) in e) in
+        let le : home r.lo ≤ place = grind (arith, nat_tests) in
+        absurd (omega arith)
+    step false near false is ih = rw is ih
 
-AreHome-get : (home : ℕ → ℕ) (place k : ℕ) (bs : List (List Frames)) (d : List Frames) → k < length bs → AreHome home place bs → strays home (place + k) (get_or bs k d) ≡ 0
-AreHome-get home place k [] d lt h = absurd (omega arith)
-AreHome-get home place zero (b ∷ bs) d lt h = let e : place + 0 ≡ place = omega arith in rw e h.0
-AreHome-get home place (suc k) (b ∷ bs) d lt h = let e : place + suc k ≡ (place + 1) + k = omega arith in rw e (AreHome-get home (place + 1) k bs d (omega arith) h.1)
+found_around : (home : ℕ → ℕ) (lo place : ℕ) (rs : List Frames) → place < home lo → find (begins_at lo) (around home place rs) ≡ find (begins_at lo) rs
+found_around home lo place [] lt = refl
+found_around home lo place (r ∷ rs) lt = step (nat_lt place (home r.lo)) refl (r.lo == lo) refl (found_around home lo place rs lt)
+  where
+    step : (b : Bool) → nat_lt place (home r.lo) ≡ b → (c : Bool) → (r.lo == lo) ≡ c → find (begins_at lo) (around home place rs) ≡ find (begins_at lo) rs
+        → find (begins_at lo) (cond b (r ∷ around home place rs) (around home place rs)) ≡ cond c (Some r) (find (begins_at lo) rs)
+    step false near true is ih =
+        let same : home r.lo ≡ home lo = ap home (let e : r.lo ≡ lo = grind (arith, nat_tests) in e) in
+        let le : home r.lo ≤ place = grind (arith, nat_tests) in
+        absurd (omega arith)
+    step false near false is ih = ih
+    step true far c is ih = rw is (ap (λ o. cond c (Some r) o) ih)
 
-AreHome-set : (home : ℕ → ℕ) (place k : ℕ) (bs : List (List Frames)) (b : List Frames) → AreHome home place bs → strays home (place + k) b ≡ 0 → AreHome home place (set bs k b)
-AreHome-set home place k [] b h s = tt
-AreHome-set home place zero (x ∷ bs) b h s = let e : place + 0 ≡ place = omega arith in (rw e at s, h.1)
-AreHome-set home place (suc k) (x ∷ bs) b h s = let e : place + suc k ≡ (place + 1) + k = omega arith in (h.0, AreHome-set home (place + 1) k bs b h.1 (rw e at s))
+none_around : (home : ℕ → ℕ) (lo place : ℕ) (rs : List Frames) → home lo ≤ place → find (begins_at lo) (around home place rs) ≡ None
+none_around home lo place [] le = refl
+none_around home lo place (r ∷ rs) le = step (nat_lt place (home r.lo)) refl (r.lo == lo) refl (none_around home lo place rs le)
+  where
+    step : (b : Bool) → nat_lt place (home r.lo) ≡ b → (c : Bool) → (r.lo == lo) ≡ c → find (begins_at lo) (around home place rs) ≡ None → find (begins_at lo) (cond b (r ∷ around home place rs) (around home place rs)) ≡ None
+    step false near c is ih = ih
+    step true far true is ih =
+        let same : home r.lo ≡ home lo = ap home (let e : r.lo ≡ lo = grind (arith, nat_tests) in e) in
+        let lt : place < home r.lo = grind (arith, nat_tests) in
+        absurd (omega arith)
+    step true far false is ih = rw is ih
 
-AreRoomy-get : (bs : List (List Frames)) (k : ℕ) (d : List Frames) → k < length bs → AreRoomy bs → length (get_or bs k d) < 7
-AreRoomy-get [] k d lt h = absurd (omega arith)
-AreRoomy-get (b ∷ bs) zero d lt h = h.0
-AreRoomy-get (b ∷ bs) (suc k) d lt h = AreRoomy-get bs k d (omega arith) h.1
+onward_from : (home : ℕ → ℕ) (lo place : ℕ) (bs : List (List Frames)) → home lo ≤ place → find (begins_at lo) (all_onward home place bs) ≡ find (begins_at lo) (all_ranges bs)
+onward_from home lo place [] le = refl
+onward_from home lo place (b ∷ bs) le =
+    rw (find-append (begins_at lo) (onward home place b) (all_onward home (place + 1) bs), find-append (begins_at lo) b (all_ranges bs), found_onward home lo place b le, onward_from home lo (place + 1) bs (omega arith)) refl
 
-AreRoomy-set : (bs : List (List Frames)) (k : ℕ) (b : List Frames) → AreRoomy bs → length b < 7 → AreRoomy (set bs k b)
-AreRoomy-set [] k b h lt = tt
-AreRoomy-set (x ∷ bs) zero b h lt = (lt, h.1)
-AreRoomy-set (x ∷ bs) (suc k) b h lt = (h.0, AreRoomy-set bs k b h.1 lt)
+around_from : (home : ℕ → ℕ) (lo place : ℕ) (bs : List (List Frames)) → home lo ≤ place → find (begins_at lo) (all_around home place bs) ≡ None
+around_from home lo place [] le = refl
+around_from home lo place (b ∷ bs) le =
+    rw (find-append (begins_at lo) (around home place b) (all_around home (place + 1) bs), none_around home lo place b le) (around_from home lo (place + 1) bs (omega arith))
+
+onward_all : (home : ℕ → ℕ) (lo place k : ℕ) (bs : List (List Frames)) → place + k ≡ home lo → find (begins_at lo) (all_onward home place bs) ≡ find (begins_at lo) (all_ranges (drop k bs))
+onward_all home lo place zero bs at = onward_from home lo place bs (omega arith)
+onward_all home lo place (suc k) [] at = refl
+onward_all home lo place (suc k) (b ∷ bs) at =
+    rw (find-append (begins_at lo) (onward home place b) (all_onward home (place + 1) bs), none_onward home lo place b (omega arith)) (onward_all home lo (place + 1) k bs (omega arith))
+
+around_all : (home : ℕ → ℕ) (lo place k : ℕ) (bs : List (List Frames)) → place + k ≡ home lo → find (begins_at lo) (all_around home place bs) ≡ find (begins_at lo) (all_ranges (take k bs))
+around_all home lo place zero bs at = around_from home lo place bs (omega arith)
+around_all home lo place (suc k) [] at = refl
+around_all home lo place (suc k) (b ∷ bs) at =
+    rw (find-append (begins_at lo) (around home place b) (all_around home (place + 1) bs), find-append (begins_at lo) b (all_ranges (take k bs)), found_around home lo place b (omega arith), around_all home lo (place + 1) k bs (omega arith)) refl
+
+-- what is looked for from a home on
+abbrev pub sought : ℕ → ℕ → List (List Frames) → Option Frames
+sought lo k bs = option_or (find (begins_at lo) (all_ranges (drop k bs))) (find (begins_at lo) (all_ranges (take k bs)))
+
+pub find_in_order : (home : ℕ → ℕ) (lo k : ℕ) (bs : List (List Frames)) → k ≡ home lo → find (begins_at lo) (in_order home bs) ≡ sought lo k bs
+find_in_order home lo k bs at =
+    rw (find-append (begins_at lo) (all_onward home 0 bs) (all_around home 0 bs), onward_all home lo 0 k bs (omega (arith, at)), around_all home lo 0 k bs (omega (arith, at))) refl
+
+-- The home alone, where it has no strays.
+
+none_of_home : (home : ℕ → ℕ) (lo place : ℕ) (rs : List Frames) → place ≡ home lo → of_home home place rs ≡ 0 → find (begins_at lo) rs ≡ None
+none_of_home home lo place [] at none = refl
+none_of_home home lo place (r ∷ rs) at none =
+    let all = sum_by-cons (λ (r : Frames). cond (home r.lo == place) 1 0) r rs in
+    let here : cond {A = ℕ} (home r.lo == place) 1 0 ≡ 0 = omega (arith, all, none) in
+    let rest : of_home home place rs ≡ 0 = omega (arith, all, none) in
+    step (r.lo == lo) refl (home r.lo == place) refl here (none_of_home home lo place rs at rest)
+  where
+    step : (b : Bool) → (r.lo == lo) ≡ b → (c : Bool) → (home r.lo == place) ≡ c → cond {A = ℕ} c 1 0 ≡ 0 → find (begins_at lo) rs ≡ None → cond b (Some r) (find (begins_at lo) rs) ≡ None
+    step true is true own here ih = absurd (omega arith)
+    step true is false own here ih =
+        let same : r.lo ≡ lo = grind (arith, nat_tests) in
+        let other : home r.lo ≢ place = grind (arith, nat_tests) in
+        absurd (other (ap home same ∙ sym at))
+    step false is c own here ih = ih
+
+one_of_home : (home : ℕ → ℕ) (lo place : ℕ) (rs : List Frames) → place ≡ home lo → find (begins_at lo) rs ≢ None → 1 ≤ of_home home place rs
+one_of_home home lo place rs at some = step (of_home home place rs) refl
+  where
+    step : (n : ℕ) → of_home home place rs ≡ n → 1 ≤ n
+    step zero is = absurd (some (none_of_home home lo place rs at is))
+    step (suc n) is = omega arith
+
+parts : (weigh : Frames → ℕ) (bs : List (List Frames)) (k : ℕ) → k < length bs
+    → sum_by weigh (all_ranges bs) ≡ sum_by weigh (all_ranges (take k bs)) + (sum_by weigh (get_or bs k []) + sum_by weigh (all_ranges (drop (k + 1) bs)))
+parts weigh [] k lt = absurd (omega arith)
+parts weigh (b ∷ bs) zero lt = omega (arith, sum_by-append weigh b (all_ranges bs))
+parts weigh (b ∷ bs) (suc k) lt =
+    let e : suc k + 1 ≡ suc (k + 1) = omega arith in
+    let all : sum_by weigh (b ++ all_ranges bs) ≡ sum_by weigh (b ++ all_ranges (take k bs)) + (sum_by weigh (get_or bs k []) + sum_by weigh (all_ranges (drop (k + 1) bs)))
+    = omega (arith, parts weigh bs k (omega arith), sum_by-append weigh b (all_ranges bs), sum_by-append weigh b (all_ranges (take k bs))) in
+    rw e all
+
+pub alone : (home : ℕ → ℕ) (lo k : ℕ) (bs : List (List Frames)) (strays : List ℕ) → k ≡ home lo → k < length bs → AreStrays home bs strays → get_or strays k 0 ≡ 0
+    → sought lo k bs ≡ find (begins_at lo) (get_or bs k [])
+alone home lo k bs strays at lt away none =
+    let weigh : Frames → ℕ = λ r. cond (home r.lo == k) 1 0 in
+    let all = parts weigh bs k lt in
+    let own = away k lt in
+    let before : of_home home k (all_ranges (take k bs)) ≡ 0 = omega (arith, all, own, none) in
+    let behind : of_home home k (all_ranges (drop (k + 1) bs)) ≡ 0 = omega (arith, all, own, none) in
+    rw (drop_more bs k [] lt, find-append (begins_at lo) (get_or bs k []) (all_ranges (drop (k + 1) bs)), none_of_home home lo k (all_ranges (take k bs)) at before, none_of_home home lo k (all_ranges (drop (k + 1) bs)) at behind, or_none (find (begins_at lo) (get_or bs k [])))
+    (or_none (find (begins_at lo) (get_or bs k [])))
+
+-- what is found begins there
+pub found_begins : (lo : ℕ) (rs : List Frames) (r : Frames) → find (begins_at lo) rs ≡ Some r → r.lo ≡ lo
+found_begins lo [] r is = absurd (let bad : None ≡ Some r = is in cc)
+found_begins lo (x ∷ rs) r is = step (x.lo == lo) refl (found_begins lo rs r) is
+  where
+    step : (b : Bool) → (x.lo == lo) ≡ b → (find (begins_at lo) rs ≡ Some r → r.lo ≡ lo) → cond b (Some x) (find (begins_at lo) rs) ≡ Some r → r.lo ≡ lo
+    step true own ih is =
+        let e : x.lo ≡ lo = grind (arith, nat_tests) in
+        let same : x ≡ r = cc in
+        ap (λ (r : Frames). r.lo) (sym same) ∙ e
+    step false other ih is = ih is
+
+-- A search over buckets.
+
+pub bucket_at : (bs : List (List Frames)) (k : ℕ) (b : List Frames) → k < length bs → b ≡ get_or bs k b → get_or bs k [] ≡ b
+bucket_at bs k b lt is = get_or_default bs k [] b lt ∙ sym is
+
+-- one bucket more
+joined : (xs : List (List Frames)) (b : List Frames) → all_ranges (xs ++ b ∷ []) ≡ all_ranges xs ++ b
+joined [] b = append-nil b
+joined (x ∷ xs) b = ap (λ l. x ++ l) (joined xs b) ∙ sym (append_assoc x (all_ranges xs) b)
+
+pub not_some : (o : Option Frames) (b : Bool) → b ≡ is_some o → b ≡ false → o ≡ None
+not_some None b is other = refl
+not_some (Some r) b is other = absurd (let bad : true ≡ false = sym is ∙ other in cc)
+
+some_or : (o p : Option Frames) → o ≢ None → option_or o p ≡ o
+some_or None p some = absurd (some refl)
+some_or (Some r) p some = refl
+
+-- the first bucket that has it
+pub found_first : (lo k : ℕ) (bs : List (List Frames)) → k < length bs → find (begins_at lo) (all_ranges (take k bs)) ≡ None → find (begins_at lo) (get_or bs k []) ≢ None
+    → find (begins_at lo) (all_ranges bs) ≡ find (begins_at lo) (get_or bs k [])
+found_first lo k [] lt before some = absurd (omega arith)
+found_first lo zero (b ∷ bs) lt before some = find-append (begins_at lo) b (all_ranges bs) ∙ some_or (find (begins_at lo) b) (find (begins_at lo) (all_ranges bs)) some
+found_first lo (suc k) (b ∷ bs) lt before some =
+    let both = rw (find-append (begins_at lo) b (all_ranges (take k bs))) at before in
+    let rest = or_both (find (begins_at lo) b) (find (begins_at lo) (all_ranges (take k bs))) both in
+    rw (find-append (begins_at lo) b (all_ranges bs), rest.0) (found_first lo k bs (omega arith) rest.1 some)
+  where
+    or_both : (o p : Option Frames) → option_or o p ≡ None → (o ≡ None) × (p ≡ None)
+    or_both None p none = (refl, none)
+    or_both (Some r) p none = absurd (let bad : Some r ≡ None = none in cc)
+
+pub none_so_far : (lo k : ℕ) (bs : List (List Frames)) → k < length bs → find (begins_at lo) (all_ranges (take k bs)) ≡ None → find (begins_at lo) (get_or bs k []) ≡ None
+    → find (begins_at lo) (all_ranges (take (k + 1) bs)) ≡ None
+none_so_far lo k bs lt before none =
+    rw (take_more bs k [] lt, joined (take k bs) (get_or bs k []), find-append (begins_at lo) (all_ranges (take k bs)) (get_or bs k []), before) none
+
+pub sought_here : (lo k : ℕ) (bs : List (List Frames)) → k < length bs → find (begins_at lo) (get_or bs k []) ≢ None → sought lo k bs ≡ find (begins_at lo) (get_or bs k [])
+sought_here lo k bs lt some =
+    rw (drop_more bs k [] lt, find-append (begins_at lo) (get_or bs k []) (all_ranges (drop (k + 1) bs)), some_or (find (begins_at lo) (get_or bs k [])) (find (begins_at lo) (all_ranges (drop (k + 1) bs))) some)
+    (some_or (find (begins_at lo) (get_or bs k [])) (find (begins_at lo) (all_ranges (take k bs))) some)
+
+-- Rooms.
+
+pub full_more : (bs : List (List Frames)) (k : ℕ) → k < length bs → length (all_ranges (take k bs)) ≡ 7 * k → length (get_or bs k []) ≡ 7 → length (all_ranges (take (k + 1) bs)) ≡ 7 * (k + 1)
+full_more bs k lt before full =
+    rw (take_more bs k [] lt, joined (take k bs) (get_or bs k []), length-append (all_ranges (take k bs)) (get_or bs k [])) (omega (arith, before, full))
+
+pub all_parts : (k : ℕ) (bs : List (List Frames)) → length (all_ranges bs) ≡ length (all_ranges (take k bs)) + length (all_ranges (drop k bs))
+all_parts zero bs = omega arith
+all_parts (suc k) [] = refl
+all_parts (suc k) (b ∷ bs) = rw (length-append b (all_ranges bs), length-append b (all_ranges (take k bs))) (omega (arith, all_parts k bs))
+
+-- One range more or less in a bucket.
 
 pub sum_by-all : (weigh : Frames → ℕ) (bs : List (List Frames)) → sum_by weigh (all_ranges bs) ≡ sum_by (λ (b : List Frames). sum_by weigh b) bs
 sum_by-all weigh [] = refl
@@ -91,7 +258,7 @@ gains_in r bs k b b' lt is g weigh =
     let more : sum_by weigh b' ≡ weigh r + sum_by weigh b = g weigh in
     omega (arith, sum_by-all weigh bs, sum_by-all weigh (set bs k b'))
 
-gains_out : (r : Frames) (bs : List (List Frames)) (k : ℕ) (b b' : List Frames) → k < length bs → b ≡ get_or bs k b → Gains r b' b → Gains r (all_ranges (set bs k b')) (all_ranges bs)
+pub gains_out : (r : Frames) (bs : List (List Frames)) (k : ℕ) (b b' : List Frames) → k < length bs → b ≡ get_or bs k b → Gains r b' b → Gains r (all_ranges (set bs k b')) (all_ranges bs)
 gains_out r bs k b b' lt is g weigh =
     let f : List Frames → ℕ = λ b. sum_by weigh b in
     let all : sum_by f (set bs k b') + sum_by weigh (get_or bs k b) ≡ sum_by f bs + sum_by weigh b' = sum_by-set f bs k b' b lt in
@@ -105,122 +272,166 @@ gains_pushed r b weigh =
     let one = sum_by-cons weigh r [] in
     omega arith
 
--- A range more.
+pub gains_seen : (r : Frames) (home : ℕ → ℕ) (bs cs : List (List Frames)) → Gains r (all_ranges bs) (all_ranges cs) → Gains r (in_order home bs) (in_order home cs)
+gains_seen r home bs cs g weigh = omega (arith, g weigh, sum_in_order weigh home bs, sum_in_order weigh home cs)
 
-strays_pushed : (home : ℕ → ℕ) (place : ℕ) (r : Frames) (b : List Frames) → home r.lo ≡ place → strays home place b ≡ 0 → strays home place (b ++ r ∷ []) ≡ 0
-strays_pushed home place r b at none =
-    let own : (home r.lo == place) ≡ true = grind (arith, nat_tests) in
-    let all : strays home place (b ++ r ∷ []) ≡ away home place r + strays home place b = gains_pushed r b (away home place) in
-    let nothing : away home place r ≡ 0 = rw own refl in
-    omega (arith, all, none, nothing)
+pub stray_none : (h p : ℕ) → stray_at h h p ≡ 0
+stray_none h p = let own : (h == h) ≡ true = grind (arith, nat_tests) in rw own refl
 
-not_full : (full : Bool) → not full ≡ true → full ≡ false
-not_full true is = absurd (let bad : false ≡ true = is in cc)
-not_full false is = refl
+stray_own : (h k : ℕ) → stray_at h k k ≡ 0
+stray_own h k = step (k == h)
+  where
+    step : (b : Bool) → cond {A = ℕ} b 0 (cond b 1 0) ≡ 0
+    step true = refl
+    step false = refl
 
-pub room_at : (bs : List (List Frames)) (shift k : ℕ) (b : List Frames) → IsTable bs shift true → k < length bs → b ≡ get_or bs k b → length b < 7
-room_at bs shift k b s lt is = rw is (AreRoomy-get bs k b lt (s.roomy refl))
+stray_is : (home : ℕ → ℕ) (h k p : ℕ) (r : Frames) → h ≡ home r.lo → p ≢ k → stray_at h k p ≡ cond {A = ℕ} (home r.lo == p) 1 0
+stray_is home h k p r at ne = step (k == h) refl (p == h) refl (home r.lo == p) refl
+  where
+    step : (a : Bool) → (k == h) ≡ a → (b : Bool) → (p == h) ≡ b → (c : Bool) → (home r.lo == p) ≡ c → cond {A = ℕ} a 0 (cond b 1 0) ≡ cond c 1 0
+    step true is b at_p true own =
+        let e : home r.lo ≡ p = grind (arith, nat_tests) in
+        let f : k ≡ h = grind (arith, nat_tests) in
+        absurd (ne (sym e ∙ (sym at ∙ sym f)))
+    step true is b at_p false own = refl
+    step false is true at_p true own = refl
+    step false is true at_p false own =
+        let e : p ≡ h = grind (arith, nat_tests) in
+        let f : home r.lo ≢ p = grind (arith, nat_tests) in
+        absurd (f (sym at ∙ sym e))
+    step false is false at_p true own =
+        let e : home r.lo ≡ p = grind (arith, nat_tests) in
+        let f : p ≢ h = grind (arith, nat_tests) in
+        absurd (f (sym e ∙ sym at))
+    step false is false at_p false own = refl
 
-pub IsTable-pushed : (bs : List (List Frames)) (shift k : ℕ) (r : Frames) (b b' : List Frames) (full : Bool) → IsTable bs shift true → k < length bs → b ≡ get_or bs k b
-    → k ≡ home_of shift r.lo → b' ≡ b ++ r ∷ [] → (full ≡ false → length b' < 7) → IsTable (set bs k b') shift (not full)
-IsTable-pushed bs shift k r b b' full s lt is at pushed room =
-    let home : ℕ → ℕ = home_of shift in
-    let old : strays home (0 + k) b ≡ 0 = rw is (AreHome-get home 0 k bs b lt s.home) in
-    let own : home r.lo ≡ 0 + k = omega (arith, at) in
-    let new : strays home (0 + k) b' ≡ 0 = rw pushed (strays_pushed home (0 + k) r b own old) in
+strays_at : (home : ℕ → ℕ) (bs : List (List Frames)) (h k p : ℕ) (r : Frames) (b b' : List Frames) (s s' : ℕ) → h ≡ home r.lo → k < length bs → b ≡ get_or bs k b → Gains r b b' → s' ≡ s + stray_at h k p
+    → (s + of_home home p (get_or bs p []) ≡ of_home home p (all_ranges bs) → s' + of_home home p (get_or (set bs k b') p []) ≡ of_home home p (all_ranges (set bs k b')))
+    × (s' + of_home home p (get_or (set bs k b') p []) ≡ of_home home p (all_ranges (set bs k b')) → s + of_home home p (get_or bs p []) ≡ of_home home p (all_ranges bs))
+strays_at home bs h k p r b b' s s' at lt is g more = step (p == k) refl
+  where
+    weigh : Frames → ℕ
+    weigh x = cond (home x.lo == p) 1 0
+
+    step : (c : Bool) → (p == k) ≡ c
+        → (s + of_home home p (get_or bs p []) ≡ of_home home p (all_ranges bs) → s' + of_home home p (get_or (set bs k b') p []) ≡ of_home home p (all_ranges (set bs k b')))
+        × (s' + of_home home p (get_or (set bs k b') p []) ≡ of_home home p (all_ranges (set bs k b')) → s + of_home home p (get_or bs p []) ≡ of_home home p (all_ranges bs))
+    step true same =
+        let e : p ≡ k = grind (arith, nat_tests) in
+        let here : get_or bs p [] ≡ b = rw e (get_or_default bs k [] b lt ∙ sym is) in
+        let there : get_or (set bs k b') p [] ≡ b' = rw e (get_or-set_same bs k b' [] lt) in
+        let none : stray_at h k p ≡ 0 = rw e (stray_own h k) in
+        let all : of_home home p (all_ranges (set bs k b')) ≡ weigh r + of_home home p (all_ranges bs) = gains_in r bs k b b' lt is g weigh in
+        let one : of_home home p b' ≡ weigh r + of_home home p b = g weigh in
+        rw (here, there) (λ old. omega (arith, all, one, old, more, none), λ new. omega (arith, all, one, new, more, none))
+    step false other =
+        let f : p ≢ k = grind (arith, nat_tests) in
+        let there : get_or (set bs k b') p [] ≡ get_or bs p [] = get_or-set_other bs k p b' [] f in
+        let one : stray_at h k p ≡ weigh r = stray_is home h k p r at f in
+        let all : of_home home p (all_ranges (set bs k b')) ≡ weigh r + of_home home p (all_ranges bs) = gains_in r bs k b b' lt is g weigh in
+        rw there (λ old. omega (arith, all, old, more, one), λ new. omega (arith, all, new, more, one))
+
+pub IsTable-more : (bs : List (List Frames)) (s s' : List ℕ) (shift h k room room' : ℕ) (r : Frames) (b b' : List Frames) → IsTable bs s shift room → h ≡ home_of shift r.lo → k < length bs → b ≡ get_or bs k b → Gains r b b'
+    → length s' ≡ length s → room ≡ room' + 1 → ((p : ℕ) → get_or s' p 0 ≡ get_or s p 0 + stray_at h k p) → IsTable (set bs k b') s' shift room'
+IsTable-more bs s s' shift h k room room' r b b' t own lt is g long less more =
+    let same = length-set bs k b' in
     record {
-      shifts = s.shifts;
-      least = s.least;
-      count = length-set bs k b' ∙ s.count;
-      home = AreHome-set home 0 k bs b' s.home new;
-      roomy = λ roomy. AreRoomy-set bs k b' (s.roomy refl) (room (not_full full roomy));
+      shifts = t.shifts;
+      least = t.least;
+      count = same ∙ t.count;
+      slots = long ∙ (t.slots ∙ sym same);
+      away = λ p at. (strays_at (home_of shift) bs h k p r b b' (get_or s p 0) (get_or s' p 0) own lt is g (more p)).0 (t.away p (omega (arith, at, same)));
+      fills = omega (arith, t.fills, less, same, length_gains r (all_ranges bs) (all_ranges (set bs k b')) (gains_in r bs k b b' lt is g));
     }
 
--- One less.
+-- what was there before a range went
+back : (bs : List (List Frames)) (k : ℕ) (b b' : List Frames) → k < length bs → b ≡ get_or bs k b → set (set bs k b') k b ≡ bs
+back [] k b b' lt is = absurd (omega arith)
+back (x ∷ bs) zero b b' lt is = ap (λ y. y ∷ bs) is
+back (x ∷ bs) (suc k) b b' lt is = ap (λ l. x ∷ l) (back bs k b b' (omega arith) is)
 
-IsTable-less : (bs : List (List Frames)) (shift k : ℕ) (room : Bool) (b b' : List Frames) → IsTable bs shift room → k < length bs → b ≡ get_or bs k b
-    → (r : Frames) → Gains r b' b → length b' ≤ length b → IsTable (set bs k b') shift room
-IsTable-less bs shift k room b b' s lt is r g shorter =
-    let home : ℕ → ℕ = home_of shift in
-    let old : strays home (0 + k) b ≡ 0 = rw is (AreHome-get home 0 k bs b lt s.home) in
-    let all : strays home (0 + k) b ≡ away home (0 + k) r + strays home (0 + k) b' = g (away home (0 + k)) in
-    let new : strays home (0 + k) b' ≡ 0 = omega (arith, all, old) in
+pub IsTable-less : (bs : List (List Frames)) (s s' : List ℕ) (shift h k room room' : ℕ) (r : Frames) (b b' : List Frames) → IsTable bs s shift room → h ≡ home_of shift r.lo → k < length bs → b ≡ get_or bs k b → Gains r b' b
+    → length s' ≡ length s → room' ≡ room + 1 → ((p : ℕ) → get_or s p 0 ≡ get_or s' p 0 + stray_at h k p) → IsTable (set bs k b') s' shift room'
+IsTable-less bs s s' shift h k room room' r b b' t own lt is g long more less =
+    let same = length-set bs k b' in
+    let cs = set bs k b' in
+    let was : set cs k b ≡ bs = back bs k b b' lt is in
+    let there : b' ≡ get_or cs k b' = sym (get_or-set_same bs k b' b' lt) in
+    let within : k < length cs = omega (arith, same, lt) in
     record {
-      shifts = s.shifts;
-      least = s.least;
-      count = length-set bs k b' ∙ s.count;
-      home = AreHome-set home 0 k bs b' s.home new;
-      roomy = λ roomy. let few : length b < 7 = rw is (AreRoomy-get bs k b lt (s.roomy roomy)) in AreRoomy-set bs k b' (s.roomy roomy) (omega arith);
+      shifts = t.shifts;
+      least = t.least;
+      count = same ∙ t.count;
+      slots = long ∙ (t.slots ∙ sym same);
+      away = λ p at.
+          let old = t.away p (omega (arith, at, same)) in
+          (strays_at (home_of shift) cs h k p r b' b (get_or s' p 0) (get_or s p 0) own within there g (less p)).1 (rw was old);
+      fills = omega (arith, t.fills, more, same, length_gains r (all_ranges cs) (all_ranges bs) (gains_out r bs k b b' lt is g));
     }
 
-pub set_same : (bs : List (List Frames)) (k : ℕ) (b b' : List Frames) → b ≡ get_or bs k b → b' ≡ b → set bs k b' ≡ bs
-set_same bs k b b' is same = ap (λ x. set bs k x) (same ∙ is) ∙ set-get_or bs k b
+pub set_same : (bs : List (List Frames)) (k : ℕ) (b b' : List Frames) → k < length bs → b ≡ get_or bs k b → b' ≡ b → set bs k b' ≡ bs
+set_same [] k b b' lt is same = absurd (omega arith)
+set_same (x ∷ bs) zero b b' lt is same = ap (λ y. y ∷ bs) (same ∙ is)
+set_same (x ∷ bs) (suc k) b b' lt is same = ap (λ l. x ∷ l) (set_same bs k b b' (omega arith) is same)
 
-pub IsTable-taken : (o : Option Frames) (bs : List (List Frames)) (shift k : ℕ) (room : Bool) (b b' : List Frames) → IsTable bs shift room → k < length bs → b ≡ get_or bs k b
-    → IfSome o (λ r. Gains r b' b) → IfNone o (b' ≡ b) → length b' ≤ length b → IsTable (set bs k b') shift room
-IsTable-taken None bs shift k room b b' s lt is some none shorter = rw (set_same bs k b b' is none) s
-IsTable-taken (Some r) bs shift k room b b' s lt is some none shorter = IsTable-less bs shift k room b b' s lt is r some shorter
+-- one that is taken from where it was found
+pub IsTable-taken : (o : Option Frames) (bs : List (List Frames)) (s s' : List ℕ) (shift h k lo room room' : ℕ) (b b' : List Frames) → IsTable bs s shift room → h ≡ home_of shift lo → k < length bs → b ≡ get_or bs k b
+    → o ≡ find (begins_at lo) b → find (begins_at lo) (get_or bs k []) ≢ None → IfSome o (λ r. Gains r b' b)
+    → length s' ≡ length s → room' ≡ room + 1 → ((p : ℕ) → get_or s p 0 ≡ get_or s' p 0 + stray_at h k p) → IsTable (set bs k b') s' shift room'
+IsTable-taken None bs s s' shift h k lo room room' b b' t own lt is value some g long more less = absurd (some (rw (bucket_at bs k b lt is) (sym value)))
+IsTable-taken (Some r) bs s s' shift h k lo room room' b b' t own lt is value some g long more less =
+    let at : r.lo ≡ lo = found_begins lo b r (sym value) in
+    IsTable-less bs s s' shift h k room room' r b b' t (own ∙ ap (home_of shift) (sym at)) lt is g long more less
 
-pub gains_taken_out : (o : Option Frames) (bs : List (List Frames)) (k : ℕ) (b b' : List Frames) → k < length bs → b ≡ get_or bs k b
-    → IfSome o (λ r. Gains r b' b) → IfSome o (λ r. Gains r (all_ranges (set bs k b')) (all_ranges bs))
-gains_taken_out None bs k b b' lt is some = tt
-gains_taken_out (Some r) bs k b b' lt is some = gains_out r bs k b b' lt is some
-
-pub IsTable-kept : (res : Result Frames Kept) (bs : List (List Frames)) (shift k : ℕ) (room : Bool) (b b' : List Frames) → IsTable bs shift room → k < length bs → b ≡ get_or bs k b
-    → IfOk res (λ r. Gains r b' b) → OnErr res (b' ≡ b) → length b' ≤ length b → IsTable (set bs k b') shift room
-IsTable-kept (Err x) bs shift k room b b' s lt is some none shorter = rw (set_same bs k b b' is none) s
-IsTable-kept (Ok r) bs shift k room b b' s lt is some none shorter = IsTable-less bs shift k room b b' s lt is r some shorter
-
-pub cached_gains : (res : Result Frames Kept) (lo : ℕ) (b b' : List Frames) → IfOk res (λ r. (find (begins_at lo) b ≡ Some r) × Gains r b' b) → IfOk res (λ r. Gains r b' b)
-cached_gains (Err x) lo b b' h = tt
-cached_gains (Ok r) lo b b' h = h.1
-
-pub cached_out : (res : Result Frames Kept) (lo : ℕ) (bs : List (List Frames)) (k : ℕ) (b b' : List Frames) → k < length bs → b ≡ get_or bs k b → find (begins_at lo) (all_ranges bs) ≡ find (begins_at lo) b
-    → IfOk res (λ r. (find (begins_at lo) b ≡ Some r) × Gains r b' b) → IfOk res (λ r. (find (begins_at lo) (all_ranges bs) ≡ Some r) × Gains r (all_ranges (set bs k b')) (all_ranges bs))
-cached_out (Err x) lo bs k b b' lt is same h = tt
-cached_out (Ok r) lo bs k b b' lt is same h = (same ∙ h.0, gains_out r bs k b b' lt is h.1)
+-- a range that is found elsewhere than at its home counts as a stray
+pub is_stray : (home : ℕ → ℕ) (bs : List (List Frames)) (s : List ℕ) (h k lo : ℕ) → h ≡ home lo → h < length bs → k < length bs → k ≢ h → find (begins_at lo) (get_or bs k []) ≢ None → AreStrays home bs s → 1 ≤ get_or s h 0
+is_stray home bs s h k lo at lt within ne some away =
+    let weigh : Frames → ℕ = λ r. cond (home r.lo == h) 1 0 in
+    let f : List Frames → ℕ = λ b. sum_by weigh b in
+    let cs = set bs k [] in
+    let long = length-set bs k [] in
+    let all : sum_by f cs + sum_by weigh (get_or bs k []) ≡ sum_by f bs + 0 = sum_by-set f bs k [] [] within in
+    let ne' : h ≢ k = λ e. ne (sym e) in
+    let here : get_or cs h [] ≡ get_or bs h [] = get_or-set_other bs k h [] [] ne' in
+    let inside = parts weigh cs h (omega (arith, long, lt)) in
+    let own : sum_by weigh (get_or cs h []) ≡ sum_by weigh (get_or bs h []) = ap f here in
+    omega (arith, all, own, inside, away h lt, one_of_home home lo h (get_or bs k []) at some, sum_by-all weigh bs, sum_by-all weigh cs)
 
 -- A new table.
-
-AreHome-empty : (home : ℕ → ℕ) (place n : ℕ) → AreHome home place (replicate n [])
-AreHome-empty home place zero = tt
-AreHome-empty home place (suc n) = (refl, AreHome-empty home (place + 1) n)
-
-AreRoomy-empty : (n : ℕ) → AreRoomy (replicate n [])
-AreRoomy-empty zero = tt
-AreRoomy-empty (suc n) = (omega arith, AreRoomy-empty n)
 
 all_ranges-empty : (n : ℕ) → all_ranges (replicate n []) ≡ []
 all_ranges-empty zero = refl
 all_ranges-empty (suc n) = all_ranges-empty n
 
-pub IsTable-new : (bs : List (List Frames)) (n shift : ℕ) → bs ≡ replicate n [] → n ≡ 2 ^ (64 - shift) → shift < 64 → 44 ≤ shift → IsTable bs shift true
-IsTable-new bs n shift is long lt le = rw is (record {
+in_order-empty : (home : ℕ → ℕ) (n : ℕ) → in_order home (replicate n []) ≡ []
+in_order-empty home n = nothing (in_order home (replicate n [])) (length_in_order home (replicate n []) ∙ ap length (all_ranges-empty n))
+  where
+    nothing : (xs : List Frames) → length xs ≡ 0 → xs ≡ []
+    nothing [] none = refl
+    nothing (x ∷ xs) none = absurd (omega arith)
+
+pub IsTable-new : (bs : List (List Frames)) (s : List ℕ) (n shift room : ℕ) → bs ≡ replicate n [] → s ≡ replicate n 0 → n ≡ 2 ^ (64 - shift) → 48 + room ≡ 6 * n → shift ≤ 60 → 44 ≤ shift → IsTable bs s shift room
+IsTable-new bs s n shift room is none long six lt le = rw (is, none) (record {
   shifts = lt;
   least = le;
   count = length-replicate {A = List Frames} n [] ∙ long;
-  home = AreHome-empty (home_of shift) 0 n;
-  roomy = λ e. AreRoomy-empty n;
+  slots = length-replicate {A = ℕ} n 0 ∙ sym (length-replicate {A = List Frames} n []);
+  away = λ p at.
+      let within : p < n = omega (arith, at, length-replicate {A = List Frames} n []) in
+      rw (get_or-replicate {A = ℕ} n p 0 0 within, get_or-replicate {A = List Frames} n p [] [] within, all_ranges-empty n) refl;
+  fills = rw (all_ranges-empty n, length-replicate {A = List Frames} n []) (omega (arith, six));
 })
 
-pub held-new : (bs : List (List Frames)) (n : ℕ) → bs ≡ replicate n [] → all_ranges bs ≡ []
-held-new bs n is = rw is (all_ranges-empty n)
+pub held-new : (bs : List (List Frames)) (n shift : ℕ) → bs ≡ replicate n [] → in_order (home_of shift) bs ≡ []
+held-new bs n shift is = rw is (in_order-empty (home_of shift) n)
 
--- The first range, and how many there are.
+pub some_buckets : (bs : List (List Frames)) (s : List ℕ) (shift room : ℕ) → IsTable bs s shift room → length bs ≤ 1048576
+some_buckets bs s shift room t = let few : 64 - shift ≤ 20 = omega (arith, t.least) in let small : 2 ^ (64 - shift) ≤ 2 ^ 20 = pow_mono few in omega (arith, small, t.count)
 
-pub some_buckets : (bs : List (List Frames)) (shift : ℕ) (room : Bool) → IsTable bs shift room → length bs ≤ 1048576
-some_buckets bs shift room s = let few : 64 - shift ≤ 20 = omega (arith, s.least) in let small : 2 ^ (64 - shift) ≤ 2 ^ 20 = pow_mono few in omega (arith, small, s.count)
+-- Some range of a bucket.
 
-all_more : (bs : List (List Frames)) (k : ℕ) (b : List Frames) → k < length bs → b ≡ get_or bs k b → all_ranges (take (k + 1) bs) ≡ all_ranges (take k bs) ++ b
+pub all_more : (bs : List (List Frames)) (k : ℕ) (b : List Frames) → k < length bs → b ≡ get_or bs k b → all_ranges (take (k + 1) bs) ≡ all_ranges (take k bs) ++ b
 all_more bs k b lt is = ap all_ranges (take_more bs k b lt) ∙ (joined (take k bs) (get_or bs k b) ∙ ap (λ l. all_ranges (take k bs) ++ l) (sym is))
-  where
-    joined : (xs : List (List Frames)) (b : List Frames) → all_ranges (xs ++ b ∷ []) ≡ all_ranges xs ++ b
-    joined [] b = append-nil b
-    joined (x ∷ xs) b = ap (λ l. x ++ l) (joined xs b) ∙ sym (append_assoc x (all_ranges xs) b)
-
-empty_front : (xs ys : List Frames) → xs ++ ys ≡ [] → xs ≡ []
-empty_front [] ys is = refl
-empty_front (x ∷ xs) ys is = absurd (let long = ap length is in omega (arith, long))
 
 pub none_more : (bs : List (List Frames)) (k : ℕ) (b : List Frames) → k < length bs → b ≡ get_or bs k b → length b ≡ 0 → all_ranges (take k bs) ≡ [] → all_ranges (take (k + 1) bs) ≡ []
 none_more bs k b lt is none before = all_more bs k b lt is ∙ (ap (λ l. l ++ b) before ∙ nothing b none)
@@ -229,25 +440,173 @@ none_more bs k b lt is none before = all_more bs k b lt is ∙ (ap (λ l. l ++ b
     nothing [] none = refl
     nothing (x ∷ xs) none = absurd (omega arith)
 
-pub first_of : (bs : List (List Frames)) (k : ℕ) (b : List Frames) (r : Frames) → k < length bs → b ≡ get_or bs k b → all_ranges (take k bs) ≡ [] → 0 < length b → r ≡ get_or b 0 r → Some r ≡ slice_get (all_ranges bs) 0
-first_of [] k b r lt is before some at = absurd (omega arith)
-first_of (x ∷ bs) zero b r lt is before some at = step x (rw is at some) (rw is at at)
+pub nothing_held : (home : ℕ → ℕ) (bs : List (List Frames)) → all_ranges bs ≡ [] → in_order home bs ≡ []
+nothing_held home bs none = nothing (in_order home bs) (length_in_order home bs ∙ ap length none)
   where
-    step : (x : List Frames) → 0 < length x → r ≡ get_or x 0 r → Some r ≡ slice_get (x ++ all_ranges bs) 0
-    step [] some at = absurd (omega arith)
-    step (y ∷ ys) some at = ap (λ r. Some r) at
-first_of (x ∷ bs) (suc k) b r lt is before some at =
-    let none : x ≡ [] = empty_front x (all_ranges (take k bs)) before in
-    let rest = rw none at before in
-    rw none (first_of bs k b r (omega arith) is rest some at)
+    nothing : (xs : List Frames) → length xs ≡ 0 → xs ≡ []
+    nothing [] none = refl
+    nothing (x ∷ xs) none = absurd (omega arith)
 
-pub head_found : (rs : List Frames) (r : Frames) → Some r ≡ slice_get rs 0 → find (begins_at r.lo) rs ≡ Some r
-head_found [] r is = absurd (let bad : Some r ≡ None = is in cc)
-head_found (x ∷ rs) r is =
-    let both : Some r ≡ Some x = is in
-    let same : r ≡ x = cc in
-    let begins : (x.lo == r.lo) ≡ true = grind (arith, nat_tests, ap (λ (r : Frames). r.lo) same) in
-    rw begins (sym both)
+-- how many begin there: as many as none, where none is found
+none_begins : (lo : ℕ) (rs : List Frames) → find (begins_at lo) rs ≡ None → sum_by (λ r. cond (r.lo == lo) 1 0) rs ≡ 0
+none_begins lo [] none = refl
+none_begins lo (r ∷ rs) none = step (r.lo == lo) refl (none_begins lo rs) none
+  where
+    step : (b : Bool) → (r.lo == lo) ≡ b → (find (begins_at lo) rs ≡ None → sum_by (λ r. cond (r.lo == lo) 1 0) rs ≡ 0) → cond b (Some r) (find (begins_at lo) rs) ≡ None → sum_by (λ r. cond (r.lo == lo) 1 0) (r ∷ rs) ≡ 0
+    step true is ih none = absurd (let bad : Some r ≡ None = none in cc)
+    step false is ih none =
+        let all = sum_by-cons (λ (r : Frames). cond (r.lo == lo) 1 0) r rs in
+        let here : cond {A = ℕ} (r.lo == lo) 1 0 ≡ 0 = rw is refl in
+        omega (arith, all, here, ih none)
 
-pub length_more : (bs : List (List Frames)) (k : ℕ) (b : List Frames) → k < length bs → b ≡ get_or bs k b → length (all_ranges (take (k + 1) bs)) ≡ length (all_ranges (take k bs)) + length b
-length_more bs k b lt is = ap length (all_more bs k b lt is) ∙ length-append (all_ranges (take k bs)) b
+begins : (lo : ℕ) (b : List Frames) (r : Frames) → 0 < length b → r ≡ get_or b 0 r → lo ≡ r.lo → 1 ≤ sum_by (λ r. cond (r.lo == lo) 1 0) b
+begins lo [] r some is at = absurd (omega arith)
+begins lo (x ∷ b) r some is at =
+    let e : x.lo ≡ lo = sym (ap (λ (r : Frames). r.lo) is) ∙ sym at in
+    let own : (x.lo == lo) ≡ true = grind (arith, nat_tests) in
+    let all = sum_by-cons (λ (r : Frames). cond (r.lo == lo) 1 0) x b in
+    let here : cond {A = ℕ} (x.lo == lo) 1 0 ≡ 1 = rw own refl in
+    omega (arith, all, here)
+
+-- a bucket that has one that begins there: it is found
+pub is_found : (home : ℕ → ℕ) (lo : ℕ) (bs : List (List Frames)) (k : ℕ) (b : List Frames) (r : Frames) → k < length bs → b ≡ get_or bs k b → 0 < length b → r ≡ get_or b 0 r → lo ≡ r.lo
+    → find (begins_at lo) (in_order home bs) ≢ None
+is_found home lo bs k b r lt is some first at = λ none.
+    let weigh : Frames → ℕ = λ r. cond (r.lo == lo) 1 0 in
+    let here : get_or bs k [] ≡ b = get_or_default bs k [] b lt ∙ sym is in
+    let one : 1 ≤ sum_by weigh (get_or bs k []) = rw here (begins lo b r some first at) in
+    omega (arith, one, parts weigh bs k lt, sum_in_order weigh home bs, none_begins lo (in_order home bs) none)
+
+-- The rest.
+
+pub room_test : (room n most : ℕ) → room + n ≡ most → nat_lt 0 room ≡ nat_lt n most
+room_test room n most all = step (nat_lt 0 room) refl (nat_lt n most) refl
+  where
+    step : (a : Bool) → nat_lt 0 room ≡ a → (b : Bool) → nat_lt n most ≡ b → a ≡ b
+    step true x true y = refl
+    step false x false y = refl
+    step true x false y =
+        let lt : 0 < room = grind (arith, nat_tests) in
+        let ge : most ≤ n = grind (arith, nat_tests) in
+        absurd (omega arith)
+    step false x true y =
+        let le : room ≤ 0 = grind (arith, nat_tests) in
+        let lt : n < most = grind (arith, nat_tests) in
+        absurd (omega arith)
+
+pub none_beyond : (lo k : ℕ) (bs : List (List Frames)) → k ≡ length bs → find (begins_at lo) (get_or bs k []) ≡ None
+none_beyond lo k [] is = refl
+none_beyond lo zero (b ∷ bs) is = absurd (omega arith)
+none_beyond lo (suc k) (b ∷ bs) is = none_beyond lo k bs (omega arith)
+
+-- what a search has found
+pub seen : (home : ℕ → ℕ) (lo h k : ℕ) (bs : List (List Frames)) → h ≡ home lo → sought lo h bs ≡ find (begins_at lo) (get_or bs k []) → find (begins_at lo) (in_order home bs) ≡ find (begins_at lo) (get_or bs k [])
+seen home lo h k bs at is = find_in_order home lo h bs at ∙ is
+
+pub is_some_not : (o : Option Frames) (b : Bool) → b ≡ is_some o → b ≡ true → o ≢ None
+is_some_not None b is told = absurd (let bad : false ≡ true = sym is ∙ told in cc)
+is_some_not (Some r) b is told = λ none. let bad : Some r ≡ None = none in absurd cc
+
+pub sought_onward : (lo h k : ℕ) (bs : List (List Frames)) → k < length (drop h bs) → find (begins_at lo) (all_ranges (take k (drop h bs))) ≡ None → find (begins_at lo) (get_or (drop h bs) k []) ≢ None
+    → sought lo h bs ≡ find (begins_at lo) (get_or bs (h + k) [])
+sought_onward lo h k bs lt before some =
+    let first = found_first lo k (drop h bs) lt before some in
+    rw (first, some_or (find (begins_at lo) (get_or (drop h bs) k [])) (find (begins_at lo) (all_ranges (take h bs))) some)
+    (ap (λ b. find (begins_at lo) b) (get_or-drop h bs k []))
+
+pub sought_around : (lo h k j : ℕ) (bs : List (List Frames)) → length (drop h bs) ≤ j → find (begins_at lo) (all_ranges (take j (drop h bs))) ≡ None
+    → k < length (take h bs) → k < h → find (begins_at lo) (all_ranges (take k (take h bs))) ≡ None → find (begins_at lo) (get_or (take h bs) k []) ≢ None
+    → sought lo h bs ≡ find (begins_at lo) (get_or bs k [])
+sought_around lo h k j bs all behind lt within before some =
+    let whole = rw (take_all j (drop h bs) all) at behind in
+    let first = found_first lo k (take h bs) lt before some in
+    rw (whole, first) (ap (λ b. find (begins_at lo) b) (get_or-take h bs k [] within))
+
+pub roomy_around : (bs : List (List Frames)) (h k j : ℕ) → h < length bs → length (all_ranges bs) < 7 * length bs → length (drop h bs) ≤ j → j ≡ length bs - h → length (all_ranges (take j (drop h bs))) ≡ 7 * j
+    → k ≤ h → length (all_ranges (take k (take h bs))) ≡ 7 * k → k < h
+roomy_around bs h k j lt room all is behind le before = step (nat_lt k h) refl
+  where
+    step : (b : Bool) → nat_lt k h ≡ b → k < h
+    step true less = grind (arith, nat_tests)
+    step false more =
+        let ge : h ≤ k = grind (arith, nat_tests) in
+        let same : k ≡ h = omega arith in
+        let whole = rw (take_all j (drop h bs) all) at behind in
+        let short : length (take h bs) ≤ k = omega (arith, length-take-le h bs (omega arith), same) in
+        let front = rw (take_all k (take h bs) short) at before in
+        absurd (omega (arith, all_parts h bs, whole, front, same, is, room, lt))
+
+pub seen_out : (o : Option Frames) (home : ℕ → ℕ) (bs : List (List Frames)) (k : ℕ) (b b' : List Frames) → k < length bs → b ≡ get_or bs k b → IfSome o (λ r. Gains r b' b) → IfSome o (λ r. Gains r (in_order home (set bs k b')) (in_order home bs))
+seen_out None home bs k b b' lt is g = tt
+seen_out (Some r) home bs k b b' lt is g = gains_seen r home (set bs k b') bs (gains_out r bs k b b' lt is g)
+
+-- what the home's own bucket answers
+pub at_home : (home : ℕ → ℕ) (lo h : ℕ) (bs : List (List Frames)) (b : List Frames) (r : Frames) → h ≡ home lo → h < length bs → b ≡ get_or bs h b → find (begins_at lo) b ≡ Some r → find (begins_at lo) (in_order home bs) ≡ Some r
+at_home home lo h bs b r at lt is found =
+    let here = bucket_at bs h b lt is in
+    let some : find (begins_at lo) (get_or bs h []) ≢ None = λ none. let bad : Some r ≡ None = sym found ∙ (ap (λ b. find (begins_at lo) b) (sym here) ∙ none) in absurd cc in
+    find_in_order home lo h bs at ∙ (sought_here lo h bs lt some ∙ (ap (λ b. find (begins_at lo) b) here ∙ found))
+
+pub not_at_home : (home : ℕ → ℕ) (lo h n : ℕ) (bs : List (List Frames)) (s : List ℕ) (b : List Frames) → h ≡ home lo → h < length bs → b ≡ get_or bs h b → AreStrays home bs s → h < length s → n ≡ get_or s h n → n ≤ 0 → find (begins_at lo) b ≡ None → find (begins_at lo) (in_order home bs) ≡ None
+not_at_home home lo h n bs s b at lt is away within number zero_here none =
+    let nothing : get_or s h 0 ≡ 0 = get_or_default s h 0 n within ∙ (sym number ∙ (let e : n ≡ 0 = omega arith in e)) in
+    find_in_order home lo h bs at ∙ (alone home lo h bs s at lt away nothing ∙ (ap (λ b. find (begins_at lo) b) (bucket_at bs h b lt is) ∙ none))
+
+-- no more strays than ranges
+at_most : (home : ℕ → ℕ) (h : ℕ) (rs : List Frames) → of_home home h rs ≤ length rs
+at_most home h [] = omega arith
+at_most home h (r ∷ rs) = step (home r.lo == h) refl (at_most home h rs)
+  where
+    step : (b : Bool) → (home r.lo == h) ≡ b → of_home home h rs ≤ length rs → of_home home h (r ∷ rs) ≤ length (r ∷ rs)
+    step true is ih = let one : cond {A = ℕ} (home r.lo == h) 1 0 ≡ 1 = rw is refl in omega (arith, ih, one, sum_by-cons (λ (r : Frames). cond (home r.lo == h) 1 0) r rs)
+    step false is ih = let none : cond {A = ℕ} (home r.lo == h) 1 0 ≡ 0 = rw is refl in omega (arith, ih, none, sum_by-cons (λ (r : Frames). cond (home r.lo == h) 1 0) r rs)
+
+pub few_strays : (home : ℕ → ℕ) (bs : List (List Frames)) (s : List ℕ) (h : ℕ) → h < length bs → AreStrays home bs s → get_or s h 0 ≤ length (all_ranges bs)
+few_strays home bs s h lt away = omega (arith, away h lt, at_most home h (all_ranges bs))
+
+pub seen_in : (r : Frames) (home : ℕ → ℕ) (bs : List (List Frames)) (k : ℕ) (b b' : List Frames) → k < length bs → b ≡ get_or bs k b → Gains r b b' → Gains r (in_order home bs) (in_order home (set bs k b'))
+seen_in r home bs k b b' lt is g = gains_seen r home bs (set bs k b') (gains_in r bs k b b' lt is g)
+
+-- what is left of some buckets, as a slice
+pub the_rest : (h : ℕ) (bs : List (List Frames)) → take (length bs - h) (drop h bs) ≡ drop h bs
+the_rest h bs = take_all (length bs - h) (drop h bs) (omega (arith, length-drop h bs))
+
+pub seen_out_of : (r : Frames) (home : ℕ → ℕ) (bs : List (List Frames)) (k : ℕ) (b b' : List Frames) → k < length bs → b ≡ get_or bs k b → Gains r b' b → Gains r (in_order home (set bs k b')) (in_order home bs)
+seen_out_of r home bs k b b' lt is g = gains_seen r home (set bs k b') bs (gains_out r bs k b b' lt is g)
+
+pub new_held : (bs : List (List Frames)) (n shift m : ℕ) → bs ≡ replicate n [] → n ≡ m → (let t : Held = record { ranges = in_order (home_of shift) bs; capacity = 6 * length bs - 48 } in t) ≡ (let t : Held = record { ranges = []; capacity = 6 * m - 48 } in t)
+new_held bs n shift m is same =
+    let long : length bs ≡ m = ap length is ∙ (length-replicate {A = List Frames} n [] ∙ same) in
+    rw (held-new bs n shift is, long) refl
+
+-- Ranges that come together.
+
+pub length_sums : (rs ts us : List Frames) → ((weigh : Frames → ℕ) → sum_by weigh ts ≡ sum_by weigh rs + sum_by weigh us) → length ts ≡ length rs + length us
+length_sums rs ts us all = omega (arith, ones rs, ones ts, ones us, all (λ r. 1))
+
+-- a bucket more
+pub sum_more : (weigh : Frames → ℕ) (bs : List (List Frames)) (k : ℕ) (b : List Frames) → k < length bs → b ≡ get_or bs k b → sum_by weigh (all_ranges (take (k + 1) bs)) ≡ sum_by weigh (all_ranges (take k bs)) + sum_by weigh b
+sum_more weigh bs k b lt is = ap (λ l. sum_by weigh l) (all_more bs k b lt is) ∙ sum_by-append weigh (all_ranges (take k bs)) b
+
+-- those so far and the next bucket are within all
+pub within_all : (bs : List (List Frames)) (k : ℕ) (b : List Frames) → k < length bs → b ≡ get_or bs k b → length (all_ranges (take k bs)) + length b ≤ length (all_ranges bs)
+within_all bs k b lt is =
+    let here = ap length (bucket_at bs k b lt is) in
+    omega (arith, here, parts (λ r. 1) bs k lt, ones (all_ranges bs), ones (all_ranges (take k bs)), ones (get_or bs k []))
+
+pub any_first : (o : Option Frames) (lo : ℕ) (rs : List Frames) → o ≡ find (begins_at lo) rs → IfSome o (λ r. find (begins_at r.lo) rs ≡ Some r)
+any_first None lo rs is = tt
+any_first (Some r) lo rs is = ap (λ n. find (begins_at n) rs) (found_begins lo rs r (sym is)) ∙ sym is
+
+pub any_some : (o : Option Frames) (lo : ℕ) (rs : List Frames) → o ≡ find (begins_at lo) rs → find (begins_at lo) rs ≢ None → IfNone o (rs ≡ [])
+any_some None lo rs is some = absurd (some (sym is))
+any_some (Some r) lo rs is some = tt
+
+-- a table of twice the buckets
+pub twice : (shift : ℕ) → 44 ≤ shift → shift < 64 → 2 ^ (64 - (shift - 1)) ≡ 2 * 2 ^ (64 - shift)
+twice shift le lt =
+    let one : 64 - (shift - 1) ≡ 1 + (64 - shift) = omega arith in
+    rw one (pow-add 2 1 (64 - shift))
+
+pub some_room : (shift : ℕ) → shift ≤ 60 → 16 ≤ 2 ^ (64 - shift)
+some_room shift le = let few : 4 ≤ 64 - shift = omega arith in let most : 2 ^ 4 ≤ 2 ^ (64 - shift) = pow_mono few in most

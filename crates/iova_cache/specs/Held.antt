@@ -1,10 +1,9 @@
 -- What a user of a cache holds.
-use Rattle.std.specs.Prelude.{ℕ, ◌≡◌, ◌+◌, ◌-◌, ◌*◌, ◌/◌, ◌%◌, ◌^◌, ◌<◌, ◌≤◌, ◌==◌, Bool, true, List, [], ◌∷◌, ◌++◌, length, map, take, sum_by, if◌then◌else◌}
+use Rattle.std.specs.Prelude.{ℕ, ◌≡◌, ◌+◌, ◌-◌, ◌*◌, ◌/◌, ◌%◌, ◌^◌, ◌<◌, ◌≤◌, ◌==◌, nat_lt, List, [], ◌∷◌, ◌++◌, length, map, take, get_or, sum_by, if◌then◌else◌}
 use Rattle.std.specs.List.{All}
 use Rattle.iova_range.specs.declared.limits.TheConstants.{MAX_FRAMES}
 use Rattle.iova_range.specs.Frames.{Frames}
-use Rattle.iova_cache.specs.declared.bucket.TheConstants.{BUCKET}
-use Rattle.iova_cache.specs.declared.table.TheConstants.{SPREAD, LAST_SHIFT}
+use Rattle.iova_cache.specs.declared.table.TheConstants.{SPREAD, FIRST_SHIFT, LAST_SHIFT, SHARE, SPARE}
 
 -- the range of a word: its first frame is below 2^40, and its length stands above
 abbrev pub word_range : ℕ → Frames
@@ -33,11 +32,11 @@ pub record CanBeHeld (r : Frames) : Type 0 where
 abbrev pub Gains : Frames → List Frames → List Frames → Type 0
 Gains r old new = (weigh : Frames → ℕ) → sum_by weigh new ≡ weigh r + sum_by weigh old
 
--- What a `Table` is seen as: what is held, in no order, and whether one range more comes in without
--- memory
+-- What a `Table` is seen as: what is held, in the order in which a range is looked for, and how
+-- many ranges come in without more memory
 pub record Held : Type 0 where
   pub ranges : List Frames
-  pub room : Bool
+  pub capacity : ℕ
 
 -- the ranges of all buckets
 abbrev pub all_ranges : List (List Frames) → List Frames
@@ -48,23 +47,52 @@ all_ranges (b ∷ bs) = b ++ all_ranges bs
 abbrev pub home_of : ℕ → ℕ → ℕ
 home_of shift lo = lo * SPREAD % 2 ^ 64 / 2 ^ shift
 
--- how many ranges of a bucket have another one for their home
-abbrev pub strays : (ℕ → ℕ) → ℕ → List Frames → ℕ
-strays home place b = sum_by (λ r. if home r.lo == place then 0 else 1) b
+-- A range is looked for from its home on, and behind the last bucket from the first one on. So of
+-- the ranges of a bucket come first those whose home is that one or one before it, and those last
+-- whose home is one behind it.
+abbrev pub onward : (ℕ → ℕ) → ℕ → List Frames → List Frames
+onward home place [] = []
+onward home place (r ∷ rs) =
+    if nat_lt place (home r.lo) then onward home place rs else r ∷ onward home place rs
 
--- in the buckets from this place on each range is at home
-abbrev pub AreHome : (ℕ → ℕ) → ℕ → List (List Frames) → Type 0
-AreHome home place [] = Unit {0}
-AreHome home place (b ∷ bs) = (strays home place b ≡ 0) × AreHome home (place + 1) bs
+abbrev pub around : (ℕ → ℕ) → ℕ → List Frames → List Frames
+around home place [] = []
+around home place (r ∷ rs) =
+    if nat_lt place (home r.lo) then r ∷ around home place rs else around home place rs
 
--- none of the buckets is full
-abbrev pub AreRoomy : List (List Frames) → Type 0
-AreRoomy [] = Unit {0}
-AreRoomy (b ∷ bs) = (length b < BUCKET) × AreRoomy bs
+abbrev pub all_onward : (ℕ → ℕ) → ℕ → List (List Frames) → List Frames
+all_onward home place [] = []
+all_onward home place (b ∷ bs) = onward home place b ++ all_onward home (place + 1) bs
 
-pub record IsTable (buckets : List (List Frames)) (shift : ℕ) (room : Bool) : Type 0 where
-  pub shifts : shift < 64
+abbrev pub all_around : (ℕ → ℕ) → ℕ → List (List Frames) → List Frames
+all_around home place [] = []
+all_around home place (b ∷ bs) = around home place b ++ all_around home (place + 1) bs
+
+abbrev pub in_order : (ℕ → ℕ) → List (List Frames) → List Frames
+in_order home bs = all_onward home 0 bs ++ all_around home 0 bs
+
+-- how many ranges have this home
+abbrev pub of_home : (ℕ → ℕ) → ℕ → List Frames → ℕ
+of_home home place rs = sum_by (λ r. if home r.lo == place then 1 else 0) rs
+
+-- how many ranges have each bucket for their home, and are in another one
+abbrev pub AreStrays : (ℕ → ℕ) → List (List Frames) → List ℕ → Type 0
+AreStrays home buckets strays =
+    (place : ℕ) → place < length buckets
+    → get_or strays place 0 + of_home home place (get_or buckets place [])
+    ≡ of_home home place (all_ranges buckets)
+
+-- whether a range counts as a stray of this home, which stands in the bucket at that place and has
+-- the home there
+abbrev pub stray_at : ℕ → ℕ → ℕ → ℕ
+stray_at home place k = if place == home then 0 else if k == home then 1 else 0
+
+-- There is room for six ranges a bucket, but for some, wherever they are.
+pub record IsTable (buckets : List (List Frames)) (strays : List ℕ) (shift room : ℕ)
+    : Type 0 where
+  pub shifts : shift ≤ FIRST_SHIFT
   pub least : LAST_SHIFT ≤ shift
   pub count : length buckets ≡ 2 ^ (64 - shift)
-  pub home : AreHome (home_of shift) 0 buckets
-  pub roomy : room ≡ true → AreRoomy buckets
+  pub slots : length strays ≡ length buckets
+  pub away : AreStrays (home_of shift) buckets strays
+  pub fills : SPARE + room + length (all_ranges buckets) ≡ SHARE * length buckets

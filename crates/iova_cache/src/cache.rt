@@ -1,12 +1,12 @@
 //! A cache: what one thread takes and gives up without the domain.
-ghost use Rattle.std.specs.Prelude.{◌≡◌, ◌≢◌, ◌≤◌, ◌<◌, ◌^◌, ℕ, [], true, false, find, length, Some, None, Err, IfOk, OnOk, OnErr, IsOkUnless};
+ghost use Rattle.std.specs.Prelude.{◌≡◌, ◌≢◌, ◌≤◌, ◌<◌, ◌^◌, ℕ, [], true, false, find, length, Some, None, Err, IfOk, OnOk, OnErr, IfSome, IfNone, IsOkUnless};
 ghost use Rattle.iova_range.specs.Frames.{Frames};
 ghost use Rattle.iova_model.specs.Clients.{begins_at};
 ghost use Rattle.std.specs.Bool.{OnTrue, OnFalse};
 ghost use Rattle.iova_cache.specs.declared.magazine.TheConstants.{MAGAZINE};
 ghost use Rattle.iova_cache.specs.Magazines.{magazine_of, Misses};
 ghost use Rattle.iova_cache.specs.Waiting.{IsCachedEntry};
-ghost use Rattle.iova_cache.specs.Caches.{reach, HasOrder, HasMoreRoom, IsMet, IsGivenUp, IsSettling, IsSettled, order_in, with_entry, new_cache};
+ghost use Rattle.iova_cache.specs.Caches.{reach, HasOrder, HasMoreRoom, IsMet, IsGivenUp, IsSettling, IsSettled, entry_at, order_in, with_entry, new_cache};
 
 use crate::magazine::Magazines;
 use crate::ring::Ring;
@@ -77,6 +77,7 @@ impl Drop for Cache {
 }
 
 impl Model for Cache {
+    ghost use Rattle.std.specs.Prelude.{nat_lt, length};
     ghost use Rattle.iova_cache.specs.Caches.{CacheState, AreGivenSizes};
 
     ghost Value = { CacheState };
@@ -87,7 +88,7 @@ impl Model for Cache {
       most = c.most;
       magazines = c.magazines;
       held = c.held.ranges;
-      room = c.held.room;
+      room = nat_lt (length c.held.ranges) c.held.capacity;
       ring = c.ring;
     } };
 
@@ -119,14 +120,6 @@ impl Cache {
         })
     }
 
-    /// Whether the user may be given one range more without memory, by `alloc_in_room`.
-    #[inline(always)]
-    pub fn has_room(&self) -> bool
-        ensures { result ≡ self.now.room }
-    {
-        self.held.has_room()
-    }
-
     /// Gives the user a range of the magazines: for 1 to 32 frames the newest of its order, where
     /// that has no frame above `limit`, nor above 4 GiB for a client that is `sac`. It asks no
     /// domain, and takes memory only where what the user holds has to grow, which is tried last.
@@ -153,25 +146,35 @@ impl Cache {
         self.get(order, limit)
     }
 
-    /// The same where there is room.
+    /// What `alloc` does, where it takes the fewest instructions: it needs no memory, and the range
+    /// is found at one look later on. None where it isn't so or `alloc` refuses, and nothing has
+    /// changed.
     #[inline(always)]
-    pub fn alloc_in_room(&mut self, frames: u64, limit: u64) -> Result<Range, Unmet>
-        requires { self.old.room ≡ true }
-        ensures met { IfOk result (λ r. (order : ℕ) × HasOrder frames order
+    pub fn alloc_at_once(&mut self, frames: u64, limit: u64) -> Option<Range>
+        ensures met { IfSome result (λ r. (order : ℕ) × HasOrder frames order
             × IsMet self.old self.new order limit r) }
-        ensures no_order { result ≡ Err Unmet.NoOrder
-            → (order : ℕ) → HasOrder frames order → ⊥ }
-        ensures miss { result ≡ Err Unmet.Miss → (order : ℕ) × HasOrder frames order
-            × Misses self.old.magazines order (reach self.old limit) }
-        ensures empty { result ≡ Err Unmet.Empty → (order : ℕ) × HasOrder frames order
-            × (magazine_of self.old.magazines order ≡ []) }
-        ensures no_memory { result ≢ Err Unmet.NoMemory }
-        ensures unchanged { OnErr result (self.new ≡ self.old) }
+        ensures unchanged { IfNone result (self.new ≡ self.old) }
     {
         if !is_cached(frames) {
-            return Err(Unmet::NoOrder);
+            return None;
         }
-        self.get(order_of_need(frames), limit)
+        self.get_at_once(order_of_need(frames), limit)
+    }
+
+    /// The same of an order, 0 to 5.
+    #[inline(always)]
+    fn get_at_once(&mut self, order: u8, limit: u64) -> Option<Range>
+        requires { order < ORDERS }
+        ensures met { IfSome result (IsMet self.old self.new order limit) }
+        ensures unchanged { IfNone result (self.new ≡ self.old) }
+    {
+        let last = limit.min(self.most);
+        let range = self.magazines.newest_up_to(order, last)?;
+        if !self.held.insert_at_home(range) {
+            return None;
+        }
+        self.magazines.drop_newest(order);
+        Some(range)
     }
 
     /// Makes room for one range more of the user's, so that the next one comes in without memory.
@@ -189,7 +192,6 @@ impl Cache {
     }
 
     /// The newest range of an order, 0 to 5, goes to the user.
-    #[inline(always)]
     fn get(&mut self, order: u8, limit: u64) -> Result<Range, Unmet>
         requires order { order < ORDERS }
         requires room { self.old.room ≡ true }
@@ -211,7 +213,6 @@ impl Cache {
     /// isn't sound. Refused, with no change, by `NotHeld` exactly where the user holds no range
     /// that begins there, else by `NoOrder` exactly where that range has more than 32 frames, else
     /// by `RingFull` exactly where 255 wait.
-    #[inline(always)]
     pub fn unmap(&mut self, lo: u64, start: u64) -> Result<Range, Kept>
         ensures given_up { IfOk result (λ r. (find (begins_at lo) self.old.held ≡ Some r)
             × (r.len ≤ MOST_CACHED) × IsGivenUp self.old self.new r start) }
@@ -227,12 +228,25 @@ impl Cache {
             return Err(self.kept(lo));
         }
         let range = self.held.take_cached(lo)?;
-        self.ring.add(Entry {
-            lo: range.lo(),
-            len: range.len(),
-            count: start,
-        });
+        self.ring.add(entry_of(range, start));
         Ok(range)
+    }
+
+    /// What `unmap` does, where it takes the fewest instructions: one look finds the range. None
+    /// where it isn't so or `unmap` refuses, and nothing has changed.
+    #[inline(always)]
+    pub fn unmap_at_once(&mut self, lo: u64, start: u64) -> Option<Range>
+        ensures given_up { IfSome result (λ r. (find (begins_at lo) self.old.held ≡ Some r)
+            × (r.len ≤ MOST_CACHED) × IsGivenUp self.old self.new r start) }
+        ensures room { IfSome result (λ r. length self.old.ring < 255) }
+        ensures unchanged { IfNone result (self.new ≡ self.old) }
+    {
+        if self.ring.is_full() {
+            return None;
+        }
+        let range = self.held.take_at_home(lo)?;
+        self.ring.add(entry_of(range, start));
+        Some(range)
     }
 
     /// Why what begins there is kept, where 255 wait.
@@ -280,6 +294,18 @@ impl Cache {
         ensures bounded { result ≤ 255 }
     {
         self.ring.len()
+    }
+}
+
+/// A range that was given up when that many flushes had begun.
+#[inline(always)]
+fn entry_of(range: Range, start: u64) -> Entry
+    ensures { result ≡ entry_at range start }
+{
+    Entry {
+        lo: range.lo(),
+        len: range.len(),
+        count: start,
     }
 }
 

@@ -174,6 +174,33 @@ impl Magazines {
         self.magazines[order as usize].newest()
     }
 
+    /// The newest range of this order, 0 to 5, where it has no frame above `last`.
+    #[inline(always)]
+    pub(crate) fn newest_up_to(&self, order: u8, last: u64) -> Option<Range>
+        requires { order < ORDERS }
+        ensures newest { IfSome result (λ r. IsNewest r (magazine_of self.now order)) }
+        ensures fits { IfSome result (IsUpTo last) }
+        ensures size { IfSome result (λ r. r.len ≡ 2 ^ order) }
+        ensures held { IfSome result CanBeHeld }
+    {
+        let range = self.magazines[order as usize].newest()?;
+        if range.hi() > last {
+            return None;
+        }
+        Some(range)
+    }
+
+    /// The newest range of this order, 0 to 5, leaves, where there is one.
+    #[inline(always)]
+    pub(crate) fn drop_newest(&mut self, order: u8)
+        requires order { order < ORDERS }
+        requires some { 1 ≤ length (magazine_of self.old order) }
+        ensures { (r : Frames) → IsNewest r (magazine_of self.old order)
+            → IsTaken self.old self.new order r }
+    {
+        self.magazines[order as usize].drop_newest();
+    }
+
     /// Takes the newest range of this order, 0 to 5, where it has no frame above `last`.
     #[inline(always)]
     pub(crate) fn take_up_to(&mut self, order: u8, last: u64) -> Result<Range, Unmet>

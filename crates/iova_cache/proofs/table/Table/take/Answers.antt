@@ -1,27 +1,55 @@
-use Rattle.std.proofs.Common.{◌≡◌, ◌+◌, ◌<◌, length, find, sym, ap, ◌∙◌, arith}
+use Rattle.std.proofs.Common.{◌≢◌, ◌+◌, ◌<◌, length, find, get_or, None, [], sym, ap, ◌∙◌, arith}
+use Rattle.std.proofs.lemmas.List.{get_or_default}
 use Rattle.iova_model.specs.Clients.{begins_at}
 use Rattle.iova_cache.specs.Held.{home_of}
-use Rattle.iova_cache.proofs.Tables.{find_at_home, IsTable-taken, gains_taken_out}
+use Rattle.iova_cache.proofs.Tables.{alone, seen, none_beyond, bucket_at, is_stray, seen_out, IsTable-taken}
 use Rattle.iova_cache.proofs.table.Table.take.Goals as goal
+
+pub seek_from-place-requires-clause-alone : goal.seek_from-place-requires-clause-alone
+seek_from-place-requires-clause-alone c = λ none.
+    let bs = c.self.inside.buckets.items in
+    let lt : c.home-home.result < length bs = omega (arith, c.home-home.ensures.within, c.self.invariant.count) in
+    let within : c.home-home.result < length c.self.inside.strays.items = omega (arith, lt, c.self.invariant.slots) in
+    rw c.as_slice.ensures.value
+    (alone (home_of c.self.inside.shift) c.args.lo c.home-home.result bs c.self.inside.strays.items c.home-home.ensures.is lt c.self.invariant.away
+    (get_or_default c.self.inside.strays.items c.home-home.result 0 c.index.result.now within ∙ (sym c.index.ensures ∙ none)))
+
+pub returns-then-place-len-clause-value : goal.returns-then-place-len-clause-value
+returns-then-place-len-clause-value c =
+    let bs = c.self.inside.buckets.items in
+    let found = rw c.as_slice.ensures.value at c.seek_from-place.ensures.is in
+    rw (← c.self.view_is)
+    (sym (seen (home_of c.self.inside.shift) c.args.lo c.home-home.result c.seek_from-place.result bs c.home-home.ensures.is found ∙ none_beyond c.args.lo c.seek_from-place.result bs (omega (arith, c.if-place-len.true, c.len.ensures))))
+
+pub lose_stray-requires-clause-some : goal.lose_stray-requires-clause-some
+lose_stray-requires-clause-some c = λ ne.
+    let bs = c.self.inside.buckets.items in
+    let lt : c.home-home.result < length bs = omega (arith, c.home-home.ensures.within, c.self.invariant.count) in
+    let there : c.seek_from-place.result < length bs = omega (arith, c.if-place-len.false, c.len.ensures, c.seek_from-place.ensures.within, c.as_slice.ensures.len) in
+    let some : find (begins_at c.args.lo) (get_or bs c.seek_from-place.result []) ≢ None = rw c.as_slice.ensures.value at (c.seek_from-place.ensures.found (omega (arith, there, c.as_slice.ensures.len))) in
+    is_stray (home_of c.self.inside.shift) bs c.self.inside.strays.items c.home-home.result c.seek_from-place.result c.args.lo c.home-home.ensures.is lt there ne some c.self.invariant.away
 
 pub invariant_of-self : goal.invariant_of-self
 invariant_of-self c =
     let bs = c.self.inside.buckets.items in
-    let lt : c.home-place.result < length bs = omega (arith, c.home-place.ensures.within, c.self.invariant.count) in
-    IsTable-taken c.take.result bs c.self.inside.shift c.home-place.result c.self.inside.room c.index_mut-bucket.result.now c.take.new.self c.self.invariant lt
-    c.index_mut-bucket.ensures.value c.take.ensures.taken c.take.ensures.none c.take.ensures.shorter
+    let there : c.seek_from-place.result < length bs = omega (arith, c.if-place-len.false, c.len.ensures, c.seek_from-place.ensures.within, c.as_slice.ensures.len) in
+    let some : find (begins_at c.args.lo) (get_or bs c.seek_from-place.result []) ≢ None = rw c.as_slice.ensures.value at (c.seek_from-place.ensures.found (omega (arith, there, c.as_slice.ensures.len))) in
+    IsTable-taken c.take-taken.result bs c.self.inside.strays.items c.lose_stray.new.strays.items c.self.inside.shift c.home-home.result c.seek_from-place.result c.args.lo c.self.inside.room (c.self.inside.room + 1)
+    c.index_mut.result.now c.take-taken.new.self c.self.invariant c.home-home.ensures.is there c.index_mut.ensures.value c.take-taken.ensures.value some c.take-taken.ensures.taken
+    c.lose_stray.ensures.slots (omega arith) c.lose_stray.ensures.each
 
 pub returns-clause-value : goal.returns-clause-value
 returns-clause-value c =
     let bs = c.self.inside.buckets.items in
-    let at : 0 + c.home-place.result ≡ home_of c.self.inside.shift c.args.lo = omega (arith, c.home-place.ensures.is) in
-    let lt : c.home-place.result < length bs = omega (arith, c.home-place.ensures.within, c.self.invariant.count) in
+    let found = rw c.as_slice.ensures.value at c.seek_from-place.ensures.is in
+    let there : c.seek_from-place.result < length bs = omega (arith, c.if-place-len.false, c.len.ensures, c.seek_from-place.ensures.within, c.as_slice.ensures.len) in
     rw (← c.self.view_is)
-    (c.take.ensures.value ∙ (ap (λ b. find (begins_at c.args.lo) b) c.index_mut-bucket.ensures.value
-    ∙ sym (find_at_home (home_of c.self.inside.shift) c.args.lo 0 c.home-place.result bs c.index_mut-bucket.result.now at lt c.self.invariant.home)))
+    (c.take-taken.ensures.value ∙ (ap (λ b. find (begins_at c.args.lo) b) (sym (bucket_at bs c.seek_from-place.result c.index_mut.result.now there c.index_mut.ensures.value))
+    ∙ sym (seen (home_of c.self.inside.shift) c.args.lo c.home-home.result c.seek_from-place.result bs c.home-home.ensures.is found)))
 
 pub returns-clause-taken : goal.returns-clause-taken
 returns-clause-taken c =
     let bs = c.self.inside.buckets.items in
-    let lt : c.home-place.result < length bs = omega (arith, c.home-place.ensures.within, c.self.invariant.count) in
-    rw (← c.self.view_is) (gains_taken_out c.take.result bs c.home-place.result c.index_mut-bucket.result.now c.take.new.self lt c.index_mut-bucket.ensures.value c.take.ensures.taken)
+    let there : c.seek_from-place.result < length bs = omega (arith, c.if-place-len.false, c.len.ensures, c.seek_from-place.ensures.within, c.as_slice.ensures.len) in
+    rw (← c.self.view_is)
+    (seen_out c.take-taken.result (home_of c.self.inside.shift) bs c.seek_from-place.result c.index_mut.result.now c.take-taken.new.self there c.index_mut.ensures.value c.take-taken.ensures.taken)

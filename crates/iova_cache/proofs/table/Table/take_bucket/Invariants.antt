@@ -4,4 +4,6 @@ use Rattle.iova_cache.proofs.table.Table.take_bucket.Given as goal
 
 -- what the ranges so far weigh has come in
 abbrev pub invariant-loop-place : goal.invariant-loop-place
-invariant-loop-place l = (weigh : Frames → ℕ) → sum_by weigh l.self.ranges ≡ sum_by weigh l.initial.self.ranges + sum_by weigh (take l.place l.bucket)
+invariant-loop-place l =
+    ((weigh : Frames → ℕ) → sum_by weigh l.self.ranges ≡ sum_by weigh l.initial.self.ranges + sum_by weigh (take l.place l.bucket))
+    × (l.self.capacity ≡ l.initial.self.capacity)
