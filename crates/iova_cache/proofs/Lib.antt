@@ -13,3 +13,4 @@ mod Users
 mod Steps
 mod Pending
 mod Reuse
+mod Wrong

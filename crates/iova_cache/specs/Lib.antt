@@ -7,3 +7,4 @@ pub mod Apart
 pub mod Laws
 pub mod Worlds
 pub mod Reuse
+pub mod Wrong

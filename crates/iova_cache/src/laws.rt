@@ -3,6 +3,7 @@
 ghost use Rattle.iova_cache.specs.Laws.{RangesAreKept, EntriesWait};
 ghost use Rattle.iova_cache.specs.Worlds.{PlacesAreKept, FramesHaveOneUser};
 ghost use Rattle.iova_cache.specs.Reuse.{ReuseOverCachesIsFlushed};
+ghost use Rattle.iova_cache.specs.Wrong.{WrongCachesHarmTheirOwn};
 
 use iova_laws::refusals::refusals_keep_the_state;
 use iova_laws::replies::{others_keep_their_holdings, steps_are_answered_in_kind};
@@ -53,4 +54,16 @@ pub fn reuse_over_caches_is_flushed()
     refusals_keep_the_state();
     steps_keep_validity();
     steps_are_answered_in_kind();
+}
+
+/// A cache that breaks its word harms its own user alone. Whatever wrong caches give, keep and say,
+/// their clients are clients as any other to the domain: the users of all other caches and the
+/// clients without a cache have each frame alone, and are given it behind a flush, as far as the
+/// right caches are told what is so. Any cache may turn wrong at any time.
+pub fn wrong_caches_harm_their_own()
+    ensures { WrongCachesHarmTheirOwn }
+{
+    places_are_kept();
+    frames_have_one_user();
+    reuse_over_caches_is_flushed();
 }
