@@ -1,2 +1,3 @@
 mod Sends
 mod Places
+mod Slots

@@ -1,10 +1,11 @@
 -- What serving comes to.
-use Rattle.std.specs.Prelude.{ℕ, ◌+◌, ◌≤◌, List, [], ◌∷◌, sum_by}
+use Rattle.std.specs.Prelude.{◌≡◌, ◌+◌, ◌≤◌, List, [], ◌∷◌, map, sum_by}
 use Rattle.iova_range.specs.declared.refusal.Refusal.{Refusal}
 use Rattle.iova_range.specs.declared.refusal.Refusal.TheVariants as refusal
 use Rattle.iova_model.specs.Effects.{IsAmong}
 use Rattle.iova_sink.specs.Calls.{Call, good_calls}
 use Rattle.iova_keep.specs.Views.{SeatState, TallyState, KeepsPlace}
+use Rattle.iova_lock.specs.Books.{tally_parts}
 
 -- why nothing was served
 abbrev pub IsServeRefusal : Refusal → Type 0
@@ -32,3 +33,12 @@ abbrev pub CountsWithin : List SeatState → List (List Call) → List SeatState
 CountsWithin seats calls seats_now tally calls_now flusher_calls =
     sum_by (λ s. s.tally.good) seats_now + tally.good + sum_by good_calls calls
     ≤ sum_by (λ s. s.tally.good) seats + sum_by good_calls calls_now + good_calls flusher_calls
+
+-- The same where a flusher's tally and the sinks aren't given back: there is a tally, which has all
+-- parts that the seats haven't, and there are sinks behind those that were given, of which it is so.
+abbrev pub CountsWithinSome : {D : Type 0} → (D → List Call) → List SeatState → List D
+    → List SeatState → Type 0
+CountsWithinSome {D} calls seats sinks seats_now =
+    (tally : TallyState) × (sinks_now : List D) × (flusher : D)
+    × (tally_parts seats_now + tally.parts ≡ tally_parts seats)
+    × CountsWithin seats (map calls sinks) seats_now tally (map calls sinks_now) (calls flusher)

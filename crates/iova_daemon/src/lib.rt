@@ -5,7 +5,7 @@ ghost use Rattle.std.specs.Prelude.{◌≡◌, ◌+◌, ◌≤◌, Ok, Err, IfOk
 ghost use Rattle.std.specs.Option.{ForSome};
 ghost use Rattle.iova_keep.specs.Views.{RisesWithin};
 ghost use Rattle.iova_lock.specs.Books.{tally_parts};
-ghost use Rattle.iova_daemon.specs.Serving.{AreWithin, CountsWithin, IsServeRefusal};
+ghost use Rattle.iova_daemon.specs.Serving.{AreWithin, CountsWithin, CountsWithinSome, IsServeRefusal};
 
 mod crossing;
 mod flusher;
@@ -123,6 +123,8 @@ where
     ensures posts { IfOk result (λ s. map (λ p. p.seat.worker) s.posts.items
         ≡ map (λ p. p.seat.worker) posts.items) }
     ensures shared { IfOk result (λ s. s.shared ≡ shared) }
+    ensures within { IfOk result (λ s. CountsWithinSome D.calls (map (λ p. p.seat) posts.items)
+        sinks.items (map (λ p. p.seat) s.posts.items)) }
     ensures refusal { IfErr result IsServeRefusal }
 {
     let service = Service {

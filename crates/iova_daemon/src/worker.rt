@@ -1,14 +1,9 @@
 //! A slot of a worker: sessions at one post, one after another.
-ghost use Rattle.std.specs.Prelude.{◌≡◌, ◌⊎◌, ◌+◌, ℕ, List, None, vec_capacity};
-ghost use Rattle.std.specs.Io.KnownBytes.{Appends, Consumes};
-ghost use Rattle.iova_keep.specs.Views.{KeepsPlace, WhereKnown};
-ghost use Rattle.iova_session.specs.declared.run.SessionEnd.{SessionEnd};
-ghost use Rattle.iova_session.specs.Desks.{AreAnswers, client_after};
-ghost use Rattle.iova_session.specs.Domains.{LeavesOthers};
-ghost use Rattle.iova_session.specs.Leading.{SessionLeads};
-ghost use Rattle.iova_session.specs.Pairs.{Pair};
-ghost use Rattle.iova_session.specs.Posts.{EndsClient, RetriesAll};
-ghost use Rattle.iova_session.specs.Sessions.{ServesWithin};
+ghost use Rattle.std.specs.Prelude.{◌≡◌, Option};
+ghost use Rattle.iova_model.specs.State.{State};
+ghost use Rattle.iova_keep.specs.Views.{KeepsPlace};
+ghost use Rattle.iova_session.specs.OneByOne.{between};
+ghost use Rattle.iova_daemon.specs.Slots.{ServesAtSlot, ServesSession, IsTried};
 
 use crate::pool::{Accepted, Pool, Turn};
 use crate::roster::{Roster, Stands};
@@ -67,7 +62,14 @@ where
     X: Aside,
 {
     /// Waits at the gate, and then serves sessions at the post until none is to come.
-    fn work(&self, place: Post<B>, sink: D) -> (Post<B>, D) {
+    fn work(&self, place: Post<B>, sink: D) -> (Post<B>, D)
+        ensures turns { (left : Option State)
+            × ServesAtSlot L.left L.sent L.reads self.now.roster.now.serving.limits
+            (K.identity self.now.keeper).strict (K.identity self.now.keeper).number
+            (between place.seat place.waiting.items (D.calls sink) (K.domain self.now.keeper))
+            (between result.0.seat result.0.waiting.items (D.calls result.1) left) }
+        ensures place { KeepsPlace place.seat result.0.seat (D.calls sink) (D.calls result.1) }
+    {
         let mut post = place;
         let mut keeper = self.keeper;
         let mut sink = NotingSink::new(sink, self.notices);
@@ -120,7 +122,13 @@ where
     L: Link + Drop,
     A: Accept<L>,
     D: Sink,
-    ensures { KeepsPlace post.old.seat post.new.seat (D.calls sink.old.sink)
+    ensures turns { ServesAtSlot L.left L.sent L.reads context.now.roster.now.serving.limits
+        (K.identity keeper.old).strict (K.identity keeper.old).number
+        (between post.old.seat post.old.waiting.items (D.calls sink.old.sink)
+        (K.domain keeper.old))
+        (between post.new.seat post.new.waiting.items (D.calls sink.new.sink)
+        (K.domain keeper.new)) }
+    ensures place { KeepsPlace post.old.seat post.new.seat (D.calls sink.old.sink)
         (D.calls sink.new.sink) }
 {
     let (rt, roster) = (context.rt, context.roster);
@@ -159,22 +167,13 @@ where
     L: Link + Drop,
     A: Accept<L>,
     D: Sink,
-    ensures session { (left : L) × (ended : SessionEnd)
-        × (taken : List ℕ) × (ps : List Pair) × (written : List ℕ) × (reads : ℕ)
-        × Consumes (L.left accepted.link) (L.left left) taken
-        × Appends (L.sent accepted.link) (L.sent left) written
-        × (L.reads left ≡ L.reads accepted.link + reads)
-        × ServesWithin context.now.roster.now.serving.limits.requests
-        context.now.roster.now.serving.limits.reads taken ps written reads ended.end
-        × AreAnswers (K.identity keeper.old).number None 0 ps
-        × EndsClient ps ended.client post.old.seat.held post.new.seat.held post.old.waiting.items
-        post.new.waiting.items
-        × WhereKnown (K.domain keeper.old) (K.domain keeper.new)
-        (LeavesOthers (client_after None ps) ended.client)
-        × ∥ WhereKnown (K.domain keeper.old) (K.domain keeper.new)
-        (SessionLeads (K.identity keeper.old).strict (K.identity keeper.old).number ps ended.client
-        post.old.seat post.new.seat post.old.waiting.items post.new.waiting.items
-        (D.calls sink.old.sink) (D.calls sink.new.sink)) ∥₁ }
+    ensures same { K.identity keeper.new ≡ K.identity keeper.old }
+    ensures session { ServesSession L.left L.sent L.reads context.now.roster.now.serving.limits
+        (K.identity keeper.old).strict (K.identity keeper.old).number accepted.link
+        (between post.old.seat post.old.waiting.items (D.calls sink.old.sink)
+        (K.domain keeper.old))
+        (between post.new.seat post.new.waiting.items (D.calls sink.new.sink)
+        (K.domain keeper.new)) }
     ensures place { KeepsPlace post.old.seat post.new.seat (D.calls sink.old.sink)
         (D.calls sink.new.sink) }
 {
@@ -220,12 +219,11 @@ pub(crate) fn try_again<B: Names, K: Keep<B>, D: Sink>(
     post: &mut Post<B>,
     sink: &mut D,
 )
-    ensures tries { (post.new ≡ post.old) ⊎ WhereKnown (K.domain keeper.old) (K.domain keeper.new)
-        (RetriesAll (vec_capacity post.old.ranges) (K.identity keeper.old).number
-        post.old.waiting.items post.new.waiting.items post.old.seat post.new.seat
-        (D.calls sink.old) (D.calls sink.new)) }
+    ensures same { K.identity keeper.new ≡ K.identity keeper.old }
+    ensures tries { IsTried (K.identity keeper.old).number
+        (between post.old.seat post.old.waiting.items (D.calls sink.old) (K.domain keeper.old))
+        (between post.new.seat post.new.waiting.items (D.calls sink.new) (K.domain keeper.new)) }
     ensures place { KeepsPlace post.old.seat post.new.seat (D.calls sink.old) (D.calls sink.new) }
-    ensures number { (K.identity keeper.new).number ≡ (K.identity keeper.old).number }
 {
     let worker = post.seat.worker();
     if !post.waiting.is_empty() && roster.begin_trying(worker) {

@@ -1,0 +1,34 @@
+use Rattle.std.proofs.Common.{◌∙◌, refl}
+use Rattle.iova_daemon.specs.Slots.{nothing}
+use Rattle.iova_daemon.proofs.Slots.{keeps_same, keeps_more, then_tried, then_served}
+use Rattle.iova_daemon.proofs.worker.serve_slot.Goals as goal
+
+pub turns-init : goal.turns-init
+turns-init g c = record { place = keeps_same _ _; same = refl; turns = nothing _ }
+
+-- the clients that wait were tried, and then a session was served
+pub turns-preserved-in-Serve : goal.turns-preserved-in-Serve
+turns-preserved-in-Serve g c =
+    let was = c.turns.invariant in
+    let tried = c.try_again.ensures in
+    let served = c.serve_accepted-told.ensures in
+    record {
+      place = keeps_more _ _ _ _ _ _ was.place (keeps_more _ _ _ _ _ _ tried.place served.place);
+      same = served.same ∙ tried.same ∙ was.same;
+      turns = then_served _ _ _ _ _ _ _ _ _ _ (then_tried _ _ _ _ _ _ _ _ _ was.turns was.same tried.tries) (tried.same ∙ was.same) served.session;
+    }
+
+pub returns-in-End-clause-turns : goal.returns-in-End-clause-turns
+returns-in-End-clause-turns g c =
+    let was = c.turns.invariant in
+    then_tried _ _ _ _ _ _ _ _ _ was.turns was.same c.try_again.ensures.tries
+
+pub turns-preserved : goal.turns-preserved
+turns-preserved g c =
+    let was = c.turns.invariant in
+    let tried = c.try_again.ensures in
+    record {
+      place = keeps_more _ _ _ _ _ _ was.place tried.place;
+      same = tried.same ∙ was.same;
+      turns = then_tried _ _ _ _ _ _ _ _ _ was.turns was.same tried.tries;
+    }

@@ -1,0 +1,54 @@
+-- What a slot does at its post: sessions, one after another, and tries of its waiting clients.
+use Rattle.std.specs.Prelude.{ℕ, ◌≡◌, ◌+◌, ◌⊎◌, Bool, List, Option, None}
+use Rattle.std.specs.Io.KnownBytes.{Appends, Consumes}
+use Rattle.iova_keep.specs.Views.{WhereKnown}
+use Rattle.iova_session.specs.declared.run.SessionEnd.{SessionEnd}
+use Rattle.iova_session.specs.declared.session_limits.SessionLimits.{SessionLimits}
+use Rattle.iova_session.specs.Desks.{AreAnswers, client_after}
+use Rattle.iova_session.specs.Domains.{LeavesOthers}
+use Rattle.iova_session.specs.Leading.{SessionLeads}
+use Rattle.iova_session.specs.OneByOne.{Between}
+use Rattle.iova_session.specs.Pairs.{Pair}
+use Rattle.iova_session.specs.Posts.{EndsClient, IsSublist, RetriesAll}
+use Rattle.iova_session.specs.Sessions.{ServesWithin}
+
+-- A session over this link within these limits, from its first byte to the end of its client: it
+-- leads from a to b.
+abbrev pub ServesSession : {L : Type 0} → (left sent : L → Option (List ℕ)) → (reads : L → ℕ)
+    → SessionLimits → (strict : Bool) → (number : ℕ) → L → (a b : Between) → Type 0
+ServesSession {L} left sent reads limits strict number link a b =
+    (now : L) × (ended : SessionEnd) × (taken : List ℕ) × (ps : List Pair) × (written : List ℕ)
+    × (count : ℕ)
+    × Consumes (left link) (left now) taken
+    × Appends (sent link) (sent now) written
+    × (reads now ≡ reads link + count)
+    × ServesWithin limits.requests limits.reads taken ps written count ended.end
+    × AreAnswers number None 0 ps
+    × EndsClient ps ended.client a.seat.held b.seat.held a.waiting b.waiting
+    × WhereKnown a.domain b.domain (LeavesOthers (client_after None ps) ended.client)
+    × ∥ WhereKnown a.domain b.domain
+    (SessionLeads strict number ps ended.client a.seat b.seat a.waiting b.waiting a.calls b.calls)
+    ∥₁
+
+-- a try of the clients that wait, none of which is lost and none is new
+abbrev pub TriesAgain : (number : ℕ) → (a b : Between) → Type 0
+TriesAgain number a b =
+    IsSublist b.waiting a.waiting
+    × ((room : ℕ) × WhereKnown a.domain b.domain
+    (RetriesAll room number a.waiting b.waiting a.seat b.seat a.calls b.calls))
+
+-- or nothing is done
+abbrev pub IsTried : (number : ℕ) → (a b : Between) → Type 0
+IsTried number a b = (b ≡ a) ⊎ TriesAgain number a b
+
+-- Nothing but these leads from a to b: tries of the clients that wait, and sessions, each over a
+-- link of its own.
+pub data ServesAtSlot {L : Type 0} (left sent : L → Option (List ℕ)) (reads : L → ℕ)
+    (limits : SessionLimits) (strict : Bool) (number : ℕ) : Between → Between → Type 0 where
+  nothing : (a : Between) → ServesAtSlot left sent reads limits strict number a a
+  tries : (a b c : Between) → ServesAtSlot left sent reads limits strict number a b
+      → IsTried number b c → ServesAtSlot left sent reads limits strict number a c
+  serves : (a b c : Between) (link : L)
+      → ServesAtSlot left sent reads limits strict number a b
+      → ServesSession left sent reads limits strict number link b c
+      → ServesAtSlot left sent reads limits strict number a c
