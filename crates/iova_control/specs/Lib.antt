@@ -1,1 +1,5 @@
+pub mod Infos
+pub mod Metrics
+pub mod Reports
+pub mod Rows
 pub mod Texts

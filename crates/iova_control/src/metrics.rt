@@ -1,18 +1,21 @@
 //! What is counted of a daemon, in the text form that Prometheus reads.
-ghost use Rattle.std.specs.Prelude.{◌≡◌, ◌++◌, OnOk};
-ghost use Rattle.iova_control.specs.Texts.{PutsBehind, figure_text, figures_text, kind_text};
+ghost use Rattle.std.specs.Prelude.{◌≡◌, ◌≢◌, ◌++◌, ◌+◌, ◌≤◌, ◌∷◌, ℕ, List, None, IfSome, MatchOption, OnOk, false, length, map, true};
+ghost use Rattle.iova_range.specs.declared.limits.TheConstants.{MAX_REFUSAL};
+ghost use Rattle.iova_control.specs.declared.metrics.Numbers.{Numbers};
+ghost use Rattle.iova_control.specs.Metrics.{Counted, PutsMetrics, PutsRefusals};
+ghost use Rattle.iova_control.specs.Metrics.{build_text, counter, daemon_figures, figure_text, figures_text, flush_figures, gauge, kind_text};
+ghost use Rattle.iova_control.specs.Metrics.{place_line, places_text, program_text, refusal_text, refusals_kind, refusals_text, sink_text, told_of, wait_text, waited};
+ghost use Rattle.iova_control.specs.Reports.{AreNumbersOf, IsField, NumberIn, behind_spaces};
 
 use crate::control::{Facts, Pad};
-use crate::info::sink_kind;
+use crate::info::{cut_line, lines_of, sink_kind};
 use iova_keep::look::Look;
 use iova_links::aside::Figures;
 use iova_links::signals::Signals;
 use iova_range::limits::MAX_REFUSAL;
+use iova_text::number::number;
 use std::alloc::AllocError;
 use std::str;
-
-/// The places of frames, by their names in the report.
-const PLACES: [&str; 6] = ["free", "reserved", "client", "magazine", "depot", "ring"];
 
 /// A figure of one number.
 #[derive(Clone, Copy)]
@@ -24,6 +27,21 @@ struct Figure {
     number: u64,
 }
 
+/// What a report tells of a domain, by the names that it has there: the frames of each place, and
+/// the numbers of its flushes.
+#[derive(Clone, Copy)]
+struct Numbers {
+    free: u64,
+    reserved: u64,
+    client: u64,
+    magazine: u64,
+    depot: u64,
+    ring: u64,
+    start: u64,
+    finish: u64,
+    owed: u64,
+}
+
 /// Puts all figures of such a daemon into the text, each with what it is. Refused for want of
 /// memory.
 pub fn put_metrics<K: Look>(
@@ -33,7 +51,8 @@ pub fn put_metrics<K: Look>(
     domain: &K,
     pad: &mut Pad,
 ) -> Result<(), AllocError>
-    ensures { OnOk result (PutsBehind pad.old.text.bytes.items pad.new.text.bytes.items) }
+    ensures { OnOk result ((n : Numbers) × AreNumbersOf pad.new.report.items n
+        × PutsMetrics facts.now n figures pad.old.text.bytes.items pad.new.text.bytes.items) }
 {
     let Ok(()) = domain.look(&mut pad.report) else {
         return Err(AllocError);
@@ -41,47 +60,67 @@ pub fn put_metrics<K: Look>(
     let Ok(report) = str::from_utf8(&pad.report) else {
         return Err(AllocError);
     };
-    put_domain(&mut pad.text, report)?;
-    put_service(
+    let numbers = numbers_of(report);
+    put_all_of(
         &mut pad.text,
         facts,
         signals,
         figures,
-        report,
+        numbers,
         domain.steps(),
     )
 }
 
-/// What the report tells of the domain.
-fn put_domain(text: &mut String, report: &str) -> Result<(), AllocError>
-    ensures { OnOk result (PutsBehind text.old.bytes.items text.new.bytes.items) }
+/// All figures, of a domain with these numbers.
+fn put_all_of(
+    text: &mut String,
+    facts: &Facts,
+    signals: &Signals,
+    figures: Figures,
+    numbers: Numbers,
+    steps: u64,
+) -> Result<(), AllocError>
+    ensures { OnOk result (PutsMetrics facts.now numbers figures text.old.bytes.items
+        text.new.bytes.items) }
 {
-    put_places(text, report)?;
+    put_domain(text, numbers)?;
+    put_daemon(text, facts, signals, figures, steps)?;
+    put_oldest_wait(text, numbers.ring, figures.since_round)?;
+    put_refusals(text, signals)?;
+    put_program(text, facts)
+}
+
+/// What the report tells of the domain.
+fn put_domain(text: &mut String, numbers: Numbers) -> Result<(), AllocError>
+    ensures { OnOk result (text.new.bytes.items ≡ text.old.bytes.items
+        ++ (places_text numbers ++ figures_text (flush_figures numbers))) }
+{
+    put_places(text, numbers)?;
     put_all(
         text,
         &[
             counter(
                 "iovad_flushes_begun_total",
                 "Flushes that have begun.",
-                number_of(report, "start"),
+                numbers.start,
             ),
             counter(
                 "iovad_flushes_ended_total",
                 "The finish count.",
-                number_of(report, "finish"),
+                numbers.finish,
             ),
             gauge(
                 "iovad_flushes_owed",
                 "Failed flushes that none has made up for.",
-                number_of(report, "owed"),
+                numbers.owed,
             ),
         ],
     )
 }
 
-/// The frames of each place.
-fn put_places(text: &mut String, report: &str) -> Result<(), AllocError>
-    ensures { OnOk result (PutsBehind text.old.bytes.items text.new.bytes.items) }
+/// The frames of each place, by its name in the report.
+fn put_places(text: &mut String, numbers: Numbers) -> Result<(), AllocError>
+    ensures { OnOk result (text.new.bytes.items ≡ text.old.bytes.items ++ places_text numbers) }
 {
     put_kind(
         text,
@@ -89,45 +128,26 @@ fn put_places(text: &mut String, report: &str) -> Result<(), AllocError>
         "gauge",
         "Page frames of the domain, by place.",
     )?;
-    for place in PLACES {
-        let frames = number_of(report, place);
-        writeln!(text, "iovad_frames{{place=\"{place}\"}} {frames}")?;
-    }
-    Ok(())
+    put_place(text, "free", numbers.free)?;
+    put_place(text, "reserved", numbers.reserved)?;
+    put_place(text, "client", numbers.client)?;
+    put_place(text, "magazine", numbers.magazine)?;
+    put_place(text, "depot", numbers.depot)?;
+    put_place(text, "ring", numbers.ring)
 }
 
-/// What is told of the daemon.
-fn put_service(
-    text: &mut String,
-    facts: &Facts,
-    signals: &Signals,
-    figures: Figures,
-    report: &str,
-    steps: u64,
-) -> Result<(), AllocError>
-    ensures { OnOk result (PutsBehind text.old.bytes.items text.new.bytes.items) }
+/// The frames of a place.
+fn put_place(text: &mut String, place: &str, frames: u64) -> Result<(), AllocError>
+    ensures { OnOk result (text.new.bytes.items ≡ text.old.bytes.items
+        ++ place_line place.now frames) }
 {
-    put_daemon(text, facts, signals, figures, steps)?;
-    put_worded(text, facts, signals, report, figures.since_round)
-}
-
-/// The figures that aren't a name and a number.
-fn put_worded(
-    text: &mut String,
-    facts: &Facts,
-    signals: &Signals,
-    report: &str,
-    since_round: u64,
-) -> Result<(), AllocError>
-    ensures { OnOk result (PutsBehind text.old.bytes.items text.new.bytes.items) }
-{
-    put_oldest_wait(text, report, since_round)?;
-    put_labelled(text, facts, signals)
+    writeln!(text, "iovad_frames{{place=\"{place}\"}} {frames}")
 }
 
 /// How long a range has waited in a ring, at most: no longer than since a round that ended well.
-fn put_oldest_wait(text: &mut String, report: &str, since_round: u64) -> Result<(), AllocError>
-    ensures { OnOk result (PutsBehind text.old.bytes.items text.new.bytes.items) }
+fn put_oldest_wait(text: &mut String, ring: u64, since_round: u64) -> Result<(), AllocError>
+    ensures { OnOk result (text.new.bytes.items ≡ text.old.bytes.items
+        ++ wait_text ring since_round) }
 {
     put_kind(
         text,
@@ -135,12 +155,19 @@ fn put_oldest_wait(text: &mut String, report: &str, since_round: u64) -> Result<
         "gauge",
         "How long a range has waited in a ring, at most.",
     )?;
-    let oldest = match number_of(report, "ring") {
-        0 => 0,
-        _ => since_round,
-    };
-    let (seconds, left) = (oldest / 1_000, oldest % 1_000);
-    writeln!(text, "iovad_oldest_wait_seconds {seconds}.{left:03}")
+    let oldest = waited(ring, since_round);
+    let seconds = oldest / 1_000;
+    let (first, second, third) = (oldest % 1_000 / 100, oldest % 100 / 10, oldest % 10);
+    writeln!(
+        text,
+        "iovad_oldest_wait_seconds {seconds}.{first}{second}{third}"
+    )
+}
+
+fn waited(ring: u64, since_round: u64) -> u64
+    ensures { result ≡ waited ring since_round }
+{
+    if ring == 0 { 0 } else { since_round }
 }
 
 /// What the daemon counts itself.
@@ -151,7 +178,8 @@ fn put_daemon(
     figures: Figures,
     steps: u64,
 ) -> Result<(), AllocError>
-    ensures { OnOk result (PutsBehind text.old.bytes.items text.new.bytes.items) }
+    ensures { OnOk result ((c : Counted) × (text.new.bytes.items ≡ text.old.bytes.items
+        ++ figures_text (daemon_figures facts.now c figures))) }
 {
     put_all(
         text,
@@ -222,34 +250,11 @@ fn put_daemon(
     )
 }
 
-/// The figures that have labels of their own.
-fn put_labelled(text: &mut String, facts: &Facts, signals: &Signals) -> Result<(), AllocError>
-    ensures { OnOk result (PutsBehind text.old.bytes.items text.new.bytes.items) }
-{
-    put_refusals(text, signals)?;
-    put_program(text, facts)
-}
-
-/// Of which kind the sink is, and which program it is.
-fn put_program(text: &mut String, facts: &Facts) -> Result<(), AllocError>
-    ensures { OnOk result (PutsBehind text.old.bytes.items text.new.bytes.items) }
-{
-    put_sink(text, facts.has_peer)?;
-    put_build(text, facts.version.as_str())
-}
-
-/// Of which kind the sink is.
-fn put_sink(text: &mut String, has_peer: bool) -> Result<(), AllocError>
-    ensures { OnOk result (PutsBehind text.old.bytes.items text.new.bytes.items) }
-{
-    put_kind(text, "iovad_sink", "gauge", "Of which kind the sink is.")?;
-    let kind = sink_kind(has_peer);
-    writeln!(text, "iovad_sink{{kind=\"{kind}\"}} 1")
-}
-
 /// How many requests were refused, by the refusal's number: those of which there were some.
 fn put_refusals(text: &mut String, signals: &Signals) -> Result<(), AllocError>
-    ensures { OnOk result (PutsBehind text.old.bytes.items text.new.bytes.items) }
+    ensures { OnOk result ((counts : List ℕ) × (length counts ≡ MAX_REFUSAL)
+        × (text.new.bytes.items ≡ text.old.bytes.items
+        ++ (refusals_kind ++ refusals_text 1 counts))) }
 {
     put_kind(
         text,
@@ -257,21 +262,55 @@ fn put_refusals(text: &mut String, signals: &Signals) -> Result<(), AllocError>
         "counter",
         "Requests that were refused, by number.",
     )?;
-    for number in 1..=MAX_REFUSAL {
-        let refusals = signals.refusals(number);
-        if refusals > 0 {
-            writeln!(
-                text,
-                "iovad_refusals_total{{number=\"{number}\"}} {refusals}"
-            )?;
-        }
+    put_refusals_from(text, signals, 1)
+}
+
+/// The same from this number on.
+fn put_refusals_from(text: &mut String, signals: &Signals, number: usize) -> Result<(), AllocError>
+    requires { number ≤ MAX_REFUSAL + 1 }
+    ensures { OnOk result (PutsRefusals number text.old.bytes.items text.new.bytes.items) }
+{
+    if number > MAX_REFUSAL {
+        return Ok(());
     }
-    Ok(())
+    put_refusal(text, number, signals.refusals(number))?;
+    put_refusals_from(text, signals, number + 1)
+}
+
+/// How many requests were refused by this number, where any was.
+fn put_refusal(text: &mut String, number: usize, refusals: u64) -> Result<(), AllocError>
+    ensures { OnOk result (text.new.bytes.items ≡ text.old.bytes.items
+        ++ refusal_text number refusals) }
+{
+    if refusals == 0 {
+        return Ok(());
+    }
+    writeln!(
+        text,
+        "iovad_refusals_total{{number=\"{number}\"}} {refusals}"
+    )
+}
+
+/// Of which kind the sink is, and which program it is.
+fn put_program(text: &mut String, facts: &Facts) -> Result<(), AllocError>
+    ensures { OnOk result (text.new.bytes.items ≡ text.old.bytes.items ++ program_text facts.now) }
+{
+    put_sink(text, facts.has_peer)?;
+    put_build(text, facts.version.as_str())
+}
+
+/// Of which kind the sink is.
+fn put_sink(text: &mut String, has_peer: bool) -> Result<(), AllocError>
+    ensures { OnOk result (text.new.bytes.items ≡ text.old.bytes.items ++ sink_text has_peer) }
+{
+    put_kind(text, "iovad_sink", "gauge", "Of which kind the sink is.")?;
+    let kind = sink_kind(has_peer);
+    writeln!(text, "iovad_sink{{kind=\"{kind}\"}} 1")
 }
 
 /// Which program it is.
 fn put_build(text: &mut String, version: &str) -> Result<(), AllocError>
-    ensures { OnOk result (PutsBehind text.old.bytes.items text.new.bytes.items) }
+    ensures { OnOk result (text.new.bytes.items ≡ text.old.bytes.items ++ build_text version.now) }
 {
     put_kind(
         text,
@@ -279,9 +318,7 @@ fn put_build(text: &mut String, version: &str) -> Result<(), AllocError>
         "gauge",
         "The version, and the kit that proved it.",
     )?;
-    let mut lines = version.lines();
-    let version = lines.next().unwrap_or("");
-    let kit = lines.next().unwrap_or("");
+    let (version, kit) = lines_of(version);
     writeln!(
         text,
         "iovad_build_info{{version=\"{version}\",kit=\"{kit}\"}} 1"
@@ -289,7 +326,9 @@ fn put_build(text: &mut String, version: &str) -> Result<(), AllocError>
 }
 
 /// A count that rises.
-fn counter(name: &'static str, help: &'static str, number: u64) -> Figure {
+fn counter(name: &'static str, help: &'static str, number: u64) -> Figure
+    ensures { told_of result ≡ counter name.now help.now number }
+{
     Figure {
         name,
         kind: "counter",
@@ -299,7 +338,9 @@ fn counter(name: &'static str, help: &'static str, number: u64) -> Figure {
 }
 
 /// A number that rises and falls.
-fn gauge(name: &'static str, help: &'static str, number: u64) -> Figure {
+fn gauge(name: &'static str, help: &'static str, number: u64) -> Figure
+    ensures { told_of result ≡ gauge name.now help.now number }
+{
     Figure {
         name,
         kind: "gauge",
@@ -311,7 +352,7 @@ fn gauge(name: &'static str, help: &'static str, number: u64) -> Figure {
 /// Puts these figures into the text, one after another.
 fn put_all(text: &mut String, figures: &[Figure]) -> Result<(), AllocError>
     ensures { OnOk result (text.new.bytes.items ≡ text.old.bytes.items
-        ++ figures_text figures.now) }
+        ++ figures_text (map told_of figures.now)) }
 {
     let Some((figure, more)) = figures.split_first() else {
         return Ok(());
@@ -322,7 +363,8 @@ fn put_all(text: &mut String, figures: &[Figure]) -> Result<(), AllocError>
 
 /// Puts a figure into the text.
 fn put(text: &mut String, figure: Figure) -> Result<(), AllocError>
-    ensures { OnOk result (text.new.bytes.items ≡ text.old.bytes.items ++ figure_text figure) }
+    ensures { OnOk result (text.new.bytes.items ≡ text.old.bytes.items
+        ++ figure_text (told_of figure)) }
 {
     let Figure {
         name,
@@ -343,16 +385,88 @@ fn put_kind(text: &mut String, name: &str, kind: &str, help: &str) -> Result<(),
     writeln!(text, "# TYPE {name} {kind}")
 }
 
-/// The number behind this name in a report; 0 where there is none.
-fn number_of(report: &str, name: &str) -> u64 {
-    for line in report.lines() {
-        let mut words = line.split_whitespace();
-        if words.next() == Some(name) {
-            return match words.next() {
-                Some(word) => word.parse::<u64>().unwrap_or(0),
-                None => 0,
-            };
-        }
+/// The numbers of a report.
+fn numbers_of(report: &str) -> Numbers
+    ensures { AreNumbersOf report.now result }
+{
+    Numbers {
+        free: number_of(report, "free"),
+        reserved: number_of(report, "reserved"),
+        client: number_of(report, "client"),
+        magazine: number_of(report, "magazine"),
+        depot: number_of(report, "depot"),
+        ring: number_of(report, "ring"),
+        start: number_of(report, "start"),
+        finish: number_of(report, "finish"),
+        owed: number_of(report, "owed"),
     }
-    0
+}
+
+/// The number behind this name in a report; 0 where there is none.
+fn number_of(report: &str, name: &str) -> u64
+    ensures { NumberIn name.now report.now result }
+{
+    let Some((line, more)) = cut_line(report) else {
+        return 0;
+    };
+    match number_behind(line.as_bytes(), name.as_bytes()) {
+        Some(number) => number,
+        None => number_of(more, name),
+    }
+}
+
+/// The number that stands behind this name in the line.
+fn number_behind(line: &[u8], name: &[u8]) -> Option<u64>
+    ensures spelled { IfSome result (λ n. IsField name.now n line.now) }
+    ensures all { result ≡ None → (n : ℕ) → IsField name.now n line.now → ⊥ }
+{
+    let Some(rest) = behind_name(line, name) else {
+        return None;
+    };
+    let Some(digits) = behind_space(rest) else {
+        return None;
+    };
+    number(behind_spaces(digits))
+}
+
+/// What stands behind the name, where the line begins with it.
+fn behind_name<'a>(line: &'a [u8], name: &[u8]) -> Option<&'a [u8]>
+    ensures { MatchOption result ((rest : List ℕ) → line.now ≡ name.now ++ rest → ⊥)
+        (λ rest. line.now ≡ name.now ++ rest.now) }
+{
+    if line.len() < name.len() {
+        return None;
+    }
+    let (front, rest) = line.split_at(name.len());
+    if are_same(front, name) {
+        Some(rest)
+    } else {
+        None
+    }
+}
+
+fn are_same(these: &[u8], those: &[u8]) -> bool
+    ensures same { result ≡ true → these.now ≡ those.now }
+    ensures other { result ≡ false → these.now ≢ those.now }
+{
+    these == those
+}
+
+/// What stands behind the space at the front, where there is one.
+fn behind_space(text: &[u8]) -> Option<&[u8]>
+    ensures { MatchOption result ((more : List ℕ) → text.now ≡ 32 ∷ more → ⊥)
+        (λ more. text.now ≡ 32 ∷ more.now) }
+{
+    let (first, more) = text.split_first()?;
+    if *first == b' ' { Some(more) } else { None }
+}
+
+/// What stands behind the spaces at the front.
+fn behind_spaces(text: &[u8]) -> &[u8]
+    ensures { result.now ≡ behind_spaces text.now }
+{
+    match text {
+        [b' ', more @ ..] => behind_spaces(more),
+        _ => text,
+    }
 }

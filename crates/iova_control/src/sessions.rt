@@ -1,6 +1,6 @@
 //! The sessions that a daemon serves, told a line each.
-ghost use Rattle.std.specs.Prelude.{OnOk};
-ghost use Rattle.iova_control.specs.Texts.{PutsBehind};
+ghost use Rattle.std.specs.Prelude.{◌≡◌, ◌++◌, ◌-◌, ◌≤◌, OnOk};
+ghost use Rattle.iova_control.specs.Rows.{PutsRows, PutsSessions, frames_in, row_text};
 
 use iova_keep::look::Look;
 use iova_links::aside::Standing;
@@ -17,15 +17,46 @@ pub fn put_sessions<K: Look, T: Standing>(
     domain: &K,
     text: &mut String,
 ) -> Result<(), AllocError>
-    ensures { OnOk result (PutsBehind text.old.bytes.items text.new.bytes.items) }
+    ensures { OnOk result (PutsSessions 0 workers text.old.bytes.items text.new.bytes.items) }
 {
     let mut ranges = Vec::new(alloc);
-    for worker in 0..workers {
-        let sessions = standing.sessions(worker);
-        let told = put_clients(worker, sessions, standing, domain, &mut ranges, text)?;
-        for _ in told..sessions {
-            writeln!(text, "{worker} 0 0 0")?;
-        }
+    put_from(0, workers, standing, domain, &mut ranges, text)
+}
+
+/// The sessions of this worker, and of those behind it.
+fn put_from<K: Look, T: Standing>(
+    worker: u64,
+    workers: u64,
+    standing: &T,
+    domain: &K,
+    ranges: &mut Vec<Range>,
+    text: &mut String,
+) -> Result<(), AllocError>
+    requires { worker ≤ workers }
+    ensures { OnOk result (PutsSessions worker (workers - worker) text.old.bytes.items
+        text.new.bytes.items) }
+{
+    if worker >= workers {
+        return Ok(());
+    }
+    put_worker(worker, standing, domain, ranges, text)?;
+    put_from(worker + 1, workers, standing, domain, ranges, text)
+}
+
+/// The sessions of this worker.
+fn put_worker<K: Look, T: Standing>(
+    worker: u64,
+    standing: &T,
+    domain: &K,
+    ranges: &mut Vec<Range>,
+    text: &mut String,
+) -> Result<(), AllocError>
+    ensures { OnOk result (PutsRows worker text.old.bytes.items text.new.bytes.items) }
+{
+    let sessions = standing.sessions(worker);
+    let told = put_clients(worker, sessions, standing, domain, ranges, text)?;
+    for _ in told..sessions {
+        put_row(worker, 0, &[], text)?;
     }
     Ok(())
 }
@@ -41,7 +72,7 @@ fn put_clients<K: Look, T: Standing>(
     ranges: &mut Vec<Range>,
     text: &mut String,
 ) -> Result<u64, AllocError>
-    ensures { OnOk result (PutsBehind text.old.bytes.items text.new.bytes.items) }
+    ensures { OnOk result (PutsRows worker text.old.bytes.items text.new.bytes.items) }
 {
     let mut told = 0;
     let mut behind = 0;
@@ -55,17 +86,27 @@ fn put_clients<K: Look, T: Standing>(
         };
         behind = client;
         if told < sessions && !standing.waits(client) {
-            let count = ranges.len();
-            let frames = frames_of(ranges);
-            writeln!(text, "{worker} {client} {count} {frames}")?;
+            put_row(worker, client, ranges, text)?;
             told += 1;
         }
     }
     Ok(told)
 }
 
-/// How many frames these ranges have.
-fn frames_of(ranges: &[Range]) -> u64 {
+/// Puts the line of a session of this worker, whose client holds these ranges.
+fn put_row(worker: u64, client: u64, ranges: &[Range], text: &mut String) -> Result<(), AllocError>
+    ensures { OnOk result (text.new.bytes.items ≡ text.old.bytes.items
+        ++ row_text worker (record { client = client; ranges = ranges.now })) }
+{
+    let count = ranges.len();
+    let frames = frames_of(ranges);
+    writeln!(text, "{worker} {client} {count} {frames}")
+}
+
+/// How many frames these ranges have, as far as a number of 64 bits goes.
+fn frames_of(ranges: &[Range]) -> u64
+    ensures { result ≡ frames_in ranges.now }
+{
     let mut frames = 0u64;
     for range in ranges {
         frames = frames.saturating_add(range.len());

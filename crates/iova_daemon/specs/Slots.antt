@@ -30,14 +30,14 @@ ServesSession {L} left sent reads limits strict number link a b =
     (SessionLeads strict number ps ended.client a.seat b.seat a.waiting b.waiting a.calls b.calls)
     ∥₁
 
--- a try of the clients that wait, none of which is lost and none is new
+-- the clients that wait are tried once more, and no other one waits then
 abbrev pub TriesAgain : (number : ℕ) → (a b : Between) → Type 0
 TriesAgain number a b =
     IsSublist b.waiting a.waiting
     × ((room : ℕ) × WhereKnown a.domain b.domain
     (RetriesAll room number a.waiting b.waiting a.seat b.seat a.calls b.calls))
 
--- or nothing is done
+-- the same, or nothing is done
 abbrev pub IsTried : (number : ℕ) → (a b : Between) → Type 0
 IsTried number a b = (b ≡ a) ⊎ TriesAgain number a b
 

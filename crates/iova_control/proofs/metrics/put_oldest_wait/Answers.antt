@@ -1,0 +1,9 @@
+use Rattle.std.proofs.Common.{◌++◌, ap, codes}
+use Rattle.iova_control.specs.Metrics.{seconds_text}
+use Rattle.iova_control.proofs.Behind.{then_ok, is_put_ok}
+use Rattle.iova_control.proofs.metrics.put_oldest_wait.Goals as goal
+
+pub returns : goal.returns
+returns c =
+    then_ok _ _ _ _ _ _ c.in_ok-put_kind.ensures
+    (is_put_ok _ _ _ _ _ c.writeln.ensures.bytes (ap (λ ms. codes "iovad_oldest_wait_seconds " ++ seconds_text ms) c.waited-oldest.ensures))
