@@ -5,6 +5,7 @@ ghost use Rattle.iova_c.specs.Lists.{with_ranges, ListsHoldings, ListsWindows};
 
 use crate::answer::{Listed, NumberAnswer, number_of};
 use crate::slot::Slot;
+use iova_range::limits::MAX_HOLDINGS;
 use iova_range::range::Range;
 use iova_range::refusal::Refusal;
 
@@ -38,13 +39,14 @@ pub fn holdings(slot: &mut Slot, client: u64, list: &mut [Listed]) -> NumberAnsw
     let Some(paged) = &slot.domain else {
         return refused(Refusal::NoDomain);
     };
-    let Some(holdings) = paged.domain.holdings_of(client) else {
+    let mut ranges = [Range::new(0, 1); MAX_HOLDINGS];
+    let Some(count) = paged.domain.copy_holdings(client, &mut ranges) else {
         return refused(Refusal::NoClient);
     };
-    put_ranges(holdings, list);
+    put_ranges(&ranges[..count], list);
     NumberAnswer {
         refused: 0,
-        number: holdings.len() as u64,
+        number: count as u64,
     }
 }
 

@@ -148,14 +148,14 @@ pub fn client_of(slot: &mut Slot, client: u64) -> ClientAnswer
     let Some(closing) = paged.domain.is_closing(client) else {
         return no_client(number_of(Refusal::NoClient));
     };
-    let Some(holdings) = paged.domain.holdings_of(client) else {
+    let Some(holdings) = paged.domain.count_of(client) else {
         return no_client(number_of(Refusal::NoClient));
     };
     ClientAnswer {
         refused: 0,
         worker,
         closing: closing as u64,
-        holdings: holdings.len() as u64,
+        holdings,
     }
 }
 

@@ -59,9 +59,9 @@ pub fn step_elsewhere(slot: &mut Slot, step: Step) -> Reply
 
 /// Whether the slot has a domain in which this `Unmap` calls nothing. Nothing is promised.
 #[inline(always)]
-pub fn queues_at_once(slot: &Slot, worker: u64, client: u64, lo: u64) -> bool {
+pub fn queues_at_once(slot: &Slot, worker: u64, client: u64) -> bool {
     match &slot.domain {
-        Some(paged) => paged.domain.queues_at_once(worker, client, lo),
+        Some(paged) => paged.domain.queues_at_once(worker, client),
         None => false,
     }
 }

@@ -57,7 +57,7 @@ pub fn alloc(slot: &mut Slot, worker: u64, client: u64, frames: u64, limit: u64)
 pub fn unmap(slot: &mut Slot, worker: u64, client: u64, lo: u64) -> RangeAnswer
     ensures { RangeStep slot.old.domain (Step.Unmap worker client lo) result slot.new.domain }
 {
-    if queues_at_once(slot, worker, client, lo) {
+    if queues_at_once(slot, worker, client) {
         of_range(step(slot, Step::Unmap { worker, client, lo }))
     } else {
         unpack(unmap_elsewhere(slot, worker, client, lo))

@@ -1,5 +1,9 @@
-mod Shifting
 mod Listed
+mod Linking
+mod Sifting
+mod Ordering
+mod Looking
+mod Heaping
 mod Rising
 mod AccountLemmas
 mod Changed

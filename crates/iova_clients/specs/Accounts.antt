@@ -5,10 +5,12 @@ use Rattle.iova_range.specs.Frames.{Frames}
 use Rattle.iova_model.specs.Clients.{Client, insert_rising, is_newer, remove_at}
 use Rattle.iova_clients.specs.Registry.{is_serial}
 
--- What `Holdings` are seen as: ranges in a row, and how many more fit without memory
+-- What `Holdings` are seen as: ranges that rise by first frame, how many more fit without memory,
+-- and whether their client is closing
 pub record Row : Type 0 where
   pub ranges : List Frames
   pub spare : ℕ
+  pub closing : Bool
 
 -- What a `ClientLedger` is seen as: a client but for its serial, and how many more holdings fit
 -- without memory

@@ -4,5 +4,9 @@ pub use Rattle.iova_model.specs.Valid
 pub mod Accounts
 pub mod AccountsLends
 pub mod Registry
+pub mod Chains
+pub mod Heaps
+pub mod Orders
+pub mod Blocks
 pub mod Sums
 pub mod Books

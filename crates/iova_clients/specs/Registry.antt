@@ -1,5 +1,5 @@
 -- What `Clients` are seen as, and what refuses a call of theirs.
-use Rattle.std.specs.Prelude.{ℕ, ◌≡◌, ◌==◌, ◌+◌, ◌^◌, ◌<◌, ◌≤◌, Bool, true, nat_le, List, [], ◌∷◌, length, Option, Some, None, Result, Err, unwrap_or, find, filter, option_map, ok_or, slice_get, slice_index_or}
+use Rattle.std.specs.Prelude.{ℕ, ◌≡◌, ◌==◌, ◌+◌, ◌^◌, ◌<◌, ◌≤◌, Bool, true, nat_le, List, [], ◌∷◌, ◌++◌, length, Option, Some, None, Result, Err, MatchOption, MatchResult, unwrap_or, find, option_map, ok_or, slice_get}
 use Rattle.std.specs.List.{AllByRecursion}
 use Rattle.std.specs.Map.{lookup}
 use Rattle.iova_range.specs.declared.limits.TheConstants.{MAX_WORKERS, MAX_CLIENTS, MAX_HOLDINGS, MAX_SERIAL}
@@ -68,29 +68,12 @@ abbrev pub held_at : ℕ → Option Client → Result Frames Refusal
 held_at lo None = Err refusal.NoClient
 held_at lo (Some c) = ok_or (find (begins_at lo) c.holdings) refusal.NotHeld
 
--- those that begin at `lo` or below
-abbrev pub beginning_at_most : ℕ → List Frames → List Frames
-beginning_at_most lo holdings = filter (λ (r : Frames). nat_le r.lo lo) holdings
-
--- the holdings before this place begin at `lo` or below
-abbrev pub AllBefore : ℕ → ℕ → List Frames → Type 0
-AllBefore place lo holdings =
-    (k : ℕ) (d : Frames) → k < place → (slice_index_or holdings k d).lo ≤ lo
-
--- the holdings from this place on begin above `lo`
-abbrev pub AllBehind : ℕ → ℕ → List Frames → Type 0
-AllBehind place lo holdings =
-    (k : ℕ) (d : Frames) → place ≤ k → k < length holdings → lo < (slice_index_or holdings k d).lo
-
--- those before this place begin at `lo` or below, and the others above
-pub record IsReach (lo : ℕ) (holdings : List Frames) (place : ℕ) : Type 0 where
-  pub before : AllBefore place lo holdings
-  pub behind : AllBehind place lo holdings
-
--- the holding that begins there is at this place
-pub record IsPlaceOf (lo : ℕ) (holdings : List Frames) (place : ℕ) : Type 0 where
-  pub within : place < length holdings
-  pub begins : (d : Frames) → (slice_index_or holdings place d).lo ≡ lo
+-- the client's holdings come behind the list, unless there is no such client or memory is refused
+abbrev pub AppendsHoldings : Option Client → List Frames → List Frames → Result Unit Refusal
+    → Type 0
+AppendsHoldings o old new result =
+    MatchOption o (result ≡ Err refusal.NoClient)
+    (λ c. MatchResult result (λ u. new ≡ old ++ c.holdings) (λ e. e ≡ refusal.NoMemory))
 
 -- what a step asks of a client before it looks at a holding
 abbrev pub flags_of : Client → ClientFlags

@@ -1,9 +1,9 @@
 //! The clients of a domain.
-ghost use Rattle.std.specs.Prelude.{◌≡◌, ◌≢◌, ◌+◌, ◌-◌, ◌^◌, ◌<◌, ◌≤◌, ℕ, [], ◌∷◌, ◌++◌, find, length, option_map, option_copied, option_and_then, IfOk, OnOk, OnErr, Ok, Err, IsOkUnless, IfSome, IfNone, IsSomeAnd, All, IsTrue, ◌↔◌, false};
+ghost use Rattle.std.specs.Prelude.{◌≡◌, ◌≢◌, ◌+◌, ◌-◌, ◌^◌, ◌<◌, ◌≤◌, ℕ, [], ◌∷◌, ◌++◌, find, length, take, vec_len, vec_capacity, option_map, option_and_then, IfOk, OnOk, OnErr, Ok, Err, Some, None, IsOkUnless, IfSome, IfNone, IsSomeAnd, All, IsTrue, ◌↔◌, false};
 ghost use Rattle.iova_model.specs.Fit.{is_covered};
 ghost use Rattle.iova_model.specs.Effects.{unmapped_of};
 ghost use Rattle.iova_model.specs.Clients.{new_client, client_with, client_of, change_client, without_client, with_holding, without_holding, with_mark, newer_client, totals, share_of};
-ghost use Rattle.iova_clients.specs.Registry.{empty_registry, spare_of, IsRegistry, open_refusal, room_refusal, CanBeGiven, held_at, lowest, count_held, flags_of, CanBeForgotten, IsHolder};
+ghost use Rattle.iova_clients.specs.Registry.{empty_registry, spare_of, IsRegistry, open_refusal, room_refusal, CanBeGiven, held_at, AppendsHoldings, lowest, count_held, flags_of, CanBeForgotten, IsHolder};
 
 use crate::flags::ClientFlags;
 use crate::ledger::ClientLedger;
@@ -11,7 +11,7 @@ use crate::ledgers::Ledgers;
 use crate::sums::Sums;
 use iova_model::step::ClientId;
 use iova_model::totals::Totals;
-use iova_range::limits::{MAX_CLIENTS, MAX_FRAMES, MAX_SERIAL, MAX_WORKERS};
+use iova_range::limits::{MAX_CLIENTS, MAX_FRAMES, MAX_HOLDINGS, MAX_SERIAL, MAX_WORKERS};
 use iova_range::range::Range;
 use iova_range::refusal::Refusal;
 use std::alloc::Global;
@@ -169,25 +169,63 @@ impl Clients {
         Some(self.ledgers.get(id)?.is_closing())
     }
 
-    /// The client's holdings, rising by first frame.
-    pub fn holdings(&self, id: ClientId) -> Option<&[Range]>
-        ensures is { option_copied result
-            ≡ option_map (λ c. c.holdings) (client_with id self.now.clients) }
+    /// How many holdings the client has.
+    pub fn count(&self, id: ClientId) -> Option<u64>
+        ensures is { result ≡ option_map (λ c. length c.holdings)
+            (client_with id self.now.clients) }
         ensures registry { IsRegistry self.now }
     {
-        Some(self.ledgers.get(id)?.holdings())
+        Some(self.ledgers.get(id)?.count() as u64)
     }
 
-    /// The client's lowest holding, where it has one.
+    /// Copies the client's holdings, rising by first frame, to the front of the list, which has
+    /// room for 4,096, and says how many they are.
+    pub fn copy_holdings(&self, id: ClientId, list: &mut [Range]) -> Option<usize>
+        requires { MAX_HOLDINGS ≤ length list.old }
+        ensures some { IfSome (client_with id self.now.clients) (λ c.
+            (result ≡ Some (length c.holdings))
+            × (take (length c.holdings) list.new ≡ c.holdings)) }
+        ensures none { IfNone (client_with id self.now.clients) (result ≡ None) }
+        ensures few { IfSome result (λ n. n ≤ MAX_HOLDINGS) }
+        ensures len { length list.new ≡ length list.old }
+    {
+        // for the proof: a client has 4,096 holdings at most
+        let _sums = &self.sums;
+        let ledger = self.ledgers.get(id)?;
+        ledger.copy_to(list);
+        Some(ledger.count())
+    }
+
+    /// Appends the client's holdings, rising by first frame, at most 4,096. Refused by `NoClient`
+    /// where there is no such client, else by `NoMemory` where memory is refused; then nothing is
+    /// appended. Where the list has room for 4,096 more it takes no memory.
+    pub fn append_holdings(&self, id: ClientId, list: &mut Vec<Range>) -> Result<(), Refusal>
+        ensures is { AppendsHoldings (client_with id self.now.clients) list.old.items
+            list.new.items result }
+        ensures unchanged { OnErr result (list.new.items ≡ list.old.items) }
+        ensures room { vec_len list.old + MAX_HOLDINGS ≤ vec_capacity list.old
+            → result ≢ Err Refusal.NoMemory }
+        ensures capacity { vec_capacity list.old ≤ vec_capacity list.new }
+    {
+        // for the proof: a client has 4,096 holdings at most
+        let _sums = &self.sums;
+        let Some(ledger) = self.ledgers.get(id) else {
+            return Err(Refusal::NoClient);
+        };
+        ledger.append_to(list)
+    }
+
+    /// The client's lowest holding, where it has one. Unless the client is closing this looks
+    /// through its holdings.
     pub fn first(&self, id: ClientId) -> Option<Range>
         ensures is { result ≡ option_and_then lowest (client_with id self.now.clients) }
         ensures registry { IsRegistry self.now }
     {
-        self.ledgers.get(id)?.holdings().first().copied()
+        self.ledgers.get(id)?.first()
     }
 
-    /// The holding that begins at `lo`, of a client of this worker that isn't closing: a look-up
-    /// and a binary search.
+    /// The holding that begins at `lo`, of a client of this worker that isn't closing: two
+    /// look-ups.
     pub fn to_unmap(&self, worker: u64, id: ClientId, lo: u64) -> Option<Range>
         ensures { result ≡ option_and_then (unmapped_of lo)
             (client_of worker id self.now.clients) }
@@ -234,22 +272,11 @@ impl Clients {
         }
     }
 
-    /// Whether the client was looked up or opened last, is one of this worker, isn't closing, and
-    /// its first holding begins there.
+    /// Whether the client was looked up or opened last, is one of this worker, and isn't closing.
     #[inline(always)]
-    pub fn holds_first(&self, worker: u64, id: ClientId, lo: u64) -> bool {
+    pub fn is_at_hand(&self, worker: u64, id: ClientId) -> bool {
         match self.ledgers.last(id) {
-            Some(ledger) => ledger.worker() == worker && !ledger.is_closing() && ledger.begins(lo),
-            None => false,
-        }
-    }
-
-    /// Whether the client was looked up or opened last, and a holding that begins there comes
-    /// behind all its others.
-    #[inline(always)]
-    fn adds_last(&self, id: ClientId, lo: u64) -> bool {
-        match self.ledgers.last(id) {
-            Some(ledger) => ledger.adds_last(lo),
+            Some(ledger) => ledger.worker() == worker && !ledger.is_closing(),
             None => false,
         }
     }
@@ -296,49 +323,11 @@ impl Clients {
         ensures others { (other : ℕ) → other ≢ id
             → spare_of other self.new ≡ spare_of other self.old }
     {
-        if self.adds_last(id, range.lo()) {
-            self.add_here(id, range);
-            return range;
-        }
-        self.add_elsewhere(id, range)
-    }
-
-    /// Out of line, so that the caller has nothing to keep meanwhile.
-    #[inline(never)]
-    fn add_elsewhere(&mut self, id: ClientId, range: Range) -> Range
-        requires client { IsSomeAnd (client_with id self.old.clients) (CanBeGiven range) }
-        requires spare { 1 ≤ spare_of id self.old }
-        requires sized { range.len ≤ MAX_FRAMES }
-        requires low { range.lo + range.len ≤ 2 ^ 40 }
-        ensures range { result ≡ range }
-        ensures clients { self.new.clients
-            ≡ change_client id (with_holding range) self.old.clients }
-        ensures serial { self.new.serial ≡ self.old.serial }
-        ensures spare { spare_of id self.new + 1 ≡ spare_of id self.old }
-        ensures others { (other : ℕ) → other ≢ id
-            → spare_of other self.new ≡ spare_of other self.old }
-    {
-        self.add_here(id, range);
-        range
-    }
-
-    #[inline(always)]
-    fn add_here(&mut self, id: ClientId, range: Range)
-        requires client { IsSomeAnd (client_with id self.old.clients) (CanBeGiven range) }
-        requires spare { 1 ≤ spare_of id self.old }
-        requires sized { range.len ≤ MAX_FRAMES }
-        requires low { range.lo + range.len ≤ 2 ^ 40 }
-        ensures clients { self.new.clients
-            ≡ change_client id (with_holding range) self.old.clients }
-        ensures serial { self.new.serial ≡ self.old.serial }
-        ensures spare { spare_of id self.new + 1 ≡ spare_of id self.old }
-        ensures others { (other : ℕ) → other ≢ id
-            → spare_of other self.new ≡ spare_of other self.old }
-    {
         let ledger = self.ledgers.get_mut(id).unwrap();
         ledger.add(range);
         let worker = ledger.worker();
         self.sums.add(worker, range);
+        range
     }
 
     /// The client gives up its holding that begins at `lo`.
@@ -375,7 +364,7 @@ impl Clients {
     {
         let ledger = self.ledgers.get_mut(id).ok_or(Refusal::NoClient)?;
         ledger.mark_closing();
-        Ok(ledger.holdings().len() as u64)
+        Ok(ledger.count() as u64)
     }
 
     /// Forgets a client that is closing and has no holding. Its serial is not given again.

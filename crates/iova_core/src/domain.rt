@@ -1,5 +1,5 @@
 //! A domain: its steps, one at a time and in runs, and its readers.
-ghost use Rattle.std.specs.Prelude.{◌≡◌, ◌≢◌, ◌≤◌, ◌<◌, ◌⊎◌, ◌^◌, ℕ, [], take, replicate, sum_by, find, length, Some, IfOk, IfSome, IsTrue, OnOk, OnErr, IsErr, ◌↔◌, Err, option_map, option_copied};
+ghost use Rattle.std.specs.Prelude.{◌≡◌, ◌≢◌, ◌≤◌, ◌<◌, ◌⊎◌, ◌^◌, ℕ, [], ◌+◌, take, replicate, sum_by, find, length, vec_len, vec_capacity, Some, None, IfOk, IfSome, IfNone, IsTrue, OnOk, OnErr, IsErr, ◌↔◌, Err, option_map};
 ghost use Rattle.iova_model.specs.Fit.{is_covered};
 ghost use Rattle.iova_model.specs.Clients.{Client, client_with, begins_at, newer_client, share_of, totals};
 ghost use Rattle.iova_range.specs.Frames.{covers};
@@ -9,6 +9,7 @@ ghost use Rattle.iova_model.specs.Valid.{IsValid};
 ghost use Rattle.iova_model.specs.Promises.{Runs};
 ghost use Rattle.iova_model.specs.Effects.{to_queue};
 ghost use Rattle.iova_model.specs.Next.{next, reserve, open_client, alloc, unmap, unmap_held, begin, end, drain, close, close_one};
+ghost use Rattle.iova_clients.specs.Registry.{AppendsHoldings};
 ghost use Rattle.iova_core.specs.Domain.{IsStepOf, place_inside, frames_in_rings};
 
 use crate::reclaim::{drain, drain_unless};
@@ -27,7 +28,7 @@ use iova_model::place::{Counts, Place};
 use iova_model::step::{Point, Reply, Step};
 use iova_model::totals::Totals;
 use iova_range::bounds::Bounds;
-use iova_range::limits::{MAX_FRAMES, MAX_WORKERS, ORDERS};
+use iova_range::limits::{MAX_FRAMES, MAX_HOLDINGS, MAX_WORKERS, ORDERS};
 use iova_range::range::Range;
 use iova_range::refusal::Refusal;
 use iova_range::sizes::{is_cached, order_for, order_of_need, size_for};
@@ -355,7 +356,7 @@ impl Domain {
         ensures state { self.new ≡ (unmap self.old worker client lo).state }
         ensures point { result.1 ≡ Point.Never }
     {
-        if self.queues_at_once(worker, client, lo) {
+        if self.queues_at_once(worker, client) {
             self.unmap_here(worker, client, lo)
         } else {
             self.unmap_otherwise(worker, client, lo)
@@ -372,12 +373,12 @@ impl Domain {
         self.unmap_elsewhere(worker, client, lo)
     }
 
-    /// Whether the client is that of the step before, its first holding begins there, and nothing
-    /// leaves the worker's ring. Nothing is promised: either way the step is the same.
+    /// Whether the client is that of the step before, and nothing leaves the worker's ring. Nothing
+    /// is promised: either way the step is the same.
     #[inline(always)]
-    pub fn queues_at_once(&self, worker: u64, client: ClientId, lo: u64) -> bool {
+    pub fn queues_at_once(&self, worker: u64, client: ClientId) -> bool {
         worker < self.workers()
-            && self.clients.holds_first(worker, client, lo)
+            && self.clients.is_at_hand(worker, client)
             && self.rings[worker as usize].waits(self.flights.finish())
     }
 
@@ -609,18 +610,46 @@ impl Domain {
         self.tree.windows()
     }
 
-    /// The client's holdings, rising by first frame.
+    /// How many holdings the client has.
     #[inline]
-    pub fn holdings_of(&self, client: ClientId) -> Option<&[Range]>
-        ensures { option_copied result ≡ option_map (λ c. c.holdings)
+    pub fn count_of(&self, client: ClientId) -> Option<u64>
+        ensures { result ≡ option_map (λ c. length c.holdings)
             (client_with client self.now.clients) }
     {
-        self.clients.holdings(client)
+        self.clients.count(client)
+    }
+
+    /// Copies the client's holdings, rising by first frame, to the front of the list, which has
+    /// room for 4,096, and says how many they are.
+    pub fn copy_holdings(&self, client: ClientId, list: &mut [Range]) -> Option<usize>
+        requires { MAX_HOLDINGS ≤ length list.old }
+        ensures some { IfSome (client_with client self.now.clients) (λ c.
+            (result ≡ Some (length c.holdings))
+            × (take (length c.holdings) list.new ≡ c.holdings)) }
+        ensures none { IfNone (client_with client self.now.clients) (result ≡ None) }
+        ensures few { IfSome result (λ n. n ≤ MAX_HOLDINGS) }
+        ensures len { length list.new ≡ length list.old }
+    {
+        self.clients.copy_holdings(client, list)
+    }
+
+    /// Appends the client's holdings, rising by first frame, at most 4,096. Refused by `NoClient`
+    /// where there is no such client, else by `NoMemory` where memory is refused; then nothing is
+    /// appended. Where the list has room for 4,096 more it takes no memory.
+    pub fn append_holdings(&self, client: ClientId, list: &mut Vec<Range>) -> Result<(), Refusal>
+        ensures is { AppendsHoldings (client_with client self.now.clients) list.old.items
+            list.new.items result }
+        ensures unchanged { OnErr result (list.new.items ≡ list.old.items) }
+        ensures room { vec_len list.old + MAX_HOLDINGS ≤ vec_capacity list.old
+            → result ≢ Err Refusal.NoMemory }
+        ensures capacity { vec_capacity list.old ≤ vec_capacity list.new }
+    {
+        self.clients.append_holdings(client, list)
     }
 
     /// The range that this step would put into its worker's ring if the ring had room: none where
     /// it is refused before the ring is asked, and none for a step that queues nothing. It takes
-    /// one look-up and a binary search.
+    /// two look-ups.
     pub fn to_queue(&self, step: Step) -> Option<Range>
         ensures { result ≡ to_queue self.now step }
     {

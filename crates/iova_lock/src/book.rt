@@ -1,7 +1,7 @@
 //! The value under the lock.
 ghost use Rattle.iova_record.specs.Records.{WritesLog};
 ghost use Rattle.iova_report.specs.Report.{report_text};
-ghost use Rattle.std.specs.Prelude.{OnErr, OnOk, ◌++◌, ◌≡◌, ◌≢◌, ◌+◌, ◌<◌, ◌≤◌, ◌*◌, ◌⊎◌, ◌↔◌, Err, IsErr, option_copied, option_map, true, false, if◌then◌else◌, Some, None, [], ◌∷◌, IfOk, IfSome, MatchResult, MatchOption, List, length};
+ghost use Rattle.std.specs.Prelude.{OnErr, OnOk, ◌++◌, ◌≡◌, ◌≢◌, ◌+◌, ◌<◌, ◌≤◌, ◌*◌, ◌⊎◌, ◌↔◌, Err, IsErr, vec_len, vec_capacity, IfErr, option_copied, option_map, true, false, if◌then◌else◌, Some, None, [], ◌∷◌, IfOk, IfSome, MatchResult, MatchOption, List, length};
 ghost use Rattle.iova_range.specs.declared.limits.TheConstants.{MAX_CLIENTS, MAX_HOLDINGS, MAX_PAIRS, SEAT_PARTS, TALLY_PARTS};
 ghost use Rattle.iova_range.specs.Frames.{Frames};
 ghost use Rattle.iova_model.specs.Clients.{totals, client_of, no_totals};
@@ -9,6 +9,7 @@ ghost use Rattle.iova_model.specs.State.{State, new_domain};
 ghost use Rattle.iova_model.specs.Valid.{Rises};
 ghost use Rattle.iova_model.specs.Effects.{MovesTotals, IsReplyTo, ended_well, to_queue, worker_of};
 ghost use Rattle.iova_keep.specs.Steps.{Takes, IsGivenWithin, IsDrainReply};
+ghost use Rattle.iova_keep.specs.Answers.{ReadsHoldings};
 ghost use Rattle.iova_keep.specs.StepLogs.{StepLog, IsRecorded, is_recording, new_log};
 ghost use Rattle.iova_keep.specs.Events.{Does, Unmapping, IsShort, Closing, Draining, rings_from};
 ghost use Rattle.iova_lock.specs.Books.{BookState, IsSame, ReadsNewer, by_seat, by_tally, new_book, steps_in, IsBook};
@@ -318,12 +319,9 @@ impl<B: Names> Book<B> {
         let Some(id) = domain.newer(worker, than) else {
             return Ok(None);
         };
-        let Some(held) = domain.holdings_of(id) else {
-            return Ok(Some(id));
-        };
-        match ranges.extend_from_slice(held) {
-            Ok(()) => Ok(Some(id)),
-            Err(_) => Err(Refusal::NoMemory),
+        match domain.append_holdings(id, ranges) {
+            Err(Refusal::NoMemory) => Err(Refusal::NoMemory),
+            _ => Ok(Some(id)),
         }
     }
 
@@ -395,16 +393,27 @@ impl<B: Names> Book<B> {
         self.recorded.stat()
     }
 
-    /// The holdings of the worker's client, rising by first frame.
-    pub(crate) fn holdings_of(&self, worker: u64, id: u64) -> Option<&[Range]>
-        ensures is { option_copied result ≡ option_map (λ c. c.holdings)
-            (client_of worker id self.now.state.clients) }
-        ensures kept { IfSome (option_copied result)
-            (λ held. (length held ≤ MAX_HOLDINGS) × Rises 0 held) }
+    /// Appends the holdings of the worker's client, rising by first frame.
+    pub(crate) fn append_holdings(
+        &self,
+        worker: u64,
+        id: u64,
+        ranges: &mut Vec<Range>,
+    ) -> Result<(), Refusal>
+        ensures is { ReadsHoldings worker id ranges.old.items ranges.new.items result
+            self.now.state }
+        ensures ok { OnOk result ((more : List Frames)
+            × (ranges.new.items ≡ ranges.old.items ++ more) × Rises 0 more) }
+        ensures most { length ranges.new.items ≤ length ranges.old.items + MAX_HOLDINGS }
+        ensures room { vec_len ranges.old + MAX_HOLDINGS ≤ vec_capacity ranges.old
+            → result ≢ Err Refusal.NoMemory }
+        ensures capacity { vec_capacity ranges.old ≤ vec_capacity ranges.new }
+        ensures err { IfErr result (λ e. ((e ≡ Refusal.NoClient) ⊎ (e ≡ Refusal.NoMemory))
+            × (ranges.new.items ≡ ranges.old.items)) }
     {
         // for the proof: what the domain keeps
         self.recorded.is_kept();
-        self.recorded.holdings(worker, id)
+        self.recorded.append_holdings(worker, id, ranges)
     }
 
     pub(crate) fn into_domain(self) -> Domain

@@ -317,13 +317,7 @@ impl<B: Names> Keep<B> for Book<B> {
         id: ClientId,
         ranges: &mut Vec<Range>,
     ) -> Result<(), Refusal> {
-        let Some(held) = self.holdings_of(seat.worker(), id) else {
-            return Err(Refusal::NoClient);
-        };
-        match ranges.extend_from_slice(held) {
-            Ok(()) => Ok(()),
-            Err(_) => Err(Refusal::NoMemory),
-        }
+        self.append_holdings(seat.worker(), id, ranges)
     }
 
     fn totals(&self) -> Totals {

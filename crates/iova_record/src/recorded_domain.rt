@@ -1,7 +1,9 @@
 //! The one door to a domain that a keeper has: every step goes through `RecordedDomain::step`,
 //! which records it.
-ghost use Rattle.std.specs.Prelude.{ℕ, ◌≡◌, ◌≢◌, ◌+◌, ◌<◌, ◌⊎◌, ◌++◌, ◌∷◌, IfOk, IfErr, IsErr, Err, ◌≤◌, ◌↔◌, Some, None, [], true, false, option_copied, option_map};
+ghost use Rattle.std.specs.Prelude.{ℕ, ◌≡◌, ◌≢◌, ◌+◌, ◌<◌, ◌⊎◌, ◌++◌, ◌∷◌, IfOk, IfErr, IsErr, Err, ◌≤◌, ◌↔◌, Some, None, [], true, false, option_copied, option_map, OnErr, vec_len, vec_capacity};
+ghost use Rattle.iova_range.specs.declared.limits.TheConstants.{MAX_HOLDINGS};
 ghost use Rattle.iova_range.specs.Frames.{Frames};
+ghost use Rattle.iova_keep.specs.Answers.{ReadsHoldings};
 ghost use Rattle.iova_model.specs.Clients.{totals, client_of};
 ghost use Rattle.iova_model.specs.State.{State, new_domain};
 ghost use Rattle.iova_model.specs.Effects.{MovesTotals, IsReplyTo, ended_well, to_queue, worker_of};
@@ -227,15 +229,26 @@ impl RecordedDomain {
         }
     }
 
-    /// The holdings of the worker's client, rising by first frame.
-    pub fn holdings(&self, worker: u64, client: u64) -> Option<&[Range]>
-        ensures { option_copied result ≡ option_map (λ c. c.holdings)
-            (client_of worker client self.now.state.clients) }
+    /// Appends the holdings of the worker's client, at most 4,096, rising by first frame. Refused
+    /// by `NoClient` and `NoMemory`; then nothing is appended. Where the list has room for 4,096
+    /// more it takes no memory.
+    pub fn append_holdings(
+        &self,
+        worker: u64,
+        client: u64,
+        list: &mut Vec<Range>,
+    ) -> Result<(), Refusal>
+        ensures is { ReadsHoldings worker client list.old.items list.new.items result
+            self.now.state }
+        ensures unchanged { OnErr result (list.new.items ≡ list.old.items) }
+        ensures room { vec_len list.old + MAX_HOLDINGS ≤ vec_capacity list.old
+            → result ≢ Err Refusal.NoMemory }
+        ensures capacity { vec_capacity list.old ≤ vec_capacity list.new }
     {
         if self.domain.owner(client) != Some(worker) {
-            return None;
+            return Err(Refusal::NoClient);
         }
-        self.domain.holdings_of(client)
+        self.domain.append_holdings(client, list)
     }
 
     /// What the domain keeps.
@@ -300,10 +313,7 @@ impl RecordedDomain {
     pub fn left(&self, client: u64) -> u64
         ensures { result ≡ left_of client self.now.state }
     {
-        match self.domain.holdings_of(client) {
-            Some(holdings) => holdings.len() as u64,
-            None => 0,
-        }
+        self.domain.count_of(client).unwrap_or(0)
     }
 
     /// Whether steps are still recorded.

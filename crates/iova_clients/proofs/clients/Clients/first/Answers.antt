@@ -1,5 +1,4 @@
 use Rattle.std.proofs.Common.{option_and_then, option_copied, sym, ap, ◌∙◌}
-use Rattle.std.specs.Prelude.{slice_get}
 use Rattle.iova_clients.specs.Registry.{lowest}
 use Rattle.iova_clients.proofs.Changed.{client_some, client_none}
 use Rattle.iova_clients.proofs.clients.Clients.first.Goals as goal
@@ -12,4 +11,4 @@ returns-in_err-get-clause-is c =
 pub returns-clause-is : goal.returns-clause-is
 returns-clause-is c =
     let some = client_some c.args.id c.self.inside.ledgers c.in_ok-get.field-0.now (sym c.get.ensures ∙ ap (λ o. option_copied o) c.in_ok-get.was) in
-    rw (← c.self.view_is) (c.copied.ensures ∙ (c.first.ensures.value ∙ (ap (λ hs. slice_get hs 0) c.holdings.ensures ∙ sym (ap (λ o. option_and_then lowest o) some))))
+    rw (← c.self.view_is) (c.first.ensures ∙ sym (ap (λ o. option_and_then lowest o) some))

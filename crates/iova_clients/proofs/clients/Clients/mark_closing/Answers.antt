@@ -39,7 +39,7 @@ returns-clause-value c =
     let a = c.in_ok-ledger.ledger.now in
     let found = found_mut c.get_mut.result c.in_ok-ledger.ledger _ c.get_mut.ensures.value (c.ok_or.ensures.ok_part ∙ ap (λ r. result_ok r) c.in_ok-ledger.was) in
     let client = client_some c.args.id es a found in
-    rw (← c.self.view_is) (ap (λ hs. Ok (length hs)) (c.holdings.ensures ∙ ap (λ (x : Account). x.holdings) c.mark_closing.ensures) ∙ sym (ap (λ o. count_held o) client))
+    rw (← c.self.view_is) (ap (λ n. Ok n) (c.count.ensures ∙ ap (λ (x : Account). length x.holdings) c.mark_closing.ensures) ∙ sym (ap (λ o. count_held o) client))
 
 pub returns-clause-clients : goal.returns-clause-clients
 returns-clause-clients c =

@@ -19,13 +19,6 @@ returns-in_err-ledger-clause-value c =
     let none = client_none c.args.id c.self.inside.ledgers (none_mut c.get_mut.result _ c.get_mut.ensures.value at.1) in
     rw (p.1, p.2, at.0, ← c.self.view_is) (sym (ap (λ o. held_at c.args.lo o) none))
 
-pub take-requires : goal.take-requires
-take-requires c =
-    let es = c.self.inside.ledgers in
-    let a = c.in_ok-ledger.ledger.now in
-    let found = found_mut c.get_mut.result c.in_ok-ledger.ledger _ c.get_mut.ensures.value (c.ok_or.ensures.ok_part ∙ ap (λ r. result_ok r) c.in_ok-ledger.was) in
-    (client_is c.args.id es a _ refl c.self.invariant.registry found).rising
-
 pub invariant_of-self-in_err-range : goal.invariant_of-self-in_err-range
 invariant_of-self-in_err-range c =
     let es = c.self.inside.ledgers in

@@ -3,7 +3,6 @@ use Rattle.std.proofs.lemmas.Bool.Decides.{nat_tests}
 use Rattle.iova_model.specs.Clients.{Client, begins_at, if_owned}
 use Rattle.iova_model.specs.Effects.{unmapped_of}
 use Rattle.iova_clients.proofs.Changed.{client_some, client_none}
-use Rattle.iova_clients.proofs.Kept.{client_is}
 use Rattle.iova_clients.proofs.clients.Clients.to_unmap.Goals as goal
 
 none_of : (w lo : ℕ) (o : Option Client) → o ≡ None → None ≡ option_and_then (unmapped_of lo) (option_and_then (if_owned w) o)
@@ -35,10 +34,7 @@ returns-then-is_closing c =
     rw (← c.self.view_is) (shut c.args.worker c.args.lo _ _ some (sym c.worker.ensures ∙ sym c.if-worker.false) (sym c.is_closing.ensures ∙ c.if-is_closing.true))
 
 pub holding-requires : goal.holding-requires
-holding-requires c =
-    let es = c.self.inside.ledgers in
-    let a = c.in_ok-ledger.ledger.now in
-    (client_is c.args.id es a _ refl c.self.invariant.registry (sym c.get.ensures ∙ ap (λ o. option_copied o) c.in_ok-ledger.was)).rising
+holding-requires c = sym c.is_closing.ensures ∙ c.if-is_closing.false
 
 pub returns : goal.returns
 returns c =
