@@ -5,11 +5,16 @@
                                   of one, the best of three runs. A name may end before a slash: then it is all of these
    cases count ours|kernel CASE   one run of a tenth of the operations, for a tool that counts the instructions of the
                                   function `timed` and of what it calls; prints the name and the operations
+   cases longest ours|kernel CASE the nanoseconds of the longest operation of a run, the least of five runs: cases that
+                                  search beside others alone
+   cases memory ours|kernel       the bytes of the heap for each of 1,000,000 live ranges, and once more when as many
+                                  random ones were given up and others taken
 
    Where one operation takes long, fewer are run. HERE is the folder of this file. */
 #include "side.h"
 
 #include <limits.h>
+#include <malloc.h>
 #include <stdlib.h>
 #include <string.h>
 #include <time.h>
@@ -20,7 +25,7 @@ enum { RUNS = 3, EACH = 4000 /* ranges of one client */ };
 
 static const struct side *side;
 static long count = 1000000; /* operations of a run */
-static int runs = RUNS, is_counted;
+static int runs = RUNS, is_counted, is_longest;
 static uint64_t state;
 
 void must(int is, const char *what) {
@@ -61,10 +66,10 @@ static struct held {
   uint64_t lo;
   uint64_t frames;
 } *held;
-static long live;
-static uint64_t size_of_search;
+static long live, turn;
+static uint64_t size_of_search, sizes = 32;
 
-static uint64_t some_size(void) { return 33 + below(32); }
+static uint64_t some_size(void) { return 33 + below(sizes); }
 
 static void place(long k, uint64_t frames, uint64_t limit) {
   held[k] = (struct held){side->ask(k / EACH, frames, limit), frames};
@@ -117,7 +122,7 @@ static void b2(long count) {
 
 static void b3(long count) {
   for (long i = 0; i < count; i++)
-    renew(live - 1 - i % 2);
+    renew(live - 1 - turn++ % 2);
 }
 
 /* A search from the top, and what it finds is given up at once. The kernel remembers where it was last, which is set
@@ -125,7 +130,7 @@ static void b3(long count) {
 static void search(long count) {
   for (long i = 0; i < count; i++) {
     side->from_top();
-    uint64_t lo = side->ask(live / EACH, size_of_search, TOP - (uint64_t)(i % 2));
+    uint64_t lo = side->ask(live / EACH, size_of_search, TOP - (uint64_t)(turn++ % 2));
     if (lo)
       side->drop(live / EACH, lo, size_of_search);
   }
@@ -138,10 +143,13 @@ static const struct {
   uint64_t size;  /* of what is searched */
   int has_no_rest; /* whether the domain ends where the holes end */
   long steps;     /* at most so many operations times live ranges */
+  uint64_t sizes; /* so many sizes from 33 on are asked for */
 } trees[] = {
-    {"b1", fill, b1, 0, 0, 500000000},          {"b2", fill, b2, 0, 0, LONG_MAX},
-    {"b3", fill, b3, 0, 0, LONG_MAX},           {"c1", holes, search, 100, 0, 10000000},
-    {"c3", holes, search, 100, 1, 10000000},    {"c4", misaligned, search, 64, 0, 10000000},
+    {"b1", fill, b1, 0, 0, 500000000, 32},       {"b2", fill, b2, 0, 0, LONG_MAX, 32},
+    {"b3", fill, b3, 0, 0, LONG_MAX, 32},        {"w1", fill, b1, 0, 0, 500000000, 4000},
+    {"w2", fill, b2, 0, 0, LONG_MAX, 4000},      {"w3", fill, b3, 0, 0, LONG_MAX, 4000},
+    {"c1", holes, search, 100, 0, 10000000, 32}, {"c3", holes, search, 100, 1, 10000000, 32},
+    {"c4", misaligned, search, 64, 0, 10000000, 32},
 };
 enum { TREES = sizeof trees / sizeof *trees };
 
@@ -152,10 +160,21 @@ static void tell(const char *name, long count, uint64_t nanos) {
     printf("%s  %ld  %.1f\n", name, count, (double)nanos / (double)count);
 }
 
+/* The longest of so many operations. */
+static uint64_t longest(void (*run)(long count), long count) {
+  uint64_t most = 0;
+  for (long k = 0; k < count; k++) {
+    uint64_t took = timed(run, 1);
+    most = took > most ? took : most;
+  }
+  return most;
+}
+
 static void run_tree(const char *name, int which, long beside) {
   long most = least(count, trees[which].steps / beside / (is_counted ? 10 : 1));
   uint64_t best = UINT64_MAX;
   live = beside;
+  sizes = trees[which].sizes;
   size_of_search = trees[which].size;
   held = malloc((size_t)live * sizeof *held);
   must(held != NULL, "there is memory");
@@ -163,13 +182,33 @@ static void run_tree(const char *name, int which, long beside) {
   side->begin(trees[which].has_no_rest ? TOP + 1 - (uint64_t)live * 128 : 1, (int)(live / EACH + 1));
   trees[which].make();
   for (int run = 0; run < runs; run++) {
-    uint64_t took = timed(trees[which].run, most);
+    uint64_t took = is_longest ? longest(trees[which].run, most) : timed(trees[which].run, most);
     best = took < best ? took : best;
   }
   side->flush();
   must(side->live() == live, "all ranges are live, and no other");
   free(held);
-  tell(name, most, best);
+  tell(name, is_longest ? 1 : most, best);
+}
+
+/* What the heap has lent. */
+static double lent(void) {
+  struct mallinfo2 now = mallinfo2();
+  return (double)(now.uordblks + now.hblkhd);
+}
+
+static void memory(void) {
+  live = 1000000;
+  held = malloc((size_t)live * sizeof *held);
+  must(held != NULL, "there is memory");
+  state = 42;
+  side->begin(1, (int)(live / EACH + 1));
+  double before = lent();
+  fill();
+  printf("live  %ld  %.1f\n", live, (lent() - before) / (double)live);
+  b1(live);
+  printf("exchanged  %ld  %.1f\n", live, (lent() - before) / (double)live);
+  free(held);
 }
 
 /* Requests through the caches. */
@@ -337,9 +376,16 @@ int main(int argc, char **words) {
   if (!strcmp(words[at], "count")) {
     is_counted = 1, runs = 1, count /= 10;
     at++;
+  } else if (!strcmp(words[at], "longest")) {
+    is_longest = 1, runs = 5, count /= 10;
+    at++;
   }
+  int is_memory = !strcmp(words[at], "memory");
+  at += is_memory;
   must(at < argc && (!strcmp(words[at], "ours") || !strcmp(words[at], "kernel")), "a side is named");
   side = !strcmp(words[at], "ours") ? &ours : &kernel;
+  if (is_memory)
+    memory();
   for (at++; at < argc; at++)
     must(run(words[at]), words[at]);
   return 0;

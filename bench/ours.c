@@ -3,7 +3,7 @@
 
 #include <iova.h>
 
-enum { CLIENTS = 64 };
+enum { CLIENTS = 256 };
 
 static iova_domain room;
 static uint64_t numbers[CLIENTS];
