@@ -331,16 +331,16 @@ strays_at home bs h k p r b b' s s' at lt is g more = step (p == k) refl
         let all : of_home home p (all_ranges (set bs k b')) ≡ weigh r + of_home home p (all_ranges bs) = gains_in r bs k b b' lt is g weigh in
         rw there (λ old. omega (arith, all, old, more, one), λ new. omega (arith, all, new, more, one))
 
-pub IsTable-more : (bs : List (List Frames)) (s s' : List ℕ) (shift h k room room' : ℕ) (r : Frames) (b b' : List Frames) → IsTable bs s shift room → h ≡ home_of shift r.lo → k < length bs → b ≡ get_or bs k b → Gains r b b'
-    → length s' ≡ length s → room ≡ room' + 1 → ((p : ℕ) → get_or s' p 0 ≡ get_or s p 0 + stray_at h k p) → IsTable (set bs k b') s' shift room'
-IsTable-more bs s s' shift h k room room' r b b' t own lt is g long less more =
+pub IsTable-more : (bs : List (List Frames)) (s s' : List ℕ) (bits h k room room' : ℕ) (r : Frames) (b b' : List Frames) → IsTable bs s bits room → h ≡ home_of bits r.lo → k < length bs → b ≡ get_or bs k b → Gains r b b'
+    → length s' ≡ length s → room ≡ room' + 1 → ((p : ℕ) → get_or s' p 0 ≡ get_or s p 0 + stray_at h k p) → IsTable (set bs k b') s' bits room'
+IsTable-more bs s s' bits h k room room' r b b' t own lt is g long less more =
     let same = length-set bs k b' in
     record {
-      shifts = t.shifts;
       least = t.least;
+      most = t.most;
       count = same ∙ t.count;
       slots = long ∙ (t.slots ∙ sym same);
-      away = λ p at. (strays_at (home_of shift) bs h k p r b b' (get_or s p 0) (get_or s' p 0) own lt is g (more p)).0 (t.away p (omega (arith, at, same)));
+      away = λ p at. (strays_at (home_of bits) bs h k p r b b' (get_or s p 0) (get_or s' p 0) own lt is g (more p)).0 (t.away p (omega (arith, at, same)));
       fills = omega (arith, t.fills, less, same, length_gains r (all_ranges bs) (all_ranges (set bs k b')) (gains_in r bs k b b' lt is g));
     }
 
@@ -350,22 +350,22 @@ back [] k b b' lt is = absurd (omega arith)
 back (x ∷ bs) zero b b' lt is = ap (λ y. y ∷ bs) is
 back (x ∷ bs) (suc k) b b' lt is = ap (λ l. x ∷ l) (back bs k b b' (omega arith) is)
 
-pub IsTable-less : (bs : List (List Frames)) (s s' : List ℕ) (shift h k room room' : ℕ) (r : Frames) (b b' : List Frames) → IsTable bs s shift room → h ≡ home_of shift r.lo → k < length bs → b ≡ get_or bs k b → Gains r b' b
-    → length s' ≡ length s → room' ≡ room + 1 → ((p : ℕ) → get_or s p 0 ≡ get_or s' p 0 + stray_at h k p) → IsTable (set bs k b') s' shift room'
-IsTable-less bs s s' shift h k room room' r b b' t own lt is g long more less =
+pub IsTable-less : (bs : List (List Frames)) (s s' : List ℕ) (bits h k room room' : ℕ) (r : Frames) (b b' : List Frames) → IsTable bs s bits room → h ≡ home_of bits r.lo → k < length bs → b ≡ get_or bs k b → Gains r b' b
+    → length s' ≡ length s → room' ≡ room + 1 → ((p : ℕ) → get_or s p 0 ≡ get_or s' p 0 + stray_at h k p) → IsTable (set bs k b') s' bits room'
+IsTable-less bs s s' bits h k room room' r b b' t own lt is g long more less =
     let same = length-set bs k b' in
     let cs = set bs k b' in
     let was : set cs k b ≡ bs = back bs k b b' lt is in
     let there : b' ≡ get_or cs k b' = sym (get_or-set_same bs k b' b' lt) in
     let within : k < length cs = omega (arith, same, lt) in
     record {
-      shifts = t.shifts;
       least = t.least;
+      most = t.most;
       count = same ∙ t.count;
       slots = long ∙ (t.slots ∙ sym same);
       away = λ p at.
           let old = t.away p (omega (arith, at, same)) in
-          (strays_at (home_of shift) cs h k p r b' b (get_or s' p 0) (get_or s p 0) own within there g (less p)).1 (rw was old);
+          (strays_at (home_of bits) cs h k p r b' b (get_or s' p 0) (get_or s p 0) own within there g (less p)).1 (rw was old);
       fills = omega (arith, t.fills, more, same, length_gains r (all_ranges cs) (all_ranges bs) (gains_out r bs k b b' lt is g));
     }
 
@@ -375,13 +375,13 @@ set_same (x ∷ bs) zero b b' lt is same = ap (λ y. y ∷ bs) (same ∙ is)
 set_same (x ∷ bs) (suc k) b b' lt is same = ap (λ l. x ∷ l) (set_same bs k b b' (omega arith) is same)
 
 -- one that is taken from where it was found
-pub IsTable-taken : (o : Option Frames) (bs : List (List Frames)) (s s' : List ℕ) (shift h k lo room room' : ℕ) (b b' : List Frames) → IsTable bs s shift room → h ≡ home_of shift lo → k < length bs → b ≡ get_or bs k b
+pub IsTable-taken : (o : Option Frames) (bs : List (List Frames)) (s s' : List ℕ) (bits h k lo room room' : ℕ) (b b' : List Frames) → IsTable bs s bits room → h ≡ home_of bits lo → k < length bs → b ≡ get_or bs k b
     → o ≡ find (begins_at lo) b → find (begins_at lo) (get_or bs k []) ≢ None → IfSome o (λ r. Gains r b' b)
-    → length s' ≡ length s → room' ≡ room + 1 → ((p : ℕ) → get_or s p 0 ≡ get_or s' p 0 + stray_at h k p) → IsTable (set bs k b') s' shift room'
-IsTable-taken None bs s s' shift h k lo room room' b b' t own lt is value some g long more less = absurd (some (rw (bucket_at bs k b lt is) (sym value)))
-IsTable-taken (Some r) bs s s' shift h k lo room room' b b' t own lt is value some g long more less =
+    → length s' ≡ length s → room' ≡ room + 1 → ((p : ℕ) → get_or s p 0 ≡ get_or s' p 0 + stray_at h k p) → IsTable (set bs k b') s' bits room'
+IsTable-taken None bs s s' bits h k lo room room' b b' t own lt is value some g long more less = absurd (some (rw (bucket_at bs k b lt is) (sym value)))
+IsTable-taken (Some r) bs s s' bits h k lo room room' b b' t own lt is value some g long more less =
     let at : r.lo ≡ lo = found_begins lo b r (sym value) in
-    IsTable-less bs s s' shift h k room room' r b b' t (own ∙ ap (home_of shift) (sym at)) lt is g long more less
+    IsTable-less bs s s' bits h k room room' r b b' t (own ∙ ap (home_of bits) (sym at)) lt is g long more less
 
 -- a range that is found elsewhere than at its home counts as a stray
 pub is_stray : (home : ℕ → ℕ) (bs : List (List Frames)) (s : List ℕ) (h k lo : ℕ) → h ≡ home lo → h < length bs → k < length bs → k ≢ h → find (begins_at lo) (get_or bs k []) ≢ None → AreStrays home bs s → 1 ≤ get_or s h 0
@@ -410,10 +410,10 @@ in_order-empty home n = nothing (in_order home (replicate n [])) (length_in_orde
     nothing [] none = refl
     nothing (x ∷ xs) none = absurd (omega arith)
 
-pub IsTable-new : (bs : List (List Frames)) (s : List ℕ) (n shift room : ℕ) → bs ≡ replicate n [] → s ≡ replicate n 0 → n ≡ 2 ^ (64 - shift) → 48 + room ≡ 6 * n → shift ≤ 60 → 44 ≤ shift → IsTable bs s shift room
-IsTable-new bs s n shift room is none long six lt le = rw (is, none) (record {
-  shifts = lt;
-  least = le;
+pub IsTable-new : (bs : List (List Frames)) (s : List ℕ) (n bits room : ℕ) → bs ≡ replicate n [] → s ≡ replicate n 0 → n ≡ 2 ^ bits → 48 + room ≡ 6 * n → 4 ≤ bits → bits ≤ 20 → IsTable bs s bits room
+IsTable-new bs s n bits room is none long six lt le = rw (is, none) (record {
+  least = lt;
+  most = le;
   count = length-replicate {A = List Frames} n [] ∙ long;
   slots = length-replicate {A = ℕ} n 0 ∙ sym (length-replicate {A = List Frames} n []);
   away = λ p at.
@@ -422,11 +422,11 @@ IsTable-new bs s n shift room is none long six lt le = rw (is, none) (record {
   fills = rw (all_ranges-empty n, length-replicate {A = List Frames} n []) (omega (arith, six));
 })
 
-pub held-new : (bs : List (List Frames)) (n shift : ℕ) → bs ≡ replicate n [] → in_order (home_of shift) bs ≡ []
-held-new bs n shift is = rw is (in_order-empty (home_of shift) n)
+pub held-new : (bs : List (List Frames)) (n bits : ℕ) → bs ≡ replicate n [] → in_order (home_of bits) bs ≡ []
+held-new bs n bits is = rw is (in_order-empty (home_of bits) n)
 
-pub some_buckets : (bs : List (List Frames)) (s : List ℕ) (shift room : ℕ) → IsTable bs s shift room → length bs ≤ 1048576
-some_buckets bs s shift room t = let few : 64 - shift ≤ 20 = omega (arith, t.least) in let small : 2 ^ (64 - shift) ≤ 2 ^ 20 = pow_mono few in omega (arith, small, t.count)
+pub some_buckets : (bs : List (List Frames)) (s : List ℕ) (bits room : ℕ) → IsTable bs s bits room → length bs ≤ 1048576
+some_buckets bs s bits room t = let small : 2 ^ bits ≤ 2 ^ 20 = pow_mono t.most in omega (arith, small, t.count)
 
 -- Some range of a bucket.
 
@@ -574,10 +574,10 @@ the_rest h bs = take_all (length bs - h) (drop h bs) (omega (arith, length-drop 
 pub seen_out_of : (r : Frames) (home : ℕ → ℕ) (bs : List (List Frames)) (k : ℕ) (b b' : List Frames) → k < length bs → b ≡ get_or bs k b → Gains r b' b → Gains r (in_order home (set bs k b')) (in_order home bs)
 seen_out_of r home bs k b b' lt is g = gains_seen r home (set bs k b') bs (gains_out r bs k b b' lt is g)
 
-pub new_held : (bs : List (List Frames)) (n shift m : ℕ) → bs ≡ replicate n [] → n ≡ m → (let t : Held = record { ranges = in_order (home_of shift) bs; capacity = 6 * length bs - 48 } in t) ≡ (let t : Held = record { ranges = []; capacity = 6 * m - 48 } in t)
-new_held bs n shift m is same =
+pub new_held : (bs : List (List Frames)) (n bits m : ℕ) → bs ≡ replicate n [] → n ≡ m → (let t : Held = record { ranges = in_order (home_of bits) bs; capacity = 6 * length bs - 48 } in t) ≡ (let t : Held = record { ranges = []; capacity = 6 * m - 48 } in t)
+new_held bs n bits m is same =
     let long : length bs ≡ m = ap length is ∙ (length-replicate {A = List Frames} n [] ∙ same) in
-    rw (held-new bs n shift is, long) refl
+    rw (held-new bs n bits is, long) refl
 
 -- Ranges that come together.
 
@@ -603,10 +603,8 @@ any_some None lo rs is some = absurd (some (sym is))
 any_some (Some r) lo rs is some = tt
 
 -- a table of twice the buckets
-pub twice : (shift : ℕ) → 44 ≤ shift → shift < 64 → 2 ^ (64 - (shift - 1)) ≡ 2 * 2 ^ (64 - shift)
-twice shift le lt =
-    let one : 64 - (shift - 1) ≡ 1 + (64 - shift) = omega arith in
-    rw one (pow-add 2 1 (64 - shift))
+pub twice : (bits : ℕ) → 2 ^ (bits + 1) ≡ 2 * 2 ^ bits
+twice bits = let parts = pow-add 2 bits 1 in omega (arith, parts)
 
-pub some_room : (shift : ℕ) → shift ≤ 60 → 16 ≤ 2 ^ (64 - shift)
-some_room shift le = let few : 4 ≤ 64 - shift = omega arith in let most : 2 ^ 4 ≤ 2 ^ (64 - shift) = pow_mono few in most
+pub some_room : (bits : ℕ) → 4 ≤ bits → 16 ≤ 2 ^ bits
+some_room bits le = let most : 2 ^ 4 ≤ 2 ^ bits = pow_mono le in most

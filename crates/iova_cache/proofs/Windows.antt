@@ -1,7 +1,7 @@
 -- The slots of a ring, as entries come in and leave.
 use Rattle.std.proofs.Common.{◌≡◌, ◌≢◌, ◌+◌, ◌-◌, ◌%◌, ◌<◌, ◌≤◌, ℕ, zero, suc, List, [], ◌∷◌, ◌++◌, length, get_or, set, drop, refl, sym, ap, ◌∙◌, arith}
 use Rattle.std.specs.List.{AllByRecursion}
-use Rattle.std.proofs.lemmas.List.{get_or_default, length-set, get_or-set_same, get_or-set_other}
+use Rattle.std.proofs.lemmas.List.{length-set, get_or-set_same, get_or-set_other}
 use Rattle.iova_model.specs.declared.entry.Entry.{Entry}
 use Rattle.iova_cache.specs.Waiting.{IsCachedEntry, no_entry, window, IsRing}
 
@@ -42,15 +42,10 @@ added slots head count e room lt =
     ∙ (window_more (set slots at e) head count
     ∙ (ap (λ x. window (set slots at e) head count ++ x ∷ []) last ∙ ap (λ es. es ++ e ∷ []) (beyond slots head at count e room within others)))
 
-entry_at : (slots : List Entry) (head count k : ℕ) (e : Entry) → k < count → get_or (window slots head count) k e ≡ get_or slots ((head + k) % 256) no_entry
+pub entry_at : (slots : List Entry) (head count k : ℕ) (e : Entry) → k < count → get_or (window slots head count) k e ≡ get_or slots ((head + k) % 256) no_entry
 entry_at slots head zero k e lt = absurd (omega arith)
 entry_at slots head (suc n) zero e lt = let h : head + 0 ≡ head = omega arith in rw h refl
 entry_at slots head (suc n) (suc k) e lt = let h : head + suc k ≡ (head + 1) + k = omega arith in rw h (entry_at slots (head + 1) n k e (omega arith))
-
-pub entry_is : (slots : List Entry) (head count k : ℕ) (e : Entry) → length slots ≡ 256 → k < count → e ≡ get_or slots ((head + k) % 256) e → e ≡ get_or (window slots head count) k e
-entry_is slots head count k e room lt is =
-    let within : (head + k) % 256 < length slots = omega (arith, room) in
-    is ∙ (get_or_default slots ((head + k) % 256) e no_entry within ∙ sym (entry_at slots head count k e lt))
 
 later : (slots : List Entry) (head count gone : ℕ) → gone ≤ count → drop gone (window slots head count) ≡ window slots (head + gone) (count - gone)
 later slots head count zero le = let h : head + 0 ≡ head = omega arith in let k : count - 0 ≡ count = omega arith in rw (h, k) refl

@@ -1,9 +1,9 @@
 -- What a user of a cache holds.
-use Rattle.std.specs.Prelude.{ℕ, ◌≡◌, ◌+◌, ◌-◌, ◌*◌, ◌/◌, ◌%◌, ◌^◌, ◌<◌, ◌≤◌, ◌==◌, nat_lt, List, [], ◌∷◌, ◌++◌, length, map, take, get_or, sum_by, if◌then◌else◌}
+use Rattle.std.specs.Prelude.{ℕ, ◌≡◌, ◌+◌, ◌*◌, ◌/◌, ◌%◌, ◌^◌, ◌<◌, ◌≤◌, ◌==◌, nat_lt, List, [], ◌∷◌, ◌++◌, length, map, take, get_or, sum_by, if◌then◌else◌}
 use Rattle.std.specs.List.{All}
 use Rattle.iova_range.specs.declared.limits.TheConstants.{MAX_FRAMES}
 use Rattle.iova_range.specs.Frames.{Frames}
-use Rattle.iova_cache.specs.declared.table.TheConstants.{SPREAD, FIRST_SHIFT, LAST_SHIFT, SHARE, SPARE}
+use Rattle.iova_cache.specs.declared.table.TheConstants.{SPREAD, SHIFT, FIRST_BITS, LAST_BITS, SHARE, SPARE}
 
 -- the range of a word: its first frame is below 2^40, and its length stands above
 abbrev pub word_range : ℕ → Frames
@@ -43,9 +43,9 @@ abbrev pub all_ranges : List (List Frames) → List Frames
 all_ranges [] = []
 all_ranges (b ∷ bs) = b ++ all_ranges bs
 
--- the bucket of a range that begins there
+-- the bucket of a range that begins there, of 2^bits
 abbrev pub home_of : ℕ → ℕ → ℕ
-home_of shift lo = lo * SPREAD % 2 ^ 64 / 2 ^ shift
+home_of bits lo = lo * SPREAD % 2 ^ 64 / 2 ^ SHIFT % 2 ^ bits
 
 -- A range is looked for from its home on, and behind the last bucket from the first one on. So of
 -- the ranges of a bucket come first those whose home is that one or one before it, and those last
@@ -88,11 +88,11 @@ abbrev pub stray_at : ℕ → ℕ → ℕ → ℕ
 stray_at home place k = if place == home then 0 else if k == home then 1 else 0
 
 -- There is room for six ranges a bucket, but for some, wherever they are.
-pub record IsTable (buckets : List (List Frames)) (strays : List ℕ) (shift room : ℕ)
+pub record IsTable (buckets : List (List Frames)) (strays : List ℕ) (bits room : ℕ)
     : Type 0 where
-  pub shifts : shift ≤ FIRST_SHIFT
-  pub least : LAST_SHIFT ≤ shift
-  pub count : length buckets ≡ 2 ^ (64 - shift)
+  pub least : FIRST_BITS ≤ bits
+  pub most : bits ≤ LAST_BITS
+  pub count : length buckets ≡ 2 ^ bits
   pub slots : length strays ≡ length buckets
-  pub away : AreStrays (home_of shift) buckets strays
+  pub away : AreStrays (home_of bits) buckets strays
   pub fills : SPARE + room + length (all_ranges buckets) ≡ SHARE * length buckets

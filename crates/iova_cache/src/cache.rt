@@ -6,7 +6,7 @@ ghost use Rattle.std.specs.Bool.{OnTrue, OnFalse};
 ghost use Rattle.iova_cache.specs.declared.magazine.TheConstants.{MAGAZINE};
 ghost use Rattle.iova_cache.specs.Magazines.{magazine_of, Misses};
 ghost use Rattle.iova_cache.specs.Waiting.{IsCachedEntry};
-ghost use Rattle.iova_cache.specs.Caches.{reach, HasOrder, HasMoreRoom, IsMet, IsGivenUp, IsSettling, IsSettled, entry_at, order_in, with_entry, new_cache};
+ghost use Rattle.iova_cache.specs.Caches.{reach, HasOrder, HasMoreRoom, IsMet, IsGivenUp, IsSettled, entry_at, order_in, with_entry, new_cache};
 
 use crate::magazine::Magazines;
 use crate::ring::Ring;
@@ -168,8 +168,10 @@ impl Cache {
         ensures met { IfSome result (IsMet self.old self.new order limit) }
         ensures unchanged { IfNone result (self.new ≡ self.old) }
     {
-        let last = limit.min(self.most);
-        let range = self.magazines.newest_up_to(order, last)?;
+        let range = self.magazines.newest_up_to(order, limit)?;
+        if range.hi() > self.most {
+            return None;
+        }
         if !self.held.insert_at_home(range) {
             return None;
         }
@@ -275,7 +277,7 @@ impl Cache {
     pub fn settle(&mut self, newest: u64) -> u64
         ensures { IsSettled self.old self.new newest result }
     {
-        let count = put_flushed(&mut self.magazines, &self.ring, newest);
+        let count = self.ring.put_flushed(&mut self.magazines, newest);
         self.ring.drop_oldest(count);
         count as u64
     }
@@ -309,27 +311,9 @@ fn entry_of(range: Range, start: u64) -> Entry
     }
 }
 
-/// The oldest entries of a ring go into the magazines, as long as they are clean and find room.
-/// Answers how many there were; they are still in the ring.
-fn put_flushed(magazines: &mut Magazines, ring: &Ring, newest: u64) -> usize
-    ensures { IsSettling magazines.old magazines.new ring.now newest result }
-{
-    let waiting = ring.len();
-    for count in 0..waiting {
-        let entry = ring.get(count);
-        if newest <= entry.count {
-            return count;
-        }
-        if !put_entry(magazines, entry) {
-            return count;
-        }
-    }
-    waiting
-}
-
 /// The range of an entry goes into the magazine of its order, where there aren't 256.
 #[inline(always)]
-fn put_entry(magazines: &mut Magazines, entry: Entry) -> bool
+pub(crate) fn put_entry(magazines: &mut Magazines, entry: Entry) -> bool
     requires { IsCachedEntry entry }
     ensures put { OnTrue result (magazines.new ≡ with_entry magazines.old entry) }
     ensures full { OnFalse result

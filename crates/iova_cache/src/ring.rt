@@ -1,8 +1,11 @@
 //! The ranges of a cache that wait for a flush.
-ghost use Rattle.std.specs.Prelude.{◌≡◌, ◌≤◌, ◌<◌, ◌↔◌, [], ◌∷◌, ◌++◌, length, drop, replicate, slice_index_or, IsTrue, IfOk, IsOkUnless};
+ghost use Rattle.std.specs.Prelude.{◌≡◌, ◌≤◌, ◌<◌, ◌↔◌, [], ◌∷◌, ◌++◌, length, drop, replicate, IsTrue, IfOk, IsOkUnless};
 ghost use Rattle.std.specs.List.{AllByRecursion};
-ghost use Rattle.iova_cache.specs.Waiting.{IsCachedEntry, no_entry};
+ghost use Rattle.iova_cache.specs.Waiting.{IsCachedEntry, IsRing, no_entry, window};
+ghost use Rattle.iova_cache.specs.Caches.{IsSettling};
 
+use crate::cache::put_entry;
+use crate::magazine::Magazines;
 use iova_model::entry::Entry;
 use iova_range::limits::MAX_ENTRIES;
 use iova_range::refusal::Refusal;
@@ -109,16 +112,6 @@ impl Ring {
         self.count += 1;
     }
 
-    /// The entry at this place from the oldest on.
-    #[inline(always)]
-    pub(crate) fn get(&self, place: usize) -> Entry
-        requires { place < length self.now }
-        ensures value { result ≡ slice_index_or self.now place result }
-        ensures cached { IsCachedEntry result }
-    {
-        self.slots[(self.head + place) % SLOTS]
-    }
-
     /// Takes so many of the oldest entries out.
     #[inline(always)]
     pub(crate) fn drop_oldest(&mut self, count: usize)
@@ -128,4 +121,43 @@ impl Ring {
         self.head = (self.head + count) % SLOTS;
         self.count -= count;
     }
+
+    /// The oldest entries go into the magazines, as long as they are clean and find room. Answers
+    /// how many there were; they are still in the ring.
+    #[inline(always)]
+    pub(crate) fn put_flushed(&self, magazines: &mut Magazines, newest: u64) -> usize
+        ensures { IsSettling magazines.old magazines.new self.now newest result }
+    {
+        put_window(
+            magazines,
+            self.slots.as_slice(),
+            self.head,
+            self.count,
+            newest,
+        )
+    }
+}
+
+/// The same of so many slots from the head on.
+#[inline(always)]
+fn put_window(
+    magazines: &mut Magazines,
+    slots: &[Entry],
+    head: usize,
+    waiting: usize,
+    newest: u64,
+) -> usize
+    requires { IsRing slots.now head waiting }
+    ensures { IsSettling magazines.old magazines.new (window slots.now head waiting) newest result }
+{
+    for count in 0..waiting {
+        let entry = slots[(head + count) % SLOTS];
+        if newest <= entry.count {
+            return count;
+        }
+        if !put_entry(magazines, entry) {
+            return count;
+        }
+    }
+    waiting
 }

@@ -18,11 +18,14 @@ use std::marker::Model;
 /// buckets far apart.
 const SPREAD: u64 = 0x9e37_79b9_7f4a_7c15;
 
-/// How far the product is shifted in a new table, which so has 16 buckets.
-const FIRST_SHIFT: u32 = 60;
+/// How far the product is shifted: what is left has a bit for each of the most buckets' numbers.
+const SHIFT: u32 = 44;
 
-/// How far it is shifted at least, in a table of 2^20 buckets.
-const LAST_SHIFT: u32 = 44;
+/// A new table has 2^4 buckets.
+const FIRST_BITS: u32 = 4;
+
+/// A table has 2^20 buckets at most.
+const LAST_BITS: u32 = 20;
 
 /// How many ranges a table has room for, for each of its buckets, but for `SPARE`: where a large
 /// one is full, six of seven places are taken, and where it has just grown, three.
@@ -36,13 +39,14 @@ const SPARE: usize = 48;
 /// one that wasn't, behind the last one from the first one on. A home knows how many strays it has.
 ///
 /// So a look-up looks at the home alone where that has no strays, and an insertion where it isn't
-/// full. Else they go on, over all buckets at most: where the table is full one look-up in seven
-/// does, to the next bucket mostly. Only there it grows, to twice the buckets. So for `n` ranges it
-/// has 16 buckets, or at most `(n + 47) / 3`, of 68 bytes with their count.
+/// full. Else they go on, over all buckets at most: where the table is full one range in five is a
+/// stray, in the next bucket mostly. Only there it grows, to twice the buckets. So it has 16
+/// buckets, or for `n` ranges at most `(n + 47) / 3`, of 68 bytes with their count.
 pub(crate) struct Table {
     buckets: Vec<Bucket>,
     strays: Vec<u32>,
-    shift: u32,
+    bits: u32,
+    mask: u64,
     room: usize,
     alloc: Global,
 }
@@ -53,7 +57,8 @@ impl Drop for Table {
         let Table {
             buckets: _,
             strays: _,
-            shift: _,
+            bits: _,
+            mask: _,
             room: _,
             alloc: _,
         } = self;
@@ -61,28 +66,29 @@ impl Drop for Table {
 }
 
 impl Model for Table {
-    ghost use Rattle.std.specs.Prelude.{◌*◌, ◌-◌, length};
+    ghost use Rattle.std.specs.Prelude.{◌≡◌, ◌*◌, ◌-◌, ◌^◌, length};
     ghost use Rattle.iova_cache.specs.declared.table.TheConstants.{SHARE, SPARE};
     ghost use Rattle.iova_cache.specs.Held.{Held, IsTable, in_order, home_of};
 
     ghost Value = { Held };
 
     ghost view = { λ t. record {
-      ranges = in_order (home_of t.shift) t.buckets.items;
+      ranges = in_order (home_of t.bits) t.buckets.items;
       capacity = SHARE * length t.buckets.items - SPARE;
     } };
 
-    ghost invariant = { λ t. IsTable t.buckets.items t.strays.items t.shift t.room };
+    ghost invariant = { λ t. IsTable t.buckets.items t.strays.items t.bits t.room
+        × (t.mask ≡ 2 ^ t.bits - 1) };
 }
 
 /// The bucket of a range that begins there.
 #[inline(always)]
-fn home(lo: u64, shift: u32) -> usize
-    requires { shift < 64 }
-    ensures is { result ≡ home_of shift lo }
-    ensures within { result < 2 ^ (64 - shift) }
+fn home(lo: u64, mask: u64, _bits: u32) -> usize
+    requires { mask ≡ 2 ^ _bits - 1 }
+    ensures is { result ≡ home_of _bits lo }
+    ensures within { result < 2 ^ _bits }
 {
-    (lo.wrapping_mul(SPREAD) >> shift) as usize
+    (lo.wrapping_mul(SPREAD) >> SHIFT & mask) as usize
 }
 
 /// So many empty buckets.
@@ -222,25 +228,26 @@ impl Table {
         ensures value { IfOk result (λ t. t ≡ record { ranges = []; capacity = 48 }) }
         ensures refused { IsOkUnless result Refusal.NoMemory }
     {
-        Table::of_shift(alloc, FIRST_SHIFT)
+        Table::of_bits(alloc, FIRST_BITS)
     }
 
-    fn of_shift(alloc: Global, shift: u32) -> Result<Table, Refusal>
-        requires least { LAST_SHIFT ≤ shift }
-        requires shifts { shift ≤ FIRST_SHIFT }
+    fn of_bits(alloc: Global, bits: u32) -> Result<Table, Refusal>
+        requires least { FIRST_BITS ≤ bits }
+        requires most { bits ≤ LAST_BITS }
         ensures value { IfOk result (λ t. t ≡ record {
           ranges = [];
-          capacity = SHARE * 2 ^ (64 - shift) - SPARE;
+          capacity = SHARE * 2 ^ bits - SPARE;
         }) }
         ensures refused { IsOkUnless result Refusal.NoMemory }
     {
-        let count = 1 << (64 - shift);
+        let count = 1 << bits;
         let buckets = new_buckets(alloc, count)?;
         let strays = no_strays(alloc, count)?;
         Ok(Table {
             buckets,
             strays,
-            shift,
+            bits,
+            mask: count as u64 - 1,
             room: SHARE * count - SPARE,
             alloc,
         })
@@ -259,7 +266,7 @@ impl Table {
         ensures is { result ≡ find (begins_at lo) self.now.ranges }
         ensures held { IfSome result CanBeHeld }
     {
-        let home = home(lo, self.shift);
+        let home = home(lo, self.mask, self.bits);
         let place = seek_from(self.buckets.as_slice(), self.strays[home], home, lo);
         if place == self.buckets.len() {
             return None;
@@ -280,7 +287,7 @@ impl Table {
         if self.room == 0 {
             return false;
         }
-        let place = home(range.lo(), self.shift);
+        let place = home(range.lo(), self.mask, self.bits);
         let bucket = &mut self.buckets[place];
         if bucket.is_full() {
             return false;
@@ -297,7 +304,7 @@ impl Table {
         ensures gained { Gains range self.old.ranges self.new.ranges }
         ensures same { self.new.capacity ≡ self.old.capacity }
     {
-        let home = home(range.lo(), self.shift);
+        let home = home(range.lo(), self.mask, self.bits);
         let place = roomy_from(self.buckets.as_slice(), home);
         self.buckets[place].push(range);
         gain_stray(&mut self.strays, home, place);
@@ -312,7 +319,7 @@ impl Table {
         ensures same { self.new.capacity ≡ self.old.capacity }
         ensures none { IfNone result (self.new ≡ self.old) }
     {
-        let home = home(lo, self.shift);
+        let home = home(lo, self.mask, self.bits);
         let place = seek_from(self.buckets.as_slice(), self.strays[home], home, lo);
         if place == self.buckets.len() {
             return None;
@@ -358,7 +365,7 @@ impl Table {
         ensures same { self.new.capacity ≡ self.old.capacity }
         ensures unchanged { IfNone result (self.new ≡ self.old) }
     {
-        let place = home(lo, self.shift);
+        let place = home(lo, self.mask, self.bits);
         let bucket = &mut self.buckets[place];
         match bucket.take_cached(lo) {
             Ok(range) => {
@@ -418,10 +425,10 @@ impl Table {
             ≡ sum_by weigh self.now.ranges) }
         ensures refused { IsOkUnless result Refusal.NoMemory }
     {
-        if self.shift == LAST_SHIFT {
+        if self.bits == LAST_BITS {
             return Err(Refusal::NoMemory);
         }
-        let mut wider = Table::of_shift(self.alloc, self.shift - 1)?;
+        let mut wider = Table::of_bits(self.alloc, self.bits + 1)?;
         wider.take_all(self.buckets.as_slice());
         Ok(wider)
     }

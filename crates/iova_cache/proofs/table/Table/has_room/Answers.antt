@@ -7,4 +7,4 @@ use Rattle.iova_cache.proofs.table.Table.has_room.Goals as goal
 pub returns : goal.returns
 returns c =
     let bs = c.self.inside.buckets.items in
-    rw (← c.self.view_is) (room_test c.self.inside.room (length (in_order (home_of c.self.inside.shift) bs)) (6 * length bs - 48) (omega (arith, c.self.invariant.fills, length_in_order (home_of c.self.inside.shift) bs)))
+    rw (← c.self.view_is) (room_test c.self.inside.room (length (in_order (home_of c.self.inside.bits) bs)) (6 * length bs - 48) (omega (arith, c.self.invariant.0.fills, length_in_order (home_of c.self.inside.bits) bs)))

@@ -6,4 +6,4 @@ use Rattle.iova_cache.proofs.table.Table.len.Goals as goal
 pub returns : goal.returns
 returns c =
     let bs = c.self.inside.buckets.items in
-    rw (← c.self.view_is) (omega (arith, c.self.invariant.fills, c.len.ensures, length_in_order (home_of c.self.inside.shift) bs, some_buckets bs c.self.inside.strays.items c.self.inside.shift c.self.inside.room c.self.invariant))
+    rw (← c.self.view_is) (omega (arith, c.self.invariant.0.fills, c.len.ensures, length_in_order (home_of c.self.inside.bits) bs, some_buckets bs c.self.inside.strays.items c.self.inside.bits c.self.inside.room c.self.invariant.0))

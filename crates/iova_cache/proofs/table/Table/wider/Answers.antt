@@ -8,27 +8,27 @@ take_all-requires c =
     let bs = c.self.inside.buckets.items in
     let none = ap (λ (h : Held). length h.ranges) c.in_ok-wider.ensures.value in
     let most = ap (λ (h : Held). h.capacity) c.in_ok-wider.ensures.value in
-    let more = twice c.self.inside.shift c.self.invariant.least (omega (arith, c.self.invariant.shifts)) in
-    rw c.as_slice.ensures.value (omega (arith, none, most, more, c.self.invariant.fills, c.self.invariant.count, some_room c.self.inside.shift c.self.invariant.shifts))
+    let more = twice c.self.inside.bits in
+    rw c.as_slice.ensures.value (omega (arith, none, most, more, c.self.invariant.0.fills, c.self.invariant.0.count, some_room c.self.inside.bits c.self.invariant.0.least))
 
 pub returns-clause-room : goal.returns-clause-room
 returns-clause-room c =
     let bs = c.self.inside.buckets.items in
     let none = ap (λ (h : Held). length h.ranges) c.in_ok-wider.ensures.value in
     let most = ap (λ (h : Held). h.capacity) c.in_ok-wider.ensures.value in
-    let more = twice c.self.inside.shift c.self.invariant.least (omega (arith, c.self.invariant.shifts)) in
+    let more = twice c.self.inside.bits in
     let all = length_sums c.in_ok-wider.wider.ranges c.take_all.new.self.ranges (all_ranges bs) (λ weigh. rw c.as_slice.ensures.value at (c.take_all.ensures.moved weigh)) in
-    omega (arith, none, most, more, all, c.take_all.ensures.same, c.self.invariant.fills, c.self.invariant.count, some_room c.self.inside.shift c.self.invariant.shifts)
+    omega (arith, none, most, more, all, c.take_all.ensures.same, c.self.invariant.0.fills, c.self.invariant.0.count, some_room c.self.inside.bits c.self.invariant.0.least)
 
 pub returns-clause-doubled : goal.returns-clause-doubled
 returns-clause-doubled c =
     let most = ap (λ (h : Held). h.capacity) c.in_ok-wider.ensures.value in
-    let more = twice c.self.inside.shift c.self.invariant.least (omega (arith, c.self.invariant.shifts)) in
-    rw (← c.self.view_is) (omega (arith, most, more, c.take_all.ensures.same, c.self.invariant.count, some_room c.self.inside.shift c.self.invariant.shifts))
+    let more = twice c.self.inside.bits in
+    rw (← c.self.view_is) (omega (arith, most, more, c.take_all.ensures.same, c.self.invariant.0.count, some_room c.self.inside.bits c.self.invariant.0.least))
 
 pub returns-clause-same : goal.returns-clause-same
 returns-clause-same c = λ weigh.
     let bs = c.self.inside.buckets.items in
     let none = ap (λ (h : Held). sum_by weigh h.ranges) c.in_ok-wider.ensures.value in
     let all = rw c.as_slice.ensures.value at (c.take_all.ensures.moved weigh) in
-    rw (← c.self.view_is) (omega (arith, none, all, sum_in_order weigh (home_of c.self.inside.shift) bs))
+    rw (← c.self.view_is) (omega (arith, none, all, sum_in_order weigh (home_of c.self.inside.bits) bs))
