@@ -1,5 +1,5 @@
 -- Texts, one behind another.
-use Rattle.std.proofs.Common.{ℕ, suc, ◌≡◌, ◌∙◌, ◌+◌, ◌-◌, ◌<◌, List, [], ◌∷◌, ◌++◌, Result, Ok, Err, ap, refl, sym, append_assoc, append-nil, arith}
+use Rattle.std.proofs.Common.{ℕ, suc, ◌≡◌, ◌∙◌, ◌+◌, ◌-◌, ◌<◌, List, [], ◌∷◌, ◌++◌, Result, Ok, Err, ap, refl, sym, append_assoc, append-nil, length, length-append, arith}
 use Rattle.std.specs.Prelude.{OnOk}
 use Rattle.std.specs.declared.alloc.AllocError.{AllocError}
 use Rattle.iova_control.specs.Rows.{Row, row_text, rows_text, sessions_text, PutsRows, PutsSessions}
@@ -31,29 +31,29 @@ rows_more worker [] more = refl
 rows_more worker (r ∷ rows) more =
     ap (λ t. row_text worker r ++ t) (rows_more worker rows more) ∙ sym (append_assoc (row_text worker r) (rows_text worker rows) (rows_text worker more))
 
-pub no_rows : (worker : ℕ) (text : List ℕ) → PutsRows worker text text
-no_rows worker text = ([], sym (append-nil text))
+pub no_rows : (worker : ℕ) (text : List ℕ) → PutsRows worker 0 text text
+no_rows worker text = ([], refl, sym (append-nil text))
 
-pub more_rows : (worker : ℕ) (old mid new : List ℕ) → PutsRows worker old mid → PutsRows worker mid new → PutsRows worker old new
-more_rows worker old mid new (rows, first) (more, then) =
-    (rows ++ more, behind old mid new _ _ first then ∙ ap (λ t. old ++ t) (sym (rows_more worker rows more)))
-
-pub one_row : (worker : ℕ) (old new : List ℕ) (r : Row) → new ≡ old ++ row_text worker r → PutsRows worker old new
-one_row worker old new r is = (r ∷ [], is ∙ ap (λ t. old ++ t) (sym (append-nil (row_text worker r))))
-
-pub row_behind : (worker : ℕ) (old mid new : List ℕ) (r : Row) → PutsRows worker old mid → new ≡ mid ++ row_text worker r → PutsRows worker old new
-row_behind worker old mid new r rows is = more_rows worker old mid new rows (one_row worker mid new r is)
+-- a row more
+pub row_behind : (worker count : ℕ) (old mid new : List ℕ) (r : Row) → PutsRows worker count old mid → new ≡ mid ++ row_text worker r
+    → PutsRows worker (count + 1) old new
+row_behind worker count old mid new r (rows, long, put) is = (
+  rows ++ r ∷ [],
+  omega (arith, long, length-append rows (r ∷ [])),
+  behind old mid new (rows_text worker rows) (row_text worker r) put is
+      ∙ ap (λ t. old ++ t) (sym (rows_more worker rows (r ∷ []) ∙ ap (λ t. rows_text worker rows ++ t) (append-nil (row_text worker r)))),
+)
 
 -- a worker more
-pub more_sessions : (r : Result Unit AllocError) (worker workers : ℕ) (old mid new : List ℕ) → worker < workers → PutsRows worker old mid
+pub more_sessions : (r : Result Unit AllocError) (worker workers : ℕ) (old mid new : List ℕ) → worker < workers → (count : ℕ) × PutsRows worker count old mid
     → OnOk r (PutsSessions (worker + 1) (workers - (worker + 1)) mid new) → OnOk r (PutsSessions worker (workers - worker) old new)
 more_sessions r worker workers old mid new below rows then =
     let next : worker + 1 ≡ suc worker = omega arith in
     ok_map r
     (λ others. (
-      rows.0 ∷ others.0,
+      rows.1.0 ∷ others.0,
       omega (arith, below, others.1),
-      behind old mid new (rows_text worker rows.0) (sessions_text (suc worker) others.0) rows.1
+      behind old mid new (rows_text worker rows.1.0) (sessions_text (suc worker) others.0) rows.1.2
           (others.2 ∙ ap (λ k. mid ++ sessions_text k others.0) next),
     ))
     then

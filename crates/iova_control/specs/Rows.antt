@@ -29,11 +29,12 @@ abbrev pub sessions_text : ℕ → List (List Row) → List ℕ
 sessions_text worker [] = []
 sessions_text worker (rows ∷ more) = rows_text worker rows ++ sessions_text (suc worker) more
 
--- some sessions of this worker were put behind what stood there
-abbrev pub PutsRows : ℕ → List ℕ → List ℕ → Type 0
-PutsRows worker old new = (rows : List Row) × (new ≡ old ++ rows_text worker rows)
+-- so many sessions of this worker were put behind what stood there
+abbrev pub PutsRows : (worker count : ℕ) → List ℕ → List ℕ → Type 0
+PutsRows worker count old new =
+    (rows : List Row) × (length rows ≡ count) × (new ≡ old ++ rows_text worker rows)
 
 -- those of so many workers, from this one on
-abbrev pub PutsSessions : ℕ → ℕ → List ℕ → List ℕ → Type 0
+abbrev pub PutsSessions : (worker count : ℕ) → List ℕ → List ℕ → Type 0
 PutsSessions worker count old new =
     (all : List (List Row)) × (length all ≡ count) × (new ≡ old ++ sessions_text worker all)

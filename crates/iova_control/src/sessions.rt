@@ -1,5 +1,5 @@
 //! The sessions that a daemon serves, told a line each.
-ghost use Rattle.std.specs.Prelude.{◌≡◌, ◌++◌, ◌-◌, ◌≤◌, OnOk};
+ghost use Rattle.std.specs.Prelude.{◌≡◌, ◌++◌, ◌-◌, ◌≤◌, ℕ, IfOk, OnOk};
 ghost use Rattle.iova_control.specs.Rows.{PutsRows, PutsSessions, frames_in, row_text};
 
 use iova_keep::look::Look;
@@ -43,7 +43,7 @@ fn put_from<K: Look, T: Standing>(
     put_from(worker + 1, workers, standing, domain, ranges, text)
 }
 
-/// The sessions of this worker.
+/// The sessions of this worker, as many as are served now.
 fn put_worker<K: Look, T: Standing>(
     worker: u64,
     standing: &T,
@@ -51,12 +51,34 @@ fn put_worker<K: Look, T: Standing>(
     ranges: &mut Vec<Range>,
     text: &mut String,
 ) -> Result<(), AllocError>
-    ensures { OnOk result (PutsRows worker text.old.bytes.items text.new.bytes.items) }
+    ensures { OnOk result ((count : ℕ) × PutsRows worker count text.old.bytes.items
+        text.new.bytes.items) }
 {
-    let sessions = standing.sessions(worker);
-    let told = put_clients(worker, sessions, standing, domain, ranges, text)?;
-    for _ in told..sessions {
+    put_so_many(
+        worker,
+        standing.sessions(worker),
+        standing,
+        domain,
+        ranges,
+        text,
+    )
+}
+
+/// So many sessions of this worker.
+fn put_so_many<K: Look, T: Standing>(
+    worker: u64,
+    sessions: u64,
+    standing: &T,
+    domain: &K,
+    ranges: &mut Vec<Range>,
+    text: &mut String,
+) -> Result<(), AllocError>
+    ensures { OnOk result (PutsRows worker sessions text.old.bytes.items text.new.bytes.items) }
+{
+    let mut told = put_clients(worker, sessions, standing, domain, ranges, text)?;
+    while told < sessions {
         put_row(worker, 0, &[], text)?;
+        told += 1;
     }
     Ok(())
 }
@@ -72,7 +94,8 @@ fn put_clients<K: Look, T: Standing>(
     ranges: &mut Vec<Range>,
     text: &mut String,
 ) -> Result<u64, AllocError>
-    ensures { OnOk result (PutsRows worker text.old.bytes.items text.new.bytes.items) }
+    ensures { IfOk result (λ told. (told ≤ sessions)
+        × PutsRows worker told text.old.bytes.items text.new.bytes.items) }
 {
     let mut told = 0;
     let mut behind = 0;
