@@ -36,7 +36,8 @@ DifferByAtMost by l r = (l ≤ r + by) × (r ≤ l + by)
 abbrev pub IsHeightOfBoth : ℕ → ℕ → ℕ → Type 0
 IsHeightOfBoth l r h = (max l r ≤ h) × (h ≤ max l r + 1)
 
--- the ranges rise apart, some are the node's own, and the heights of the sides differ by at most `by`
+-- the ranges rise apart, some are the node's own, and the heights of the sides differ by at most
+-- `by`
 pub record IsBalanced (by : ℕ) (n : Node) : Type 0 where
   pub some : 0 < length n.block
   pub rising : IsRisingFrom 0 (node_spans n)
@@ -121,7 +122,8 @@ pub record TakesBelow (x : Span) (n m : Node) : Type 0 where
   pub settles : (h : ℕ) → IsHeightAfterRebalance m.left.1 m.right.1 h
       → (h ≤ node_height n) × (node_height n ≤ h + 1)
 
--- the node m has the ranges of n with x in the place of the one that begins at lo, and stands as high
+-- the node m has the ranges of n with x in the place of the one that begins at lo, and stands as
+-- high
 pub record Replaces (lo : ℕ) (x : Span) (n m : Node) : Type 0 where
   pub spans : node_spans m ≡ with_replaced lo x (node_spans n)
   pub balanced : IsBalanced 1 m

@@ -90,7 +90,8 @@ pub record IsLeftOf (old : List Span) (windows : List Frames) (rest : List Span)
   pub within : (from until : ℕ) → LieWithin from old until → LieWithin from rest until
 
 -- what is left once windows were taken out, but for k, which still stands among the ranges `now`
-pub record IsLeftBut (k : Frames) (old : List Span) (windows : List Frames) (now : List Span) : Type 0 where
+pub record IsLeftBut (k : Frames) (old : List Span) (windows : List Frames) (now : List Span)
+    : Type 0 where
   pub rest : List Span
   pub left : IsLeftOf old windows rest
   pub is : now ≡ with_span (span_of k true) rest
