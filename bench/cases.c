@@ -7,7 +7,7 @@
                                   function `timed` and of what it calls; prints the name and the operations
    cases longest ours|kernel CASE the nanoseconds of the longest operation of a run, the least of five runs: cases that
                                   search beside others alone
-   cases memory ours|kernel       the bytes of the heap for each of 1,000,000 live ranges, and once more when as many
+   cases memory ours|kernel       the bytes of the heap for each of 1,000,000 live ranges; of ours once more when as many
                                   random ones were given up and others taken
 
    Where one operation takes long, fewer are run. HERE is the folder of this file. */
@@ -206,9 +206,10 @@ static void memory(void) {
   double before = lent();
   fill();
   printf("live  %ld  %.1f\n", live, (lent() - before) / (double)live);
+  if (side != &ours) /* each of its ranges is a block of its own */
+    return;
   b1(live);
   printf("exchanged  %ld  %.1f\n", live, (lent() - before) / (double)live);
-  free(held);
 }
 
 /* Requests through the caches. */
