@@ -22,7 +22,7 @@
 #include <time.h>
 #include <unistd.h>
 
-enum { SHADOW_FRAMES = 1 << 17, SHADOW_LOGS = 40, SHADOW_A_SECOND = 1 << 18 };
+enum { SHADOW_FRAMES = 1 << 17, SHADOW_LOGS = 40, SHADOW_A_SECOND = 1 << 19 };
 enum shadow_kind { SHADOW_MAP, SHADOW_UNMAP, SHADOW_BEGIN, SHADOW_OK, SHADOW_FAIL };
 
 /* `what` is a kind above 60 bits, a length above 40, and a first frame or the number of a flush. */
