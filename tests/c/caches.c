@@ -8,6 +8,22 @@ static iova_domain *domain;
 static iova_cache one;
 static uint64_t lo[5000];
 
+/* Whether ranges are asked for and given up by the calls that answer in two registers. */
+static int packed;
+
+static iova_range unpacked(iova_packed_range answer) {
+    iova_range range = {answer.len ? 0 : answer.lo, answer.len ? answer.lo : 0, answer.len};
+    return range;
+}
+
+static iova_range alloc(iova_cache *cache, uint64_t frames, uint64_t limit) {
+    return packed ? unpacked(iova_cache_alloc_packed(cache, frames, limit)) : iova_cache_alloc(cache, frames, limit);
+}
+
+static iova_range unmap(iova_cache *cache, uint64_t first, uint64_t start) {
+    return packed ? unpacked(iova_cache_unmap_packed(cache, first, start)) : iova_cache_unmap(cache, first, start);
+}
+
 static void make(uint64_t last, uint64_t workers) {
     domain = iova_domain_new();
     MUST(domain && !iova_domain_make(domain, 1, last, workers));
@@ -36,8 +52,8 @@ static uint64_t flushed(int went_well) {
 static void nothing_without_a_cache(void) {
     make(1000, 1);
     iova_cache_init(&one);
-    MUST(iova_cache_alloc(&one, 1, IOVA_NO_LIMIT).refused == IOVA_NO_CACHE);
-    MUST(iova_cache_unmap(&one, 1, 0).refused == IOVA_NO_CACHE);
+    MUST(alloc(&one, 1, IOVA_NO_LIMIT).refused == IOVA_NO_CACHE);
+    MUST(unmap(&one, 1, 0).refused == IOVA_NO_CACHE);
     MUST(iova_cache_map(&one, 1, IOVA_NO_MASK).refused == IOVA_NO_CACHE);
     MUST(iova_cache_unmap_bytes(&one, 4096, 0).refused == IOVA_NO_CACHE);
     MUST(iova_cache_settle(&one, 1).refused == IOVA_NO_CACHE);
@@ -51,7 +67,7 @@ static void nothing_without_a_cache(void) {
     MUST(iova_cache_take(&one, 0).refused == IOVA_NO_CACHE && iova_cache_release(&one, 1).refused == IOVA_NO_CACHE);
     MUST(iova_cache_any(&one).refused == IOVA_NO_CACHE && iova_cache_make_room(&one) == IOVA_NO_CACHE);
     MUST(iova_cache_make(domain, &one, 1, 0).refused == IOVA_NO_WORKER);
-    MUST(iova_cache_alloc(&one, 1, IOVA_NO_LIMIT).refused == IOVA_NO_CACHE);
+    MUST(alloc(&one, 1, IOVA_NO_LIMIT).refused == IOVA_NO_CACHE);
     iova_cache_clear(&one);
     MUST(iova_cache_size() <= sizeof one);
     iova_domain_clear(domain);
@@ -63,29 +79,29 @@ static void goes_round(void) {
     make(1 << 20, 1);
     iova_cache_init(&one);
     uint64_t client = iova_cache_make(domain, &one, 0, 0).number;
-    MUST(client == 1 && iova_cache_alloc(&one, 3, IOVA_NO_LIMIT).refused == IOVA_DRY);
-    MUST(iova_cache_alloc(&one, 0, IOVA_NO_LIMIT).refused == IOVA_NO_ORDER);
-    MUST(iova_cache_alloc(&one, 33, IOVA_NO_LIMIT).refused == IOVA_NO_ORDER);
+    MUST(client == 1 && alloc(&one, 3, IOVA_NO_LIMIT).refused == IOVA_DRY);
+    MUST(alloc(&one, 0, IOVA_NO_LIMIT).refused == IOVA_NO_ORDER);
+    MUST(alloc(&one, 33, IOVA_NO_LIMIT).refused == IOVA_NO_ORDER);
     MUST(iova_cache_refill(domain, &one, 0, IOVA_NO_LIMIT, 1).refused == IOVA_ZERO);
     MUST(iova_cache_refill(domain, &one, 33, IOVA_NO_LIMIT, 1).refused == IOVA_TOO_BIG);
     MUST(iova_cache_spill(domain, &one, 6, 1).refused == IOVA_NO_ORDER);
     MUST(iova_cache_refill(domain, &one, 3, IOVA_NO_LIMIT, 0).number == 0);
     MUST(iova_cache_refill(domain, &one, 3, IOVA_NO_LIMIT, 1000).number == 64);
     want_counts(client, 0, 0, 64);
-    MUST(iova_cache_alloc(&one, 3, 9000).refused == IOVA_MISS);
-    iova_range first = iova_cache_alloc(&one, 3, IOVA_NO_LIMIT), second = iova_cache_alloc(&one, 4, IOVA_NO_LIMIT);
+    MUST(alloc(&one, 3, 9000).refused == IOVA_MISS);
+    iova_range first = alloc(&one, 3, IOVA_NO_LIMIT), second = alloc(&one, 4, IOVA_NO_LIMIT);
     MUST(!first.refused && first.len == 4 && second.len == 4 && first.lo != second.lo);
-    MUST(iova_cache_unmap(&one, first.lo + 1, 0).refused == IOVA_NOT_HELD);
-    MUST(iova_cache_unmap(&one, first.lo, 0).lo == first.lo);
-    MUST(iova_cache_unmap(&one, first.lo, 0).refused == IOVA_NOT_HELD);
+    MUST(unmap(&one, first.lo + 1, 0).refused == IOVA_NOT_HELD);
+    MUST(unmap(&one, first.lo, 0).lo == first.lo);
+    MUST(unmap(&one, first.lo, 0).refused == IOVA_NOT_HELD);
     want_counts(client, 1, 1, 62);
     /* a flush that failed covers nothing, and one that begins later does */
     MUST(flushed(0) == 0 && iova_cache_settle(&one, 0).number == 0);
-    MUST(iova_cache_unmap(&one, second.lo, 1).lo == second.lo);
+    MUST(unmap(&one, second.lo, 1).lo == second.lo);
     MUST(iova_cache_settle(&one, 1).number == 1 && iova_cache_settle(&one, 1).number == 0);
     MUST(flushed(1) == 2 && iova_cache_settle(&one, 2).number == 1);
-    MUST(iova_cache_alloc(&one, 4, IOVA_NO_LIMIT).lo == second.lo);
-    MUST(iova_cache_alloc(&one, 4, IOVA_NO_LIMIT).lo == first.lo);
+    MUST(alloc(&one, 4, IOVA_NO_LIMIT).lo == second.lo);
+    MUST(alloc(&one, 4, IOVA_NO_LIMIT).lo == first.lo);
     /* in bytes */
     iova_mapping buffer = iova_cache_map(&one, 16383, IOVA_NO_MASK);
     MUST(!buffer.refused && buffer.bytes == 16384 && buffer.address % 16384 == 0);
@@ -96,7 +112,7 @@ static void goes_round(void) {
     MUST(iova_cache_unmap_bytes(&one, buffer.address + 4095, 2).bytes == 16384);
     /* what no magazine has goes by the domain */
     iova_range large = iova_cache_alloc_by(domain, &one, 33, IOVA_NO_LIMIT);
-    MUST(large.len == 33 && iova_cache_unmap(&one, large.lo, 2).refused == IOVA_NO_ORDER);
+    MUST(large.len == 33 && unmap(&one, large.lo, 2).refused == IOVA_NO_ORDER);
     MUST(iova_cache_unmap_by(domain, &one, large.lo + 1).refused == IOVA_NOT_HELD);
     MUST(iova_cache_alloc_by(domain, &one, 0, IOVA_NO_LIMIT).refused == IOVA_ZERO);
     MUST(iova_cache_alloc_by(domain, &one, 1048577, IOVA_NO_LIMIT).refused == IOVA_TOO_BIG);
@@ -108,7 +124,7 @@ static void goes_round(void) {
     MUST(iova_cache_spill(domain, &one, 2, 1000).number == 56);
     want_counts(client, 2, 1, 0);
     MUST(iova_cache_end(domain, &one).number == 3);
-    MUST(iova_cache_alloc(&one, 1, IOVA_NO_LIMIT).refused == IOVA_NO_CACHE);
+    MUST(alloc(&one, 1, IOVA_NO_LIMIT).refused == IOVA_NO_CACHE);
     MUST(iova_client_of(domain, client).closing == 1);
     while (iova_close_one(domain, 0, client).len)
         ;
@@ -124,10 +140,10 @@ static void is_full(void) {
         MUST(iova_cache_refill(domain, &one, 1, IOVA_NO_LIMIT, 64).number == 64);
     MUST(iova_cache_refill(domain, &one, 1, IOVA_NO_LIMIT, 64).number == 0);
     for (int k = 0; k < 256; k++)
-        MUST((lo[k] = iova_cache_alloc(&one, 1, IOVA_NO_LIMIT).lo) != 0);
+        MUST((lo[k] = alloc(&one, 1, IOVA_NO_LIMIT).lo) != 0);
     for (int k = 0; k < 255; k++)
-        MUST(!iova_cache_unmap(&one, lo[k], 0).refused);
-    MUST(iova_cache_unmap(&one, lo[255], 0).refused == IOVA_RING_FULL);
+        MUST(!unmap(&one, lo[k], 0).refused);
+    MUST(unmap(&one, lo[255], 0).refused == IOVA_RING_FULL);
     want_counts(client, 1, 255, 0);
     MUST(iova_cache_refill(domain, &one, 1, IOVA_NO_LIMIT, 64).number == 64);
     MUST(iova_cache_settle(&one, flushed(1)).number == 192); /* the oldest stay where there is no room */
@@ -150,8 +166,8 @@ static void is_sac(void) {
     iova_cache_init(&one);
     iova_cache_make(domain, &one, 0, 1);
     MUST(iova_cache_refill(domain, &one, 1, IOVA_NO_LIMIT, 1).number == 1);
-    MUST(iova_cache_alloc(&one, 1, IOVA_NO_LIMIT).lo == (1 << 20) - 1);
-    MUST(!iova_cache_put(&one, 1 << 20, 1) && iova_cache_alloc(&one, 1, IOVA_NO_LIMIT).refused == IOVA_MISS);
+    MUST(alloc(&one, 1, IOVA_NO_LIMIT).lo == (1 << 20) - 1);
+    MUST(!iova_cache_put(&one, 1 << 20, 1) && alloc(&one, 1, IOVA_NO_LIMIT).refused == IOVA_MISS);
     iova_cache_clear(&one);
     iova_domain_free(domain);
 }
@@ -170,11 +186,11 @@ static void is_apart(void) {
     for (uint64_t k = 0; k < 256; k++)
         MUST(!iova_cache_put(&one, 8 * k, 8));
     MUST(iova_cache_put(&one, 8 * 256, 8) == IOVA_FULL && iova_cache_take(&one, 3).lo == 8 * 255);
-    MUST(iova_cache_alloc(&one, 5, IOVA_NO_LIMIT).lo == 8 * 254);
-    MUST(!iova_cache_keep(&one, 4000, 1048576) && iova_cache_unmap(&one, 4000, 0).refused == IOVA_NO_ORDER);
+    MUST(alloc(&one, 5, IOVA_NO_LIMIT).lo == 8 * 254);
+    MUST(!iova_cache_keep(&one, 4000, 1048576) && unmap(&one, 4000, 0).refused == IOVA_NO_ORDER);
     MUST(iova_cache_release(&one, 4001).refused == IOVA_NOT_HELD && iova_cache_release(&one, 4000).len == 1048576);
     MUST(iova_cache_any(&one).lo == 8 * 254 && iova_cache_any(&one).len == 0);
-    MUST(!iova_cache_keep(&one, 4096, 4) && iova_cache_unmap(&one, 4096, 0).len == 4 && iova_cache_any(&one).len == 0);
+    MUST(!iova_cache_keep(&one, 4096, 4) && unmap(&one, 4096, 0).len == 4 && iova_cache_any(&one).len == 0);
     iova_cache_counts counts = iova_cache_counts_of(&one);
     MUST(counts.held == 0 && counts.waiting == 1 && counts.magazines[3] == 254 && cached(&counts) == 254);
     for (uint64_t k = 254; k-- > 0;)
@@ -360,11 +376,13 @@ static void is_left_by_others(void) {
 
 int main(void) {
     ends_within(600);
-    nothing_without_a_cache();
-    goes_round();
-    is_full();
-    is_sac();
-    is_apart();
+    for (packed = 0; packed < 2; packed++) {
+        nothing_without_a_cache();
+        goes_round();
+        is_full();
+        is_sac();
+        is_apart();
+    }
     reclaims();
     fills_the_ledger();
     keeps_limits();

@@ -52,6 +52,9 @@ SAME(sizeof(iova_cache_counts) == 72);
 AT(iova_cache_counts, held, 1);
 AT(iova_cache_counts, waiting, 2);
 AT(iova_cache_counts, magazines, 3);
+SAME(sizeof(iova_packed_range) == 16);
+AT(iova_packed_range, lo, 0);
+AT(iova_packed_range, len, 1);
 
 static int bad;
 
@@ -66,7 +69,7 @@ int main(void) {
     static const size_t sizes[] = {sizeof(iova_domain), sizeof(iova_range),  sizeof(iova_number), sizeof(iova_mapping),
                                    sizeof(iova_place),  sizeof(iova_counts), sizeof(iova_totals), sizeof(iova_client),
                                    sizeof(iova_bounds), sizeof(iova_flushes), sizeof(iova_listed), sizeof(iova_cache),
-                                   sizeof(iova_cache_counts)};
+                                   sizeof(iova_cache_counts), sizeof(iova_packed_range)};
     const uint64_t types = sizeof sizes / sizeof sizes[0];
     check("the size of a domain", iova_domain_size() <= sizes[0] && iova_type_size(0) == iova_domain_size());
     check("the size of a cache", iova_cache_size() <= sizeof(iova_cache) && iova_type_size(11) == iova_cache_size());

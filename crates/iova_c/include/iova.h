@@ -351,6 +351,11 @@ typedef struct iova_cache {
     uint64_t opaque[IOVA_CACHE_BYTES / 8];
 } iova_cache;
 
+/* A range, or a refusal, in two registers. */
+typedef struct iova_packed_range {
+    uint64_t lo, len;
+} iova_packed_range;
+
 /* How many ranges of a cache are where: with the user, in the ring, and in the magazines of each order. */
 typedef struct iova_cache_counts {
     uint64_t refused, held, waiting, magazines[6];
@@ -388,6 +393,11 @@ iova_range iova_cache_alloc(iova_cache *cache, uint64_t frames, uint64_t limit);
  * the user holds no range that begins there; then IOVA_NO_ORDER exactly where that range has no magazines, and goes by
  * iova_cache_unmap_by; then IOVA_RING_FULL exactly where 255 wait. */
 iova_range iova_cache_unmap(iova_cache *cache, uint64_t lo, uint64_t start);
+
+/* The two in fewer instructions: the answer comes in two registers. Where `len` is 0 the call was refused, and `lo` is the
+ * number of the refusal. iova_shared.h and iova_client.h call them. */
+iova_packed_range iova_cache_alloc_packed(iova_cache *cache, uint64_t frames, uint64_t limit);
+iova_packed_range iova_cache_unmap_packed(iova_cache *cache, uint64_t lo, uint64_t start);
 
 /* iova_cache_alloc in bytes, as iova_map is iova_alloc. The same refusals; a mask in which two frames don't end (below 8,191) is
  * IOVA_MISS, if not IOVA_DRY. */
@@ -454,7 +464,7 @@ iova_range iova_cache_any(iova_cache *cache);
 
 /* The bytes of a type of this header in the library, by its place here: 0 iova_domain at most, 1 iova_range, 2 iova_number, 3
  * iova_mapping, 4 iova_place, 5 iova_counts, 6 iova_totals, 7 iova_client, 8 iova_bounds, 9 iova_flushes, 10 iova_listed, 11
- * iova_cache at most, 12 iova_cache_counts; else 0. */
+ * iova_cache at most, 12 iova_cache_counts, 13 iova_packed_range; else 0. */
 uint64_t iova_type_size(uint64_t type);
 
 /* A program that says which version it was built for, by

@@ -1012,8 +1012,8 @@ static inline iovad_opened iovad_cache_open(iovad_cache *cache, const char *path
  * user itself has 4,096 ranges that it holds or that wait. */
 static inline iovad_range iovad_cache_alloc(iovad_cache *cache, uint64_t frames, uint64_t limit) {
     if (IOVAD_OWN_LIKELY(!cache->session.lost)) {
-        iova_range range = iova_cache_alloc(&cache->ranges, frames, limit);
-        if (IOVAD_OWN_LIKELY(!range.refused))
+        iova_packed_range range = iova_cache_alloc_packed(&cache->ranges, frames, limit);
+        if (IOVAD_OWN_LIKELY(range.len))
             return iovad_own_range(0, range.lo, range.len);
     }
     return iovad_own_cache_alloc(cache, frames, limit);
@@ -1023,8 +1023,8 @@ static inline iovad_range iovad_cache_alloc(iovad_cache *cache, uint64_t frames,
  * user holds no range that begins there. RingFull: 255 wait, and flushes didn't help; the range is still held. */
 static inline iovad_range iovad_cache_free(iovad_cache *cache, uint64_t lo) {
     if (IOVAD_OWN_LIKELY(!cache->session.lost)) {
-        iova_range range = iova_cache_unmap(&cache->ranges, lo, cache->begun);
-        if (IOVAD_OWN_LIKELY(!range.refused)) {
+        iova_packed_range range = iova_cache_unmap_packed(&cache->ranges, lo, cache->begun);
+        if (IOVAD_OWN_LIKELY(range.len)) {
             if (++cache->since >= IOVAD_CACHE_AHEAD)
                 iovad_own_ask_flush(cache); /* an error is told by the next call */
             return iovad_own_range(0, range.lo, range.len);

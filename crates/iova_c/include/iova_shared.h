@@ -144,6 +144,15 @@ static inline iova_range iova_own_refused(uint64_t refused) {
     return range;
 }
 
+/* The answer of a call that wasn't refused. */
+static inline iova_range iova_own_given(iova_packed_range packed) {
+    iova_range range;
+    range.refused = 0;
+    range.lo = packed.lo;
+    range.len = packed.len;
+    return range;
+}
+
 static inline void iova_own_lock(iova_shared *shared) { pthread_mutex_lock(&shared->lock); }
 
 static inline void iova_own_unlock(iova_shared *shared) { pthread_mutex_unlock(&shared->lock); }
@@ -460,9 +469,9 @@ static inline iova_range iova_shared_alloc(iova_shared_cache *cache, uint64_t fr
     cache->frames = frames;
     cache->limit = limit;
     if (IOVA_OWN_LIKELY(!iova_own_is_called(cache))) {
-        iova_range range = iova_cache_alloc(&cache->cache, frames, limit);
-        if (IOVA_OWN_LIKELY(!range.refused))
-            return range;
+        iova_packed_range range = iova_cache_alloc_packed(&cache->cache, frames, limit);
+        if (IOVA_OWN_LIKELY(range.len))
+            return iova_own_given(range);
     }
     iova_own_alloc(cache);
     return cache->answer;
@@ -474,9 +483,9 @@ static inline iova_range iova_shared_alloc(iova_shared_cache *cache, uint64_t fr
 static inline iova_range iova_shared_unmap(iova_shared_cache *cache, uint64_t lo) {
     cache->lo = lo;
     if (IOVA_OWN_LIKELY(!iova_own_is_called(cache))) {
-        iova_range range = iova_cache_unmap(&cache->cache, lo, iova_own_begun(cache->shared));
-        if (IOVA_OWN_LIKELY(!range.refused))
-            return range;
+        iova_packed_range range = iova_cache_unmap_packed(&cache->cache, lo, iova_own_begun(cache->shared));
+        if (IOVA_OWN_LIKELY(range.len))
+            return iova_own_given(range);
     }
     iova_own_unmap(cache);
     return cache->answer;

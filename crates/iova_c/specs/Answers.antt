@@ -5,6 +5,7 @@ use Rattle.iova_model.specs.declared.step.Reply.TheVariants as reply
 use Rattle.iova_range.specs.Refusals.{refusal_number}
 use Rattle.iova_range.specs.Frames.{Frames}
 use Rattle.iova_c.specs.declared.answer.RangeAnswer.{RangeAnswer}
+use Rattle.iova_c.specs.declared.answer.PackedAnswer.{PackedAnswer}
 use Rattle.iova_c.specs.declared.answer.NumberAnswer.{NumberAnswer}
 use Rattle.iova_c.specs.declared.answer.MappingAnswer.{MappingAnswer}
 
@@ -26,6 +27,10 @@ abbrev pub unpacked : ℕ × ℕ → RangeAnswer
 unpacked (first, len) =
     if len == 0 then record { refused = first; lo = 0; len = 0 }
     else record { refused = 0; lo = first; len = len }
+
+-- the answer of a range that comes in two registers
+abbrev pub range_packed : PackedAnswer → RangeAnswer
+range_packed a = unpacked (a.lo, a.len)
 
 -- the number of a reply, 0 where it has none
 abbrev pub number_answer : Reply → NumberAnswer

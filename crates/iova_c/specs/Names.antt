@@ -18,8 +18,8 @@ HasNamed number old answer new =
 -- how many bytes each answer has, in the order of the header; 0 where a slot stands
 abbrev pub type_size : ℕ → ℕ
 type_size number =
-    slice_index_or (0 ∷ 24 ∷ 16 ∷ 24 ∷ 24 ∷ 72 ∷ 32 ∷ 32 ∷ 48 ∷ 56 ∷ 16 ∷ 0 ∷ 72 ∷ []) number
-    0
+    slice_index_or (0 ∷ 24 ∷ 16 ∷ 24 ∷ 24 ∷ 72 ∷ 32 ∷ 32 ∷ 48 ∷ 56 ∷ 16 ∷ 0 ∷ 72 ∷ 16 ∷ [])
+    number 0
 
 -- the library's version, 0.2.0: millions are its first number, thousands its second
 abbrev pub version : ℕ

@@ -17,6 +17,14 @@ pub struct RangeAnswer {
     pub len: u64,
 }
 
+/// A range in two registers. Where `len` is 0 it was refused, and `lo` is the refusal's number.
+#[repr(C)]
+#[derive(Drop)]
+pub struct PackedAnswer {
+    pub lo: u64,
+    pub len: u64,
+}
+
 /// A number.
 #[repr(C)]
 #[derive(Drop)]

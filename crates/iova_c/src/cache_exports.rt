@@ -5,17 +5,18 @@ ghost use Rattle.std.specs.Prelude.{◌≡◌, ◌≤◌, None};
 ghost use Rattle.std.specs.Borrow.{full_share, sem};
 ghost use Rattle.std.specs.Ptr.{lies_at, room_at};
 ghost use denote.Memory.{mem};
+ghost use Rattle.iova_c.specs.Answers.{range_packed};
 ghost use Rattle.iova_c.specs.Bytes.{frame_at, frames_of, last_frame};
 ghost use Rattle.iova_c.specs.Slots.{is_set};
 ghost use Rattle.iova_c.specs.Caches.{granule_in, AllocCall, UnmapCall, MapCall, UnmapBytesCall, SettleCall, PutCall, TakeCall, RoomCall, KeepCall, ReleaseCall, AnyCall, ApartCall, CountsCall, MakeCall, RefillCall, SpillCall, AllocByCall, UnmapByCall, EndCall};
 ghost use Rattle.iova_c.specs.contracts.cached.CacheSlot.{the_row};
 ghost use Rattle.iova_c.specs.contracts.slot.Slot.{the_row as slot_row};
 
-use crate::answer::{CacheCountsAnswer, MappingAnswer, NumberAnswer, RangeAnswer};
+use crate::answer::{CacheCountsAnswer, MappingAnswer, NumberAnswer, PackedAnswer, RangeAnswer};
 use crate::bytes::{map_cached, unmap_bytes_cached};
 use crate::cached::{
-    CacheSlot, alloc, any, apart, clear, counts, keep, make_room, no_cache, put, release, settle,
-    take, unmap,
+    CacheSlot, alloc, alloc_packed, any, apart, clear, counts, keep, make_room, no_cache, put,
+    release, settle, take, unmap, unmap_packed,
 };
 use crate::exchanged::{alloc_by, end, make, refill, spill, unmap_by};
 use crate::exports::SlotRoom;
@@ -84,6 +85,21 @@ pub unsafe extern "C" fn iova_cache_alloc(
     alloc(&mut *(cache as *mut CacheSlot), frames, limit)
 }
 
+/// `iova_cache_alloc`, answered in two registers.
+#[unsafe(no_mangle)]
+pub unsafe extern "C" fn iova_cache_alloc_packed(
+    cache: *mut CacheRoom,
+    frames: u64,
+    limit: u64,
+) -> PackedAnswer
+    ghost old: { CacheSlot }
+    requires* { sem 𝓛 (lies_at the_row full_share cache old) }
+    ensures* { ∃ₛ (λ (new : CacheSlot). sem 𝓛 (lies_at the_row full_share cache new)
+        ∗ ⌜ AllocCall old.cache frames limit (range_packed result) new.cache ⌝) }
+{
+    alloc_packed(&mut *(cache as *mut CacheSlot), frames, limit)
+}
+
 /// The user gives up the range that begins there.
 #[unsafe(no_mangle)]
 pub unsafe extern "C" fn iova_cache_unmap(cache: *mut CacheRoom, lo: u64, start: u64) -> RangeAnswer
@@ -93,6 +109,21 @@ pub unsafe extern "C" fn iova_cache_unmap(cache: *mut CacheRoom, lo: u64, start:
         ∗ ⌜ UnmapCall old.cache lo start result new.cache ⌝) }
 {
     unmap(&mut *(cache as *mut CacheSlot), lo, start)
+}
+
+/// `iova_cache_unmap`, answered in two registers.
+#[unsafe(no_mangle)]
+pub unsafe extern "C" fn iova_cache_unmap_packed(
+    cache: *mut CacheRoom,
+    lo: u64,
+    start: u64,
+) -> PackedAnswer
+    ghost old: { CacheSlot }
+    requires* { sem 𝓛 (lies_at the_row full_share cache old) }
+    ensures* { ∃ₛ (λ (new : CacheSlot). sem 𝓛 (lies_at the_row full_share cache new)
+        ∗ ⌜ UnmapCall old.cache lo start (range_packed result) new.cache ⌝) }
+{
+    unmap_packed(&mut *(cache as *mut CacheSlot), lo, start)
 }
 
 /// `iova_cache_alloc` in bytes, below a mask.

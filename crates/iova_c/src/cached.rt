@@ -1,10 +1,10 @@
 //! A place for one cache, and the calls of a cache that need no domain, in numbers.
 ghost use Rattle.std.specs.Prelude.{◌≡◌, None, IfSome, IfNone};
-ghost use Rattle.iova_c.specs.Answers.{unpacked};
+ghost use Rattle.iova_c.specs.Answers.{range_packed};
 ghost use Rattle.iova_c.specs.Slots.{is_set};
 ghost use Rattle.iova_c.specs.Caches.{some_answer, no_range, a_range, AllocCall, UnmapCall, SettleCall, PutCall, TakeCall, RoomCall, KeepCall, ReleaseCall, AnyCall, ApartCall, CountsCall};
 
-use crate::answer::{CacheCountsAnswer, NumberAnswer, RangeAnswer, number_of, unpack};
+use crate::answer::{CacheCountsAnswer, NumberAnswer, PackedAnswer, RangeAnswer, number_of, unpack};
 use crate::granule::{Granule, usual};
 use iova_cache::apart::Unput;
 use iova_cache::cache::{Cache, Kept, Unmet};
@@ -79,6 +79,23 @@ pub(crate) fn given(range: Range) -> RangeAnswer
     }
 }
 
+#[inline(always)]
+fn packed(range: Range) -> PackedAnswer
+    ensures { range_packed result ≡ a_range range }
+{
+    PackedAnswer {
+        lo: range.lo(),
+        len: range.len(),
+    }
+}
+
+#[inline(always)]
+fn packed_refusal(number: u64) -> PackedAnswer
+    ensures { range_packed result ≡ no_range number }
+{
+    PackedAnswer { lo: number, len: 0 }
+}
+
 fn of_some(number: u64, res: Option<Range>) -> RangeAnswer
     ensures { result ≡ some_answer number res }
 {
@@ -101,32 +118,40 @@ fn alloc_at_once(slot: &mut CacheSlot, frames: u64, limit: u64) -> Option<Range>
     }
 }
 
-/// A range of the magazines, up to the limit. What is seldom done is out of line.
-#[inline(always)]
+/// A range of the magazines, up to the limit.
 pub fn alloc(slot: &mut CacheSlot, frames: u64, limit: u64) -> RangeAnswer
     ensures { AllocCall slot.old.cache frames limit result slot.new.cache }
 {
+    let answer = alloc_packed(slot, frames, limit);
+    unpack((answer.lo, answer.len))
+}
+
+/// `alloc`, answered in two registers. What is seldom done is out of line.
+#[inline(always)]
+pub fn alloc_packed(slot: &mut CacheSlot, frames: u64, limit: u64) -> PackedAnswer
+    ensures { AllocCall slot.old.cache frames limit (range_packed result) slot.new.cache }
+{
     match alloc_at_once(slot, frames, limit) {
-        Some(range) => given(range),
-        None => unpack(alloc_elsewhere(slot, frames, limit)),
+        Some(range) => packed(range),
+        None => alloc_elsewhere(slot, frames, limit),
     }
 }
 
-/// The same, answered in two registers.
+/// What `alloc_packed` does in the cases that are seldom.
 #[cold]
 #[inline(never)]
-fn alloc_elsewhere(slot: &mut CacheSlot, frames: u64, limit: u64) -> (u64, u64)
-    ensures { AllocCall slot.old.cache frames limit (unpacked result) slot.new.cache }
+fn alloc_elsewhere(slot: &mut CacheSlot, frames: u64, limit: u64) -> PackedAnswer
+    ensures { AllocCall slot.old.cache frames limit (range_packed result) slot.new.cache }
 {
     match &mut slot.cache {
         Some(cached) => match cached.cache.alloc(frames, limit) {
-            Ok(range) => (range.lo(), range.len()),
-            Err(Unmet::NoOrder) => (NO_ORDER, 0),
-            Err(Unmet::Miss) => (MISS, 0),
-            Err(Unmet::Empty) => (DRY, 0),
-            Err(Unmet::NoMemory) => (17, 0),
+            Ok(range) => packed(range),
+            Err(Unmet::NoOrder) => packed_refusal(NO_ORDER),
+            Err(Unmet::Miss) => packed_refusal(MISS),
+            Err(Unmet::Empty) => packed_refusal(DRY),
+            Err(Unmet::NoMemory) => packed_refusal(17),
         },
-        None => (NO_CACHE, 0),
+        None => packed_refusal(NO_CACHE),
     }
 }
 
@@ -143,31 +168,39 @@ fn unmap_at_once(slot: &mut CacheSlot, lo: u64, start: u64) -> Option<Range>
     }
 }
 
-/// What begins there is given up, with this count. What is seldom done is out of line.
-#[inline(always)]
+/// What begins there is given up, with this count.
 pub fn unmap(slot: &mut CacheSlot, lo: u64, start: u64) -> RangeAnswer
     ensures { UnmapCall slot.old.cache lo start result slot.new.cache }
 {
+    let answer = unmap_packed(slot, lo, start);
+    unpack((answer.lo, answer.len))
+}
+
+/// `unmap`, answered in two registers. What is seldom done is out of line.
+#[inline(always)]
+pub fn unmap_packed(slot: &mut CacheSlot, lo: u64, start: u64) -> PackedAnswer
+    ensures { UnmapCall slot.old.cache lo start (range_packed result) slot.new.cache }
+{
     match unmap_at_once(slot, lo, start) {
-        Some(range) => given(range),
-        None => unpack(unmap_elsewhere(slot, lo, start)),
+        Some(range) => packed(range),
+        None => unmap_elsewhere(slot, lo, start),
     }
 }
 
-/// The same, answered in two registers.
+/// What `unmap_packed` does in the cases that are seldom.
 #[cold]
 #[inline(never)]
-fn unmap_elsewhere(slot: &mut CacheSlot, lo: u64, start: u64) -> (u64, u64)
-    ensures { UnmapCall slot.old.cache lo start (unpacked result) slot.new.cache }
+fn unmap_elsewhere(slot: &mut CacheSlot, lo: u64, start: u64) -> PackedAnswer
+    ensures { UnmapCall slot.old.cache lo start (range_packed result) slot.new.cache }
 {
     match &mut slot.cache {
         Some(cached) => match cached.cache.unmap(lo, start) {
-            Ok(range) => (range.lo(), range.len()),
-            Err(Kept::NotHeld) => (8, 0),
-            Err(Kept::NoOrder) => (NO_ORDER, 0),
-            Err(Kept::RingFull) => (7, 0),
+            Ok(range) => packed(range),
+            Err(Kept::NotHeld) => packed_refusal(8),
+            Err(Kept::NoOrder) => packed_refusal(NO_ORDER),
+            Err(Kept::RingFull) => packed_refusal(7),
         },
-        None => (NO_CACHE, 0),
+        None => packed_refusal(NO_CACHE),
     }
 }
 

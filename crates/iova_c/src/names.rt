@@ -6,7 +6,7 @@ ghost use Rattle.iova_c.specs.Names.{HasNamed, version, with_text, type_size};
 
 use crate::answer::{
     BoundsAnswer, CacheCountsAnswer, ClientAnswer, CountsAnswer, FlushesAnswer, Listed,
-    MappingAnswer, NumberAnswer, PlaceAnswer, RangeAnswer, TotalsAnswer,
+    MappingAnswer, NumberAnswer, PackedAnswer, PlaceAnswer, RangeAnswer, TotalsAnswer,
 };
 use crate::cached::CacheSlot;
 use crate::slot::Slot;
@@ -93,6 +93,7 @@ pub extern "C" fn iova_type_size(number: u64) -> u64
         10 => size_of::<Listed>(),
         11 => size_of::<CacheSlot>(),
         12 => size_of::<CacheCountsAnswer>(),
+        13 => size_of::<PackedAnswer>(),
         _ => 0,
     };
     bytes as u64
