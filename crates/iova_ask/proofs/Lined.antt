@@ -133,7 +133,7 @@ stuck_at_long rest l behind cut one long =
       long = omega (arith, ap length split, length-append l (10 ∷ behind));
     })
 
--- no line at hand
+-- no whole line was read
 
 none_of : (ls : List (List ℕ)) → 0 ≡ length ls → ls ≡ []
 none_of [] e = refl
@@ -153,7 +153,7 @@ pub stuck_long : (bytes : List ℕ) → IsStuck bytes → MAX_LINE ≤ length by
 stuck_long bytes (inl unended) long = absurd (omega (arith, unended.short, long))
 stuck_long bytes (inr overlong) long = overlong
 
--- a run at hand
+-- a run of whole lines was read
 
 pub run_text : (bytes : List ℕ) (run : Run) (r : IsRunOfLines bytes run) → take run.len bytes ≡ lines_text r.lines
 run_text bytes run r =

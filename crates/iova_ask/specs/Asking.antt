@@ -79,7 +79,7 @@ pub record Passes (left after out filled : Option (List ℕ))
   pub writes : Appends out filled written
   pub whole : kept ++ got ≡ written ++ now_kept
 
--- the same where it ends early
+-- lines pass until the end of one of the streams, which comes early
 abbrev pub Breaks : Option (List ℕ) → Option (List ℕ) → Option (List ℕ) → Option (List ℕ) → List ℕ
     → Type 0
 Breaks left after out filled kept =

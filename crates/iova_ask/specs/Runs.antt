@@ -25,7 +25,7 @@ pub record IsRunOfLines (bytes : List ℕ) (run : Run) : Type 0 where
   pub byes : MatchBool run.is_last (EndByBye lines) (AreOpen lines)
   pub stuck : run.lines ≡ 0 → IsStuck rest
 
--- What was sent of the bytes at hand, where `sent` lines had been sent, and the answer.
+-- What was sent of the bytes that were read, where `sent` lines had been sent, and the answer.
 abbrev pub SendsRun : List ℕ → List ℕ → ℕ → ℕ → Option (List ℕ) → Option (List ℕ)
     → Result Bool AskFault → Type 0
 SendsRun old new before now sent filled (Ok true) =

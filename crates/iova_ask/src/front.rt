@@ -1,4 +1,4 @@
-//! The whole lines at hand.
+//! The whole lines at the front of what was read.
 ghost use Rattle.iova_ask.specs.Runs.{IsRunOfLines};
 
 use iova_range::limits::{MAX_LINE, MAX_RUN};

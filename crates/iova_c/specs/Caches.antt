@@ -89,7 +89,7 @@ abbrev pub granule_in : Option Cached → ℕ
 granule_in (Some c) = c.granule
 granule_in None = FRAME_BYTES
 
--- the same with another state of the cache
+-- the slot's content with another state of the cache
 abbrev pub with_cache : Cached → CacheState → Cached
 with_cache c x = record { cache = x; granule = c.granule }
 
@@ -128,7 +128,7 @@ UnmapCall (Some c) lo start a new =
     (c' : CacheState) × ((res : Result Frames Kept) × (Unmaps c.cache c' lo start res
     × ((a ≡ kept_answer res) × (new ≡ Some (with_cache c c')))))
 
--- the same in bytes
+-- what `map` does: `alloc`, answered in bytes
 abbrev pub MapCall : Option Cached → ℕ → ℕ → MappingAnswer → Option Cached → Type 0
 MapCall old frames limit a new =
     (range : RangeAnswer) × (AllocCall old frames limit range new
@@ -349,8 +349,8 @@ MakesIn p old worker sac a q new =
     ⊎ IsStepOf p.domain (step.Open worker sac) (reply.Refused x) s')
     × ((a ≡ no_number (refusal_number x)) × (new ≡ old))))))
 
--- The same of a slot's domain. Single address cycles are refused in a domain of another granule
--- than 4 KiB.
+-- A cache is made over a slot's domain. Single address cycles are refused in a domain of another
+-- granule than 4 KiB.
 pub record Makes (p : Paged) (old : Option Cached) (worker : ℕ) (sac : Bool) (a : NumberAnswer)
     (t : Option Paged) (new : Option Cached) : Type 0 where
   pub no_cycles : sac ≡ true → p.granule ≢ FRAME_BYTES

@@ -23,7 +23,7 @@ abbrev pub is_set : ℕ → Bool
 is_set zero = false
 is_set (suc n) = true
 
--- the same with another state of the domain
+-- the slot's content with another state of the domain
 abbrev pub with_domain : Paged → State → Paged
 with_domain p s = record { domain = s; granule = p.granule }
 

@@ -59,7 +59,7 @@ pub unsafe extern "C" fn iova_cache_apart(alloc: Global, cache: *mut CacheRoom, 
     apart(alloc, &mut *(cache as *mut CacheSlot), sac)
 }
 
-/// Lets the slot's cache go, and gives its memory back.
+/// Drops the slot's cache, and gives its memory back.
 #[unsafe(no_mangle)]
 pub unsafe extern "C" fn iova_cache_clear(cache: *mut CacheRoom)
     ghost old: { CacheSlot }

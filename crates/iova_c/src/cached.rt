@@ -52,7 +52,7 @@ pub fn no_cache() -> CacheSlot
     CacheSlot { cache: None }
 }
 
-/// The slot's cache is let go.
+/// Drops the slot's cache.
 pub fn clear(slot: &mut CacheSlot)
     ensures { slot.new.cache ≡ None }
 {

@@ -67,7 +67,7 @@ pub unsafe extern "C" fn iova_domain_make(
     make(alloc, &mut *(domain as *mut Slot), start, last, workers)
 }
 
-/// The same in the second profile.
+/// Makes a domain of the second profile. Answers 0, or the number of the refusal.
 #[unsafe(no_mangle)]
 pub unsafe extern "C" fn iova_domain_make_second(
     alloc: Global,

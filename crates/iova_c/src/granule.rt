@@ -52,7 +52,7 @@ pub fn granule_of(bytes: u64) -> Result<Granule, Refusal>
 }
 
 impl Granule {
-    /// The same granule once more.
+    /// A copy of the granule.
     pub fn again(&self) -> Granule
         ensures { result ≡ self.now }
     {

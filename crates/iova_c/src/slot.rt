@@ -46,7 +46,7 @@ pub fn step(slot: &mut Slot, step: Step) -> Reply
     }
 }
 
-/// The same. `Unmap` is out of line.
+/// The slot's domain takes the step. `NoDomain` where it has none. `Unmap` is out of line.
 #[inline(always)]
 pub fn step_elsewhere(slot: &mut Slot, step: Step) -> Reply
     ensures { HasStepped slot.old.domain step result slot.new.domain }
@@ -94,8 +94,8 @@ pub fn make_granule(
     }
 }
 
-/// The same in the second profile, with so many magazines of each order in the depot. `BadProfile`
-/// where they are too many too, and then as above.
+/// Makes a domain of the second profile, with so many magazines of each order in the depot.
+/// `BadProfile` where they are too many; else refused as one of the kernel's profile.
 pub fn make_second_granule(
     alloc: Global,
     slot: &mut Slot,

@@ -8,7 +8,7 @@ use Rattle.iova_range.specs.Frames.{Frames}
 abbrev pub magazine_of : List (List Frames) → ℕ → List Frames
 magazine_of ms order = slice_index_or ms order []
 
--- the same with others in their place
+-- the magazines of all orders, with others at this one
 abbrev pub with_magazine : List (List Frames) → ℕ → List Frames → List (List Frames)
 with_magazine ms order m = slice_set ms order m
 

@@ -179,7 +179,8 @@ impl Bucket {
         Some(range)
     }
 
-    /// The same, where a magazine may take it: it has at most 32 frames. One look finds it.
+    /// Takes the range that begins there out of the bucket, where a magazine may take it: it has at
+    /// most 32 frames. One look finds it.
     #[inline(always)]
     pub(crate) fn take_cached(&mut self, lo: u64) -> Result<Range, Kept>
         ensures taken { IfOk result (λ r. (find (begins_at lo) self.old ≡ Some r)

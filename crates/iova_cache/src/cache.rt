@@ -62,7 +62,7 @@ pub struct Cache {
     pub(crate) ring: Ring,
 }
 
-/// What it has is let go, which is proved here once for every crate above.
+/// Drops its parts. The proof stands here, once for all crates above.
 impl Drop for Cache {
     fn drop(self) {
         let Cache {
@@ -161,7 +161,7 @@ impl Cache {
         self.get_at_once(order_of_need(frames), limit)
     }
 
-    /// The same of an order, 0 to 5.
+    /// Gives the user the newest range of an order, 0 to 5, where it fits and needs no memory.
     #[inline(always)]
     fn get_at_once(&mut self, order: u8, limit: u64) -> Option<Range>
         requires { order < ORDERS }

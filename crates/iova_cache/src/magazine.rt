@@ -95,7 +95,7 @@ pub(crate) struct Magazines {
     magazines: Vec<Magazine>,
 }
 
-/// What it has is let go, which is proved here once for every crate above.
+/// Drops its parts. The proof stands here, once for all crates above.
 impl Drop for Magazines {
     fn drop(self) {
         let Magazines { magazines: _ } = self;

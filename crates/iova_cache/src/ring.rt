@@ -24,7 +24,7 @@ pub(crate) struct Ring {
     count: usize,
 }
 
-/// What it has is let go, which is proved here once for every crate above.
+/// Drops its parts. The proof stands here, once for all crates above.
 impl Drop for Ring {
     fn drop(self) {
         let Ring {
@@ -138,7 +138,7 @@ impl Ring {
     }
 }
 
-/// The same of so many slots from the head on.
+/// What `put_flushed` does, over so many slots from the head on.
 #[inline(always)]
 fn put_window(
     magazines: &mut Magazines,

@@ -51,7 +51,7 @@ pub(crate) struct Table {
     alloc: Global,
 }
 
-/// What it has is let go, which is proved here once for every crate above.
+/// Drops its parts. The proof stands here, once for all crates above.
 impl Drop for Table {
     fn drop(self) {
         let Table {
@@ -134,8 +134,8 @@ fn seek(buckets: &[Bucket], lo: u64) -> usize
     buckets.len()
 }
 
-/// The same from a home on, and behind the last bucket from the first one on; where the home has no
-/// strays it looks there alone.
+/// The bucket that has the range, looked for from a home on, and behind the last bucket from the
+/// first one on. Where the home has no strays it looks there alone.
 fn seek_from(buckets: &[Bucket], strays: u32, home: usize, lo: u64) -> usize
     requires within { home < length buckets.now }
     requires alone { strays ≡ 0
@@ -181,8 +181,8 @@ fn roomy(buckets: &[Bucket]) -> usize
     buckets.len()
 }
 
-/// The same from a home on, and behind the last bucket from the first one on, where not all are
-/// full.
+/// A bucket that isn't full, looked for from a home on, and behind the last bucket from the first
+/// one on. Not all are full.
 fn roomy_from(buckets: &[Bucket], home: usize) -> usize
     requires within { home < length buckets.now }
     requires room { length (all_ranges buckets.now) < BUCKET * length buckets.now }
@@ -330,7 +330,8 @@ impl Table {
         taken
     }
 
-    /// The same, where a magazine may take it: it has at most 32 frames.
+    /// Takes the range that begins there out, where a magazine may take it: it has at most 32
+    /// frames.
     pub(crate) fn take_cached(&mut self, lo: u64) -> Result<Range, Kept>
         ensures taken { IfOk result (λ r. (find (begins_at lo) self.old.ranges ≡ Some r)
             × Gains r self.new.ranges self.old.ranges) }
@@ -417,7 +418,7 @@ impl Table {
         Ok(())
     }
 
-    /// The same ranges in twice the buckets.
+    /// A table of these ranges with twice the buckets.
     fn wider(&self) -> Result<Table, Refusal>
         ensures room { IfOk result (λ t. length t.ranges < t.capacity) }
         ensures doubled { IfOk result (λ t. t.capacity ≡ 2 * self.now.capacity + SPARE) }

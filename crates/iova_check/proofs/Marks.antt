@@ -32,7 +32,7 @@ shown_bare mark k (suc f) le bare = elim (cases_eq k (suc f)) [
   | inr other ↦ bare_step mark f (bare (suc f) (omega arith) (omega arith)) ∙ shown_bare mark k f (omega arith) (λ q lt under. bare q lt (omega arith))
 ]
 
--- the same marks from a frame on show the same, where they show the same at it
+-- marks that agree from a frame on show the same stage there, where they do at the frame
 pub shown_along : (mark other : ℕ → Option Stage) (k f : ℕ) → stage_by other k ≡ stage_by mark k → k ≤ f
     → ((q : ℕ) → k < q → q ≤ f → other q ≡ mark q) → stage_by other f ≡ stage_by mark f
 shown_along mark other k zero same le along =
@@ -47,7 +47,7 @@ shown_along mark other k (suc f) same le along = elim (cases_eq k (suc f)) [
       ∙ ap (unwrap_or (mark (suc f))) rest
 ]
 
--- the same marks up to a frame show the same
+-- marks that agree up to a frame show the same stage at it
 pub shown_below : (mark other : ℕ → Option Stage) (f : ℕ) → ((q : ℕ) → q ≤ f → other q ≡ mark q) → stage_by other f ≡ stage_by mark f
 shown_below mark other zero same = ap (λ (o : Option Stage). unwrap_or o stage.Free) (same 0 (omega arith))
 shown_below mark other (suc f) same =
@@ -148,7 +148,7 @@ unstale_along mark k (suc f) here le none = elim (cases_eq k (suc f)) [
       (unstale_along mark k f here (omega arith) (λ q lt le. none q lt (omega arith)))
 ]
 
--- The same of what is free
+-- Marks that say free.
 
 unmarked_free : (o : Option Stage) (s : Stage) → (o ≢ Some stage.Free) → is_free s ≡ false → is_free (unwrap_or o s) ≡ false
 unmarked_free None s none before = before

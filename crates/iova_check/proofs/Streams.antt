@@ -384,7 +384,7 @@ last_stops source input mid left output filled full p n buffer more e s consumes
   tells = EndsCheck-tells source (s.taken ++ 10 ∷ []) (s.written ++ more) left e (stops s.taken s.written s.stands);
 }
 
--- what the end of a line comes to
+-- the result of the end of a line
 abbrev pub IsLastRead : Source → Option (List ℕ) → Option (List ℕ) → Progress → Progress → Result Unit CheckFault → Type 0
 IsLastRead source filled full p q ended =
     (more : List ℕ) × Appends filled full more × Outcome source p (10 ∷ []) more q ended × OnOk ended (q.findings.items ≡ [])
@@ -432,7 +432,7 @@ input_stops source input mid left output filled full p q n buffer ended e s cons
     fails : (x : Result Unit CheckFault) (f : CheckFault) → x ≡ Err f → x ≡ Ok tt → Checks source input left output full (Err e)
     fails x f a b = let no : ◌≡◌ {A = Result Unit CheckFault} (Err f) (Ok tt) = sym a ∙ b in absurd cc
 
--- the input ends, and what the end of a line comes to is returned: it is the answer, or the end of what was taken has one
+-- the input ends, and the result of the end of a line is returned: it is the answer, or the end of what was taken has one
 
 pub end_goes : (source : Source) (input mid left output filled full : Option (List ℕ)) (p q : Progress) (n : ℕ) (buffer : List ℕ) (ended : Result Unit CheckFault)
     → SoFar source input mid output filled p → Consumes mid left (take n buffer) → n ≡ 0 → IsAtEnd left

@@ -98,7 +98,7 @@ pub record IsLongFlush (past : List Event) (f begun ended : ℕ) : Type 0 where
   pub in_order : begun < ended
   pub alone : NoneBetween (is_of number) past begun ended
 
--- the same, told by one line: it begins and ends there
+-- a flush that one line tells: it begins and ends there
 pub record IsShortFlush (past : List Event) (f begun ended : ℕ) : Type 0 where
   pub line : IsLine (flushes f) past ended
   pub at_once : begun ≡ ended

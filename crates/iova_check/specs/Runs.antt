@@ -46,7 +46,7 @@ pub record StopsAtBad (source : Source) (taken written : List ℕ) (number : ℕ
   pub of_log : IsOfLog source.form
   pub bad : IsBad lines rest
 
--- the same where the input ends in the line
+-- the run stops at a line that the input ends in
 pub record StopsAtCut (source : Source) (taken written : List ℕ) (number : ℕ) : Type 0 where
   pub lines : Option Lines
   pub rest : List ℕ

@@ -4,6 +4,7 @@ use Rattle.std.specs.Char.{is_ascii_digit}
 use Rattle.std.specs.List.{list_all}
 use Rattle.std.specs.Str.{bytes_eq}
 use Rattle.iova_range.specs.Frames.{Frames}
+use Rattle.iova_range.specs.declared.limits.TheConstants.{FRAME_BYTES, MAX_TRACE_LINE}
 use Rattle.iova_check.specs.declared.event.Event.{Event}
 use Rattle.iova_check.specs.declared.event.Event.TheVariants as event
 use Rattle.iova_check.specs.declared.event.OtherLine.TheVariants as other
@@ -105,7 +106,8 @@ number_after prefix word = number_of (after prefix word)
 abbrev pub frames_between : ℕ → ℕ → Option Frames
 frames_between start behind =
     if nat_lt start behind then Some (record
-    { lo = start / 4096; len = ((behind - 1) / 4096 - start / 4096) + 1 }) else None
+    { lo = start / FRAME_BYTES; len = ((behind - 1) / FRAME_BYTES - start / FRAME_BYTES) + 1 })
+    else None
 
 -- those of so many bytes from `start` on: none where the byte behind them has no address of 64 bits
 abbrev pub frames_within : ℕ → ℕ → Option Frames
@@ -157,7 +159,8 @@ is_other_domain (Some domain) number = not (domain == number)
 -- queue
 abbrev pub paged_frames : ℕ → Frames
 paged_frames q1 =
-    record { lo = ((q1 / 4096) / (2 ^ (q1 % 64))) * (2 ^ (q1 % 64)); len = 2 ^ (q1 % 64) }
+    record
+    { lo = ((q1 / FRAME_BYTES) / (2 ^ (q1 % 64))) * (2 ^ (q1 % 64)); len = 2 ^ (q1 % 64) }
 
 -- of bits 5 and 4 of q0, of its bits 31 to 16, and of q1: a flush of everything, of a domain, or of
 -- frames of a domain
@@ -172,7 +175,8 @@ flush_at domain granularity number q1 =
 abbrev pub flush_of : Option ℕ → Option ℕ → Option ℕ → Event
 flush_of domain None q1 = event.Other other.Plain
 flush_of domain (Some q0) None = event.Other other.Plain
-flush_of domain (Some q0) (Some q1) = flush_at domain ((q0 / 16) % 4) ((q0 / 65536) % 65536) q1
+flush_of domain (Some q0) (Some q1) =
+    flush_at domain ((q0 / 2 ^ 4) % 2 ^ 2) ((q0 / 2 ^ 16) % 2 ^ 16) q1
 
 -- 0x<hex> four times, behind the name of a unit
 abbrev pub flush_said : Option ℕ → List ℕ → List ℕ → List ℕ → List ℕ → Event
@@ -218,7 +222,7 @@ is_lost_behind (Some bytes) =
 
 -- a line, which is without its LF, says that events were lost: CPU:<digits> [LOST <digits> EVENTS]
 abbrev pub says_lost : List ℕ → Bool
-says_lost line = nat_lt (length line) 1024 && is_lost_behind (after (codes "CPU:") line)
+says_lost line = nat_lt (length line) MAX_TRACE_LINE && is_lost_behind (after (codes "CPU:") line)
 
 -- What a line says
 
@@ -232,4 +236,4 @@ line_said domain line =
 -- more than 1,024 bytes with its LF is too long to be read
 abbrev pub event_said : Option ℕ → List ℕ → Event
 event_said domain line =
-    if nat_lt (length line) 1024 then line_said domain line else event.Other other.TooLong
+    if nat_lt (length line) MAX_TRACE_LINE then line_said domain line else event.Other other.TooLong

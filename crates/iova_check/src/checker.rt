@@ -19,7 +19,7 @@ pub struct Checker {
     pub counts: Counts,
 }
 
-/// What it has is let go, which is proved here once for every crate above.
+/// Drops its parts. The proof stands here, once for all crates above.
 impl Drop for Checker {
     fn drop(self) {
         let Checker {
@@ -48,7 +48,7 @@ impl Checker {
         }
     }
 
-    /// Takes the next line, and appends what is told of it. Refused by `NoMemory`, also where no
+    /// Takes the next line, and appends its findings. Refused by `NoMemory`, also where no
     /// further line has a number; nothing is appended then.
     pub fn check(&mut self, event: Event, out: &mut Vec<u8>) -> Result<(), Refusal>
         requires { IsInReach event }

@@ -46,7 +46,7 @@ impl Counts {
         }
     }
 
-    /// With a line more, of which so many findings are told. Refused by `NoMemory` where a count
+    /// With a line more, with so many findings. Refused by `NoMemory` where a count
     /// has no number.
     pub fn with_line(self, event: &Event, findings: u64) -> Result<Counts, Refusal>
         ensures counted { IfOk result (λ counts. counts ≡ counts_after self event.now findings) }

@@ -31,7 +31,7 @@ pub struct Run {
     pub lo: u64,
     /// How many frames, at least 1.
     pub len: u64,
-    /// The line since which they are mapped or stale, where the kind tells one.
+    /// The line since which they are mapped or stale, where the kind has one.
     pub since: Option<u64>,
 }
 
@@ -60,8 +60,8 @@ fn one_if(finding: &Option<Finding>) -> u64
 }
 
 impl Kind {
-    /// What the kind tells of a frame at this stage: nothing where it is not so, else the line
-    /// since which, where it tells one.
+    /// What the kind says of a frame at this stage: nothing where it is not so, else the line
+    /// since which, where it has one.
     pub fn told(self, stage: Stage) -> Option<Option<u64>>
         ensures { result ≡ since_of self stage }
     {

@@ -1,4 +1,4 @@
-//! What is told beside the findings: why a line is refused, and what of a trace could not be read.
+//! What is printed beside the findings: why a line is refused, and what of a trace could not be read.
 //! What fails is passed over: nobody is left to tell.
 ghost use Rattle.std.specs.Prelude.{◌≡◌};
 

@@ -109,7 +109,7 @@ impl Reason {
         }
     }
 
-    /// Whether the line's own text tells more.
+    /// Whether the line's own text says more.
     pub fn has_text(self) -> bool {
         !matches!(self, Reason::Empty | Reason::Xz | Reason::Gzip)
     }
@@ -245,7 +245,7 @@ pub fn compressed(front: &[u8]) -> Option<Reason> {
     }
 }
 
-/// Whether words are told apart otherwise than by one blank.
+/// Whether words are separated otherwise than by one blank.
 fn bad_blanks(line: &[u8]) -> Option<Reason> {
     if line.ends_with(b"\r") {
         Some(Reason::Cr)

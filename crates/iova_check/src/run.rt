@@ -37,7 +37,7 @@ const BUFFER: usize = 65_536;
 ///
 /// The answer is the fault of the earliest line. `BadLog` where a line is none of a log's, or where
 /// the input ends in a line without LF or has no line; the findings of the lines before it are
-/// written, and why it is none is told to `notices`, with its text. `ReadFault` where a read fails,
+/// written, and why it is none goes to `notices`, with its text. `ReadFault` where a read fails,
 /// an interruption too; the findings of all whole lines are written. `WriteFault` where a write
 /// fails or takes nothing, and `NoMemory`: some first bytes of the findings are written.
 pub fn check<R: Read, W: Write, N: Write>(
@@ -62,7 +62,7 @@ pub fn check<R: Read, W: Write, N: Write>(
 /// frame 0 to frame 2^40 - 1. Of its flushes of a domain those of `domain` count, or all. No line
 /// is refused: one that says nothing of frames or flushes is passed over, as is one of more than
 /// 1,024 bytes with its LF, and a last line needs no LF. A line that says that events were lost is
-/// told to `notices` with its number before the next one is taken, and so are the first one that is
+/// written to `notices` with its number before the next one is taken, and so are the first one that is
 /// too long to be read and a first line that shows that the text is no trace as it stands. What
 /// fails there is passed over.
 ///
@@ -200,7 +200,7 @@ impl Progress {
         }
     }
 
-    /// Takes a text to its end, and writes the findings of its lines. What the check comes to then
+    /// Takes a text to its end, and writes the findings of its lines. The result of the check then
     /// is what `finish` says.
     fn read_all<R: Read, W: Write, N: Write>(
         &mut self,
@@ -434,7 +434,7 @@ impl Progress {
         Ok(())
     }
 
-    /// Takes a whole line of a trace, of which this is kept, and tells notices what of it can't be
+    /// Takes a whole line of a trace, of which this is kept, and writes to the notices what of it can't be
     /// read.
     fn run_trace_line<N: Write>(
         &mut self,
@@ -492,7 +492,7 @@ impl Progress {
         }
     }
 
-    /// What the check comes to where the text ends here.
+    /// The result of the check where the text ends here.
     fn finish(self) -> Result<Checker, CheckFault>
         ensures { (source : Source) (taken written : List ℕ) → Stands source taken written self
             → self.findings.items ≡ []

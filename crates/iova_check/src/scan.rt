@@ -1,4 +1,4 @@
-//! The lowest frames of a range of which something is told, and those after them of which the same
+//! The lowest frames of a range of which there is a finding, and those after them of which the same
 //! is.
 ghost use Rattle.std.specs.Prelude.{◌≡◌, ◌≢◌, ℕ, ◌+◌, ◌-◌, ◌≤◌, ◌<◌, Some, None};
 ghost use Rattle.iova_check.specs.Marks.{stage_at};
@@ -10,8 +10,8 @@ use crate::finding::{Kind, Run};
 use crate::stage::Stage;
 use crate::stages::Stages;
 
-/// The lowest of the frames from `lo` on and below `to` of which the kind tells something, and the
-/// frames after it of which it tells the same.
+/// The lowest of the frames from `lo` on and below `to` of which the kind says something, and the
+/// frames after it of which it says the same.
 pub fn find(stages: &Stages, kind: Kind, lo: u64, to: u64) -> Option<Run>
     requires { lo ≤ to }
     ensures { IsFound (λ f. since_of kind (stage_at stages.now f)) lo to result }
@@ -28,7 +28,7 @@ pub fn find(stages: &Stages, kind: Kind, lo: u64, to: u64) -> Option<Run>
     None
 }
 
-/// A frame above `frame` and at most `to`, up to which the kind tells nothing, as it tells nothing
+/// A frame above `frame` and at most `to`, up to which the kind says nothing, as it says nothing
 /// of `frame`. Where stale or free frames are looked for, it passes no others one by one.
 fn skip(stages: &Stages, kind: Kind, frame: u64, to: u64) -> u64
     requires some { frame < to }
@@ -44,7 +44,7 @@ fn skip(stages: &Stages, kind: Kind, frame: u64, to: u64) -> u64
     }
 }
 
-/// The end of the frames from `lo` on and below `to` of which the kind tells this.
+/// The end of the frames from `lo` on and below `to` of which the kind says this.
 fn stretch(stages: &Stages, kind: Kind, since: Option<u64>, lo: u64, to: u64) -> u64
     requires some { lo < to }
     requires first { since_of kind (stage_at stages.now lo) ≡ Some since }
@@ -121,7 +121,7 @@ fn last_start(stages: &Stages, since: Option<u64>, lo: u64, to: u64) -> u64
     start
 }
 
-/// Of how many frames below frame 2^64 - 1 the kind tells something.
+/// Of how many frames below frame 2^64 - 1 the kind says something.
 pub fn count_frames(stages: &Stages, kind: Kind) -> u64
     ensures { result ≡ frames_told kind (stage_at stages.now) }
 {

@@ -4,7 +4,7 @@ ghost use Rattle.iova_check.specs.History.{with_change};
 
 use iova_range::range::Range;
 
-/// Where a frame stands after some lines of a log. Lines are told by their number, counted from 1.
+/// Where a frame stands after some lines of a log. Lines are named by their number, counted from 1.
 #[derive(Clone, Copy, PartialEq, Eq)]
 pub enum Stage {
     /// No device can reach it.

@@ -1,6 +1,6 @@
 //! The stages of all frames, as marks in an ordered map: a step costs the logarithm of how many
-//! there are. Those that tell stale are in an index, so that a flush looks at these alone; and so
-//! are those that tell free, so that a search for a free frame passes no range that is mapped.
+//! there are. Those that say stale are in an index, so that a flush looks at these alone; and so
+//! are those that say free, so that a search for a free frame passes no range that is mapped.
 ghost use Rattle.iova_check.specs.StageIndex.{IsIndexed, HasFree};
 
 use crate::stage::{Change, Stage};
@@ -8,15 +8,15 @@ use iova_range::range::Range;
 use std::alloc::{AllocError, Global};
 use std::collections::{BTreeMap, BTreeSet};
 
-/// The stage of each frame. A mark at a frame tells the stage of it and of those after it, up to
+/// The stage of each frame. A mark at a frame says the stage of it and of those after it, up to
 /// the next mark; before the first mark all are free.
 #[derive(Drop)]
 pub struct Stages {
     marks: BTreeMap<u64, Stage>,
-    /// The marks that tell stale are at these frames; where memory was refused there may be more of
+    /// The marks that say stale are at these frames; where memory was refused there may be more of
     /// them.
     stale: BTreeSet<u64>,
-    /// The same of the marks that tell free.
+    /// The frames of the marks that say free.
     free: BTreeSet<u64>,
     ghost indexed: { IsIndexed marks stale },
     ghost freed: { HasFree marks free },
@@ -142,7 +142,7 @@ impl Stages {
         self.next_stale_mark(frame, to)
     }
 
-    /// A frame above `frame` and at most `to`, with no mark between the two that tells stale.
+    /// A frame above `frame` and at most `to`, with no mark between the two that says stale.
     fn next_stale_mark(&self, frame: u64, to: u64) -> u64
         requires { frame < to }
         ensures after { frame < result }
@@ -167,7 +167,7 @@ impl Stages {
         self.next_free_mark(frame, to)
     }
 
-    /// A frame above `frame` and at most `to`, with no mark between the two that tells free.
+    /// A frame above `frame` and at most `to`, with no mark between the two that says free.
     fn next_free_mark(&self, frame: u64, to: u64) -> u64
         requires { frame < to }
         ensures after { frame < result }
@@ -225,7 +225,7 @@ impl Stages {
         }
     }
 
-    /// The same of one that tells mapped, which is in no index.
+    /// Sets a mark that says mapped. Such marks stand in no index.
     fn mark_mapped(&mut self, at: u64, line: u64) -> Result<(), AllocError>
         ensures marked { OnOk result (get nat_cmp self.new.marks at ≡ Some (IsMapped line)) }
         ensures others { OnOk result ((q : ℕ) → q ≢ at
@@ -237,7 +237,7 @@ impl Stages {
         Ok(())
     }
 
-    /// The same of one that tells stale, so that its index has it first.
+    /// Sets a mark that says stale. Its index gets it first, since that may be refused memory.
     fn mark_stale(&mut self, at: u64, line: u64) -> Result<(), AllocError>
         ensures marked { OnOk result (get nat_cmp self.new.marks at ≡ Some (IsStale line)) }
         ensures others { OnOk result ((q : ℕ) → q ≢ at
@@ -249,7 +249,7 @@ impl Stages {
         Ok(())
     }
 
-    /// The same of one that tells free, so that its index has it first.
+    /// Sets a mark that says free. Its index gets it first, since that may be refused memory.
     fn mark_free(&mut self, at: u64) -> Result<(), AllocError>
         ensures marked { OnOk result (get nat_cmp self.new.marks at ≡ Some IsFree) }
         ensures others { OnOk result ((q : ℕ) → q ≢ at
@@ -261,7 +261,7 @@ impl Stages {
         Ok(())
     }
 
-    /// Takes a mark away that tells what the one before it tells.
+    /// Takes a mark away that says what the one before it says.
     fn join(&mut self, at: u64)
         ensures { (f : ℕ) → stage_at self.new f ≡ stage_at self.old f }
     {

@@ -10,7 +10,7 @@ use iova_text::buffer::{append, put, put_number};
 /// Room for the lines of three findings, in bytes.
 const ROOM: usize = 315;
 
-/// Appends the lines of what was told of line `line`. Refused by `NoMemory`, which appends nothing.
+/// Appends the lines of the findings of line `line`. Refused by `NoMemory`, which appends nothing.
 pub fn write_findings(
     line: u64,
     findings: &[Option<Finding>; 3],
@@ -41,7 +41,7 @@ fn put_finding(line: u64, finding: &Finding, out: &mut ArrayVec<u8, ROOM>)
     put(out, b"\n");
 }
 
-/// Appends what is told, for which there is room.
+/// Appends a finding, for which there is room.
 fn put_about(finding: &Finding, out: &mut ArrayVec<u8, ROOM>)
     requires { length out.old.items + 77 ≤ ROOM }
     ensures items { out.new.items ≡ out.old.items ++ about finding.now }
@@ -59,7 +59,7 @@ fn put_about(finding: &Finding, out: &mut ArrayVec<u8, ROOM>)
     }
 }
 
-/// Appends what is told of frames, for which there is room.
+/// Appends a finding of frames, for which there is room.
 fn put_run(run: &Run, out: &mut ArrayVec<u8, ROOM>)
     requires { length out.old.items + 69 ≤ ROOM }
     ensures items { out.new.items ≡ out.old.items ++ run_text run.now }

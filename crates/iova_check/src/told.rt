@@ -1,4 +1,4 @@
-//! What is told of a line: at most three findings.
+//! The findings of a line: at most three.
 ghost use Rattle.std.specs.Prelude.{◌≡◌, List};
 ghost use Rattle.std.specs.Ordering.{nat_cmp};
 ghost use Rattle.std.specs.BTreeMap.{get};
@@ -18,7 +18,7 @@ use crate::stages::Stages;
 use crate::tracker::Tracker;
 use iova_range::range::Range;
 
-/// What is told of the next line, in order: at most three findings. None is of a frame that was
+/// The findings of the next line, in order: at most three. None is of a frame that was
 /// given out too early exactly where the promise is kept for each frame that the line maps.
 pub fn findings(tracker: &Tracker, allowed: &Allowed, event: &Event) -> [Option<Finding>; 3]
     requires { IsInReach event.now }
@@ -32,7 +32,7 @@ pub fn findings(tracker: &Tracker, allowed: &Allowed, event: &Event) -> [Option<
     tell(tracker, allowed, event)
 }
 
-/// What is told of the next line, by what the tracker knows.
+/// The findings of the next line, by what the tracker knows.
 fn tell(tracker: &Tracker, allowed: &Allowed, event: &Event) -> [Option<Finding>; 3]
     requires { IsInReach event.now }
     ensures { (bounds : Bounds) → Allows allowed.now bounds

@@ -16,7 +16,7 @@ last_same at new c n m same h = record {
   none = λ k ge lt is. h.none k ge lt (sym (same k lt) ∙ is);
 }
 
--- the same chains of other cells that agree so far
+-- chains of other cells that agree so far
 pub chains_same : (at new : ℕ → ℕ) (size n : ℕ) (links : List ℕ) → ((k : ℕ) → k < n → new k ≡ at k) → AreChains at size n links → AreChains new size n links
 chains_same at new size n links same h = record {
   long = h.long;
@@ -349,7 +349,7 @@ removed_other cells n links e c b f d lt own h entry pos ne ff pd fl =
     moved at new size n one p e kept.0 f d (omega (arith, lt)) below (λ k k_p. chains_past cells p n k k_p) (rw here own) (λ is. ne (sym here ∙ is))
     (unlinked at size n links lt own h) (subst (λ x. IsEntry at size n e x kept.0) (sym chain) kept.1) link (subst (λ x. IsEntry at size n f x d) (sym here) ff) pd fl
 
--- the same chains, where a range comes behind those that are linked
+-- the chains stay, where a range comes behind those that are linked
 pub linked_past : (cells : List Frames) (n : ℕ) (r : Frames) (links : List ℕ) → AreChains (chain_at cells) (length cells) n links
     → AreChains (chain_at (set cells n r)) (length (set cells n r)) n links
 linked_past cells n r links h =

@@ -1,4 +1,4 @@
--- What a look along a chain comes to.
+-- The result of a look along a chain.
 use Rattle.std.proofs.Common.{◌≡◌, ◌≢◌, ℕ, ◌-◌, ◌<◌, ◌≤◌, List, length, find, get_or, None, Some, sym, ap, arith, ◌∙◌}
 use Rattle.std.proofs.lemmas.List.{get_or_default}
 use Rattle.iova_range.specs.Frames.{Frames}

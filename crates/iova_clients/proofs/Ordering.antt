@@ -239,7 +239,7 @@ ordered_swapped f g n a b h a_in b_in s =
     (λ k_b is. absent a a_in (ap (λ (r : Frames). r.lo) s.0 ∙ (ap (λ j. (f j).lo) (sym k_b) ∙ is)))
     (λ not_b is. absent k lt (ap (λ (r : Frames). r.lo) (s.2 k not_a not_b) ∙ is)))))
 
--- The same ranges in another order.
+-- Ranges in another order.
 pub record AreSame (xs ys : List Frames) : Type 0 where
   pub long : length ys ≡ length xs
   pub apart : BeginApart (range_at ys) (length ys)

@@ -29,7 +29,7 @@ pub struct Clients {
     alloc: Global,
 }
 
-/// What it has is let go, which is proved here once for every crate above.
+/// Drops its parts. The proof stands here, once for all crates above.
 impl Drop for Clients {
     fn drop(self) {
         let Clients {

@@ -19,7 +19,7 @@ ParsesNumber rows id n =
     (text : Text) × (one_of id rows ≡ Some text)
     × ParsesUnsigned {E = ParseIntError} 64 10 text (Ok n)
 
--- the same without a sign
+-- the option has a text, which is the number in decimal digits without a sign
 abbrev pub HasNumber : List Row → Text → ℕ → Type 0
 HasNumber rows id n = ParsesNumber rows id n × IsPlain rows id
 

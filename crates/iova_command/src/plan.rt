@@ -62,11 +62,11 @@ pub struct Plan<'a> {
     pub regions: Option<&'a str>,
     /// How many seconds a sink that answers has for that, where it is said.
     pub sink_timeout: Option<u64>,
-    /// Which notices are told: those of this level and of those above it.
+    /// Which notices are printed: those of this level and of those above it.
     pub log_level: LevelFilter,
     /// The path of the control socket, where one is wanted.
     pub control: Option<&'a str>,
-    /// How many bytes a frame has, where it is said; else 4096. It is told, and nothing else.
+    /// How many bytes a frame has, where it is said; else 4096. `info` and the metrics have it; it changes nothing else.
     pub granule: Option<u64>,
     pub ghost workers_in_range: { (1 ≤ workers) × (workers ≤ MAX_WORKERS) },
     pub ghost clients_in_range: { ForSome clients (λ n. (1 ≤ n) × (n ≤ MAX_CLIENTS)) },
@@ -84,7 +84,7 @@ pub struct Plan<'a> {
     pub ghost granule_in_range: { ForSome granule IsGranule },
 }
 
-/// What it has is let go, which is proved here once for every crate above.
+/// Drops its parts. The proof stands here, once for all crates above.
 impl<'a> Drop for Plan<'a> {
     fn drop(self) {
         let Plan {

@@ -1,4 +1,4 @@
-//! A daemon's plan told in the words of the command line.
+//! A daemon's plan in the words of the command line.
 use crate::plan::Plan;
 use crate::sink_path::SinkPath;
 use iova_range::limits::{DEFAULT_CLIENTS, MAX_REQUESTS, RECORDED_STEPS, SINK_TIMEOUT};
@@ -31,7 +31,7 @@ impl<'p, 'a> fmt::Display for PlanWords<'p, 'a> {
     }
 }
 
-/// What is served, where, and what is told of it.
+/// What is served, where, and what is logged of it.
 fn write_served<W: fmt::Write>(plan: &Plan<'_>, f: &mut fmt::Formatter<W>) -> fmt::Result {
     let timeout = plan.sink_timeout.unwrap_or(SINK_TIMEOUT);
     write!(f, "serve --socket {}", plan.socket)?;

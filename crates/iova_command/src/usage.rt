@@ -54,7 +54,7 @@ pub enum WordsFault {
     NoMemory,
 }
 
-/// Words that could not be read for want of memory are told as such.
+/// Words that could not be read for want of memory are reported as such.
 impl From<Error> for WordsFault {
     ghost use Rattle.std.specs.Prelude.{◌≡◌, ◌≢◌};
     ghost use Rattle.clap.specs.Values.{kind_of};

@@ -13,7 +13,7 @@ ok_map (Err e) f p = tt
 pub behind : (old mid new x y : List ℕ) → mid ≡ old ++ x → new ≡ mid ++ y → new ≡ old ++ (x ++ y)
 behind old mid new x y first then = then ∙ ap (λ t. t ++ y) first ∙ append_assoc old x y
 
--- the same, where the second call succeeds
+-- what both calls put, where the second one succeeds
 pub then_ok : (r : Result Unit AllocError) (old mid new x y : List ℕ) → mid ≡ old ++ x → OnOk r (new ≡ mid ++ y) → OnOk r (new ≡ old ++ (x ++ y))
 then_ok r old mid new x y first then = ok_map r (behind old mid new x y first) then
 

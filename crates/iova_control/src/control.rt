@@ -25,7 +25,7 @@ use std::thread;
 use std::time::Duration;
 
 /// What is done beside the sessions of a daemon: its control socket, where it has one, and that a
-/// full record is told.
+/// full record is reported.
 #[derive(Drop)]
 pub struct Control<'a, R, N> {
     rt: &'a R,
@@ -366,7 +366,7 @@ impl<'a, R: AllocGlobal, N: Log> Control<'a, R, N> {
         }
     }
 
-    /// Serves this connection too. One that can't be served is closed, which is told.
+    /// Serves this connection too. One that can't be served is closed, and a notice says so.
     fn serve_too(&self, desk: &mut Desk, stream: UnixStream) {
         let is_ready = stream.set_nonblocking(true).is_ok();
         let connection = Connection {

@@ -27,7 +27,7 @@ struct Figure {
     number: u64,
 }
 
-/// What a report tells of a domain, by the names that it has there: the frames of each place, and
+/// What a report has of a domain, by the names that it has there: the frames of each place, and
 /// the numbers of its flushes.
 #[derive(Clone, Copy)]
 struct Numbers {
@@ -90,7 +90,7 @@ fn put_all_of(
     put_program(text, facts)
 }
 
-/// What the report tells of the domain.
+/// What the report has of the domain.
 fn put_domain(text: &mut String, numbers: Numbers) -> Result<(), AllocError>
     ensures { OnOk result (text.new.bytes.items ≡ text.old.bytes.items
         ++ (places_text numbers ++ figures_text (flush_figures numbers))) }
@@ -265,7 +265,7 @@ fn put_refusals(text: &mut String, signals: &Signals) -> Result<(), AllocError>
     put_refusals_from(text, signals, 1)
 }
 
-/// The same from this number on.
+/// Puts a line for each refusal from this number on.
 fn put_refusals_from(text: &mut String, signals: &Signals, number: usize) -> Result<(), AllocError>
     requires { number ≤ MAX_REFUSAL + 1 }
     ensures { OnOk result (PutsRefusals number text.old.bytes.items text.new.bytes.items) }

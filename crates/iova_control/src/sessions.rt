@@ -1,4 +1,4 @@
-//! The sessions that a daemon serves, told a line each.
+//! The sessions that a daemon serves, a line each.
 ghost use Rattle.std.specs.Prelude.{◌≡◌, ◌++◌, ◌-◌, ◌≤◌, ℕ, IfOk, OnOk};
 ghost use Rattle.iova_control.specs.Rows.{PutsRows, PutsSessions, frames_in, row_text};
 

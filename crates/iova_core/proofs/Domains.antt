@@ -102,7 +102,7 @@ domain_clients p r h valid moved serial =
     let state : with_clients (state_of p) r.clients ≡ state_of q = ap (λ n. let s = with_clients (state_of p) r.clients in record s { serial = n }) (sym serial) in
     domain_moved p q h (subst IsValid state valid) (subst (λ s. IsMoved (state_of p) s [] []) state moved) refl refl refl
 
--- the same clients, with more room or less
+-- a domain whose ledger has more room or less
 pub domain_room : (p : Parts) (r : Registry) → IsDomain p → r.clients ≡ p.clients.clients → r.serial ≡ p.clients.serial → IsDomain (record p { clients = r })
 domain_room p r h clients serial = domain_same p (record p { clients = r }) h refl clients serial refl refl refl refl
 

@@ -248,7 +248,7 @@ are_counts law s reserved client magazine depot ring valid a b d e f =
       are = same_counts (counts s) _ reserved client magazine depot ring (omega (arith, total)) reserved_is client_is magazine_is depot_is ring_is;
     }
 
--- the same of what the parts answer
+-- the counts are what the parts answer
 pub counts_are : PlacesAddUp → (p : Parts) (t : State) (first last client magazine depot ring : ℕ) (own : Extent) → state_of p ≡ t → IsDomain p → own ≡ p.tree.bounds → first ≡ own.start → last ≡ own.last → client ≡ (totals p.clients.clients).frames
     → magazine ≡ frames_of (magazine_holders 0 p.cached.caches.workers) → depot ≡ frames_of (depot_holders 0 p.cached.caches.depots) → ring ≡ frames_in_rings p.rings → AreCounts t first last p.reserved client magazine depot ring
 counts_are law p t first last client magazine depot ring own same h is is_first is_last a b d e =

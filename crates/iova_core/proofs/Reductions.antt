@@ -1,4 +1,4 @@
--- What a step comes to, refusal by refusal.
+-- The result of a step, refusal by refusal.
 use Rattle.std.proofs.Common.{ℕ, ◌≡◌, ◌-◌, ◌+◌, ◌^◌, Bool, true, false, [], ◌∷◌, length, Option, Some, None, refl, ap, ◌∙◌}
 use Rattle.std.specs.Prelude.{nat_le}
 use Rattle.iova_range.specs.declared.refusal.Refusal.{Refusal}

@@ -48,7 +48,7 @@ placed_ranges (found.Placed r) = r ∷ []
 placed_ranges found.Nowhere = []
 placed_ranges (found.OutOfMemory m) = []
 
--- the same in the words of the definitions
+-- what was found, in the words of the definitions
 abbrev pub found_as : Walked → next.Found
 found_as (found.Placed r) = next.At r.lo
 found_as found.Nowhere = next.Nowhere

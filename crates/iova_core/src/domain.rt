@@ -50,7 +50,7 @@ pub struct Domain {
     reserved: u64,
 }
 
-/// What it has is let go, which is proved here once for every crate above.
+/// Drops its parts. The proof stands here, once for all crates above.
 impl Drop for Domain {
     fn drop(self) {
         let Domain {
@@ -239,8 +239,9 @@ impl Domain {
         self.alloc_otherwise(worker, client, frames, limit)
     }
 
-    /// `alloc_elsewhere`, in a function of its own: the place of what a call out of line answers is
-    /// cleared where the function that calls begins, which is then none that has all at hand.
+    /// Calls `alloc_elsewhere` from a function of its own. The compiler clears the room for that
+    /// call's answer where the calling function begins: so `alloc` itself, which mostly needs no
+    /// such call, clears nothing.
     #[inline(always)]
     fn alloc_otherwise(
         &mut self,
@@ -257,8 +258,8 @@ impl Domain {
     }
 
     /// Whether the client is that of the step before, and a magazine of this order, 0 to 5, gives a
-    /// range at once, of `size` frames. The compiler then leaves out of `alloc_here` all that is
-    /// called otherwise. Where it isn't so the step is the same.
+    /// range of `size` frames by one look. The compiler then leaves all other calls out of
+    /// `alloc_here`. The step's meaning doesn't depend on it.
     #[inline(always)]
     fn gives_at_once(&self, worker: u64, client: ClientId, order: u8, size: u64, limit: u64) -> bool
         requires order { order < ORDERS }
@@ -363,7 +364,8 @@ impl Domain {
         }
     }
 
-    /// `unmap_elsewhere`, as `alloc_otherwise` is `alloc_elsewhere`.
+    /// Calls `unmap_elsewhere` from a function of its own, for the reason that `alloc_otherwise`
+    /// has.
     #[inline(always)]
     fn unmap_otherwise(&mut self, worker: u64, client: ClientId, lo: u64) -> (Reply, Point)
         ensures reply { result.0 ≡ (unmap self.old worker client lo).reply }
@@ -373,8 +375,8 @@ impl Domain {
         self.unmap_elsewhere(worker, client, lo)
     }
 
-    /// Whether the client is that of the step before, and nothing leaves the worker's ring. Nothing
-    /// is promised: either way the step is the same.
+    /// Whether the client is that of the step before, and nothing leaves the worker's ring. The
+    /// step's meaning doesn't depend on it.
     #[inline(always)]
     pub fn queues_at_once(&self, worker: u64, client: ClientId) -> bool {
         worker < self.workers()

@@ -104,7 +104,7 @@ pub fn drain(tree: &mut Tree, caches: &mut Caches, ring: &mut Ring, w: usize, fi
     drain_unless(waits, tree, caches, ring, w, finish)
 }
 
-/// The same, where it is known whether there is none.
+/// Drains the worker's ring, unless it is known that nothing in it has been flushed.
 #[inline(always)]
 pub fn drain_unless(
     waits: bool,
@@ -162,7 +162,7 @@ fn put_row(
     (count, frames)
 }
 
-/// The same, where there is such an entry.
+/// Drains the worker's ring, whose oldest entry has been flushed.
 #[inline(never)]
 fn drain_flushed(
     tree: &mut Tree,

@@ -19,7 +19,7 @@ use iova_range::range::Range;
 use iova_range::sizes::order_of;
 use iova_tree::tree::Tree;
 
-/// What a walk of a request comes to.
+/// The result of a walk of a request.
 #[derive(Clone, Copy, Debug)]
 pub enum Walked {
     /// The range, which the tree has and no cache.
@@ -59,8 +59,7 @@ fn first_limit(sac: bool, limit: u64) -> u64
     }
 }
 
-/// Whether the walk takes the newest entry of worker `w`'s loaded magazine, and comes to nothing
-/// else.
+/// Whether the walk takes the newest entry of worker `w`'s loaded magazine, and looks no further.
 #[inline(always)]
 pub fn is_at_hand(caches: &Caches, w: usize, sac: bool, order: u8, size: u64, limit: u64) -> bool
     requires worker { w < caches.now.workers }

@@ -17,7 +17,7 @@ kept_last s t c d none one = kept s t c d [] [] [] [] one none
 kept_last s t c d (kept a b e f ss ts cs ds first more) one =
     kept a b e f (ss ++ s ∷ []) (ts ++ t ∷ []) (cs ++ c ∷ []) (ds ++ d ∷ []) first (kept_last s t c d more one)
 
--- the same of what threads had and gave back
+-- what threads had and gave back is kept, and one thread's more
 pub more_kept : {H A B : Type 0} (s : H → SeatState) (c : H → List Call) (t : A → SeatState) (d : B → List Call)
     (hs : List H) (ps : List A) (qs : List B) (h : H) (a : A) (b : B)
     → AreKept (map s hs) (map c hs) (map t ps) (map d qs) → KeepsPlace (s h) (t a) (c h) (d b)

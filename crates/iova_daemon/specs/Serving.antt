@@ -1,4 +1,4 @@
--- What serving comes to.
+-- The result of serving.
 use Rattle.std.specs.Prelude.{◌≡◌, ◌+◌, ◌≤◌, List, [], ◌∷◌, map, sum_by}
 use Rattle.iova_range.specs.declared.refusal.Refusal.{Refusal}
 use Rattle.iova_range.specs.declared.refusal.Refusal.TheVariants as refusal
@@ -25,17 +25,17 @@ AreWithin seats calls seats_now calls_now =
     sum_by (λ s. s.tally.good) seats_now + sum_by good_calls calls
     ≤ sum_by (λ s. s.tally.good) seats + sum_by good_calls calls_now
 
--- The same with a flusher, whose tally begins at 0, and whose sink is the last of those before: all
--- that was counted as ended well while these were served, by whomever, is no more than the good
--- calls that sinks were given meanwhile.
+-- With a flusher, whose tally begins at 0, and whose sink is the last of those before: all that was
+-- counted as ended well while these were served, by whomever, is no more than the good calls that
+-- sinks were given meanwhile.
 abbrev pub CountsWithin : List SeatState → List (List Call) → List SeatState → TallyState
     → List (List Call) → List Call → Type 0
 CountsWithin seats calls seats_now tally calls_now flusher_calls =
     sum_by (λ s. s.tally.good) seats_now + tally.good + sum_by good_calls calls
     ≤ sum_by (λ s. s.tally.good) seats + sum_by good_calls calls_now + good_calls flusher_calls
 
--- The same where a flusher's tally and the sinks aren't given back: there is a tally, which has all
--- parts that the seats haven't, and there are sinks, of which it is so.
+-- What CountsWithin says, where the flusher's tally and the sinks aren't given back: there is a
+-- tally, which has all parts that the seats haven't, and there are sinks, of which it is so.
 abbrev pub CountsWithinSome : {D : Type 0} → (D → List Call) → List SeatState → List D
     → List SeatState → Type 0
 CountsWithinSome {D} calls seats sinks seats_now =

@@ -37,7 +37,7 @@ TriesAgain number a b =
     × ((room : ℕ) × WhereKnown a.domain b.domain
     (RetriesAll room number a.waiting b.waiting a.seat b.seat a.calls b.calls))
 
--- the same, or nothing is done
+-- the waiting clients are tried again, or nothing is done
 abbrev pub IsTried : (number : ℕ) → (a b : Between) → Type 0
 IsTried number a b = (b ≡ a) ⊎ TriesAgain number a b
 

@@ -78,7 +78,7 @@ impl<L: Drop> Pool<L> {
         turn
     }
 
-    /// The same, where nobody else is told of it.
+    /// What the post is to do next; `wait` wakes others where they have to know of it.
     fn turn<R: Wait + Clock>(&self, rt: &R, roster: &Roster, at: usize, rests: bool) -> Turn<L>
         requires { at < MAX_WORKERS }
     {

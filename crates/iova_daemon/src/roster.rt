@@ -88,7 +88,7 @@ impl Roster {
         }
     }
 
-    /// A session had its accept. Whether it was the last one.
+    /// Counts a session that was accepted. Whether it is the last one.
     pub(crate) fn meet(&self) -> bool {
         let before = self.met.fetch_add(1, Ordering::SeqCst);
         match self.serving.sessions {
@@ -182,7 +182,7 @@ fn note_all(noted: &mut Vec<Noted>, slot: u64, clients: &[ClientId]) {
     }
 }
 
-/// How a daemon stands, told by its turns.
+/// The metrics of a daemon that serves.
 #[derive(Drop)]
 pub(crate) struct Stands<'a, R> {
     pub rt: &'a R,

@@ -131,7 +131,7 @@ where
     )
 }
 
-/// The same in this scope.
+/// What `run_all` does, in a scope that its threads end in.
 fn run_in<'s, E, R, W, P, D, B>(
     scope: &Scope<'s, E>,
     rt: &R,

@@ -232,9 +232,9 @@ pub(crate) fn try_again<B: Names, K: Keep<B>, D: Sink>(
     }
 }
 
-/// Tells which clients of a slot wait, where they are others than so many that were told; gives how
-/// many they are. A session adds one, and a round takes some: so they are others where they are not
-/// as many.
+/// Reports which clients of a session's thread wait, where their number has changed since the last
+/// report. Gives the number. A session adds one client and a round of tries takes some out, so
+/// other clients are another number.
 pub(crate) fn tell<R: Wait>(
     rt: &R,
     roster: &Roster,
@@ -307,7 +307,7 @@ fn lead<R: Wait, L: Drop, A: Accept<L>>(
     }
 }
 
-/// A session had its accept: after the last one nobody is accepted any more.
+/// Counts a session that was accepted. After the last one nobody is accepted any more.
 fn meet<L, A: Accept<L>>(roster: &Roster, accept: &A) {
     if roster.meet() {
         accept.close();

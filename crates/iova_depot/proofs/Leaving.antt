@@ -148,7 +148,7 @@ off_shelf weigh c w o lo s (inr (inr (loaded, previous, takes))) =
     let depots = off_depot weigh c.depots o lo s.depot in_orders (takes_out_of_depot weigh o lo (slice_index_or c.depots o []) s.depot takes) in
     rw (weight_of-cached weigh (with_shelf c w o s), weight_of-cached weigh c, same_workers c w o (pair_of s) (same_pair c w o s loaded previous)) (omega arith)
 
--- The same in the words of a take.
+-- What leaves the caches, in the words of a take.
 
 off_caches : (weigh : Frames → ℕ) (o lo : ℕ) (old new : Caches) → TakesEntry o lo old new → weight_of weigh (cached_holders new) + of_entry weigh o lo ≡ weight_of weigh (cached_holders old)
 off_caches weigh o lo old new t = rw t.others (off_shelf weigh old t.worker o lo t.shelf t.takes)

@@ -26,7 +26,7 @@ at_either (x ∷ xs) (suc i) (suc j) a d = step (at_either xs i j a d)
     step (inl (is, at)) = inl (is, ap suc at)
     step (inr is) = inr is
 
--- the same of a shelf
+-- a shelf is either the one that was set or another
 cache_either : (c : Caches) (w o v i : ℕ) (s : Shelf) → ((cache_at (with_shelf c w o s) v i ≡ pair_of s) × (v ≡ w) × (i ≡ o)) ⊎ (cache_at (with_shelf c w o s) v i ≡ cache_at c v i)
 cache_either c w o v i s = outer (at_either c.workers w v (slice_set cs o (pair_of s)) [])
   where

@@ -70,9 +70,9 @@ after_put c w order lo =
 abbrev pub sent_by_put : Cached → ℕ → ℕ → List ℕ
 sent_by_put c w order = sent_out c.profile (shelf_at c.caches w order)
 
--- the same in parts: with other magazines of that worker and order, as a get and a put leave them
+-- The state in parts: with other magazines of that worker and order, as a get and a put leave them
 -- that don't ask the depot; with the depot's last magazine in place of the loaded one; with an
--- empty one there; and with one more in the depot
+-- empty one there; and with one more in the depot.
 abbrev pub with_own : Cached → ℕ → ℕ → Cache → Cached
 with_own c w order cache = with_contents c (with_worker_cache c.caches w order cache)
 

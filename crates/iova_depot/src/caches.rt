@@ -30,7 +30,7 @@ pub struct Caches {
     first_filled: usize,
 }
 
-/// What it has is let go, which is proved here once for every crate above.
+/// Drops its parts. The proof stands here, once for all crates above.
 impl Drop for Caches {
     fn drop(self) {
         let Caches {

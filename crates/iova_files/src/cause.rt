@@ -1,4 +1,4 @@
-//! What lies behind a fault, told on the line before it.
+//! The cause of a fault, printed on the line before it.
 use log::{Log, error};
 use std::io;
 

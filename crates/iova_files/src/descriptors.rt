@@ -7,7 +7,7 @@ use std::fs::File;
 use std::io::Read;
 use std::rt::Files;
 
-/// Where the system tells a process its limits.
+/// Where the system shows a process its limits.
 const LIMITS: &str = "/proc/self/limits";
 
 /// What the limit of descriptors is called there.
@@ -15,7 +15,7 @@ const DESCRIPTORS: &str = "Max open files";
 
 /// How many of so many sessions may be served at a time, beside the sinks of so many workers: as
 /// many as there are descriptors for, and one at least. The others are kept back, so that the
-/// sinks, the record and the control socket find one. Where they aren't enough for all, it is told.
+/// sinks, the record and the control socket find one. Where they aren't enough for all, a notice says so.
 pub fn sessions_within<R: AllocGlobal + Files<File = File>, N: Log>(
     rt: &R,
     notices: &N,
@@ -41,7 +41,7 @@ pub fn sessions_within<R: AllocGlobal + Files<File = File>, N: Log>(
     }
 }
 
-/// How many descriptors the process may have, where that is told and there is a limit.
+/// How many descriptors the process may have, where the system says so and there is a limit.
 fn allowed<R: AllocGlobal + Files<File = File>>(rt: &R) -> Option<u64> {
     let mut file = File::open(rt, LIMITS).ok()?;
     let mut text = String::new(rt.alloc());

@@ -25,7 +25,7 @@ const MAX_SOCKET_PATH: usize = 107;
 pub enum Access {
     /// Whom the umask leaves the right to write.
     Umask,
-    /// The same user alone: mode 0600.
+    /// The daemon's own user alone: mode 0600.
     Private,
 }
 
@@ -37,7 +37,7 @@ pub struct Listening<'a> {
     pub file: MadeFile<'a>,
 }
 
-/// What it has is let go, which is proved here once for every crate above.
+/// Drops its parts. The proof stands here, once for all crates above.
 impl<'a> Drop for Listening<'a> {
     fn drop(self) {
         let Listening {
@@ -57,7 +57,7 @@ impl<'a> Listening<'a> {
 
 /// Listens on a socket at this path, in place of one that nobody listens on any more. Anything else
 /// that stands there is left as it is. An accept there doesn't block. None where it can't be had,
-/// which is told.
+/// which a notice says.
 ///
 /// The folder is locked (`flock`) from the look to the socket, so that of several daemons that
 /// start at once one listens: none takes a socket that another one has just made for one that was
@@ -83,7 +83,7 @@ where
     }
 }
 
-/// The same, with the system's words where it can't be had.
+/// A socket that is bound at the path, or the system's error.
 fn bound<R: Clock + Net + Files<File = File>>(
     rt: &R,
     path: &str,
@@ -104,8 +104,8 @@ fn bound<R: Clock + Net + Files<File = File>>(
     }
 }
 
-/// The same in this folder, which is locked. A lock that somebody else has for longer than a second
-/// isn't waited for, and nothing is replaced then.
+/// A socket that is bound in this folder, which is locked meanwhile. It waits a second at most for
+/// a lock that somebody else has, and replaces nothing then.
 fn bound_in<R: Clock + Net + Files<File = File>>(
     rt: &R,
     folder: &File,
@@ -123,7 +123,7 @@ fn bound_in<R: Clock + Net + Files<File = File>>(
 }
 
 /// Whether a daemon may listen at this path: nothing stands there, or a socket that nobody listens
-/// on. Else it is told.
+/// on. Else a notice says why.
 pub fn is_free<R, N>(rt: &R, notices: &N, path: &str) -> bool
 where
     R: Net + Files<File = File>,

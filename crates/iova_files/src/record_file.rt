@@ -8,10 +8,10 @@ use std::os::unix::fs::{FileTypeExt, MetadataExt};
 use std::rt::Files;
 use std::{fs, io};
 
-/// What is told of a file that is one of the others.
+/// What a notice says of a file that is one of the others.
 const IN_USE: &str = "this run uses it already";
 
-/// What is told of a record that would wait for a reader.
+/// What a notice says of a record that would wait for a reader.
 const FIFO: &str = "a FIFO can't take a record";
 
 /// The file that a record is written to, open from a daemon's start to its end.
@@ -23,7 +23,7 @@ pub struct RecordFile<'a> {
 }
 
 impl<'a> RecordFile<'a> {
-    /// The file at this path, with what stands in it. None, which is told, where it can't be opened
+    /// The file at this path, with what stands in it. None, of which a notice says why, where it can't be opened
     /// for writing, is a FIFO, or is the plain file at one of the other paths.
     pub fn open<R: Files<File = File>, N: Log>(
         rt: &R,
@@ -52,7 +52,7 @@ impl<'a> RecordFile<'a> {
     }
 
     /// Writes this text, in place of what stands in the file. Whether all of it was written: else
-    /// it is told.
+    /// a notice says so.
     pub fn write<N: Log>(&mut self, notices: &N, text: &[u8]) -> bool {
         match rewritten(&mut self.file, text) {
             Ok(()) => true,
@@ -64,7 +64,7 @@ impl<'a> RecordFile<'a> {
     }
 }
 
-/// The same, where it is no FIFO: to open one would wait for a reader.
+/// Opens the file for the record. A FIFO is refused: to open one would wait for a reader.
 fn open_for_record<R: Files<File = File>>(rt: &R, path: &str, others: &[&str]) -> io::Result<File> {
     if let Ok(metadata) = fs::metadata(rt, path)
         && metadata.file_type().is_fifo()
@@ -86,7 +86,7 @@ pub fn open_beside<R: Files<File = File>>(rt: &R, path: &str, others: &[&str]) -
     Ok(file)
 }
 
-/// Whether the same plain file stands at both paths; then it is told.
+/// Whether the same plain file stands at both paths; then a notice says so.
 pub fn is_in_use<R: Files<File = File>, N: Log>(
     rt: &R,
     notices: &N,

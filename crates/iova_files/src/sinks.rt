@@ -97,7 +97,7 @@ impl<'a> SinkPlace<'a> {
         }
     }
 
-    /// The same, where a peer that isn't there is not waited for.
+    /// This place, at which nobody waits for a peer that isn't there.
     pub fn at_once(self) -> SinkPlace<'a> {
         SinkPlace { wait: 0, ..self }
     }
@@ -105,7 +105,7 @@ impl<'a> SinkPlace<'a> {
 
 /// A sink there; a peer is told first that nothing is mapped of the domain that is to be reset,
 /// where one is. None where the file can't be opened, nobody listens, or the peer didn't answer
-/// that it is done; which is told. The end of a connection is hurried there.
+/// that it is done; a notice says which. A stop ends its waits.
 pub fn open_sink<'a, R: Clock + Files<File = File>, W: Log, N: Net + Clock>(
     rt: &R,
     notices: &W,
@@ -126,7 +126,7 @@ pub fn open_sink<'a, R: Clock + Files<File = File>, W: Log, N: Net + Clock>(
     }
 }
 
-/// The file at this path, which takes records. None, which is told, where it can't be opened, or is
+/// The file at this path, which takes records. None, of which a notice says why, where it can't be opened, or is
 /// a socket.
 fn open_file<R: Files<File = File>, W: Log>(rt: &R, notices: &W, path: &str) -> Option<FileDevice> {
     if is_socket(rt, path) {

@@ -28,7 +28,7 @@ pub fn path_of_input(name: &str) -> &str
 }
 
 /// Takes the numbers of the standard streams that are closed, so that no file and no socket gets
-/// one: what is printed or told would be written there. It comes before anything is opened.
+/// one: what is printed would be written there. It comes before anything is opened.
 pub fn hold_closed_streams<R: Files<File = File>>(rt: &R) {
     for _ in 0..=STANDARD_ERROR {
         match File::open(rt, ROOT) {

@@ -30,7 +30,7 @@ pub struct Flights {
     in_flight: ArrayVec<Flight, MAX_FLIGHTS>,
 }
 
-/// What it has is let go, which is proved here once for every crate above.
+/// Drops its parts. The proof stands here, once for all crates above.
 impl Drop for Flights {
     fn drop(self) {
         let Flights {

@@ -24,10 +24,10 @@ pub struct Ring {
     oldest: u64,
 }
 
-/// A count that no flush comes to.
+/// A count that is above the number of every flush.
 const NO_ENTRY: u64 = u64::MAX;
 
-/// What it has is let go, which is proved here once for every crate above.
+/// Drops its parts. The proof stands here, once for all crates above.
 impl Drop for Ring {
     fn drop(self) {
         let Ring {

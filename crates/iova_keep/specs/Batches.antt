@@ -88,7 +88,7 @@ MayStop [] = Unit {0}
 MayStop (ask.Free lo ∷ asks) = Unit {0}
 MayStop (a ∷ asks) = ⊥
 
--- the same, of a keeper whose domain isn't known
+-- what may be told of the asks where the keeper's domain isn't known
 abbrev pub ToldOfAsks : List Ask → List Told → Totals → Totals → Type 0
 ToldOfAsks asks [] held left = MayStop asks × (left ≡ held)
 ToldOfAsks [] (x ∷ xs) held left = ⊥

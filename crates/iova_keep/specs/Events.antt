@@ -154,7 +154,7 @@ pub data Answered (queued left : ℕ) (flushed : Option Bool) : Option Reply →
   ended : Answered queued left flushed (Some reply.Empty) None (Ok (ending.Ended queued))
   unknown : (e : Refusal) → IsUnknown e → queued ≡ 0
       → Answered queued left flushed (Some (reply.Refused e)) None (Err e)
-  -- the client was there and is gone; no run comes to it
+  -- the client was there and is gone; this never happens
   gone : (e : Refusal) → IsUnknown e → 1 ≤ queued
       → Answered queued left flushed (Some (reply.Refused e)) None (Ok (ending.Ended queued))
   share : Answered queued left flushed (Some (reply.Refused refusal.NotHeld)) None

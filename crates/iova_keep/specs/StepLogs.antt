@@ -17,8 +17,8 @@ pub record StepLog : Type 0 where
 abbrev pub new_log : ℕ → StepLog
 new_log room = record { recording = true; room = room; pairs = [] }
 
--- A pair comes to a log. Where that records and has room, the pair is appended and it goes on; else
--- the list stays, and it records no more.
+-- A pair is stored in a log. Where the log records and has room, the pair is appended and it goes
+-- on; else the list stays, and it records no more.
 abbrev pub StoresPair : StepLog → Pair → StepLog → Type 0
 StoresPair old pair new =
     ((old.recording ≡ true) × (length old.pairs < old.room)
@@ -31,7 +31,7 @@ abbrev pub Stores : Option StepLog → Pair → Option StepLog → Type 0
 Stores None pair new = new ≡ None
 Stores (Some old) pair new = MatchOption new ⊥ (StoresPair old pair)
 
--- a step with this reply comes to it, and some memory point
+-- a step with this reply, and some memory point, is stored in it
 abbrev pub StoresStep : Option StepLog → Step → Reply → Option StepLog → Type 0
 StoresStep old st r new = (m : Point) × Stores old (record { step = st; point = m; reply = r }) new
 

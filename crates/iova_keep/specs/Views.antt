@@ -220,7 +220,7 @@ abbrev pub IsBeginHeard : Option Reply → Option Reply → Type 0
 IsBeginHeard o None = Unit {0}
 IsBeginHeard o (Some b) = (o ≡ Some (reply.Refused refusal.RingFull)) × IsReplyTo step.Begin b
 
--- the same in the first hold of a release, also after a range that was queued
+-- what is heard in the first hold of a release, also after a range that was queued
 abbrev pub IsReleaseBegin : Option Reply → Option Reply → Type 0
 IsReleaseBegin o None = Unit {0}
 IsReleaseBegin o (Some b) =

@@ -182,7 +182,7 @@ fn still_full(flushed: Option<bool>) -> Why
 }
 
 /// What ending a client is answered where there is no such client. One whose ranges were queued
-/// before was there, and is gone; no run comes to that.
+/// before was there, and is gone; this never happens.
 fn unknown(queued: u64, refusal: Refusal) -> Result<Ending, Refusal>
     ensures { MatchBool (queued == 0) (result ≡ Err refusal) (result ≡ Ok (Ending.Ended queued)) }
 {

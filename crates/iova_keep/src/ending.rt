@@ -1,6 +1,6 @@
 //! How a client's end went.
 
-/// What ending a client came to.
+/// The result of ending a client.
 #[derive(Clone, Copy, PartialEq, Eq, Debug)]
 pub enum Ending {
     /// The client is gone. The call queued so many of its ranges.
@@ -21,6 +21,6 @@ pub enum Why {
     /// The worker's ring is full, and no flush can begin any more, since the start count is at its
     /// last value.
     Worn,
-    /// The seat's shares are less than the range to be queued. No run comes to this.
+    /// The seat's shares are less than the range to be queued. This never happens.
     Share,
 }

@@ -59,7 +59,7 @@ pub struct Ledgers<B: Names> {
     good: ledger::Book<GoodOf<B>>,
 }
 
-/// What it has is let go, which is proved here once for every crate above.
+/// Drops its parts. The proof stands here, once for all crates above.
 impl<B: Names> Drop for Ledgers<B> {
     fn drop(self) {
         let Ledgers {

@@ -17,7 +17,7 @@ pub struct Tally<B: Names> {
     pub(crate) share: Share<GoodOf<B>>,
 }
 
-/// What it has is let go, which is proved here once for every crate above.
+/// Drops its parts. The proof stands here, once for all crates above.
 impl<B: Names> Drop for Tally<B> {
     fn drop(self) {
         let Tally {
@@ -122,7 +122,7 @@ pub struct Seat<B: Names> {
     pub(crate) tally: Tally<B>,
 }
 
-/// What it has is let go, which is proved here once for every crate above.
+/// Drops its parts. The proof stands here, once for all crates above.
 impl<B: Names> Drop for Seat<B> {
     fn drop(self) {
         let Seat {

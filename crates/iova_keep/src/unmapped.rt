@@ -1,8 +1,8 @@
-//! What a release came to.
+//! The result of a release.
 
 use iova_range::range::Range;
 
-/// What releasing a range came to.
+/// The result of releasing a range.
 #[derive(Clone, Copy, PartialEq, Eq, Debug)]
 pub enum Unmapped {
     /// The range is unmapped, and waits in the worker's ring for a flush.

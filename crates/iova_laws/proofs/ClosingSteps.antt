@@ -156,7 +156,7 @@ module _ (s : State) (id : ℕ) (c : Client) (is : client_with id s.clients ≡ 
       split (inr apart) (inl closing) = inl (untouched (idle refl (λ e. apart (same_client e.0))) (found-forgotten_other id other s.clients apart ∙ is) closing)
       split (inr apart) (inr same) = absurd (apart same)
 
-  -- what a step comes to for a client that is closing, or that it marks
+  -- the result of a step for a client that is closing, or that it marks
   pub closing_step : {st : Step} {r : Reply} {t : State} → Outcome s st r t → SerialsRise 0 s.clients s.serial → (c.closing ≡ true) ⊎ Marks id st r → ClosesOrLeaves id c.holdings st r t
   unfolding after_lowest
   closing_step (turned_down st r why) rise (inl closing) = inl (untouched (refused_idle id st r) is closing)

@@ -151,7 +151,7 @@ closing_now s id c is closing = inl (record { client = c; is = is; closing = clo
 
 -- A pair of a client that is closing, or that it marks.
 module _ (s : State) (p : Pair) (id : ℕ) (c : Client) (valid : IsValid s) (reply_is : p.reply ≡ (next s p.step p.point).reply) (is : client_with id s.clients ≡ Some c) where
-  -- what it comes to
+  -- its result
   first_pair : (c.closing ≡ true) ⊎ Marks id p.step p.reply → ClosesOrLeaves id c.holdings p.step p.reply (next_of s p)
   first_pair why = closing_step s id c is (subst (λ r. Outcome s p.step r (next_of s p)) (sym reply_is) (outcome s p.step p.point)) valid.clients.serials why
 

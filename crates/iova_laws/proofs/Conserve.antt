@@ -68,7 +68,7 @@ drained_queued_moved s w id c r shape below found held =
     let same : length d.rings ≡ length s.rings = length-set s.rings w (unflushed_rest s.flushes.finish (ring_at s w)) in
     moved_then s d (with_entry d w id r) [] (freed_by_drain s w w) (drained_moved s w w shape below below) (queued_moved d w id c r (omega (arith, shape.each_ring)) found held)
 
--- the same of the first holding of a client that is marked
+-- the first holding of a client that is marked moves into the ring
 pub closed_moved : (s : State) (w id : ℕ) (c : Client) (r : Frames) (rs : List Frames) → HasShape s → AreThere s w id c → c.holdings ≡ r ∷ rs → IsMoved s (with_entry (after_drain (with_marked s id) w w) w id r) [] (freed_by_drain s w w)
 closed_moved s w id c r rs shape own is =
     let t = with_marked s id in

@@ -1,4 +1,4 @@
--- What a request's walk comes to: a cached range, a free one, or nothing, and what is left of the caches.
+-- The result of a request's walk: a cached range, a free one, or nothing, and what is left of the caches.
 use Rattle.std.proofs.Common.{ℕ, ◌≡◌, ◌+◌, ◌-◌, ◌^◌, ◌<◌, ◌≤◌, ◌&&◌, ◌⊎◌, inl, inr, Bool, true, false, Option, Some, None, length, refl, ap, arith}
 use Rattle.iova_range.specs.declared.limits.TheConstants.{SAC_LIMIT}
 use Rattle.std.specs.Prelude.{nat_lt, nat_le, slice_index}
@@ -17,7 +17,7 @@ use Rattle.iova_laws.proofs.Weight as weight
 use Rattle.iova_laws.proofs.WeightCaches.{cached_with, Pops, get_pops, cached-emptied}
 use Rattle.iova_laws.proofs.ValidCaches.{order_is, IsShelf, has_shelf, shelf_valid, with_shelf_valid, get_valid, emptied_valid}
 
--- the same ranges are cached
+-- as much is cached, by each weight
 abbrev pub Same : Caches → Caches → Type 0
 Same c d = (weigh : Frames → ℕ) → weight.cached weigh d ≡ weight.cached weigh c
 

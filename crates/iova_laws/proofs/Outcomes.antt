@@ -1,4 +1,4 @@
--- What each step comes to: its reply, and the state that it leaves. The caches after a request are left open here, and so
+-- The result of each step: its reply, and the state that it leaves. The caches after a request are left open here, and so
 -- are the windows after a reservation.
 use Rattle.std.proofs.Common.{ℕ, ◌≡◌, ◌+◌, ◌-◌, ◌^◌, ◌<◌, ◌==◌, Bool, true, false, List, [], ◌∷◌, length, Option, Some, None, refl, sym, ap, ◌∙◌, subst}
 use Rattle.std.specs.Prelude.{find}
@@ -235,7 +235,7 @@ module _ (s : State) where
   close_one_of_comes None w id worker is = early (step.CloseOne w id) refusal.NoClient (rw worker refl) (λ id h. let full = h.1 in cc) refl
   close_one_of_comes (Some c) w id worker is = close_lowest_comes c.holdings w id c worker (owned w id s.clients c is) refl
 
--- what each step comes to
+-- the result of each step
 pub outcome : (s : State) (st : Step) (m : Point) → Outcome s st (Next.next s st m).reply (Next.next s st m).state
 outcome s (step.Reserve lo hi) m = reserve_comes s lo hi m
 outcome s (step.Open w sac) m = open_comes s w sac m

@@ -89,7 +89,7 @@ walk_alike s w sac size limit m =
 abbrev OnlyRefuses : Next → Next → Type 0
 OnlyRefuses n n' = (n.reply ≡ reply.Refused refusal.NoMemory) ⊎ (n ≡ n')
 
--- the same tests, before two outcomes that are alike
+-- tests before two outcomes that are alike
 unless_alike : (s : State) (tests : List (Bool × Refusal)) (n n' : Next) → OnlyRefuses n n' → OnlyRefuses (unless tests s n) (unless tests s n')
 unless_alike s [] n n' alike = alike
 unless_alike s ((b, r) ∷ tests) n n' alike =
@@ -103,7 +103,7 @@ unless_memory s ((b, r) ∷ tests) no_memory n n' alike =
     let rest = unless (tests ++ (no_memory, refusal.NoMemory) ∷ []) s n in
     cond_alike OnlyRefuses b (refuse_step r s) (refuse_step r s) rest (unless tests s n') (inr refl) (unless_memory s tests no_memory n n' alike)
 
--- what a walk comes to is answered
+-- the result of a walk is answered
 given_alike : (t t' : Tried) (id size : ℕ) → IsAlike t t' → OnlyRefuses (give_from t id size) (give_from t' id size)
 given_alike t t' id size (inl out) = inl (rw out refl)
 given_alike t t' id size (inr same) = inr (ap (λ x. give_from x id size) same)

@@ -75,7 +75,7 @@ refused_answered s (step.Alloc w id frames limit) refusal.NoSpace other = absurd
 refused_answered s st r other = tt
 
 module _ (s : State) (valid : IsValid s) (w id frames limit : ℕ) (c : Client) (own : AreThere s w id c) (may : MayAlloc frames c) where
-  -- what a walk comes to is answered, where it leaves emptied caches if it finds nothing
+  -- the result of a walk is answered, where it leaves emptied caches if it finds nothing
   found_answered : (found : Found) (left : Caches) → AreOwn s left → WalkOutcome s true (need frames) limit found left → (found ≡ Nowhere → left ≡ without_entries s.caches)
       → AnswersRequest s frames limit (give found (with_caches s left) id (need frames)).reply
   found_answered (At lo) left whole (inl was) nowhere = cached_suits s left frames limit lo valid was

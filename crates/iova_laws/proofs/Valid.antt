@@ -134,7 +134,7 @@ left_valid : (s : State) (c : Caches) (freed : List Frames) → IsValid s → Ar
 left_valid s c freed h own moved =
     with_caches_valid s c h own (moved_in_order s (with_caches s c) freed moved (in_order s h.one_place))
 
--- what a request comes to
+-- the result of a request
 pub answered_valid : (s : State) (id size limit : ℕ) (x : Client) → IsValid s → 1 ≤ size → size ≤ 1048576 → length x.holdings < 4096 → client_with id s.clients ≡ Some x → (found : Found) (c : Caches) → AreOwn s c → WalkOutcome s true size limit found c → IsValid (give found (with_caches s c) id size).state
 answered_valid s id size limit x h some few room is Nowhere c own none = left_valid s c (cached_ranges s.caches) h own (emptied_moved s c none.0)
 answered_valid s id size limit x h some few room is OutOfMemory c own may =

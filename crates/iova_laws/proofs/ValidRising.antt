@@ -77,7 +77,7 @@ rises-filter low test (x ∷ xs) h = filter_step (rises-filter (x.lo + 1) test x
     filter_step more false is =
         rw is (rises_from low (x.lo + 1) (filter test xs) (omega (arith, h.0)) more)
 
--- The same lists, by length and by element.
+-- Lists with one range more or one less, by length and by element.
 
 -- one more
 pub length-insert : (r : Frames) (rs : List Frames) → length (insert_rising r rs) ≡ length rs + 1

@@ -69,7 +69,7 @@ module _ (weigh : Frames → ℕ) where
 
   -- Ranges.
 
-  -- the same in std's words
+  -- the weight of ranges is std's sum
   pub ranges_are : (rs : List Frames) → sum_by weigh rs ≡ ranges rs
   ranges_are rs = sym (is_sum_by (λ xs. ranges xs) weigh refl (λ x xs. refl) rs)
 

@@ -21,7 +21,7 @@ module _ (weigh : Frames → ℕ) where
   holder_ranges [] = 0
   holder_ranges (h ∷ hs) = weigh h.range + holder_ranges hs
 
-  -- the same of the list of their ranges
+  -- what the list of the holders' ranges weighs
   holder_ranges_are : (hs : List Holder) → weight.ranges weigh (map (λ h. h.range) hs) ≡ holder_ranges hs
   holder_ranges_are [] = refl
   holder_ranges_are (h ∷ hs) = omega (arith, holder_ranges_are hs)
@@ -106,7 +106,7 @@ module _ (weigh : Frames → ℕ) where
   pub held_are : (s : State) → weight.ranges weigh (held_ranges s) ≡ weight.ranges weigh s.windows + load weigh s
   held_are s = omega (arith, holder_ranges_are (holders s), all_hold s)
 
-  -- the same in std's words
+  -- what is held weighs so, by std's sum
   pub held_weigh : (s : State) → sum_by weigh (held_ranges s) ≡ weight.ranges weigh s.windows + load weigh s
   held_weigh s = omega (arith, weight.ranges_are weigh (held_ranges s), held_are s)
 

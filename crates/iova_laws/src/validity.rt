@@ -1,4 +1,4 @@
-//! Each state that a domain comes to is valid.
+//! Each state that a domain can be in is valid.
 ghost use Rattle.iova_model.specs.Laws.{NewDomainsAreValid, StepsKeepValidity, TranscriptsKeepValidity};
 
 /// A new domain is valid, whatever its bounds and the number of its workers.

@@ -121,7 +121,7 @@ pub fn write_header(bounds: &Bounds, workers: u64, out: &mut Vec<u8>) -> Result<
 /// `allo` as a number whose lowest byte is its first letter.
 const ALLO: u32 = 0x6f6c_6c61;
 
-/// The same of `unma`.
+/// `unma` as a number whose lowest byte is its first letter.
 const UNMA: u32 = 0x616d_6e75;
 
 /// No line of these two words has fewer bytes: `unmap 0 1 1`.

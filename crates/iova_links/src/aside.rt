@@ -1,8 +1,8 @@
-//! What is done beside the sessions of a daemon and its flusher.
+//! What is done beside a daemon's sessions and its flusher.
 use iova_keep::look::Look;
 use iova_model::step::ClientId;
 
-/// How a daemon stands, but for its domain.
+/// The numbers of a daemon, but for its domain.
 #[derive(Clone, Copy, Debug, PartialEq, Eq)]
 pub struct Figures {
     /// How many sessions are served now.
@@ -18,9 +18,9 @@ pub struct Figures {
     pub since_round: u64,
 }
 
-/// What tells how a daemon stands.
+/// Where the metrics of a daemon come from.
 pub trait Standing {
-    /// How it stands now.
+    /// Its numbers now.
     fn figures(&self) -> Figures;
 
     /// How many sessions of this worker are served now.
@@ -30,7 +30,7 @@ pub trait Standing {
     fn waits(&self, client: ClientId) -> bool;
 }
 
-/// What is done on a thread of its own, from the start of the first session to the end of the last
+/// What the control socket's thread does, from the start of the first session to the end of the last
 /// one.
 pub trait Aside {
     /// Whether there is anything to do: else no thread is started.

@@ -28,7 +28,7 @@ pub struct SharedSink<D> {
     unanswered: AtomicU64,
 }
 
-/// What it has is let go, which is proved here once for every crate above.
+/// Drops its parts. The proof stands here, once for all crates above.
 impl<D: Drop> Drop for SharedSink<D> {
     fn drop(self) {
         let SharedSink {
@@ -103,7 +103,7 @@ pub struct LockedSink<'a, R, D> {
     passage: Option<Passage<'a>>,
 }
 
-/// What it has is let go, which is proved here once for every crate above.
+/// Drops its parts. The proof stands here, once for all crates above.
 impl<'a, R, D> Drop for LockedSink<'a, R, D> {
     fn drop(self) {
         let LockedSink {

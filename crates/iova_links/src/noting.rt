@@ -16,7 +16,7 @@ pub struct NotingSink<'a, D, N> {
 }
 
 impl<'a, D, N> NotingSink<'a, D, N> {
-    /// This sink, with notices told here.
+    /// This sink, whose notices go here.
     pub fn new(sink: D, notices: &'a N) -> NotingSink<'a, D, N>
         ensures sink { result.sink ≡ sink }
         ensures notices { result.notices ≡ notices.entry }
@@ -91,7 +91,7 @@ impl<'a, D: Sink, N: Log> Sink for NotingSink<'a, D, N> {
 }
 
 /// A notice of what happened to the flush, the client or the session of this number. Its target is
-/// the word, so that what takes notices may tell those of a kind less often.
+/// the word, so that who takes notices may print those of a kind less often.
 pub fn note<N: Log>(notices: &N, what: &str, number: u64, how: &str) {
     warn!(notices; target: what, "{what} {number}: {how}");
 }

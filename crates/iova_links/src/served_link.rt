@@ -66,7 +66,7 @@ pub struct ServedLink<'a, R> {
     ended: Count,
 }
 
-/// What it has is let go, which is proved here once for every crate above.
+/// Drops its parts. The proof stands here, once for all crates above.
 impl<'a, R> Drop for ServedLink<'a, R> {
     fn drop(self) {
         let ServedLink {
@@ -198,19 +198,19 @@ impl<'a, R: Wait> Link for ServedLink<'a, R> {
     }
 }
 
-/// What a read comes to without a turn of its own.
+/// The result of a read without a turn of its own.
 #[derive(Clone, Copy)]
 enum AtHand {
     /// So many bytes, 0 at the end.
     Read(usize),
     /// The call failed; the number of the system's error.
     Failed(i32),
-    /// Nothing is at hand, or the daemon stops.
+    /// No byte has come, or the daemon stops.
     Nothing,
 }
 
-/// Reads what is at hand; where it isn't the only link, what comes in a turn. The quick way of a
-/// read: no more is made on it than the numbers of bytes and of an error.
+/// Reads the bytes that have come; where there are other links, those that come in one time-out.
+/// This is the quick way of a read: it answers nothing but the number of bytes or of the error.
 #[inline(always)]
 fn read_at_hand(
     signals: &Signals,
@@ -372,8 +372,8 @@ fn received<R: Wait>(
     unreachable!()
 }
 
-/// Reads once: nothing once the daemon stops. None where it is to be made again, in the turns that
-/// are left. After a read that isn't, there are as many as at first.
+/// Reads once: 0 bytes once the daemon stops. None where the read has to be made again, in the
+/// turns that are left. A read that found bytes gives back all turns.
 fn read_once(
     signals: &Signals,
     patience: Patience,
@@ -415,8 +415,9 @@ fn send_now(stream: &UnixStream, bytes: &[u8]) -> Result<usize, i32>
     }
 }
 
-/// Writes what finds room within the patience, behind a call that came to this, and nothing more
-/// once the daemon stops and there is none. None where a call failed, or took none of some bytes.
+/// Writes what finds room within the time-outs, behind a first call with this result. It writes
+/// nothing more once the daemon stops and there is no room. None where a call failed, or took none
+/// of some bytes.
 #[inline(never)]
 fn sent_behind<R: Wait>(
     rt: &R,

@@ -1,4 +1,4 @@
-//! What the threads of a daemon tell one another beside their turns.
+//! What the threads of a daemon share: whether it is to stop, and what was counted.
 use iova_range::limits::MAX_REFUSAL;
 use iova_sink::hurry::Hurry;
 use std::array;
@@ -20,7 +20,7 @@ pub struct Signals {
     refusals: [AtomicU64; MAX_REFUSAL],
 }
 
-/// What it has is let go, which is proved here once for every crate above.
+/// Drops its parts. The proof stands here, once for all crates above.
 impl Drop for Signals {
     fn drop(self) {
         let Signals {
@@ -77,7 +77,7 @@ impl Signals {
         self.links.fetch_add(1, Ordering::SeqCst);
     }
 
-    /// A link that was served is let go.
+    /// A link that was served is closed.
     pub fn end_link(&self) {
         self.links.fetch_sub(1, Ordering::SeqCst);
     }

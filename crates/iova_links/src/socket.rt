@@ -33,7 +33,7 @@ pub struct SocketAccept<'a, R, N> {
     pause: AtomicU64,
 }
 
-/// What it has is let go, which is proved here once for every crate above.
+/// Drops its parts. The proof stands here, once for all crates above.
 impl<'a, R, N> Drop for SocketAccept<'a, R, N> {
     fn drop(self) {
         let SocketAccept {

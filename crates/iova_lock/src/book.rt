@@ -55,7 +55,7 @@ pub struct Book<B: Names> {
     ledgers: Ledgers<B>,
 }
 
-/// What it has is let go, which is proved here once for every crate above.
+/// Drops its parts. The proof stands here, once for all crates above.
 impl<B: Names> Drop for Book<B> {
     fn drop(self) {
         let Book {
@@ -505,7 +505,7 @@ impl<B: Names> Book<B> {
         self.covers_range(seat, step)
     }
 
-    /// The same, by the range itself.
+    /// Whether the seat covers the range that the step would queue, by looking the range up.
     #[inline(never)]
     fn covers_range(&self, seat: &Seat<B>, step: Step) -> bool
         ensures yes { result ≡ true → (r : Frames) → to_queue self.now.state step ≡ Some r
@@ -627,7 +627,7 @@ impl<B: Names> Book<B> {
         reply
     }
 
-    /// The same with the seat's own tally.
+    /// Runs a step of a flush, which raises the seat's own tally where it ends one well.
     pub(crate) fn run_flush_at(&mut self, seat: &mut Seat<B>, step: Step) -> Reply
         requires { by_tally step ≡ true }
         ensures takes { Takes self.old.state step result self.new.state }

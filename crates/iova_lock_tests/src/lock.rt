@@ -50,8 +50,8 @@ fn run<B: Names, K: Keep<B>, R: Abort + Print>(
     Vec::new(alloc)
 }
 
-// The same of a keeper that threads share, and what takes threads. The seats, how many flushes of
-// tallies that were split off ended well, and what was answered.
+// Runs the cases over a keeper that threads share, and those that need threads. Answers the seats,
+// how many flushes of split tallies ended well, and what was answered.
 fn run_shared<
     B: Names + Send + Sync,
     K: Keep<B> + Copy + Send + Sync,
@@ -203,7 +203,7 @@ fn has(said: &Vec<String>, front: &str) -> bool {
     said.iter().any(|line| line.starts_with(front))
 }
 
-// A lock and its book were answered alike, and the random calls come to what they are to come to.
+// A lock and its book were answered alike, and the random calls were answered as expected.
 fn are_alike<R: Abort>(rt: &R, of_book: &Vec<String>, of_lock: &Vec<String>, strict: bool) {
     assert_eq!(rt; of_lock.len(), of_book.len());
     for (a, b) in of_lock.iter().zip(of_book.as_slice()) {

@@ -49,7 +49,7 @@ any-cache_holders frame worker order cs c lt is =
     (list_any-append t (at_place place a) (at_place place b ++ rest)
     ∙ (rw (list_any-append t (at_place place b) rest, any-at_place frame place a, any-at_place frame place b) (or_assoc (list_any (covers frame) a) (list_any (covers frame) b) (list_any t rest))))
 
--- the same for a pair, where it is known whether that has the frame
+-- whether pairs have a frame, where it is known whether this pair has it
 pub any-pairs : (profile : Capacities) (pairs : List Pair) (frame order : ℕ) (p : Pair) (has : Bool) → ArePairsSound profile pairs → order < 6 → p ≡ slice_index_or pairs order p
     → has ≡ (list_any (covers frame) (of_order order p.cache.loaded) || list_any (covers frame) (of_order order p.cache.previous)) → (worker : ℕ)
     → list_any (λ (h : Holder). covers frame h.range) (cache_holders worker order (drop order (map cache_in pairs)))

@@ -54,7 +54,7 @@ frames_of-cache_holders worker order cs c lt is =
     let both = add_times (length c.loaded) (length c.previous) (2 ^ order) in
     rw head (omega (arith, frames_of-at_place p order c.loaded, frames_of-at_place p order c.previous))
 
--- the same for a pair, where it is known how many that has
+-- how many frames pairs have, where it is known how many this pair has
 pub frames_of-pairs : (profile : Capacities) (pairs : List Pair) (order : ℕ) (p : Pair) (frames : ℕ) → ArePairsSound profile pairs → order < 6 → p ≡ slice_index_or pairs order p
     → frames ≡ frames_in order p.cache → (worker : ℕ)
     → frames_of (cache_holders worker order (drop order (map cache_in pairs))) ≡ frames + frames_of (cache_holders worker (order + 1) (drop (order + 1) (map cache_in pairs)))

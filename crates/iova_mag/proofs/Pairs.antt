@@ -41,7 +41,7 @@ seen-set change profile pairs order p q s lt is becomes =
     ap (λ (cs : List Cache). let w : WorkerCache = record { profile = profile; caches = cs } in w) (map-set cache_in pairs order q)
     ∙ (ap as_seen becomes ∙ ap (λ c. as_seen (change c)) (sym (cache_of-seen profile pairs order p s lt is)))
 
--- the same for a put
+-- a put into a pair is one into what is seen of it
 pub seen-put : (lo : ℕ) (profile : Capacities) (pairs : List Pair) (order : ℕ) (p q : Pair) → ArePairsSound profile pairs → order < 6 → p ≡ slice_index_or pairs order p
     → q ≡ record p { cache = pair_of (put p.profile (shelf_of p.cache) lo) }
     → seen profile (slice_set pairs order q) ≡ with_cache (seen profile pairs) order (pair_of (put profile (shelf_of (cache_of (seen profile pairs) order)) lo))

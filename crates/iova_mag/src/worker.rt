@@ -177,7 +177,7 @@ pub struct WorkerCache {
     pairs: Vec<Pair>,
 }
 
-/// What it has is let go, which is proved here once for every crate above.
+/// Drops its parts. The proof stands here, once for all crates above.
 impl Drop for WorkerCache {
     fn drop(self) {
         let WorkerCache {

@@ -51,7 +51,7 @@ shelf loaded previous depot = record { loaded = loaded; previous = previous; dep
 abbrev pub client : ℕ → List Frames → Client
 client id holdings = record { id = id; worker = 0; sac = false; closing = false; holdings = holdings }
 
--- the same, closing
+-- a client of worker 0 that is closing
 abbrev pub closing_client : ℕ → List Frames → Client
 closing_client id holdings = record { id = id; worker = 0; sac = false; closing = true; holdings = holdings }
 

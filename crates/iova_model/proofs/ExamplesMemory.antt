@@ -55,7 +55,7 @@ points_after_emptying : at_points (one_cached 3 false) (Alloc 0 1 2 3)
     ≡ Given (at 2 2) ∷ Given (at 2 2) ∷ Refused NoMemory ∷ Given (at 2 2) ∷ Given (at 2 2) ∷ Refused NoMemory ∷ []
 points_after_emptying = refl
 
--- the same with nothing cached
+-- that domain with nothing cached
 abbrev none_cached : ℕ → Bool → State
 none_cached last sac = record (one_cached last sac) { caches = new_caches 1 }
 
@@ -95,7 +95,7 @@ ledger_refused = refl
 ledger_refused_keeps_the_caches : place_of (next (after cached (Open 0 false ∷ [])) (Alloc 0 2 2 3) Ledger).state 3 ≡ place.Magazine 0
 ledger_refused_keeps_the_caches = refl
 
--- the same with frame 3 in previous
+-- that domain with frame 3 in `previous`
 abbrev in_previous : State
 in_previous = record (one_cached 1023 false) { caches = with_shelf (new_caches 1) 0 0 (shelf [] (3 ∷ []) []) }
 

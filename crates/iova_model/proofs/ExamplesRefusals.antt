@@ -16,7 +16,7 @@ use Rattle.iova_model.proofs.ExampleWords.{replies, domain, at, small, held, cli
 abbrev reply_at : State → Step → Point → Reply
 reply_at s step m = (next s step m).reply
 
--- the same, with memory
+-- what a step is answered with memory
 abbrev reply_to : State → Step → Reply
 reply_to s step = (next s step Never).reply
 

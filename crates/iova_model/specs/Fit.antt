@@ -25,7 +25,7 @@ IsBest bounds ranges size limit None = (lo : ℕ) → Fits bounds ranges size li
 IsBest bounds ranges size limit (Some best) =
     Fits bounds ranges size limit best × ((lo : ℕ) → Fits bounds ranges size limit lo → lo ≤ best)
 
--- The same as a function, for sizes and ranges of a frame at least.
+-- The best place as a function, for sizes and ranges of a frame at least.
 
 -- it meets none of the ranges
 abbrev pub is_clear : Frames → List Frames → Bool

@@ -136,7 +136,7 @@ open_client s w sac m =
 -- alloc_iova_fast; what is emptied before the tree is asked once more, and that a refused growth
 -- ends the walk, are our own
 
--- what a try comes to
+-- the result of a try
 pub data Found : Type 0 where
   At : (lo : ℕ) → Found
   Nowhere : Found

@@ -42,7 +42,7 @@ reserved_more w ws a b c first more = record {
   log = goes_on_further first.log more.log;
 }
 
--- the same, where others were tried
+-- windows are reserved, where others were tried before
 pub reserved_rest : (r : Result ⊤ Refusal) (w : Frames) (ws : List Frames) (a b c : BookState) → IsReserved (w ∷ []) a b
     → IfOk r (λ u. IsReserved ws b c) → IfOk r (λ u. IsReserved (w ∷ ws) a c)
 reserved_rest (Ok u) w ws a b c first more = reserved_more w ws a b c first more

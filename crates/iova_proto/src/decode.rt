@@ -56,7 +56,7 @@ pub(crate) fn request_of(line: &[u8]) -> Option<Request>
 /// `free` as a number whose lowest byte is its first letter.
 const FREE: u32 = 0x6565_7266;
 
-/// The same of the first four letters of `alloc`.
+/// `allo`, the front of `alloc`, as a number whose lowest byte is its first letter.
 const ALLO: u32 = 0x6f6c_6c61;
 
 /// No line of these two words has fewer bytes: `free 1` and its LF.

@@ -55,7 +55,7 @@ pub fn put_first_line<const CAP: usize>(answer: &Answer, out: &mut ArrayVec<u8, 
     }
 }
 
-/// The same, whatever was answered. Out of line: ranges are what is answered mostly.
+/// Appends the first line of any answer. Out of line: most answers are ranges.
 #[inline(never)]
 fn put_any_line<const CAP: usize>(answer: &Answer, out: &mut ArrayVec<u8, CAP>)
     requires { length out.old.items + MAX_FIRST_LINE ≤ CAP }

@@ -64,8 +64,8 @@ impl Lines {
         self.feed_otherwise(piece)
     }
 
-    /// `feed_any`, in a function of its own: the place of what a call out of line answers is
-    /// cleared where the function that calls begins, which is then not `feed`.
+    /// Calls `feed_any` from a function of its own. The compiler clears the room for that call's
+    /// answer where the calling function begins: so `feed` clears nothing.
     #[inline(always)]
     fn feed_otherwise(&mut self, piece: &[u8]) -> Fed
         ensures fed { IfSome self.old (λ kept. Feeds kept piece.now result self.new) }
@@ -76,7 +76,7 @@ impl Lines {
         self.feed_any(piece)
     }
 
-    /// The same of any line, in two passes: it is cut off, and then read.
+    /// Feeds a piece with any line, in two passes: the line is cut off, and then read.
     #[inline(never)]
     fn feed_any(&mut self, piece: &[u8]) -> Fed
         ensures fed { IfSome self.old (λ kept. Feeds kept piece.now result self.new) }

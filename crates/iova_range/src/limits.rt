@@ -94,7 +94,7 @@ pub const MAX_SESSION_REQUESTS: u64 = 9_223_372_036_854_775_807;
 /// The longest time that a session may be allowed to be idle, in seconds: a day.
 pub const MAX_IDLE: u64 = 86_400;
 
-/// The most ranges that one session is told in answers to `list`.
+/// The most ranges that the answers to a session's `list`s have.
 pub const MAX_LISTED: u64 = 1_048_576;
 
 /// The greatest number of a refusal; the least is 1.
@@ -128,7 +128,7 @@ pub const MAX_PAIRS: usize = 4_000_000;
 /// How many steps a daemon records where nobody says another count: the first ones of its domain.
 pub const RECORDED_STEPS: u64 = 100_000;
 
-/// The most steps that a daemon may be told to record.
+/// The most steps that a daemon records.
 pub const MAX_RECORDED_STEPS: u64 = 1_000_000;
 
 /// The time between two rounds of a daemon's flusher, in milliseconds: what is unmapped is free
@@ -153,7 +153,7 @@ pub const MAX_SINK_TIMEOUT: u64 = 3_600;
 /// The time that a daemon's sink is given to answer where none is asked for, in seconds.
 pub const SINK_TIMEOUT: u64 = 10;
 
-/// The longest time that a daemon may be told to wait for its peer at its start, in seconds.
+/// The longest time that a daemon may wait for its peer at its start, in seconds.
 pub const MAX_PEER_WAIT: u64 = 3_600;
 
 /// The time between two tries to connect to a peer at a daemon's start, in milliseconds.

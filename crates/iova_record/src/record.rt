@@ -32,7 +32,7 @@ impl RecordedDomain {
         }
     }
 
-    /// The same, but that a part of it may stand in `out` where memory is refused.
+    /// Appends the whole record. Where memory is refused a part of it may stand in `out`.
     fn write_record(&self, out: &mut Vec<u8>) -> Result<u64, Refusal>
         ensures ok { WritesText self.now.state self.now.log out.old.items out.new.items result }
         ensures err { OnErr result ((result ≡ Err Refusal.NoMemory)

@@ -56,7 +56,7 @@ pub struct Recording {
     pairs: Vec<Stored>,
 }
 
-/// What it has is let go, which is proved here once for every crate above.
+/// Drops its parts. The proof stands here, once for all crates above.
 impl Drop for Recording {
     fn drop(self) {
         let Recording {
@@ -101,7 +101,7 @@ pub struct RecordedDomain {
     log: Option<Recording>,
 }
 
-/// What it has is let go, which is proved here once for every crate above.
+/// Drops its parts. The proof stands here, once for all crates above.
 impl Drop for RecordedDomain {
     fn drop(self) {
         let RecordedDomain { domain: _, log: _ } = self;

@@ -36,7 +36,7 @@ impl Ranges {
         }
     }
 
-    /// The same ranges once more.
+    /// A copy of the list.
     pub(crate) fn copied(&self) -> Ranges
         ensures { result ≡ self.now }
     {

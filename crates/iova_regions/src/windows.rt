@@ -14,7 +14,7 @@ pub struct Windows {
     ranges: Ranges,
 }
 
-/// What it has is let go, which is proved here once for every crate above.
+/// Drops its parts. The proof stands here, once for all crates above.
 impl Drop for Windows {
     fn drop(self) {
         let Windows { ranges: _ } = self;
@@ -43,7 +43,7 @@ impl Windows {
         }
     }
 
-    /// The same windows once more.
+    /// A copy of the windows.
     pub fn copied(&self) -> Windows
         ensures { result ≡ self.now }
     {

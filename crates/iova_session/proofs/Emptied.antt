@@ -156,7 +156,7 @@ module _ (law : StepsKeepValidity) (number : ℕ) where
       let rest = round_rises a.over ids more mid left calls now here t y in
       omega (arith, first, rest)
 
-  -- what a try comes to
+  -- the result of a try
   record Tried (seat left : SeatState) (id : ℕ) (a : Attempt) (s t : State) : Type 0 where
     kept : a.kept ≡ false
     over : a.over ≡ false
@@ -175,7 +175,7 @@ module _ (law : StepsKeepValidity) (number : ℕ) where
       let e = lone_end law seat left.held id number l.ended d.calls now s t calm (good ∙ sym still) h.1 in
       record { kept = kept ∙ e.over; over = over ∙ h.0; calm = e.calm; clients = e.clients }
 
-  -- what a round comes to
+  -- the result of a round
   record Emptied (w : ℕ) (ids kept : List ℕ) (s t : State) : Type 0 where
     ends : EndsAll w ids kept t
     stays : (j : ℕ) → client_of w j s.clients ≡ None → client_of w j t.clients ≡ None

@@ -53,7 +53,7 @@ told_moves (lock_told.Queued r) a b m =
 told_moves (lock_told.Stat x) a b m = no_move a b m
 told_moves (lock_told.Refused e) a b m = no_move a b m
 
--- and what a release came to
+-- and the result of a release
 pub released_moves : (u : Unmapped) (a b : Totals) → MovesTotals (reply.Queued (range_of u)) a b → MovesBy (given_by (answer_of_release u)) (taken_by (answer_of_release u)) a b
 released_moves (unmapped.Queued r) a b m = told_moves (lock_told.Queued r) a b m
 released_moves (unmapped.Freed r) a b m = told_moves (lock_told.Queued r) a b m

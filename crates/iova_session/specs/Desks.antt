@@ -191,7 +191,7 @@ answer_of (lock_told.Queued r) = answer.Queued r
 answer_of (lock_told.Stat stat) = answer.Stat stat
 answer_of (lock_told.Refused e) = answer.Refused e
 
--- what a release came to as an answer
+-- the result of a release as an answer
 abbrev pub answer_of_release : Unmapped → Answer
 answer_of_release (unmapped.Queued r) = answer.Queued r
 answer_of_release (unmapped.Freed r) = answer.Freed r

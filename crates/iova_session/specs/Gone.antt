@@ -1,4 +1,4 @@
--- What a round of tries comes to where nobody else holds a range of the domain, and the sink
+-- The result of a round of tries where nobody else holds a range of the domain, and the sink
 -- answers well.
 use Rattle.std.specs.Prelude.{ℕ, ◌≡◌, ◌≢◌, ◌+◌, ◌≤◌, List, [], length, None, Contains}
 use Rattle.std.specs.List.{AllByRecursion}

@@ -26,16 +26,16 @@ Fits None now e = ⊥
 Fits (Some back) now (ending.Ended queued) = now ≡ back
 Fits (Some back) now (ending.Waiting left why) = now.count ≡ back.count + left
 
--- What is told of a client's end that came to this: that, where the shares fit it. Nothing where
+-- The end of a client as it is reported: the end itself, where the shares fit it. Nothing where
 -- they don't, or where there was no such client.
 abbrev pub TellsFitting : Option Ending → Result Ending Refusal → Option Totals → Totals → Type 0
 TellsFitting (Some told) ended back now = (ended ≡ Ok told) × Fits back now told
 TellsFitting None (Ok e) back now = Fits back now e → ⊥
 TellsFitting None (Err e) back now = Unit {0}
 
--- What is told of the end of a client, by what the shares are to come back to, what they were
--- before that end and are after it, and the clients that wait. Its end came to something, which
--- lowered the shares; it is the last of those that wait exactly where it waits, whatever is told.
+-- What is reported of the end of a client, by the shares from before its session, before that end
+-- and after it, and by the clients that wait. The end lowered the shares. The client is the last of
+-- those that wait exactly where its end waits, whatever is reported.
 abbrev pub EndsFrom : ℕ → Option Ending → Option Totals → Totals → Totals → List ℕ → List ℕ → Type 0
 EndsFrom id told back old new was now =
     (ended : Result Ending Refusal) × LowersTold ended old new × TellsFitting told ended back new

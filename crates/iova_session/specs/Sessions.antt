@@ -89,7 +89,7 @@ pub record ServesWithin (most most_reads : ℕ) (taken : List ℕ) (ps : List Pa
   pub says : EndsSo most most_reads (requests_of ps) rest reads
       (answers_text (answers_of ps)) written end
 
--- the same where nobody says another bound of the reads
+-- what a session does where nobody says another bound of its reads
 abbrev pub Serves : ℕ → List ℕ → List Pair → List ℕ → ℕ → End → Type 0
 Serves most taken ps written reads end =
     ServesWithin most MAX_SESSION_READS taken ps written reads end

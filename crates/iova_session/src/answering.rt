@@ -109,7 +109,7 @@ fn tell<L: Link>(
     }
 }
 
-/// The same of any answers.
+/// Writes any answers. Out of line.
 #[inline(never)]
 fn tell_any<L: Link>(link: &mut L, answers: &[Answer], out: &mut Vec<u8>) -> Result<(), End>
     ensures left { L.left link.new ≡ L.left link.old }

@@ -98,7 +98,7 @@ pub(crate) fn lock_where<D: Sink>(sink: &mut D, wanted: bool)
     }
 }
 
-/// Lets go of it where it was locked.
+/// Unlocks the sink, where it was locked.
 pub(crate) fn unlock_where<D: Sink>(sink: &mut D, wanted: bool)
     ensures { D.calls sink.new ≡ D.calls sink.old }
 {
@@ -107,7 +107,7 @@ pub(crate) fn unlock_where<D: Sink>(sink: &mut D, wanted: bool)
     }
 }
 
-/// The same, with the sink locked where that is needed.
+/// Asks the keeper, with the sink locked already where that is needed.
 fn ask_locked<B: Names, K: Keep<B>, D: Sink>(
     alloc: Global,
     keeper: &mut K,

@@ -5,7 +5,7 @@
 pub enum End {
     /// The peer asked `bye`.
     Bye,
-    /// The link came to its end.
+    /// The link has ended.
     Closed,
     /// The link failed.
     LinkFault,

@@ -16,7 +16,7 @@ use iova_range::range::Range;
 use iova_range::refusal::Refusal;
 use iova_sink::sink::{Sink, SinkFault};
 
-/// What the end of a client that leaves came to.
+/// The result of the end of a client that leaves.
 #[derive(Clone, Copy)]
 pub struct Leaving {
     /// How its end went; an error where it isn't known.

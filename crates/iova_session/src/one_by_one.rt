@@ -58,11 +58,11 @@ pub fn serve_one_by_one<B: Names, L: Link, K: Keep<B>, D: Sink>(
     }
 }
 
-/// The same, and then tries once to end each client that waits (`retry`): gives how many still
-/// wait. Where nobody but clients that waited at the post held a range of the domain before, all
-/// are gone then and nobody holds a range, unless a call of the sink fails in the round or the
-/// numbers for flushes run out. The round needs room for the ranges of a client, which the session
-/// took whose client waits.
+/// Serves the links one after another, and then tries once to end each client that waits (`retry`):
+/// gives how many still wait. Where nobody but clients that waited at the post held a range of the
+/// domain before, all are gone then and nobody holds a range, unless a call of the sink fails in
+/// the round or the numbers for flushes run out. The round needs room for the ranges of a client,
+/// which the session took whose client waits.
 pub fn serve_one_by_one_then_retry<B: Names, L: Link, K: Keep<B>, D: Sink>(
     alloc: Global,
     links: &mut [L],

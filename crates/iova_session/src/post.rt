@@ -20,7 +20,7 @@ pub struct Post<B: Names> {
     pub ranges: Vec<Range>,
 }
 
-/// What it has is let go, which is proved here once for every crate above.
+/// Drops its parts. The proof stands here, once for all crates above.
 impl<B: Names> Drop for Post<B> {
     fn drop(self) {
         let Post {
@@ -44,7 +44,7 @@ impl<B: Names> Post<B> {
         }
     }
 
-    /// Its seat. The list of clients that wait is let go.
+    /// Its seat. The list of clients that wait is dropped.
     pub fn into_seat(self) -> Seat<B>
         ensures { result ≡ self.seat }
     {
@@ -98,7 +98,7 @@ pub(crate) fn take_room(waiting: &mut Vec<ClientId>, ranges: &mut Vec<Range>) ->
     waiting.try_reserve(1).is_ok() && has_ranges(ranges)
 }
 
-/// Takes room for the ranges of a client that leaves, where it isn't there. Whether it was had.
+/// Takes room for the ranges of a client that leaves, where there is none. Whether it was had.
 pub(crate) fn has_ranges(ranges: &mut Vec<Range>) -> bool
     ensures there { MAX_HOLDINGS ≤ vec_capacity ranges.old → result ≡ true }
     ensures ranges { result ≡ true → MAX_HOLDINGS ≤ vec_capacity ranges.new }

@@ -43,7 +43,8 @@ pub fn retry<B: Names, K: Keep<B>, D: Sink>(keeper: &mut K, post: &mut Post<B>, 
     retry_until(keeper, post, sink, over)
 }
 
-/// The same, where the round may be over.
+/// One round over the post's waiting clients, of which none is tried any more where the round is
+/// over.
 fn retry_until<B: Names, K: Keep<B>, D: Sink>(
     keeper: &mut K,
     post: &mut Post<B>,

@@ -40,11 +40,11 @@ use std::marker::{Brand, PhantomData};
 pub struct SessionEnd {
     /// Why the session ended.
     pub end: End,
-    /// What the end of the client came to that a `hello` opened; none where none was opened.
+    /// The result of the end of the client that a `hello` opened; none where none was opened.
     pub client: Option<Ending>,
 }
 
-/// What serving came to, and what it had access to.
+/// The result of serving, and what it had access to.
 #[derive(Drop)]
 struct ServedSession<'a, B: Names, K: Keep<B>, D: Sink> {
     end: End,
@@ -153,7 +153,7 @@ fn serve_at<B: Names, K: Keep<B>, D: Sink, L: Link>(
 /// where there is no room for that. Where the client holds ranges, the sink is told that it is
 /// gone, and of all of them, before the first is queued; where the sink fails, none is. `client` is
 /// none where no client was opened; so it would be where the seat's shares weren't as they have to
-/// be, but no run comes to that. Over a keeper that tells its domain, each request does there what
+/// be, but this never happens. Over a keeper that tells its domain, each request does there what
 /// its call of the lock does, and is answered by what that call answers.
 pub fn run_session<B: Names, L: Link, K: Keep<B>, D: Sink>(
     alloc: Global,
@@ -186,7 +186,8 @@ pub fn run_session<B: Names, L: Link, K: Keep<B>, D: Sink>(
     run_session_within(alloc, SessionLimits::usual(), link, keeper, post, sink)
 }
 
-/// The same within these limits.
+/// Serves one session over the link, from its first byte to the end of its client, within these
+/// limits.
 pub fn run_session_within<B: Names, L: Link, K: Keep<B>, D: Sink>(
     alloc: Global,
     limits: SessionLimits,
@@ -233,8 +234,9 @@ pub fn run_session_within<B: Names, L: Link, K: Keep<B>, D: Sink>(
     SessionEnd { end, client }
 }
 
-/// Ends the client that a session opened, and puts it on the list where it waits. The seat's shares
-/// are to come back to `back`, where that is known: none where they don't fit the client's end.
+/// Ends the client that a session opened. Where the end has to wait, the client goes on the post's
+/// list. `back` is the seat's shares from before the session: an end whose shares don't fit these
+/// isn't reported.
 pub(crate) fn end_opened<B: Names, K: Keep<B>, D: Sink>(
     keeper: &mut K,
     post: &mut Post<B>,
@@ -280,7 +282,8 @@ fn list_waiting(waiting: &mut Vec<ClientId>, id: ClientId, ended: Result<Ending,
     }
 }
 
-/// What is told of a client's end that came to this, where the seat's shares are these now.
+/// The end of a client as it is reported: none where the seat's shares don't fit it, or where there
+/// was no such client.
 fn told_of(ended: Result<Ending, Refusal>, back: Option<Totals>, now: Totals) -> Option<Ending>
     ensures { TellsFitting result ended back now }
 {

@@ -44,8 +44,8 @@ pub fn serve<L: Link, D: Desk>(alloc: Global, link: &mut L, desk: &mut D) -> End
     serve_within(alloc, SessionLimits::usual(), link, desk)
 }
 
-/// The same within these limits: the request behind the last one, and the read behind the last one,
-/// are answered `no 21 TooMany`.
+/// Serves a session within these limits: the request behind the last one, and the read behind the
+/// last one, are answered `no 21 TooMany`.
 pub fn serve_within<L: Link, D: Desk>(
     alloc: Global,
     limits: SessionLimits,

@@ -1,5 +1,5 @@
-//! What a session has come to: its client, how many ranges it was told in lists, and its requests
-//! with their answers.
+//! The state of a session: its client, how many ranges its lists had, and its requests with their
+//! answers.
 ghost use Rattle.std.specs.Prelude.{◌≡◌, ◌+◌, ◌++◌, ◌∷◌, [], None};
 ghost use Rattle.iova_session.specs.Desks.{SessionState, IsAnswer, next_client as the_next_client, count_listed as listed_in};
 
@@ -71,7 +71,7 @@ impl Session {
         self.client
     }
 
-    /// How many ranges it was told in lists.
+    /// How many ranges its lists had.
     pub(crate) fn listed(&self) -> u64
         ensures value { result ≡ self.now.listed }
         ensures most { result ≤ MAX_LISTED }

@@ -95,9 +95,9 @@ pub(crate) fn ask_together<B: Names, K: Keep<B>>(
     Ok(count)
 }
 
-/// The same. Where the first request is a free whose ring is full while another thread has the sink,
-/// it waits until that one's turn ends and asks again, so often at most: the ring may have room then,
-/// and no flush of its own is needed.
+/// Asks for the requests of a run together. Where the first request is a free whose ring is full
+/// while another thread has the sink, it waits until that one's turn ends and asks again, so often
+/// at most: the ring may have room then, and no flush of its own is needed.
 pub(crate) fn ask_at_room<B: Names, K: Keep<B>, D: Sink>(
     keeper: &mut K,
     seat: &mut Seat<B>,
@@ -245,7 +245,7 @@ fn tell_all(session: &mut Session, requests: &[Request], told: &[Told], answers:
     }
 }
 
-/// The same of a request, whatever was told. Out of line: ranges are what is told mostly.
+/// Appends the answer to a request, whatever it is. Out of line: most answers are ranges.
 #[inline(never)]
 fn tell_any(session: &mut Session, request: Request, told: &Told, answers: &mut Vec<Answer>)
     requires is { IsAnswer session.old.number session.old.client session.old.listed request

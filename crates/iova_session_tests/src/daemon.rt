@@ -50,7 +50,7 @@ struct Seen {
     totals: Totals,
 }
 
-/// What is served on frames 1 to 4095, and what it comes to. Flags are named by their place in a
+/// What is served on frames 1 to 4095, and its result. Flags are named by their place in a
 /// list.
 #[derive(Clone, Copy)]
 struct Case {
@@ -563,7 +563,7 @@ fn gathered<Q: Wait, B: Names>(
     }
 }
 
-/// Serves the case with these sessions, and compares what it comes to; gives in which call a growth
+/// Serves the case with these sessions, and compares its result; gives in which call a growth
 /// was refused, where one was. Where nothing is served nothing is accepted.
 fn check<R: Abort + Threads + Wait + Clock + Sync>(
     rt: &R,

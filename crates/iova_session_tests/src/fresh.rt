@@ -43,7 +43,7 @@ pub(crate) struct Setup {
     pub(crate) frame: u64,
 }
 
-/// What a session came to: its end, the seat's shares and the domain's numbers then, how many
+/// The result of a session: its end, the seat's shares and the domain's numbers then, how many
 /// clients wait, and whether there was room on their list. How many wait still once they were tried
 /// with a sink that fails, and how many once they were tried with the session's own, with the
 /// shares and the numbers then.

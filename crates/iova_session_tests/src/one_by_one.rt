@@ -26,7 +26,7 @@ use std::test::*;
 
 const NONE_HELD: Option<Ending> = Some(Ending::Ended(0));
 
-/// What the end of each session's client comes to. The first client that holds a range is that of
+/// The result of the end of each session's client. The first client that holds a range is that of
 /// `ends_without_newline`, with frame 9: the sink refuses that it is gone. So `in_one_hold`, which
 /// asks for frames up to 9, is given 8 and 7.
 const CLIENTS: [Option<Ending>; 12] = [
@@ -50,7 +50,7 @@ const NOTHING: Totals = Totals {
     sum_lo: 0,
 };
 
-/// What the sessions came to: how many of them ended as they should, and how many ended; and after
+/// The result of the sessions: how many of them ended as they should, and how many ended; and after
 /// the round of tries behind them how many clients wait, and what the domain's clients hold.
 #[derive(Clone, Copy)]
 struct Outcome {
@@ -105,7 +105,7 @@ fn serve_all<B: Names, K: Keep<B>>(
     })
 }
 
-/// The same at the post of this seat.
+/// Serves all links at the post of this seat.
 fn all_at<B: Names, K: Keep<B> + Drop>(
     alloc: Global,
     mut keeper: K,
@@ -117,7 +117,7 @@ fn all_at<B: Names, K: Keep<B> + Drop>(
     serve_all(alloc, &mut keeper, &mut post, links, &mut ends)
 }
 
-/// The same over a book of a fresh domain 0 with frames 1 to 1023 and one worker.
+/// Serves all links over a book of a fresh domain 0 with frames 1 to 1023 and one worker.
 fn in_book<B: Names>(
     alloc: Global,
     blanks: Blanks,

@@ -18,7 +18,7 @@ use std::process::Abort;
 use std::sync::Wait;
 use std::test::*;
 
-/// On which domains a session is served, and what it comes to beside its answers. None: that isn't
+/// On which domains a session is served, and its result beside its answers. None: that isn't
 /// asked.
 #[derive(Clone, Copy)]
 struct Row {
@@ -34,7 +34,7 @@ struct Row {
     cuts: &'static [usize],
     fails_at: (u64, u64),
     end: End,
-    /// What the client came to that was opened; not asked: it is gone where the answers tell of it,
+    /// The result of the client that was opened; not asked: it is gone where the answers tell of it,
     /// and else there was none.
     client: Option<Option<Ending>>,
     /// Where the frame is at last.
@@ -114,7 +114,7 @@ const RECORDED: &[u8] = b"hello iova1 0 dac\nalloc 3 1023\nfree 1020\nfree 1020\
 const RECORDED_ANSWERS: &[u8] =
     b"opened 1\ngiven 1020 4\nqueued 1020 4\nno 8 NotHeld\nflushed 1 1\nbye\n";
 
-/// The same, and requests that take no step.
+/// A session with requests of which some take no step.
 const LISTED: &[u8] =
     b"hello iova1 0 dac\nalloc 3 1023\nlist\nfree 1020\nstat\nfree 1020\nflush\nlist\nstat\nbye\n";
 

@@ -16,7 +16,7 @@ in_two bytes from left n most =
     (ap (take (left - n)) (sym (drop-drop n from bytes)) ∙ sym (drop-take n (left - n) (drop from bytes)) ∙ ap (λ k. drop n (take k (drop from bytes))) (as_one left n most))
     ∙ take-append-drop n (take left (drop from bytes))
 
--- the same, as they were copied into a buffer
+-- the bytes are handed on in two parts, as they were copied into a buffer
 pub handed_on : (bytes rest taken now : List ℕ) (from left n : ℕ) → n ≤ left → from + left ≤ 64
     → taken ≡ take n (take (64 - from) (drop from bytes)) → length taken ≡ n → now ≡ take left (drop from bytes)
     → now ≡ take n (taken ++ rest) ++ take (left - n) (drop (from + n) bytes)

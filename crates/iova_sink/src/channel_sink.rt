@@ -25,7 +25,7 @@ pub struct ChannelSink<C: Channel> {
     calls: Calls,
 }
 
-/// What it has is let go, which is proved here once for every crate above.
+/// Drops its parts. The proof stands here, once for all crates above.
 impl<C: Channel + Drop> Drop for ChannelSink<C> {
     fn drop(self) {
         let ChannelSink {

@@ -17,7 +17,7 @@ pub struct FileDevice {
     failed: Count,
 }
 
-/// What it has is let go, which is proved here once for every crate above.
+/// Drops its parts. The proof stands here, once for all crates above.
 impl Drop for FileDevice {
     fn drop(self) {
         let FileDevice { file: _, failed: _ } = self;
@@ -33,7 +33,7 @@ impl Model for FileDevice {
 }
 
 impl FileDevice {
-    /// Opens the file for appending, and makes it where it isn't there. `Err` is the operating
+    /// Opens the file for appending, and makes it where there is none. `Err` is the operating
     /// system's.
     pub fn open<R: Files<File = File>>(files: &R, path: &str) -> io::Result<FileDevice>
         ensures { IfOk result (λ d. d ≡ 0) }

@@ -26,7 +26,7 @@ pub struct RecordSink<D: Device> {
     broken: bool,
 }
 
-/// What it has is let go, which is proved here once for every crate above.
+/// Drops its parts. The proof stands here, once for all crates above.
 impl<D: Device + Drop> Drop for RecordSink<D> {
     fn drop(self) {
         let RecordSink {

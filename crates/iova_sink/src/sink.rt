@@ -38,15 +38,15 @@ pub trait Sink {
         ensures { calls self.new ≡ calls self.old }
     {}
 
-    /// Lets go of it after `lock`.
+    /// Unlocks the sink, after `lock`.
     fn unlock(&mut self)
         ensures { calls self.new ≡ calls self.old }
     {}
 
-    /// Waits where another thread has the sink locked, until that one lets go of it or somebody
-    /// passes on, and tells whether it waited. What the other one's flush has freed may be enough
-    /// for this thread too, which then needs no flush of its own. A sink that isn't shared has
-    /// nothing to do.
+    /// Waits where another thread has the sink locked, until that one unlocks it or somebody passes
+    /// on, and says whether it waited. What the other one's flush has freed may be enough for this
+    /// thread too, which then needs no flush of its own. A sink that isn't shared has nothing to
+    /// do.
     fn wait_for_turn(&mut self) -> bool
         ensures { calls self.new ≡ calls self.old }
     {

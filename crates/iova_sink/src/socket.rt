@@ -39,7 +39,7 @@ pub struct SocketChannel<'a, N: Net> {
     strays: Count,
 }
 
-/// What it has is let go, which is proved here once for every crate above.
+/// Drops its parts. The proof stands here, once for all crates above.
 impl<'a, N: Net> Drop for SocketChannel<'a, N> {
     fn drop(self) {
         let SocketChannel {

@@ -43,7 +43,7 @@ pub fn put_number<const CAP: usize>(out: &mut ArrayVec<u8, CAP>, n: u64)
     }
 }
 
-/// The same for a number of nine digits or more, as a call.
+/// Appends a number of nine digits or more. Out of line.
 #[inline(never)]
 fn put_long<const CAP: usize>(out: &mut ArrayVec<u8, CAP>, n: u64)
     requires long { 100000000 ≤ n }
@@ -58,8 +58,8 @@ fn put_long<const CAP: usize>(out: &mut ArrayVec<u8, CAP>, n: u64)
     }
 }
 
-/// The same for a number of nine to twelve digits, as most long ones are: a first frame of up to
-/// 2^36 has eleven.
+/// Appends a number of nine to twelve digits, as most long ones are: a first frame up to 2^36 has
+/// eleven.
 #[inline(always)]
 fn put_usual<const CAP: usize>(out: &mut ArrayVec<u8, CAP>, n: u64)
     requires long { 100000000 ≤ n }
@@ -122,8 +122,8 @@ fn put_pair<const CAP: usize>(out: &mut ArrayVec<u8, CAP>, n: u64)
     out.push(PAIRS[at + 1]);
 }
 
-/// The same as `put`, of a word that the caller names: its bytes are then a store or two, with no
-/// question of whether they lie in `out`.
+/// Appends a word that the caller names. Inlined, its bytes are a store or two, with no test
+/// whether they lie in `out`.
 #[inline(always)]
 fn put_word<const CAP: usize>(out: &mut ArrayVec<u8, CAP>, word: &[u8])
     requires { length out.old.items + length word.now ≤ CAP }
@@ -163,7 +163,7 @@ fn put_spaced<const CAP: usize>(out: &mut ArrayVec<u8, CAP>, a: u64, b: u64)
     put_number(out, b);
 }
 
-/// The same for any two numbers.
+/// Appends a space and a number, twice, whatever the numbers are.
 #[inline(never)]
 fn put_any_spaced<const CAP: usize>(out: &mut ArrayVec<u8, CAP>, a: u64, b: u64)
     requires { length out.old.items + 42 ≤ CAP }

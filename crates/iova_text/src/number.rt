@@ -141,7 +141,8 @@ fn digits(text: &[u8], front: u64, start: usize, end: usize) -> (u64, usize)
     (n, len)
 }
 
-/// The same as `leading_number`, for what `short_number` leaves.
+/// The number at the front of the text, and what is behind it, for numbers that `short_number`
+/// doesn't read.
 fn any_number(text: &[u8]) -> Option<(u64, &[u8])>
     ensures spelled { IfSome result (λ p. text.now ≡ decimal p.0 ++ p.1.now) }
     ensures read { (n : ℕ) (rest : List ℕ) → n < 2 ^ 64 → IsTrue (stops is_ascii_digit rest)
@@ -156,8 +157,8 @@ fn any_number(text: &[u8]) -> Option<(u64, &[u8])>
     any_positive(text)
 }
 
-/// The same where the text does not begin with a `0`: each digit is added with a check that the
-/// number has 64 bits.
+/// The number at the front of a text that doesn't begin with a `0`. Each digit is added with a
+/// check that the number has 64 bits.
 fn any_positive(text: &[u8]) -> Option<(u64, &[u8])>
     requires { slice_index text.now 0 ≢ 48 }
     ensures spelled { IfSome result (λ p. text.now ≡ decimal p.0 ++ p.1.now) }

@@ -49,7 +49,7 @@ fn bytes_written(written: io::Result<usize>) -> Result<usize, WriteFault>
     }
 }
 
-/// What a flush came to. Any error is a fault, an interruption too.
+/// The result of a flush. Any error is a fault, an interruption too.
 fn flushed(flushed: io::Result<()>) -> Result<(), WriteFault>
     ensures ok { OnOk result (IsOk flushed) }
     ensures err { OnErr result (IsErr flushed) }

@@ -1,4 +1,4 @@
--- What a check comes to whose text was taken to its end.
+-- The result of a check whose text was taken to its end.
 use Rattle.std.specs.Prelude.{ℕ, ◌≡◌, ◌==◌, ◌||◌, Bool, List, Option, Some, None, Result, Ok, Err, nat_lt, if◌then◌else◌, ⊤}
 use Rattle.std.specs.Borrow.{Bor}
 use Rattle.iova_check.specs.declared.checker.Checker.{Checker}
@@ -39,7 +39,7 @@ ends_with None = Ok tt
 ends_with (Some fault) = Err fault
 
 -- How a check ends, by what it knows of a text that it took to its end and what the writing of the
--- counts came to: without a fault exactly where nothing is wrong and nothing was left out.
+-- counts say: without a fault exactly where nothing is wrong and nothing was left out.
 abbrev pub EndsCheck : Bor (List ℕ) → Result Checker CheckFault → Result Bool CheckFault
     → Result ⊤ Fault → Type 0
 EndsCheck path (Err e) told ended = ended ≡ Err (fault_of_check path e)

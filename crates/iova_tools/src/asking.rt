@@ -42,7 +42,7 @@ fn connected<R: Net + Clock>(rt: &R, path: &str, timeout: Option<u64>) -> io::Re
     Ok(stream)
 }
 
-/// The same over this link.
+/// Asks over this link what standard input has, and prints the answers.
 fn ask_over<R: Runtime + AllocGlobal>(
     rt: &R,
     link: SocketLink,

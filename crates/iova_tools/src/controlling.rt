@@ -89,7 +89,7 @@ pub(crate) fn told(answer: &[u8], word: ControlWord) -> Option<&[u8]> {
     }
 }
 
-/// The answer's first line, to be told.
+/// The answer's first line, to be printed.
 fn first_line(answer: &[u8]) -> &str {
     let end = memchr(b'\n', answer).unwrap_or(answer.len());
     match answer.get(..end) {

@@ -30,9 +30,9 @@ pub enum Fault<'a> {
     /// The line with this number, counted from 1, is none of reserved regions, or makes too many
     /// windows.
     RegionsRefused(u64),
-    /// A log has a finding, which was told.
+    /// A log has a finding, which was printed.
     Found,
-    /// A log has no finding, and not all of it was checked, which was told.
+    /// A log has no finding, and not all of it was checked, which was printed.
     Incomplete,
     /// The file of this name cannot be opened or read; `-` is standard input.
     CannotRead(&'a str),
@@ -161,7 +161,7 @@ impl<'a> Fault<'a> {
     }
 
     /// Prints the fault's line on standard error, or help on standard output, and gives the status.
-    /// A finding has been told, as has what was not checked, and prints nothing. Help that can't be
+    /// A finding has been printed, as has what was not checked, and prints nothing. Help that can't be
     /// written is the fault `CannotWrite`; where a fault's line can't be, nobody is left to tell.
     pub fn tell<R: Print + Eprint>(&self, rt: &R) -> ExitCode
         ensures { (exit_status result ≡ fault_status self.now)

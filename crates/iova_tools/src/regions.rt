@@ -35,7 +35,7 @@ where
     }
 }
 
-/// The same from this reader.
+/// The windows of the regions that this reader has.
 #[tactic(auto, using(crate::proofs::Reading::of_read))]
 fn read_from<'a, I: Read>(
     alloc: Global,

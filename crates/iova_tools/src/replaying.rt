@@ -47,7 +47,7 @@ fn create_log<R: Files<File = File>>(rt: &R, name: &str, trace: &str) -> io::Res
     Ok(file)
 }
 
-/// The same, with its log to this file.
+/// Replays the trace, and writes its log to this file.
 fn replay_to<'a, R>(rt: &R, path: &'a str, has_report: bool, file: File) -> Result<(), Fault<'a>>
 where
     R: Runtime + AllocGlobal + Files<File = File>,
@@ -58,7 +58,7 @@ where
     }
 }
 
-/// The same, with this log.
+/// Opens the trace, and replays it with this log.
 fn replay_trace<'a, R, L>(
     rt: &R,
     path: &'a str,
@@ -78,7 +78,7 @@ where
     }
 }
 
-/// The same from this reader.
+/// Replays what this reader has, and prints the replies.
 fn print<'a, R: Runtime + AllocGlobal, I: Read, L: Log>(
     rt: &R,
     reader: &mut I,

@@ -111,7 +111,7 @@ fn rate(before: u64, now: u64, milliseconds: u64) -> u64 {
     more.saturating_mul(1_000).div_ceil(milliseconds.max(1))
 }
 
-/// The number of this name; 0 where it isn't there.
+/// The number of this name; 0 where there is none.
 fn figure(text: &str, name: &str) -> u64 {
     word_of(text, name).parse::<u64>().unwrap_or(0)
 }

@@ -1,4 +1,4 @@
-//! What a check comes to whose text was taken to its end.
+//! The result of a check whose text was taken to its end.
 ghost use Rattle.std.specs.Prelude.{◌≡◌};
 ghost use Rattle.iova_tools.specs.Verdicts.{has_gap};
 
@@ -20,7 +20,7 @@ impl Verdict {
     ghost use Rattle.std.specs.Prelude.{◌≡◌};
     ghost use Rattle.iova_tools.specs.Verdicts.{verdict_of};
 
-    /// What these counts come to. A finding stands, whatever was left out.
+    /// The result of these counts. A finding stands, whatever was left out.
     pub fn of(counts: &Counts) -> Verdict
         ensures { result ≡ verdict_of counts.now.findings counts.now.maps counts.now.lost
             counts.now.too_long }

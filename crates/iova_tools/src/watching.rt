@@ -26,7 +26,7 @@ const SESSIONS: usize = 8;
 /// A bar of all frames.
 const BAR: &str = "########################################";
 
-/// What a terminal is told before a screen, behind each of its lines, and behind it.
+/// What a terminal is sent before a screen, behind each of its lines, and behind it.
 const HOME: &str = "\x1b[H";
 
 const CLEAR_LINE: &str = "\x1b[K";

@@ -223,7 +223,7 @@ pub stuck_refused : (text : List ℕ) (bounds : Extent) (workers : ℕ) (steps :
 stuck_refused text bounds workers steps left number only stuck r =
     r.number_is ∙ ap next_line_number (stuck_here bounds workers steps left r.lines r.rest (only r.lines r.rest (reads_refused text number r)) stuck).0
 
--- the same for the first line
+-- a text whose first line is no header
 abbrev pub HasNoHeader : List ℕ → Type 0
 HasNoHeader text = (bounds : Extent) (workers : ℕ) (more : List ℕ) → IsHeader bounds workers → text ≡ whole_line (header_text bounds workers) ++ more → ⊥
 

@@ -40,7 +40,7 @@ pub record StopsAtBad (taken written : List ℕ) (number : ℕ) : Type 0 where
   pub number_is : number ≡ next_line_number lines
   pub bad : IsBad lines rest
 
--- the same where the input ends in the line
+-- the replay stops at a line that the input ends in
 pub record StopsAtCut (taken written : List ℕ) (number : ℕ) : Type 0 where
   pub lines : Option Trace
   pub rest : List ℕ

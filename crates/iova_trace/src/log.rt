@@ -64,7 +64,7 @@ pub struct LogWriter<W: Write> {
     writer: W,
 }
 
-/// What it has is let go, which is proved here once for every crate above.
+/// Drops its parts. The proof stands here, once for all crates above.
 impl<W: Write + Drop> Drop for LogWriter<W> {
     fn drop(self) {
         let LogWriter { writer: _ } = self;

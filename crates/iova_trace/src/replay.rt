@@ -295,7 +295,7 @@ impl Progress {
         Ok(())
     }
 
-    /// What the replay comes to where the trace ends here.
+    /// The result of the replay where the trace ends here.
     fn finish(self) -> Result<(Domain, u64), ReplayFault>
         requires { self.replies.items ≡ [] }
         ensures { (taken written : List ℕ) (before now : Option (List ℕ))

@@ -67,7 +67,7 @@ module _ (r : Frames) (old : List Frames) (i : ℕ) (all : Frames) (now : List F
     above_zero = h.above_zero;
   }
 
--- the same at a place above zero; what is tested and what is removed are read each on its own
+-- one more is absorbed, at a place above zero; what is tested and what is removed are read each on its own
 pub absorbs_join : (r : Frames) (old : List Frames) (i : ℕ) (all : Frames) (now : List Frames) (v w : Frames) → 0 < i → Absorbs r old i all now → v ≡ slice_index_or now (i - 1) v → w ≡ slice_index_or now (i - 1) w
     → meets r v ≡ true → All (λ (x : Frames). 1 ≤ x.lo) old → Absorbs r old (i - 1) (join all w) (remove now (i - 1))
 absorbs_join r old zero all now v w lt h read is met some = absurd (omega arith)

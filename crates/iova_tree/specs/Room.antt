@@ -8,7 +8,7 @@ abbrev pub FitsBetween : ℕ → ℕ → ℕ → Type 0
 FitsBetween from until size =
     (lo : ℕ) × (lo % align_of size ≡ 0) × (from ≤ lo) × (lo + size ≤ until)
 
--- the same as a test: the highest multiple from which it ends by `until` is the one to ask
+-- whether a range fits so: the highest multiple from which it ends by `until` is the one to ask
 abbrev pub fits_between : ℕ → ℕ → ℕ → Bool
 fits_between from until size =
     nat_le size until && nat_le from ((until - size) / align_of size * align_of size)

@@ -63,7 +63,7 @@ space_of bounds spans windows =
 
 -- Windows.
 
--- the same ranges and bounds, with a window of these frames
+-- the space with a window of these frames
 abbrev pub with_window : Space → Frames → Space
 with_window s r = record s { windows = windows_with r s.windows }
 

@@ -166,7 +166,7 @@ impl Subtree {
         }
     }
 
-    // Lets a range in; tells whether room or height have changed. None where the range wants a node
+    // Lets a range in; says whether room or height have changed. None where the range wants a node
     // and there is no spare one: then nothing has changed.
     #[cycle(put)]
     fn put(&mut self, span: Span, spare: Option<Box<Node>>) -> Option<bool>
@@ -249,7 +249,7 @@ impl Subtree {
         first
     }
 
-    // Takes out the range that begins at `lo`; tells whether room or height have changed.
+    // Takes out the range that begins at `lo`; says whether room or height have changed.
     #[cycle(take)]
     fn take(&mut self, lo: u64) -> (Span, bool)
         requires held { Holds lo self.old.0 }
@@ -579,7 +579,7 @@ impl Node {
     }
 }
 
-// Lets a range in on one side or in the node's own block; tells whether the room or the height of
+// Lets a range in on one side or in the node's own block; says whether the room or the height of
 // this node has changed. None where it wants a node and there is no spare one.
 #[cycle(put)]
 #[inline]
@@ -617,7 +617,7 @@ fn put_below(node: &mut Node, span: Span, spare: Option<Box<Node>>) -> Option<bo
     Some(true)
 }
 
-// Lets a range into the node's own block; tells whether the room of this node may have changed.
+// Lets a range into the node's own block; says whether the room of this node may have changed.
 #[inline]
 fn put_here(node: &mut Node, span: Span) -> bool
     requires free { IsRisingFrom 0 (with_span span (node_spans node.old)) }
@@ -682,7 +682,7 @@ fn take_first_below(node: &mut Node) -> Option<Box<Node>>
     }
 }
 
-// Takes a range out of one side or of the node's own block, which keeps one; tells whether the room
+// Takes a range out of one side or of the node's own block, which keeps one; says whether the room
 // or the height of this node has changed.
 #[cycle(take)]
 #[inline]
@@ -708,7 +708,7 @@ fn take_below(node: &mut Node, lo: u64) -> (Span, bool)
     (gone, deep || node.right.first_or(0) != first)
 }
 
-// Takes a range out of the node's own block, which keeps one; tells whether the room of this node
+// Takes a range out of the node's own block, which keeps one; says whether the room of this node
 // may have changed.
 #[inline]
 fn take_here(node: &mut Node, lo: u64) -> (Span, bool)
@@ -779,7 +779,7 @@ fn join(left: Subtree, mut right: Subtree) -> Subtree
     Subtree::of(next)
 }
 
-// Balances the node at the root, and renews what the link knows; tells whether the room or the
+// Balances the node at the root, and renews what the link knows; says whether the room or the
 // height has changed.
 #[inline(never)]
 fn renew(link: &mut Link) -> bool

@@ -27,7 +27,7 @@ pub struct Tree {
     windows: Vec<Range>,
 }
 
-/// What it has is let go, which is proved here once for every crate above.
+/// Drops its parts. The proof stands here, once for all crates above.
 impl Drop for Tree {
     fn drop(self) {
         let Tree {

@@ -1,4 +1,4 @@
--- What serving comes to, from the beginning of a domain to its end.
+-- The result of serving, from the beginning of a domain to its end.
 use Rattle.std.specs.Prelude.{ℕ, ◌≡◌, ◌+◌, ◌≤◌, List, [], Option, Some, None, map, sum_by}
 use Rattle.iova_model.specs.State.{State}
 use Rattle.iova_sink.specs.Calls.{Call, good_calls}

@@ -77,7 +77,7 @@ struct Running<'a, R> {
 /// file is removed once the sessions are over, also where no thread could be started. Clients that
 /// still wait then are tried once more. A record is opened before the socket is bound, and emptied
 /// and begun behind that. A start that is refused leaves no file that it has made, and what stood
-/// in others. What lies behind `CannotOpenSink`, `SocketFault` and `CannotWrite` is told on the
+/// in others. The cause of `CannotOpenSink`, `SocketFault` and `CannotWrite` is printed on the
 /// line before.
 ///
 /// Faults come in this order: `StartAboveLast`; `LastAboveProfile`; `CannotRead`, `RegionsRefused`
@@ -114,7 +114,7 @@ where
     }
 }
 
-/// How many processors the daemon's threads have; 0 where the system doesn't tell.
+/// How many processors the daemon's threads have; 0 where the system doesn't say.
 fn processors<R: Threads>(rt: &R) -> u64 {
     match available_parallelism(rt) {
         Ok(count) => count.get() as u64,
@@ -131,7 +131,7 @@ fn counted_level(plan: &Plan<'_>) -> LevelFilter {
     }
 }
 
-/// The time now, in seconds since the beginning of 1970; 0 where the system doesn't tell.
+/// The time now, in seconds since the beginning of 1970; 0 where the system doesn't say.
 fn seconds_since_1970<R: Clock>(rt: &R) -> u64 {
     match rt.since_1970() {
         Ok(time) => time.as_secs(),
@@ -170,7 +170,7 @@ impl Hindrance {
     }
 }
 
-/// Serves on this domain at posts of all its workers, and tells what is left of it.
+/// Serves on this domain at posts of all its workers, and prints what is left of it.
 fn serve_domain<R, B>(
     rt: &R,
     plan: &Plan<'_>,
@@ -220,7 +220,7 @@ fn has_peer(plan: &Plan<'_>) -> bool {
     }
 }
 
-/// The same, with what lasts as long as the run.
+/// Serves the domain with what lasts as long as the run.
 fn serve_run<'a, R, B>(
     run: &Running<'a, R>,
     plan: &Plan<'_>,
@@ -277,7 +277,7 @@ struct Daemon<'a, 'p, R, B: Names, D> {
     record: Option<RecordFile<'p>>,
 }
 
-/// What it has is let go, which is proved here once.
+/// Drops its parts. The proof stands here, once.
 impl<'a, 'p, R, B: Names, D: Drop> Drop for Daemon<'a, 'p, R, B, D> {
     fn drop(self) {
         let Daemon {
@@ -499,7 +499,7 @@ where
     }
 }
 
-/// The same with these sinks.
+/// Serves with these sinks until the end.
 fn serve_to_end<'a, R, B, D>(
     run: &Running<'a, R>,
     plan: &Plan<'_>,
@@ -729,7 +729,7 @@ where
     }
 }
 
-/// The same on what is accepted here.
+/// Serves what is accepted here, by a thread for each session.
 fn serve_threads<'a, R, B, D>(
     run: &Running<'a, R>,
     plan: &Plan<'_>,
@@ -891,7 +891,7 @@ fn open_sinks_first<'a, R: AllocGlobal + Clock + Eprint + Net + Dial + Files<Fil
     Ok(sinks)
 }
 
-/// Whether the file that takes records is that of the reserved regions; then it is told.
+/// Whether the file that takes records is that of the reserved regions; then a notice says so.
 fn is_read_too<'a, R: Clock + Eprint + Files<File = File>>(
     run: &Running<'a, R>,
     plan: &Plan<'_>,
@@ -925,7 +925,7 @@ fn open_record<'a, 'p, R: Clock + Eprint + Files<File = File>>(
     }
 }
 
-/// Prints the domain, and tells what is left of it.
+/// Prints the domain, and prints what is left of it.
 fn finish<'a, R>(run: &Running<'a, R>, plan: &Plan<'_>, rest: Rest) -> Result<(), Fault<'static>>
 where
     R: Runtime + AllocGlobal,

@@ -275,7 +275,7 @@ const WAITING_BESIDE_A_FLUSH: &[Row] = &[
 ];
 
 // Each call that makes calls of a sink, over a sink that fails at each of them in turn, and then
-// the same call again, which is good. The ends are of clients with 900 holdings, beside three of
+// the call once more, which ends well. The ends are of clients with 900 holdings, beside three of
 // another one.
 const FAILING: &[Row] = &[
     (0, Open(false), Always("opened Ok(1)")),

@@ -3,7 +3,7 @@ use Rattle.iova_check.specs.Marks.{stage_at}
 use Rattle.iova_check.specs.Findings.{since_of}
 use Rattle.iova_check.proofs.scan.stretch.Given as goal
 
--- the same is told of the frames before this one
+-- all frames before this one have the first one's stage
 abbrev pub invariant-loop-at : goal.invariant-loop-at
 invariant-loop-at l = record {
   after : l.lo < l.at;

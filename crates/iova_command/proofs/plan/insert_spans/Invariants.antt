@@ -3,7 +3,7 @@ use Rattle.iova_range.specs.Frames.{Frames}
 use Rattle.iova_command.specs.Spans.{InsertsSpans}
 use Rattle.iova_command.proofs.plan.insert_spans.Given as goal
 
--- what the windows that are left come to from here, all come to from the beginning
+-- inserting the windows that are left from here has the result of inserting all of them
 abbrev pub invariant-loop-rest : goal.invariant-loop-rest
 invariant-loop-rest l =
     (final : List Frames) → InsertsSpans l.start l.last (map (λ t. t.now) l.rest) l.windows final

@@ -21,7 +21,7 @@ are_held workers w id (x ∷ cs) all =
     (λ e. cond_both (x.worker == w) (Some x) None IsHeld (λ f. (all.0.room, all.0.rising)) (λ f. tt))
     (λ e. are_held workers w id cs all.1)
 
--- what an append comes to
+-- the result of an append
 abbrev Came : Option Client → Result Unit Refusal → List Frames → List Frames → Type 0
 Came o r old new = MatchOption o (r ≡ Err refusal.NoClient) (λ c. MatchResult r (λ u. new ≡ old ++ c.holdings) (λ e. e ≡ refusal.NoMemory))
 
