@@ -1,3 +1,5 @@
 mod HandedOn
+mod Passing
 mod Records
 mod Talks
+mod WholeTalks

@@ -1,67 +1,128 @@
 -- Requests and answers, one part after another.
-use Rattle.std.proofs.Common.{◌≡◌, ◌≢◌, ℕ, ◌+◌, ◌-◌, ◌<◌, ◌≤◌, ◌⊎◌, inl, inr, Bool, true, List, [], ◌∷◌, ◌++◌, Option, Some, None, Result, Ok, Err, length, take, drop, get_or, refl, sym, ap, ◌∙◌, subst, arith, append_assoc, append-nil, length-append, take-append-drop}
-use Rattle.std.specs.Io.KnownBytes.{append_known}
-use Rattle.std.proofs.lemmas.List.{take_all, take_more, get_or_append_left, get_or-append-add}
+use Rattle.std.proofs.Common.{◌≡◌, ◌≢◌, ℕ, ◌+◌, ◌-◌, ◌<◌, ◌≤◌, ◌⊎◌, inl, inr, Bool, true, false, List, [], ◌∷◌, ◌++◌, Result, Ok, Err, length, take, drop, get_or, refl, sym, ap, ◌∙◌, subst, arith, append_assoc, append-nil, length-append, take-append-drop}
+use Rattle.std.proofs.lemmas.List.{map-append, take_all, take_more, get_or_append_left, get_or-append-add}
 use Rattle.std.proofs.lemmas.Bool.{cases_lt}
 use Rattle.iova_sink.specs.declared.channel.ChannelFault.{ChannelFault}
+use Rattle.iova_sink.specs.declared.channel.Standing.{Standing}
+use Rattle.iova_sink.specs.declared.channel.Standing.TheVariants as standing
+use Rattle.iova_sink.specs.declared.history.Passed.{Passed}
+use Rattle.iova_sink.specs.declared.history.Passed.TheVariants as passed
 use Rattle.iova_sink.specs.declared.sink.SinkFault.{SinkFault}
 use Rattle.iova_sink.specs.declared.sink.SinkFault.TheVariants as fault
 use Rattle.iova_sink.specs.declared.asking.Heard.{Heard}
 use Rattle.iova_sink.specs.declared.asking.Heard.TheVariants as heard
 use Rattle.iova_range.specs.Frames.{Frames}
 use Rattle.iova_sink.specs.Records.{range_line, ranges_text}
-use Rattle.iova_sink.specs.Channels.{Talk, with_sent, with_received, with_failure, with_stray, with_connection, without_connection, Connects, HasFailed, IsFront, IsCutOff, Readies, SendsAll, IsBegun, Requests, EndsAtLf, IsAnswer, IsSaid, Hears, Concludes, Answers}
+use Rattle.iova_sink.specs.Passing.{sent_bytes, received_bytes, with_received_bytes}
+use Rattle.iova_sink.specs.Channels.{Talk, HandsOn, FailsBehind, with_sent, with_failure, without_connection, Looks, Connects, IsFailure, opening, exchange, readied, IsFront, IsCutOff, Readies, SendsAll, IsBegun, Requests, EndsAtLf, IsAnswer, IsSaid, Hears, IsAnsweredBy, Settles, Concludes, Answers}
 use Rattle.iova_sink.proofs.Records.{take_plus, rest_of}
 
-known_more : (r : Option (List ℕ)) (xs ys : List ℕ) → append_known (append_known r xs) ys ≡ append_known r (xs ++ ys)
-known_more None xs ys = refl
-known_more (Some z) xs ys = ap (λ (x : List ℕ). Some x) (append_assoc z xs ys)
-
-known_nothing : (r : Option (List ℕ)) → r ≡ append_known r []
-known_nothing None = refl
-known_nothing (Some z) = ap (λ (x : List ℕ). Some x) (sym (append-nil z))
-
 pub sent_more : (t : Talk) (xs ys : List ℕ) → with_sent (with_sent t xs) ys ≡ with_sent t (xs ++ ys)
-sent_more t xs ys = ap (λ (x : Option (List ℕ)). record t { sent = x }) (known_more t.sent xs ys)
+sent_more t xs ys = ap (λ (x : List Passed). record t { passed = x }) (append_assoc t.passed (sent_bytes xs) (sent_bytes ys) ∙ ap (λ (x : List Passed). t.passed ++ x) (sym (map-append passed.Sent xs ys)))
 
 pub sent_nothing : (t : Talk) → t ≡ with_sent t []
-sent_nothing t = ap (λ (x : Option (List ℕ)). record t { sent = x }) (known_nothing t.sent)
+sent_nothing t = ap (λ (x : List Passed). record t { passed = x }) (sym (append-nil t.passed))
 
-pub received_more : (t : Talk) (xs ys : List ℕ) → with_received (with_received t xs) ys ≡ with_received t (xs ++ ys)
-received_more t xs ys = ap (λ (x : Option (List ℕ)). record t { received = x }) (known_more t.received xs ys)
+-- Bytes handed on
 
-pub received_nothing : (t : Talk) → t ≡ with_received t []
-received_nothing t = ap (λ (x : Option (List ℕ)). record t { received = x }) (known_nothing t.received)
+pub hands_nothing : (t : Talk) → HandsOn t t []
+hands_nothing t = record {
+  more = [];
+  passed = sym (append-nil t.passed);
+  order = append-nil t.ahead;
+  connected = refl;
+}
+
+pub hands_more : (a b c : Talk) (xs ys : List ℕ) → HandsOn a b xs → HandsOn b c ys → HandsOn a c (xs ++ ys)
+hands_more a b c xs ys p q = record {
+  more = p.more ++ q.more;
+  passed = q.passed
+      ∙ (ap (λ (x : List Passed). x ++ received_bytes q.more) p.passed
+      ∙ (append_assoc a.passed (received_bytes p.more) (received_bytes q.more) ∙ ap (λ (x : List Passed). a.passed ++ x) (sym (map-append passed.Received p.more q.more))));
+  order = sym (append_assoc a.ahead p.more q.more)
+      ∙ (ap (λ (x : List ℕ). x ++ q.more) p.order
+      ∙ (append_assoc xs b.ahead q.more ∙ (ap (λ (x : List ℕ). xs ++ x) q.order ∙ sym (append_assoc xs ys c.ahead))));
+  connected = q.connected ∙ p.connected;
+}
+
+-- by a channel that never receives ahead
+pub hands_at_once : (old new : Talk) (bytes : List ℕ) → old.ahead ≡ [] → new.ahead ≡ [] → new.passed ≡ with_received_bytes old.passed bytes → new.connected ≡ old.connected → HandsOn old new bytes
+hands_at_once old new bytes none left is still = record {
+  more = bytes;
+  passed = is;
+  order = ap (λ (x : List ℕ). x ++ bytes) none ∙ (sym (append-nil bytes) ∙ ap (λ (x : List ℕ). bytes ++ x) (sym left));
+  connected = still;
+}
+
+-- What passes at a request
+
+four_parts : (ps os ss rs ls : List Passed) → ((((ps ++ os) ++ ss) ++ rs) ++ ls) ≡ ps ++ ((os ++ (ss ++ rs)) ++ ls)
+four_parts ps os ss rs ls =
+    ap (λ (x : List Passed). x ++ ls) (append_assoc (ps ++ os) ss rs ∙ append_assoc ps os (ss ++ rs))
+    ∙ append_assoc ps (os ++ (ss ++ rs)) ls
+
+three_parts : (ps os ss rs : List Passed) → ((ps ++ os) ++ ss) ++ rs ≡ ps ++ (os ++ (ss ++ rs))
+three_parts ps os ss rs = append_assoc (ps ++ os) ss rs ∙ append_assoc ps os (ss ++ rs)
+
+-- what was received behind a request that was sent over a connection in which nothing stood
+pub behind_request : (a b c : Talk) (anew : Bool) (request got : List ℕ) → b ≡ with_sent (readied anew a) request → (h : HandsOn b c got) → h.more ≡ got ++ c.ahead
+behind_request a b c anew request got p h = sym (ap (λ (x : List ℕ). x ++ h.more) (ap (λ (t : Talk). t.ahead) p)) ∙ h.order
+
+pub passed_behind : (a b c : Talk) (anew : Bool) (request got : List ℕ) → b ≡ with_sent (readied anew a) request → (h : HandsOn b c got)
+    → c.passed ≡ ((a.passed ++ opening anew) ++ sent_bytes request) ++ received_bytes h.more
+passed_behind a b c anew request got p h = h.passed ∙ ap (λ (x : List Passed). x ++ received_bytes h.more) (ap (λ (t : Talk). t.passed) p)
+
+-- the whole request, and this answer behind it
+pub answered_by : (a b c : Talk) (anew : Bool) (request answer : List ℕ) → b ≡ with_sent (readied anew a) request → HandsOn b c answer → IsAnsweredBy a c request answer
+answered_by a b c anew request answer p h = record {
+  anew = anew;
+  passed = passed_behind a b c anew request answer p h
+      ∙ (three_parts a.passed (opening anew) (sent_bytes request) (received_bytes h.more)
+      ∙ ap (λ (x : List ℕ). a.passed ++ exchange anew request x) (behind_request a b c anew request answer p h));
+  connected = h.connected ∙ ap (λ (t : Talk). t.connected) p;
+}
 
 -- A connection made ready
 
-pub cut_by_failure : (old new : Talk) → new.sent ≡ old.sent → new.received ≡ old.received → HasFailed old new → (request : List ℕ) → IsCutOff old new request
-cut_by_failure old new sent received failed request = record {
+pub cut_at_once : (old new : Talk) (last : List Passed) → new.passed ≡ old.passed ++ last → IsFailure last → (request : List ℕ) → IsCutOff old new request
+cut_at_once old new last is failed request = record {
+  anew = false;
   front = [];
+  last = last;
   is_front = (request, refl);
-  sent = sent ∙ known_nothing old.sent;
-  received = received;
+  passed = is;
   failed = failed;
 }
 
 pub readies_from_connects : (old new : Talk) (r : Result Unit ChannelFault) → Connects old new r → Readies old new r
-readies_from_connects old new (Ok u) e = e
-readies_from_connects old new (Err f) e =
-    cut_by_failure old new (ap (λ (t : Talk). t.sent) e) (ap (λ (t : Talk). t.received) e)
-    (inl (let more : new.failures ≡ old.failures + 1 = ap (λ (t : Talk). t.failures) e in omega arith))
+readies_from_connects old new (Ok u) e = (true, e)
+readies_from_connects old new (Err f) e = cut_at_once old new (passed.Failed ∷ []) (ap (λ (t : Talk). t.passed) e) (inl refl)
 
 pub readies_by_failure : (old new : Talk) → new ≡ with_failure old → (request : List ℕ) → IsCutOff old new request
-readies_by_failure old new e =
-    cut_by_failure old new (ap (λ (t : Talk). t.sent) e) (ap (λ (t : Talk). t.received) e)
-    (inl (let more : new.failures ≡ old.failures + 1 = ap (λ (t : Talk). t.failures) e in omega arith))
+readies_by_failure old new e = cut_at_once old new (passed.Failed ∷ []) (ap (λ (t : Talk). t.passed) e) (inl refl)
 
-pub readies_by_stray : (old new : Talk) → new ≡ with_stray old → (request : List ℕ) → IsCutOff old new request
-readies_by_stray old new e =
-    cut_by_failure old new (ap (λ (t : Talk). t.sent) e) (ap (λ (t : Talk). t.received) e)
-    (inr (let more : new.strays ≡ old.strays + 1 = ap (λ (t : Talk). t.strays) e in omega arith))
+pub readies_by_stray : (old new : Talk) (s : Standing) → s ≡ standing.Bytes → Looks old new (Ok s) → (request : List ℕ) → IsCutOff old new request
+readies_by_stray old new standing.Nothing is e = absurd (let no = is in cc)
+readies_by_stray old new standing.Bytes is e = cut_at_once old new (passed.Strayed ∷ []) (ap (λ (t : Talk). t.passed) e) (inr refl)
+readies_by_stray old new standing.End is e = absurd (let no = is in cc)
 
-pub stays_open : (old new : Talk) → new ≡ old → old.connected ≡ true → new ≡ with_connection old
-stays_open old new e is = e ∙ ap (λ (b : Bool). record old { connected = b }) is
+pub readies_behind_end : (old middle new : Talk) (s : Standing) (r : Result Unit ChannelFault) → s ≡ standing.End → Looks old middle (Ok s) → Connects middle new r → Readies old new r
+readies_behind_end old middle new standing.Nothing r is e c = absurd (let no = is in cc)
+readies_behind_end old middle new standing.Bytes r is e c = absurd (let no = is in cc)
+readies_behind_end old middle new standing.End r is e c = readies_from_connects old new r (subst (λ (t : Talk). Connects t new r) e c)
+
+pub stays_open : (old new : Talk) → new ≡ old → old.ahead ≡ [] → old.connected ≡ true → (anew : Bool) × (new ≡ readied anew old)
+stays_open old new e none is = (
+  false,
+  e ∙ (ap (λ (b : Bool). record old { connected = b }) is
+      ∙ (ap (λ (x : List ℕ). record old { ahead = x; connected = true }) none
+      ∙ ap (λ (x : List Passed). record old { passed = x; ahead = []; connected = true }) (sym (append-nil old.passed)))),
+)
+
+pub readies_still : (old new : Talk) (s : Standing) → s ≡ standing.Nothing → Looks old new (Ok s) → old.connected ≡ true → (anew : Bool) × (new ≡ readied anew old)
+readies_still old new standing.Nothing is e was = stays_open old new e.0 e.1 was
+readies_still old new standing.Bytes is e was = absurd (let no = is in cc)
+readies_still old new standing.End is e was = absurd (let no = is in cc)
 
 -- A request sent
 
@@ -98,16 +159,18 @@ sends_first a c xs ys f q =
     let is : xs ≡ front ++ rest = q.1.1 in
     (front, (rest ++ ys, ap (λ (x : List ℕ). x ++ ys) is ∙ append_assoc front rest ys), q.2)
 
-pub requests_from : (a b c : Talk) (request : List ℕ) (r : Result Unit ChannelFault) → b ≡ with_connection a → SendsAll b c request r → Requests a c request r
-requests_from a b c request (Ok u) p q = q ∙ ap (λ (t : Talk). with_sent t request) p
-requests_from a b c request (Err f) p q =
-    let whole : c ≡ with_failure (with_sent (with_connection a) q.0) = q.2 ∙ ap (λ (t : Talk). with_failure (with_sent t q.0)) p in
+pub requests_from : (a b c : Talk) (request : List ℕ) (r : Result Unit ChannelFault) → (anew : Bool) × (b ≡ readied anew a) → SendsAll b c request r → Requests a c request r
+requests_from a b c request (Ok u) (anew, p) q = (anew, q ∙ ap (λ (t : Talk). with_sent t request) p)
+requests_from a b c request (Err f) (anew, p) q =
+    let whole : c ≡ with_failure (with_sent (readied anew a) q.0) = q.2 ∙ ap (λ (t : Talk). with_failure (with_sent t q.0)) p in
     record {
+      anew = anew;
       front = q.0;
+      last = passed.Failed ∷ [];
       is_front = q.1;
-      sent = ap (λ (t : Talk). t.sent) whole;
-      received = ap (λ (t : Talk). t.received) whole;
-      failed = inl (let more : c.failures ≡ a.failures + 1 = ap (λ (t : Talk). t.failures) whole in omega arith);
+      passed = ap (λ (t : Talk). t.passed) whole
+          ∙ (ap (λ (x : List Passed). x ++ passed.Failed ∷ []) (sym (append-nil (a.passed ++ opening anew ++ sent_bytes q.0))) ∙ four_parts a.passed (opening anew) (sent_bytes q.0) [] (passed.Failed ∷ []));
+      failed = inl refl;
     }
 
 -- the lines of ranges
@@ -189,79 +252,86 @@ none_more got b h other = record { none = λ k lt e. split k lt e (cases_lt k (l
         let here : k ≡ length got + 0 = omega (arith, length-append got (b ∷ [])) in
         other (sym (ap (λ (j : ℕ). get_or (got ++ b ∷ []) j 0) here ∙ get_or-append-add got (b ∷ []) 0 0) ∙ e)
 
-pub received_one : (a b c : Talk) (got xs : List ℕ) (n : ℕ) → b ≡ with_received a got → c ≡ with_received b (take n xs) → length xs ≡ 1 → n ≤ 1 → 0 < n
-    → c ≡ with_received a (got ++ get_or xs 0 0 ∷ [])
-received_one a b c got xs n p q long le lt =
-    q ∙ (ap (λ (t : Talk). with_received t (take n xs)) p ∙ (received_more a got (take n xs) ∙ ap (λ (x : List ℕ). with_received a (got ++ x)) (one_taken xs n long le lt)))
+pub received_one : (a b c : Talk) (got xs : List ℕ) (n : ℕ) → HandsOn a b got → HandsOn b c (take n xs) → length xs ≡ 1 → n ≤ 1 → 0 < n → HandsOn a c (got ++ get_or xs 0 0 ∷ [])
+received_one a b c got xs n p q long le lt = subst (λ (x : List ℕ). HandsOn a c (got ++ x)) (one_taken xs n long le lt) (hands_more a b c got (take n xs) p q)
 
-pub received_end : (a b c : Talk) (got xs : List ℕ) (n : ℕ) → b ≡ with_received a got → c ≡ with_received b (take n xs) → n ≡ 0 → c ≡ with_received a got
+pub received_next : (a b c : Talk) (got now xs : List ℕ) (n : ℕ) → HandsOn a b got → HandsOn b c (take n xs) → now ≡ got ++ get_or xs 0 0 ∷ [] → length xs ≡ 1 → n ≤ 1 → 0 < n → HandsOn a c now
+received_next a b c got now xs n p q is long le lt = subst (λ (x : List ℕ). HandsOn a c x) (sym is) (received_one a b c got xs n p q long le lt)
+
+pub received_end : (a b c : Talk) (got xs : List ℕ) (n : ℕ) → HandsOn a b got → HandsOn b c (take n xs) → n ≡ 0 → HandsOn a c got
 received_end a b c got xs n p q is =
-    q ∙ (ap (λ (k : ℕ). with_received b (take k xs)) is ∙ (sym (received_nothing b) ∙ p))
+    subst (λ (x : List ℕ). HandsOn a c x) (ap (λ (k : ℕ). got ++ take k xs) is ∙ append-nil got) (hands_more a b c got (take n xs) p q)
 
-pub hears_said : (old new : Talk) (got done failed : List ℕ) (what : Heard) → new ≡ with_received old got → IsAnswer got done → IsSaid got done failed what
+pub received_cut : (a b c : Talk) (got : List ℕ) → HandsOn a b got → c ≡ with_failure b → FailsBehind a c got
+received_cut a b c got p e = (b, p, e)
+
+pub hears_said : (old new : Talk) (got done failed : List ℕ) (what : Heard) → HandsOn old new got → IsAnswer got done → IsSaid got done failed what
     → Hears old new done failed what
-hears_said old new got done failed heard.Done e answer is = e ∙ ap (with_received old) is
-hears_said old new got done failed heard.Failed e answer is = e ∙ ap (with_received old) is
-hears_said old new got done failed heard.Broken e answer is = (got, answer, inr (e, is.0, is.1))
+hears_said old new got done failed heard.Done h answer is = subst (λ (x : List ℕ). HandsOn old new x) is h
+hears_said old new got done failed heard.Failed h answer is = subst (λ (x : List ℕ). HandsOn old new x) is h
+hears_said old new got done failed heard.Broken h answer is = (got, answer, inr (h, is.0, is.1))
+
+pub hears_cut : (old new : Talk) (got done failed : List ℕ) → FailsBehind old new got → IsAnswer got done → Hears old new done failed heard.Broken
+hears_cut old new got done failed h answer = (got, answer, inl h)
 
 -- a connection closed after what is no answer
-pub settles_closed : (a b c : Talk) (done failed : List ℕ) → Hears a b done failed heard.Broken → c ≡ without_connection b
-    → (got : List ℕ) × IsAnswer got done × ((c ≡ without_connection (with_failure (with_received a got))) ⊎ ((c ≡ without_connection (with_received a got)) × (got ≢ done) × (got ≢ failed)))
-settles_closed a b c done failed h e = (h.0, h.1, split h.2)
-  where
-    split : (b ≡ with_failure (with_received a h.0)) ⊎ ((b ≡ with_received a h.0) × (h.0 ≢ done) × (h.0 ≢ failed))
-        → (c ≡ without_connection (with_failure (with_received a h.0))) ⊎ ((c ≡ without_connection (with_received a h.0)) × (h.0 ≢ done) × (h.0 ≢ failed))
-    split (inl is) = inl (e ∙ ap without_connection is)
-    split (inr is) = inr (e ∙ ap without_connection is.0, is.1, is.2)
+pub settles_closed : (a b c : Talk) (done failed : List ℕ) → Hears a b done failed heard.Broken → c ≡ without_connection b → Settles a c done failed (Err fault.Broken)
+settles_closed a b c done failed h e = (b, h, e)
 
 -- A request and its answer
 
 nothing_heard : (done : List ℕ) → IsAnswer [] done
 nothing_heard done = record { short = omega arith; one = λ k lt. absurd (omega arith) }
 
-still_failed : (a b c : Talk) → c ≡ without_connection b → HasFailed a b → HasFailed a c
-still_failed a b c is (inl lt) = inl (let same : c.failures ≡ b.failures = ap (λ (t : Talk). t.failures) is in omega arith)
-still_failed a b c is (inr lt) = inr (let same : c.strays ≡ b.strays = ap (λ (t : Talk). t.strays) is in omega arith)
-
 pub answers_from : (a b c : Talk) (request done failed : List ℕ) (s : Result Unit ChannelFault) (r : Result Unit SinkFault) → Requests a b request s
     → Concludes b c done failed s r → Answers a c request done failed r
-answers_from a b c request done failed (Ok u) (Ok v) p q = q ∙ ap (λ (t : Talk). with_received t done) p
-answers_from a b c request done failed (Ok u) (Err fault.Refused) p q = q ∙ ap (λ (t : Talk). with_received t failed) p
-answers_from a b c request done failed (Ok u) (Err fault.Broken) p (got, answer, inl is) =
-    let whole : c ≡ without_connection (with_failure (with_received (with_sent (with_connection a) request) got)) = is ∙ ap (λ (t : Talk). without_connection (with_failure (with_received t got))) p in
-    record {
-      front = request;
-      got = got;
-      is_front = ([], sym (append-nil request));
-      sent = ap (λ (t : Talk). t.sent) whole;
-      received = ap (λ (t : Talk). t.received) whole;
-      answer = answer;
-      unconnected = ap (λ (t : Talk). t.connected) whole;
-      failure = inl (inl (let more : c.failures ≡ a.failures + 1 = ap (λ (t : Talk). t.failures) whole in omega arith));
-    }
-answers_from a b c request done failed (Ok u) (Err fault.Broken) p (got, answer, inr is) =
-    let whole : c ≡ without_connection (with_received (with_sent (with_connection a) request) got) = is.0 ∙ ap (λ (t : Talk). without_connection (with_received t got)) p in
-    record {
-      front = request;
-      got = got;
-      is_front = ([], sym (append-nil request));
-      sent = ap (λ (t : Talk). t.sent) whole;
-      received = ap (λ (t : Talk). t.received) whole;
-      answer = answer;
-      unconnected = ap (λ (t : Talk). t.connected) whole;
-      failure = inr (is.1, is.2);
-    }
+answers_from a b c request done failed (Ok u) (Ok v) p q = answered_by a b c p.0 request done p.1 q
+answers_from a b c request done failed (Ok u) (Err fault.Refused) p q = answered_by a b c p.0 request failed p.1 q
+answers_from a b c request done failed (Ok u) (Err fault.Broken) p (last, (got, answer, inl (middle, h, is)), e) = record {
+  anew = p.0;
+  front = request;
+  more = h.more;
+  got = got;
+  last = passed.Failed ∷ [];
+  is_front = ([], sym (append-nil request));
+  is_first = (middle.ahead, behind_request a b middle p.0 request got p.1 h);
+  passed = ap (λ (t : Talk). t.passed) (e ∙ ap without_connection is)
+      ∙ (ap (λ (x : List Passed). x ++ passed.Failed ∷ []) (passed_behind a b middle p.0 request got p.1 h)
+      ∙ four_parts a.passed (opening p.0) (sent_bytes request) (received_bytes h.more) (passed.Failed ∷ []));
+  answer = answer;
+  unconnected = ap (λ (t : Talk). t.connected) e;
+  failure = inl (inl refl);
+}
+answers_from a b c request done failed (Ok u) (Err fault.Broken) p (last, (got, answer, inr (h, done_not, failed_not)), e) = record {
+  anew = p.0;
+  front = request;
+  more = h.more;
+  got = got;
+  last = [];
+  is_front = ([], sym (append-nil request));
+  is_first = (last.ahead, behind_request a b last p.0 request got p.1 h);
+  passed = ap (λ (t : Talk). t.passed) e
+      ∙ (passed_behind a b last p.0 request got p.1 h
+      ∙ (sym (append-nil (((a.passed ++ opening p.0) ++ sent_bytes request) ++ received_bytes h.more))
+      ∙ four_parts a.passed (opening p.0) (sent_bytes request) (received_bytes h.more) []));
+  answer = answer;
+  unconnected = ap (λ (t : Talk). t.connected) e;
+  failure = inr (refl, refl, done_not, failed_not);
+}
 answers_from a b c request done failed (Err f) (Ok v) p q = absurd q
 answers_from a b c request done failed (Err f) (Err fault.Refused) p q = absurd (let no = q.0 in cc)
 answers_from a b c request done failed (Err f) (Err fault.Broken) p q =
     let is = q.1 in
     record {
+      anew = p.anew;
       front = p.front;
+      more = [];
       got = [];
+      last = p.last;
       is_front = p.is_front;
-      sent = ap (λ (t : Talk). t.sent) is ∙ p.sent;
-      received = ap (λ (t : Talk). t.received) is ∙ (p.received ∙ known_nothing a.received);
+      is_first = ([], refl);
+      passed = ap (λ (t : Talk). t.passed) is ∙ p.passed;
       answer = nothing_heard done;
       unconnected = ap (λ (t : Talk). t.connected) is;
-      failure = inl (still_failed a b c is p.failed);
+      failure = inl p.failed;
     }

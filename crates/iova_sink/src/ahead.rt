@@ -1,7 +1,9 @@
 //! A connection, and the bytes of it that were read before anybody asked for them.
-ghost use Rattle.std.specs.Prelude.{◌≡◌, ◌≢◌, ℕ, ◌+◌, ◌≤◌, ◌++◌, [], IfOk, IfErr, List, length, take, min};
+ghost use Rattle.std.specs.Prelude.{◌≡◌, ◌≢◌, ℕ, ◌+◌, ◌≤◌, ◌++◌, [], true, false, IfOk, IfErr, List, length, take, min};
+ghost use Rattle.iova_sink.specs.Passing.{with_received_bytes};
 
 use crate::again::{is_interrupted, read_again};
+use crate::history::History;
 use crate::soon::Looks;
 use std::io;
 use std::marker::Model;
@@ -49,8 +51,8 @@ impl Ahead {
         self.left
     }
 
-    /// Reads the next bytes, where there are none, and gives how many: none at the end of the
-    /// stream. It takes no longer than this, whatever interrupts it.
+    /// Reads the next bytes, where there are none, and notes them as received: none come at the end
+    /// of the stream. It takes no longer than this, whatever interrupts it.
     #[tactic(auto, using(crate::proofs::HandedOn::read_first))]
     fn fill<C: Clock>(
         &mut self,
@@ -58,19 +60,20 @@ impl Ahead {
         stream: &UnixStream,
         looks: &mut Looks,
         limit: Duration,
-    ) -> io::Result<usize>
-        ensures read { IfOk result (λ n. (read : List ℕ) × (length read ≡ n)
-            × (self.new ≡ self.old ++ read)) }
-        ensures kept { self.old ≢ [] → self.new ≡ self.old }
-        ensures failed { IfErr result (λ e. self.new ≡ self.old) }
+        past: &mut History,
+    ) -> io::Result<()>
+        ensures read { IfOk result (λ u. (more : List ℕ)
+            × (past.new ≡ with_received_bytes past.old more) × (self.new ≡ self.old ++ more)) }
+        ensures kept { self.old ≢ [] → (self.new ≡ self.old) × (past.new ≡ past.old) }
+        ensures failed { IfErr result (λ e. (self.new ≡ self.old) × (past.new ≡ past.old)) }
     {
         if self.len() > 0 {
-            return Ok(0);
+            return Ok(());
         }
-        let n = read_next(clock, stream, looks, limit, &mut self.bytes)?;
+        let n = read_noted(clock, stream, looks, limit, &mut self.bytes, past)?;
         self.from = 0;
         self.left = n;
-        Ok(n)
+        Ok(())
     }
 
     /// Hands the next bytes on into the buffer, and gives how many.
@@ -85,6 +88,25 @@ impl Ahead {
         self.left -= n;
         n
     }
+}
+
+/// Reads what comes next, which is noted as received, and gives how many bytes. It takes no longer
+/// than this, whatever interrupts it.
+fn read_noted<C: Clock>(
+    clock: &C,
+    stream: &UnixStream,
+    looks: &mut Looks,
+    limit: Duration,
+    buffer: &mut [u8],
+    past: &mut History,
+) -> io::Result<usize>
+    ensures bound { IfOk result (λ n. n ≤ length buffer.new) }
+    ensures read { IfOk result (λ n. past.new ≡ with_received_bytes past.old (take n buffer.new)) }
+    ensures failed { IfErr result (λ e. past.new ≡ past.old) }
+{
+    let n = read_next(clock, stream, looks, limit, buffer)?;
+    past.add_received(&buffer[..n]);
+    Ok(n)
 }
 
 /// Reads what comes next. It takes no longer than this, whatever interrupts it.
@@ -137,28 +159,33 @@ impl Connection {
     }
 
     /// Whether bytes of it were read ahead.
-    pub(crate) fn is_ahead(&self) -> bool {
+    pub(crate) fn is_ahead(&self) -> bool
+        ensures some { result ≡ true → self.now ≢ [] }
+        ensures none { result ≡ false → self.now ≡ [] }
+    {
         self.ahead.len() > 0
     }
 
     /// Hands on into the buffer what was read ahead, or else what is read next, in the order in
     /// which it was read, and gives how many bytes: none at the end of the stream. What is read
-    /// beyond the buffer is kept for the next call. It takes no longer than this, whatever
-    /// interrupts it.
+    /// beyond the buffer is kept for the next call, and all of it is noted as received. It takes no
+    /// longer than this, whatever interrupts it.
     pub(crate) fn receive<C: Clock>(
         &mut self,
         clock: &C,
         looks: &mut Looks,
         limit: Duration,
         buffer: &mut [u8],
+        past: &mut History,
     ) -> io::Result<usize>
-        ensures order { IfOk result (λ n. (read : List ℕ)
-            × (self.old ++ read ≡ take n buffer.new ++ self.new)) }
-        ensures ahead { IfOk result (λ n. self.old ≢ [] → self.old ≡ take n buffer.new ++ self.new) }
+        ensures order { IfOk result (λ n. (more : List ℕ)
+            × (past.new ≡ with_received_bytes past.old more)
+            × (self.old ++ more ≡ take n buffer.new ++ self.new)) }
+        ensures ahead { IfOk result (λ n. self.old ≢ [] → past.new ≡ past.old) }
         ensures bound { IfOk result (λ n. n ≤ length buffer.new) }
-        ensures failed { IfErr result (λ e. self.new ≡ self.old) }
+        ensures failed { IfErr result (λ e. (self.new ≡ self.old) × (past.new ≡ past.old)) }
     {
-        let _read = self.ahead.fill(clock, &self.stream, looks, limit)?;
+        self.ahead.fill(clock, &self.stream, looks, limit, past)?;
         Ok(self.ahead.take(buffer))
     }
 }

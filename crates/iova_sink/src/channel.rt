@@ -23,8 +23,9 @@ pub enum Standing {
 pub trait Channel {
     ghost use Rattle.iova_sink.specs.Channels.{Talk};
 
-    /// What is known of it: the bytes sent, the bytes received, how many calls failed, and whether
-    /// there is a connection.
+    /// What passed over it: the bytes that were sent and received, the connections that were made,
+    /// the calls that failed and the looks that found bytes, one behind the other; what of it was
+    /// received ahead of the call that hands it on; and whether there is a connection.
     ghost talk: { Self → Talk };
 
     /// Whether there is a connection.

@@ -2,6 +2,7 @@
 ghost use Rattle.std.specs.Prelude.{◌≡◌, ◌≤◌, ◌++◌, [], is_ok, length, codes};
 ghost use Rattle.iova_sink.specs.Calls.{with_call, with_gone};
 ghost use Rattle.iova_sink.specs.Channels.{Adds, Answers, Requests, SendsAll};
+ghost use Rattle.iova_sink.specs.Talks.{IsTalk, GoodCallsAreAnswered};
 ghost use Rattle.iova_sink.specs.Records.{inval_line, reset_line, gone_line, range_line, ranges_text, gone_text, done_line, fail_line};
 
 use crate::asking::{conclude, ready, send_all, tell};
@@ -37,10 +38,13 @@ impl<C: Channel + Drop> Drop for ChannelSink<C> {
 
 impl<C: Channel> Model for ChannelSink<C> {
     ghost use Rattle.iova_sink.specs.Channels.{Asking};
+    ghost use Rattle.iova_sink.specs.Talks.{IsTalk};
 
     ghost Value = { Asking C };
 
     ghost view = { λ s. record { channel = s.channel; calls = s.calls } };
+
+    ghost invariant = { λ s. IsTalk s.calls (C.talk s.channel).passed };
 }
 
 impl<C: Channel> ChannelSink<C> {
@@ -54,9 +58,11 @@ impl<C: Channel> ChannelSink<C> {
         }
     }
 
-    /// The channel.
+    /// The channel. What passed over it comes of the calls of this sink, in their order: each good
+    /// one had its request sent and was answered behind it.
     pub fn channel(&self) -> &C
-        ensures { result.now ≡ self.now.channel }
+        ensures channel { result.now ≡ self.now.channel }
+        ensures talk { IsTalk self.now.calls (C.talk self.now.channel).passed }
     {
         &self.channel
     }
@@ -69,10 +75,7 @@ impl<C: Channel> ChannelSink<C> {
             (done_line (codes "reset") domain) (fail_line (codes "reset") domain) result }
         ensures calls { self.new.calls ≡ self.old.calls }
     {
-        let mut line = ArrayVec::new();
-        put(&mut line, b"reset");
-        put_number(&mut line, domain);
-        put(&mut line, b"\n");
+        let line = reset_of(domain);
         tell(&mut self.channel, line.as_slice(), b"reset", domain)
     }
 }
@@ -112,6 +115,12 @@ impl<C: Channel> Sink for ChannelSink<C> {
     }
 }
 
+/// In whatever passed over a channel at the calls of its sink, the answer of each good one stands
+/// directly behind its request.
+pub fn good_calls_are_answered()
+    ensures { GoodCallsAreAnswered }
+{}
+
 /// Makes a connection ready, and sends that the client is gone.
 fn begin_gone<C: Channel>(
     channel: &mut C,
@@ -142,6 +151,17 @@ fn send_gone<C: Channel>(
     let mut block = ArrayVec::new();
     let _fits = block.try_extend_from_slice(line.as_slice());
     send_ranges(channel, &mut block, ranges)
+}
+
+/// The line of a domain of which nothing is mapped.
+fn reset_of(domain: u64) -> ArrayVec<u8, MAX_RECORD>
+    ensures { result.items ≡ reset_line domain }
+{
+    let mut line = ArrayVec::new();
+    put(&mut line, b"reset");
+    put_number(&mut line, domain);
+    put(&mut line, b"\n");
+    line
 }
 
 /// The line of a client that is gone.

@@ -13,6 +13,7 @@ pub mod count;
 pub mod device;
 pub mod file;
 pub mod gate;
+pub mod history;
 pub mod hurry;
 pub mod memory;
 pub mod memory_channel;

@@ -1,9 +1,10 @@
 //! A channel in memory.
-ghost use Rattle.std.specs.Prelude.{◌≡◌, ◌<◌, ◌≤◌, [], Some, IfOk, length, false};
+ghost use Rattle.std.specs.Prelude.{◌≡◌, ◌<◌, ◌≤◌, [], IfOk, length, false};
 ghost use Rattle.iova_sink.specs.Channels.{Sends, Receives, Looks, Connects, without_connection, with_failure, with_stray};
+ghost use Rattle.iova_sink.specs.Passing.{sent_of, received_of};
 
 use crate::channel::{Channel, ChannelFault, Standing};
-use crate::count::Count;
+use crate::history::{History, Passed};
 use std::alloc::Global;
 use std::marker::Model;
 
@@ -39,38 +40,30 @@ pub struct MemoryChannel<'a> {
     ahead: u64,
     sent: Vec<u8>,
     received: Vec<u8>,
-    failed: Count,
-    strays: Count,
+    past: History,
 }
 
 impl<'a> Model for MemoryChannel<'a> {
-    ghost use Rattle.std.specs.Prelude.{◌≤◌, Some};
+    ghost use Rattle.std.specs.Prelude.{◌≡◌, ◌≤◌, []};
     ghost use Rattle.iova_sink.specs.Channels.{Talk};
+    ghost use Rattle.iova_sink.specs.Passing.{sent_of, received_of};
 
     ghost Value = { Talk };
 
-    ghost view = { λ c. record {
-      sent = Some c.sent.items;
-      received = Some c.received.items;
-      failures = c.failed;
-      strays = c.strays;
-      connected = c.connected;
-    } };
+    ghost view = { λ c. record { passed = c.past; ahead = []; connected = c.connected } };
 
-    ghost invariant = { λ c. 1 ≤ c.most };
+    ghost invariant = { λ c. record {
+      most : 1 ≤ c.most;
+      sent : c.sent.items ≡ sent_of c.past;
+      received : c.received.items ≡ received_of c.past;
+    } };
 }
 
 impl<'a> MemoryChannel<'a> {
     /// A channel to these peers, without a connection.
     pub fn new(alloc: Global, peers: &'a [Peer<'a>], most: usize, fail_at: u64) -> MemoryChannel<'a>
         requires { 1 ≤ most }
-        ensures { result ≡ record {
-          sent = Some [];
-          received = Some [];
-          failures = 0;
-          strays = 0;
-          connected = false;
-        } }
+        ensures { result ≡ record { passed = []; ahead = []; connected = false } }
     {
         MemoryChannel {
             peers,
@@ -83,21 +76,20 @@ impl<'a> MemoryChannel<'a> {
             ahead: fail_at,
             sent: Vec::new(alloc),
             received: Vec::new(alloc),
-            failed: Count::new(),
-            strays: Count::new(),
+            past: History::new(),
         }
     }
 
     /// The bytes that were sent.
     pub fn sent(&self) -> &[u8]
-        ensures { Some result.now ≡ self.now.sent }
+        ensures { result.now ≡ sent_of self.now.passed }
     {
         self.sent.as_slice()
     }
 
     /// The bytes that were received.
     pub fn received(&self) -> &[u8]
-        ensures { Some result.now ≡ self.now.received }
+        ensures { result.now ≡ received_of self.now.passed }
     {
         self.received.as_slice()
     }
@@ -156,7 +148,7 @@ impl<'a> MemoryChannel<'a> {
     fn fault(&mut self) -> ChannelFault
         ensures { self.new ≡ with_failure self.old }
     {
-        self.failed.up();
+        self.past.add(Passed::Failed);
         ChannelFault
     }
 
@@ -171,6 +163,7 @@ impl<'a> MemoryChannel<'a> {
         buffer[..n].copy_from_slice(now);
         match self.received.extend_from_slice(now) {
             Ok(()) => {
+                self.past.add_received(now);
                 self.taken = self.taken.saturating_add(n);
                 Ok(n)
             }
@@ -191,8 +184,10 @@ impl<'a> Channel for MemoryChannel<'a> {
             return Err(self.fault());
         }
         let n = self.most.min(bytes.len());
-        match self.sent.extend_from_slice(&bytes[..n]) {
+        let now = &bytes[..n];
+        match self.sent.extend_from_slice(now) {
             Ok(()) => {
+                self.past.add_sent(now);
                 self.hear_next();
                 Ok(n)
             }
@@ -215,7 +210,7 @@ impl<'a> Channel for MemoryChannel<'a> {
             return Err(self.fault());
         }
         if !self.standing().is_empty() {
-            self.strays.up();
+            self.past.add(Passed::Strayed);
             return Ok(Standing::Bytes);
         }
         if self.ends() {
@@ -237,6 +232,7 @@ impl<'a> Channel for MemoryChannel<'a> {
         self.met += 1;
         self.text = 0;
         self.taken = 0;
+        self.past.add(Passed::Connected);
         self.connected = true;
         Ok(())
     }

@@ -1,13 +1,13 @@
 //! A channel over a Unix socket.
-ghost use Rattle.std.specs.Prelude.{◌≡◌, ◌≢◌, ◌≤◌, ◌<◌, IfOk, IfSome, None, length, false};
+ghost use Rattle.std.specs.Prelude.{◌≡◌, ◌≢◌, ◌≤◌, ◌<◌, [], IfOk, IfSome, length, false};
 ghost use Rattle.iova_sink.specs.Channels.{with_failure};
 
 use crate::again::{is_interrupted, write_again};
 use crate::ahead::Connection;
 use crate::backoff::Backoff;
 use crate::channel::{Channel, ChannelFault, Standing};
-use crate::count::Count;
 use crate::device::bytes_taken;
+use crate::history::{History, Passed};
 use crate::hurry::Hurry;
 use crate::soon::{Looks, read_now};
 use std::io;
@@ -24,8 +24,9 @@ use std::time::Duration;
 /// comes before it waits, as long as that pays: to sleep and to be woken costs as much as a peer
 /// that is at hand takes to answer. A connect waits no longer than that of `net` does. Behind two
 /// connections in a row that had no answer none is made for a while, up to a second, so that the
-/// queue of a peer that stands still fills slowly. What goes over it no contract can say; contracts
-/// see its failures, how many looks found bytes, and whether there is a connection.
+/// queue of a peer that stands still fills slowly. Contracts see what its writes handed to the
+/// system and what its reads gave, its failures and the looks that found bytes, one behind the
+/// other, and whether there is a connection. That these bytes are the peer's no contract can say.
 pub struct SocketChannel<'a, N: Net> {
     net: &'a N,
     path: &'a str,
@@ -35,8 +36,7 @@ pub struct SocketChannel<'a, N: Net> {
     was_full: bool,
     backoff: Backoff,
     looks: Looks,
-    failed: Count,
-    strays: Count,
+    past: History,
 }
 
 /// Drops its parts. The proof stands here, once for all crates above.
@@ -51,23 +51,21 @@ impl<'a, N: Net> Drop for SocketChannel<'a, N> {
             was_full: _,
             backoff: _,
             looks: _,
-            failed: _,
-            strays: _,
+            past: _,
         } = self;
     }
 }
 
 impl<'a, N: Net> Model for SocketChannel<'a, N> {
-    ghost use Rattle.std.specs.Prelude.{None, is_some};
+    ghost use Rattle.std.specs.Prelude.{is_some};
     ghost use Rattle.iova_sink.specs.Channels.{Talk};
+    ghost use Rattle.iova_sink.specs.Passing.{ahead_of};
 
     ghost Value = { Talk };
 
     ghost view = { λ c. record {
-      sent = None;
-      received = None;
-      failures = c.failed;
-      strays = c.strays;
+      passed = c.past;
+      ahead = ahead_of c.connection;
       connected = is_some c.connection;
     } };
 }
@@ -76,13 +74,7 @@ impl<'a, N: Net + Clock> SocketChannel<'a, N> {
     /// A channel to the socket at this path, without a connection. A read or a write that takes
     /// longer than this many seconds, at least one, fails; with a limit of 0 each connect fails.
     pub fn new(net: &'a N, path: &'a str, seconds: u64) -> SocketChannel<'a, N>
-        ensures { result ≡ record {
-          sent = None;
-          received = None;
-          failures = 0;
-          strays = 0;
-          connected = false;
-        } }
+        ensures { result ≡ record { passed = []; ahead = []; connected = false } }
     {
         SocketChannel {
             net,
@@ -93,8 +85,7 @@ impl<'a, N: Net + Clock> SocketChannel<'a, N> {
             was_full: false,
             backoff: Backoff::new(),
             looks: Looks::new(),
-            failed: Count::new(),
-            strays: Count::new(),
+            past: History::new(),
         }
     }
 
@@ -135,7 +126,7 @@ impl<'a, N: Net + Clock> SocketChannel<'a, N> {
     fn fault(&mut self) -> ChannelFault
         ensures { self.new ≡ with_failure self.old }
     {
-        self.failed.up();
+        self.past.add(Passed::Failed);
         ChannelFault
     }
 }
@@ -159,7 +150,10 @@ impl<'a, N: Net + Clock> Channel for SocketChannel<'a, N> {
             return Err(self.fault_of(error));
         }
         match bytes_taken(written, bytes.len()) {
-            Some(n) => Ok(n),
+            Some(n) => {
+                self.past.add_sent(&bytes[..n]);
+                Ok(n)
+            }
             None => Err(self.fault()),
         }
     }
@@ -171,7 +165,8 @@ impl<'a, N: Net + Clock> Channel for SocketChannel<'a, N> {
         let Some(connection) = &mut self.connection else {
             return Err(self.fault());
         };
-        match connection.receive(self.net, &mut self.looks, self.limit, buffer) {
+        let (looks, past) = (&mut self.looks, &mut self.past);
+        match connection.receive(self.net, looks, self.limit, buffer, past) {
             Ok(n) => {
                 if n > 0 {
                     self.backoff.reset();
@@ -190,7 +185,7 @@ impl<'a, N: Net + Clock> Channel for SocketChannel<'a, N> {
         };
         match stands_in(connection) {
             Ok(Standing::Bytes) => {
-                self.strays.up();
+                self.past.add(Passed::Strayed);
                 Ok(Standing::Bytes)
             }
             Ok(standing) => Ok(standing),
@@ -206,6 +201,7 @@ impl<'a, N: Net + Clock> Channel for SocketChannel<'a, N> {
         }
         match connected(self.net, self.path, self.limit) {
             Ok(stream) => {
+                self.past.add(Passed::Connected);
                 self.connection = Some(Connection::new(stream));
                 self.was_full = false;
                 Ok(())
@@ -257,7 +253,9 @@ fn connected<N: Net>(net: &N, path: &str, limit: Duration) -> io::Result<UnixStr
 }
 
 /// What stands in the connection, or was read of it ahead.
-fn stands_in(connection: &Connection) -> io::Result<Standing> {
+fn stands_in(connection: &Connection) -> io::Result<Standing>
+    ensures { IfOk result (λ s. s ≡ Standing.Nothing → connection.now ≡ []) }
+{
     if connection.is_ahead() {
         return Ok(Standing::Bytes);
     }

@@ -1,11 +1,11 @@
-use Rattle.std.proofs.Common.{◌-◌, ◌≡◌, ◌≤◌, length}
-use Rattle.iova_sink.specs.Channels.{with_received}
+use Rattle.std.proofs.Common.{◌-◌, ◌≤◌, length}
+use Rattle.iova_sink.specs.Channels.{HandsOn}
 use Rattle.iova_sink.proofs.Talks.{HasNone}
 use Rattle.iova_sink.proofs.asking.receive_line.Given as goal
 
 abbrev pub invariant-loop-byte : goal.invariant-loop-byte
 invariant-loop-byte g l = record {
-  received : g.C.Channel.talk l.channel ≡ with_received (g.C.Channel.talk l.initial.channel) l.got.items;
+  received : HandsOn (g.C.Channel.talk l.initial.channel) (g.C.Channel.talk l.channel) l.got.items;
   none : HasNone l.got.items;
   short : length l.got.items ≤ l.limit;
 }
