@@ -133,12 +133,9 @@ fn from_tree(tree: &mut Tree, size: u64, limit: u64, here: Point) -> Walked
         tree.old tree.new result }
     ensures space { IsSpace tree.old → IsSpace tree.new }
 {
-    let Some(lo) = tree.highest(size, limit) else {
-        return Walked::Nowhere;
-    };
-    let range = Range::new(lo, size);
-    match tree.insert(range) {
-        Ok(()) => Walked::Placed(range),
+    match tree.take(size, limit) {
+        Ok(Some(range)) => Walked::Placed(range),
+        Ok(None) => Walked::Nowhere,
         Err(_) => Walked::OutOfMemory(here),
     }
 }

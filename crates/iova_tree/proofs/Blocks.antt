@@ -8,13 +8,13 @@ use Rattle.std.proofs.lemmas.Bool.Decides.{nat_tests}
 use Rattle.std.proofs.lemmas.List.{length-take-le, get_or_default, append-nil, drop_all}
 use Rattle.std.proofs.lemmas.List.Edits.{insert_end}
 use Rattle.iova_tree.specs.Room.{room}
-use Rattle.iova_tree.specs.Spans.{Span, end_after, first_lo, room_between, room_below, with_span, without_span, range_of_span, has_frame, is_taken_between, all_of, inserted_of, IsRisingFrom, Holds, StandsHere}
+use Rattle.iova_tree.specs.Spans.{Span, end_after, first_lo, room_between, room_after, room_below, with_span, without_span, range_of_span, has_frame, is_taken_between, all_of, inserted_of, IsRisingFrom, Holds, StandsHere}
 use Rattle.iova_range.specs.Frames.{Frames, covers, meets}
 use Rattle.iova_model.specs.Fit.{is_covered}
 use Rattle.std.specs.List.{list_any}
 use Rattle.iova_tree.specs.declared.search.Wanted.{Wanted}
 use Rattle.iova_tree.specs.Fit.{higher, place, place_behind, highest_between}
-use Rattle.iova_tree.proofs.Rooms.{room-short, room_mono}
+use Rattle.iova_tree.proofs.Rooms.{room-short, room_mono, room-below}
 use Rattle.iova_tree.proofs.Spans.{end_after-middle, room_between-middle, with_span-before, with_span-behind, rising-front, rising-after, rising-without, with_span-front, with_span-later, rising_with, holds_above, rising-back}
 use Rattle.iova_tree.proofs.Fits.{highest_between-last}
 
@@ -87,6 +87,11 @@ some_end e [] k x r lt is = absurd (omega arith)
 some_end e (y ∷ l) zero x r lt is = rw is (omega (arith, r.1))
 some_end e (y ∷ l) (suc k) x r lt is = some_end y.end l k x r.2 (omega arith) is
 
+own_at : (e : ℕ) (l : List Span) (k : ℕ) (x : Span) → IsRisingFrom e l → k < length l → x ≡ slice_index_or l k x → x.lo < x.end
+own_at e [] k x r lt is = absurd (omega arith)
+own_at e (y ∷ l) zero x r lt is = rw is r.1
+own_at e (y ∷ l) (suc k) x r lt is = own_at y.end l k x r.2 (omega arith) is
+
 -- the ranges at neighbouring places
 pub apart_at : (e : ℕ) (l : List Span) (at : ℕ) (x y : Span) → IsRisingFrom e l → 1 ≤ at → at < length l → x ≡ slice_index_or l at x → y ≡ slice_index_or l (at - 1) y → y.end ≤ x.lo
 apart_at e [] at x y r some lt p q = absurd (omega arith)
@@ -125,17 +130,43 @@ room-first x (k ∷ r) p = refl
 pub room-last : (f : List Span) (x : Span) → 0 < length f → room_between (f ++ x ∷ []) ≡ max (room_between f) (room (end_after 0 f) x.lo)
 room-last f x p = let j = room-joined f (x ∷ []) p (omega arith) in rw j (omega arith)
 
--- where the gap around it is smaller than the most room, it changes nothing
-pub room-inside : (f : List Span) (x : Span) (g : List Span) → 0 < length f → 0 < length g → end_after 0 f ≤ x.lo → x.end ≤ first_lo g → x.lo ≤ x.end → first_lo g - end_after 0 f < room_between (f ++ g)
+-- once it has come in, no gap has more room than before
+pub room-inside_most : (f : List Span) (x : Span) (g : List Span) → 0 < length f → 0 < length g → end_after 0 f ≤ x.lo → x.end ≤ first_lo g → x.lo ≤ x.end → room_between (f ++ x ∷ g) ≤ room_between (f ++ g)
+room-inside_most f x g p q low high own =
+    let j = room-joined f g p q in
+    let k = room-joined f (x ∷ g) p (omega arith) in
+    let h = room-first x g q in
+    let a = room_mono (end_after 0 f) (first_lo g) (end_after 0 f) x.lo (omega arith) (omega arith) in
+    let b = room_mono (end_after 0 f) (first_lo g) x.end (first_lo g) (omega arith) (omega arith) in
+    omega arith
+
+-- where the gap around it has less than the most room, it changes nothing
+pub room-inside : (f : List Span) (x : Span) (g : List Span) → 0 < length f → 0 < length g → end_after 0 f ≤ x.lo → x.end ≤ first_lo g → x.lo ≤ x.end → room (end_after 0 f) (first_lo g) < room_between (f ++ g)
     → room_between (f ++ x ∷ g) ≡ room_between (f ++ g)
 room-inside f x g p q low high own gap =
     let j = room-joined f g p q in
     let k = room-joined f (x ∷ g) p (omega arith) in
     let h = room-first x g q in
-    let short = room-short (end_after 0 f) (first_lo g) in
     let a = room_mono (end_after 0 f) (first_lo g) (end_after 0 f) x.lo (omega arith) (omega arith) in
     let b = room_mono (end_after 0 f) (first_lo g) x.end (first_lo g) (omega arith) (omega arith) in
     omega arith
+
+-- a part has no more room than the whole
+pub room-front : (f g : List Span) → room_between f ≤ room_between (f ++ g)
+room-front [] g = omega arith
+room-front (x ∷ f) [] = rw (append-nil f) (omega arith)
+room-front (x ∷ f) (k ∷ r) = let j = room-joined (x ∷ f) (k ∷ r) (omega arith) (omega arith) in omega arith
+
+pub room-back : (f g : List Span) → room_between g ≤ room_between (f ++ g)
+room-back [] g = omega arith
+room-back (x ∷ f) [] = omega arith
+room-back (x ∷ f) (k ∷ r) = let j = room-joined (x ∷ f) (k ∷ r) (omega arith) (omega arith) in omega arith
+
+pub room-take : (at : ℕ) (l : List Span) → room_between (take at l) ≤ room_between l
+room-take at l = rw (take-append-drop at l) at (room-front (take at l) (drop at l))
+
+pub room-drop : (at : ℕ) (l : List Span) → room_between (drop at l) ≤ room_between l
+room-drop at l = rw (take-append-drop at l) at (room-back (take at l) (drop at l))
 
 -- once it is gone there is one gap in place of two
 pub room-outside : (f : List Span) (x : Span) (g : List Span) → 0 < length f → 0 < length g → end_after 0 f ≤ x.lo → x.end ≤ first_lo g → x.lo ≤ x.end
@@ -226,17 +257,51 @@ inserted_last l at x y some is own =
     let e = end_after-last 0 l y (omega arith) (rw is at own) in
     rw (is, insert_end l x, room-last l x (omega arith), e) refl
 
-pub inserted_inside : (l : List Span) (at : ℕ) (x y z : Span) → 1 ≤ at → at < length l → y ≡ slice_index_or l (at - 1) y → z ≡ slice_index_or l at z → IsRisingFrom 0 (insert l at x)
-    → z.lo - y.end < room_between l → room_between (insert l at x) ≡ room_between l
-inserted_inside l at x y z some lt own next free gap =
+pub inserted_low : (l : List Span) (at : ℕ) (x z : Span) → at ≡ 0 → 0 < length l → z ≡ slice_index_or l 0 z → IsRisingFrom 0 (insert l at x) → x.end ≤ z.lo
+inserted_low [] at x z none some is free = absurd (omega arith)
+inserted_low (y ∷ l) zero x z none some is free = rw is free.2.0
+inserted_low (y ∷ l) (suc at) x z none some is free = absurd (omega arith)
+
+pub inserted_high : (l : List Span) (at : ℕ) (x y : Span) → 1 ≤ at → at ≤ length l → y ≡ slice_index_or l (at - 1) y → IsRisingFrom 0 (insert l at x) → y.end ≤ x.lo
+inserted_high l at x y some le own free = rw (end_after-front l at y some le own) at (rising-back 0 (take at l) (x ∷ drop at l) free).0
+
+-- the range at `at`, the one before it, and one that comes in between
+record IsBetween (l : List Span) (at : ℕ) (x y z : Span) : Type 0 where
+  pub front : 0 < length (take at l)
+  pub back : 0 < length (drop at l)
+  pub low : end_after 0 (take at l) ≤ x.lo
+  pub high : x.end ≤ first_lo (drop at l)
+  pub own : x.lo ≤ x.end
+  pub from : end_after 0 (take at l) ≡ y.end
+  pub until : first_lo (drop at l) ≡ z.lo
+
+is_between : (l : List Span) (at : ℕ) (x y z : Span) → 1 ≤ at → at < length l → y ≡ slice_index_or l (at - 1) y → z ≡ slice_index_or l at z → IsRisingFrom 0 (insert l at x) → IsBetween l at x y z
+is_between l at x y z some lt own next free =
     let n : length (take at l) ≡ at = length-take-le at l (omega arith) in
     let m = length-drop at l in
-    let e = end_after-front l at y some (omega arith) own in
-    let f = first_lo-drop at l z lt next in
     let b = rising-back 0 (take at l) (x ∷ drop at l) free in
-    let h = rising_front (drop at l) x.end (omega arith) b.2 in
+    record {
+      front = omega arith;
+      back = omega arith;
+      low = b.0;
+      high = rising_front (drop at l) x.end (omega arith) b.2;
+      own = omega (arith, b.1);
+      from = end_after-front l at y some (omega arith) own;
+      until = first_lo-drop at l z lt next;
+    }
+
+pub inserted_most : (l : List Span) (at : ℕ) (x y z : Span) → 1 ≤ at → at < length l → y ≡ slice_index_or l (at - 1) y → z ≡ slice_index_or l at z → IsRisingFrom 0 (insert l at x)
+    → room_between (insert l at x) ≤ room_between l
+inserted_most l at x y z some lt own next free =
+    let i = is_between l at x y z some lt own next free in
+    rw (take-append-drop at l) at (room-inside_most (take at l) x (drop at l) i.front i.back i.low i.high i.own)
+
+pub inserted_inside : (l : List Span) (at : ℕ) (x y z : Span) → 1 ≤ at → at < length l → y ≡ slice_index_or l (at - 1) y → z ≡ slice_index_or l at z → IsRisingFrom 0 (insert l at x)
+    → room y.end z.lo < room_between l → room_between (insert l at x) ≡ room_between l
+inserted_inside l at x y z some lt own next free gap =
+    let i = is_between l at x y z some lt own next free in
     let whole : take at l ++ drop at l ≡ l = take-append-drop at l in
-    room-inside (take at l) x (drop at l) (omega arith) (omega arith) b.0 h (omega (arith, b.1)) (rw (e, f, whole) gap) ∙ ap room_between whole
+    room-inside (take at l) x (drop at l) i.front i.back i.low i.high i.own (rw (i.from, i.until, whole) gap) ∙ ap room_between whole
 
 -- The most room once the range at a place is gone.
 
@@ -275,6 +340,31 @@ removed_inside l at y z some lt own next rising =
     let b = rising-back 0 (take at l) (x ∷ drop (suc at) l) (rw whole at rising) in
     let h = rising_front (drop (suc at) l) x.end (omega arith) b.2 in
     room-outside (take at l) x (drop (suc at) l) (omega arith) (omega arith) b.0 h (omega (arith, b.1)) ∙ rw (← whole, e, f) refl
+
+-- those beside the one at `at`
+pub around_apart : (l : List Span) (at : ℕ) (y z : Span) → IsRisingFrom 0 l → 1 ≤ at → at + 1 < length l → y ≡ slice_index_or l (at - 1) y → z ≡ slice_index_or l (at + 1) z → y.end ≤ z.lo
+around_apart l at y z rising some lt own next =
+    let x = slice_index_or l at y in
+    let is : x ≡ slice_index_or l at x = get_or_default l at y x (omega arith) in
+    let i : at + 1 - 1 ≡ at = omega arith in
+    let low = apart_at 0 l at x y rising some (omega arith) is own in
+    let high = apart_at 0 l (at + 1) z x rising (omega arith) lt next (rw i is) in
+    let own = own_at 0 l at x rising (omega arith) is in
+    omega arith
+
+pub removed_back : (l : List Span) (at : ℕ) → at + 1 ≡ length l → room_between (remove l at) ≤ room_between l
+removed_back l at last =
+    let none : drop (suc at) l ≡ [] = drop_all (suc at) l (omega arith) in
+    rw (none, append-nil (take at l)) (room-take at l)
+
+-- no room is above the greatest size of a request
+room_after-bounded : (e : ℕ) (l : List Span) → room_after e l ≤ 1048576
+room_after-bounded e [] = omega arith
+room_after-bounded e (x ∷ l) = omega (arith, room-below e x.lo, room_after-bounded x.end l)
+
+pub room_between-bounded : (l : List Span) → room_between l ≤ 1048576
+room_between-bounded [] = omega arith
+room_between-bounded (x ∷ l) = room_after-bounded x.end l
 
 -- What is covered, and what is taken.
 

@@ -8,6 +8,7 @@ mod Blocks
 mod Placed
 mod Taken
 mod Fits
+mod Found
 mod Apart
 mod Allocated
 mod Absorbing
@@ -16,4 +17,5 @@ mod Windows
 mod Spaces
 mod Taking
 mod Kept
+mod Takes
 mod Joined

@@ -98,7 +98,7 @@ pub room-fits : (from until : ℕ) → 1 ≤ room from until → FitsBetween fro
 unfolding room
 room-fits from until some = room_for-fits 1048577 from until some
 
-room-below : (from until : ℕ) → room from until < 1048577
+pub room-below : (from until : ℕ) → room from until < 1048577
 unfolding room
 room-below from until = room_for-below 1048577 from until (omega arith)
 

@@ -55,17 +55,35 @@ rising-end e (x ∷ l) s = let i = rising-end x.end l s.2 in omega arith
 pub with_span-later : (x y : Span) (t : List Span) → y.lo ≤ x.lo → with_span x (y ∷ t) ≡ y ∷ with_span x t
 with_span-later x y t p = rw (le-ltb x.lo y.lo p)
 
-pub room_below-same : (lo : ℕ) (l m : List Span) → IsRisingFrom 0 l → IsRisingFrom 0 m → room_between l ≡ room_between m → end_after 0 l ≡ end_after 0 m → room_below lo l ≡ room_below lo m
-room_below-same lo [] [] r s p q = refl
-room_below-same lo (x ∷ l) [] r s p q = let i = rising-end x.end l r.2 in absurd (omega arith)
-room_below-same lo [] (x ∷ m) r s p q = let i = rising-end x.end m s.2 in absurd (omega arith)
-room_below-same lo (x ∷ l) (y ∷ m) r s p q = rw (p, q) refl
+-- the room of a side, and of the gap between it and what is beside it
 
-pub room_after-same : (e : ℕ) (l m : List Span) → 0 < e → IsRisingFrom e l → IsRisingFrom e m → room_between l ≡ room_between m → first_or 0 l ≡ first_or 0 m → room_after e l ≡ room_after e m
-room_after-same e [] [] z r s p q = refl
-room_after-same e (x ∷ l) [] z r s p q = absurd (omega arith)
-room_after-same e [] (x ∷ m) z r s p q = absurd (omega arith)
-room_after-same e (x ∷ l) (y ∷ m) z r s p q = rw (p, q) refl
+abbrev pub edge_below : ℕ → List Span → ℕ
+edge_below lo [] = 0
+edge_below lo (x ∷ l) = room (end_after x.end l) lo
+
+pub room_below-edge : (lo : ℕ) (l : List Span) → room_below lo l ≡ max (room_between l) (edge_below lo l)
+room_below-edge lo [] = omega arith
+room_below-edge lo (x ∷ l) = refl
+
+pub edge_below-same : (lo : ℕ) (l m : List Span) → IsRisingFrom 0 l → IsRisingFrom 0 m → end_after 0 l ≡ end_after 0 m → edge_below lo l ≡ edge_below lo m
+edge_below-same lo [] [] r s q = refl
+edge_below-same lo (x ∷ l) [] r s q = let i = rising-end x.end l r.2 in absurd (omega arith)
+edge_below-same lo [] (x ∷ m) r s q = let i = rising-end x.end m s.2 in absurd (omega arith)
+edge_below-same lo (x ∷ l) (y ∷ m) r s q = rw q refl
+
+abbrev pub edge_after : ℕ → List Span → ℕ
+edge_after e [] = 0
+edge_after e (x ∷ l) = room e x.lo
+
+pub room_after-edge : (e : ℕ) (l : List Span) → room_after e l ≡ max (room_between l) (edge_after e l)
+room_after-edge e [] = omega arith
+room_after-edge e (x ∷ l) = omega arith
+
+pub edge_after-same : (e : ℕ) (l m : List Span) → 0 < e → IsRisingFrom e l → IsRisingFrom e m → first_or 0 l ≡ first_or 0 m → edge_after e l ≡ edge_after e m
+edge_after-same e [] [] z r s q = refl
+edge_after-same e (x ∷ l) [] z r s q = absurd (omega arith)
+edge_after-same e [] (x ∷ m) z r s q = absurd (omega arith)
+edge_after-same e (x ∷ l) (y ∷ m) z r s q = rw q refl
 
 without_cases : (e : ℕ) (b : Bool) (x y : Span) (t u : List Span) → (IsRisingFrom y.end u → IsRisingFrom y.end t) → IsRisingFrom e (cond b (x ∷ y ∷ t) (y ∷ u)) → IsRisingFrom e (y ∷ t)
 without_cases e true x y t u i s = rising-weaken e x.end (y ∷ t) (omega (arith, s.0, s.1)) s.2
@@ -271,10 +289,3 @@ replaced-with e d x y (z ∷ t) r s low high = split (ltb x.lo z.lo) refl r (λ 
         let w = rising_with z.end x t r.2 in
         rw (test_other z.lo x.lo (omega (arith, r.1, w.0)))
         (later le r.2 (ltb y.lo z.lo) refl s (λ q. i r.2 q))
-
-pub not_false : (c : Bool) → not c ≡ false → c ≡ true
-not_false true e = refl
-not_false false e = sym e
-
-pub some_same : {c d : Bool} → Some c ≡ Some d → c ≡ d
-some_same {c} {d} e = cc

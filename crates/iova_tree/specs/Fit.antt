@@ -1,15 +1,19 @@
 -- The highest place that a request finds between ranges.
-use Rattle.std.specs.Prelude.{◌≡◌, ℕ, ◌-◌, ◌*◌, ◌/◌, ◌≤◌, min, List, [], ◌∷◌, nat_lt, Option, Some, None, if◌then◌else◌}
+use Rattle.std.specs.Prelude.{◌≡◌, ℕ, ◌+◌, ◌-◌, ◌*◌, ◌/◌, ◌^◌, ◌<◌, ◌≤◌, min, List, [], ◌∷◌, nat_lt, false, Option, Some, None, if◌then◌else◌}
 use Rattle.iova_range.specs.declared.limits.TheConstants.{MAX_FRAMES}
 use Rattle.iova_range.specs.Sizes.{align_of}
 use Rattle.iova_tree.specs.Spans.{Span, end_after}
 use Rattle.iova_tree.specs.declared.search.Wanted.{Wanted}
+use Rattle.iova_tree.specs.declared.search.Found.{Found}
+use Rattle.iova_tree.specs.declared.search.Found.TheVariants.{Nowhere, At, Taken}
 
--- a request of some frames, at most those that `room` speaks of, with the alignment of its size
+-- a request of some frames, at most those that `room` speaks of, with the alignment of its size, and
+-- a cap that a range may end at
 pub record IsWanted (w : Wanted) : Type 0 where
   pub some : 1 ≤ w.size
   pub bounded : w.size ≤ MAX_FRAMES
   pub align : w.align ≡ align_of w.size
+  pub small : w.cap < 2 ^ 63
 
 -- the first that is there
 abbrev pub higher : Option ℕ → Option ℕ → Option ℕ
@@ -46,3 +50,14 @@ place_behind w (x ∷ t) lo = place (end_after x.end t) (min lo w.cap) w
 -- the highest place at or above start that no range meets
 abbrev pub highest_free : Wanted → ℕ → List Span → Option ℕ
 highest_free w start l = higher (place (end_after start l) w.cap w) (highest_after w start l)
+
+-- the range of the request that begins there
+abbrev pub taken : Wanted → ℕ → Span
+taken w lo = record { lo = lo; end = lo + w.size; window = false }
+
+-- what a search comes to that takes what it finds where there is room: nothing fits, or this is the
+-- highest place, which was taken or wasn't
+abbrev pub IsFound : Option ℕ → Type 0 → (ℕ → Type 0) → Found → Type 0
+IsFound highest is_same is_taken Nowhere = (highest ≡ None) × is_same
+IsFound highest is_same is_taken (At lo) = (highest ≡ Some lo) × is_same
+IsFound highest is_same is_taken (Taken lo) = (highest ≡ Some lo) × is_taken lo

@@ -23,11 +23,6 @@ abbrev pub link_height : Link → ℕ
 link_height (Empty height room) = height
 link_height (Rooted height room first end root) = height
 
--- the most room between two neighbours below a link, as it tells
-abbrev pub link_room : Link → ℕ
-link_room (Empty height room) = room
-link_room (Rooted height room first end root) = room
-
 -- neither height is more than this above the other
 abbrev pub DifferByAtMost : ℕ → ℕ → ℕ → Type 0
 DifferByAtMost by l r = (l ≤ r + by) × (r ≤ l + by)
@@ -80,10 +75,6 @@ pub record Rebalances (n m : Node) : Type 0 where
   pub spans : node_spans m ≡ node_spans n
   pub height : IsHeightAfterRebalance n.left.1 n.right.1 (node_height m)
 
--- a subtree with other ranges has the same height, and as much room in its gaps
-abbrev pub HasSameHeightAndRoom : List Span × ℕ → List Span × ℕ → Type 0
-HasSameHeightAndRoom old new = (new.1 ≡ old.1) × (room_between new.0 ≡ room_between old.0)
-
 -- a node without sides
 abbrev pub IsSingle : Node → Type 0
 IsSingle n = (n.left ≡ ([], 0)) × (n.right ≡ ([], 0))
@@ -101,11 +92,17 @@ pub record Grows (spans : List Span) (n m : Node) : Type 0 where
   pub at_most_one_higher : node_height m ≤ node_height n + 1
   pub settles : (h : ℕ) → IsHeightAfterRebalance m.left.1 m.right.1 h → node_height n ≤ h
 
--- the node m has the height and the room of n, and is balanced
-pub record HasSameSummary (n m : Node) : Type 0 where
+-- the node m has the height of n and so much room, and is balanced
+pub record KeepsHeight (n m : Node) (most : ℕ) : Type 0 where
   pub height : node_height m ≡ node_height n
-  pub room : room_between (node_spans m) ≡ room_between (node_spans n)
+  pub room : most ≡ room_between (node_spans m)
   pub balanced : IsBalanced 1 m
+
+-- the node m has one range more than n, and stands as high
+pub record TakesPlace (x : Span) (n m : Node) : Type 0 where
+  pub spans : node_spans m ≡ with_span x (node_spans n)
+  pub balanced : IsBalanced 1 m
+  pub height : node_height m ≡ node_height n
 
 -- the node m has the ranges of n but the first block, which `first` has, and one level less at most
 pub record TakesFirst (first n m : Node) : Type 0 where

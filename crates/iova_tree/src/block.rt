@@ -1,19 +1,24 @@
 //! Ranges that rise apart, side by side in a block: what a node of the tree holds.
-ghost use Rattle.std.specs.Prelude.{◌≡◌, ◌<◌, ◌≤◌, ◌-◌, [], ◌∷◌, ◌++◌, length, true, false, insert, remove, IfSome};
+ghost use Rattle.std.specs.Prelude.{◌≡◌, ◌<◌, ◌≤◌, ◌-◌, [], ◌∷◌, ◌++◌, length, true, false, insert, remove, IfSome, IfNone, IsSome};
+ghost use Rattle.iova_tree.specs.Room.{room, IsSettledRoom};
 ghost use Rattle.iova_tree.specs.Spans.{Span as Seen, first_lo, end_after, room_between, with_span, without_span, with_replaced, has_frame, is_taken_between, all_of, inserted_of, IsRisingFrom, Holds, StandsHere};
 ghost use Rattle.std.specs.List.{list_any};
 ghost use Rattle.iova_range.specs.Frames.{meets};
 ghost use Rattle.iova_model.specs.Fit.{is_covered};
-ghost use Rattle.iova_tree.specs.Fit.{IsWanted, highest_between};
+ghost use Rattle.iova_tree.specs.Fit.{IsWanted, IsFound, highest_between, taken};
 
-use crate::room::room_with;
-use crate::search::{Wanted, place_in};
+use crate::room::{room_above, room_of, room_with, settled};
+use crate::search::{Found, Wanted, place_between};
 use crate::span::Span;
 use arrayvec::ArrayVec;
+use iova_range::limits::MAX_FRAMES;
 use std::marker::Model;
 
 /// The most ranges of a block.
 pub const BLOCK: usize = 24;
+
+// The most room that a gap may have.
+const MOST_ROOM: u32 = MAX_FRAMES as u32;
 
 /// Ranges that rise apart, at most `BLOCK`, with the greatest size that fits aligned between two
 /// neighbours.
@@ -93,15 +98,19 @@ impl Block {
         self.room
     }
 
-    /// Whether it begins and ends there, with so much room between two neighbours.
+    /// The room of a node, where it follows from this block alone, or else None. It was `room` while
+    /// the block had `before`, and began and ended there.
     #[inline]
-    pub fn has_outline(&self, first: u64, end: u64, room: u32) -> bool
+    pub fn settled_within(&self, first: u64, end: u64, before: u32, room: u32) -> Option<u32>
         requires { 0 < length self.now }
-        ensures first { result ≡ true → first_lo self.now ≡ first }
-        ensures end { result ≡ true → end_after 0 self.now ≡ end }
-        ensures room { result ≡ true → room_between self.now ≡ room }
+        ensures first { IsSome result → first_lo self.now ≡ first }
+        ensures end { IsSome result → end_after 0 self.now ≡ end }
+        ensures room { IfSome result (IsSettledRoom before room (room_between self.now)) }
     {
-        self.room == room && self.first() == first && self.end() == end
+        if self.first() != first || self.end() != end {
+            return None;
+        }
+        settled(before, room, self.room)
     }
 
     /// The highest place between two neighbours.
@@ -116,6 +125,24 @@ impl Block {
         highest_of(self.spans.as_slice(), wanted)
     }
 
+    /// Takes the highest place between two neighbours, where the block has room for a range.
+    #[inline]
+    pub fn take_highest(&mut self, wanted: &Wanted) -> Found
+        requires wanted { IsWanted wanted.now }
+        requires rising { IsRisingFrom 0 self.old }
+        ensures { IsFound (highest_between wanted.now self.old) (self.new ≡ self.old)
+            (λ lo. self.new ≡ with_span (taken wanted.now lo) self.old) result }
+    {
+        let Some(lo) = self.highest_between(wanted) else {
+            return Found::Nowhere;
+        };
+        if self.is_full() {
+            return Found::At(lo);
+        }
+        self.insert(Span::new(lo, lo + wanted.size, false));
+        Found::Taken(lo)
+    }
+
     /// Lets a range in, whose frames are free.
     pub fn insert(&mut self, span: Span)
         requires room { length self.old < BLOCK }
@@ -128,7 +155,7 @@ impl Block {
         self.spans.insert(at, span);
         self.room = match known {
             Some(room) => room,
-            None => room_of_all(self.spans.as_slice()),
+            None => room_of_all(self.spans.as_slice(), self.room),
         };
     }
 
@@ -145,7 +172,7 @@ impl Block {
         let gone = self.spans.remove(at);
         self.room = match known {
             Some(room) => room,
-            None => room_of_all(self.spans.as_slice()),
+            None => room_of_all(self.spans.as_slice(), self.room),
         };
         gone
     }
@@ -159,7 +186,7 @@ impl Block {
         let at = place_of(self.spans.as_slice(), lo);
         let _ = self.spans.remove(at);
         self.spans.insert(at, span);
-        self.room = room_of_all(self.spans.as_slice());
+        self.room = room_of_all(self.spans.as_slice(), MOST_ROOM);
     }
 
     /// Whether one of the ranges has the frame.
@@ -214,9 +241,9 @@ impl Block {
         };
         let mut high = ArrayVec::new();
         let _ = high.try_extend_from_slice(&spans[keep..]);
-        let room = room_of_all(high.as_slice());
+        let room = room_of_all(high.as_slice(), MOST_ROOM);
         self.spans.truncate(keep);
-        self.room = room_of_all(self.spans.as_slice());
+        self.room = room_of_all(self.spans.as_slice(), MOST_ROOM);
         Block { spans: high, room }
     }
 }
@@ -241,7 +268,8 @@ fn room_with_one(spans: &[Span], at: usize, span: Span, known: u32) -> Option<u3
     requires known { known ≡ room_between spans.now }
     requires rising { IsRisingFrom 0 spans.now }
     requires free { IsRisingFrom 0 (insert spans.now at span) }
-    ensures { IfSome result (λ room. room ≡ room_between (insert spans.now at span)) }
+    ensures found { IfSome result (λ room. room ≡ room_between (insert spans.now at span)) }
+    ensures most { IfNone result (room_between (insert spans.now at span) ≤ known) }
 {
     if spans.is_empty() {
         return Some(0);
@@ -253,11 +281,21 @@ fn room_with_one(spans: &[Span], at: usize, span: Span, known: u32) -> Option<u3
     if at == spans.len() {
         return Some(room_with(known, from, span.lo()));
     }
-    if spans[at].lo() - from < known as u64 {
+    if is_below(known, from, spans[at].lo()) {
         Some(known)
     } else {
         None
     }
+}
+
+// Whether the room of the frames from `from` on and below `until` is less than `known`.
+#[inline]
+fn is_below(known: u32, from: u64, until: u64) -> bool
+    requires some { 1 ≤ from }
+    requires apart { from ≤ until }
+    ensures { result ≡ true → room from until < known }
+{
+    until - from < known as u64 || room_of(from, until) < known
 }
 
 // The most room between two neighbours once the range at this place is gone, where it is known
@@ -267,7 +305,8 @@ fn room_without(spans: &[Span], at: usize, known: u32) -> Option<u32>
     requires within { at < length spans.now }
     requires known { known ≡ room_between spans.now }
     requires rising { IsRisingFrom 0 spans.now }
-    ensures { IfSome result (λ room. room ≡ room_between (remove spans.now at)) }
+    ensures found { IfSome result (λ room. room ≡ room_between (remove spans.now at)) }
+    ensures most { IfNone result (room_between (remove spans.now at) ≤ known) }
 {
     let count = spans.len();
     if count == 1 {
@@ -295,26 +334,33 @@ fn room_without(spans: &[Span], at: usize, known: u32) -> Option<u32>
 
 // The highest place between two neighbours of these.
 fn highest_of(spans: &[Span], wanted: &Wanted) -> Option<u64>
-    requires { IsWanted wanted.now }
+    requires wanted { IsWanted wanted.now }
+    requires rising { IsRisingFrom 0 spans.now }
     ensures { result ≡ highest_between wanted.now spans.now }
 {
     for at in (1..spans.len()).rev() {
-        let until = spans[at].lo().min(wanted.cap);
-        if let Some(place) = place_in(spans[at - 1].end(), until, wanted) {
+        if let Some(place) = place_between(spans[at - 1].end(), spans[at].lo(), wanted) {
             return Some(place);
         }
     }
     None
 }
 
-// The most room between two neighbours of these.
-fn room_of_all(spans: &[Span]) -> u32
-    requires { IsRisingFrom 0 spans.now }
+// The most room between two neighbours of these, which is `most` at most: nothing is looked at
+// behind a gap that has as much.
+fn room_of_all(spans: &[Span], most: u32) -> u32
+    requires rising { IsRisingFrom 0 spans.now }
+    requires most { room_between spans.now ≤ most }
     ensures { result ≡ room_between spans.now }
 {
     let mut room = 0;
     for at in 1..spans.len() {
-        room = room_with(room, spans[at - 1].end(), spans[at].lo());
+        if let Some(more) = room_above(room, spans[at - 1].end(), spans[at].lo()) {
+            if more == most {
+                return more;
+            }
+            room = more;
+        }
     }
     room
 }

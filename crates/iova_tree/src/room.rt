@@ -1,6 +1,6 @@
 //! The greatest size that fits aligned into a gap.
-ghost use Rattle.std.specs.Prelude.{◌≡◌, ◌+◌, ◌^◌, ◌≤◌, ◌<◌, max, ℕ};
-ghost use Rattle.iova_tree.specs.Room.{room, FitsBetween};
+ghost use Rattle.std.specs.Prelude.{◌≡◌, ◌+◌, ◌^◌, ◌≤◌, ◌<◌, max, ℕ, IfSome, IfNone};
+ghost use Rattle.iova_tree.specs.Room.{room, FitsBetween, IsSettledRoom};
 
 use iova_range::limits::MAX_FRAMES;
 
@@ -32,17 +32,47 @@ pub fn room_of(from: u64, until: u64) -> u32
     best.min(MAX_FRAMES) as u32
 }
 
-/// The greater of `known` and of the room of the frames from `from` on and below `until`. Where
-/// these frames are not more than `known`, their room isn't computed.
+/// The room of the frames from `from` on and below `until`, where it is above `known`. Where these
+/// frames are not more than `known`, it isn't computed.
+#[inline]
+pub fn room_above(known: u32, from: u64, until: u64) -> Option<u32>
+    requires some { 1 ≤ from }
+    requires apart { from ≤ until }
+    ensures above { IfSome result (λ more. (more ≡ room from until) × (known < more)) }
+    ensures most { IfNone result (room from until ≤ known) }
+{
+    if until - from <= known as u64 {
+        return None;
+    }
+    let room = room_of(from, until);
+    if room > known { Some(room) } else { None }
+}
+
+/// The greater of `known` and of the room of the frames from `from` on and below `until`.
 #[inline]
 pub fn room_with(known: u32, from: u64, until: u64) -> u32
-    requires { 1 ≤ from }
+    requires some { 1 ≤ from }
+    requires apart { from ≤ until }
     ensures { result ≡ max known (room from until) }
 {
-    if until.saturating_sub(from) <= known as u64 {
-        known
+    match room_above(known, from, until) {
+        Some(more) => more,
+        None => known,
+    }
+}
+
+/// What the room of the whole comes to, where a part had `before` of it and has `after`: None where
+/// that hangs on the other parts.
+#[inline]
+pub fn settled(before: u32, room: u32, after: u32) -> Option<u32>
+    ensures { IfSome result (IsSettledRoom before room after) }
+{
+    if after >= room {
+        Some(after)
+    } else if before < room {
+        Some(room)
     } else {
-        known.max(room_of(from, until))
+        None
     }
 }
 

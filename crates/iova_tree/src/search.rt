@@ -1,7 +1,7 @@
 //! The highest place in a gap.
-ghost use Rattle.std.specs.Prelude.{◌≡◌};
+ghost use Rattle.std.specs.Prelude.{◌≡◌, ◌≤◌, min};
 ghost use Rattle.std.specs.Int.{IsPowerOfTwo};
-ghost use Rattle.iova_tree.specs.Fit.{place};
+ghost use Rattle.iova_tree.specs.Fit.{place, IsWanted};
 
 /// What is sought: so many frames, at a multiple of `align`, a power of two, that end by `cap`.
 #[derive(Clone, Copy, Drop)]
@@ -9,6 +9,18 @@ pub struct Wanted {
     pub size: u64,
     pub align: u64,
     pub cap: u64,
+}
+
+/// What a search comes to that takes the place it finds, where there is room for the range.
+#[derive(Clone, Copy)]
+pub enum Found {
+    /// Nothing fits.
+    Nowhere,
+    /// This is the highest place. There is no room for one range more in its block, and nothing has
+    /// changed.
+    At(u64),
+    /// This is the highest place, and it has been taken.
+    Taken(u64),
 }
 
 /// The greatest multiple of the alignment from which the frames lie from `from` on and below
@@ -24,4 +36,18 @@ pub fn place_in(from: u64, until: u64, wanted: &Wanted) -> Option<u64>
     let last = until - wanted.size;
     let lo = last - (last & (wanted.align - 1));
     if lo < from { None } else { Some(lo) }
+}
+
+/// The same from `from` on and below `until` and the cap. Of a gap that is too short nothing more is
+/// asked.
+#[inline]
+pub fn place_between(from: u64, until: u64, wanted: &Wanted) -> Option<u64>
+    requires apart { from ≤ until }
+    requires wanted { IsWanted wanted.now }
+    ensures { result ≡ place from (min until wanted.now.cap) wanted.now }
+{
+    if until - from < wanted.size {
+        return None;
+    }
+    place_in(from, until.min(wanted.cap), wanted)
 }

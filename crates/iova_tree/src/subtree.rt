@@ -2,18 +2,19 @@
 //! they begin and end, how high their nodes stand, and the greatest size that fits aligned into a
 //! gap between two neighbours: so a search enters no part of the tree in which nothing fits.
 ghost use Rattle.std.specs.Prelude.{◌≡◌, ◌+◌, ◌^◌, ◌<◌, ◌≤◌, max, [], ◌∷◌, ◌++◌, ◌-◌};
-ghost use Rattle.std.specs.Prelude.{true, false, length, IfOk, OnOk, OnErr, IfSome, IfNone, Some, None, IsSome};
+ghost use Rattle.std.specs.Prelude.{true, false, length, IfOk, OnOk, OnErr, IfSome, IfNone, Some, None, IsSome, ℕ};
 ghost use Rattle.std.specs.Int.{IsPowerOfTwo};
 ghost use Rattle.std.specs.List.{list_any};
 ghost use Rattle.iova_range.specs.Frames.{meets};
 ghost use Rattle.iova_model.specs.Fit.{is_covered};
 ghost use Rattle.iova_tree.specs.Spans.{all_of, inserted_of, first_lo, first_or, end_after, room_after, room_below, room_between, with_span, with_replaced, IsRisingFrom, Holds, IsBefore, IsLow};
-ghost use Rattle.iova_tree.specs.Fit.{IsWanted, place_before, place_behind, highest_between, highest_free};
-ghost use Rattle.iova_tree.specs.Node.{node_height, node_spans, link_spans, link_height, link_room, IsSubtree, IsUnsettled, IsSettledHeight, IsSingle, IsBalanced, Rebalances, IsRootOf, Grows, HasSameSummary, TakesFirst, TakesBelow, Replaces, DifferByAtMost, HasSameHeightAndRoom, IsHeightOfBoth};
+ghost use Rattle.iova_tree.specs.Fit.{IsWanted, IsFound, taken, place_before, place_behind, highest_between, highest_free};
+ghost use Rattle.iova_tree.specs.Room.{IsSettledRoom};
+ghost use Rattle.iova_tree.specs.Node.{node_height, node_spans, link_spans, link_height, IsSubtree, IsUnsettled, IsSettledHeight, IsSingle, IsBalanced, Rebalances, IsRootOf, Grows, KeepsHeight, TakesPlace, TakesFirst, TakesBelow, Replaces, DifferByAtMost, IsHeightOfBoth};
 
 use crate::block::{BLOCK, Block};
-use crate::room::room_with;
-use crate::search::{Wanted, place_in};
+use crate::room::{room_with, settled};
+use crate::search::{Found, Wanted, place_in};
 use crate::span::Span;
 use std::alloc::{AllocError, Global};
 use std::marker::Model;
@@ -144,6 +145,7 @@ impl Subtree {
     #[inline]
     fn room_after(&self, end: u64, known: u32) -> u32
         requires some { 1 ≤ end }
+        requires rising { IsRisingFrom end self.now.0 }
         requires between { room_between self.now.0 ≤ known }
         ensures { result ≡ max known (room_after end self.now.0) }
     {
@@ -157,7 +159,8 @@ impl Subtree {
     // room between the highest range and `lo`.
     #[inline]
     fn room_below(&self, lo: u64, known: u32) -> u32
-        requires { room_between self.now.0 ≤ known }
+        requires apart { end_after 0 self.now.0 ≤ lo }
+        requires between { room_between self.now.0 ≤ known }
         ensures { result ≡ max known (room_below lo self.now.0) }
     {
         match &self.link {
@@ -166,20 +169,47 @@ impl Subtree {
         }
     }
 
-    // Lets a range in; says whether room or height have changed. None where the range wants a node
-    // and there is no spare one: then nothing has changed.
+    // The room of a node, where it follows from this lower side alone, or else None. It was `room`
+    // while this side had `before`, stood this high and ended there.
+    #[inline]
+    fn settled_below(&self, height: u8, end: u64, before: u32, room: u32) -> Option<u32>
+        ensures height { IsSome result → self.now.1 ≡ height }
+        ensures end { IsSome result → end_after 0 self.now.0 ≡ end }
+        ensures room { IfSome result (IsSettledRoom before room (room_between self.now.0)) }
+    {
+        if self.height() != height || self.end_or(0) != end {
+            return None;
+        }
+        settled(before, room, self.room())
+    }
+
+    // The same of an upper side, which began there.
+    #[inline]
+    fn settled_above(&self, height: u8, first: u64, before: u32, room: u32) -> Option<u32>
+        ensures height { IsSome result → self.now.1 ≡ height }
+        ensures first { IsSome result → first_or 0 self.now.0 ≡ first }
+        ensures room { IfSome result (IsSettledRoom before room (room_between self.now.0)) }
+    {
+        if self.height() != height || self.first_or(0) != first {
+            return None;
+        }
+        settled(before, room, self.room())
+    }
+
+    // Lets a range in. It doesn't where the range wants a node and there is no spare one: then
+    // nothing has changed.
     #[cycle(put)]
-    fn put(&mut self, span: Span, spare: Option<Box<Node>>) -> Option<bool>
+    fn put(&mut self, span: Span, spare: Option<Box<Node>>) -> bool
         requires single { IfSome spare (λ node. IsSingle node.value) }
         requires free { IsRisingFrom 0 (with_span span self.old.0) }
         requires height_fits { self.old.1 < 2 ^ 7 }
-        ensures needs { IfNone result ((spare ≡ None) × (self.new ≡ self.old)) }
-        ensures spans { IfSome result (λ changed. self.new.0 ≡ with_span span self.old.0) }
+        ensures needs { result ≡ false → (spare ≡ None) × (self.new ≡ self.old) }
+        ensures spans { result ≡ true → self.new.0 ≡ with_span span self.old.0 }
         ensures not_lower { self.old.1 ≤ self.new.1 }
         ensures at_most_one_higher { self.new.1 ≤ self.old.1 + 1 }
-        ensures same { result ≡ Some false → HasSameHeightAndRoom self.old self.new }
     {
         let Link::Rooted {
+            room,
             first,
             end,
             root,
@@ -187,23 +217,25 @@ impl Subtree {
         } = &mut self.link
         else {
             let Some(mut node) = spare else {
-                return None;
+                return false;
             };
             node.block = Block::single(span);
             *self = Subtree::of(node);
-            return Some(true);
+            return true;
         };
-        let Some(deep) = put_below(root, span, spare) else {
-            return None;
+        let Some(known) = put_below(root, span, spare, *room) else {
+            return false;
         };
-        if deep {
-            return Some(renew(&mut self.link));
-        }
+        let Some(now) = known else {
+            renew(&mut self.link);
+            return true;
+        };
         // for the proof: the node is low
         let _height = root.height();
+        *room = now;
         *first = root.first();
         *end = root.last_end();
-        Some(false)
+        true
     }
 
     // Adds a node below all others.
@@ -222,7 +254,7 @@ impl Subtree {
             return;
         };
         place_first_below(root, fresh);
-        let _ = renew(&mut self.link);
+        renew(&mut self.link);
     }
 
     // Takes the node of the lowest block out.
@@ -239,7 +271,7 @@ impl Subtree {
             unreachable!()
         };
         if let Some(first) = take_first_below(root) {
-            let _ = renew(&mut self.link);
+            renew(&mut self.link);
             return first;
         }
         let Subtree { link } = take_right(root);
@@ -249,18 +281,18 @@ impl Subtree {
         first
     }
 
-    // Takes out the range that begins at `lo`; says whether room or height have changed.
+    // Takes out the range that begins at `lo`.
     #[cycle(take)]
-    fn take(&mut self, lo: u64) -> (Span, bool)
+    fn take(&mut self, lo: u64) -> Span
         requires held { Holds lo self.old.0 }
         requires height_fits { self.old.1 < 2 ^ 7 }
-        ensures begins { result.0.lo ≡ lo }
-        ensures taken { self.old.0 ≡ with_span result.0 self.new.0 }
+        ensures begins { result.lo ≡ lo }
+        ensures taken { self.old.0 ≡ with_span result self.new.0 }
         ensures not_higher { self.new.1 ≤ self.old.1 }
         ensures at_most_one_lower { self.old.1 ≤ self.new.1 + 1 }
-        ensures same { result.1 ≡ false → HasSameHeightAndRoom self.old self.new }
     {
         let Link::Rooted {
+            room,
             first,
             end,
             root,
@@ -273,18 +305,19 @@ impl Subtree {
             let sides = take_sides(root);
             let gone = root.block.remove(lo);
             *self = sides;
-            return (gone, true);
+            return gone;
         }
-        let (gone, deep) = take_below(root, lo);
-        if deep {
-            let changed = renew(&mut self.link);
-            return (gone, changed);
-        }
+        let (gone, known) = take_below(root, lo, *room);
+        let Some(now) = known else {
+            renew(&mut self.link);
+            return gone;
+        };
         // for the proof: the node is low
         let _height = root.height();
+        *room = now;
         *first = root.first();
         *end = root.last_end();
-        (gone, false)
+        gone
     }
 
     // Puts a range in the place of the one that begins at `lo`.
@@ -300,7 +333,7 @@ impl Subtree {
             unreachable!()
         };
         exchange_below(root, lo, span);
-        let _ = renew(&mut self.link);
+        renew(&mut self.link);
     }
 
     // The highest place between two neighbours. A link below which nothing fits costs no call.
@@ -320,6 +353,33 @@ impl Subtree {
             return None;
         }
         root.highest_within(wanted)
+    }
+
+    // Takes the highest place between two neighbours, where its block has room for a range.
+    #[cycle(take_within)]
+    fn take_within(&mut self, wanted: &Wanted) -> Found
+        requires { IsWanted wanted.now }
+        ensures { IsFound (highest_between wanted.now self.old.0) (self.new ≡ self.old)
+            (λ lo. self.new ≡ (with_span (taken wanted.now lo) self.old.0, self.old.1)) result }
+    {
+        let Link::Rooted {
+            room,
+            first,
+            root,
+            ..
+        } = &mut self.link
+        else {
+            return Found::Nowhere;
+        };
+        if (*room as u64) < wanted.size {
+            return Found::Nowhere;
+        }
+        if wanted.cap <= *first {
+            return Found::Nowhere;
+        }
+        let (found, now) = take_between(root, wanted, *room);
+        *room = now;
+        found
     }
 
     // The place below the lowest range and above `from`.
@@ -406,7 +466,7 @@ impl Subtree {
     {
         // for the proof: a subtree of so many ranges is low
         let _link = &self.link;
-        self.put(span, spare).is_some()
+        self.put(span, spare)
     }
 
     /// Takes out the range that begins at `lo`. It takes no memory.
@@ -419,8 +479,7 @@ impl Subtree {
     {
         // for the proof: a subtree of so many ranges is low
         let _link = &self.link;
-        let (gone, _) = self.take(lo);
-        gone
+        self.take(lo)
     }
 
     /// Puts a range in the place of the one that begins at `lo`. It takes no memory.
@@ -448,6 +507,27 @@ impl Subtree {
             return Some(at);
         }
         self.place_before(start, wanted)
+    }
+
+    /// Takes the highest place from `start` on, where it lies between two ranges and its block has
+    /// room for one more.
+    pub fn take_highest(&mut self, start: u64, wanted: &Wanted) -> Found
+        requires wanted { IsWanted wanted.now }
+        requires rising { IsRisingFrom start self.old.0 }
+        ensures { IsFound (highest_free wanted.now start self.old.0) (self.new ≡ self.old)
+            (λ lo. self.new.0 ≡ with_span (taken wanted.now lo) self.old.0) result }
+    {
+        if let Some(lo) = place_in(self.end_or(start), wanted.cap, wanted) {
+            return Found::At(lo);
+        }
+        match self.take_within(wanted) {
+            Found::Nowhere => {}
+            found => return found,
+        }
+        match self.place_before(start, wanted) {
+            Some(lo) => Found::At(lo),
+            None => Found::Nowhere,
+        }
     }
 
     /// Whether one of the ranges has the frame.
@@ -579,60 +659,154 @@ impl Node {
     }
 }
 
-// Lets a range in on one side or in the node's own block; says whether the room or the height of
-// this node has changed. None where it wants a node and there is no spare one.
+// Lets a range in on one side or in the node's own block, and tells the room of this node, where it
+// is known and the node stands as high as before. None where it wants a node and there is no spare
+// one.
 #[cycle(put)]
 #[inline]
-fn put_below(node: &mut Node, span: Span, spare: Option<Box<Node>>) -> Option<bool>
+fn put_below(
+    node: &mut Node,
+    span: Span,
+    spare: Option<Box<Node>>,
+    room: u32,
+) -> Option<Option<u32>>
     requires single { IfSome spare (λ spare. IsSingle spare.value) }
     requires free { IsRisingFrom 0 (with_span span (node_spans node.old)) }
     requires balanced { IsBalanced 1 node.old }
     requires height_fits { node_height node.old < 2 ^ 7 }
+    requires room { room ≡ room_between (node_spans node.old) }
     ensures needs { IfNone result ((spare ≡ None) × (node.new ≡ node.old)) }
-    ensures grows { IfSome result (λ changed.
+    ensures grows { IfSome result (λ known.
         Grows (with_span span (node_spans node.old)) node.old node.new) }
-    ensures same { result ≡ Some false → HasSameSummary node.old node.new }
+    ensures known { IfSome result (λ known. IfSome known (KeepsHeight node.old node.new)) }
 {
     if span.lo() < node.block.first() && !node.left.is_empty() {
+        let height = node.left.height();
         let end = node.left.end_or(0);
-        let Some(deep) = node.left.put(span, spare) else {
+        let before = node.left.room();
+        if !node.left.put(span, spare) {
             return None;
-        };
-        return Some(deep || node.left.end_or(0) != end);
+        }
+        return Some(node.left.settled_below(height, end, before, room));
     }
     if span.lo() >= node.block.end() && !node.right.is_empty() {
+        let height = node.right.height();
         let first = node.right.first_or(0);
-        let Some(deep) = node.right.put(span, spare) else {
+        let before = node.right.room();
+        if !node.right.put(span, spare) {
             return None;
-        };
-        return Some(deep || node.right.first_or(0) != first);
+        }
+        return Some(node.right.settled_above(height, first, before, room));
     }
     if !node.block.is_full() {
-        return Some(put_here(node, span));
+        return Some(put_here(node, span, room));
     }
     let Some(fresh) = spare else {
         return None;
     };
     split_here(node, span, fresh);
-    Some(true)
+    Some(None)
 }
 
-// Lets a range into the node's own block; says whether the room of this node may have changed.
+// Takes the highest place between two neighbours, of the node's ranges and those below, where its
+// block has room for a range; tells the room of this node.
+#[cycle(take_within)]
 #[inline]
-fn put_here(node: &mut Node, span: Span) -> bool
+fn take_between(node: &mut Node, wanted: &Wanted, room: u32) -> (Found, u32)
+    requires wanted { IsWanted wanted.now }
+    requires balanced { IsBalanced 1 node.old }
+    requires room { room ≡ room_between (node_spans node.old) }
+    ensures found { IsFound (highest_between wanted.now (node_spans node.old)) (node.new ≡ node.old)
+        (λ lo. TakesPlace (taken wanted.now lo) node.old node.new) result.0 }
+    ensures room { result.1 ≡ room_between (node_spans node.new) }
+{
+    let before = node.right.room();
+    match node.right.take_within(wanted) {
+        Found::Nowhere => {}
+        Found::At(lo) => return (Found::At(lo), room),
+        Found::Taken(lo) => {
+            let now = room_once(node, before, room, node.right.room());
+            return (Found::Taken(lo), now);
+        }
+    }
+    if let Some(lo) = node.right.place_before(node.block.end(), wanted) {
+        return take_beside(node, wanted, lo, room);
+    }
+    let before = node.block.room();
+    match node.block.take_highest(wanted) {
+        Found::Nowhere => {}
+        Found::At(lo) => return (Found::At(lo), room),
+        Found::Taken(lo) => {
+            let now = room_once(node, before, room, node.block.room());
+            return (Found::Taken(lo), now);
+        }
+    }
+    if let Some(lo) = node.left.place_behind(node.block.first(), wanted) {
+        return take_beside(node, wanted, lo, room);
+    }
+    let before = node.left.room();
+    match node.left.take_within(wanted) {
+        Found::Nowhere => (Found::Nowhere, room),
+        Found::At(lo) => (Found::At(lo), room),
+        Found::Taken(lo) => {
+            let now = room_once(node, before, room, node.left.room());
+            (Found::Taken(lo), now)
+        }
+    }
+}
+
+// Takes a place beside the node's own block, where that has room for a range; tells the room of this
+// node.
+#[inline(never)]
+fn take_beside(node: &mut Node, wanted: &Wanted, lo: u64, room: u32) -> (Found, u32)
+    requires wanted { IsWanted wanted.now }
+    requires balanced { IsBalanced 1 node.old }
+    requires room { room ≡ room_between (node_spans node.old) }
+    requires highest { highest_between wanted.now (node_spans node.old) ≡ Some lo }
+    requires takes { TakesPlace (taken wanted.now lo) node.old
+        (record node.old { block = with_span (taken wanted.now lo) node.old.block }) }
+    ensures found { IsFound (highest_between wanted.now (node_spans node.old)) (node.new ≡ node.old)
+        (λ lo. TakesPlace (taken wanted.now lo) node.old node.new) result.0 }
+    ensures room { result.1 ≡ room_between (node_spans node.new) }
+{
+    if node.block.is_full() {
+        return (Found::At(lo), room);
+    }
+    node.block.insert(Span::new(lo, lo + wanted.size, false));
+    (Found::Taken(lo), node.room())
+}
+
+// The room of a node whose part had `before`, and now has `after`.
+#[inline]
+fn room_once(node: &Node, before: u32, room: u32, after: u32) -> u32
+    requires balanced { IsBalanced 1 node.now }
+    requires settled { (now : ℕ) → IsSettledRoom before room after now
+        → now ≡ room_between (node_spans node.now) }
+    ensures { result ≡ room_between (node_spans node.now) }
+{
+    match settled(before, room, after) {
+        Some(now) => now,
+        None => node.room(),
+    }
+}
+
+// Lets a range into the node's own block, and tells the room of this node, where it is known.
+#[inline]
+fn put_here(node: &mut Node, span: Span, room: u32) -> Option<u32>
     requires free { IsRisingFrom 0 (with_span span (node_spans node.old)) }
     requires balanced { IsBalanced 1 node.old }
-    requires room { length node.old.block < BLOCK }
+    requires space { length node.old.block < BLOCK }
+    requires room { room ≡ room_between (node_spans node.old) }
     requires above_left { end_after 0 node.old.left.0 ≤ span.lo }
     requires below_right { IsBefore span node.old.right.0 }
     ensures grows { Grows (with_span span (node_spans node.old)) node.old node.new }
-    ensures same { result ≡ false → HasSameSummary node.old node.new }
+    ensures known { IfSome result (KeepsHeight node.old node.new) }
 {
     let first = node.block.first();
     let end = node.block.end();
-    let room = node.block.room();
+    let before = node.block.room();
     node.block.insert(span);
-    !node.block.has_outline(first, end, room)
+    node.block.settled_within(first, end, before, room)
 }
 
 // Lets a range into a node whose own block is full: the upper part of the block stands in a fresh
@@ -682,48 +856,54 @@ fn take_first_below(node: &mut Node) -> Option<Box<Node>>
     }
 }
 
-// Takes a range out of one side or of the node's own block, which keeps one; says whether the room
-// or the height of this node has changed.
+// Takes a range out of one side or of the node's own block, which keeps one, and tells the room of
+// this node, where it is known and the node stands as high as before.
 #[cycle(take)]
 #[inline]
-fn take_below(node: &mut Node, lo: u64) -> (Span, bool)
+fn take_below(node: &mut Node, lo: u64, room: u32) -> (Span, Option<u32>)
     requires held { Holds lo (node_spans node.old) }
     requires others { Holds lo node.old.block → 2 ≤ length node.old.block }
     requires height_fits { node_height node.old < 2 ^ 7 }
     requires balanced { IsBalanced 1 node.old }
+    requires room { room ≡ room_between (node_spans node.old) }
     ensures begins { result.0.lo ≡ lo }
     ensures taken { TakesBelow result.0 node.old node.new }
-    ensures same { result.1 ≡ false → HasSameSummary node.old node.new }
+    ensures known { IfSome result.1 (KeepsHeight node.old node.new) }
 {
     if lo < node.block.first() {
+        let height = node.left.height();
         let end = node.left.end_or(0);
-        let (gone, deep) = node.left.take(lo);
-        return (gone, deep || node.left.end_or(0) != end);
+        let before = node.left.room();
+        let gone = node.left.take(lo);
+        return (gone, node.left.settled_below(height, end, before, room));
     }
     if lo < node.block.end() {
-        return take_here(node, lo);
+        return take_here(node, lo, room);
     }
+    let height = node.right.height();
     let first = node.right.first_or(0);
-    let (gone, deep) = node.right.take(lo);
-    (gone, deep || node.right.first_or(0) != first)
+    let before = node.right.room();
+    let gone = node.right.take(lo);
+    (gone, node.right.settled_above(height, first, before, room))
 }
 
-// Takes a range out of the node's own block, which keeps one; says whether the room of this node
-// may have changed.
+// Takes a range out of the node's own block, which keeps one, and tells the room of this node, where
+// it is known.
 #[inline]
-fn take_here(node: &mut Node, lo: u64) -> (Span, bool)
+fn take_here(node: &mut Node, lo: u64, room: u32) -> (Span, Option<u32>)
     requires held { Holds lo node.old.block }
     requires others { 2 ≤ length node.old.block }
     requires balanced { IsBalanced 1 node.old }
+    requires room { room ≡ room_between (node_spans node.old) }
     ensures begins { result.0.lo ≡ lo }
     ensures taken { TakesBelow result.0 node.old node.new }
-    ensures same { result.1 ≡ false → HasSameSummary node.old node.new }
+    ensures known { IfSome result.1 (KeepsHeight node.old node.new) }
 {
     let first = node.block.first();
     let end = node.block.end();
-    let room = node.block.room();
+    let before = node.block.room();
     let gone = node.block.remove(lo);
-    (gone, !node.block.has_outline(first, end, room))
+    (gone, node.block.settled_within(first, end, before, room))
 }
 
 // Puts a range in the place of one on one side or in the node's own block.
@@ -779,16 +959,13 @@ fn join(left: Subtree, mut right: Subtree) -> Subtree
     Subtree::of(next)
 }
 
-// Balances the node at the root, and renews what the link knows; says whether the room or the
-// height has changed.
+// Balances the node at the root, and renews what the link knows.
 #[inline(never)]
-fn renew(link: &mut Link) -> bool
+fn renew(link: &mut Link)
     requires { IsUnsettled link.old }
     ensures kept { IsSubtree link.new }
     ensures spans { link_spans link.new ≡ link_spans link.old }
     ensures height { IsSettledHeight link.old (link_height link.new) }
-    ensures same { result ≡ false → (link_height link.new ≡ link_height link.old)
-        × (link_room link.new ≡ link_room link.old) }
 {
     let Link::Rooted {
         height,
@@ -801,14 +978,10 @@ fn renew(link: &mut Link) -> bool
         unreachable!()
     };
     rebalance(root);
-    let new_height = root.height();
-    let new_room = root.room();
-    let changed = new_room != *room || new_height != *height;
-    *height = new_height;
-    *room = new_room;
+    *height = root.height();
+    *room = root.room();
     *first = root.first();
     *end = root.last_end();
-    changed
 }
 
 // Makes the heights of the sides differ by at most one.

@@ -1,5 +1,5 @@
 //! The allocated ranges and the windows of a domain.
-ghost use Rattle.std.specs.Prelude.{◌≡◌, ◌+◌, ◌≤◌, ◌<◌, [], length, IfOk, OnOk, OnErr, IsOkUnless, IsTrue, ◌↔◌, IsSome, IfSome, IfNone, Some, find, false, true};
+ghost use Rattle.std.specs.Prelude.{◌≡◌, ◌+◌, ◌≤◌, ◌<◌, [], length, IfOk, OnOk, OnErr, IsOkUnless, IsTrue, ◌↔◌, IsSome, IfSome, IfNone, Some, None, find, false, true};
 ghost use Rattle.std.specs.List.{list_any};
 ghost use Rattle.iova_range.specs.Frames.{meets};
 ghost use Rattle.iova_model.specs.Fit.{IsBest, best, is_clear};
@@ -7,7 +7,7 @@ ghost use Rattle.iova_model.specs.Clients.{insert_rising, remove_at, begins_at};
 ghost use Rattle.iova_model.specs.Next.{from_to, union, windows_with};
 ghost use Rattle.iova_tree.specs.Space.{Space, ranges_of, IsInside, IsFree, IsSpace, with_window, reserve_refusal, clear_of};
 
-use crate::search::Wanted;
+use crate::search::{Found, Wanted};
 use crate::span::Span;
 use crate::subtree::Subtree;
 use crate::window::{absorb, count_clear, insert_window};
@@ -92,6 +92,45 @@ impl Tree {
             cap: limit.min(self.bounds.last()) + 1,
         };
         self.ranges.highest(self.bounds.start(), &wanted)
+    }
+
+    /// Allocates the frames that `highest` finds, and gives them: `highest` and `insert` in one way
+    /// down, where a block has room. None where nothing fits; `NoMemory` leaves the tree as it was.
+    pub fn take(&mut self, size: u64, limit: u64) -> Result<Option<Range>, Refusal>
+        requires some { 1 ≤ size }
+        requires bounded { size ≤ MAX_FRAMES }
+        ensures highest { IfOk result (λ found. IfSome found (λ range. Some range.lo
+            ≡ best self.old.bounds (ranges_of self.old) size limit)) }
+        ensures size { IfOk result (λ found. IfSome found (λ range. range.len ≡ size)) }
+        ensures taken { IfOk result (λ found. IfSome found (λ range. self.new
+            ≡ record self.old { inserted = insert_rising range self.old.inserted })) }
+        ensures nothing { IfOk result (λ found. IfNone found
+            (best self.old.bounds (ranges_of self.old) size limit ≡ None)) }
+        ensures left { IfOk result (λ found. IfNone found (self.new ≡ self.old)) }
+        ensures refused { OnErr result (result ≡ Err Refusal.NoMemory) }
+        ensures unchanged { OnErr result (self.new ≡ self.old) }
+        ensures fits { OnErr result
+            (IsSome (best self.old.bounds (ranges_of self.old) size limit)) }
+        ensures space { IsSpace self.new }
+    {
+        // for the proof: the last frame is below 2^40
+        let last = self.bounds.last();
+        let wanted = Wanted {
+            size,
+            align: align_of(size),
+            cap: limit.min(last) + 1,
+        };
+        match self.ranges.take_highest(self.bounds.start(), &wanted) {
+            Found::Nowhere => Ok(None),
+            Found::Taken(lo) => Ok(Some(Range::new(lo, size))),
+            Found::At(lo) => {
+                let range = Range::new(lo, size);
+                let Ok(()) = self.insert(range) else {
+                    return Err(Refusal::NoMemory);
+                };
+                Ok(Some(range))
+            }
+        }
     }
 
     /// Allocates a range whose frames are free. `NoMemory` leaves the tree as it was.

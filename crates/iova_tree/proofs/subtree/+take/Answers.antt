@@ -4,9 +4,8 @@ use Rattle.iova_tree.specs.Spans.{Span, with_span}
 use Rattle.iova_tree.specs.Node.{link_spans}
 use Rattle.iova_tree.specs.declared.subtree.Node.{Node}
 use Rattle.iova_tree.proofs.Root.{at_root}
-use Rattle.iova_tree.proofs.Placed.{same_left, same_right}
+use Rattle.iova_tree.proofs.Placed.{keeps_left, keeps_right}
 use Rattle.iova_tree.proofs.Taken.{held_left, held_here, held_right, takes_left, takes_right, takes_only}
-use Rattle.iova_tree.proofs.subtree.+take.Goals.{take_below-then-deep, take_below-else-deep, take_below-then-deep-2, take_below-else-deep-2}
 use Rattle.iova_tree.proofs.subtree.+take.Goals as goal
 
 pub Subtree::take-returns-then-is_only-clause-taken : goal.Subtree::take-returns-then-is_only-clause-taken
@@ -40,31 +39,21 @@ take_below-take_here-requires-clause-others t c =
 pub take_below-returns-then-lo-first-clause-taken : goal.take_below-returns-then-lo-first-clause-taken
 take_below-returns-then-lo-first-clause-taken t c =
     let e = c.take-gone.ensures in
-    takes_left c.take-gone.result.0 c.args.node.now c.take-gone.new.self (grind (arith, c.first.ensures, e.begins)) c.requires.balanced e.taken e.not_higher e.at_most_one_lower
+    takes_left c.take-gone.result c.args.node.now c.take-gone.new.self (grind (arith, c.first.ensures, e.begins)) c.requires.balanced e.taken e.not_higher e.at_most_one_lower
 
-pub take_below-returns-then-lo-first-clause-same : goal.take_below-returns-then-lo-first-clause-same
-take_below-returns-then-lo-first-clause-same t c = λ h.
-    let e = c.take-gone.ensures in
-    let g = takes_left c.take-gone.result.0 c.args.node.now c.take-gone.new.self (grind (arith, c.first.ensures, e.begins)) c.requires.balanced e.taken e.not_higher e.at_most_one_lower in
-    elim c.if-deep.branch [
-      | take_below-then-deep w ↦ absurd cc
-      | take_below-else-deep w ↦
-          let s = e.same w.if-deep.false in
-          same_left c.args.node.now c.take-gone.new.self g.balanced c.requires.balanced s.0 s.1 (grind (arith, nat_tests, h))
-    ]
+pub take_below-returns-then-lo-first-clause-known : goal.take_below-returns-then-lo-first-clause-known
+take_below-returns-then-lo-first-clause-known t c =
+    let g = take_below-returns-then-lo-first-clause-taken t c in
+    let e = c.settled_below.ensures in
+    keeps_left c.args.node.now c.args.room c.room-before.result c.requires.balanced c.requires.room c.take-gone.new.self c.height-height.result c.end_or-end.result c.settled_below.result g.balanced c.height-height.ensures.is c.end_or-end.ensures c.room-before.ensures e.height e.end e.room
 
 pub take_below-returns-clause-taken : goal.take_below-returns-clause-taken
 take_below-returns-clause-taken t c =
     let e = c.take-gone-2.ensures in
-    takes_right c.take-gone-2.result.0 c.args.node.now c.take-gone-2.new.self (grind (arith, c.end.ensures, e.begins)) c.requires.balanced e.taken e.not_higher e.at_most_one_lower
+    takes_right c.take-gone-2.result c.args.node.now c.take-gone-2.new.self (grind (arith, c.end.ensures, e.begins)) c.requires.balanced e.taken e.not_higher e.at_most_one_lower
 
-pub take_below-returns-clause-same : goal.take_below-returns-clause-same
-take_below-returns-clause-same t c = λ h.
-    let e = c.take-gone-2.ensures in
-    let g = takes_right c.take-gone-2.result.0 c.args.node.now c.take-gone-2.new.self (grind (arith, c.end.ensures, e.begins)) c.requires.balanced e.taken e.not_higher e.at_most_one_lower in
-    elim c.if-deep-2.branch [
-      | take_below-then-deep-2 w ↦ absurd cc
-      | take_below-else-deep-2 w ↦
-          let s = e.same w.if-deep-2.false in
-          same_right c.args.node.now c.take-gone-2.new.self g.balanced c.requires.balanced s.0 s.1 (grind (arith, nat_tests, h))
-    ]
+pub take_below-returns-clause-known : goal.take_below-returns-clause-known
+take_below-returns-clause-known t c =
+    let g = take_below-returns-clause-taken t c in
+    let e = c.settled_above.ensures in
+    keeps_right c.args.node.now c.args.room c.room-before-2.result c.requires.balanced c.requires.room c.take-gone-2.new.self c.height-height-2.result c.first_or-first.result c.settled_above.result g.balanced c.height-height-2.ensures.is c.first_or-first.ensures c.room-before-2.ensures e.height e.first e.room

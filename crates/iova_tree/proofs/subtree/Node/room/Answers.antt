@@ -1,5 +1,5 @@
 use Rattle.std.proofs.Common.{arith}
-use Rattle.iova_tree.proofs.Spans.{end_some, node-middle, room_between-node, room_between-below, room_between-after}
+use Rattle.iova_tree.proofs.Spans.{end_some, node-gaps, node-middle, room_between-node, room_between-below, room_between-after}
 use Rattle.iova_tree.specs.Spans.{first_lo, end_after}
 use Rattle.iova_tree.proofs.subtree.Node.room.Goals as goal
 
@@ -7,6 +7,16 @@ pub room_after-requires-clause-some : goal.room_after-requires-clause-some
 room_after-requires-clause-some c =
     let n = c.args.self.now in
     rw c.end.ensures (end_some 0 n.block (node-middle n.left.0 n.block n.right.0 c.requires.rising) c.requires.some)
+
+pub room_below-below-requires-clause-apart : goal.room_below-below-requires-clause-apart
+room_below-below-requires-clause-apart c =
+    let n = c.args.self.now in
+    rw c.first.ensures (node-gaps n.left.0 n.block n.right.0 c.requires.some c.requires.rising).0
+
+pub room_after-requires-clause-rising : goal.room_after-requires-clause-rising
+room_after-requires-clause-rising c =
+    let n = c.args.self.now in
+    rw c.end.ensures (node-gaps n.left.0 n.block n.right.0 c.requires.some c.requires.rising).1
 
 pub returns : goal.returns
 returns c =
