@@ -1,5 +1,5 @@
 -- A command is made by one argument or subcommand after another.
-use Rattle.std.proofs.Common.{ℕ, ◌≡◌, ◌∙◌, ◌<◌, ◌^◌, false, Result, IfOk, Some, ap, ap₂, arith, pos, ℤ, w64, subst}
+use Rattle.std.proofs.Common.{ℕ, ◌≡◌, ◌∙◌, ◌<◌, ◌^◌, false, true, List, ◌∷◌, map, Some, ap, ap₂, arith, pos, ℤ, w64, subst}
 use Rattle.std.proofs.lemmas.Int.{ints}
 use Rattle.std.specs.Ordering.{nat_cmp, ord_max, ord_min}
 use Rattle.std.specs.Int.{saturate_unsigned}
@@ -8,12 +8,13 @@ use Rattle.std.specs.Borrow.{Bor}
 use Rattle.clap.specs.Simple.{app_of_fields}
 use Rattle.clap.specs.declared.builder.command.Command.TheOpen.{Command-F}
 use Rattle.clap.specs.declared.builder.command.Command.TheViews.{out-Command}
-use Rattle.clap.specs.Words.{NarrowsTo, App, Rule, Text, app_of, new_app, rule_of, with_rule}
-use Rattle.clap.specs.declared.builder.arg.Arg.{Arg}
+use Rattle.clap.specs.Words.{NarrowsTo, App, Text, app_of, new_app}
 use Rattle.clap.specs.declared.builder.command.Command.{Command}
 use Rattle.clap.specs.declared.builder.value_parser.ValueParser.{ValueParser}
 use Rattle.clap.specs.declared.builder.value_parser.ValueParser.TheVariants as parser
-use Rattle.iova_command.specs.Commands.{IsCommand, with_version}
+use Rattle.iova_command.specs.declared.options.OptionRow.{OptionRow}
+use Rattle.iova_command.specs.Commands.{IsCommand, are_parsable, taken, with_version}
+use Rattle.std.proofs.lemmas.Bool.{and_parts}
 
 -- a new command with a text about it
 pub new_command : (name : Text) (old new : Command) (text : Bor Text) → app_of old ≡ new_app name → (out-Command old).has_globals ≡ false
@@ -50,10 +51,10 @@ helped app old new help is fields = record {
   local = ap (λ (f : Command-F Command). f.has_globals) fields ∙ is.local;
 }
 
--- an argument more, whose rule is this
-pub with_one : {E : Type 0} (app : App) (rule : Rule) (old new : Result Command E) (a : Arg) → IfOk old (IsCommand app) → rule_of a ≡ rule → a.global ≡ false
-    → ((app : App) → IfOk old (IsCommand app) → a.global ≡ false → IfOk new (IsCommand (with_rule app (rule_of a)))) → IfOk new (IsCommand (with_rule app rule))
-with_one app rule old new a is rule_is local adds = subst (λ (r : Rule). IfOk new (IsCommand (with_rule app r))) rule_is (adds app is local)
+-- of options that can be parsed, those behind the first
+pub parsable_behind : (rows more : List OptionRow) (row : OptionRow) → rows ≡ row ∷ more → are_parsable (map taken rows) ≡ true
+    → are_parsable (map taken more) ≡ true
+parsable_behind rows more row is fit = (and_parts _ _ (subst (λ (xs : List OptionRow). are_parsable (map taken xs) ≡ true) is fit)).1
 
 -- no number is below the least that a parser of 64 bits has
 pub max_zero : (n : ℕ) → ord_max nat_cmp 0 n ≡ n

@@ -40,6 +40,22 @@ pub optional_text_read : (f : Found) (id : Text) (r : Option (Bor Text)) → opt
     → first_of id (rows_of f) ≡ option_map (λ b. b.now) r
 optional_text_read f id r reads = sym (first_value-rows f id) ∙ sym reads
 
+-- what holds of the text that was read, or of none at all, holds of the option's text
+pub text_has : (Q : Text → Type 0) (f : Found) (id : Text) (r : Option (Bor Text)) (s : Bor Text) → option_map (λ b. b.now) r ≡ first_value f id → r ≡ Some s
+    → Q s.now → (text : Text) → first_of id (rows_of f) ≡ Some text → Q text
+text_has Q f id r s reads is holds text has =
+    let one : Some s.now ≡ Some text = sym (text_read f id r s reads is) ∙ has in
+    subst Q (some_is s.now text one) holds
+  where
+    some_is : (a b : Text) → Some a ≡ Some b → a ≡ b
+    some_is a b h = search rules
+
+pub no_text_has : (Q : Text → Type 0) (f : Found) (id : Text) (r : Option (Bor Text)) → option_map (λ b. b.now) r ≡ first_value f id → r ≡ None
+    → (text : Text) → first_of id (rows_of f) ≡ Some text → Q text
+no_text_has Q f id r reads is text has =
+    let none : first_of id (rows_of f) ≡ None = optional_text_read f id r reads ∙ ap (option_map (λ b. b.now)) is in
+    absurd (let bad : None ≡ Some text = sym none ∙ has in cc)
+
 -- a text that has no sign in front, or none at all
 pub plain_text : (f : Found) (id : Text) (r : Option (Bor Text)) (s : Bor Text) → option_map (λ b. b.now) r ≡ first_value f id → r ≡ Some s
     → begins_with_plus s.now ≡ false → IsPlain (rows_of f) id

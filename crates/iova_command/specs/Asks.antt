@@ -3,6 +3,8 @@ use Rattle.std.specs.Prelude.{◌≡◌, ◌≢◌, Bool, true, false, List, Opt
 use Rattle.clap.specs.Words.{Row, Text, first_of, one_of}
 use Rattle.iova_range.specs.declared.limits.TheConstants.{DEFAULT_DOMAIN, DEFAULT_LAST, DEFAULT_START, DEFAULT_WORKERS}
 use Rattle.iova_command.specs.Controls.{HasControl}
+use Rattle.iova_command.specs.Commands.{serve_options}
+use Rattle.iova_command.specs.Labels.{AreRight}
 use Rattle.iova_command.specs.Levels.{HasLevel}
 use Rattle.iova_command.specs.Numbers.{HasNumberOr, HasOptional}
 use Rattle.iova_command.specs.Sinks.{HasSink}
@@ -62,7 +64,9 @@ AsksOf name rows (Replay path has_report log) =
     × (name ≢ codes "control") × (first_of (codes "file") rows ≡ Some path.now)
     × HasFlag rows (codes "report") has_report
     × (first_of (codes "log") rows ≡ option_map (λ log. log.now) log)
-AsksOf name rows (Serve plan) = (name ≡ codes "serve") × Plans rows plan
+AsksOf name rows (Serve plan said) =
+    (name ≡ codes "serve") × Plans rows plan × (said ≡ rows)
+    × AreRight rows serve_options
 AsksOf name rows (Ask path timeout) =
     (name ≡ codes "ask") × (first_of (codes "path") rows ≡ Some path.now)
     × HasOptional rows (codes "timeout") timeout

@@ -1,11 +1,14 @@
 -- The commands of the program, as `clap` reads them: names, options and what each option takes.
-use Rattle.std.specs.Prelude.{ℕ, ◌≡◌, ◌-◌, true, false, Some, codes}
+use Rattle.std.specs.Prelude.{ℕ, ◌≡◌, ◌-◌, ◌^◌, ◌&&◌, nat_lt, Bool, true, false, List, [], ◌∷◌, Some, None, codes}
 use Rattle.clap.specs.Words.{App, app_of, Rule, Text, new_app, new_rule, with_rule, with_subcommand}
 use Rattle.clap.specs.declared.builder.command.Command.{Command}
 use Rattle.clap.specs.declared.builder.command.Command.TheViews.{out-Command}
 use Rattle.clap.specs.declared.builder.action.ArgAction.TheVariants.{Append, Set, SetTrue}
 use Rattle.clap.specs.declared.builder.value_parser.ValueParser.TheVariants as parser
-use Rattle.iova_range.specs.declared.limits.TheConstants.{FRAME_BYTES, LAST_DOMAIN_ID, MAX_ANSWER_TIMEOUT, MAX_CLIENTS, MAX_DEPOT, MAX_GRANULE, MAX_WATCH_PAUSE, MAX_WORKERS, MAX_DOMAINS, MAX_IDLE, MAX_PEER_WAIT, MAX_RECORDED_STEPS, MAX_SESSION_REQUESTS, MAX_SESSIONS, MAX_SINK_TIMEOUT, WIDE_TOP}
+use Rattle.iova_range.specs.declared.limits.TheConstants.{DEFAULT_CLIENTS, DEFAULT_DOMAIN, DEFAULT_LAST, DEFAULT_START, DEFAULT_WORKERS, FRAME_BYTES, LAST_DOMAIN_ID, MAX_ANSWER_TIMEOUT, MAX_CLIENTS, MAX_DEPOT, MAX_DOMAINS, MAX_GRANULE, MAX_IDLE, MAX_PEER_WAIT, MAX_RECORDED_STEPS, MAX_REQUESTS, MAX_SESSION_REQUESTS, MAX_SESSIONS, MAX_SINK_TIMEOUT, MAX_WATCH_PAUSE, MAX_WORKERS, RECORDED_STEPS, SINK_TIMEOUT, WIDE_TOP}
+use Rattle.iova_command.specs.declared.options.OptionRow.{OptionRow}
+use Rattle.iova_command.specs.declared.options.Takes.{Takes}
+use Rattle.iova_command.specs.declared.options.Takes.TheVariants.{Nothing, Path, WantedPath, Number, PowerOfTwo, Level, Label, Spans, Place, NumberPlace}
 
 -- an argument that must be there, named by its place
 abbrev pub place_rule : Text → Rule
@@ -34,70 +37,119 @@ optional_place_rule id low high =
 abbrev pub optional_number_rule : Text → ℕ → ℕ → Rule
 optional_number_rule id low high = record (optional_place_rule id low high) { long = Some id }
 
+-- an option or a place by its name, and what it takes
+abbrev pub Taken : Type 0
+Taken = Text × Takes
+
+abbrev pub taken : OptionRow → Taken
+taken row = (row.name.now, row.takes)
+
+-- how clap reads it
+abbrev pub rule_as : Text → Takes → Rule
+rule_as name Nothing = flag_rule name
+rule_as name Path = optional_rule name
+rule_as name WantedPath = option_rule name
+rule_as name (Number low high default) = optional_number_rule name low high
+rule_as name (PowerOfTwo low high) = optional_number_rule name low high
+rule_as name Level = optional_rule name
+rule_as name Label = optional_rule name
+rule_as name Spans = repeated_rule name
+rule_as name Place = place_rule name
+rule_as name (NumberPlace low high) = optional_place_rule name low high
+
+abbrev pub option_rule_of : Taken → Rule
+option_rule_of option = rule_as option.0 option.1
+
+-- a command with these options too, in this order
+abbrev pub with_options : App → List Taken → App
+with_options app [] = app
+with_options app (option ∷ options) =
+    with_options (with_rule app (option_rule_of option)) options
+
+-- the bounds of a number are below 2^63
+abbrev pub is_parsable : Takes → Bool
+is_parsable (Number low high default) = nat_lt low (2 ^ 63) && nat_lt high (2 ^ 63)
+is_parsable (PowerOfTwo low high) = nat_lt low (2 ^ 63) && nat_lt high (2 ^ 63)
+is_parsable (NumberPlace low high) = nat_lt low (2 ^ 63) && nat_lt high (2 ^ 63)
+is_parsable other = true
+
+abbrev pub are_parsable : List Taken → Bool
+are_parsable [] = true
+are_parsable (option ∷ options) = is_parsable option.1 && are_parsable options
+
+abbrev pub replay_options : List Taken
+replay_options =
+    (codes "report", Nothing)
+    ∷ (codes "log", Path)
+    ∷ (codes "file", Place)
+    ∷ []
+
 abbrev pub replay_app : App
-replay_app =
-    with_rule (with_rule (with_rule (new_app (codes "replay"))
-    (flag_rule (codes "report")))
-    (optional_rule (codes "log")))
-    (place_rule (codes "file"))
+replay_app = with_options (new_app (codes "replay")) replay_options
+
+abbrev pub serve_options : List Taken
+serve_options =
+    (codes "socket", WantedPath)
+    ∷ (codes "workers", Number 1 MAX_WORKERS (Some DEFAULT_WORKERS))
+    ∷ (codes "clients", Number 1 MAX_CLIENTS (Some DEFAULT_CLIENTS))
+    ∷ (codes "domain", Number 0 (MAX_DOMAINS - 1) (Some DEFAULT_DOMAIN))
+    ∷ (codes "start", Number 1 WIDE_TOP (Some DEFAULT_START))
+    ∷ (codes "last", Number 1 WIDE_TOP (Some DEFAULT_LAST))
+    ∷ (codes "peer", Path)
+    ∷ (codes "sink", Path)
+    ∷ (codes "peer-wait", Number 0 MAX_PEER_WAIT None)
+    ∷ (codes "sessions", Number 1 MAX_SESSIONS None)
+    ∷ (codes "session-requests", Number 0 MAX_SESSION_REQUESTS (Some MAX_REQUESTS))
+    ∷ (codes "idle", Number 1 MAX_IDLE None)
+    ∷ (codes "depot", Number 0 MAX_DEPOT None)
+    ∷ (codes "strict", Nothing)
+    ∷ (codes "record", Path)
+    ∷ (codes "record-steps", Number 1 MAX_RECORDED_STEPS (Some RECORDED_STEPS))
+    ∷ (codes "reserve", Spans)
+    ∷ (codes "reserved-regions", Path)
+    ∷ (codes "sink-timeout", Number 1 MAX_SINK_TIMEOUT (Some SINK_TIMEOUT))
+    ∷ (codes "log-level", Level)
+    ∷ (codes "control", Path)
+    ∷ (codes "granule", PowerOfTwo FRAME_BYTES MAX_GRANULE)
+    ∷ []
 
 abbrev pub serve_app : App
-serve_app =
-    with_rule (with_rule (with_rule
-    (with_rule (with_rule (with_rule (with_rule
-    (with_rule (with_rule (with_rule (with_rule
-    (with_rule (with_rule (with_rule (with_rule
-    (with_rule (with_rule (with_rule (with_rule
-    (with_rule (with_rule (with_rule (new_app (codes "serve"))
-    (option_rule (codes "socket")))
-    (optional_number_rule (codes "workers") 1 MAX_WORKERS))
-    (optional_number_rule (codes "clients") 1 MAX_CLIENTS))
-    (optional_number_rule (codes "domain") 0 (MAX_DOMAINS - 1)))
-    (optional_number_rule (codes "start") 1 WIDE_TOP))
-    (optional_number_rule (codes "last") 1 WIDE_TOP))
-    (optional_rule (codes "peer")))
-    (optional_rule (codes "sink")))
-    (optional_number_rule (codes "peer-wait") 0 MAX_PEER_WAIT))
-    (optional_number_rule (codes "sessions") 1 MAX_SESSIONS))
-    (optional_number_rule (codes "session-requests") 0 MAX_SESSION_REQUESTS))
-    (optional_number_rule (codes "idle") 1 MAX_IDLE))
-    (optional_number_rule (codes "depot") 0 MAX_DEPOT))
-    (flag_rule (codes "strict")))
-    (optional_rule (codes "record")))
-    (optional_number_rule (codes "record-steps") 1 MAX_RECORDED_STEPS))
-    (repeated_rule (codes "reserve")))
-    (optional_rule (codes "reserved-regions")))
-    (optional_number_rule (codes "sink-timeout") 1 MAX_SINK_TIMEOUT))
-    (optional_rule (codes "log-level")))
-    (optional_rule (codes "control")))
-    (optional_number_rule (codes "granule") FRAME_BYTES MAX_GRANULE)
+serve_app = with_options (new_app (codes "serve")) serve_options
+
+abbrev pub ask_options : List Taken
+ask_options =
+    (codes "timeout", Number 1 MAX_ANSWER_TIMEOUT None)
+    ∷ (codes "path", Place)
+    ∷ []
 
 abbrev pub ask_app : App
-ask_app =
-    with_rule (with_rule (new_app (codes "ask"))
-    (optional_number_rule (codes "timeout") 1 MAX_ANSWER_TIMEOUT))
-    (place_rule (codes "path"))
+ask_app = with_options (new_app (codes "ask")) ask_options
+
+abbrev pub control_options : List Taken
+control_options =
+    (codes "timeout", Number 1 MAX_ANSWER_TIMEOUT None)
+    ∷ (codes "top", Nothing)
+    ∷ (codes "path", Place)
+    ∷ (codes "word", Place)
+    ∷ (codes "seconds", NumberPlace 1 MAX_WATCH_PAUSE)
+    ∷ []
 
 abbrev pub control_app : App
-control_app =
-    with_rule (with_rule (with_rule (with_rule (with_rule (new_app (codes "control"))
-    (optional_number_rule (codes "timeout") 1 MAX_ANSWER_TIMEOUT))
-    (flag_rule (codes "top")))
-    (place_rule (codes "path")))
-    (place_rule (codes "word")))
-    (optional_place_rule (codes "seconds") 1 MAX_WATCH_PAUSE)
+control_app = with_options (new_app (codes "control")) control_options
+
+abbrev pub check_options : List Taken
+check_options =
+    (codes "quiet", Nothing)
+    ∷ (codes "first", Number 0 WIDE_TOP None)
+    ∷ (codes "last", Number 0 WIDE_TOP None)
+    ∷ (codes "reserved-regions", Path)
+    ∷ (codes "ftrace", Nothing)
+    ∷ (codes "did", Number 0 LAST_DOMAIN_ID None)
+    ∷ (codes "file", Place)
+    ∷ []
 
 abbrev pub check_app : App
-check_app =
-    with_rule (with_rule (with_rule (with_rule
-    (with_rule (with_rule (with_rule (new_app (codes "check"))
-    (flag_rule (codes "quiet")))
-    (optional_number_rule (codes "first") 0 WIDE_TOP))
-    (optional_number_rule (codes "last") 0 WIDE_TOP))
-    (optional_rule (codes "reserved-regions")))
-    (flag_rule (codes "ftrace")))
-    (optional_number_rule (codes "did") 0 LAST_DOMAIN_ID))
-    (place_rule (codes "file"))
+check_app = with_options (new_app (codes "check")) check_options
 
 -- the program's own name; it tells its version
 abbrev pub with_version : App → App

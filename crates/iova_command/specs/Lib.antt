@@ -2,6 +2,7 @@ pub mod Asks
 pub mod Commands
 pub mod Controls
 pub mod Granules
+pub mod Labels
 pub mod Levels
 pub mod Numbers
 pub mod Refuses

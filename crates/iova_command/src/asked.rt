@@ -2,6 +2,7 @@
 use crate::check_plan::CheckPlan;
 use crate::control_word::ControlWord;
 use crate::plan::Plan;
+use crate::said::Said;
 
 /// What the words ask for.
 #[derive(Drop)]
@@ -15,8 +16,8 @@ pub enum Asked<'a> {
         /// The file that the log is written to, where one is wanted.
         log: Option<&'a str>,
     },
-    /// A daemon.
-    Serve(Plan<'a>),
+    /// A daemon, and all that is said of it.
+    Serve(Plan<'a>, Said<'a>),
     /// The check of a log.
     Check(CheckPlan<'a>),
     /// Lines sent to a daemon, and its answers.

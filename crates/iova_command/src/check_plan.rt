@@ -38,14 +38,21 @@ impl<'a> CheckPlan<'a> {
     pub(crate) fn of(found: &ArgMatches<'a>) -> Option<CheckPlan<'a>>
         ensures { IfSome result (λ p. PlansCheck (rows_of (found_of found.now)) p) }
     {
+        let path = found.get_str("file")?;
+        let quiet = found.get_flag("quiet");
+        let first = optional(found, "first", 0, WIDE_TOP)?;
+        let last = optional(found, "last", 0, WIDE_TOP)?;
+        let regions = found.get_str("reserved-regions");
+        let ftrace = found.get_flag("ftrace");
+        let did = optional(found, "did", 0, LAST_DOMAIN_ID)?;
         let plan = CheckPlan {
-            path: found.get_str("file")?,
-            quiet: found.get_flag("quiet"),
-            first: optional(found, "first", 0, WIDE_TOP)?,
-            last: optional(found, "last", 0, WIDE_TOP)?,
-            regions: found.get_str("reserved-regions"),
-            ftrace: found.get_flag("ftrace"),
-            did: optional(found, "did", 0, LAST_DOMAIN_ID)?,
+            path,
+            quiet,
+            first,
+            last,
+            regions,
+            ftrace,
+            did,
         };
         if plan.did.is_some() && !plan.ftrace {
             return None;

@@ -1,32 +1,14 @@
 //! The command and its help.
-ghost use Rattle.std.specs.Prelude.{◌≡◌, ◌<◌, ◌^◌, IfOk, false};
-ghost use Rattle.clap.specs.Words.{App, rule_of, with_rule, with_subcommand};
-ghost use Rattle.iova_command.specs.Commands.{IsCommand, place_rule, flag_rule, option_rule, optional_rule, repeated_rule, optional_number_rule, optional_place_rule, replay_app, serve_app, ask_app, check_app, control_app, iovad_app};
+ghost use Rattle.std.specs.Prelude.{◌≡◌, ◌<◌, ◌^◌, IfOk, false, map, true};
+ghost use Rattle.clap.specs.Words.{App, rule_of, with_subcommand};
+ghost use Rattle.iova_command.specs.Commands.{IsCommand, are_parsable, is_parsable, option_rule_of, taken, with_options, place_rule, flag_rule, option_rule, optional_rule, repeated_rule, optional_number_rule, optional_place_rule, replay_app, serve_app, ask_app, check_app, control_app, iovad_app};
 
+use crate::options::{
+    OptionRow, Takes, USAGE, ask_rows, check_rows, control_rows, replay_rows, serve_rows,
+};
 use crate::words::VERSION;
 use clap::{Arg, ArgAction, Command, value_parser};
-use iova_range::limits::{
-    FRAME_BYTES, LAST_DOMAIN_ID, MAX_ANSWER_TIMEOUT, MAX_CLIENTS, MAX_DEPOT, MAX_DOMAINS,
-    MAX_GRANULE, MAX_IDLE, MAX_PEER_WAIT, MAX_RECORDED_STEPS, MAX_SESSION_REQUESTS, MAX_SESSIONS,
-    MAX_SINK_TIMEOUT, MAX_WATCH_PAUSE, MAX_WORKERS, WIDE_TOP,
-};
 use std::alloc::{AllocError, Global};
-
-/// The ways to call the program, which stand in its help and after words that aren't understood.
-const USAGE: &str = "iovad < FILE
-       iovad replay [--report] [--log FILE] FILE
-       iovad serve --socket PATH --peer PATH|--sink FILE [--peer-wait SECONDS]
-                   [--workers N] [--clients N] [--domain N] [--start N] [--last N]
-                   [--sessions N] [--session-requests N] [--idle SECONDS] [--depot N]
-                   [--strict] [--granule BYTES]
-                   [--record FILE [--record-steps N]] [--reserve FIRST-LAST]..
-                   [--reserved-regions FILE] [--sink-timeout SECONDS]
-                   [--log-level error|warn|info|debug] [--control PATH]
-       iovad control [--timeout SECONDS] PATH report|sessions|metrics|info|stop
-       iovad control [--timeout SECONDS] [--top] PATH watch [SECONDS]
-       iovad ask [--timeout SECONDS] PATH
-       iovad check [--quiet] [--first N] [--last N] [--reserved-regions PATH]
-                   [--ftrace [--did N]] FILE";
 
 /// How `serve` is called, which stands in its help and after words of its own that aren't
 /// understood.
@@ -112,20 +94,7 @@ fn replay_command<'a>(alloc: Global) -> Result<Command<'a>, AllocError>
     let command = Command::new(alloc, "replay")
         .about("Replays a trace and prints the reply to each of its steps")
         .after_help(LINES_OF_A_TRACE);
-    let report = flag(alloc, "report", "The domain's report follows the replies");
-    let log = optional_path(
-        alloc,
-        "log",
-        "FILE",
-        "The file that a log for iovad check is written to",
-    );
-    let file = place(
-        alloc,
-        "file",
-        "FILE",
-        "The trace's file, or - for standard input",
-    );
-    with_arg(with_arg(with_arg(Ok(command), report), log), file)
+    with_rows(alloc, command, replay_rows())
 }
 
 fn serve_command<'a>(alloc: Global) -> Result<Command<'a>, AllocError>
@@ -134,229 +103,7 @@ fn serve_command<'a>(alloc: Global) -> Result<Command<'a>, AllocError>
     let command = Command::new(alloc, "serve")
         .about("Serves sessions on a socket, then prints the domain's report")
         .override_usage(SERVE_USAGE);
-    let command = with_arg(
-        Ok(command),
-        path(
-            alloc,
-            "socket",
-            "PATH",
-            "The socket's path, where nothing stands or a socket that a daemon left, at most 107 bytes",
-        ),
-    );
-    let command = with_arg(
-        command,
-        optional_number(
-            alloc,
-            "workers",
-            "N",
-            1,
-            MAX_WORKERS,
-            "How many workers the domain has, 1 to 16; without it 4",
-        ),
-    );
-    let command = with_arg(
-        command,
-        optional_number(
-            alloc,
-            "clients",
-            "N",
-            1,
-            MAX_CLIENTS as u64,
-            "How many clients are served at a time, 1 to 1024; without it 64",
-        ),
-    );
-    let command = with_arg(
-        command,
-        optional_number(
-            alloc,
-            "domain",
-            "N",
-            0,
-            MAX_DOMAINS - 1,
-            "The number that clients name the domain by, 0 to 7; without it 0",
-        ),
-    );
-    let command = with_arg(
-        command,
-        optional_number(
-            alloc,
-            "start",
-            "N",
-            1,
-            WIDE_TOP,
-            "The first frame that may be given, 1 to 68719476735, with --depot to 1099511627775; without it 1",
-        ),
-    );
-    let command = with_arg(
-        command,
-        optional_number(
-            alloc,
-            "last",
-            "N",
-            1,
-            WIDE_TOP,
-            "The last frame that may be given, 1 to 68719476735, with --depot to 1099511627775; without it 1043967",
-        ),
-    );
-    let command = with_arg(
-        command,
-        optional_path(
-            alloc,
-            "peer",
-            "PATH",
-            "The socket of a peer that invalidates and answers; this or --sink is wanted",
-        ),
-    );
-    let command = with_arg(
-        command,
-        optional_path(
-            alloc,
-            "sink",
-            "FILE",
-            "The file that records are appended to, which no device answers",
-        ),
-    );
-    let command = with_arg(
-        command,
-        optional_number(
-            alloc,
-            "peer-wait",
-            "SECONDS",
-            0,
-            MAX_PEER_WAIT,
-            "With --peer: how long it is waited for at the start, 0 to 3600; without it 0",
-        ),
-    );
-    let command = with_arg(
-        command,
-        optional_number(
-            alloc,
-            "sessions",
-            "N",
-            1,
-            MAX_SESSIONS,
-            "How many sessions are served before the daemon ends, 1 to 65536; without it they have no end",
-        ),
-    );
-    let command = with_arg(
-        command,
-        optional_number(
-            alloc,
-            "session-requests",
-            "N",
-            0,
-            MAX_SESSION_REQUESTS,
-            "The most requests of a session, or 0 for no bound, 0 to 9223372036854775807; without it 65536",
-        ),
-    );
-    let command = with_arg(
-        command,
-        optional_number(
-            alloc,
-            "idle",
-            "SECONDS",
-            1,
-            MAX_IDLE,
-            "After how long a session ends that sends nothing or takes nothing, 1 to 86400; without it none does",
-        ),
-    );
-    let command = with_arg(
-        command,
-        optional_number(
-            alloc,
-            "depot",
-            "N",
-            0,
-            MAX_DEPOT,
-            "The second profile, with at most N magazines of each size in the depot, 0 to 32; without it the first",
-        ),
-    );
-    let command = with_arg(
-        command,
-        flag(
-            alloc,
-            "strict",
-            "A range that is freed is flushed at once, before its answer",
-        ),
-    );
-    let command = with_arg(
-        command,
-        optional_path(
-            alloc,
-            "record",
-            "FILE",
-            "The file that the domain's first steps are written to at the end, as a trace",
-        ),
-    );
-    let command = with_arg(
-        command,
-        optional_number(
-            alloc,
-            "record-steps",
-            "N",
-            1,
-            MAX_RECORDED_STEPS,
-            "How many steps --record keeps, 1 to 1000000; without it 100000",
-        ),
-    );
-    let command = with_arg(
-        command,
-        repeated(
-            alloc,
-            "reserve",
-            "FIRST-LAST",
-            "Frames that are given to nobody; it may be there any number of times",
-        ),
-    );
-    let command = with_arg(
-        command,
-        optional_path(
-            alloc,
-            "reserved-regions",
-            "FILE",
-            "A group's reserved_regions, or - for standard input: their frames are given to nobody",
-        ),
-    );
-    let command = with_arg(
-        command,
-        optional_number(
-            alloc,
-            "sink-timeout",
-            "SECONDS",
-            1,
-            MAX_SINK_TIMEOUT,
-            "How long a peer that answers has for each read and each write, 1 to 3600; without it 10",
-        ),
-    );
-    let command = with_arg(
-        command,
-        optional_path(
-            alloc,
-            "log-level",
-            "LEVEL",
-            "The least grave notices that are told, error, warn, info or debug; without it warn",
-        ),
-    );
-    let command = with_arg(
-        command,
-        optional_path(
-            alloc,
-            "control",
-            "PATH",
-            "The path of a socket for iovad control, at most 107 bytes; without it there is none",
-        ),
-    );
-    with_arg(
-        command,
-        optional_number(
-            alloc,
-            "granule",
-            "BYTES",
-            FRAME_BYTES,
-            MAX_GRANULE,
-            "The bytes of a frame, a power of two, 4096 to 2097152; without it 4096",
-        ),
-    )
+    with_rows(alloc, command, serve_rows())
 }
 
 fn ask_command<'a>(alloc: Global) -> Result<Command<'a>, AllocError>
@@ -365,16 +112,7 @@ fn ask_command<'a>(alloc: Global) -> Result<Command<'a>, AllocError>
     let command = Command::new(alloc, "ask")
         .about("Sends lines from standard input to a socket and prints the answers")
         .after_help(REQUESTS);
-    let timeout = optional_number(
-        alloc,
-        "timeout",
-        "SECONDS",
-        1,
-        MAX_ANSWER_TIMEOUT,
-        "How long each answer may take, 1 to 86400; without it without end",
-    );
-    let path = place(alloc, "path", "PATH", "The socket's path");
-    with_arg(with_arg(Ok(command), timeout), path)
+    with_rows(alloc, command, ask_rows())
 }
 
 fn control_command<'a>(alloc: Global) -> Result<Command<'a>, AllocError>
@@ -383,27 +121,7 @@ fn control_command<'a>(alloc: Global) -> Result<Command<'a>, AllocError>
     let command = Command::new(alloc, "control")
         .about("Asks a daemon for its report or its figures, or has it stop")
         .after_help(CONTROL_WORDS);
-    let timeout = optional_number(
-        alloc,
-        "timeout",
-        "SECONDS",
-        1,
-        MAX_ANSWER_TIMEOUT,
-        "How long the answer may take, 1 to 86400; without it 10, for a stop without end",
-    );
-    let top = flag(alloc, "top", "With watch: a screen in place of lines");
-    let path = place(alloc, "path", "PATH", "The path of its control socket");
-    let word = place(alloc, "word", "WORD", "What is asked for");
-    let seconds = optional_place(
-        alloc,
-        "seconds",
-        "SECONDS",
-        1,
-        MAX_WATCH_PAUSE,
-        "With watch: the time between two lines, 1 to 3600; without it 1",
-    );
-    let command = with_arg(with_arg(Ok(command), timeout), top);
-    with_arg(with_arg(with_arg(command, path), word), seconds)
+    with_rows(alloc, command, control_rows())
 }
 
 fn check_command<'a>(alloc: Global) -> Result<Command<'a>, AllocError>
@@ -412,78 +130,43 @@ fn check_command<'a>(alloc: Global) -> Result<Command<'a>, AllocError>
     let command = Command::new(alloc, "check")
         .about("Checks a log of what was mapped, unmapped and flushed, by whomever")
         .after_help(LINES_OF_A_LOG);
-    let command = with_arg(
-        Ok(command),
-        flag(alloc, "quiet", "The counts alone are printed"),
-    );
-    let command = with_arg(
-        command,
-        optional_number(
-            alloc,
-            "first",
-            "N",
-            0,
-            WIDE_TOP,
-            "The first frame that may be mapped, 0 to 1099511627775; without it the log's, with --ftrace 0",
-        ),
-    );
-    let command = with_arg(
-        command,
-        optional_number(
-            alloc,
-            "last",
-            "N",
-            0,
-            WIDE_TOP,
-            "The last frame that may be mapped, 0 to 1099511627775; without it the log's, with --ftrace 1099511627775",
-        ),
-    );
-    let command = with_arg(
-        command,
-        optional_path(
-            alloc,
-            "reserved-regions",
-            "PATH",
-            "A group's reserved_regions, or - for standard input: its msi and reserved ones may not be mapped",
-        ),
-    );
-    let command = with_arg(
-        command,
-        flag(
-            alloc,
-            "ftrace",
-            "FILE is a kernel's trace, as tracefs or perf script print it",
-        ),
-    );
-    let command = with_arg(
-        command,
-        optional_number(
-            alloc,
-            "did",
-            "N",
-            0,
-            LAST_DOMAIN_ID,
-            "With --ftrace: the IOMMU's domain whose flushes count beside those of all, 0 to 65535; without it all do",
-        ),
-    );
-    let file = place(
-        alloc,
-        "file",
-        "FILE",
-        "The log's file, or - for standard input",
-    );
-    with_arg(command, file)
+    with_rows(alloc, command, check_rows())
 }
 
-/// The command with this argument too.
-fn with_arg<'a>(
-    command: Result<Command<'a>, AllocError>,
-    arg: Arg<'a>,
+/// The command with these options and places, in this order.
+fn with_rows<'a>(
+    alloc: Global,
+    command: Command<'a>,
+    rows: &[OptionRow],
 ) -> Result<Command<'a>, AllocError>
-    ensures { (app : App) → IfOk command.entry (IsCommand app) → arg.entry.global ≡ false
-        → IfOk result (IsCommand (with_rule app (rule_of arg.entry))) }
+    requires { are_parsable (map taken rows.now) ≡ true }
+    ensures { (app : App) → IsCommand app command.entry
+        → IfOk result (IsCommand (with_options app (map taken rows.now))) }
 {
-    command?.arg(arg)
+    match rows.split_first() {
+        None => Ok(command),
+        Some((row, more)) => with_rows(alloc, command.arg(arg_of(alloc, row))?, more),
+    }
+}
+
+/// The argument of a row, as clap reads it.
+fn arg_of<'a>(alloc: Global, row: &OptionRow) -> Arg<'a>
+    requires { is_parsable row.now.takes ≡ true }
+    ensures rule { rule_of result ≡ option_rule_of (taken row.now) }
+    ensures local { result.global ≡ false }
+{
+    let (name, value, help) = (row.name, row.value, row.help);
+    match row.takes {
+        Takes::Nothing => flag(alloc, name, help),
+        Takes::Path => optional_path(alloc, name, value, help),
+        Takes::WantedPath => path(alloc, name, value, help),
+        Takes::Number { low, high, .. } => { optional_number(alloc, name, value, low, high, help) }
+        Takes::PowerOfTwo { low, high } => optional_number(alloc, name, value, low, high, help),
+        Takes::Level | Takes::Label => optional_path(alloc, name, value, help),
+        Takes::Spans => repeated(alloc, name, value, help),
+        Takes::Place => place(alloc, name, value, help),
+        Takes::NumberPlace { low, high } => optional_place(alloc, name, value, low, high, help),
+    }
 }
 
 /// The command with this subcommand too.

@@ -124,30 +124,49 @@ impl<'a> Plan<'a> {
     pub(crate) fn of(found: &ArgMatches<'a>) -> Option<Plan<'a>>
         ensures { IfSome result (λ p. Plans (rows_of (found_of found.now)) p) }
     {
+        let socket = found.get_str("socket")?;
+        let workers = number_or(found, "workers", DEFAULT_WORKERS, 1, MAX_WORKERS)?;
+        let clients = optional(found, "clients", 1, MAX_CLIENTS as u64)?;
+        let domain = number_or(found, "domain", DEFAULT_DOMAIN, 0, MAX_DOMAINS - 1)?;
         let start = number_or(found, "start", DEFAULT_START, 1, WIDE_TOP)?;
         let last = number_or(found, "last", DEFAULT_LAST, 1, WIDE_TOP)?;
+        let sink = SinkPath::of(found)?;
+        let peer_wait = optional(found, "peer-wait", 0, MAX_PEER_WAIT)?;
+        let sessions = optional(found, "sessions", 1, MAX_SESSIONS)?;
+        let session_requests = optional(found, "session-requests", 0, MAX_SESSION_REQUESTS)?;
+        let idle = optional(found, "idle", 1, MAX_IDLE)?;
+        let depot = optional(found, "depot", 0, MAX_DEPOT)?;
+        let strict = found.get_flag("strict");
+        let record = found.get_str("record");
+        let record_steps = optional(found, "record-steps", 1, MAX_RECORDED_STEPS)?;
+        let windows = windows(found, "reserve", start, last)?;
+        let regions = found.get_str("reserved-regions");
+        let sink_timeout = optional(found, "sink-timeout", 1, MAX_SINK_TIMEOUT)?;
+        let log_level = level(found, "log-level")?;
+        let control = found.get_str("control");
+        let granule = granule(found, "granule")?;
         let plan = Plan {
-            socket: found.get_str("socket")?,
-            workers: number_or(found, "workers", DEFAULT_WORKERS, 1, MAX_WORKERS)?,
-            domain: number_or(found, "domain", DEFAULT_DOMAIN, 0, MAX_DOMAINS - 1)?,
+            socket,
+            workers,
+            clients,
+            domain,
             start,
             last,
-            sink: SinkPath::of(found)?,
-            peer_wait: optional(found, "peer-wait", 0, MAX_PEER_WAIT)?,
-            sessions: optional(found, "sessions", 1, MAX_SESSIONS)?,
-            session_requests: optional(found, "session-requests", 0, MAX_SESSION_REQUESTS)?,
-            idle: optional(found, "idle", 1, MAX_IDLE)?,
-            depot: optional(found, "depot", 0, MAX_DEPOT)?,
-            strict: found.get_flag("strict"),
-            record: found.get_str("record"),
-            record_steps: optional(found, "record-steps", 1, MAX_RECORDED_STEPS)?,
-            windows: windows(found, "reserve", start, last)?,
-            regions: found.get_str("reserved-regions"),
-            sink_timeout: optional(found, "sink-timeout", 1, MAX_SINK_TIMEOUT)?,
-            log_level: level(found, "log-level")?,
-            control: found.get_str("control"),
-            clients: optional(found, "clients", 1, MAX_CLIENTS as u64)?,
-            granule: granule(found, "granule")?,
+            sink,
+            peer_wait,
+            sessions,
+            session_requests,
+            idle,
+            depot,
+            strict,
+            record,
+            record_steps,
+            windows,
+            regions,
+            sink_timeout,
+            log_level,
+            control,
+            granule,
         };
         if plan.record_steps.is_some() && plan.record.is_none() {
             return None;

@@ -10,7 +10,10 @@ use crate::asked::Asked;
 use crate::check_plan::CheckPlan;
 use crate::command::iovad_command;
 use crate::control_word::ControlWord;
+use crate::label::are_right;
+use crate::options::serve_rows;
 use crate::plan::{Plan, optional};
+use crate::said::Said;
 use crate::usage::WordsFault;
 use crate::wrong_word::wrong_word;
 use clap::error::ErrorKind;
@@ -65,23 +68,18 @@ fn asked_of<'a, S: AsStr>(
         → RefusesBy (fault_of (app_of command.entry) (map S.text words.entry.now)) result }
 {
     let matches = command.try_get_matches_from(words)?;
-    match asked_by(&matches) {
-        Some(asked) => Ok(asked),
-        None => {
-            let text = wrong_word(alloc, &matches)?;
-            Err(fault(alloc, text.as_str()))
-        }
-    }
+    asked_by(alloc, matches)
 }
 
-/// What the matched words ask for. None where an option is missing, or its number is outside its
-/// range.
-fn asked_by<'a>(matches: &ArgMatches<'a>) -> Option<Asked<'a>>
-    ensures { IfSome result (λ a. AsksFor (subcommand_rows_of matches.now) a) }
+/// What the matched words ask for. Refused where an option is missing, or its value is none that it
+/// takes.
+fn asked_by<'a>(alloc: Global, mut matches: ArgMatches<'a>) -> Result<Asked<'a>, WordsFault>
+    ensures asks { IfOk result (λ a. AsksFor (subcommand_rows_of matches.entry) a) }
+    ensures refused { IfErr result IsNotUnderstood }
 {
-    match matches.subcommand() {
-        Some((name, found)) => asked_of_command(name, found),
-        None => Some(Asked::Replay {
+    match matches.remove_subcommand() {
+        Some((name, found)) => asked_in(alloc, name, found),
+        None => Ok(Asked::Replay {
             path: STANDARD_INPUT,
             has_report: false,
             log: None,
@@ -90,11 +88,49 @@ fn asked_by<'a>(matches: &ArgMatches<'a>) -> Option<Asked<'a>>
 }
 
 /// What the command of this name asks for, by what it matched.
+fn asked_in<'a>(alloc: Global, name: &str, found: ArgMatches<'a>) -> Result<Asked<'a>, WordsFault>
+    ensures asks { IfOk result (λ a. AsksOf name.now (rows_of (found_of found.entry)) a) }
+    ensures refused { IfErr result IsNotUnderstood }
+{
+    match name {
+        "serve" => asked_to_serve(alloc, found),
+        _ => match asked_of_command(name, &found) {
+            Some(asked) => Ok(asked),
+            None => Err(wrong(alloc, name, &found)),
+        },
+    }
+}
+
+/// What `serve` asks for, by what it matched.
+fn asked_to_serve<'a>(alloc: Global, found: ArgMatches<'a>) -> Result<Asked<'a>, WordsFault>
+    ensures asks { IfOk result (λ a. AsksOf (codes "serve") (rows_of (found_of found.entry)) a) }
+    ensures refused { IfErr result IsNotUnderstood }
+{
+    if !are_right(&found, serve_rows()) {
+        return Err(wrong(alloc, "serve", &found));
+    }
+    match Plan::of(&found) {
+        Some(plan) => Ok(Asked::Serve(plan, Said::new(found))),
+        None => Err(wrong(alloc, "serve", &found)),
+    }
+}
+
+/// The fault of words that ask for nothing.
+fn wrong(alloc: Global, name: &str, found: &ArgMatches<'_>) -> WordsFault
+    ensures { IsNotUnderstood result }
+{
+    match wrong_word(alloc, name, found) {
+        Ok(text) => fault(alloc, text.as_str()),
+        Err(error) => WordsFault::from(error),
+    }
+}
+
+/// What the command of this name asks for, by what it matched; `serve` is looked at by itself.
 fn asked_of_command<'a>(name: &str, found: &ArgMatches<'a>) -> Option<Asked<'a>>
     ensures { IfSome result (λ a. AsksOf name.now (rows_of (found_of found.now)) a) }
 {
     match name {
-        "serve" => Some(Asked::Serve(Plan::of(found)?)),
+        "serve" => None,
         "ask" => Some(Asked::Ask {
             path: found.get_str("path")?,
             timeout: optional(found, "timeout", 1, MAX_ANSWER_TIMEOUT)?,

@@ -1,23 +1,37 @@
 //! What is wrong with words that clap takes and that ask for nothing: the option, and its value.
 use crate::control_word::ControlWord;
+use crate::label::is_label;
+use crate::options::{OptionRow, Takes, ask_rows, check_rows, control_rows, serve_rows};
 use crate::plan::{has_plus, is_granule, level_of};
+use crate::said::is_there;
 use crate::words::WATCH;
 use clap::ArgMatches;
-use iova_range::limits::{
-    FRAME_BYTES, LAST_DOMAIN_ID, MAX_ANSWER_TIMEOUT, MAX_CLIENTS, MAX_DEPOT, MAX_DOMAINS,
-    MAX_GRANULE, MAX_IDLE, MAX_PEER_WAIT, MAX_RECORDED_STEPS, MAX_SESSION_REQUESTS, MAX_SESSIONS,
-    MAX_SINK_TIMEOUT, MAX_WATCH_PAUSE, MAX_WORKERS, WIDE_TOP,
-};
+use iova_range::limits::MAX_WATCH_PAUSE;
 use iova_regions::span::read_span;
 use std::alloc::{AllocError, Global};
 
-/// What is wrong with these words, in one line.
-pub(crate) fn wrong_word(alloc: Global, matches: &ArgMatches<'_>) -> Result<String, AllocError> {
-    let wrong = match matches.subcommand() {
-        Some((name, found)) => wrong_in_command(alloc, name, found)?,
-        None => None,
-    };
-    match wrong {
+/// What of the options is looked at, in this order: the first that is wrong is told.
+#[derive(Clone, Copy, PartialEq, Eq)]
+enum Look {
+    /// Whether numbers begin with a digit; clap has seen to their ranges.
+    Numbers,
+    /// Whether words are among those of their option.
+    Words,
+    /// Whether the options that others need are there.
+    Needs,
+    /// Whether numbers are powers of two.
+    Powers,
+    /// Whether two frames are, and whether there is room for so many windows.
+    Spans,
+}
+
+/// What is wrong with these words of the command of this name, in one line.
+pub(crate) fn wrong_word(
+    alloc: Global,
+    name: &str,
+    found: &ArgMatches<'_>,
+) -> Result<String, AllocError> {
+    match wrong_in_command(alloc, name, found)? {
         Some(text) => Ok(text),
         None => String::from_str(alloc, "an option is missing, or outside its range"),
     }
@@ -30,9 +44,9 @@ fn wrong_in_command(
 ) -> Result<Option<String>, AllocError> {
     match name {
         "serve" => wrong_to_serve(alloc, found),
-        "check" => wrong_to_check(alloc, found),
+        "check" => wrong_among(alloc, found, check_rows()),
         "control" => wrong_to_control(alloc, found),
-        "ask" => wrong_number(alloc, found, "timeout", 1, MAX_ANSWER_TIMEOUT),
+        "ask" => wrong_among(alloc, found, ask_rows()),
         _ => Ok(None),
     }
 }
@@ -45,7 +59,7 @@ fn wrong_to_control(alloc: Global, found: &ArgMatches<'_>) -> Result<Option<Stri
         )?;
         return Ok(Some(text));
     }
-    if let Some(text) = wrong_number(alloc, found, "timeout", 1, MAX_ANSWER_TIMEOUT)? {
+    if let Some(text) = wrong_among(alloc, found, control_rows())? {
         return Ok(Some(text));
     }
     let seconds = found.get_str("seconds");
@@ -66,68 +80,95 @@ fn wrong_to_control(alloc: Global, found: &ArgMatches<'_>) -> Result<Option<Stri
     Ok(Some(text))
 }
 
-fn wrong_to_check(alloc: Global, found: &ArgMatches<'_>) -> Result<Option<String>, AllocError> {
-    let numbers = [
-        ("first", 0, WIDE_TOP),
-        ("last", 0, WIDE_TOP),
-        ("did", 0, LAST_DOMAIN_ID),
-    ];
-    if let Some(text) = wrong_among(alloc, found, &numbers)? {
-        return Ok(Some(text));
-    }
-    let did = found.get_str("did").unwrap_or("");
-    let text = format!(in alloc; "--did '{did}' is for --ftrace, which is missing")?;
-    Ok(Some(text))
-}
-
 fn wrong_to_serve(alloc: Global, found: &ArgMatches<'_>) -> Result<Option<String>, AllocError> {
-    let numbers = [
-        ("workers", 1, MAX_WORKERS),
-        ("clients", 1, MAX_CLIENTS as u64),
-        ("domain", 0, MAX_DOMAINS - 1),
-        ("start", 1, WIDE_TOP),
-        ("last", 1, WIDE_TOP),
-        ("peer-wait", 0, MAX_PEER_WAIT),
-        ("sessions", 1, MAX_SESSIONS),
-        ("session-requests", 0, MAX_SESSION_REQUESTS),
-        ("idle", 1, MAX_IDLE),
-        ("depot", 0, MAX_DEPOT),
-        ("record-steps", 1, MAX_RECORDED_STEPS),
-        ("sink-timeout", 1, MAX_SINK_TIMEOUT),
-        ("granule", FRAME_BYTES, MAX_GRANULE),
-    ];
-    if let Some(text) = wrong_among(alloc, found, &numbers)? {
+    for look in [Look::Numbers, Look::Words] {
+        if let Some(text) = first_wrong(alloc, found, serve_rows(), look)? {
+            return Ok(Some(text));
+        }
+    }
+    if let Some(text) = wrong_sinks(alloc, found)? {
         return Ok(Some(text));
     }
-    if let Some(text) = wrong_level(alloc, found)? {
-        return Ok(Some(text));
-    }
-    if let Some(text) = wrong_pair(alloc, found)? {
-        return Ok(Some(text));
-    }
-    if let Some(bytes) = found.get_one::<u64>("granule")
-        && !is_granule(bytes)
-    {
-        let text = format!(in alloc;
-            "--granule: '{bytes}' is not a power of two from {FRAME_BYTES} to {MAX_GRANULE}"
-        )?;
-        return Ok(Some(text));
-    }
-    wrong_window(alloc, found)
-}
-
-/// The first of these options, each with its range, whose number is none.
-fn wrong_among(
-    alloc: Global,
-    found: &ArgMatches<'_>,
-    numbers: &[(&str, u64, u64)],
-) -> Result<Option<String>, AllocError> {
-    for (name, low, high) in numbers {
-        if let Some(text) = wrong_number(alloc, found, name, *low, *high)? {
+    for look in [Look::Needs, Look::Powers, Look::Spans] {
+        if let Some(text) = first_wrong(alloc, found, serve_rows(), look)? {
             return Ok(Some(text));
         }
     }
     Ok(None)
+}
+
+/// What is wrong with the first of these options that is.
+fn wrong_among(
+    alloc: Global,
+    found: &ArgMatches<'_>,
+    rows: &[OptionRow],
+) -> Result<Option<String>, AllocError> {
+    for look in [Look::Numbers, Look::Words, Look::Needs] {
+        if let Some(text) = first_wrong(alloc, found, rows, look)? {
+            return Ok(Some(text));
+        }
+    }
+    Ok(None)
+}
+
+/// What is wrong with the first of these options that is, of what is looked at.
+fn first_wrong(
+    alloc: Global,
+    found: &ArgMatches<'_>,
+    rows: &[OptionRow],
+    look: Look,
+) -> Result<Option<String>, AllocError> {
+    for row in rows {
+        if let Some(text) = wrong_option(alloc, found, row, look)? {
+            return Ok(Some(text));
+        }
+    }
+    Ok(None)
+}
+
+/// What is wrong with this option, of what is looked at.
+fn wrong_option(
+    alloc: Global,
+    found: &ArgMatches<'_>,
+    row: &OptionRow,
+    look: Look,
+) -> Result<Option<String>, AllocError> {
+    let name = row.name;
+    if look == Look::Needs {
+        return missing_need(alloc, found, name, row.needs);
+    }
+    match (row.takes, look) {
+        (Takes::Number { low, high, .. }, Look::Numbers) => {
+            wrong_number(alloc, found, name, low, high)
+        }
+        (Takes::PowerOfTwo { low, high }, Look::Numbers) => {
+            wrong_number(alloc, found, name, low, high)
+        }
+        (Takes::PowerOfTwo { low, high }, Look::Powers) => {
+            wrong_power(alloc, found, name, low, high)
+        }
+        (Takes::Level, Look::Words) => wrong_level(alloc, found, name),
+        (Takes::Label, Look::Words) => wrong_label(alloc, found, name),
+        (Takes::Spans, Look::Spans) => wrong_span(alloc, found, name),
+        _ => Ok(None),
+    }
+}
+
+/// An option without the one that it needs.
+fn missing_need(
+    alloc: Global,
+    found: &ArgMatches<'_>,
+    name: &str,
+    need: &str,
+) -> Result<Option<String>, AllocError> {
+    let Some(value) = found.get_str(name) else {
+        return Ok(None);
+    };
+    if need.is_empty() || is_there(found, need) {
+        return Ok(None);
+    }
+    let text = format!(in alloc; "--{name} '{value}' is for --{need}, which is missing")?;
+    Ok(Some(text))
 }
 
 fn wrong_number(
@@ -145,19 +186,59 @@ fn wrong_number(
     Ok(Some(text))
 }
 
-fn wrong_level(alloc: Global, found: &ArgMatches<'_>) -> Result<Option<String>, AllocError> {
-    let Some(level) = found.get_str("log-level") else {
+fn wrong_power(
+    alloc: Global,
+    found: &ArgMatches<'_>,
+    name: &str,
+    low: u64,
+    high: u64,
+) -> Result<Option<String>, AllocError> {
+    let Some(number) = found.get_one::<u64>(name) else {
+        return Ok(None);
+    };
+    if is_granule(number) {
+        return Ok(None);
+    }
+    let text = format!(in alloc;
+        "--{name}: '{number}' is not a power of two from {low} to {high}"
+    )?;
+    Ok(Some(text))
+}
+
+fn wrong_level(
+    alloc: Global,
+    found: &ArgMatches<'_>,
+    name: &str,
+) -> Result<Option<String>, AllocError> {
+    let Some(level) = found.get_str(name) else {
         return Ok(None);
     };
     if level_of(level).is_some() {
         return Ok(None);
     }
-    let text = format!(in alloc; "--log-level: '{level}' is none of error, warn, info and debug")?;
+    let text = format!(in alloc; "--{name}: '{level}' is none of error, warn, info and debug")?;
     Ok(Some(text))
 }
 
-/// An option without the one that it is for, or two of which one is wanted.
-fn wrong_pair(alloc: Global, found: &ArgMatches<'_>) -> Result<Option<String>, AllocError> {
+fn wrong_label(
+    alloc: Global,
+    found: &ArgMatches<'_>,
+    name: &str,
+) -> Result<Option<String>, AllocError> {
+    let Some(label) = found.get_str(name) else {
+        return Ok(None);
+    };
+    if is_label(label) {
+        return Ok(None);
+    }
+    let text = format!(in alloc;
+        "--{name}: '{label}' is not 1 to 64 visible ASCII characters without quote or backslash"
+    )?;
+    Ok(Some(text))
+}
+
+/// Two options of which one is wanted.
+fn wrong_sinks(alloc: Global, found: &ArgMatches<'_>) -> Result<Option<String>, AllocError> {
     let has_peer = found.get_str("peer").is_some();
     let has_sink = found.get_str("sink").is_some();
     if has_peer && has_sink {
@@ -171,26 +252,22 @@ fn wrong_pair(alloc: Global, found: &ArgMatches<'_>) -> Result<Option<String>, A
         let text = String::from_str(alloc, "--peer or --sink is missing: one of them is wanted")?;
         return Ok(Some(text));
     }
-    if let (Some(wait), false) = (found.get_str("peer-wait"), has_peer) {
-        let text = format!(in alloc; "--peer-wait '{wait}' is for --peer, which is missing")?;
-        return Ok(Some(text));
-    }
-    if let (Some(steps), None) = (found.get_str("record-steps"), found.get_str("record")) {
-        let text = format!(in alloc; "--record-steps '{steps}' is for --record, which is missing")?;
-        return Ok(Some(text));
-    }
     Ok(None)
 }
 
 /// The first window that is none of two frames; else the windows are too many.
-fn wrong_window(alloc: Global, found: &ArgMatches<'_>) -> Result<Option<String>, AllocError> {
-    let Some(spans) = found.get_raw("reserve") else {
+fn wrong_span(
+    alloc: Global,
+    found: &ArgMatches<'_>,
+    name: &str,
+) -> Result<Option<String>, AllocError> {
+    let Some(spans) = found.get_raw(name) else {
         return Ok(None);
     };
     for span in spans {
         if read_span(span.as_bytes()).is_none() {
             let text = format!(in alloc;
-                "--reserve: '{span}' is not FIRST-LAST, with the first frame at most the last"
+                "--{name}: '{span}' is not FIRST-LAST, with the first frame at most the last"
             )?;
             return Ok(Some(text));
         }
@@ -199,6 +276,6 @@ fn wrong_window(alloc: Global, found: &ArgMatches<'_>) -> Result<Option<String>,
         Some(span) => *span,
         None => "",
     };
-    let text = format!(in alloc; "--reserve: more than 64 windows up to '{last}'")?;
+    let text = format!(in alloc; "--{name}: more than 64 windows up to '{last}'")?;
     Ok(Some(text))
 }

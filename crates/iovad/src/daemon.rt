@@ -10,6 +10,7 @@ ghost use Rattle.iovad.specs.Ends.{EndsAll, EndsCounted, IsAnswered, ServesAll, 
 
 use iova_command::plan::Plan;
 use iova_command::plan_words::PlanWords;
+use iova_command::said::Said;
 use iova_command::sink_path::SinkPath;
 use iova_command::words::VERSION;
 use iova_control::control::{Control, Facts};
@@ -89,7 +90,12 @@ struct Running<'a, R> {
 /// record's beginning; `SocketFault` where a thread can't be started; `NoMemory` or `CannotWrite`
 /// for the record at its end; `NoMemory` for the report; `CannotWrite`; `Left` where the daemon was
 /// stopped, and something is left at clients or in rings.
-pub fn serve<'a, R, B>(rt: &R, plan: &Plan<'a>, blanks: Blanks) -> Result<(), Fault<'a>>
+pub fn serve<'a, R, B>(
+    rt: &R,
+    plan: &Plan<'a>,
+    said: &Said<'a>,
+    blanks: Blanks,
+) -> Result<(), Fault<'a>>
 where
     R: Runtime + AllocGlobal + Net + Dial + Threads + Wait + Sync + Files<File = File> + Log,
     B: Names + Send + Sync,
@@ -106,7 +112,7 @@ where
     let warns = plan.log_level != LevelFilter::Error;
     let console = CountedConsole::new(rt, &signals, warns);
     let notices = Logged::new(rt, counted_level(plan), console);
-    tell_start(&notices, plan, &windows);
+    tell_start(&notices, said, &windows);
     let made = new_domain::<R, B>(rt, plan, bounds, &windows, blanks);
     match made {
         Some((shared, posts)) => serve_domain(rt, plan, &notices, &signals, shared, posts),
@@ -140,9 +146,9 @@ fn seconds_since_1970<R: Clock>(rt: &R) -> u64 {
 }
 
 /// Tells what is served, in the words of the command line.
-fn tell_start<R: Clock + Eprint>(notices: &Notices<'_, R>, plan: &Plan<'_>, windows: &Windows) {
+fn tell_start<R: Clock + Eprint>(notices: &Notices<'_, R>, said: &Said<'_>, windows: &Windows) {
     let version = VERSION.lines().next().unwrap_or(VERSION);
-    let words = PlanWords::new(plan, windows);
+    let words = PlanWords::new(said, windows);
     info!(notices; target: "", "iovad {version} starts: {words}");
 }
 

@@ -7,6 +7,7 @@ mod daemon;
 use daemon::serve;
 use iova_command::asked::Asked;
 use iova_command::plan::Plan;
+use iova_command::said::Said;
 use iova_command::words::{asked, words};
 use iova_files::standard::hold_closed_streams;
 use iova_keep::ledgers::Blanks;
@@ -57,7 +58,7 @@ where
             has_report,
             log,
         } => replay(rt, path, has_report, log),
-        Asked::Serve(plan) => serve_plan(rt, &plan),
+        Asked::Serve(plan, said) => serve_plan(rt, &plan, &said),
         Asked::Ask { path, timeout } => ask_at(rt, path, timeout, is_by_hand),
         Asked::Check(plan) => check_planned(rt, &plan),
         Asked::Control {
@@ -83,10 +84,10 @@ where
 }
 
 /// Serves what the plan says. The four ledgers of the domain get their names here.
-fn serve_plan<'a, R>(rt: &R, plan: &Plan<'a>) -> Result<(), Fault<'a>>
+fn serve_plan<'a, R>(rt: &R, plan: &Plan<'a>, said: &Said<'a>) -> Result<(), Fault<'a>>
 where
     R: Runtime + AllocGlobal + Net + Dial + Threads + Wait + Sync + Files<File = File> + Log,
 {
     let seats = seat_count(plan);
-    serve::<R, Brand>(rt, plan, Blanks::new(seats, SEAT_PARTS))
+    serve::<R, Brand>(rt, plan, said, Blanks::new(seats, SEAT_PARTS))
 }

@@ -4,11 +4,11 @@ use Rattle.iova_command.proofs.check_plan.CheckPlan.of.Goals as goal
 
 pub returns : goal.returns
 returns c = record {
-  path = text_read (found_of c.args.found.now) _ c.get_str.result c.in_ok-get_str.field-0 c.get_str.ensures c.in_ok-get_str.was;
-  quiet = flag_read (found_of c.args.found.now) _ c.get_flag.result c.get_flag.ensures.value c.get_flag.ensures.other;
-  first = c.in_ok-optional.ensures.read;
-  last = c.in_ok-optional-2.ensures.read;
-  regions = optional_text_read (found_of c.args.found.now) _ c.get_str-2.result c.get_str-2.ensures;
-  ftrace = flag_read (found_of c.args.found.now) _ c.get_flag-2.result c.get_flag-2.ensures.value c.get_flag-2.ensures.other;
-  did = c.in_ok-optional-3.ensures.read;
+  path = text_read (found_of c.args.found.now) _ c.get_str.result c.in_ok-path.path c.get_str.ensures c.in_ok-path.was;
+  quiet = flag_read (found_of c.args.found.now) _ c.get_flag-quiet.result c.get_flag-quiet.ensures.value c.get_flag-quiet.ensures.other;
+  first = c.in_ok-first.ensures.read;
+  last = c.in_ok-last.ensures.read;
+  regions = optional_text_read (found_of c.args.found.now) _ c.get_str-regions.result c.get_str-regions.ensures;
+  ftrace = flag_read (found_of c.args.found.now) _ c.get_flag-ftrace.result c.get_flag-ftrace.ensures.value c.get_flag-ftrace.ensures.other;
+  did = c.in_ok-did.ensures.read;
 }

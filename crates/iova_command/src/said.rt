@@ -1,0 +1,55 @@
+//! What the words say of a command's options.
+ghost use Rattle.std.specs.Prelude.{◌≡◌};
+ghost use Rattle.std.specs.Option.{option_map};
+ghost use Rattle.clap.specs.Words.{first_of, found_of, rows_of};
+
+use clap::ArgMatches;
+use clap::parser::ValueSource;
+use std::marker::Model;
+
+/// What the words say of a command's options, each of which is read by its name. A contract sees
+/// what was matched.
+#[derive(Drop)]
+pub struct Said<'a> {
+    found: ArgMatches<'a>,
+}
+
+impl<'a> Model for Said<'a> {
+    ghost use Rattle.std.specs.Prelude.{List};
+    ghost use Rattle.clap.specs.Words.{Row, found_of, rows_of};
+
+    ghost Value = { List Row };
+
+    ghost view = { λ s. rows_of (found_of s.found) };
+}
+
+impl<'a> Said<'a> {
+    /// What was matched of a command.
+    pub(crate) fn new(found: ArgMatches<'a>) -> Said<'a>
+        ensures { result ≡ rows_of (found_of found.entry) }
+    {
+        Said { found }
+    }
+
+    /// The text of the option of this name. None where it isn't there.
+    pub fn text(&self, name: &str) -> Option<&'a str>
+        ensures { option_map (λ t. t.now) result ≡ first_of name.now self.now }
+    {
+        self.found.get_str(name)
+    }
+
+    /// The number of the option of this name. None where it isn't there, or has none.
+    pub(crate) fn number(&self, name: &str) -> Option<u64> {
+        self.found.get_one::<u64>(name)
+    }
+
+    /// Whether the option of this name is there.
+    pub(crate) fn has(&self, name: &str) -> bool {
+        is_there(&self.found, name)
+    }
+}
+
+/// Whether the words have the option of this name.
+pub(crate) fn is_there(found: &ArgMatches<'_>, name: &str) -> bool {
+    matches!(found.value_source(name), Some(ValueSource::CommandLine))
+}
