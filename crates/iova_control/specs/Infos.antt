@@ -1,5 +1,5 @@
 -- What `info` is answered: what is so of a daemon from its start to its end, a line each.
-use Rattle.std.specs.Prelude.{ℕ, ◌≡◌, ◌++◌, ◌<◌, ◌==◌, Bool, true, false, List, codes, length}
+use Rattle.std.specs.Prelude.{ℕ, ◌≡◌, ◌++◌, ◌<◌, ◌==◌, Bool, true, false, List, [], ◌∷◌, codes, length}
 use Rattle.std.specs.List.{before_first, after_first, position_or_len}
 use Rattle.iova_control.specs.declared.control.Facts.{Facts}
 use Rattle.iova_control.specs.Texts.{word_line, number_line}
@@ -31,6 +31,11 @@ abbrev pub yes_or_no : Bool → List ℕ
 yes_or_no true = codes "yes"
 yes_or_no false = codes "no"
 
+-- the line of a name, and none without one
+abbrev pub name_line : List ℕ → List ℕ
+name_line [] = []
+name_line (b ∷ name) = word_line (codes "name") (b ∷ name)
+
 abbrev pub info_text : Facts → List ℕ
 info_text f =
     word_line (codes "version") (first_line f.version.bytes)
@@ -39,4 +44,5 @@ info_text f =
     ++ (number_line (codes "workers") f.workers
     ++ (number_line (codes "clients") f.clients
     ++ (word_line (codes "sink") (sink_kind f.has_peer)
-    ++ word_line (codes "recorded") (yes_or_no f.is_recorded))))))
+    ++ (word_line (codes "recorded") (yes_or_no f.is_recorded)
+    ++ name_line f.name.bytes))))))

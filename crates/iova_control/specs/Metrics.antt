@@ -132,7 +132,7 @@ refusals_kind =
     kind_text (codes "iovad_refusals_total") (codes "counter")
     (codes "Requests that were refused, by number.")
 
--- of which kind the sink is, and which program it is
+-- of which kind the sink is, which program it is, and which name it has
 abbrev pub sink_text : Bool → List ℕ
 sink_text has_peer =
     kind_text (codes "iovad_sink") (codes "gauge") (codes "Of which kind the sink is.")
@@ -145,8 +145,19 @@ build_text version =
     ++ (codes "iovad_build_info{version=\"" ++ (first_line version ++ (codes "\",kit=\""
     ++ (second_line version ++ codes "\"} 1\n"))))
 
+-- the name, and nothing without one
+abbrev pub named_text : List ℕ → List ℕ
+named_text name =
+    kind_text (codes "iovad_name") (codes "gauge") (codes "The name that --name gives.")
+    ++ (codes "iovad_name{name=\"" ++ (name ++ codes "\"} 1\n"))
+
+abbrev pub name_text : List ℕ → List ℕ
+name_text [] = []
+name_text (b ∷ name) = named_text (b ∷ name)
+
 abbrev pub program_text : Facts → List ℕ
-program_text f = sink_text f.has_peer ++ build_text f.version.bytes
+program_text f =
+    sink_text f.has_peer ++ (build_text f.version.bytes ++ name_text f.name.bytes)
 
 -- All figures of such a daemon, of a domain with these numbers: those with counts of its own are
 -- told of some counts.

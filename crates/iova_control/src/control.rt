@@ -39,6 +39,9 @@ pub struct Control<'a, R, N> {
 /// The most bytes of a version's text.
 const MAX_VERSION: usize = 128;
 
+/// The most bytes of a daemon's name.
+const MAX_NAME: usize = 64;
+
 /// What is so of a daemon from its start to its end.
 #[derive(Drop)]
 pub struct Facts {
@@ -54,12 +57,15 @@ pub struct Facts {
     pub has_peer: bool,
     /// Whether the domain's steps are recorded.
     pub is_recorded: bool,
+    /// The daemon's name, in printable ASCII without quotes and backslashes; empty where it has
+    /// none.
+    pub name: ArrayString<MAX_NAME>,
 }
 
 impl Facts {
     /// What is so of a daemon of this version, whose domain has so many workers, without more:
-    /// frames of 4096 bytes, as many clients at a time, no peer and no record. Of a version's text
-    /// that is longer than 128 bytes nothing is kept.
+    /// frames of 4096 bytes, as many clients at a time, no peer, no record and no name. Of a
+    /// version's text that is longer than 128 bytes nothing is kept.
     pub fn new(version: &str, workers: u64) -> Facts
         ensures numbers { (result.workers ≡ workers) × (result.clients ≡ workers)
             × (result.granule ≡ FRAME_BYTES) }
@@ -74,7 +80,13 @@ impl Facts {
             granule: FRAME_BYTES,
             has_peer: false,
             is_recorded: false,
+            name: ArrayString::new(),
         }
+    }
+
+    /// Gives the daemon this name. A name that is longer than 64 bytes is not kept.
+    pub fn set_name(&mut self, name: &str) {
+        let _ = self.name.try_push_str(name);
     }
 }
 

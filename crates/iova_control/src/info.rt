@@ -1,14 +1,14 @@
 //! What is so of a daemon from its start to its end, a line each.
 ghost use Rattle.std.specs.Prelude.{◌≡◌, ◌++◌, MatchOption, OnOk};
-ghost use Rattle.iova_control.specs.Infos.{HasNoLf, IsCut, behind_line, first_line, info_text, second_line, sink_kind, yes_or_no};
+ghost use Rattle.iova_control.specs.Infos.{HasNoLf, IsCut, behind_line, first_line, info_text, name_line, second_line, sink_kind, yes_or_no};
 ghost use Rattle.iova_control.specs.Texts.{number_line, word_line};
 
 use crate::control::Facts;
 use std::alloc::AllocError;
 
 /// Puts the version and its kit, the bytes of a frame, the workers, the most clients at a time, the
-/// kind of the sink and whether steps are recorded into the text, a line each of a name and a word.
-/// Refused for want of memory.
+/// kind of the sink, whether steps are recorded and, where it has one, the daemon's name into the
+/// text, a line each of a name and a word. Refused for want of memory.
 pub(crate) fn put_info(facts: &Facts, text: &mut String) -> Result<(), AllocError>
     ensures { OnOk result (text.new.bytes.items ≡ text.old.bytes.items ++ info_text facts.now) }
 {
@@ -19,7 +19,18 @@ pub(crate) fn put_info(facts: &Facts, text: &mut String) -> Result<(), AllocErro
     put_number(text, "workers", facts.workers)?;
     put_number(text, "clients", facts.clients)?;
     put_word(text, "sink", sink_kind(facts.has_peer))?;
-    put_word(text, "recorded", yes_or_no(facts.is_recorded))
+    put_word(text, "recorded", yes_or_no(facts.is_recorded))?;
+    put_name(text, facts.name.as_str())
+}
+
+/// Puts a line with the daemon's name into the text, where it has one.
+fn put_name(text: &mut String, name: &str) -> Result<(), AllocError>
+    ensures { OnOk result (text.new.bytes.items ≡ text.old.bytes.items ++ name_line name.now) }
+{
+    if name.is_empty() {
+        return Ok(());
+    }
+    put_word(text, "name", name)
 }
 
 /// Puts a line of a name and a word into the text.

@@ -3,7 +3,7 @@ ghost use Rattle.std.specs.Prelude.{◌≡◌, ◌≢◌, ◌++◌, ◌+◌, ◌
 ghost use Rattle.iova_range.specs.declared.limits.TheConstants.{MAX_REFUSAL};
 ghost use Rattle.iova_control.specs.declared.metrics.Numbers.{Numbers};
 ghost use Rattle.iova_control.specs.Metrics.{Counted, PutsMetrics, PutsRefusals};
-ghost use Rattle.iova_control.specs.Metrics.{build_text, counter, daemon_figures, figure_text, figures_text, flush_figures, gauge, kind_text};
+ghost use Rattle.iova_control.specs.Metrics.{build_text, counter, daemon_figures, figure_text, figures_text, flush_figures, gauge, kind_text, name_text, named_text};
 ghost use Rattle.iova_control.specs.Metrics.{place_line, places_text, program_text, refusal_text, refusals_kind, refusals_text, sink_text, told_of, wait_text, waited};
 ghost use Rattle.iova_control.specs.Reports.{AreNumbersOf, IsField, NumberIn, behind_spaces};
 
@@ -291,12 +291,13 @@ fn put_refusal(text: &mut String, number: usize, refusals: u64) -> Result<(), Al
     )
 }
 
-/// Of which kind the sink is, and which program it is.
+/// Of which kind the sink is, which program it is, and which name it has.
 fn put_program(text: &mut String, facts: &Facts) -> Result<(), AllocError>
     ensures { OnOk result (text.new.bytes.items ≡ text.old.bytes.items ++ program_text facts.now) }
 {
     put_sink(text, facts.has_peer)?;
-    put_build(text, facts.version.as_str())
+    put_build(text, facts.version.as_str())?;
+    put_name(text, facts.name.as_str())
 }
 
 /// Of which kind the sink is.
@@ -323,6 +324,24 @@ fn put_build(text: &mut String, version: &str) -> Result<(), AllocError>
         text,
         "iovad_build_info{{version=\"{version}\",kit=\"{kit}\"}} 1"
     )
+}
+
+/// Which name the daemon has, where it has one.
+fn put_name(text: &mut String, name: &str) -> Result<(), AllocError>
+    ensures { OnOk result (text.new.bytes.items ≡ text.old.bytes.items ++ name_text name.now) }
+{
+    if name.is_empty() {
+        return Ok(());
+    }
+    put_named(text, name)
+}
+
+/// That the daemon has this name.
+fn put_named(text: &mut String, name: &str) -> Result<(), AllocError>
+    ensures { OnOk result (text.new.bytes.items ≡ text.old.bytes.items ++ named_text name.now) }
+{
+    put_kind(text, "iovad_name", "gauge", "The name that --name gives.")?;
+    writeln!(text, "iovad_name{{name=\"{name}\"}} 1")
 }
 
 /// A count that rises.

@@ -5,11 +5,11 @@ use iova_range::limits::NOTICE_PAUSE;
 use log::kv::Source;
 use log::sink::Console;
 use log::span::Spans;
-use log::{Level, Log, Logged, Metadata, Record, warn};
-use std::array;
+use log::{Level, Log, Logged, Metadata, Record, log, warn};
 use std::fmt::Display;
 use std::rt::Clock;
 use std::sync::atomic::{AtomicU64, Ordering};
+use std::{array, fmt};
 
 /// What takes a daemon's notices: standard error, those of the plan's level and above it.
 pub type Notices<'a, R> = Logged<&'a R, CountedConsole<'a, R>>;
@@ -20,24 +20,40 @@ const KINDS: [&str; 4] = ["accept", "client", "flush", "session"];
 /// The kind of notices of flushes that failed.
 const FLUSH: &str = "flush";
 
-/// Standard error, and a count of the lines. Of a kind one line a second is printed at most; the next
-/// one says how many were not. Flushes that failed are counted, whether they are printed or not.
+/// Standard error, and a count of the lines. Of a kind one line a second is told at most; the next
+/// one says how many were not. Flushes that failed are counted, whether they are told or not.
 #[derive(Drop)]
 pub struct CountedConsole<'a, R> {
     rt: &'a R,
     console: Console<&'a R>,
     signals: &'a Signals,
-    /// Whether warnings are printed.
+    /// Whether warnings are told.
     warns: bool,
+    /// The daemon's name, or nothing where it has none.
+    name: &'a str,
     rates: [Rate; 4],
 }
 
-/// How often a kind is printed.
+/// The daemon's name in front of a line, or nothing where it has none.
+#[derive(Clone, Copy)]
+struct Front<'a>(&'a str);
+
+impl<'a> Display for Front<'a> {
+    fn fmt<W: fmt::Write>(&self, f: &mut fmt::Formatter<W>) -> fmt::Result {
+        let name = self.0;
+        if name.is_empty() {
+            return Ok(());
+        }
+        write!(f, "{name}: ")
+    }
+}
+
+/// How often a kind is told.
 #[derive(Drop)]
 struct Rate {
-    /// When the next line may be printed, in milliseconds.
+    /// When the next line may be told, in milliseconds.
     due: AtomicU64,
-    /// How many lines were left out since the last one.
+    /// How many lines were not told since the last one.
     left: AtomicU64,
 }
 
@@ -49,7 +65,7 @@ impl Rate {
         }
     }
 
-    /// Whether a line is printed now, and how many before it were not. Of two threads one prints its
+    /// Whether a line is told now, and how many before it were not. Of two threads one tells its
     /// line.
     fn take(&self, now: u64) -> Option<u64> {
         let due = self.due.load(Ordering::SeqCst);
@@ -68,13 +84,20 @@ impl Rate {
 }
 
 impl<'a, R> CountedConsole<'a, R> {
-    /// This standard error, with lines counted there. Warnings are printed, or not.
-    pub fn new(rt: &'a R, signals: &'a Signals, warns: bool) -> CountedConsole<'a, R> {
+    /// This standard error, with lines counted there. Warnings are told, or not. A name that isn't
+    /// empty stands in front of each line.
+    pub fn new(
+        rt: &'a R,
+        signals: &'a Signals,
+        warns: bool,
+        name: &'a str,
+    ) -> CountedConsole<'a, R> {
         CountedConsole {
             rt,
             console: Console(rt),
             signals,
             warns,
+            name,
             rates: array::from_fn(|_kind| Rate::new()),
         }
     }
@@ -100,30 +123,33 @@ impl<'a, R: Clock + Eprint> Log for CountedConsole<'a, R> {
             return;
         }
         self.signals.count_notice();
+        let (name, args) = (self.name, record.args());
+        let front = Front(name);
         let Some(at) = KINDS.iter().position(|kind| *kind == record.target()) else {
-            self.console.log(record);
+            log!(self.console; target: "", record.level(), "{front}{args}");
             return;
         };
         let Some(rate) = self.rates.get(at) else {
             return;
         };
-        let args = record.args();
         match rate.take(self.now()) {
-            Some(0) => warn!(self.console; target: "", "{args}"),
-            Some(left) => warn!(self.console; target: "", "{args} .. and {left} more"),
+            Some(0) => warn!(self.console; target: "", "{front}{args}"),
+            Some(left) => warn!(self.console; target: "", "{front}{args} .. and {left} more"),
             None => {}
         }
     }
 
-    /// Prints how many lines of each kind were left out so far.
+    /// Tells how many lines of each kind were not told yet.
     fn flush(&self) {
         for at in 0..KINDS.len() {
             if let Some(kind) = KINDS.get(at)
                 && let Some(rate) = self.rates.get(at)
             {
+                let name = self.name;
+                let front = Front(name);
                 let left = rate.left.swap(0, Ordering::SeqCst);
                 if self.warns && left > 0 {
-                    warn!(self.console; target: "", "{kind}: .. and {left} more");
+                    warn!(self.console; target: "", "{front}{kind}: .. and {left} more");
                 }
             }
         }

@@ -110,12 +110,13 @@ where
     let windows = windows_of(rt, plan, bounds)?;
     let signals = Signals::new(processors(rt), seconds_since_1970(rt));
     let warns = plan.log_level != LevelFilter::Error;
-    let console = CountedConsole::new(rt, &signals, warns);
+    let name = "";
+    let console = CountedConsole::new(rt, &signals, warns, name);
     let notices = Logged::new(rt, counted_level(plan), console);
     tell_start(&notices, said, &windows);
     let made = new_domain::<R, B>(rt, plan, bounds, &windows, blanks);
     match made {
-        Some((shared, posts)) => serve_domain(rt, plan, &notices, &signals, shared, posts),
+        Some((shared, posts)) => serve_domain(rt, plan, name, &notices, &signals, shared, posts),
         None => Err(Fault::NoMemory),
     }
 }
@@ -180,6 +181,7 @@ impl Hindrance {
 fn serve_domain<R, B>(
     rt: &R,
     plan: &Plan<'_>,
+    name: &str,
     notices: &Notices<'_, R>,
     signals: &Signals,
     shared: Shared<&R, B>,
@@ -195,7 +197,7 @@ where
     let net = UnixNet::new(rt);
     let clients = sessions_within(rt, notices, clients_of(plan), plan.workers);
     // its connections last until all is done: so whoever asked for a stop learns of the end
-    let control = Control::new(rt, notices, signals, facts_of(plan, clients));
+    let control = Control::new(rt, notices, signals, facts_of(plan, name, clients));
     let run = Running {
         rt,
         notices,
@@ -208,13 +210,14 @@ where
     serve_run(&run, plan, shared, posts)
 }
 
-/// What is so of the plan's daemon, which serves so many sessions at a time.
-fn facts_of(plan: &Plan<'_>, clients: u64) -> Facts {
+/// What is so of the plan's daemon of this name, which serves so many sessions at a time.
+fn facts_of(plan: &Plan<'_>, name: &str, clients: u64) -> Facts {
     let mut facts = Facts::new(VERSION, plan.workers);
     facts.clients = clients;
     facts.granule = plan.granule.unwrap_or(FRAME_BYTES);
     facts.has_peer = has_peer(plan);
     facts.is_recorded = plan.record.is_some();
+    facts.set_name(name);
     facts
 }
 
