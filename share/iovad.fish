@@ -9,7 +9,7 @@ function __iovad_is -d 'The command, and which of its places it is'
     for word in $words
         if test $is_value = 1
             set is_value 0
-        else if string match -qr '^--(clients|control|depot|did|domain|first|granule|idle|last|log|log-level|peer|peer-wait|record|record-steps|reserve|reserved-regions|session-requests|sessions|sink|sink-timeout|socket|start|timeout|workers)$' -- $word
+        else if string match -qr '^--(clients|control|depot|did|domain|first|granule|idle|last|log|log-level|name|peer|peer-wait|record|record-steps|reserve|reserved-regions|session-requests|sessions|sink|sink-timeout|socket|start|timeout|workers)$' -- $word
             set is_value 1
         else if not string match -q -- '-?*' $word
             set place (math $place + 1)
@@ -49,6 +49,7 @@ complete -c iovad -n '__iovad_is serve' -l reserve -x -d 'FIRST-LAST: frames tha
 complete -c iovad -n '__iovad_is serve' -l reserved-regions -r -F -d 'the reserved_regions of a group'
 complete -c iovad -n '__iovad_is serve' -l sink-timeout -x -d 'the seconds that a peer has to answer'
 complete -c iovad -n '__iovad_is serve' -l log-level -x -a 'error warn info debug' -d 'which notices are told'
+complete -c iovad -n '__iovad_is serve' -l name -x -d 'the daemon\'s name in notices and metrics'
 complete -c iovad -n '__iovad_is serve' -l control -r -F -d 'the path of the control socket'
 complete -c iovad -n '__iovad_is serve' -l granule -x -d 'the bytes of a page frame, which metrics and info tell'
 complete -c iovad -n '__iovad_is control' -l timeout -x -d 'the seconds that a connection and the answer are waited for'

@@ -45,6 +45,7 @@ _iovad() {
             '--reserved-regions[the reserved_regions of a group]:reserved-regions:_files' \
             '--sink-timeout[the seconds that a peer has to answer]:sink-timeout: ' \
             '--log-level[which notices are told]:log-level:(error warn info debug)' \
+            '--name[the daemon'\''s name in notices and metrics]:name: ' \
             '--control[the path of the control socket]:control:_files' \
             '--granule[the bytes of a page frame, which metrics and info tell]:granule: '
           ;;

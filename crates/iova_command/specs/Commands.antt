@@ -109,6 +109,7 @@ serve_options =
     ∷ (codes "reserved-regions", Path)
     ∷ (codes "sink-timeout", Number 1 MAX_SINK_TIMEOUT (Some SINK_TIMEOUT))
     ∷ (codes "log-level", Level)
+    ∷ (codes "name", Label)
     ∷ (codes "control", Path)
     ∷ (codes "granule", PowerOfTwo FRAME_BYTES MAX_GRANULE)
     ∷ []

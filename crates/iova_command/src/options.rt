@@ -72,7 +72,8 @@ pub(crate) const USAGE: &str = "iovad < FILE
                    [--strict] [--granule BYTES]
                    [--record FILE [--record-steps N]] [--reserve FIRST-LAST]..
                    [--reserved-regions FILE] [--sink-timeout SECONDS]
-                   [--log-level error|warn|info|debug] [--control PATH]
+                   [--log-level error|warn|info|debug] [--name TEXT]
+                   [--control PATH]
        iovad control [--timeout SECONDS] PATH report|sessions|metrics|info|stop
        iovad control [--timeout SECONDS] [--top] PATH watch [SECONDS]
        iovad ask [--timeout SECONDS] PATH
@@ -122,7 +123,7 @@ pub(crate) fn serve_rows() -> &'static [OptionRow]
     &SERVE_ROWS
 }
 
-const SERVE_ROWS: [OptionRow; 22] = [
+const SERVE_ROWS: [OptionRow; 23] = [
     SOCKET,
     WORKERS,
     CLIENTS,
@@ -143,6 +144,7 @@ const SERVE_ROWS: [OptionRow; 22] = [
     RESERVED_REGIONS,
     SINK_TIMEOUT,
     LOG_LEVEL,
+    NAME,
     CONTROL,
     GRANULE,
 ];
@@ -375,6 +377,15 @@ const LOG_LEVEL: OptionRow = OptionRow {
     hint: "which notices are told",
 };
 
+const NAME: OptionRow = OptionRow {
+    name: "name",
+    value: "TEXT",
+    takes: Takes::Label,
+    needs: "",
+    help: "A name for notices and metrics, 1 to 64 visible characters; without it there is none",
+    hint: "the daemon's name in notices and metrics",
+};
+
 const CONTROL: OptionRow = OptionRow {
     name: "control",
     value: "PATH",
@@ -401,7 +412,7 @@ pub(crate) fn told_rows() -> &'static [OptionRow] {
     &TOLD
 }
 
-const TOLD: [OptionRow; 21] = [
+const TOLD: [OptionRow; 22] = [
     SOCKET,
     PEER,
     SINK,
@@ -413,6 +424,7 @@ const TOLD: [OptionRow; 21] = [
     START,
     LAST,
     LOG_LEVEL,
+    NAME,
     SESSION_REQUESTS,
     SESSIONS,
     IDLE,

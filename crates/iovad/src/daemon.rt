@@ -110,7 +110,7 @@ where
     let windows = windows_of(rt, plan, bounds)?;
     let signals = Signals::new(processors(rt), seconds_since_1970(rt));
     let warns = plan.log_level != LevelFilter::Error;
-    let name = "";
+    let name = said.text("name").unwrap_or("");
     let console = CountedConsole::new(rt, &signals, warns, name);
     let notices = Logged::new(rt, counted_level(plan), console);
     tell_start(&notices, said, &windows);
