@@ -155,7 +155,7 @@ struct Progress {
     findings: Vec<u8>,
 }
 
-/// What it has is let go, which is proved here once for every exit.
+/// Drops its parts. The proof stands here, once for all exits.
 impl Drop for Progress {
     fn drop(self) {
         let Progress {

@@ -1,4 +1,4 @@
-//! A daemon's plan told in the words of the command line.
+//! A daemon's plan in the words of the command line.
 use crate::options::{DEFAULT_LEVEL, OptionRow, Takes, told_rows};
 use crate::said::Said;
 use iova_range::range::Range;

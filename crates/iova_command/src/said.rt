@@ -31,14 +31,14 @@ impl<'a> Said<'a> {
         Said { found }
     }
 
-    /// The text of the option of this name. None where it isn't there.
+    /// The text of the option of this name. None where there is none.
     pub fn text(&self, name: &str) -> Option<&'a str>
         ensures { option_map (λ t. t.now) result ≡ first_of name.now self.now }
     {
         self.found.get_str(name)
     }
 
-    /// The number of the option of this name. None where it isn't there, or has none.
+    /// The number of the option of this name. None where there is none, or has none.
     pub(crate) fn number(&self, name: &str) -> Option<u64> {
         self.found.get_one::<u64>(name)
     }

@@ -20,14 +20,14 @@ const KINDS: [&str; 4] = ["accept", "client", "flush", "session"];
 /// The kind of notices of flushes that failed.
 const FLUSH: &str = "flush";
 
-/// Standard error, and a count of the lines. Of a kind one line a second is told at most; the next
-/// one says how many were not. Flushes that failed are counted, whether they are told or not.
+/// Standard error, and a count of the lines. Of a kind one line a second is printed at most; the next
+/// one says how many were not. Flushes that failed are counted, whether they are printed or not.
 #[derive(Drop)]
 pub struct CountedConsole<'a, R> {
     rt: &'a R,
     console: Console<&'a R>,
     signals: &'a Signals,
-    /// Whether warnings are told.
+    /// Whether warnings are printed.
     warns: bool,
     /// The daemon's name, or nothing where it has none.
     name: &'a str,
@@ -48,12 +48,12 @@ impl<'a> Display for Front<'a> {
     }
 }
 
-/// How often a kind is told.
+/// How often a kind is printed.
 #[derive(Drop)]
 struct Rate {
-    /// When the next line may be told, in milliseconds.
+    /// When the next line may be printed, in milliseconds.
     due: AtomicU64,
-    /// How many lines were not told since the last one.
+    /// How many lines were left out since the last one.
     left: AtomicU64,
 }
 
@@ -65,7 +65,7 @@ impl Rate {
         }
     }
 
-    /// Whether a line is told now, and how many before it were not. Of two threads one tells its
+    /// Whether a line is printed now, and how many before it were not. Of two threads one prints its
     /// line.
     fn take(&self, now: u64) -> Option<u64> {
         let due = self.due.load(Ordering::SeqCst);
@@ -84,7 +84,7 @@ impl Rate {
 }
 
 impl<'a, R> CountedConsole<'a, R> {
-    /// This standard error, with lines counted there. Warnings are told, or not. A name that isn't
+    /// This standard error, with lines counted there. Warnings are printed, or not. A name that isn't
     /// empty stands in front of each line.
     pub fn new(
         rt: &'a R,
@@ -139,7 +139,7 @@ impl<'a, R: Clock + Eprint> Log for CountedConsole<'a, R> {
         }
     }
 
-    /// Tells how many lines of each kind were not told yet.
+    /// Prints how many lines of each kind were left out so far.
     fn flush(&self) {
         for at in 0..KINDS.len() {
             if let Some(kind) = KINDS.get(at)

@@ -55,7 +55,7 @@ highest_free w start l = higher (place (end_after start l) w.cap w) (highest_aft
 abbrev pub taken : Wanted → ℕ → Span
 taken w lo = record { lo = lo; end = lo + w.size; window = false }
 
--- what a search comes to that takes what it finds where there is room: nothing fits, or this is the
+-- the result of a search that takes what it finds where there is room: nothing fits, or this is the
 -- highest place, which was taken or wasn't
 abbrev pub IsFound : Option ℕ → Type 0 → (ℕ → Type 0) → Found → Type 0
 IsFound highest is_same is_taken Nowhere = (highest ≡ None) × is_same

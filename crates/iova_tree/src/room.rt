@@ -61,7 +61,7 @@ pub fn room_with(known: u32, from: u64, until: u64) -> u32
     }
 }
 
-/// What the room of the whole comes to, where a part had `before` of it and has `after`: None where
+/// The result of the room of the whole, where a part had `before` of it and has `after`: None where
 /// that hangs on the other parts.
 #[inline]
 pub fn settled(before: u32, room: u32, after: u32) -> Option<u32>

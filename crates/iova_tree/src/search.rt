@@ -11,7 +11,7 @@ pub struct Wanted {
     pub cap: u64,
 }
 
-/// What a search comes to that takes the place it finds, where there is room for the range.
+/// The result of a search that takes the place it finds, where there is room for the range.
 #[derive(Clone, Copy)]
 pub enum Found {
     /// Nothing fits.
@@ -38,8 +38,8 @@ pub fn place_in(from: u64, until: u64, wanted: &Wanted) -> Option<u64>
     if lo < from { None } else { Some(lo) }
 }
 
-/// The same from `from` on and below `until` and the cap. Of a gap that is too short nothing more is
-/// asked.
+/// The highest place from `from` on and below `until` and the cap. A gap that is too short is
+/// passed by at once.
 #[inline]
 pub fn place_between(from: u64, until: u64, wanted: &Wanted) -> Option<u64>
     requires apart { from ≤ until }

@@ -183,7 +183,7 @@ impl Subtree {
         settled(before, room, self.room())
     }
 
-    // The same of an upper side, which began there.
+    // What `settled_below` answers, of an upper side that began at `first`.
     #[inline]
     fn settled_above(&self, height: u8, first: u64, before: u32, room: u32) -> Option<u32>
         ensures height { IsSome result → self.now.1 ≡ height }
