@@ -4,7 +4,9 @@ ghost use Rattle.iova_c.specs.Answers.{range_packed};
 ghost use Rattle.iova_c.specs.Slots.{is_set};
 ghost use Rattle.iova_c.specs.Caches.{some_answer, no_range, a_range, AllocCall, UnmapCall, SettleCall, PutCall, TakeCall, RoomCall, KeepCall, ReleaseCall, AnyCall, ApartCall, CountsCall};
 
-use crate::answer::{CacheCountsAnswer, NumberAnswer, PackedAnswer, RangeAnswer, number_of, unpack};
+use crate::answer::{
+    CacheCountsAnswer, NumberAnswer, PackedAnswer, RangeAnswer, number_of, unpack,
+};
 use crate::granule::{Granule, usual};
 use iova_cache::apart::Unput;
 use iova_cache::cache::{Cache, Kept, Unmet};
@@ -107,13 +109,13 @@ fn of_some(number: u64, res: Option<Range>) -> RangeAnswer
 
 /// A range of the magazines, where it takes the fewest instructions.
 #[inline(always)]
-fn alloc_at_once(slot: &mut CacheSlot, frames: u64, limit: u64) -> Option<Range>
+fn alloc_fast(slot: &mut CacheSlot, frames: u64, limit: u64) -> Option<Range>
     ensures met { IfSome result (λ r. AllocCall slot.old.cache frames limit (a_range r)
         slot.new.cache) }
     ensures unchanged { IfNone result (slot.new ≡ slot.old) }
 {
     match &mut slot.cache {
-        Some(cached) => cached.cache.alloc_at_once(frames, limit),
+        Some(cached) => cached.cache.alloc_fast(frames, limit),
         None => None,
     }
 }
@@ -131,16 +133,16 @@ pub fn alloc(slot: &mut CacheSlot, frames: u64, limit: u64) -> RangeAnswer
 pub fn alloc_packed(slot: &mut CacheSlot, frames: u64, limit: u64) -> PackedAnswer
     ensures { AllocCall slot.old.cache frames limit (range_packed result) slot.new.cache }
 {
-    match alloc_at_once(slot, frames, limit) {
+    match alloc_fast(slot, frames, limit) {
         Some(range) => packed(range),
-        None => alloc_elsewhere(slot, frames, limit),
+        None => alloc_cold(slot, frames, limit),
     }
 }
 
 /// What `alloc_packed` does in the cases that are seldom.
 #[cold]
 #[inline(never)]
-fn alloc_elsewhere(slot: &mut CacheSlot, frames: u64, limit: u64) -> PackedAnswer
+fn alloc_cold(slot: &mut CacheSlot, frames: u64, limit: u64) -> PackedAnswer
     ensures { AllocCall slot.old.cache frames limit (range_packed result) slot.new.cache }
 {
     match &mut slot.cache {
@@ -157,13 +159,13 @@ fn alloc_elsewhere(slot: &mut CacheSlot, frames: u64, limit: u64) -> PackedAnswe
 
 /// What begins there is given up, where it takes the fewest instructions.
 #[inline(always)]
-fn unmap_at_once(slot: &mut CacheSlot, lo: u64, start: u64) -> Option<Range>
+fn unmap_fast(slot: &mut CacheSlot, lo: u64, start: u64) -> Option<Range>
     ensures given_up { IfSome result (λ r. UnmapCall slot.old.cache lo start (a_range r)
         slot.new.cache) }
     ensures unchanged { IfNone result (slot.new ≡ slot.old) }
 {
     match &mut slot.cache {
-        Some(cached) => cached.cache.unmap_at_once(lo, start),
+        Some(cached) => cached.cache.unmap_fast(lo, start),
         None => None,
     }
 }
@@ -181,16 +183,16 @@ pub fn unmap(slot: &mut CacheSlot, lo: u64, start: u64) -> RangeAnswer
 pub fn unmap_packed(slot: &mut CacheSlot, lo: u64, start: u64) -> PackedAnswer
     ensures { UnmapCall slot.old.cache lo start (range_packed result) slot.new.cache }
 {
-    match unmap_at_once(slot, lo, start) {
+    match unmap_fast(slot, lo, start) {
         Some(range) => packed(range),
-        None => unmap_elsewhere(slot, lo, start),
+        None => unmap_cold(slot, lo, start),
     }
 }
 
 /// What `unmap_packed` does in the cases that are seldom.
 #[cold]
 #[inline(never)]
-fn unmap_elsewhere(slot: &mut CacheSlot, lo: u64, start: u64) -> PackedAnswer
+fn unmap_cold(slot: &mut CacheSlot, lo: u64, start: u64) -> PackedAnswer
     ensures { UnmapCall slot.old.cache lo start (range_packed result) slot.new.cache }
 {
     match &mut slot.cache {

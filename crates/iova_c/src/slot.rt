@@ -48,20 +48,20 @@ pub fn step(slot: &mut Slot, step: Step) -> Reply
 
 /// The slot's domain takes the step. `NoDomain` where it has none. `Unmap` is out of line.
 #[inline(always)]
-pub fn step_elsewhere(slot: &mut Slot, step: Step) -> Reply
+pub fn step_cold(slot: &mut Slot, step: Step) -> Reply
     ensures { HasStepped slot.old.domain step result slot.new.domain }
 {
     match &mut slot.domain {
-        Some(paged) => paged.domain.step_elsewhere(step),
+        Some(paged) => paged.domain.step_cold(step),
         None => Reply::Refused(Refusal::NoDomain),
     }
 }
 
 /// Whether the slot has a domain in which this `Unmap` calls nothing. Nothing is promised.
 #[inline(always)]
-pub fn queues_at_once(slot: &Slot, worker: u64, client: u64) -> bool {
+pub fn is_unmap_fast(slot: &Slot, worker: u64, client: u64) -> bool {
     match &slot.domain {
-        Some(paged) => paged.domain.queues_at_once(worker, client),
+        Some(paged) => paged.domain.is_unmap_fast(worker, client),
         None => false,
     }
 }

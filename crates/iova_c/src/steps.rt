@@ -7,7 +7,7 @@ use crate::answer::{
     NumberAnswer, RangeAnswer, number_of, of_number, of_range, of_word, pack, unpack,
 };
 use crate::granule::FRAME_BYTES;
-use crate::slot::{Slot, queues_at_once, step, step_elsewhere};
+use crate::slot::{Slot, is_unmap_fast, step, step_cold};
 use iova_core::{Reply, Step};
 use iova_range::refusal::Refusal;
 
@@ -57,21 +57,21 @@ pub fn alloc(slot: &mut Slot, worker: u64, client: u64, frames: u64, limit: u64)
 pub fn unmap(slot: &mut Slot, worker: u64, client: u64, lo: u64) -> RangeAnswer
     ensures { RangeStep slot.old.domain (Step.Unmap worker client lo) result slot.new.domain }
 {
-    if queues_at_once(slot, worker, client) {
+    if is_unmap_fast(slot, worker, client) {
         of_range(step(slot, Step::Unmap { worker, client, lo }))
     } else {
-        unpack(unmap_elsewhere(slot, worker, client, lo))
+        unpack(unmap_cold(slot, worker, client, lo))
     }
 }
 
 /// Out of line and answered in two registers, so that the caller has no room for a reply, and
 /// nothing to keep.
 #[inline(never)]
-fn unmap_elsewhere(slot: &mut Slot, worker: u64, client: u64, lo: u64) -> (u64, u64)
+fn unmap_cold(slot: &mut Slot, worker: u64, client: u64, lo: u64) -> (u64, u64)
     ensures { RangeStep slot.old.domain (Step.Unmap worker client lo) (unpacked result)
         slot.new.domain }
 {
-    pack(step_elsewhere(slot, Step::Unmap { worker, client, lo }))
+    pack(step_cold(slot, Step::Unmap { worker, client, lo }))
 }
 
 pub fn begin(slot: &mut Slot) -> NumberAnswer

@@ -19,8 +19,8 @@ pub record World : Type 0 where
   pub domain : State
   pub caches : List CacheState
 
--- What the client of a cache holds are the cache's ranges, in any order: whatever ranges weigh, they
--- weigh as much.
+-- What the client of a cache holds are the cache's ranges, in any order: whatever ranges weigh,
+-- they weigh as much.
 abbrev pub IsBooked : State → CacheState → Type 0
 IsBooked s c =
     (weigh : Frames → ℕ) → sum_by weigh (held_by c.client s.clients) ≡ sum_by weigh (ranges_of c)

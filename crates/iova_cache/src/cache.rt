@@ -150,7 +150,7 @@ impl Cache {
     /// is found at one look later on. None where it isn't so or `alloc` refuses, and nothing has
     /// changed.
     #[inline(always)]
-    pub fn alloc_at_once(&mut self, frames: u64, limit: u64) -> Option<Range>
+    pub fn alloc_fast(&mut self, frames: u64, limit: u64) -> Option<Range>
         ensures met { IfSome result (λ r. (order : ℕ) × HasOrder frames order
             × IsMet self.old self.new order limit r) }
         ensures unchanged { IfNone result (self.new ≡ self.old) }
@@ -158,12 +158,12 @@ impl Cache {
         if !is_cached(frames) {
             return None;
         }
-        self.get_at_once(order_of_need(frames), limit)
+        self.get_fast(order_of_need(frames), limit)
     }
 
     /// Gives the user the newest range of an order, 0 to 5, where it fits and needs no memory.
     #[inline(always)]
-    fn get_at_once(&mut self, order: u8, limit: u64) -> Option<Range>
+    fn get_fast(&mut self, order: u8, limit: u64) -> Option<Range>
         requires { order < ORDERS }
         ensures met { IfSome result (IsMet self.old self.new order limit) }
         ensures unchanged { IfNone result (self.new ≡ self.old) }
@@ -237,7 +237,7 @@ impl Cache {
     /// What `unmap` does, where it takes the fewest instructions: one look finds the range. None
     /// where it isn't so or `unmap` refuses, and nothing has changed.
     #[inline(always)]
-    pub fn unmap_at_once(&mut self, lo: u64, start: u64) -> Option<Range>
+    pub fn unmap_fast(&mut self, lo: u64, start: u64) -> Option<Range>
         ensures given_up { IfSome result (λ r. (find (begins_at lo) self.old.held ≡ Some r)
             × (r.len ≤ MOST_CACHED) × IsGivenUp self.old self.new r start) }
         ensures room { IfSome result (λ r. length self.old.ring < 255) }

@@ -27,8 +27,8 @@ pub fn entries_wait()
 pub fn places_are_kept()
     ensures { PlacesAreKept }
 {
-    // for the proof: what a step leaves to those whom it doesn't name, one that is refused, and that
-    // it keeps a domain as it may be
+    // for the proof: what a step leaves to those whom it doesn't name, one that is refused, and
+    // that it keeps a domain as it may be
     others_keep_their_holdings();
     refusals_keep_the_state();
     steps_keep_validity();

@@ -7,7 +7,7 @@ use Rattle.iova_check.specs.declared.event.Event.{Event}
 use Rattle.iova_check.specs.declared.event.Event.TheVariants as event
 use Rattle.iova_check.specs.declared.stage.Stage.{Stage}
 use Rattle.iova_check.specs.declared.stage.Stage.TheVariants as stage
-use Rattle.iova_check.specs.declared.stage.Flight.{Flight}
+use Rattle.iova_check.specs.declared.stage.OpenFlush.{OpenFlush}
 use Rattle.iova_check.specs.declared.stage.Change.TheVariants as change
 use Rattle.iova_check.specs.History.{next_line, has, flight_of, stage_of, with_change, flushed_by}
 use Rattle.iova_check.specs.Promise.{is_line, IsLine, NoneAfter, maps, unmaps, begins, ends_well, is_of, flushes, IsLongFlush, IsShortFlush, IsFlush, TakesBack, MayBeGiven, IsMappedSince, IsStaleSince, IsStage, StagesAreTold}
@@ -205,7 +205,7 @@ freed_by e past f n begun none kept after flush h =
       ];
     }
 
-freed : (past : List Event) (f number n : ℕ) (flight : Flight) → IsFlight past number flight → has f flight.range ≡ true → n < flight.line
+freed : (past : List Event) (f number n : ℕ) (flight : OpenFlush) → IsFlight past number flight → has f flight.range ≡ true → n < flight.line
     → IsStaleSince past f n → MayBeGiven (event.End number true ∷ past) f
 freed past f number n flight is having after h =
     let e = event.End number true in
@@ -270,7 +270,7 @@ none_in_flight past f number n none begun lt flush =
     let later = none f begun was.0 in
     both_ways (is_line (is_of number) past later.0) (was.1 later.0 later.1) later.2
 
-not_it : (past : List Event) (f number n : ℕ) (flight : Flight) → IsFlight past number flight → (has f flight.range ≡ true → n < flight.line → ⊥)
+not_it : (past : List Event) (f number n : ℕ) (flight : OpenFlush) → IsFlight past number flight → (has f flight.range ≡ true → n < flight.line → ⊥)
     → NoneEnds (event.End number true) past f n
 not_it past f number n flight is not begun lt flush =
     let was = ended_no past f number begun flush in
@@ -290,7 +290,7 @@ end_kept past f number (stage.Mapped n) none h = mapped_kept (event.End number t
 end_kept past f number (stage.Stale n) none h = stale_kept (event.End number true) past f n refl (none n) h
 
 -- a flush that has it
-flushed : (past : List Event) (f number : ℕ) (flight : Flight) (s : Stage) → IsFlight past number flight → has f flight.range ≡ true
+flushed : (past : List Event) (f number : ℕ) (flight : OpenFlush) (s : Stage) → IsFlight past number flight → has f flight.range ≡ true
     → IsStage past f s → IsStage (event.End number true ∷ past) f (with_change (change.Flushed flight.line) s)
 flushed past f number flight stage.Free is having h = free_kept (event.End number true) past f refl h
 flushed past f number flight (stage.Mapped n) is having h = mapped_kept (event.End number true) past f n refl refl h
@@ -302,7 +302,7 @@ flushed past f number flight (stage.Stale n) is having h =
           (stale_kept (event.End number true) past f n refl (not_it past f number n flight is (λ _ lt. both_ways (nat_lt n flight.line) not (lt-ltb n flight.line lt))) h)
     ]
 
-ended_well : (past : List Event) (f number : ℕ) (flight : Option Flight) (s : Stage) → IsFlightOf past number flight
+ended_well : (past : List Event) (f number : ℕ) (flight : Option OpenFlush) (s : Stage) → IsFlightOf past number flight
     → IsStage past f s → IsStage (event.End number true ∷ past) f (flushed_by flight f s)
 ended_well past f number None s is h = end_kept past f number s (λ n. none_in_flight past f number n is) h
 ended_well past f number (Some flight) s is h =

@@ -3,7 +3,7 @@ use Rattle.std.proofs.Common.{ℕ, ◌≡◌, ◌≢◌, ◌+◌, ◌<◌, ◌�
 use Rattle.std.specs.List.{list_all}
 use Rattle.std.proofs.lemmas.List.{take-append-drop, drop_all}
 use Rattle.std.proofs.lemmas.Bool.{and_parts, and_from}
-use Rattle.iova_check.specs.declared.allowed.Asked.{Asked}
+use Rattle.iova_check.specs.declared.allowed.LogBounds.{LogBounds}
 use Rattle.iova_check.specs.declared.event.Event.{Event}
 use Rattle.iova_check.specs.declared.event.Event.TheVariants.{Other}
 use Rattle.iova_check.specs.declared.event.OtherLine.TheVariants.{Plain}
@@ -20,7 +20,7 @@ use Rattle.iova_check.specs.Trace.{event_said}
 use Rattle.iova_check.specs.Logs.{Lines, events_text, IsLog, IsTrace, AreLinesOf, AreLines, IsOfLog, IsCutOff, AreFirstLines, first_lines_text, next_line_number, MayFollow}
 use Rattle.iova_check.specs.Checking.{HasChecked, ChecksNext}
 use Rattle.iova_check.specs.Runs.{IsChecked, IsDone, StopsAtCut}
-use Rattle.iova_check.specs.Progress.{IsFront, IsKeptOf, IsRestOf, IsOpen, IsBegun, Stands, number_at, Goes, Stops, is_last}
+use Rattle.iova_check.specs.Progress.{IsFront, IsKeptOf, IsRestOf, IsOpen, IsBegun, HasTaken, number_at, Goes, Stops, is_last}
 use Rattle.iova_text.proofs.Cuts.{list_all-append}
 use Rattle.iova_check.proofs.TraceWords.{long_says}
 
@@ -84,7 +84,7 @@ no_lines (Some l) c text e r = absurd (let P : Option Checker → Type 0 = λ x.
 pub with_line : Lines → Event → List ℕ → Lines
 with_line l e line = record { bounds = l.bounds; past = e ∷ l.past; text = l.text ++ whole_line line }
 
-log_more : (asked : Asked) (l : Lines) (e : Event) (line : List ℕ) → IsEvent e → line ≡ event_text e → IsLog asked l → IsLog asked (with_line l e line)
+log_more : (asked : LogBounds) (l : Lines) (e : Event) (line : List ℕ) → IsEvent e → line ≡ event_text e → IsLog asked l → IsLog asked (with_line l e line)
 unfolding with_line
 log_more asked l e line event spelled h = record {
   first = h.first;
@@ -105,7 +105,7 @@ log_grows source e line is event spelled l h =
     let Q : Form → Type 0 = λ f. AreLinesOf f source.asked (with_line l e line) in
     subst Q (sym is) (log_more source.asked l e line event spelled (subst P is h))
 
-trace_more : (asked : Asked) (domain : Option ℕ) (l : Lines) (e : Event) (line : List ℕ) → HasNoLf line → e ≡ event_said domain line
+trace_more : (asked : LogBounds) (domain : Option ℕ) (l : Lines) (e : Event) (line : List ℕ) → HasNoLf line → e ≡ event_said domain line
     → IsTrace asked domain l → IsTrace asked domain (with_line l e line)
 unfolding with_line
 trace_more asked domain l e line one says h = record { under = h.under; say = (l.text, line, h.say, one, says, refl) }
@@ -388,11 +388,11 @@ overlong source p bytes number log more long is taken written st =
 
 -- The beginning and the end
 
-pub begun_stands : (source : Source) (p : Progress) → IsBegun source.form source.asked p.checker → p.line.items ≡ [] → p.findings.items ≡ [] → Stands source [] [] p
+pub begun_stands : (source : Source) (p : Progress) → IsBegun source.form source.asked p.checker → p.line.items ≡ [] → p.findings.items ≡ [] → HasTaken source [] [] p
 begun_stands source p begun empty none = go source.form source.asked p.checker begun refl (refl, refl)
   where
     stands : (lines : Option Lines) → AreFirstLines source lines → first_lines_text lines ≡ [] → IsOpen source.form p.checker → IsChecked lines p.checker []
-        → Stands source [] [] p
+        → HasTaken source [] [] p
     stands lines good text opened checked = record {
       lines = lines;
       text = [];
@@ -404,7 +404,7 @@ begun_stands source p begun empty none = go source.form source.asked p.checker b
       gathered = sym none;
     }
 
-    go : (f : Form) (asked : Asked) (c : Option Checker) → IsBegun f asked c → source.form ≡ f → (p.checker ≡ c) × (source.asked ≡ asked) → Stands source [] [] p
+    go : (f : Form) (asked : LogBounds) (c : Option Checker) → IsBegun f asked c → source.form ≡ f → (p.checker ≡ c) × (source.asked ≡ asked) → HasTaken source [] [] p
     go form.Log asked c h is same =
         let P : Option Checker → Type 0 = λ x. IsChecked None x [] in
         stands None tt refl (open_log source.form p.checker is) (subst P (sym (same.0 ∙ h)) refl)
@@ -413,7 +413,7 @@ begun_stands source p begun empty none = go source.form source.asked p.checker b
         let bounds = bounds_asked asked 0 1099511627775 in
         let l : Lines = record { bounds = bounds; past = []; text = [] } in
         let P : Form → Type 0 = λ x. AreLinesOf x source.asked l in
-        let A : Asked → Type 0 = λ x. bounds ≡ bounds_asked x 0 1099511627775 in
+        let A : LogBounds → Type 0 = λ x. bounds ≡ bounds_asked x 0 1099511627775 in
         let O : Option Checker → Type 0 = IsOpen source.form in
         let Q : Option Checker → Type 0 = λ x. IsChecked (Some l) x [] in
         stands (Some l) (subst P (sym is) (record { under = subst A (sym same.1) refl; say = refl })) refl
@@ -433,7 +433,7 @@ cut_lines : (lines : Option Lines) (rest : List ℕ) → HasNoLf rest → ((l : 
 cut_lines None rest one some = one
 cut_lines (Some l) rest one some = (one, some l refl)
 
-pub ends_cut : (source : Source) (taken written : List ℕ) (p : Progress) (number : ℕ) → Stands source taken written p → p.findings.items ≡ []
+pub ends_cut : (source : Source) (taken written : List ℕ) (p : Progress) (number : ℕ) → HasTaken source taken written p → p.findings.items ≡ []
     → IsOfLog source.form → number ≡ number_at p.checker → (p.line.items ≢ []) ⊎ (p.checker ≡ None) → StopsAtCut source taken written number
 ends_cut source taken written p number st none log is why =
     let kept = log_rest source.form p.line.items st.rest (is_log source.form log) st.kept in
@@ -463,7 +463,7 @@ done_lines source (Some l) checker c taken rest written is r good whole = record
   checked = (let P : Option Checker → Type 0 = λ x. IsChecked (Some l) x written in subst P is r);
 }
 
-pub ends_done : (source : Source) (taken written : List ℕ) (p : Progress) (c : Checker) → Stands source taken written p → p.findings.items ≡ []
+pub ends_done : (source : Source) (taken written : List ℕ) (p : Progress) (c : Checker) → HasTaken source taken written p → p.findings.items ≡ []
     → p.line.items ≡ [] → p.checker ≡ Some c → IsDone source taken written c
 ends_done source taken written p c st none empty is =
     let nothing : st.rest ≡ [] = rest_empty source.form p.line.items st.rest empty st.kept in

@@ -6,7 +6,7 @@ use Rattle.iova_check.specs.declared.finding.Finding.{Finding}
 use Rattle.iova_check.specs.declared.allowed.Allowed.{Allowed}
 use Rattle.iova_check.specs.Bounds.{Bounds}
 use Rattle.iova_check.specs.Allowing.{Allows}
-use Rattle.iova_check.specs.declared.counts.Counts.{Counts}
+use Rattle.iova_check.specs.declared.counts.LogCounts.{LogCounts}
 use Rattle.iova_check.specs.declared.checker.Checker.{Checker}
 use Rattle.iova_check.specs.History.{flight_of, stage_of}
 use Rattle.iova_check.specs.Following.{Follows}
@@ -15,7 +15,7 @@ use Rattle.iova_check.specs.Counting.{IsCounted, counts_after, how_many}
 use Rattle.iova_check.specs.Output.{findings_text}
 use Rattle.iova_check.specs.Checking.{ChecksNext}
 
-counted_more : (past : List Event) (e : Event) (found n : ℕ) (c : Counts) → IsCounted past found c → IsCounted (e ∷ past) (found + n) (counts_after c e n)
+counted_more : (past : List Event) (e : Event) (found n : ℕ) (c : LogCounts) → IsCounted past found c → IsCounted (e ∷ past) (found + n) (counts_after c e n)
 counted_more past (event.Map r) found n c h =
     record { maps = omega (arith, h.maps); unmaps = omega (arith, h.unmaps); flushes = omega (arith, h.flushes); uses = omega (arith, h.uses); others = omega (arith, h.others); lost = omega (arith, h.lost); too_long = omega (arith, h.too_long); findings = omega (arith, h.findings) }
 counted_more past (event.Unmap r) found n c h =
@@ -42,7 +42,7 @@ checks_next old new e before after told same appended are breaks follows counts 
   appended = appended;
   checks = λ bounds past text h.
       let P : Allowed → Type 0 = λ a. Allows a bounds in
-      let Q : Counts → Type 0 = IsCounted (e ∷ past) (h.found + how_many told) in
+      let Q : LogCounts → Type 0 = IsCounted (e ∷ past) (h.found + how_many told) in
       record {
         under = subst P (sym same) h.under;
         follows = follows past h.follows;

@@ -6,7 +6,7 @@ use Rattle.std.proofs.lemmas.Bool.{and_parts, and_from, ltb-true, leb-true, lt-l
 use Rattle.iova_range.specs.Frames.{Frames}
 use Rattle.iova_check.specs.declared.event.Event.{Event}
 use Rattle.iova_check.specs.declared.event.Event.TheVariants as event
-use Rattle.iova_check.specs.declared.stage.Flight.{Flight}
+use Rattle.iova_check.specs.declared.stage.OpenFlush.{OpenFlush}
 use Rattle.iova_check.specs.declared.stage.Stage.{Stage}
 use Rattle.iova_check.specs.declared.stage.Stage.TheVariants as stage
 use Rattle.iova_check.specs.declared.finding.Kind.TheVariants as kind
@@ -86,7 +86,7 @@ told_promise past bounds r fs h =
           (not_found reused r.lo to h.reused h.is_reused (λ f from under. ap (since_of kind.Reused) (free f from under))),
     )
 
-pub breaks_told : (past : List Event) (bounds : Bounds) (flights : ℕ → Option Flight) (e : Event) (fs : List (Option Finding))
+pub breaks_told : (past : List Event) (bounds : Bounds) (flights : ℕ → Option OpenFlush) (e : Event) (fs : List (Option Finding))
     → AreFindings bounds (stage_of past) flights e fs → TellsBreaks past e fs
 breaks_told past bounds flights (event.Map r) fs h = told_promise past bounds r fs h
 breaks_told past bounds flights (event.Unmap r) fs h = tt

@@ -18,14 +18,14 @@ use Rattle.iova_text.proofs.LineEnds.{no_line}
 use Rattle.iova_check.proofs.LineSteps.{rest_one, rest_kept, no_rest}
 use Rattle.iova_check.specs.Logs.{BeginsWithLines, IsBad, MayFollow, first_lines_text}
 use Rattle.iova_check.specs.Runs.{IsUnendedIn, AreRead, BreaksOff, IsChecked, StopsInLine, TellsOfCheck, Checks}
-use Rattle.iova_check.specs.Progress.{IsKeptOf, IsRestOf, IsOpen, is_last, Stands, Goes, EndsCheck, Stops, Outcome, TakesBytes, Closes}
+use Rattle.iova_check.specs.Progress.{IsKeptOf, IsRestOf, IsOpen, is_last, HasTaken, Goes, EndsCheck, Stops, Outcome, TakesBytes, Closes}
 
 -- Outcomes
 
 pub Goes-then : (source : Source) → (a b c : Progress) (p q v w : List ℕ) → Goes source a p v b → Goes source b q w c → Goes source a (p ++ q) (v ++ w) c
 Goes-then source a b c p q v w first second taken written st =
-    let P : List ℕ → Type 0 = λ x. Stands source x ((written ++ v) ++ w) c in
-    let Q : List ℕ → Type 0 = λ x. Stands source (taken ++ (p ++ q)) x c in
+    let P : List ℕ → Type 0 = λ x. HasTaken source x ((written ++ v) ++ w) c in
+    let Q : List ℕ → Type 0 = λ x. HasTaken source (taken ++ (p ++ q)) x c in
     subst Q (append_assoc written v w) (subst P (append_assoc taken p q) (second (taken ++ p) (written ++ v) (first taken written st)))
 
 pub Stops-then : (source : Source) → (a b : Progress) (p q v w : List ℕ) (e : CheckFault) → Goes source a p v b → Stops source b q w e → Stops source a (p ++ q) (v ++ w) e
@@ -180,8 +180,8 @@ Outcome-then source a b c p q v w (Err e) first second = Stops-then source a b p
 
 -- The line that was kept is whole once its last bytes have come.
 
-fresh_line : (source : Source) (taken written : List ℕ) (q mid : Progress) (st : Stands source taken written q) → mid.line.items ≡ [] → mid.checker ≡ q.checker
-    → mid.findings.items ≡ q.findings.items → Stands source (first_lines_text st.lines) written mid
+fresh_line : (source : Source) (taken written : List ℕ) (q mid : Progress) (st : HasTaken source taken written q) → mid.line.items ≡ [] → mid.checker ≡ q.checker
+    → mid.findings.items ≡ q.findings.items → HasTaken source (first_lines_text st.lines) written mid
 fresh_line source taken written q mid st empty domain replies = record {
   lines = st.lines;
   text = st.text;
@@ -200,7 +200,7 @@ line_whole taken bytes rest lines e =
     sym (append_assoc (first_lines_text lines) rest (10 ∷ [])) ∙ (ap (λ (x : List ℕ). x ++ 10 ∷ []) (sym e) ∙ append_assoc taken bytes (10 ∷ []))
 
 -- this is kept of what has come of the line in `q`
-kept_line : (source : Source) (taken written : List ℕ) (q : Progress) (line : List ℕ) (st : Stands source taken written q) → line ≡ q.line.items
+kept_line : (source : Source) (taken written : List ℕ) (q : Progress) (line : List ℕ) (st : HasTaken source taken written q) → line ≡ q.line.items
     → IsKeptOf source.form line st.rest
 kept_line source taken written q line st is =
     let P : List ℕ → Type 0 = λ x. IsKeptOf source.form x st.rest in
@@ -216,8 +216,8 @@ TakesBytes-ended source p q mid new bytes line (Ok u) goes same empty domain rep
     let one = rest_one source.form q.line.items at.rest at.kept in
     let after = t at.rest one (kept_line source (taken ++ bytes) (written ++ []) q line at kept) (first_lines_text at.lines) (written ++ [])
     (fresh_line source (taken ++ bytes) (written ++ []) q mid at empty domain replies) in
-    let P : List ℕ → Type 0 = λ x. Stands source x ((written ++ []) ++ []) new in
-    let Q : List ℕ → Type 0 = λ x. Stands source (taken ++ whole_line bytes) x new in
+    let P : List ℕ → Type 0 = λ x. HasTaken source x ((written ++ []) ++ []) new in
+    let Q : List ℕ → Type 0 = λ x. HasTaken source (taken ++ whole_line bytes) x new in
     subst Q (append-nil (written ++ [])) (subst P (line_whole taken bytes at.rest at.lines at.begins.whole) after)
 TakesBytes-ended source p q mid new bytes line (Err e) goes same empty domain replies kept t after_err = (
   (λ taken written st.
@@ -256,8 +256,8 @@ nothing_told source input output = record {
 }
 
 -- what was told of all that was taken is written
-pub Stands-stops : (source : Source) (taken written : List ℕ) (p : Progress) → Stands source taken written p → p.findings.items ≡ [] → StopsInLine source taken written
-Stands-stops source taken written p st none = record {
+pub HasTaken-stops : (source : Source) (taken written : List ℕ) (p : Progress) → HasTaken source taken written p → p.findings.items ≡ [] → StopsInLine source taken written
+HasTaken-stops source taken written p st none = record {
   lines = st.lines;
   rest = st.rest;
   checker = p.checker;
@@ -286,7 +286,7 @@ pub record SoFar (source : Source) (input left output filled : Option (List ℕ)
   pub written : List ℕ
   pub takes : Consumes input left taken
   pub writes : Appends output filled written
-  pub stands : Stands source taken written p
+  pub stands : HasTaken source taken written p
   pub none : p.findings.items ≡ []
 
 pub read_fails : (source : Source) → (input mid left output filled : Option (List ℕ)) (p : Progress) → SoFar source input mid output filled p → Keeps mid left
@@ -298,7 +298,7 @@ read_fails source input mid left output filled p s keeps = record {
   takes = Consumes-kept input mid left s.taken s.takes keeps;
   reads = read_same source.form s.taken left;
   writes = s.writes;
-  tells = Stands-stops source s.taken s.written p s.stands s.none;
+  tells = HasTaken-stops source s.taken s.written p s.stands s.none;
 }
 
 -- where the input ends, what was taken from it is what had been
@@ -312,7 +312,7 @@ at_end input mid left taken buffer n before consumes no_bytes =
 -- the input ends, and no line of a trace is left
 pub read_ends : (source : Source) (input mid left output filled : Option (List ℕ)) (p : Progress) (n : ℕ) (buffer : List ℕ) (r : Result Checker CheckFault)
     → SoFar source input mid output filled p → Consumes mid left (take n buffer) → n ≡ 0 → IsAtEnd left
-    → ((taken written : List ℕ) → Stands source taken written p → Closes source taken written r) → Checks source input left output filled r
+    → ((taken written : List ℕ) → HasTaken source taken written p → Closes source taken written r) → Checks source input left output filled r
 read_ends source input mid left output filled p n buffer r s consumes no_bytes end closes = record {
   taken = s.taken;
   read = s.taken;
@@ -354,7 +354,7 @@ not_last_empty (form.Trace domain) (b ∷ kept) rest none h = let no : [] ≡ b 
 pub last_ends : (source : Source) (input mid left output filled full : Option (List ℕ)) (p q : Progress) (n : ℕ) (buffer more : List ℕ) (r : Result Checker CheckFault)
     → SoFar source input mid output filled p → Consumes mid left (take n buffer) → n ≡ 0 → IsAtEnd left → is_last source.form p.line.items ≡ true
     → Appends filled full more → Goes source p (10 ∷ []) more q
-    → ((taken written : List ℕ) → Stands source taken written q → is_last source.form q.line.items ≡ false → Closes source taken written r)
+    → ((taken written : List ℕ) → HasTaken source taken written q → is_last source.form q.line.items ≡ false → Closes source taken written r)
     → Checks source input left output full r
 last_ends source input mid left output filled full p q n buffer more r s consumes no_bytes end last appends goes closes =
     let taken = s.taken ++ 10 ∷ [] in
@@ -395,7 +395,7 @@ input_ends : (source : Source) (input mid left output filled full : Option (List
     → SoFar source input mid output filled p → Consumes mid left (take n buffer) → n ≡ 0 → IsAtEnd left → ended ≡ Ok u
     → (is_last source.form p.line.items ≡ false → (ended ≡ Ok tt) × (q ≡ p) × (full ≡ filled))
     → (is_last source.form p.line.items ≡ true → IsLastRead source filled full p q ended)
-    → ((taken written : List ℕ) → Stands source taken written q → q.findings.items ≡ [] → is_last source.form q.line.items ≡ false → Closes source taken written r)
+    → ((taken written : List ℕ) → HasTaken source taken written q → q.findings.items ≡ [] → is_last source.form q.line.items ≡ false → Closes source taken written r)
     → Checks source input left output full r
 input_ends source input mid left output filled full p q n buffer ended u r s consumes no_bytes end is other last closes =
     elim (cases_Bool (is_last source.form p.line.items)) [
@@ -408,7 +408,7 @@ input_ends source input mid left output filled full p q n buffer ended u r s con
       | inr not ↦
           let same = other not in
           let F : Option (List ℕ) → Type 0 = λ x. Checks source input left output x r in
-          let C : Progress → Type 0 = λ x. (taken written : List ℕ) → Stands source taken written x → x.findings.items ≡ []
+          let C : Progress → Type 0 = λ x. (taken written : List ℕ) → HasTaken source taken written x → x.findings.items ≡ []
           → is_last source.form x.line.items ≡ false → Closes source taken written r in
           let here = subst C same.1 closes in
           subst F (sym same.2) (read_ends source input mid left output filled p n buffer r s consumes no_bytes end (λ taken written st. here taken written st s.none not))
@@ -439,7 +439,7 @@ pub end_goes : (source : Source) (input mid left output filled full : Option (Li
     → (is_last source.form p.line.items ≡ false → (ended ≡ Ok tt) × (q ≡ p) × (full ≡ filled))
     → (is_last source.form p.line.items ≡ true → IsLastRead source filled full p q ended)
     → OnOk ended ((r : Result Checker CheckFault)
-    → ((taken written : List ℕ) → Stands source taken written q → q.findings.items ≡ [] → is_last source.form q.line.items ≡ false → Closes source taken written r)
+    → ((taken written : List ℕ) → HasTaken source taken written q → q.findings.items ≡ [] → is_last source.form q.line.items ≡ false → Closes source taken written r)
     → Checks source input left output full r)
 end_goes source input mid left output filled full p q n buffer (Ok u) s consumes no_bytes end other last =
     λ r closes. input_ends source input mid left output filled full p q n buffer (Ok u) u r s consumes no_bytes end refl other last closes

@@ -1,7 +1,7 @@
 -- The frames that may be mapped.
 use Rattle.std.specs.Prelude.{ℕ, List, unwrap_or}
 use Rattle.iova_range.specs.Frames.{Frames}
-use Rattle.iova_check.specs.declared.allowed.Asked.{Asked}
+use Rattle.iova_check.specs.declared.allowed.LogBounds.{LogBounds}
 
 -- those from the first to the last one that are in none of the windows: none at all where the first
 -- is above the last
@@ -11,7 +11,7 @@ pub record Bounds : Type 0 where
   pub windows : List Frames
 
 -- what is asked for, from and to these frames where nothing else is
-abbrev pub bounds_asked : Asked → ℕ → ℕ → Bounds
+abbrev pub bounds_asked : LogBounds → ℕ → ℕ → Bounds
 bounds_asked asked first last =
     record {
       first = unwrap_or asked.first first;

@@ -8,7 +8,7 @@ use Rattle.iova_check.specs.declared.finding.Finding.{Finding}
 use Rattle.iova_check.specs.declared.finding.Kind.{Kind}
 use Rattle.iova_check.specs.declared.stage.Stage.{Stage}
 use Rattle.iova_check.specs.Findings.{since_of}
-use Rattle.iova_check.specs.declared.counts.Counts.{Counts}
+use Rattle.iova_check.specs.declared.counts.LogCounts.{LogCounts}
 
 -- the line says that events were lost
 abbrev pub tells_lost : OtherLine → Bool
@@ -23,7 +23,7 @@ is_long other.Lost = false
 is_long other.TooLong = true
 
 -- with a line more, of which so many findings are told
-abbrev pub counts_after : Counts → Event → ℕ → Counts
+abbrev pub counts_after : LogCounts → Event → ℕ → LogCounts
 counts_after c (event.Map r) found =
     record {
       maps = c.maps + 1;
@@ -174,7 +174,7 @@ count_lines passes [] = 0
 count_lines passes (e ∷ past) = (if passes e then 1 else 0) + count_lines passes past
 
 -- the lines of each kind among these, and as many findings
-pub record IsCounted (past : List Event) (found : ℕ) (c : Counts) : Type 0 where
+pub record IsCounted (past : List Event) (found : ℕ) (c : LogCounts) : Type 0 where
   pub maps : c.maps ≡ count_lines is_map past
   pub unmaps : c.unmaps ≡ count_lines is_unmap past
   pub flushes : c.flushes ≡ count_lines is_flush past

@@ -6,7 +6,7 @@ use Rattle.iova_check.specs.declared.event.Event.{Event}
 use Rattle.iova_check.specs.declared.event.Event.TheVariants as event
 use Rattle.iova_check.specs.declared.stage.Stage.{Stage}
 use Rattle.iova_check.specs.declared.stage.Stage.TheVariants as stage
-use Rattle.iova_check.specs.declared.stage.Flight.{Flight}
+use Rattle.iova_check.specs.declared.stage.OpenFlush.{OpenFlush}
 use Rattle.iova_check.specs.declared.finding.Kind.{Kind}
 use Rattle.iova_check.specs.declared.finding.Kind.TheVariants as kind
 use Rattle.iova_check.specs.declared.finding.Run.{Run}
@@ -136,7 +136,7 @@ flush_told number odd = (if odd then Some (finding.Flush number) else None) ∷ 
 
 -- what is told of a line that says `e`, where the frames are at these stages and these flushes in
 -- flight before it
-abbrev pub AreFindings : Bounds → (ℕ → Stage) → (ℕ → Option Flight) → Event → List (Option Finding)
+abbrev pub AreFindings : Bounds → (ℕ → Stage) → (ℕ → Option OpenFlush) → Event → List (Option Finding)
     → Type 0
 AreFindings bounds at flights (event.Map r) fs = IsMapTold bounds at r fs
 AreFindings bounds at flights (event.Unmap r) fs = IsUnmapTold bounds at r fs

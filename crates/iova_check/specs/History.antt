@@ -6,7 +6,7 @@ use Rattle.iova_check.specs.declared.event.Event.{Event}
 use Rattle.iova_check.specs.declared.event.Event.TheVariants as event
 use Rattle.iova_check.specs.declared.stage.Stage.{Stage}
 use Rattle.iova_check.specs.declared.stage.Stage.TheVariants as stage
-use Rattle.iova_check.specs.declared.stage.Flight.{Flight}
+use Rattle.iova_check.specs.declared.stage.OpenFlush.{OpenFlush}
 use Rattle.iova_check.specs.declared.stage.Change.{Change}
 use Rattle.iova_check.specs.declared.stage.Change.TheVariants as change
 
@@ -41,7 +41,7 @@ has f (Some r) = covers f r
 -- Flushes in flight
 
 -- the flush of this number that is in flight after line `line`, where `was` was before
-abbrev pub flight_after : ℕ → Event → ℕ → Option Flight → Option Flight
+abbrev pub flight_after : ℕ → Event → ℕ → Option OpenFlush → Option OpenFlush
 flight_after line (event.Map r) number was = was
 flight_after line (event.Unmap r) number was = was
 flight_after line (event.Use r) number was = was
@@ -51,7 +51,7 @@ flight_after line (event.End ended ok) number was = if ended == number then None
 flight_after line (event.Flush range) number was = was
 flight_after line (event.Other what) number was = was
 
-abbrev pub flight_of : List Event → ℕ → Option Flight
+abbrev pub flight_of : List Event → ℕ → Option OpenFlush
 flight_of [] number = None
 flight_of (e ∷ past) number = flight_after (next_line past) e number (flight_of past number)
 
@@ -70,14 +70,14 @@ with_change (change.Flushed begun) (stage.Stale since) =
     if nat_lt since begun then stage.Free else stage.Stale since
 
 -- a flush ended well
-abbrev pub flushed_by : Option Flight → ℕ → Stage → Stage
+abbrev pub flushed_by : Option OpenFlush → ℕ → Stage → Stage
 flushed_by None f was = was
 flushed_by (Some flight) f was =
     if has f flight.range then with_change (change.Flushed flight.line) was else was
 
 -- the stage of the frame after line `line`, which is `e`, where `was` was before, and these flushes
 -- were in flight
-abbrev pub stage_after : ℕ → (ℕ → Option Flight) → Event → ℕ → Stage → Stage
+abbrev pub stage_after : ℕ → (ℕ → Option OpenFlush) → Event → ℕ → Stage → Stage
 stage_after line flights (event.Map r) f was =
     if covers f r then with_change (change.Mapped line) was else was
 stage_after line flights (event.Unmap r) f was =

@@ -6,7 +6,7 @@ use Rattle.iova_text.specs.Lines.{HasNoLf, whole_line, IsOverlong, BeginsOdd}
 use Rattle.iova_check.specs.declared.event.Event.{Event}
 use Rattle.iova_check.specs.declared.event.Event.TheVariants.{Other}
 use Rattle.iova_check.specs.declared.event.OtherLine.TheVariants.{Plain}
-use Rattle.iova_check.specs.declared.allowed.Asked.{Asked}
+use Rattle.iova_check.specs.declared.allowed.LogBounds.{LogBounds}
 use Rattle.iova_check.specs.Bounds.{Bounds, bounds_asked}
 use Rattle.iova_check.specs.declared.source.Form.{Form}
 use Rattle.iova_check.specs.declared.source.Form.TheVariants as form
@@ -28,7 +28,7 @@ events_text [] = []
 events_text (e ∷ past) = events_text past ++ whole_line (event_text e)
 
 -- They are a log: a header, which says nothing of frames or flushes, and a line for each event.
-pub record IsLog (asked : Asked) (l : Lines) : Type 0 where
+pub record IsLog (asked : LogBounds) (l : Lines) : Type 0 where
   pub first : ℕ
   pub last : ℕ
   pub events : List Event
@@ -47,11 +47,11 @@ AreSaid domain (e ∷ past) text =
 
 -- They are lines of a kernel's trace, in which any frame up to the greatest may be mapped where
 -- nothing else is asked for.
-pub record IsTrace (asked : Asked) (domain : Option ℕ) (l : Lines) : Type 0 where
+pub record IsTrace (asked : LogBounds) (domain : Option ℕ) (l : Lines) : Type 0 where
   pub under : l.bounds ≡ bounds_asked asked 0 WIDE_TOP
   pub say : AreSaid domain l.past l.text
 
-abbrev pub AreLinesOf : Form → Asked → Lines → Type 0
+abbrev pub AreLinesOf : Form → LogBounds → Lines → Type 0
 AreLinesOf form.Log asked l = IsLog asked l
 AreLinesOf (form.Trace domain) asked l = IsTrace asked domain l
 

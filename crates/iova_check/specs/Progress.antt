@@ -1,6 +1,6 @@
 -- What a check keeps between two reads.
 use Rattle.std.specs.Prelude.{ℕ, ◌≡◌, ◌⊎◌, ◌≤◌, Bool, true, false, length, List, [], ◌∷◌, ◌++◌, Option, Some, None, Result, Ok, Err}
-use Rattle.iova_check.specs.declared.allowed.Asked.{Asked}
+use Rattle.iova_check.specs.declared.allowed.LogBounds.{LogBounds}
 use Rattle.iova_check.specs.declared.checker.Checker.{Checker}
 use Rattle.iova_check.specs.declared.fault.CheckFault.{CheckFault}
 use Rattle.iova_check.specs.declared.fault.CheckFault.TheVariants as fault
@@ -40,14 +40,14 @@ IsOpen (form.Trace domain) None = ⊥
 IsOpen (form.Trace domain) (Some c) = Unit {0}
 
 -- what is known before the first line
-abbrev pub IsBegun : Form → Asked → Option Checker → Type 0
+abbrev pub IsBegun : Form → LogBounds → Option Checker → Type 0
 IsBegun form.Log asked checker = checker ≡ None
 IsBegun (form.Trace domain) asked None = ⊥
 IsBegun (form.Trace domain) asked (Some c) = HasChecked (bounds_asked asked 0 WIDE_TOP) [] c []
 
 -- What was taken is good lines and the front of one. What was written and the kept findings are the
 -- text of what was told of them.
-pub record Stands (source : Source) (taken written : List ℕ) (p : Progress) : Type 0 where
+pub record HasTaken (source : Source) (taken written : List ℕ) (p : Progress) : Type 0 where
   pub lines : Option Lines
   pub text : List ℕ
   pub rest : List ℕ
@@ -65,8 +65,8 @@ number_at (Some c) = c.tracker.line
 -- from wherever it stood, it takes these bytes and writes these
 abbrev pub Goes : Source → Progress → List ℕ → List ℕ → Progress → Type 0
 Goes source old bytes more new =
-    (taken written : List ℕ) → Stands source taken written old
-    → Stands source (taken ++ bytes) (written ++ more) new
+    (taken written : List ℕ) → HasTaken source taken written old
+    → HasTaken source (taken ++ bytes) (written ++ more) new
 
 -- what a fault says of all bytes taken and written, but for those of reading
 abbrev pub EndsCheck : Source → List ℕ → List ℕ → CheckFault → Type 0
@@ -78,7 +78,7 @@ EndsCheck source taken written fault.WriteFault = BreaksOff source taken written
 -- from wherever it stood, it ends with this fault among these bytes, after writing these
 abbrev pub Stops : Source → Progress → List ℕ → List ℕ → CheckFault → Type 0
 Stops source old bytes more e =
-    (taken written : List ℕ) → Stands source taken written old
+    (taken written : List ℕ) → HasTaken source taken written old
     → EndsCheck source (taken ++ bytes) (written ++ more) e
 
 -- these bytes are taken and these written

@@ -7,10 +7,10 @@ use Rattle.iova_text.specs.Words.{line_text}
 use Rattle.iova_check.specs.declared.event.Event.{Event}
 use Rattle.iova_check.specs.declared.event.Event.TheVariants as event
 use Rattle.iova_check.specs.History.{IsRange, IsScope}
-use Rattle.iova_check.specs.declared.line.Verb.{Verb}
-use Rattle.iova_check.specs.declared.line.Verb.TheVariants as verb
+use Rattle.iova_check.specs.declared.line.LogVerb.{LogVerb}
+use Rattle.iova_check.specs.declared.line.LogVerb.TheVariants as verb
 
-abbrev pub verb_text : Verb → List ℕ
+abbrev pub verb_text : LogVerb → List ℕ
 verb_text verb.Map = codes "map"
 verb_text verb.Unmap = codes "unmap"
 verb_text verb.Use = codes "use"
@@ -18,7 +18,7 @@ verb_text verb.Begin = codes "begin"
 verb_text verb.End = codes "end"
 
 -- the first word of an event's line, where a line of a log may say it
-abbrev pub verb_of : Event → Option Verb
+abbrev pub verb_of : Event → Option LogVerb
 verb_of (event.Map r) = Some verb.Map
 verb_of (event.Unmap r) = Some verb.Unmap
 verb_of (event.Use r) = Some verb.Use
@@ -27,7 +27,7 @@ verb_of (event.End number ok) = Some verb.End
 verb_of (event.Flush range) = None
 verb_of (event.Other what) = None
 
-abbrev pub word_of : Option Verb → List ℕ
+abbrev pub word_of : Option LogVerb → List ℕ
 word_of None = []
 word_of (Some v) = verb_text v
 

@@ -13,7 +13,7 @@ use std::alloc::{AllocError, Global};
 
 /// What is asked of the frames that may be mapped.
 #[derive(Clone, Copy)]
-pub struct Asked<'a> {
+pub struct LogBounds<'a> {
     /// The first frame that may be mapped. None: the one that the log says.
     pub first: Option<u64>,
     /// The last frame that may be mapped. None: the one that the log says. Where the first is above

@@ -1,6 +1,6 @@
 //! A log checked line by line.
 use crate::allowed::Allowed;
-use crate::counts::Counts;
+use crate::counts::LogCounts;
 use crate::event::Event;
 use crate::finding::how_many;
 use crate::text::write_findings;
@@ -16,7 +16,7 @@ pub struct Checker {
     /// What became of each frame.
     pub tracker: Tracker,
     /// What was counted.
-    pub counts: Counts,
+    pub counts: LogCounts,
 }
 
 /// Drops its parts. The proof stands here, once for all crates above.
@@ -44,7 +44,7 @@ impl Checker {
         Checker {
             allowed,
             tracker: Tracker::new(alloc),
-            counts: Counts::new(),
+            counts: LogCounts::new(),
         }
     }
 

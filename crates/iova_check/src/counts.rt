@@ -7,7 +7,7 @@ use iova_range::refusal::Refusal;
 
 /// How many lines of each kind there were, and how many findings.
 #[derive(Clone, Copy)]
-pub struct Counts {
+pub struct LogCounts {
     /// The lines `map`.
     pub maps: u64,
     /// The lines `unmap`.
@@ -26,15 +26,15 @@ pub struct Counts {
     pub findings: u64,
 }
 
-impl Counts {
+impl LogCounts {
     ghost use Rattle.std.specs.Prelude.{[]};
     ghost use Rattle.iova_check.specs.declared.event.Event.TheVariants.{Other as IsOther};
 
     /// Of no lines.
-    pub fn new() -> Counts
+    pub fn new() -> LogCounts
         ensures { IsCounted [] 0 result }
     {
-        Counts {
+        LogCounts {
             maps: 0,
             unmaps: 0,
             flushes: 0,
@@ -48,7 +48,7 @@ impl Counts {
 
     /// With a line more, with so many findings. Refused by `NoMemory` where a count
     /// has no number.
-    pub fn with_line(self, event: &Event, findings: u64) -> Result<Counts, Refusal>
+    pub fn with_line(self, event: &Event, findings: u64) -> Result<LogCounts, Refusal>
         ensures counted { IfOk result (λ counts. counts ≡ counts_after self event.now findings) }
         ensures refused { OnErr result (result ≡ Err Refusal.NoMemory) }
     {
@@ -56,33 +56,33 @@ impl Counts {
             return Err(Refusal::NoMemory);
         };
         match counts.findings.checked_add(findings) {
-            Some(findings) => Ok(Counts { findings, ..counts }),
+            Some(findings) => Ok(LogCounts { findings, ..counts }),
             None => Err(Refusal::NoMemory),
         }
     }
 
     /// With a line more, whose findings are not counted. None where its count has no number.
-    fn with_event(self, event: &Event) -> Option<Counts>
+    fn with_event(self, event: &Event) -> Option<LogCounts>
         ensures { IfSome result (λ counts. (found : ℕ)
             → record counts { findings = counts.findings + found }
             ≡ counts_after self event.now found) }
     {
         match event {
             Event::Map(_) => match self.maps.checked_add(1) {
-                Some(maps) => Some(Counts { maps, ..self }),
+                Some(maps) => Some(LogCounts { maps, ..self }),
                 None => None,
             },
             Event::Unmap(_) => match self.unmaps.checked_add(1) {
-                Some(unmaps) => Some(Counts { unmaps, ..self }),
+                Some(unmaps) => Some(LogCounts { unmaps, ..self }),
                 None => None,
             },
             Event::Use(_) => match self.uses.checked_add(1) {
-                Some(uses) => Some(Counts { uses, ..self }),
+                Some(uses) => Some(LogCounts { uses, ..self }),
                 None => None,
             },
             Event::Begin { no: _, range: _ } | Event::Flush(_) => {
                 match self.flushes.checked_add(1) {
-                    Some(flushes) => Some(Counts { flushes, ..self }),
+                    Some(flushes) => Some(LogCounts { flushes, ..self }),
                     None => None,
                 }
             }
@@ -92,16 +92,16 @@ impl Counts {
     }
 
     /// With a line more that says nothing. None where its count has no number.
-    fn with_other(self, what: OtherLine) -> Option<Counts>
+    fn with_other(self, what: OtherLine) -> Option<LogCounts>
         ensures { IfSome result (λ counts. (found : ℕ)
             → record counts { findings = counts.findings + found }
             ≡ counts_after self (IsOther what) found) }
     {
         let others = self.others.checked_add(1)?;
         match what {
-            OtherLine::Plain => Some(Counts { others, ..self }),
+            OtherLine::Plain => Some(LogCounts { others, ..self }),
             OtherLine::Lost => match self.lost.checked_add(1) {
-                Some(lost) => Some(Counts {
+                Some(lost) => Some(LogCounts {
                     others,
                     lost,
                     ..self
@@ -109,7 +109,7 @@ impl Counts {
                 None => None,
             },
             OtherLine::TooLong => match self.too_long.checked_add(1) {
-                Some(too_long) => Some(Counts {
+                Some(too_long) => Some(LogCounts {
                     others,
                     too_long,
                     ..self

@@ -2,7 +2,7 @@
 ghost use Rattle.std.specs.Prelude.{◌≡◌, ◌≢◌, ℕ, ◌+◌, ◌≤◌, ◌<◌, ◌↔◌, Bool, [], ◌∷◌, ◌++◌, Some, None, Option, IsSome, IfSome, IsNone};
 ghost use Rattle.iova_range.specs.Frames.{Frames};
 ghost use Rattle.iova_check.specs.declared.event.Event.{Event};
-ghost use Rattle.iova_check.specs.declared.line.Verb.{Verb};
+ghost use Rattle.iova_check.specs.declared.line.LogVerb.{LogVerb};
 ghost use Rattle.iova_text.specs.Words.{spaced_words};
 ghost use Rattle.iova_check.specs.History.{IsRange, IsScope};
 ghost use Rattle.iova_check.specs.Text.{verb_text, verb_of, outcome_text, range_words, scope_words, arguments_of, event_text, header_text, header_words, IsEvent, IsHeader};
@@ -14,7 +14,7 @@ use iova_text::words::{first_word, next_number, three_numbers, two_numbers};
 
 /// The first word of a line that is not the header.
 #[derive(Clone, Copy)]
-pub enum Verb {
+pub enum LogVerb {
     /// `map <lo> <len>`.
     Map,
     /// `unmap <lo> <len>`.
@@ -29,7 +29,7 @@ pub enum Verb {
 
 /// What the first line of a log says: the first and the last frame that may be mapped.
 #[derive(Clone, Copy)]
-pub struct Header {
+pub struct LogHeader {
     /// The first frame, at least 1.
     pub first: u64,
     /// The last frame, at least the first and at most 2^40 - 1.
@@ -52,7 +52,7 @@ pub fn read_event(line: &[u8]) -> Option<Event>
 
 /// The header of this line, which is without its LF: `iovalog 1 <first> <last>`. None exactly where
 /// the line is no header's, also where the bounds are not in order, or not 1 to 2^40 - 1.
-pub fn read_header(line: &[u8]) -> Option<Header>
+pub fn read_header(line: &[u8]) -> Option<LogHeader>
     ensures spelled { IfSome result (λ h. IsHeader h.first h.last
         × (line.now ≡ header_text h.first h.last)) }
     ensures read { (first last : ℕ) → IsHeader first last → line.now ≡ header_text first last
@@ -70,29 +70,29 @@ pub fn read_header(line: &[u8]) -> Option<Header>
     if version != 1 || first == 0 || first > last || last > WIDE_TOP {
         return None;
     }
-    Some(Header { first, last })
+    Some(LogHeader { first, last })
 }
 
-fn verb_named(word: &[u8]) -> Option<Verb>
+fn verb_named(word: &[u8]) -> Option<LogVerb>
     ensures spelled { IfSome result (λ v. word.now ≡ verb_text v) }
-    ensures all { IsNone result → (v : Verb) → word.now ≢ verb_text v }
+    ensures all { IsNone result → (v : LogVerb) → word.now ≢ verb_text v }
 {
     if word == b"map".as_slice() {
-        Some(Verb::Map)
+        Some(LogVerb::Map)
     } else if word == b"unmap".as_slice() {
-        Some(Verb::Unmap)
+        Some(LogVerb::Unmap)
     } else if word == b"begin".as_slice() {
-        Some(Verb::Begin)
+        Some(LogVerb::Begin)
     } else if word == b"end".as_slice() {
-        Some(Verb::End)
+        Some(LogVerb::End)
     } else if word == b"use".as_slice() {
-        Some(Verb::Use)
+        Some(LogVerb::Use)
     } else {
         None
     }
 }
 
-fn event_of(verb: Verb, arguments: &[u8]) -> Option<Event>
+fn event_of(verb: LogVerb, arguments: &[u8]) -> Option<Event>
     ensures spelled { IfSome result (λ e. (verb_of e ≡ Some verb)
         × (arguments.now ≡ spaced_words (arguments_of e))) }
     ensures good { IfSome result (λ e. IsEvent e) }
@@ -101,19 +101,19 @@ fn event_of(verb: Verb, arguments: &[u8]) -> Option<Event>
         → result ≡ Some e }
 {
     match verb {
-        Verb::Map => match range_of(arguments) {
+        LogVerb::Map => match range_of(arguments) {
             Some(range) => Some(Event::Map(range)),
             None => None,
         },
-        Verb::Unmap => match range_of(arguments) {
+        LogVerb::Unmap => match range_of(arguments) {
             Some(range) => Some(Event::Unmap(range)),
             None => None,
         },
-        Verb::Use => match range_of(arguments) {
+        LogVerb::Use => match range_of(arguments) {
             Some(range) => Some(Event::Use(range)),
             None => None,
         },
-        Verb::Begin => {
+        LogVerb::Begin => {
             let Some((no, scope)) = next_number(arguments) else {
                 return None;
             };
@@ -122,7 +122,7 @@ fn event_of(verb: Verb, arguments: &[u8]) -> Option<Event>
                 None => None,
             }
         }
-        Verb::End => {
+        LogVerb::End => {
             let Some((no, outcome)) = next_number(arguments) else {
                 return None;
             };

@@ -1,5 +1,5 @@
-//! What is printed beside the findings: why a line is refused, and what of a trace could not be read.
-//! What fails is passed over: nobody is left to tell.
+//! What is printed beside the findings: why a line is refused, and what of a trace could not be
+//! read. What fails is passed over: nobody is left to tell.
 ghost use Rattle.std.specs.Prelude.{◌≡◌};
 
 use crate::reason::{Reason, compressed, other_form};

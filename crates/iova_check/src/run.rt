@@ -7,7 +7,7 @@ ghost use Rattle.iova_check.specs.Bounds.{bounds_asked};
 ghost use Rattle.iova_check.specs.Checking.{HasChecked};
 ghost use Rattle.iova_check.specs.Runs.{Checks, Counts, ChecksAndCounts};
 
-use crate::allowed::{Allowed, Asked};
+use crate::allowed::{Allowed, LogBounds};
 use crate::checker::Checker;
 use crate::event::{Event, OtherLine};
 use crate::fault::CheckFault;
@@ -42,7 +42,7 @@ const BUFFER: usize = 65_536;
 /// fails or takes nothing, and `NoMemory`: some first bytes of the findings are written.
 pub fn check<R: Read, W: Write, N: Write>(
     alloc: Global,
-    asked: &Asked<'_>,
+    asked: &LogBounds<'_>,
     reader: &mut R,
     writer: &mut W,
     notices: &mut N,
@@ -62,14 +62,14 @@ pub fn check<R: Read, W: Write, N: Write>(
 /// frame 0 to frame 2^40 - 1. Of its flushes of a domain those of `domain` count, or all. No line
 /// is refused: one that says nothing of frames or flushes is passed over, as is one of more than
 /// 1,024 bytes with its LF, and a last line needs no LF. A line that says that events were lost is
-/// written to `notices` with its number before the next one is taken, and so are the first one that is
-/// too long to be read and a first line that shows that the text is no trace as it stands. What
+/// written to `notices` with its number before the next one is taken, and so are the first one that
+/// is too long to be read and a first line that shows that the text is no trace as it stands. What
 /// fails there is passed over.
 ///
 /// Refused as a log is, without `BadLog`.
 pub fn check_trace<R: Read, W: Write, N: Write>(
     alloc: Global,
-    asked: &Asked<'_>,
+    asked: &LogBounds<'_>,
     domain: Option<u64>,
     reader: &mut R,
     writer: &mut W,
@@ -112,7 +112,7 @@ fn run<R: Read, W: Write, N: Write>(
 /// Refused as the check is, and then no count is written, or by `WriteFault`.
 pub fn check_and_count<R: Read, W: Write>(
     alloc: Global,
-    asked: &Asked<'_>,
+    asked: &LogBounds<'_>,
     reader: &mut R,
     writer: &mut W,
 ) -> Result<bool, CheckFault>
@@ -172,11 +172,11 @@ impl Progress {
     ghost use Rattle.iova_check.specs.declared.fault.CheckFault.{CheckFault};
     ghost use Rattle.iova_check.specs.declared.checker.Checker.{Checker};
     ghost use Rattle.iova_text.specs.Lines.{HasNoLf, whole_line};
-    ghost use Rattle.iova_check.specs.Progress.{Stands, number_at, IsKeptOf, IsFront, Goes, TakesBytes, Outcome, Closes, is_last};
+    ghost use Rattle.iova_check.specs.Progress.{HasTaken, number_at, IsKeptOf, IsFront, Goes, TakesBytes, Outcome, Closes, is_last};
 
     /// Nothing has been taken.
     fn new(alloc: Global, source: &Source<'_>) -> Result<Self, CheckFault>
-        ensures ok { IfOk result (λ p. Stands source.now [] [] p) }
+        ensures ok { IfOk result (λ p. HasTaken source.now [] [] p) }
         ensures none { IfOk result (λ p. p.findings.items ≡ []) }
         ensures err { OnErr result (result ≡ Err CheckFault.NoMemory) }
     {
@@ -211,10 +211,10 @@ impl Progress {
         notices: &mut N,
     ) -> Result<(), CheckFault>
         requires room { 0 < length buffer.old }
-        requires begun { Stands source.now [] [] self.old }
+        requires begun { HasTaken source.now [] [] self.old }
         requires none { self.old.findings.items ≡ [] }
         ensures ended { OnOk result ((answer : Result Checker CheckFault)
-            → ((taken written : List ℕ) → Stands source.now taken written self.new
+            → ((taken written : List ℕ) → HasTaken source.now taken written self.new
             → self.new.findings.items ≡ []
             → is_last source.now.form self.new.line.items ≡ false
             → Closes source.now taken written answer)
@@ -434,8 +434,8 @@ impl Progress {
         Ok(())
     }
 
-    /// Takes a whole line of a trace, of which this is kept, and writes to the notices what of it can't be
-    /// read.
+    /// Takes a whole line of a trace, of which this is kept, and writes to the notices what of it
+    /// can't be read.
     fn run_trace_line<N: Write>(
         &mut self,
         line: &[u8],
@@ -494,7 +494,7 @@ impl Progress {
 
     /// The result of the check where the text ends here.
     fn finish(self) -> Result<Checker, CheckFault>
-        ensures { (source : Source) (taken written : List ℕ) → Stands source taken written self
+        ensures { (source : Source) (taken written : List ℕ) → HasTaken source taken written self
             → self.findings.items ≡ []
             → is_last source.form self.line.items ≡ false → Closes source taken written result }
     {
@@ -541,7 +541,12 @@ fn first_checker(alloc: Global, source: &Source<'_>) -> Result<Option<Checker>, 
 }
 
 /// A checker of no line under these bounds, or those that are asked for in their place.
-fn opened(alloc: Global, asked: &Asked<'_>, first: u64, last: u64) -> Result<Checker, AllocError>
+fn opened(
+    alloc: Global,
+    asked: &LogBounds<'_>,
+    first: u64,
+    last: u64,
+) -> Result<Checker, AllocError>
     ensures { IfOk result (λ c. HasChecked (bounds_asked asked.now first last) [] c []) }
 {
     let first = asked.first.unwrap_or(first);

@@ -1,5 +1,5 @@
 //! What is read: a log, or a kernel's trace.
-use crate::allowed::Asked;
+use crate::allowed::LogBounds;
 
 /// What the lines of a text are.
 #[derive(Clone, Copy)]
@@ -16,5 +16,5 @@ pub struct Source<'a> {
     /// What its lines are.
     pub form: Form,
     /// The bounds that are asked for.
-    pub asked: Asked<'a>,
+    pub asked: LogBounds<'a>,
 }

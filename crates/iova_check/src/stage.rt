@@ -18,7 +18,7 @@ pub enum Stage {
 
 /// A flush that has begun and has not ended.
 #[derive(Clone, Copy)]
-pub struct Flight {
+pub struct OpenFlush {
     /// The line at which it began.
     pub line: u64,
     /// Its frames, every frame where there is no range.

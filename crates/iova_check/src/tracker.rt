@@ -9,7 +9,7 @@ ghost use Rattle.iova_check.specs.Marks.{stage_at};
 ghost use Rattle.iova_check.specs.Following.{Follows};
 
 use crate::event::Event;
-use crate::stage::{Change, Flight};
+use crate::stage::{Change, OpenFlush};
 use crate::stages::Stages;
 use iova_range::range::Range;
 use std::alloc::{AllocError, Global};
@@ -21,7 +21,7 @@ pub struct Tracker {
     /// The stages.
     pub stages: Stages,
     /// The flushes in flight.
-    pub flights: BTreeMap<u64, Flight>,
+    pub flights: BTreeMap<u64, OpenFlush>,
     /// The number of the line that comes next, 1 at least.
     pub line: u64,
 }
@@ -54,7 +54,7 @@ impl Tracker {
             Event::Use(_) => {}
             Event::Begin { no, range } => self.begin(no, range)?,
             Event::End { no, ok } => self.end(no, ok)?,
-            Event::Flush(range) => self.flush_at_once(range)?,
+            Event::Flush(range) => self.flush_in_one_line(range)?,
             Event::Other(_) => {}
         }
         self.line += 1;
@@ -70,12 +70,12 @@ impl Tracker {
         ensures line { self.new.line ≡ self.old.line }
     {
         let line = self.line;
-        self.flights.insert(no, Flight { line, range })?;
+        self.flights.insert(no, OpenFlush { line, range })?;
         Ok(())
     }
 
     /// A flush begins and ends at the next line.
-    fn flush_at_once(&mut self, range: Option<Range>) -> Result<(), AllocError>
+    fn flush_in_one_line(&mut self, range: Option<Range>) -> Result<(), AllocError>
         ensures stages { OnOk result ((f : ℕ) → f < 2 ^ 64 - 1 → stage_at self.new.stages f
             ≡ flushed_by (Some (record { line = self.old.line; range = range })) f
             (stage_at self.old.stages f)) }
@@ -85,7 +85,7 @@ impl Tracker {
         ensures line { self.new.line ≡ self.old.line }
     {
         let line = self.line;
-        flush(&mut self.stages, &Flight { line, range })
+        flush(&mut self.stages, &OpenFlush { line, range })
     }
 
     /// A flush ends.
@@ -109,7 +109,7 @@ impl Tracker {
 }
 
 /// The flush ended well.
-fn flush(stages: &mut Stages, flight: &Flight) -> Result<(), AllocError>
+fn flush(stages: &mut Stages, flight: &OpenFlush) -> Result<(), AllocError>
     ensures below { OnOk result ((f : ℕ) → f < 2 ^ 64 - 1
         → stage_at stages.new f ≡ flushed_by (Some flight.now) f (stage_at stages.old f)) }
     ensures above { OnOk result ((f : ℕ) → 2 ^ 64 - 1 ≤ f

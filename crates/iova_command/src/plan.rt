@@ -66,7 +66,8 @@ pub struct Plan<'a> {
     pub log_level: LevelFilter,
     /// The path of the control socket, where one is wanted.
     pub control: Option<&'a str>,
-    /// How many bytes a frame has, where it is said; else 4096. `info` and the metrics have it; it changes nothing else.
+    /// How many bytes a frame has, where it is said; else 4096. `info` and the metrics have it; it
+    /// changes nothing else.
     pub granule: Option<u64>,
     pub ghost workers_in_range: { (1 ≤ workers) × (workers ≤ MAX_WORKERS) },
     pub ghost clients_in_range: { ForSome clients (λ n. (1 ≤ n) × (n ≤ MAX_CLIENTS)) },

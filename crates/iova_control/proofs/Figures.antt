@@ -1,10 +1,10 @@
--- Figures and counts, one behind another.
+-- DaemonMetrics and counts, one behind another.
 use Rattle.std.proofs.Common.{ℕ, zero, suc, ◌≡◌, ◌∙◌, ◌+◌, List, [], ◌∷◌, ◌++◌, ap, ap₂, refl, sym, codes, decimal, length, map, append-nil, arith, Result}
 use Rattle.iova_range.specs.declared.limits.TheConstants.{MAX_REFUSAL}
 use Rattle.iova_control.specs.declared.metrics.Figure.{Figure}
 use Rattle.std.specs.Prelude.{OnOk}
 use Rattle.std.specs.declared.alloc.AllocError.{AllocError}
-use Rattle.iova_links.specs.declared.aside.Figures.{Figures}
+use Rattle.iova_links.specs.declared.control_task.DaemonMetrics.{DaemonMetrics}
 use Rattle.iova_control.specs.declared.control.Facts.{Facts}
 use Rattle.iova_control.specs.declared.metrics.Numbers.{Numbers}
 use Rattle.iova_control.specs.Metrics.{Told, told_of, Counted, places_text, figures_text, flush_figures, daemon_figures, wait_text, refusal_text, refusals_text, refusals_kind, program_text, PutsRefusals, PutsMetrics}
@@ -38,7 +38,7 @@ refusals_behind r old mid new kind first then =
     ok_map r (λ from. (from.0, omega (arith, from.1), behind old mid new kind (refusals_text 1 from.0) first from.2)) then
 
 -- all figures, part by part
-pub metrics_behind : (r : Result Unit AllocError) (f : Facts) (n : Numbers) (g : Figures) (c : Counted) (counts : List ℕ) (a b d e h k : List ℕ)
+pub metrics_behind : (r : Result Unit AllocError) (f : Facts) (n : Numbers) (g : DaemonMetrics) (c : Counted) (counts : List ℕ) (a b d e h k : List ℕ)
     → b ≡ a ++ (places_text n ++ figures_text (flush_figures n)) → d ≡ b ++ figures_text (daemon_figures f c g) → e ≡ d ++ wait_text n.ring g.since_round
     → length counts ≡ MAX_REFUSAL → h ≡ e ++ (refusals_kind ++ refusals_text 1 counts) → OnOk r (k ≡ h ++ program_text f) → OnOk r (PutsMetrics f n g a k)
 metrics_behind r f n g c counts a b d e h k domain daemon wait long refusals program =

@@ -1,7 +1,7 @@
 -- What `metrics` is answered: all figures of a daemon, in the text form that Prometheus reads.
 use Rattle.std.specs.Prelude.{ℕ, zero, suc, ◌≡◌, ◌++◌, ◌+◌, ◌/◌, ◌%◌, ◌==◌, Bool, List, [], ◌∷◌, codes, decimal, length, if◌then◌else◌}
 use Rattle.iova_range.specs.declared.limits.TheConstants.{MAX_REFUSAL}
-use Rattle.iova_links.specs.declared.aside.Figures.{Figures}
+use Rattle.iova_links.specs.declared.control_task.DaemonMetrics.{DaemonMetrics}
 use Rattle.iova_control.specs.declared.control.Facts.{Facts}
 use Rattle.iova_control.specs.declared.metrics.Figure.{Figure}
 use Rattle.iova_control.specs.declared.metrics.Numbers.{Numbers}
@@ -73,7 +73,7 @@ flush_figures n =
     ∷ gauge (codes "iovad_flushes_owed") (codes "Failed flushes that none has made up for.") n.owed
     ∷ []
 
-abbrev pub daemon_figures : Facts → Counted → Figures → List Told
+abbrev pub daemon_figures : Facts → Counted → DaemonMetrics → List Told
 daemon_figures f c g =
     counter (codes "iovad_flushes_failed_total") (codes "Flushes that the sink failed.") c.failed
     ∷ gauge (codes "iovad_workers") (codes "Workers of the domain.") f.workers
@@ -161,7 +161,7 @@ program_text f =
 
 -- All figures of such a daemon, of a domain with these numbers: those with counts of its own are
 -- told of some counts.
-abbrev pub PutsMetrics : Facts → Numbers → Figures → List ℕ → List ℕ → Type 0
+abbrev pub PutsMetrics : Facts → Numbers → DaemonMetrics → List ℕ → List ℕ → Type 0
 PutsMetrics f n g old new =
     (c : Counted) × (refusals : List ℕ) × (length refusals ≡ MAX_REFUSAL)
     × (new ≡ old ++ ((places_text n ++ figures_text (flush_figures n))

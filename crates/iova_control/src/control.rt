@@ -7,7 +7,7 @@ use crate::metrics::put_metrics;
 use crate::sessions::put_sessions;
 use arrayvec::{ArrayString, ArrayVec};
 use iova_keep::look::Look;
-use iova_links::aside::{Aside, Standing};
+use iova_links::control_task::{ControlTask, MetricsSource};
 use iova_links::signals::Signals;
 use iova_range::limits::{
     CONTROL_PAUSE, CONTROL_READS, FRAME_BYTES, MAX_CONTROL_SILENCE, MAX_CONTROLS, MAX_LINE,
@@ -155,12 +155,12 @@ impl<'a, R, N: Log> Control<'a, R, N> {
     }
 }
 
-impl<'a, R: AllocGlobal + Clock + Wait, N: Log> Aside for Control<'a, R, N> {
+impl<'a, R: AllocGlobal + Clock + Wait, N: Log> ControlTask for Control<'a, R, N> {
     fn is_wanted(&self) -> bool {
         self.facts.is_recorded || self.desk.lock(self.rt).is_some()
     }
 
-    fn turn<K: Look, T: Standing>(&self, domain: &K, standing: &T) {
+    fn turn<K: Look, T: MetricsSource>(&self, domain: &K, source: &T) {
         self.look_at_record(domain.is_recording());
         if let Some(desk) = &mut *self.desk.lock(self.rt) {
             self.admit(desk);
@@ -169,7 +169,7 @@ impl<'a, R: AllocGlobal + Clock + Wait, N: Log> Aside for Control<'a, R, N> {
                 connections,
                 pad,
             } = desk;
-            connections.retain_mut(|connection| self.serves(connection, domain, standing, pad));
+            connections.retain_mut(|connection| self.serves(connection, domain, source, pad));
         }
         // no wait for a descriptor, so there is none to run out of
         thread::sleep(self.rt, Duration::from_millis(CONTROL_PAUSE));
@@ -178,11 +178,11 @@ impl<'a, R: AllocGlobal + Clock + Wait, N: Log> Aside for Control<'a, R, N> {
 
 impl<'a, R: AllocGlobal, N: Log> Control<'a, R, N> {
     /// Takes what came over the connection, and sends what is owed. Whether it stays.
-    fn serves<K: Look, T: Standing>(
+    fn serves<K: Look, T: MetricsSource>(
         &self,
         connection: &mut Connection,
         domain: &K,
-        standing: &T,
+        source: &T,
         pad: &mut Pad,
     ) -> bool {
         connection.silent = connection.silent.saturating_add(1);
@@ -190,7 +190,7 @@ impl<'a, R: AllocGlobal, N: Log> Control<'a, R, N> {
             if !connection.is_read || !connection.owed.is_empty() {
                 break;
             }
-            self.reads(connection, domain, standing, pad);
+            self.reads(connection, domain, source, pad);
             if !is_pushed_out(connection) {
                 return false;
             }
@@ -203,11 +203,11 @@ impl<'a, R: AllocGlobal, N: Log> Control<'a, R, N> {
     }
 
     /// Reads once, and answers the lines that end in what came.
-    fn reads<K: Look, T: Standing>(
+    fn reads<K: Look, T: MetricsSource>(
         &self,
         connection: &mut Connection,
         domain: &K,
-        standing: &T,
+        source: &T,
         pad: &mut Pad,
     ) {
         let mut piece = [0u8; MAX_LINE];
@@ -216,7 +216,7 @@ impl<'a, R: AllocGlobal, N: Log> Control<'a, R, N> {
             Ok(n) => {
                 connection.silent = 0;
                 if let Some(bytes) = piece.get(..n) {
-                    self.takes(connection, bytes, domain, standing, pad);
+                    self.takes(connection, bytes, domain, source, pad);
                 }
             }
             Err(error) if error.kind() == ErrorKind::WouldBlock => {
@@ -227,12 +227,12 @@ impl<'a, R: AllocGlobal, N: Log> Control<'a, R, N> {
     }
 
     /// Takes these bytes, and answers the lines that end in them.
-    fn takes<K: Look, T: Standing>(
+    fn takes<K: Look, T: MetricsSource>(
         &self,
         connection: &mut Connection,
         bytes: &[u8],
         domain: &K,
-        standing: &T,
+        source: &T,
         pad: &mut Pad,
     ) {
         for byte in bytes {
@@ -240,7 +240,7 @@ impl<'a, R: AllocGlobal, N: Log> Control<'a, R, N> {
                 return;
             }
             if *byte == b'\n' {
-                self.answers(connection, domain, standing, pad);
+                self.answers(connection, domain, source, pad);
                 connection.line.clear();
             } else if connection.line.len() + 1 >= MAX_LINE {
                 refuse(connection);
@@ -251,11 +251,11 @@ impl<'a, R: AllocGlobal, N: Log> Control<'a, R, N> {
     }
 
     /// Answers the line.
-    fn answers<K: Look, T: Standing>(
+    fn answers<K: Look, T: MetricsSource>(
         &self,
         connection: &mut Connection,
         domain: &K,
-        standing: &T,
+        source: &T,
         pad: &mut Pad,
     ) {
         pad.report.clear();
@@ -269,7 +269,7 @@ impl<'a, R: AllocGlobal, N: Log> Control<'a, R, N> {
                 put_sessions(
                     self.rt.alloc(),
                     self.facts.workers,
-                    standing,
+                    source,
                     domain,
                     &mut pad.text,
                 )
@@ -277,7 +277,7 @@ impl<'a, R: AllocGlobal, N: Log> Control<'a, R, N> {
                     && is_owed(&mut connection.owed, b"sessions", pad.text.as_bytes())
             }
             b"metrics" => {
-                put_metrics(&self.facts, self.signals, standing.figures(), domain, pad).is_ok()
+                put_metrics(&self.facts, self.signals, source.metrics(), domain, pad).is_ok()
                     && is_owed(&mut connection.owed, b"metrics", pad.text.as_bytes())
             }
             b"info" => {

@@ -10,7 +10,7 @@ ghost use Rattle.iova_control.specs.Reports.{AreNumbersOf, IsField, NumberIn, be
 use crate::control::{Facts, Pad};
 use crate::info::{cut_line, lines_of, sink_kind};
 use iova_keep::look::Look;
-use iova_links::aside::Figures;
+use iova_links::control_task::DaemonMetrics;
 use iova_links::signals::Signals;
 use iova_range::limits::MAX_REFUSAL;
 use iova_text::number::number;
@@ -47,7 +47,7 @@ struct Numbers {
 pub fn put_metrics<K: Look>(
     facts: &Facts,
     signals: &Signals,
-    figures: Figures,
+    figures: DaemonMetrics,
     domain: &K,
     pad: &mut Pad,
 ) -> Result<(), AllocError>
@@ -76,7 +76,7 @@ fn put_all_of(
     text: &mut String,
     facts: &Facts,
     signals: &Signals,
-    figures: Figures,
+    figures: DaemonMetrics,
     numbers: Numbers,
     steps: u64,
 ) -> Result<(), AllocError>
@@ -175,7 +175,7 @@ fn put_daemon(
     text: &mut String,
     facts: &Facts,
     signals: &Signals,
-    figures: Figures,
+    figures: DaemonMetrics,
     steps: u64,
 ) -> Result<(), AllocError>
     ensures { OnOk result ((c : Counted) × (text.new.bytes.items ≡ text.old.bytes.items

@@ -3,31 +3,31 @@ ghost use Rattle.std.specs.Prelude.{◌≡◌, ◌++◌, ◌-◌, ◌≤◌, ℕ
 ghost use Rattle.iova_control.specs.Rows.{PutsRows, PutsSessions, frames_in, row_text};
 
 use iova_keep::look::Look;
-use iova_links::aside::Standing;
+use iova_links::control_task::MetricsSource;
 use iova_range::limits::MAX_CLIENTS;
 use iova_range::range::Range;
 use std::alloc::{AllocError, Global};
 
 /// Puts into the text for each session that is served now its worker, its client, and how many
 /// ranges and frames that holds; client 0 before it has opened one. Refused for want of memory.
-pub fn put_sessions<K: Look, T: Standing>(
+pub fn put_sessions<K: Look, T: MetricsSource>(
     alloc: Global,
     workers: u64,
-    standing: &T,
+    source: &T,
     domain: &K,
     text: &mut String,
 ) -> Result<(), AllocError>
     ensures { OnOk result (PutsSessions 0 workers text.old.bytes.items text.new.bytes.items) }
 {
     let mut ranges = Vec::new(alloc);
-    put_from(0, workers, standing, domain, &mut ranges, text)
+    put_from(0, workers, source, domain, &mut ranges, text)
 }
 
 /// The sessions of this worker, and of those behind it.
-fn put_from<K: Look, T: Standing>(
+fn put_from<K: Look, T: MetricsSource>(
     worker: u64,
     workers: u64,
-    standing: &T,
+    source: &T,
     domain: &K,
     ranges: &mut Vec<Range>,
     text: &mut String,
@@ -39,14 +39,14 @@ fn put_from<K: Look, T: Standing>(
     if worker >= workers {
         return Ok(());
     }
-    put_worker(worker, standing, domain, ranges, text)?;
-    put_from(worker + 1, workers, standing, domain, ranges, text)
+    put_worker(worker, source, domain, ranges, text)?;
+    put_from(worker + 1, workers, source, domain, ranges, text)
 }
 
 /// The sessions of this worker, as many as are served now.
-fn put_worker<K: Look, T: Standing>(
+fn put_worker<K: Look, T: MetricsSource>(
     worker: u64,
-    standing: &T,
+    source: &T,
     domain: &K,
     ranges: &mut Vec<Range>,
     text: &mut String,
@@ -56,8 +56,8 @@ fn put_worker<K: Look, T: Standing>(
 {
     put_so_many(
         worker,
-        standing.sessions(worker),
-        standing,
+        source.sessions(worker),
+        source,
         domain,
         ranges,
         text,
@@ -65,17 +65,17 @@ fn put_worker<K: Look, T: Standing>(
 }
 
 /// So many sessions of this worker.
-fn put_so_many<K: Look, T: Standing>(
+fn put_so_many<K: Look, T: MetricsSource>(
     worker: u64,
     sessions: u64,
-    standing: &T,
+    source: &T,
     domain: &K,
     ranges: &mut Vec<Range>,
     text: &mut String,
 ) -> Result<(), AllocError>
     ensures { OnOk result (PutsRows worker sessions text.old.bytes.items text.new.bytes.items) }
 {
-    let mut told = put_clients(worker, sessions, standing, domain, ranges, text)?;
+    let mut told = put_clients(worker, sessions, source, domain, ranges, text)?;
     while told < sessions {
         put_row(worker, 0, &[], text)?;
         told += 1;
@@ -86,10 +86,10 @@ fn put_so_many<K: Look, T: Standing>(
 /// Puts a line for each client of the worker whose session is served now, at most so many, and
 /// gives their number: those clients that the domain has and whose end doesn't wait. Refused for
 /// want of memory.
-fn put_clients<K: Look, T: Standing>(
+fn put_clients<K: Look, T: MetricsSource>(
     worker: u64,
     sessions: u64,
-    standing: &T,
+    source: &T,
     domain: &K,
     ranges: &mut Vec<Range>,
     text: &mut String,
@@ -108,7 +108,7 @@ fn put_clients<K: Look, T: Standing>(
             return Ok(told);
         };
         behind = client;
-        if told < sessions && !standing.waits(client) {
+        if told < sessions && !source.waits(client) {
             put_row(worker, client, ranges, text)?;
             told += 1;
         }

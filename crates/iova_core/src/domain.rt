@@ -164,15 +164,15 @@ impl Domain {
         }
     }
 
-    /// Runs one step as `step` does. `Unmap` is out of line, for who asks `queues_at_once` before.
+    /// Runs one step as `step` does. `Unmap` is out of line, for who asks `is_unmap_fast` before.
     #[inline(always)]
-    pub fn step_elsewhere(&mut self, step: Step) -> Reply
+    pub fn step_cold(&mut self, step: Step) -> Reply
         ensures { IsStepOf self.old step result self.new }
     {
         // for the proof: a step is refused by `NoMemory` only where a growth was refused
         no_memory_is_refused();
         match step {
-            Step::Unmap { worker, client, lo } => self.unmap_elsewhere(worker, client, lo).0,
+            Step::Unmap { worker, client, lo } => self.unmap_cold(worker, client, lo).0,
             _ => self.step(step),
         }
     }
@@ -232,18 +232,18 @@ impl Domain {
         if is_cached(frames) {
             let order = order_of_need(frames);
             let size = 1 << order;
-            if self.gives_at_once(worker, client, order, size, limit) {
-                return self.alloc_here(worker, client, frames, size, Some(order), limit);
+            if self.is_alloc_fast(worker, client, order, size, limit) {
+                return self.alloc_fast(worker, client, frames, size, Some(order), limit);
             }
         }
-        self.alloc_otherwise(worker, client, frames, limit)
+        self.alloc_slow(worker, client, frames, limit)
     }
 
-    /// Calls `alloc_elsewhere` from a function of its own. The compiler clears the room for that
+    /// Calls `alloc_cold` from a function of its own. The compiler clears the room for that
     /// call's answer where the calling function begins: so `alloc` itself, which mostly needs no
     /// such call, clears nothing.
     #[inline(always)]
-    fn alloc_otherwise(
+    fn alloc_slow(
         &mut self,
         worker: u64,
         client: ClientId,
@@ -254,14 +254,14 @@ impl Domain {
         ensures state { self.new ≡ (alloc self.old worker client frames limit result.1).state }
         ensures point { result.1 ≢ Point.Never → result.0 ≡ Reply.Refused Refusal.NoMemory }
     {
-        self.alloc_elsewhere(worker, client, frames, limit)
+        self.alloc_cold(worker, client, frames, limit)
     }
 
     /// Whether the client is that of the step before, and a magazine of this order, 0 to 5, gives a
     /// range of `size` frames by one look. The compiler then leaves all other calls out of
-    /// `alloc_here`. The step's meaning doesn't depend on it.
+    /// `alloc_fast`. The step's meaning doesn't depend on it.
     #[inline(always)]
-    fn gives_at_once(&self, worker: u64, client: ClientId, order: u8, size: u64, limit: u64) -> bool
+    fn is_alloc_fast(&self, worker: u64, client: ClientId, order: u8, size: u64, limit: u64) -> bool
         requires order { order < ORDERS }
         requires size { size ≡ 2 ^ order }
         ensures worker { IsTrue result → worker < self.now.workers }
@@ -277,7 +277,7 @@ impl Domain {
 
     /// Out of line, so that the caller has nothing to keep meanwhile.
     #[inline(never)]
-    fn alloc_elsewhere(
+    fn alloc_cold(
         &mut self,
         worker: u64,
         client: ClientId,
@@ -299,13 +299,13 @@ impl Domain {
         }
         let order = order_for(frames);
         let size = size_for(frames, order);
-        self.alloc_here(worker, client, frames, size, order, limit)
+        self.alloc_fast(worker, client, frames, size, order, limit)
     }
 
     /// The step for `size` frames, which have this order or none, and for which the client asks by
     /// a number.
     #[inline(always)]
-    fn alloc_here(
+    fn alloc_fast(
         &mut self,
         worker: u64,
         client: ClientId,
@@ -357,28 +357,28 @@ impl Domain {
         ensures state { self.new ≡ (unmap self.old worker client lo).state }
         ensures point { result.1 ≡ Point.Never }
     {
-        if self.queues_at_once(worker, client) {
-            self.unmap_here(worker, client, lo)
+        if self.is_unmap_fast(worker, client) {
+            self.unmap_fast(worker, client, lo)
         } else {
-            self.unmap_otherwise(worker, client, lo)
+            self.unmap_slow(worker, client, lo)
         }
     }
 
-    /// Calls `unmap_elsewhere` from a function of its own, for the reason that `alloc_otherwise`
+    /// Calls `unmap_cold` from a function of its own, for the reason that `alloc_slow`
     /// has.
     #[inline(always)]
-    fn unmap_otherwise(&mut self, worker: u64, client: ClientId, lo: u64) -> (Reply, Point)
+    fn unmap_slow(&mut self, worker: u64, client: ClientId, lo: u64) -> (Reply, Point)
         ensures reply { result.0 ≡ (unmap self.old worker client lo).reply }
         ensures state { self.new ≡ (unmap self.old worker client lo).state }
         ensures point { result.1 ≡ Point.Never }
     {
-        self.unmap_elsewhere(worker, client, lo)
+        self.unmap_cold(worker, client, lo)
     }
 
     /// Whether the client is that of the step before, and nothing leaves the worker's ring. The
     /// step's meaning doesn't depend on it.
     #[inline(always)]
-    pub fn queues_at_once(&self, worker: u64, client: ClientId) -> bool {
+    pub fn is_unmap_fast(&self, worker: u64, client: ClientId) -> bool {
         worker < self.workers()
             && self.clients.is_at_hand(worker, client)
             && self.rings[worker as usize].waits(self.flights.finish())
@@ -386,16 +386,16 @@ impl Domain {
 
     /// Out of line, so that the caller has nothing to keep meanwhile.
     #[inline(never)]
-    fn unmap_elsewhere(&mut self, worker: u64, client: ClientId, lo: u64) -> (Reply, Point)
+    fn unmap_cold(&mut self, worker: u64, client: ClientId, lo: u64) -> (Reply, Point)
         ensures reply { result.0 ≡ (unmap self.old worker client lo).reply }
         ensures state { self.new ≡ (unmap self.old worker client lo).state }
         ensures point { result.1 ≡ Point.Never }
     {
-        self.unmap_here(worker, client, lo)
+        self.unmap_fast(worker, client, lo)
     }
 
     #[inline(always)]
-    fn unmap_here(&mut self, worker: u64, client: ClientId, lo: u64) -> (Reply, Point)
+    fn unmap_fast(&mut self, worker: u64, client: ClientId, lo: u64) -> (Reply, Point)
         ensures reply { result.0 ≡ (unmap self.old worker client lo).reply }
         ensures state { self.new ≡ (unmap self.old worker client lo).state }
         ensures point { result.1 ≡ Point.Never }

@@ -1,3 +1,3 @@
 mod Sends
 mod Places
-mod Slots
+mod SessionThreads

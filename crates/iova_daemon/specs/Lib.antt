@@ -1,2 +1,2 @@
 pub mod Serving
-pub mod Slots
+pub mod SessionThreads

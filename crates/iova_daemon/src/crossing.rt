@@ -4,10 +4,10 @@ ghost use Rattle.std.specs.Thread.{IsSend, IsSync};
 ghost use Rattle.iova_lock.specs.contracts.shared.Shared as domains;
 ghost use Rattle.iova_session.specs.contracts.post.Post as posts;
 ghost use Rattle.iova_daemon.specs.contracts.pool.Pool as pools;
-ghost use Rattle.iova_daemon.specs.contracts.roster.Roster as roster;
+ghost use Rattle.iova_daemon.specs.contracts.daemon_state.DaemonState as daemon_state;
 
+use crate::daemon_state::DaemonState;
 use crate::pool::Pool;
-use crate::roster::Roster;
 use iova_keep::names::Names;
 use iova_lock::crossing::books_are_send;
 use iova_lock::shared::Shared;
@@ -42,10 +42,10 @@ where
 }
 
 /// Threads may share their roster.
-pub(crate) fn rosters_are_sync()
-    ensures { IsSync roster.the_row }
+pub(crate) fn daemon_states_are_sync()
+    ensures { IsSync daemon_state.the_row }
 {
-    is_sync::<Roster>();
+    is_sync::<DaemonState>();
 }
 
 /// Threads may share a pool, whose links go from one to another.

@@ -2,7 +2,7 @@
 ghost use Rattle.std.specs.Prelude.{◌≡◌};
 ghost use Rattle.iova_keep.specs.Views.{KeepsTally};
 
-use crate::roster::Roster;
+use crate::daemon_state::DaemonState;
 use crate::threads::SideTask;
 use iova_keep::calls::{flush, timeout};
 use iova_keep::keep::Keep;
@@ -35,7 +35,7 @@ pub(crate) struct Flusher<'e, R, N, K, B: Names, D, P> {
     pub tally: Tally<B>,
     pub sink: D,
     pub pause: P,
-    pub roster: &'e Roster,
+    pub daemon_state: &'e DaemonState,
     pub busy: Busy,
     /// How long it pauses behind a flush that failed, in milliseconds; 0 where the last one didn't.
     pub rest: u64,
@@ -74,7 +74,7 @@ impl<'e, R, N, K, B: Names, D, P> Flusher<'e, R, N, K, B, D, P> {
             tally,
             sink,
             pause: _,
-            roster: _,
+            daemon_state: _,
             busy: _,
             rest: _,
         } = self;
@@ -100,9 +100,9 @@ where
     /// the pause is twice as long, up to a second. Where a round freed many entries or a flush was
     /// made ahead before it, it flushes ahead in place of the next pause.
     fn go_on(&mut self) {
-        self.roster.end_round(milliseconds(self.rt));
+        self.daemon_state.end_round(milliseconds(self.rt));
         for _ in self.rt.forever() {
-            if !rests(&mut self.pause, self.roster, self.rest) {
+            if !rests(&mut self.pause, self.daemon_state, self.rest) {
                 return;
             }
             let looked = self.busy.is_busy
@@ -112,16 +112,16 @@ where
                     &mut self.tally,
                     &mut self.sink,
                     &mut self.pause,
-                    self.roster,
+                    self.daemon_state,
                     &mut self.busy,
                 );
-            if (!looked && !self.pause.pause()) || self.roster.have_ended() {
+            if (!looked && !self.pause.pause()) || self.daemon_state.have_ended() {
                 return;
             }
             let begun = milliseconds(self.rt);
             let round = timeout(&mut self.keeper, &mut self.tally, &mut self.sink);
             if let Ok(freed) = round {
-                self.roster.end_round(begun);
+                self.daemon_state.end_round(begun);
                 self.busy.is_busy |= freed >= FLUSH_AHEAD;
             }
             self.rest = rest_behind(round, self.rest);
@@ -133,9 +133,9 @@ where
 
 /// Pauses for this time, behind a flush that failed. False where a pause says stop, or all workers
 /// have ended.
-fn rests<P: Pause>(pause: &mut P, roster: &Roster, rest: u64) -> bool {
+fn rests<P: Pause>(pause: &mut P, daemon_state: &DaemonState, rest: u64) -> bool {
     for _ in 0..rest / FLUSH_PAUSE {
-        if roster.have_ended() || !pause.pause() {
+        if daemon_state.have_ended() || !pause.pause() {
             return false;
         }
     }
@@ -162,7 +162,7 @@ fn go_ahead<N, B, K, D, P>(
     tally: &mut Tally<B>,
     sink: &mut D,
     pause: &mut P,
-    roster: &Roster,
+    daemon_state: &DaemonState,
     busy: &mut Busy,
 ) -> bool
 where
@@ -177,7 +177,7 @@ where
     let mut start = keeper.stat().start;
     let mut flushed = 0;
     for _ in 0..LOOKS {
-        if roster.have_ended() || !pause.pause_shortly() {
+        if daemon_state.have_ended() || !pause.pause_shortly() {
             return false;
         }
         let stat = keeper.stat();

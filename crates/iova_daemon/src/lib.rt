@@ -1,4 +1,4 @@
-//! A daemon's threads: a slot for each post, and a flusher beside them.
+//! A daemon's threads: a session thread for each post, and a flusher beside them.
 #![tactic(auto)]
 
 ghost use Rattle.std.specs.Prelude.{◌≡◌, ◌+◌, ◌≤◌, Ok, Err, IfOk, IfErr, map, vec_len, slice_get};
@@ -8,22 +8,22 @@ ghost use Rattle.iova_lock.specs.Books.{tally_parts};
 ghost use Rattle.iova_daemon.specs.Serving.{AreWithin, CountsWithin, CountsWithinSome, IsServeRefusal};
 
 mod crossing;
+mod daemon_state;
 mod flusher;
 mod pool;
-mod roster;
 mod threads;
 mod worker;
 
-use crate::crossing::{domains_are_sync, pools_are_sync, posts_are_send, rosters_are_sync};
+use crate::crossing::{daemon_states_are_sync, domains_are_sync, pools_are_sync, posts_are_send};
+use crate::daemon_state::DaemonState;
 use crate::pool::Pool;
-use crate::roster::Roster;
 use crate::worker::WorkerContext;
 use flusher::{Busy, Flusher};
 use iova_keep::keep::Keep;
 use iova_keep::names::Names;
 use iova_keep::seat::Tally;
 use iova_links::accept::Accept;
-use iova_links::aside::{Aside, NothingAside};
+use iova_links::control_task::{ControlTask, NoControlTask};
 use iova_links::noting::NotingSink;
 use iova_links::pause::Pause;
 use iova_lock::shared::Shared;
@@ -93,7 +93,7 @@ pub struct Service<'a, R, N, X> {
     /// What is served.
     pub serving: Serving,
     /// What is done aside.
-    pub aside: &'a X,
+    pub control_task: &'a X,
 }
 
 /// Serves so many sessions on the domain, each within the usual limits: see `serve_sessions`.
@@ -136,9 +136,9 @@ where
             clients: posts.len() as u64,
             limits: SessionLimits::usual(),
         },
-        aside: &NothingAside,
+        control_task: &NoControlTask,
     };
-    let served = serve_sessions::<R, Q, N, B, L, A, D, P, NothingAside>(
+    let served = serve_sessions::<R, Q, N, B, L, A, D, P, NoControlTask>(
         &service, shared, posts, sinks, accept, pause,
     );
     match served {
@@ -155,28 +155,29 @@ where
 }
 
 /// Serves sessions on the domain, and flushes beside them on the calling thread. Each post is a
-/// slot: it has a thread and a sink, and serves one session at a time; several may be of one
-/// worker, and their sinks one sink behind a lock (`LockedSink`). The flusher has the last sink,
-/// and a tally that is split from the first post's seat. It returns once all sessions have ended,
-/// and gives the domain back, and the posts in their order.
+/// session thread: it has a thread and a sink, and serves one session at a time; several may be of
+/// one worker, and their sinks one sink behind a lock (`LockedSink`). The flusher has the last
+/// sink, and a tally that is split from the first post's seat. It returns once all sessions have
+/// ended, and gives the domain back, and the posts in their order.
 ///
-/// A slot repeats: it tries its waiting clients again, unless another slot of its worker does so,
-/// waits until there is a link for it, and serves a session over that. A slot without a session and
-/// without a waiting client is free; one without a session whose clients wait rests. One of these
-/// at a time, the leader, takes the next session number, where there is none, and accepts a link;
-/// the others sleep. The link goes to the worker that serves the fewest sessions of those with a
-/// free slot: the leader's, where that is one of them. A slot that rests is passed over: only where
-/// none is free it leads, and serves. While as many sessions are served as there may be at a time
-/// nobody leads, so whoever connects waits.
+/// A session thread repeats: it tries its waiting clients again, unless another session thread of
+/// its worker does so, waits until there is a link for it, and serves a session over that. A
+/// session thread without a session and without a waiting client is free; one without a session
+/// whose clients wait rests. One of these at a time, the leader, takes the next session number,
+/// where there is none, and accepts a link; the others sleep. The link goes to the worker that
+/// serves the fewest sessions of those with a free session thread: the leader's, where that is one
+/// of them. A session thread that rests is passed over: only where none is free it leads, and
+/// serves. While as many sessions are served as there may be at a time nobody leads, so whoever
+/// connects waits.
 ///
-/// A slot that rests accepts, and sleeps, no longer than a second. An accept that had no link keeps
-/// the number; one that fails uses it up. Once each session had its accept, no more are accepted
-/// (`close`). Slots stop once no number is left, and also once no link is to come any more
-/// (`has_ended`): then each tries its waiting clients a last time. What is to be done `aside` has a
-/// thread of its own.
+/// A session thread that rests accepts, and sleeps, no longer than a second. An accept that had no
+/// link keeps the number; one that fails uses it up. Once each session had its accept, no more are
+/// accepted (`close`). Session threads stop once no number is left, and also once no link is to
+/// come any more (`has_ended`): then each tries its waiting clients a last time. What is to be done
+/// `control_task` has a thread of its own.
 ///
-/// The flusher repeats: it pauses, and stops where the pause says so or all slots have ended; else
-/// it makes a round (`timeout`). At a busy domain it takes looks in place of the pause
+/// The flusher repeats: it pauses, and stops where the pause says so or all session threads have
+/// ended; else it makes a round (`timeout`). At a busy domain it takes looks in place of the pause
 /// (`pause_shortly`), and flushes where much waits in rings. Behind each flush of its own that
 /// failed it pauses twice as long as before, up to a second. A session that ends by `LinkFault` or
 /// `NoMemory`, or by `TooMany` with ranges in hand, a sink that fails, a round or such a flush that
@@ -202,7 +203,7 @@ where
     A: Accept<L> + Sync,
     D: Sink + Send + Drop,
     P: Pause + Drop,
-    X: Aside + Sync,
+    X: ControlTask + Sync,
     requires some { 1 ≤ vec_len posts }
     requires sinks { vec_len sinks ≡ vec_len posts + 1 }
     requires parts { ForSome (slice_get posts.items 0) (λ p. 2 ≤ p.seat.tally.parts) }
@@ -218,13 +219,13 @@ where
 {
     // for the proof: what threads may share
     domains_are_sync::<Q, B>();
-    rosters_are_sync();
+    daemon_states_are_sync();
     pools_are_sync::<L>();
     let mut sinks = sinks;
     let Some(sink) = sinks.pop() else {
         unreachable!()
     };
-    let roster = Roster::new(service.alloc, service.serving, posts.len() as u64);
+    let daemon_state = DaemonState::new(service.alloc, service.serving, posts.len() as u64);
     let pool: Pool<L> = Pool::new(service.alloc);
     let context = WorkerContext {
         rt: service.rt,
@@ -232,16 +233,16 @@ where
         notices: service.notices,
         keeper: &shared,
         accept,
-        roster: &roster,
+        daemon_state: &daemon_state,
         pool: &pool,
-        aside: service.aside,
+        control_task: service.control_task,
     };
     let served = serve_kept::<
         R,
         N,
         B,
         &Shared<Q, B>,
-        WorkerContext<&R, &N, &Shared<Q, B>, &A, &Roster, &Pool<L>, &X>,
+        WorkerContext<&R, &N, &Shared<Q, B>, &A, &DaemonState, &Pool<L>, &X>,
         D,
         P,
         X,
@@ -309,7 +310,7 @@ where
         tally,
         sink: NotingSink::new(sink, service.notices),
         pause,
-        roster: context.roster(),
+        daemon_state: context.daemon_state(),
         busy: Busy::new(),
         rest: 0,
     };

@@ -5,7 +5,7 @@
 ghost use Rattle.std.specs.Prelude.{◌<◌};
 ghost use Rattle.iova_range.specs.declared.limits.TheConstants.{MAX_WORKERS};
 
-use crate::roster::Roster;
+use crate::daemon_state::DaemonState;
 use iova_links::loads::{Load, fewest, may_serve, place_of};
 use iova_range::limits::{MAX_WORKERS, RETRY_PAUSE};
 use std::alloc::Global;
@@ -64,14 +64,14 @@ impl<L: Drop> Pool<L> {
     pub(crate) fn wait<R: Wait + Clock>(
         &self,
         rt: &R,
-        roster: &Roster,
+        daemon_state: &DaemonState,
         worker: u64,
         rests: bool,
     ) -> Turn<L> {
         let at = place_of(worker);
-        let turn = self.turn(rt, roster, at, rests);
+        let turn = self.turn(rt, daemon_state, at, rests);
         match turn {
-            Turn::Serve(_) => self.wake(rt, roster, at, false),
+            Turn::Serve(_) => self.wake(rt, daemon_state, at, false),
             Turn::End => self.wake_all(),
             Turn::Lead(_) | Turn::Again => {}
         }
@@ -79,12 +79,18 @@ impl<L: Drop> Pool<L> {
     }
 
     /// What the post is to do next; `wait` wakes others where they have to know of it.
-    fn turn<R: Wait + Clock>(&self, rt: &R, roster: &Roster, at: usize, rests: bool) -> Turn<L>
+    fn turn<R: Wait + Clock>(
+        &self,
+        rt: &R,
+        daemon_state: &DaemonState,
+        at: usize,
+        rests: bool,
+    ) -> Turn<L>
         requires { at < MAX_WORKERS }
     {
         let mut state = self.state.lock(rt);
         state.come(at, rests);
-        if let Some(turn) = state.turn(roster, at, rests) {
+        if let Some(turn) = state.turn(daemon_state, at, rests) {
             return turn;
         }
         let mut state = if rests {
@@ -93,7 +99,7 @@ impl<L: Drop> Pool<L> {
         } else {
             self.bells[at].wait(rt, state)
         };
-        match state.turn(roster, at, rests) {
+        match state.turn(daemon_state, at, rests) {
             // those that have slept try their waiting clients a last time, each at once
             Some(Turn::End) => {
                 drop(state);
@@ -113,7 +119,7 @@ impl<L: Drop> Pool<L> {
     pub(crate) fn assign<R: Wait>(
         &self,
         rt: &R,
-        roster: &Roster,
+        daemon_state: &DaemonState,
         worker: u64,
         accepted: Accepted<L>,
         rests: bool,
@@ -126,12 +132,12 @@ impl<L: Drop> Pool<L> {
                     bell.notify_one();
                 }
                 if rests {
-                    self.wake(rt, roster, at, true);
+                    self.wake(rt, daemon_state, at, true);
                 }
                 None
             }
             Err(accepted) => {
-                self.wake(rt, roster, at, true);
+                self.wake(rt, daemon_state, at, true);
                 Some(accepted)
             }
         }
@@ -142,7 +148,7 @@ impl<L: Drop> Pool<L> {
     pub(crate) fn give_way<R: Wait>(
         &self,
         rt: &R,
-        roster: &Roster,
+        daemon_state: &DaemonState,
         worker: u64,
         is_used_up: bool,
         rests: bool,
@@ -150,15 +156,21 @@ impl<L: Drop> Pool<L> {
         let at = place_of(worker);
         self.state.lock(rt).give_way(at, is_used_up, rests);
         if rests {
-            self.wake(rt, roster, at, true);
+            self.wake(rt, daemon_state, at, true);
         }
     }
 
     /// A session of this worker has ended, at a post that may rest now.
-    pub(crate) fn leave<R: Wait>(&self, rt: &R, roster: &Roster, worker: u64, rests: bool) {
+    pub(crate) fn leave<R: Wait>(
+        &self,
+        rt: &R,
+        daemon_state: &DaemonState,
+        worker: u64,
+        rests: bool,
+    ) {
         let at = place_of(worker);
         self.state.lock(rt).leave(at);
-        self.wake(rt, roster, at, rests);
+        self.wake(rt, daemon_state, at, rests);
     }
 
     /// No session is to come.
@@ -170,8 +182,8 @@ impl<L: Drop> Pool<L> {
     /// Wakes a post that is to lead, where nobody does: a free one of the worker that the next link
     /// would go to. Where none is free, one that rests, if whoever asks for it is away for longer:
     /// at a session, or at a try of its clients.
-    fn wake<R: Wait>(&self, rt: &R, roster: &Roster, at: usize, is_away: bool) {
-        let (is_wanted, next) = self.state.lock(rt).next_leader(roster, at);
+    fn wake<R: Wait>(&self, rt: &R, daemon_state: &DaemonState, at: usize, is_away: bool) {
+        let (is_wanted, next) = self.state.lock(rt).next_leader(daemon_state, at);
         if !is_wanted {
             return;
         }
@@ -249,16 +261,16 @@ impl<L: Drop> State<L> {
     }
 
     /// What a post is to do now, where there is anything.
-    fn turn(&mut self, roster: &Roster, at: usize, rests: bool) -> Option<Turn<L>> {
+    fn turn(&mut self, daemon_state: &DaemonState, at: usize, rests: bool) -> Option<Turn<L>> {
         if !rests && let Some(accepted) = self.take(at) {
             return Some(Turn::Serve(accepted));
         }
         if !self.has_ended {
-            if !self.is_wanted(roster) || !may_serve(&self.loads, rests) {
+            if !self.is_wanted(daemon_state) || !may_serve(&self.loads, rests) {
                 return None;
             }
             if self.number.is_none() {
-                self.number = roster.next_session();
+                self.number = daemon_state.next_session();
             }
             if let Some(session) = self.number {
                 self.is_led = true;
@@ -271,8 +283,8 @@ impl<L: Drop> State<L> {
     }
 
     /// Whether a leader is wanted.
-    fn is_wanted(&self, roster: &Roster) -> bool {
-        !self.is_led && !self.has_ended && self.served < roster.clients()
+    fn is_wanted(&self, daemon_state: &DaemonState) -> bool {
+        !self.is_led && !self.has_ended && self.served < daemon_state.clients()
     }
 
     /// The oldest link that was handed over to the worker at this place.
@@ -343,7 +355,7 @@ impl<L: Drop> State<L> {
 
     /// Whether a leader is wanted, and the place of the worker whose free post is to be it, where
     /// there is one.
-    fn next_leader(&self, roster: &Roster, at: usize) -> (bool, Option<usize>) {
-        (self.is_wanted(roster), fewest(&self.loads, at))
+    fn next_leader(&self, daemon_state: &DaemonState, at: usize) -> (bool, Option<usize>) {
+        (self.is_wanted(daemon_state), fewest(&self.loads, at))
     }
 }

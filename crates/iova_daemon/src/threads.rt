@@ -5,7 +5,7 @@ ghost use Rattle.iova_sink.specs.Calls.{Call};
 ghost use Rattle.iova_keep.specs.Views.{SeatState, TallyState, KeepsPlace, KeepsTally};
 ghost use Rattle.iova_daemon.specs.Serving.{AreKept, IsServeRefusal};
 
-use crate::roster::Roster;
+use crate::daemon_state::DaemonState;
 use iova_range::refusal::Refusal;
 use iova_sink::sink::Sink;
 use std::snapshot::Snapshot;
@@ -14,7 +14,7 @@ use std::thread::{Promise, PromisedHandle, Scope, Threads};
 use std::{io, thread};
 
 /// A worker's place.
-pub(crate) trait Place {
+pub(crate) trait WorkerPlace {
     /// The seat that is there.
     ghost seat: { Self → SeatState };
 
@@ -24,13 +24,13 @@ pub(crate) trait Place {
 }
 
 /// What workers do, each in a thread of its own.
-pub(crate) trait Work<P: Place, D: Sink> {
+pub(crate) trait Work<P: WorkerPlace, D: Sink> {
     /// Works at this place with this sink, and gives both back.
     fn work(&self, place: P, sink: D) -> (P, D)
         ensures { KeepsPlace (P.seat place) (P.seat result.0) (D.calls sink) (D.calls result.1) };
 
     /// The roster of the workers.
-    fn roster(&self) -> &Roster;
+    fn daemon_state(&self) -> &DaemonState;
 
     /// Takes the room that so many places need beside their own. Whether it was had.
     fn take_room(&self, places: usize) -> bool;
@@ -39,13 +39,13 @@ pub(crate) trait Work<P: Place, D: Sink> {
     fn cannot_start(&self, worker: u64, error: &io::Error);
 
     /// Whether there is anything to do aside.
-    fn is_wanted_aside(&self) -> bool;
+    fn is_control_wanted(&self) -> bool;
 
     /// Does what there is to do aside, until all workers have ended.
-    fn go_aside(&self);
+    fn run_control_task(&self);
 
     /// The thread for what is done aside can't be started.
-    fn cannot_go_aside(&self, error: &io::Error);
+    fn cannot_start_control_task(&self, error: &io::Error);
 }
 
 /// What is done beside the workers, on the thread that started them.
@@ -80,7 +80,7 @@ pub(crate) struct KeepsBoth<P, D> {
     sink: Snapshot<D>,
 }
 
-impl<P: Place, D: Sink> Promise<(P, D)> for KeepsBoth<P, D> {
+impl<P: WorkerPlace, D: Sink> Promise<(P, D)> for KeepsBoth<P, D> {
     ghost kept_by = { λ p r. KeepsPlace (P.seat p.place.value) (P.seat r.0)
         (D.calls p.sink.value) (D.calls r.1) };
 }
@@ -106,7 +106,7 @@ pub(crate) fn run_all<R, W, P, D, B>(
 where
     R: Threads + Wait,
     W: Work<P, D> + Sync,
-    P: Place + Send + Drop,
+    P: WorkerPlace + Send + Drop,
     D: Sink + Send + Drop,
     B: SideTask + Drop,
     requires { vec_len places ≡ vec_len sinks }
@@ -144,7 +144,7 @@ where
     E: 's,
     R: Threads + Wait,
     W: Work<P, D> + Sync + 's,
-    P: Place + Send + Drop + 's,
+    P: WorkerPlace + Send + Drop + 's,
     D: Sink + Send + Drop + 's,
     B: SideTask + Drop,
     requires { vec_len places ≡ vec_len sinks }
@@ -171,22 +171,22 @@ where
         return Err(Refusal::NoMemory);
     }
     // started workers wait for the gate until all are started
-    let mut gate = context.roster().gate.lock(rt);
+    let mut gate = context.daemon_state().gate.lock(rt);
     let all = start_all::<E, W, P, D>(scope, context, places, sinks, &mut started);
-    let aside = if all {
-        start_aside::<E, W, P, D>(scope, context)
+    let control_task = if all {
+        start_control_task::<E, W, P, D>(scope, context)
     } else {
         None
     };
-    let all = aside.is_some();
+    let all = control_task.is_some();
     *gate = all;
     drop(gate);
     if all {
         beside.go_on();
     }
     join_all(rt, started, &mut back, &mut given);
-    if let Some(Some(aside)) = aside {
-        aside.join(rt);
+    if let Some(Some(control_task)) = control_task {
+        control_task.join(rt);
     }
     if all {
         Ok(Joined {
@@ -200,23 +200,23 @@ where
 }
 
 /// Starts what is done aside, where there is anything to do. None where it can't be started.
-fn start_aside<'s, E, W, P, D>(
+fn start_control_task<'s, E, W, P, D>(
     scope: &Scope<'s, E>,
     context: &'s W,
 ) -> Option<Option<PromisedHandle<(), Nothing>>>
 where
     E: 's,
     W: Work<P, D> + Sync + 's,
-    P: Place + Send + Drop + 's,
+    P: WorkerPlace + Send + Drop + 's,
     D: Sink + Send + Drop + 's,
 {
-    if !context.is_wanted_aside() {
+    if !context.is_control_wanted() {
         return Some(None);
     }
-    match scope.spawn_with(Nothing, move || context.go_aside()) {
+    match scope.spawn_with(Nothing, move || context.run_control_task()) {
         Ok(handle) => Some(Some(handle)),
         Err(error) => {
-            context.cannot_go_aside(&io::Error::from(error));
+            context.cannot_start_control_task(&io::Error::from(error));
             None
         }
     }
@@ -235,7 +235,7 @@ fn start_all<'s, E, W, P, D>(
 where
     E: 's,
     W: Work<P, D> + Sync + 's,
-    P: Place + Send + Drop + 's,
+    P: WorkerPlace + Send + Drop + 's,
     D: Sink + Send + Drop + 's,
     requires empty { started.old.items ≡ [] }
     requires room { vec_len places ≤ vec_capacity started.old }
@@ -276,7 +276,7 @@ where
 
 /// Joins each thread, and puts its place and its sink after those that are there.
 #[tactic(auto, using(crate::proofs::Places::more_kept, crate::proofs::Places::none_kept))]
-fn join_all<R: Threads, P: Place + Drop, D: Sink + Drop>(
+fn join_all<R: Threads, P: WorkerPlace + Drop, D: Sink + Drop>(
     rt: &R,
     started: Vec<PromisedHandle<(P, D), KeepsBoth<P, D>>>,
     back: &mut Vec<P>,

@@ -1,18 +1,18 @@
-//! A slot of a worker: sessions at one post, one after another.
+//! A session thread of a worker: sessions at one post, one after another.
 ghost use Rattle.std.specs.Prelude.{◌≡◌, Option};
 ghost use Rattle.iova_model.specs.State.{State};
 ghost use Rattle.iova_keep.specs.Views.{KeepsPlace};
 ghost use Rattle.iova_session.specs.OneByOne.{between};
-ghost use Rattle.iova_daemon.specs.Slots.{ServesAtSlot, ServesSession, IsTried};
+ghost use Rattle.iova_daemon.specs.SessionThreads.{ServesOnThread, ServesSession, IsTried};
 
+use crate::daemon_state::{DaemonState, LiveMetrics};
 use crate::pool::{Accepted, Pool, Turn};
-use crate::roster::{Roster, Stands};
-use crate::threads::{Place, Work};
+use crate::threads::{Work, WorkerPlace};
 use iova_keep::keep::Keep;
 use iova_keep::look::Look;
 use iova_keep::names::Names;
 use iova_links::accept::Accept;
-use iova_links::aside::Aside;
+use iova_links::control_task::ControlTask;
 use iova_links::noting::{NotingSink, note_end, note_full};
 use iova_model::step::ClientId;
 use iova_range::limits::RETRY_PAUSE;
@@ -27,7 +27,7 @@ use std::io;
 use std::rt::Clock;
 use std::sync::Wait;
 
-impl<B: Names> Place for Post<B> {
+impl<B: Names> WorkerPlace for Post<B> {
     ghost seat = { λ p. p.seat };
 
     fn worker(&self) -> u64 {
@@ -35,8 +35,8 @@ impl<B: Names> Place for Post<B> {
     }
 }
 
-/// What every slot is lent: references, and a keeper of the domain. Each is a parameter, so that
-/// one short law says that threads may share it where they may share each of them.
+/// What every session thread is lent: references, and a keeper of the domain. Each is a parameter,
+/// so that one short law says that threads may share it where they may share each of them.
 #[derive(Drop)]
 pub(crate) struct WorkerContext<R, N, K, A, T, H, X> {
     pub rt: R,
@@ -44,13 +44,13 @@ pub(crate) struct WorkerContext<R, N, K, A, T, H, X> {
     pub notices: N,
     pub keeper: K,
     pub accept: A,
-    pub roster: T,
+    pub daemon_state: T,
     pub pool: H,
-    pub aside: X,
+    pub control_task: X,
 }
 
 impl<'e, R, N, B, K, L, A, D, X> Work<Post<B>, D>
-    for WorkerContext<&'e R, &'e N, K, &'e A, &'e Roster, &'e Pool<L>, &'e X>
+    for WorkerContext<&'e R, &'e N, K, &'e A, &'e DaemonState, &'e Pool<L>, &'e X>
 where
     R: Wait + Clock,
     N: Log,
@@ -59,12 +59,12 @@ where
     L: Link + Drop,
     A: Accept<L>,
     D: Sink + Drop,
-    X: Aside,
+    X: ControlTask,
 {
     /// Waits at the gate, and then serves sessions at the post until none is to come.
     fn work(&self, place: Post<B>, sink: D) -> (Post<B>, D)
         ensures turns { (left : Option State)
-            × ServesAtSlot L.left L.sent L.reads self.now.roster.now.serving.limits
+            × ServesOnThread L.left L.sent L.reads self.now.daemon_state.now.serving.limits
             (K.identity self.now.keeper).strict (K.identity self.now.keeper).number
             (between place.seat place.waiting.items (D.calls sink) (K.domain self.now.keeper))
             (between result.0.seat result.0.waiting.items (D.calls result.1) left) }
@@ -73,15 +73,15 @@ where
         let mut post = place;
         let mut keeper = self.keeper;
         let mut sink = NotingSink::new(sink, self.notices);
-        if *self.roster.gate.lock(self.rt) {
-            serve_slot(self, &mut keeper, &mut post, &mut sink);
+        if *self.daemon_state.gate.lock(self.rt) {
+            serve_on_thread(self, &mut keeper, &mut post, &mut sink);
         }
-        self.roster.end();
+        self.daemon_state.end();
         (post, sink.into_sink())
     }
 
-    fn roster(&self) -> &Roster {
-        self.roster
+    fn daemon_state(&self) -> &DaemonState {
+        self.daemon_state
     }
 
     fn take_room(&self, places: usize) -> bool {
@@ -92,15 +92,15 @@ where
         error!(self.notices; target: "", "thread {worker}: {error}");
     }
 
-    fn is_wanted_aside(&self) -> bool {
-        self.aside.is_wanted()
+    fn is_control_wanted(&self) -> bool {
+        self.control_task.is_wanted()
     }
 
-    fn go_aside(&self) {
-        go_aside(self.rt, self.roster, self.aside, &self.keeper);
+    fn run_control_task(&self) {
+        run_control_task(self.rt, self.daemon_state, self.control_task, &self.keeper);
     }
 
-    fn cannot_go_aside(&self, error: &io::Error) {
+    fn cannot_start_control_task(&self, error: &io::Error) {
         error!(self.notices; target: "", "thread aside: {error}");
     }
 }
@@ -108,8 +108,8 @@ where
 /// Serves sessions at the post until none is to come. Its waiting clients are tried again before
 /// each wait in the pool, where it waits for a second at most while there are any: so a post that
 /// rests tries them about once a second, and before it takes a session.
-fn serve_slot<R, N, B, K, L, A, D, X>(
-    context: &WorkerContext<&R, &N, K, &A, &Roster, &Pool<L>, &X>,
+fn serve_on_thread<R, N, B, K, L, A, D, X>(
+    context: &WorkerContext<&R, &N, K, &A, &DaemonState, &Pool<L>, &X>,
     keeper: &mut K,
     post: &mut Post<B>,
     sink: &mut NotingSink<'_, D, N>,
@@ -122,7 +122,7 @@ where
     L: Link + Drop,
     A: Accept<L>,
     D: Sink,
-    ensures turns { ServesAtSlot L.left L.sent L.reads context.now.roster.now.serving.limits
+    ensures turns { ServesOnThread L.left L.sent L.reads context.now.daemon_state.now.serving.limits
         (K.identity keeper.old).strict (K.identity keeper.old).number
         (between post.old.seat post.old.waiting.items (D.calls sink.old.sink)
         (K.domain keeper.old))
@@ -131,16 +131,23 @@ where
     ensures place { KeepsPlace post.old.seat post.new.seat (D.calls sink.old.sink)
         (D.calls sink.new.sink) }
 {
-    let (rt, roster) = (context.rt, context.roster);
-    let slot = roster.begin();
+    let (rt, daemon_state) = (context.rt, context.daemon_state);
+    let thread = daemon_state.begin();
     let mut told = 0;
     'turns: for _ in rt.forever() {
-        try_again(roster, keeper, post, sink);
-        told = tell(rt, roster, slot, told, &post.waiting);
+        try_again(daemon_state, keeper, post, sink);
+        told = tell(rt, daemon_state, thread, told, &post.waiting);
         let worker = post.seat.worker();
-        match next::<R, L, A>(rt, roster, context.pool, context.accept, worker, told > 0) {
+        match next::<R, L, A>(
+            rt,
+            daemon_state,
+            context.pool,
+            context.accept,
+            worker,
+            told > 0,
+        ) {
             Turn::Serve(accepted) => told = serve_accepted(
-                context, keeper, post, sink, accepted, slot, told,
+                context, keeper, post, sink, accepted, thread, told,
             ),
             Turn::End => return,
             Turn::Lead(_) | Turn::Again => {}
@@ -149,14 +156,14 @@ where
 }
 
 /// Serves a session at the post over the link, from its first byte to the end of its client. The
-/// slot has told of so many waiting clients; gives of how many it has told then.
+/// session thread has told of so many waiting clients; gives of how many it has told then.
 fn serve_accepted<R, N, B, K, L, A, D, X>(
-    context: &WorkerContext<&R, &N, K, &A, &Roster, &Pool<L>, &X>,
+    context: &WorkerContext<&R, &N, K, &A, &DaemonState, &Pool<L>, &X>,
     keeper: &mut K,
     post: &mut Post<B>,
     sink: &mut NotingSink<'_, D, N>,
     accepted: Accepted<L>,
-    slot: u64,
+    thread: u64,
     told: u64,
 ) -> u64
 where
@@ -168,7 +175,7 @@ where
     A: Accept<L>,
     D: Sink,
     ensures same { K.identity keeper.new ≡ K.identity keeper.old }
-    ensures session { ServesSession L.left L.sent L.reads context.now.roster.now.serving.limits
+    ensures session { ServesSession L.left L.sent L.reads context.now.daemon_state.now.serving.limits
         (K.identity keeper.old).strict (K.identity keeper.old).number accepted.link
         (between post.old.seat post.old.waiting.items (D.calls sink.old.sink)
         (K.domain keeper.old))
@@ -178,43 +185,43 @@ where
         (D.calls sink.new.sink) }
 {
     let Accepted { mut link, session } = accepted;
-    let (rt, roster) = (context.rt, context.roster);
+    let (rt, daemon_state) = (context.rt, context.daemon_state);
     let worker = post.seat.worker();
-    if roster.begin_session(worker) {
-        note_full(context.notices, roster.clients());
+    if daemon_state.begin_session(worker) {
+        note_full(context.notices, daemon_state.clients());
     }
     sink.begin_session();
-    let (alloc, limits) = (context.alloc, roster.limits());
+    let (alloc, limits) = (context.alloc, daemon_state.limits());
     let ended = run_session_within(alloc, limits, &mut link, keeper, post, sink);
     // so there are never more connections than sessions
     drop(link);
-    let told = tell(rt, roster, slot, told, &post.waiting);
-    roster.end_session(worker);
-    context.pool.leave(rt, roster, worker, told > 0);
+    let told = tell(rt, daemon_state, thread, told, &post.waiting);
+    daemon_state.end_session(worker);
+    context.pool.leave(rt, daemon_state, worker, told > 0);
     note_end(context.notices, session, ended.end, sink.ranges_gone());
     told
 }
 
 /// Does what there is to do aside, until all workers have ended.
-pub(crate) fn go_aside<R: Wait + Clock, X: Aside, K: Look>(
+pub(crate) fn run_control_task<R: Wait + Clock, X: ControlTask, K: Look>(
     rt: &R,
-    roster: &Roster,
-    aside: &X,
+    daemon_state: &DaemonState,
+    control_task: &X,
     keeper: &K,
 ) {
     for _ in rt.forever() {
-        if roster.have_ended() {
+        if daemon_state.have_ended() {
             return;
         }
-        let standing = Stands { rt, roster };
-        aside.turn(keeper, &standing);
+        let source = LiveMetrics { rt, daemon_state };
+        control_task.turn(keeper, &source);
     }
     unreachable!()
 }
 
-/// Tries the post's waiting clients again, unless another slot of its worker does so.
+/// Tries the post's waiting clients again, unless another session thread of its worker does so.
 pub(crate) fn try_again<B: Names, K: Keep<B>, D: Sink>(
-    roster: &Roster,
+    daemon_state: &DaemonState,
     keeper: &mut K,
     post: &mut Post<B>,
     sink: &mut D,
@@ -226,9 +233,9 @@ pub(crate) fn try_again<B: Names, K: Keep<B>, D: Sink>(
     ensures place { KeepsPlace post.old.seat post.new.seat (D.calls sink.old) (D.calls sink.new) }
 {
     let worker = post.seat.worker();
-    if !post.waiting.is_empty() && roster.begin_trying(worker) {
+    if !post.waiting.is_empty() && daemon_state.begin_trying(worker) {
         retry(keeper, post, sink);
-        roster.end_trying(worker);
+        daemon_state.end_trying(worker);
     }
 }
 
@@ -237,14 +244,14 @@ pub(crate) fn try_again<B: Names, K: Keep<B>, D: Sink>(
 /// other clients are another number.
 pub(crate) fn tell<R: Wait>(
     rt: &R,
-    roster: &Roster,
-    slot: u64,
+    daemon_state: &DaemonState,
+    thread: u64,
     told: u64,
     waiting: &[ClientId],
 ) -> u64 {
     let left = waiting.len() as u64;
     if left != told {
-        roster.wait_for(rt, slot, told, waiting);
+        daemon_state.wait_for(rt, thread, told, waiting);
     }
     left
 }
@@ -253,7 +260,7 @@ pub(crate) fn tell<R: Wait>(
 /// where it is to lead. Where no link is to come, the pool ends.
 fn next<R: Wait + Clock, L: Drop, A: Accept<L>>(
     rt: &R,
-    roster: &Roster,
+    daemon_state: &DaemonState,
     pool: &Pool<L>,
     accept: &A,
     worker: u64,
@@ -264,8 +271,8 @@ fn next<R: Wait + Clock, L: Drop, A: Accept<L>>(
         pool.end(rt);
         return Turn::End;
     }
-    match pool.wait(rt, roster, worker, rests) {
-        Turn::Lead(session) => lead(rt, roster, pool, accept, worker, session, rests),
+    match pool.wait(rt, daemon_state, worker, rests) {
+        Turn::Lead(session) => lead(rt, daemon_state, pool, accept, worker, session, rests),
         turn => turn,
     }
 }
@@ -274,7 +281,7 @@ fn next<R: Wait + Clock, L: Drop, A: Accept<L>>(
 /// it, hands it over or, where it got none, gives way.
 fn lead<R: Wait, L: Drop, A: Accept<L>>(
     rt: &R,
-    roster: &Roster,
+    daemon_state: &DaemonState,
     pool: &Pool<L>,
     accept: &A,
     worker: u64,
@@ -282,34 +289,34 @@ fn lead<R: Wait, L: Drop, A: Accept<L>>(
     rests: bool,
 ) -> Turn<L> {
     if accept.has_ended() {
-        pool.give_way(rt, roster, worker, false, rests);
+        pool.give_way(rt, daemon_state, worker, false, rests);
         return Turn::Again;
     }
     let limit = if rests { Some(RETRY_PAUSE) } else { None };
     match accept.accept(limit) {
         Ok(Some(link)) => {
-            meet::<L, A>(roster, accept);
-            match pool.assign(rt, roster, worker, Accepted { link, session }, rests) {
+            meet::<L, A>(daemon_state, accept);
+            match pool.assign(rt, daemon_state, worker, Accepted { link, session }, rests) {
                 Some(accepted) => Turn::Serve(accepted),
                 None => Turn::Again,
             }
         }
         Ok(None) => {
-            pool.give_way(rt, roster, worker, false, rests);
+            pool.give_way(rt, daemon_state, worker, false, rests);
             Turn::Again
         }
         // an accept that fails uses up the number
         Err(_) => {
-            meet::<L, A>(roster, accept);
-            pool.give_way(rt, roster, worker, true, rests);
+            meet::<L, A>(daemon_state, accept);
+            pool.give_way(rt, daemon_state, worker, true, rests);
             Turn::Again
         }
     }
 }
 
 /// Counts a session that was accepted. After the last one nobody is accepted any more.
-fn meet<L, A: Accept<L>>(roster: &Roster, accept: &A) {
-    if roster.meet() {
+fn meet<L, A: Accept<L>>(daemon_state: &DaemonState, accept: &A) {
+    if daemon_state.meet() {
         accept.close();
     }
 }

@@ -15,7 +15,8 @@ const DESCRIPTORS: &str = "Max open files";
 
 /// How many of so many sessions may be served at a time, beside the sinks of so many workers: as
 /// many as there are descriptors for, and one at least. The others are kept back, so that the
-/// sinks, the record and the control socket find one. Where they aren't enough for all, a notice says so.
+/// sinks, the record and the control socket find one. Where they aren't enough for all, a notice
+/// says so.
 pub fn sessions_within<R: AllocGlobal + Files<File = File>, N: Log>(
     rt: &R,
     notices: &N,

@@ -20,8 +20,9 @@ const KINDS: [&str; 4] = ["accept", "client", "flush", "session"];
 /// The kind of notices of flushes that failed.
 const FLUSH: &str = "flush";
 
-/// Standard error, and a count of the lines. Of a kind one line a second is printed at most; the next
-/// one says how many were not. Flushes that failed are counted, whether they are printed or not.
+/// Standard error, and a count of the lines. Of a kind one line a second is printed at most; the
+/// next one says how many were not. Flushes that failed are counted, whether they are printed or
+/// not.
 #[derive(Drop)]
 pub struct CountedConsole<'a, R> {
     rt: &'a R,
@@ -65,8 +66,8 @@ impl Rate {
         }
     }
 
-    /// Whether a line is printed now, and how many before it were not. Of two threads one prints its
-    /// line.
+    /// Whether a line is printed now, and how many before it were not. Of two threads one prints
+    /// its line.
     fn take(&self, now: u64) -> Option<u64> {
         let due = self.due.load(Ordering::SeqCst);
         let next = now.saturating_add(NOTICE_PAUSE);
@@ -84,8 +85,8 @@ impl Rate {
 }
 
 impl<'a, R> CountedConsole<'a, R> {
-    /// This standard error, with lines counted there. Warnings are printed, or not. A name that isn't
-    /// empty stands in front of each line.
+    /// This standard error, with lines counted there. Warnings are printed, or not. A name that
+    /// isn't empty stands in front of each line.
     pub fn new(
         rt: &'a R,
         signals: &'a Signals,

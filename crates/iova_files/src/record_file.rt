@@ -23,8 +23,8 @@ pub struct RecordFile<'a> {
 }
 
 impl<'a> RecordFile<'a> {
-    /// The file at this path, with what stands in it. None, of which a notice says why, where it can't be opened
-    /// for writing, is a FIFO, or is the plain file at one of the other paths.
+    /// The file at this path, with what stands in it. None, of which a notice says why, where it
+    /// can't be opened for writing, is a FIFO, or is the plain file at one of the other paths.
     pub fn open<R: Files<File = File>, N: Log>(
         rt: &R,
         notices: &N,

@@ -7,10 +7,10 @@ use iova_range::range::Range;
 use iova_sink::channel::Channel;
 use iova_sink::channel_sink::ChannelSink;
 use iova_sink::file::FileDevice;
-use iova_sink::hurry::Hurry;
 use iova_sink::record::RecordSink;
 use iova_sink::sink::{Sink, SinkFault};
 use iova_sink::socket::SocketChannel;
+use iova_sink::stop_deadline::StopDeadline;
 use log::{Log, error};
 use std::fs::File;
 use std::net::Net;
@@ -110,12 +110,20 @@ pub fn open_sink<'a, R: Clock + Files<File = File>, W: Log, N: Net + Clock>(
     rt: &R,
     notices: &W,
     net: &'a N,
-    hurry: &'a Hurry,
+    stop_deadline: &'a StopDeadline,
     place: SinkPlace<'a>,
     reset: Option<u64>,
 ) -> Option<DaemonSink<'a, N>> {
     match place.path {
-        SinkPath::Peer(path) => match open_peer(rt, notices, net, hurry, path, place, reset) {
+        SinkPath::Peer(path) => match open_peer(
+            rt,
+            notices,
+            net,
+            stop_deadline,
+            path,
+            place,
+            reset,
+        ) {
             Some(sink) => Some(EitherSink::Second(sink)),
             None => None,
         },
@@ -126,8 +134,8 @@ pub fn open_sink<'a, R: Clock + Files<File = File>, W: Log, N: Net + Clock>(
     }
 }
 
-/// The file at this path, which takes records. None, of which a notice says why, where it can't be opened, or is
-/// a socket.
+/// The file at this path, which takes records. None, of which a notice says why, where it can't be
+/// opened, or is a socket.
 fn open_file<R: Files<File = File>, W: Log>(rt: &R, notices: &W, path: &str) -> Option<FileDevice> {
     if is_socket(rt, path) {
         error!(notices; target: "", "open {path}: a socket: use --peer");
@@ -155,13 +163,13 @@ fn open_peer<'a, R: Clock, W: Log, N: Net + Clock>(
     rt: &R,
     notices: &W,
     net: &'a N,
-    hurry: &'a Hurry,
+    stop_deadline: &'a StopDeadline,
     path: &'a str,
     place: SinkPlace<'a>,
     reset: Option<u64>,
 ) -> Option<ChannelSink<SocketChannel<'a, N>>> {
     let mut channel = SocketChannel::new(net, path, place.seconds);
-    channel.hurry_by(hurry);
+    channel.stop_by(stop_deadline);
     if !connects(rt, &mut channel, place) {
         error!(notices; target: "", "connect {path}: nobody answers");
         return None;

@@ -262,8 +262,8 @@ pub record KeepsPlace (old new : SeatState) (before now : List Call) : Type 0 wh
   pub parts : new.tally.parts ≡ old.tally.parts
   pub tally : RisesWithin old.tally.good new.tally.good before now
 
--- what calls leave of a tally: its parts, and a count that rose by no more than the good calls of the
--- sink
+-- what calls leave of a tally: its parts, and a count that rose by no more than the good calls of
+-- the sink
 pub record KeepsTally (old new : TallyState) (before now : List Call) : Type 0 where
   pub parts : new.parts ≡ old.parts
   pub good : RisesWithin old.good new.good before now

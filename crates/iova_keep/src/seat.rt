@@ -60,7 +60,8 @@ impl<B: Names> Tally<B> {
         self.good
     }
 
-    /// Its parts of the ledger: those that its seat was opened with, less those that were split off.
+    /// Its parts of the ledger: those that its seat was opened with, less those that were split
+    /// off.
     pub fn parts(&self) -> u64
         ensures { result ≡ self.now.parts }
     {

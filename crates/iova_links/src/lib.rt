@@ -4,7 +4,7 @@
 #![tactic(auto)]
 
 pub mod accept;
-pub mod aside;
+pub mod control_task;
 pub mod dial;
 pub mod loads;
 pub mod locked_sink;

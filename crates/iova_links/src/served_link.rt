@@ -6,7 +6,7 @@ use crate::signals::Signals;
 use iova_session::link::{Link, LinkFault};
 use iova_sink::count::Count;
 use iova_sink::device::bytes_taken;
-use iova_sink::soon::{Looks, read_from, receive};
+use iova_sink::soon::{SpinBudget, read_from, receive};
 use libc::EAGAIN;
 use libc::net::{MSG_DONTWAIT, MSG_NOSIGNAL, POLLIN, poll, recv, send};
 use libc::types::pollfd;
@@ -22,7 +22,7 @@ use std::time::Duration;
 /// How long a session's peer is waited for, in turns after each of which it is seen whether the
 /// daemon stops.
 #[derive(Clone, Copy, Debug)]
-pub struct Patience {
+pub struct TimeOuts {
     /// The time of a turn; none: one turn without an end.
     pub turn: Option<Duration>,
     /// How many turns a read or a write may take.
@@ -54,9 +54,9 @@ const FREED: &[u8] = b"freed ";
 pub struct ServedLink<'a, R> {
     rt: &'a R,
     signals: &'a Signals,
-    patience: Patience,
+    time_outs: TimeOuts,
     stream: UnixStream,
-    looks: Looks,
+    spins: SpinBudget,
     /// Whether the last read found a run of several requests.
     in_runs: bool,
     /// How many turns its peer may still be silent.
@@ -72,9 +72,9 @@ impl<'a, R> Drop for ServedLink<'a, R> {
         let ServedLink {
             rt: _,
             signals,
-            patience: _,
+            time_outs: _,
             stream: _,
-            looks: _,
+            spins: _,
             in_runs: _,
             left: _,
             reads: _,
@@ -99,24 +99,24 @@ impl<'a, R> ServedLink<'a, R> {
     pub fn new(
         rt: &'a R,
         signals: &'a Signals,
-        patience: Patience,
+        time_outs: TimeOuts,
         stream: UnixStream,
     ) -> io::Result<ServedLink<'a, R>>
         ensures { IfOk result (λ l. l ≡ record { reads = 0; failures = 0; ends = 0 }) }
     {
-        if patience.turn.is_some() {
-            stream.set_read_timeout(patience.turn)?;
-            stream.set_write_timeout(patience.turn)?;
+        if time_outs.turn.is_some() {
+            stream.set_read_timeout(time_outs.turn)?;
+            stream.set_write_timeout(time_outs.turn)?;
         }
         signals.begin_link();
         Ok(ServedLink {
             rt,
             signals,
-            patience,
+            time_outs,
             stream,
-            looks: Looks::new(),
+            spins: SpinBudget::new(),
             in_runs: false,
-            left: patience.turns,
+            left: time_outs.turns,
             reads: Count::new(),
             failed: Count::new(),
             ended: Count::new(),
@@ -139,26 +139,26 @@ impl<'a, R: Wait> Link for ServedLink<'a, R> {
 
     fn read(&mut self, buf: &mut [u8]) -> Result<usize, LinkFault> {
         self.reads.up();
-        let read = match read_at_hand(
+        let read = match read_received(
             self.signals,
-            self.patience,
+            self.time_outs,
             &self.stream,
             self.in_runs,
             buf,
         ) {
-            AtHand::Read(n) => {
-                note_lines(self.signals, self.patience, n, buf);
+            ReadNow::Read(n) => {
+                note_lines(self.signals, self.time_outs, n, buf);
                 self.in_runs = n >= RUN_BYTES;
-                self.left = self.patience.turns;
+                self.left = self.time_outs.turns;
                 Ok(n)
             }
-            AtHand::Failed(error) if is_failure(error, &mut self.left) => Err(LinkFault),
-            AtHand::Failed(_) | AtHand::Nothing => received(
+            ReadNow::Failed(error) if is_failure(error, &mut self.left) => Err(LinkFault),
+            ReadNow::Failed(_) | ReadNow::Nothing => received(
                 self.rt,
                 self.signals,
-                self.patience,
+                self.time_outs,
                 &self.stream,
-                &mut self.looks,
+                &mut self.spins,
                 &mut self.left,
                 buf,
             ),
@@ -179,7 +179,7 @@ impl<'a, R: Wait> Link for ServedLink<'a, R> {
             sent => sent_behind(
                 self.rt,
                 self.signals,
-                self.patience,
+                self.time_outs,
                 &self.stream,
                 sent,
                 bytes,
@@ -187,7 +187,7 @@ impl<'a, R: Wait> Link for ServedLink<'a, R> {
         };
         match written {
             Some(n) => {
-                note_answers(self.signals, self.patience, n, bytes);
+                note_answers(self.signals, self.time_outs, n, bytes);
                 Ok(n)
             }
             None => {
@@ -200,7 +200,7 @@ impl<'a, R: Wait> Link for ServedLink<'a, R> {
 
 /// The result of a read without a turn of its own.
 #[derive(Clone, Copy)]
-enum AtHand {
+enum ReadNow {
     /// So many bytes, 0 at the end.
     Read(usize),
     /// The call failed; the number of the system's error.
@@ -212,33 +212,33 @@ enum AtHand {
 /// Reads the bytes that have come; where there are other links, those that come in one time-out.
 /// This is the quick way of a read: it answers nothing but the number of bytes or of the error.
 #[inline(always)]
-fn read_at_hand(
+fn read_received(
     signals: &Signals,
-    patience: Patience,
+    time_outs: TimeOuts,
     stream: &UnixStream,
     in_runs: bool,
     buf: &mut [u8],
-) -> AtHand
-    ensures { (n : ℕ) → result ≡ AtHand.Read n → n ≤ length buf.old }
+) -> ReadNow
+    ensures { (n : ℕ) → result ≡ ReadNow.Read n → n ≤ length buf.old }
 {
     if signals.is_stopping() {
-        return AtHand::Nothing;
+        return ReadNow::Nothing;
     }
     if signals.is_alone() {
         return match receive_now(stream, buf) {
-            Ok(n) => AtHand::Read(n),
-            Err(error) if error == EAGAIN => AtHand::Nothing,
-            Err(error) => AtHand::Failed(error),
+            Ok(n) => ReadNow::Read(n),
+            Err(error) if error == EAGAIN => ReadNow::Nothing,
+            Err(error) => ReadNow::Failed(error),
         };
     }
     if in_runs && signals.are_few() {
-        if let Err(error) = wait_for(stream, patience.turn) {
-            return AtHand::Failed(error);
+        if let Err(error) = wait_for(stream, time_outs.turn) {
+            return ReadNow::Failed(error);
         }
     }
     match receive(stream, buf) {
-        Ok(n) => AtHand::Read(n),
-        Err(error) => AtHand::Failed(error),
+        Ok(n) => ReadNow::Read(n),
+        Err(error) => ReadNow::Failed(error),
     }
 }
 
@@ -296,8 +296,8 @@ fn is_failure(error: i32, left: &mut u64) -> bool {
 
 /// Counts the lines of what was read: without a control socket nobody can ask how many there were.
 #[inline(always)]
-fn note_lines(signals: &Signals, patience: Patience, n: usize, buf: &[u8]) {
-    if patience.turn.is_some() {
+fn note_lines(signals: &Signals, time_outs: TimeOuts, n: usize, buf: &[u8]) {
+    if time_outs.turn.is_some() {
         count_read(signals, n, buf);
     }
 }
@@ -305,8 +305,8 @@ fn note_lines(signals: &Signals, patience: Patience, n: usize, buf: &[u8]) {
 /// Counts the refusals, the ranges that were given and those that were freed among the answers
 /// whose first byte was written: without a control socket nobody can ask how many there were.
 #[inline(always)]
-fn note_answers(signals: &Signals, patience: Patience, n: usize, bytes: &[u8]) {
-    if patience.turn.is_some() {
+fn note_answers(signals: &Signals, time_outs: TimeOuts, n: usize, bytes: &[u8]) {
+    if time_outs.turn.is_some() {
         let (mut allocs, mut frees) = (0u64, 0u64);
         note_answer(signals, bytes, &mut allocs, &mut frees);
         for at in memchr_iter(b'\n', bytes) {
@@ -354,16 +354,16 @@ fn number_at(bytes: &[u8], at: usize) -> usize {
 fn received<R: Wait>(
     rt: &R,
     signals: &Signals,
-    patience: Patience,
+    time_outs: TimeOuts,
     stream: &UnixStream,
-    looks: &mut Looks,
+    spins: &mut SpinBudget,
     left: &mut u64,
     buf: &mut [u8],
 ) -> Result<usize, LinkFault>
     ensures { IfOk result (λ n. n ≤ length buf.old) }
 {
     for _ in rt.forever() {
-        match read_once(signals, patience, stream, looks, left, buf) {
+        match read_once(signals, time_outs, stream, spins, left, buf) {
             Ok(Some(n)) => return Ok(n),
             Ok(None) => {}
             Err(_) => return Err(LinkFault),
@@ -376,9 +376,9 @@ fn received<R: Wait>(
 /// turns that are left. A read that found bytes gives back all turns.
 fn read_once(
     signals: &Signals,
-    patience: Patience,
+    time_outs: TimeOuts,
     stream: &UnixStream,
-    looks: &mut Looks,
+    spins: &mut SpinBudget,
     left: &mut u64,
     buf: &mut [u8],
 ) -> io::Result<Option<usize>>
@@ -388,7 +388,7 @@ fn read_once(
         return Ok(Some(0));
     }
     let read = if signals.is_alone() {
-        looks.read(stream, buf)
+        spins.read(stream, buf)
     } else {
         read_from(stream, buf)
     };
@@ -396,9 +396,9 @@ fn read_once(
         return Ok(None);
     }
     if let Ok(n) = read {
-        note_lines(signals, patience, n, buf);
+        note_lines(signals, time_outs, n, buf);
     }
-    *left = patience.turns;
+    *left = time_outs.turns;
     Ok(Some(read?))
 }
 
@@ -422,7 +422,7 @@ fn send_now(stream: &UnixStream, bytes: &[u8]) -> Result<usize, i32>
 fn sent_behind<R: Wait>(
     rt: &R,
     signals: &Signals,
-    patience: Patience,
+    time_outs: TimeOuts,
     mut stream: &UnixStream,
     sent: Result<usize, i32>,
     bytes: &[u8],
@@ -435,7 +435,7 @@ fn sent_behind<R: Wait>(
         Ok(n) => Ok(n),
         Err(error) => Err(io::Error::from_raw_os_error(error)),
     };
-    let mut left = patience.turns;
+    let mut left = time_outs.turns;
     if signals.is_stopping() || !is_to_be_tried_again(&written, &mut left) {
         return bytes_taken(written, bytes.len());
     }

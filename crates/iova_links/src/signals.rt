@@ -1,6 +1,6 @@
 //! What the threads of a daemon share: whether it is to stop, and what was counted.
 use iova_range::limits::MAX_REFUSAL;
-use iova_sink::hurry::Hurry;
+use iova_sink::stop_deadline::StopDeadline;
 use std::array;
 use std::sync::atomic::{AtomicU64, Ordering};
 
@@ -9,7 +9,7 @@ use std::sync::atomic::{AtomicU64, Ordering};
 pub struct Signals {
     processors: u64,
     started: u64,
-    hurry: Hurry,
+    stop_deadline: StopDeadline,
     requests: AtomicU64,
     allocs: AtomicU64,
     frees: AtomicU64,
@@ -26,7 +26,7 @@ impl Drop for Signals {
         let Signals {
             processors: _,
             started: _,
-            hurry: _,
+            stop_deadline: _,
             requests: _,
             allocs: _,
             frees: _,
@@ -46,7 +46,7 @@ impl Signals {
         Signals {
             processors,
             started,
-            hurry: Hurry::new(),
+            stop_deadline: StopDeadline::new(),
             requests: AtomicU64::new(0),
             allocs: AtomicU64::new(0),
             frees: AtomicU64::new(0),
@@ -59,17 +59,17 @@ impl Signals {
 
     /// Asks for the stop.
     pub fn ask_to_stop(&self) {
-        self.hurry.begin_end();
+        self.stop_deadline.begin_end();
     }
 
     /// Whether the stop was asked for.
     pub fn is_stopping(&self) -> bool {
-        self.hurry.is_ending()
+        self.stop_deadline.is_ending()
     }
 
     /// What the stop hurries.
-    pub fn hurry(&self) -> &Hurry {
-        &self.hurry
+    pub fn stop_deadline(&self) -> &StopDeadline {
+        &self.stop_deadline
     }
 
     /// A link more is served.

@@ -3,7 +3,7 @@ use crate::accept::Accept;
 use crate::dial::{Dial, UnixNet};
 use crate::made_file::MadeFile;
 use crate::pause::shorter;
-use crate::served_link::{Patience, ServedLink};
+use crate::served_link::{ServedLink, TimeOuts};
 use crate::signals::Signals;
 use iova_range::limits::{ACCEPT_PAUSE, MAX_ACCEPT_PAUSE, MAX_WAITING};
 use iova_session::link::LinkFault;
@@ -29,7 +29,7 @@ pub struct SocketAccept<'a, R, N> {
     file: MadeFile<'a>,
     listener: Mutex<Option<UnixListener>>,
     signals: &'a Signals,
-    patience: Patience,
+    time_outs: TimeOuts,
     pause: AtomicU64,
 }
 
@@ -42,7 +42,7 @@ impl<'a, R, N> Drop for SocketAccept<'a, R, N> {
             file: _,
             listener: _,
             signals: _,
-            patience: _,
+            time_outs: _,
             pause: _,
         } = self;
     }
@@ -57,7 +57,7 @@ impl<'a, R: AllocGlobal + Dial + Wait, N: Log> SocketAccept<'a, R, N> {
         file: MadeFile<'a>,
         listener: UnixListener,
         signals: &'a Signals,
-        patience: Patience,
+        time_outs: TimeOuts,
     ) -> SocketAccept<'a, R, N> {
         SocketAccept {
             rt,
@@ -65,7 +65,7 @@ impl<'a, R: AllocGlobal + Dial + Wait, N: Log> SocketAccept<'a, R, N> {
             file,
             listener: Mutex::new(Some(listener)),
             signals,
-            patience,
+            time_outs,
             pause: AtomicU64::new(ACCEPT_PAUSE),
         }
     }
@@ -73,18 +73,18 @@ impl<'a, R: AllocGlobal + Dial + Wait, N: Log> SocketAccept<'a, R, N> {
     /// The next connection; where none stands there, it is waited for. None where none came, or
     /// another thread had it.
     fn next(&self, limit: Option<u64>) -> io::Result<Option<ServedLink<'a, R>>> {
-        if let Some(link) = self.standing()? {
+        if let Some(link) = self.pending_link()? {
             return Ok(Some(link));
         }
-        let Some(turn) = self.patience.turn else {
+        let Some(turn) = self.time_outs.turn else {
             self.wait(limit.map(Duration::from_millis))?;
-            return self.standing();
+            return self.pending_link();
         };
         // in turns: a stop ends the wait
         let mut left = limit.map(Duration::from_millis);
         for _ in self.rt.forever() {
             self.wait(Some(shorter(left, turn)))?;
-            if let Some(link) = self.standing()? {
+            if let Some(link) = self.pending_link()? {
                 return Ok(Some(link));
             }
             left = left.map(|time| time.saturating_sub(turn));
@@ -96,10 +96,10 @@ impl<'a, R: AllocGlobal + Dial + Wait, N: Log> SocketAccept<'a, R, N> {
     }
 
     /// The connection that stands there, if one does.
-    fn standing(&self) -> io::Result<Option<ServedLink<'a, R>>> {
+    fn pending_link(&self) -> io::Result<Option<ServedLink<'a, R>>> {
         match self.accepted()? {
             Some(stream) => {
-                let link = ServedLink::new(self.rt, self.signals, self.patience, stream)?;
+                let link = ServedLink::new(self.rt, self.signals, self.time_outs, stream)?;
                 Ok(Some(link))
             }
             None => Ok(None),

@@ -31,9 +31,9 @@ use iova_report::report;
 use std::alloc::Global;
 use std::marker::Model;
 
-/// Words that nobody reads, as long as a line of the processor's cache. Under a lock they keep what a
-/// hold reads and writes out of the line of the lock's word, which all that look for the lock take
-/// from one another.
+/// Words that nobody reads, as long as a line of the processor's cache. Under a lock they keep what
+/// a hold reads and writes out of the line of the lock's word, which all that look for the lock
+/// take from one another.
 #[derive(Clone, Copy)]
 struct Apart {
     _words: [u64; 8],
@@ -492,12 +492,12 @@ impl<B: Names> Book<B> {
         if self.recorded.share_is_within(seat.worker(), seat.held()) {
             return true;
         }
-        self.covers_otherwise(seat, step)
+        self.covers_slow(seat, step)
     }
 
     /// `covers_range`, in a function of its own: the step is then copied for that call alone.
     #[inline(always)]
-    fn covers_otherwise(&self, seat: &Seat<B>, step: Step) -> bool
+    fn covers_slow(&self, seat: &Seat<B>, step: Step) -> bool
         ensures yes { result ≡ true → (r : Frames) → to_queue self.now.state step ≡ Some r
             → Covers seat.now.held r }
         ensures none { result ≡ false → IsShort seat.now.held (to_queue self.now.state step) }

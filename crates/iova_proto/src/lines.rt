@@ -61,13 +61,13 @@ impl Lines {
                 return Fed::Request(request, piece.len() - behind.len());
             }
         }
-        self.feed_otherwise(piece)
+        self.feed_slow(piece)
     }
 
     /// Calls `feed_any` from a function of its own. The compiler clears the room for that call's
     /// answer where the calling function begins: so `feed` clears nothing.
     #[inline(always)]
-    fn feed_otherwise(&mut self, piece: &[u8]) -> Fed
+    fn feed_slow(&mut self, piece: &[u8]) -> Fed
         ensures fed { IfSome self.old (λ kept. Feeds kept piece.now result self.new) }
         ensures bad { self.old ≡ None → (result ≡ Fed.Bad) × (self.new ≡ None) }
         ensures only { (kept : List ℕ) (other : F) (next : Option (List ℕ)) → self.old ≡ Some kept

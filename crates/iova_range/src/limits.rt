@@ -106,8 +106,8 @@ pub const MAX_RUN: usize = 16;
 /// The most sessions that a daemon serves.
 pub const MAX_SESSIONS: u64 = 65_536;
 
-/// The parts of a worker's tally where each worker has one seat: with one part each, so many threads
-/// of a worker can end flushes at a time.
+/// The parts of a worker's tally where each worker has one seat: with one part each, so many
+/// threads of a worker can end flushes at a time.
 pub const TALLY_PARTS: u64 = 256;
 
 /// The parts of a seat's tally where a domain may have more seats than workers: one of its own, and

@@ -35,7 +35,7 @@ use Rattle.iova_session.specs.Desks.{MovesBy, given_by, taken_by, next_client, c
 use Rattle.iova_session.specs.Domains.{IsListOf, release_answer, FlushesAndDrains}
 use Rattle.iova_session.specs.Gone.{IsOneOf, HasAtLeast, StaysAlone}
 use Rattle.iova_session.specs.Leaving.{EndsAfter, still_waits}
-use Rattle.iova_session.specs.Leading.{Standing, standing, open_answer, alloc_answer, FirstDoes, ClientDoes, PairDoes, MovesSeat, PairsLead, EndDoes, SessionLeads}
+use Rattle.iova_session.specs.Leading.{Moment, moment, open_answer, alloc_answer, FirstDoes, ClientDoes, PairDoes, MovesSeat, PairsLead, EndDoes, SessionLeads}
 use Rattle.iova_session.specs.OneByOne.{Between, ServesOne, ServesEach}
 use Rattle.iova_session.specs.Posts.{kept_if}
 use Rattle.iova_session.proofs.ToldPairs.{same_totals}
@@ -214,22 +214,22 @@ module _ (law : StepsKeepValidity) (ledger : StepsMoveLedgers) (kind : StepsAreA
 -- Sessions.
 
 -- at a standing of a session with this client
-abbrev AloneAt : ℕ → List ℕ → Option ℕ → Standing → Type 0
+abbrev AloneAt : ℕ → List ℕ → Option ℕ → Moment → Type 0
 AloneAt w waiting client a = AloneIn w (with_client client waiting) None a.seat.held a.domain
 
 module _ (law : StepsKeepValidity) (ledger : StepsMoveLedgers) (kind : StepsAreAnsweredInKind) (w : ℕ) (waiting : List ℕ) where
-  pair_keeps : (strict : Bool) (number : ℕ) (client : Option ℕ) (listed : ℕ) (p : Pair) (a b : Standing) → a.seat.worker ≡ w → PairDoes strict number client listed p a b → MovesSeat p.answer a.seat b.seat
+  pair_keeps : (strict : Bool) (number : ℕ) (client : Option ℕ) (listed : ℕ) (p : Pair) (a b : Moment) → a.seat.worker ≡ w → PairDoes strict number client listed p a b → MovesSeat p.answer a.seat b.seat
       → AloneAt w waiting client a → AloneAt w waiting (next_client client p.answer) b
   pair_keeps strict number None listed p a b mine h moves alone =
       first_keeps law ledger kind w waiting a.seat.held b.seat.held number p.request p.answer a.domain b.domain (subst (λ (v : ℕ). FirstDoes number v p.request p.answer a.domain b.domain) mine h.0) moves.shares alone
   pair_keeps strict number (Some id) listed p a b mine h moves alone =
       client_keeps law ledger kind w waiting a.seat.held b.seat.held strict number a.seat id listed p.request p.answer a.calls b.calls a.domain b.domain mine h moves.shares alone
 
-  record Asked (client : Option ℕ) (b : Standing) : Type 0 where
+  record Asked (client : Option ℕ) (b : Moment) : Type 0 where
     worker : b.seat.worker ≡ w
     alone : AloneAt w waiting client b
 
-  pairs_keep : (strict : Bool) (number : ℕ) (client : Option ℕ) (listed : ℕ) (ps : List Pair) (a b : Standing) → Asked client a → PairsLead strict number client listed ps a b → Asked (client_after client ps) b
+  pairs_keep : (strict : Bool) (number : ℕ) (client : Option ℕ) (listed : ℕ) (ps : List Pair) (a b : Moment) → Asked client a → PairsLead strict number client listed ps a b → Asked (client_after client ps) b
   unfolding PairsLead client_after
   pairs_keep strict number client listed [] a b k h = subst (Asked client) (sym h) k
   pairs_keep strict number client listed (p ∷ ps) a b k h =
@@ -258,10 +258,10 @@ module _ (law : StepsKeepValidity) (ledger : StepsMoveLedgers) (kind : StepsAreA
       let waits : still_waits l.ended ≡ true = ap still_waits h.1 in
       left_over id l.ended (still_waits l.ended) left t refl (λ over. absurd (let both : true ≡ false = sym waits ∙ over in cc)) (alone_stays w (id ∷ waiting) seat.held left s t h.2 h.4 a)
 
-  end_keeps : (number : ℕ) (client : Option ℕ) (told : Option Ending) (back : Option Totals) (now : List ℕ) (a b : Standing) → a.seat.worker ≡ w → EndDoes number client told back waiting now a b → AloneAt w waiting client a
+  end_keeps : (number : ℕ) (client : Option ℕ) (told : Option Ending) (back : Option Totals) (now : List ℕ) (a b : Moment) → a.seat.worker ≡ w → EndDoes number client told back waiting now a b → AloneAt w waiting client a
       → AloneAt w now None b
   end_keeps number None told back now a b mine h alone =
-      subst (λ (ids : List ℕ). AloneAt w ids None b) (sym h.1) (subst (λ (x : Standing). AloneAt w waiting None x) (sym h.2) alone)
+      subst (λ (ids : List ℕ). AloneAt w ids None b) (sym h.1) (subst (λ (x : Moment). AloneAt w waiting None x) (sym h.2) alone)
   end_keeps number (Some id) told back now a b mine h alone =
       let d = h.3 in
       subst (λ (ids : List ℕ). AloneAt w ids None b) (sym h.2)
@@ -270,8 +270,8 @@ module _ (law : StepsKeepValidity) (ledger : StepsMoveLedgers) (kind : StepsAreA
   session_keeps : (strict : Bool) (number : ℕ) (ps : List Pair) (told : Option Ending) (old new : SeatState) (now : List ℕ) (before calls : List Call) (s t : State) → old.worker ≡ w
       → SessionLeads strict number ps told old new waiting now before calls s t → AloneIn w waiting None old.held s → AloneIn w now None new.held t
   session_keeps strict number ps told old new now before calls s t mine h alone =
-      let asked = pairs_keep strict number None 0 ps (standing old before s) h.here (record { worker = mine; alone = alone }) h.asked in
-      end_keeps number (client_after None ps) told (Some old.held) now h.here (standing new calls t) asked.worker h.ended asked.alone
+      let asked = pairs_keep strict number None 0 ps (moment old before s) h.here (record { worker = mine; alone = alone }) h.asked in
+      end_keeps number (client_after None ps) told (Some old.held) now h.here (moment new calls t) asked.worker h.ended asked.alone
 
 -- Lists of sessions.
 

@@ -28,7 +28,7 @@ use Rattle.iova_range.specs.Frames.{Frames}
 use Rattle.iova_model.specs.declared.totals.Totals.{Totals}
 use Rattle.iova_session.specs.declared.leaving.Leaving.{Leaving}
 use Rattle.iova_session.specs.Leaving.{EndsAfter}
-use Rattle.iova_session.specs.Leading.{Standing, standing, FirstDoes, ClientDoes, PairsLead, EndDoes, SessionLeads}
+use Rattle.iova_session.specs.Leading.{Moment, moment, FirstDoes, ClientDoes, PairsLead, EndDoes, SessionLeads}
 use Rattle.iova_session.specs.OneByOne.{Between, ServesOne, ServesEach}
 use Rattle.iova_session.specs.Histories.{KeepsPromises}
 use Rattle.iova_session.proofs.Others.{known_both, known_one}
@@ -95,10 +95,10 @@ client_reaches strict number seat id listed request.Stat a before now s t h = re
 client_reaches strict number seat id listed (request.Hello domain sac) a before now s t h = reaches_same s t h.2
 client_reaches strict number seat id listed request.Bye a before now s t h = reaches_same s t h.2
 
-pairs_reach : (strict : Bool) (number : ℕ) (client : Option ℕ) (listed : ℕ) (ps : List Pair) (a b : Standing)
+pairs_reach : (strict : Bool) (number : ℕ) (client : Option ℕ) (listed : ℕ) (ps : List Pair) (a b : Moment)
     → PairsLead strict number client listed ps a b → Reaches a.domain b.domain
 unfolding PairsLead
-pairs_reach strict number client listed [] a b k = reaches_same a.domain b.domain (ap (λ (x : Standing). x.domain) k)
+pairs_reach strict number client listed [] a b k = reaches_same a.domain b.domain (ap (λ (x : Moment). x.domain) k)
 pairs_reach strict number None listed (p ∷ ps) a b k =
     reaches_then a.domain k.0.domain b.domain (first_reaches number a.seat.worker p.request p.answer a.domain k.0.domain k.1.0)
     (pairs_reach strict number (next_client None p.answer) (listed + count_listed p.answer) ps k.0 b k.3)
@@ -111,15 +111,15 @@ departs_reach : (answer : Result Unit SinkFault) (seat : SeatState) (left : Tota
 departs_reach (Ok u) seat left id held l number before now s t h = reaches_all h.1.events s t h.1.leads
 departs_reach (Err e) seat left id held l number before now s t h = reaches_same s t h.4
 
-end_reaches : (number : ℕ) (client : Option ℕ) (told : Option Ending) (back : Option Totals) (was waiting : List ℕ) (a b : Standing) → EndDoes number client told back was waiting a b → Reaches a.domain b.domain
-end_reaches number None told back was waiting a b h = reaches_same a.domain b.domain (ap (λ (x : Standing). x.domain) h.2)
+end_reaches : (number : ℕ) (client : Option ℕ) (told : Option Ending) (back : Option Totals) (was waiting : List ℕ) (a b : Moment) → EndDoes number client told back was waiting a b → Reaches a.domain b.domain
+end_reaches number None told back was waiting a b h = reaches_same a.domain b.domain (ap (λ (x : Moment). x.domain) h.2)
 end_reaches number (Some id) told back was waiting a b h = departs_reach h.3.answer a.seat b.seat.held id _ h.0 number h.3.calls b.calls a.domain b.domain h.3.ended
 
 session_reaches : (strict : Bool) (number : ℕ) (ps : List Pair) (told : Option Ending) (old new : SeatState) (was waiting : List ℕ) (before now : List Call) (s t : State)
     → SessionLeads strict number ps told old new was waiting before now s t → Reaches s t
 session_reaches strict number ps told old new was waiting before now s t h =
-    reaches_then s h.here.domain t (pairs_reach strict number None 0 ps (standing old before s) h.here h.asked)
-    (end_reaches number (client_after None ps) told (Some old.held) was waiting h.here (standing new now t) h.ended)
+    reaches_then s h.here.domain t (pairs_reach strict number None 0 ps (moment old before s) h.here h.asked)
+    (end_reaches number (client_after None ps) told (Some old.held) was waiting h.here (moment new now t) h.ended)
 
 abbrev Known : Between → Between → Type 0
 Known a b = WhereKnown a.domain b.domain Reaches

@@ -17,7 +17,7 @@ use Rattle.iova_proto.specs.declared.request.Request.TheVariants as request
 use Rattle.iova_session.specs.Pairs.{Pair}
 use Rattle.iova_session.specs.Desks.{AreAnswers, next_client, count_listed, client_after}
 use Rattle.iova_session.specs.Domains.{KeepsOthers, FlushesAndDrains, known_keeps-prop}
-use Rattle.iova_session.specs.Leading.{Standing, standing, FirstDoes, ClientDoes, PairsLead, LeadsFrom}
+use Rattle.iova_session.specs.Leading.{Moment, moment, FirstDoes, ClientDoes, PairsLead, LeadsFrom}
 use Rattle.iova_session.proofs.Others.{known_one, takes_keep, leads_keep, leads_keep_all, release_names, flush_names, drain_all_names, some_same, client_stays}
 
 same_keeps : (client : Option ℕ) (s t : State) → t ≡ s → KeepsOthers client s t
@@ -80,10 +80,10 @@ client_after_stays number id listed (p ∷ ps) h =
     ap (λ (c : Option ℕ). client_after c ps) stays
     ∙ client_after_stays number id (listed + count_listed p.answer) ps (subst (λ (c : Option ℕ). AreAnswers number c (listed + count_listed p.answer) ps) stays h.1)
 
-client_pairs_keep : OthersKeepTheirHoldings → (strict : Bool) (number id listed : ℕ) (ps : List Pair) (a b : Standing)
+client_pairs_keep : OthersKeepTheirHoldings → (strict : Bool) (number id listed : ℕ) (ps : List Pair) (a b : Moment)
     → AreAnswers number (Some id) listed ps → PairsLead strict number (Some id) listed ps a b → KeepsOthers (Some id) a.domain b.domain
 unfolding AreAnswers PairsLead
-client_pairs_keep law strict number id listed [] a b h k = same_keeps (Some id) a.domain b.domain (ap (λ (x : Standing). x.domain) k)
+client_pairs_keep law strict number id listed [] a b h k = same_keeps (Some id) a.domain b.domain (ap (λ (x : Moment). x.domain) k)
 client_pairs_keep law strict number id listed (p ∷ ps) a b h k =
     let stays = client_stays listed id p.request p.answer h.0 in
     let more = listed + count_listed p.answer in
@@ -92,12 +92,12 @@ client_pairs_keep law strict number id listed (p ∷ ps) a b h k =
     (subst (λ (c : Option ℕ). PairsLead strict number c more ps k.0 b) stays k.3))
 
 -- pairs of any client
-pub pairs_keep : OthersKeepTheirHoldings → (strict : Bool) (number : ℕ) (client : Option ℕ) (listed : ℕ) (ps : List Pair) (a b : Standing)
+pub pairs_keep : OthersKeepTheirHoldings → (strict : Bool) (number : ℕ) (client : Option ℕ) (listed : ℕ) (ps : List Pair) (a b : Moment)
     → AreAnswers number client listed ps → PairsLead strict number client listed ps a b → KeepsOthers (client_after client ps) a.domain b.domain
 unfolding AreAnswers PairsLead client_after
 pairs_keep law strict number (Some id) listed ps a b h k =
     subst (λ (c : Option ℕ). KeepsOthers c a.domain b.domain) (sym (client_after_stays number id listed ps h)) (client_pairs_keep law strict number id listed ps a b h k)
-pairs_keep law strict number None listed [] a b h k = same_keeps None a.domain b.domain (ap (λ (x : Standing). x.domain) k)
+pairs_keep law strict number None listed [] a b h k = same_keeps None a.domain b.domain (ap (λ (x : Moment). x.domain) k)
 pairs_keep law strict number None listed (p ∷ ps) a b h k =
     let client = client_after (next_client None p.answer) ps in
     then_keep client a.domain k.0.domain b.domain (none_keep client a.domain k.0.domain (first_keep law number a.seat.worker p.request p.answer a.domain k.0.domain k.1.0))
@@ -107,4 +107,4 @@ pub keeps_others : OthersKeepTheirHoldings → (strict : Bool) (number : ℕ) (p
     → AreAnswers number None 0 ps → ∥ WhereKnown o a (LeadsFrom strict number ps old new before now) ∥₁ → WhereKnown o a (KeepsOthers (client_after None ps))
 keeps_others law strict number ps old new before now o a h k =
     ∥∥₁_elim k (known_keeps-prop o a (client_after None ps))
-    (λ g. known_one o a (LeadsFrom strict number ps old new before now) (KeepsOthers (client_after None ps)) g (λ s t x. pairs_keep law strict number None 0 ps (standing old before s) (standing new now t) h x))
+    (λ g. known_one o a (LeadsFrom strict number ps old new before now) (KeepsOthers (client_after None ps)) g (λ s t x. pairs_keep law strict number None 0 ps (moment old before s) (moment new now t) h x))

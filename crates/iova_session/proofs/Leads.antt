@@ -33,7 +33,7 @@ use Rattle.iova_session.specs.Desks.{SessionState, next_client, count_listed, cl
 use Rattle.iova_session.specs.Domains.{FreesRange}
 use Rattle.iova_session.specs.declared.leaving.Leaving.{Leaving}
 use Rattle.iova_session.specs.Leaving.{Departs}
-use Rattle.iova_session.specs.Leading.{Standing, standing, IsSame, alloc_answer, FirstDoes, ClientDoes, PairDoes, MovesSeat, PairsLead, LeadsFrom, GoesOn, EndDoes, SessionLeads}
+use Rattle.iova_session.specs.Leading.{Moment, moment, IsSame, alloc_answer, FirstDoes, ClientDoes, PairDoes, MovesSeat, PairsLead, LeadsFrom, GoesOn, EndDoes, SessionLeads}
 use Rattle.iova_session.specs.Leaving.{still_waits}
 use Rattle.iova_session.specs.Posts.{TellsFitting, kept_if}
 use Rattle.iova_session.proofs.Others.{known_both, known_one}
@@ -41,20 +41,20 @@ use Rattle.iova_session.proofs.ToldPairs.{told_moves, length0}
 
 -- Pairs, one after another.
 
-pub leads_nowhere : (strict : Bool) (number : ℕ) (client : Option ℕ) (listed : ℕ) (a b : Standing) → b ≡ a → PairsLead strict number client listed [] a b
+pub leads_nowhere : (strict : Bool) (number : ℕ) (client : Option ℕ) (listed : ℕ) (a b : Moment) → b ≡ a → PairsLead strict number client listed [] a b
 unfolding PairsLead
 leads_nowhere strict number client listed a b e = e
 
-pub leads_once : (strict : Bool) (number : ℕ) (client : Option ℕ) (listed : ℕ) (p : Pair) (a b : Standing)
+pub leads_once : (strict : Bool) (number : ℕ) (client : Option ℕ) (listed : ℕ) (p : Pair) (a b : Moment)
     → PairDoes strict number client listed p a b → MovesSeat p.answer a.seat b.seat → PairsLead strict number client listed (p ∷ []) a b
 unfolding PairsLead
 leads_once strict number client listed p a b does moves = (b, does, moves, refl)
 
-pub leads_join : (strict : Bool) (number : ℕ) (client : Option ℕ) (listed : ℕ) (ps qs : List Pair) (a b c : Standing)
+pub leads_join : (strict : Bool) (number : ℕ) (client : Option ℕ) (listed : ℕ) (ps qs : List Pair) (a b c : Moment)
     → PairsLead strict number client listed ps a b → PairsLead strict number (client_after client ps) (listed_after listed ps) qs b c
     → PairsLead strict number client listed (ps ++ qs) a c
 unfolding PairsLead client_after listed_after
-leads_join strict number client listed [] qs a b c h k = subst (λ (x : Standing). PairsLead strict number client listed qs x c) h k
+leads_join strict number client listed [] qs a b c h k = subst (λ (x : Moment). PairsLead strict number client listed qs x c) h k
 leads_join strict number client listed (p ∷ ps) qs a b c h k =
     (h.0, h.1, h.2, leads_join strict number (next_client client p.answer) (listed + count_listed p.answer) ps qs h.0 b c h.3 k)
 
@@ -67,7 +67,7 @@ goes_nowhere strict was now old new calls a b same seat h =
     (λ s t e. (
       [],
       ap (λ (x : SessionState). x.pairs) same ∙ sym (append-nil was.pairs),
-      leads_nowhere strict was.number was.client was.listed (standing old calls s) (standing new calls t)
+      leads_nowhere strict was.number was.client was.listed (moment old calls s) (moment new calls t)
           (λ i. record { seat = seat i; calls = calls; domain = e i }),
     ))
 
@@ -89,9 +89,9 @@ first_goes strict number was now r x old new calls a b named none more moves h =
     (λ s t d. (
       p ∷ [],
       more,
-      subst (λ (n : ℕ). PairsLead strict n was.client was.listed (p ∷ []) (standing old calls s) (standing new calls t)) (sym named)
-          (subst (λ (c : Option ℕ). PairsLead strict number c was.listed (p ∷ []) (standing old calls s) (standing new calls t)) (sym none)
-          (leads_once strict number None was.listed p (standing old calls s) (standing new calls t) (d, refl) moves)),
+      subst (λ (n : ℕ). PairsLead strict n was.client was.listed (p ∷ []) (moment old calls s) (moment new calls t)) (sym named)
+          (subst (λ (c : Option ℕ). PairsLead strict number c was.listed (p ∷ []) (moment old calls s) (moment new calls t)) (sym none)
+          (leads_once strict number None was.listed p (moment old calls s) (moment new calls t) (d, refl) moves)),
     ))
 
 client_goes : (strict : Bool) (number id listed : ℕ) (was now : SessionState) (r : Request) (x : Answer) (old new : SeatState) (before calls : List Call) (a b : Option State)
@@ -103,10 +103,10 @@ client_goes strict number id listed was now r x old new before calls a b named i
     (λ s t d. (
       p ∷ [],
       more,
-      subst (λ (n : ℕ). PairsLead strict n was.client was.listed (p ∷ []) (standing old before s) (standing new calls t)) (sym named)
-          (subst (λ (c : Option ℕ). PairsLead strict number c was.listed (p ∷ []) (standing old before s) (standing new calls t)) (sym is)
-          (subst (λ (l : ℕ). PairsLead strict number (Some id) l (p ∷ []) (standing old before s) (standing new calls t)) (sym so)
-          (leads_once strict number (Some id) listed p (standing old before s) (standing new calls t) d moves))),
+      subst (λ (n : ℕ). PairsLead strict n was.client was.listed (p ∷ []) (moment old before s) (moment new calls t)) (sym named)
+          (subst (λ (c : Option ℕ). PairsLead strict number c was.listed (p ∷ []) (moment old before s) (moment new calls t)) (sym is)
+          (subst (λ (l : ℕ). PairsLead strict number (Some id) l (p ∷ []) (moment old before s) (moment new calls t)) (sym so)
+          (leads_once strict number (Some id) listed p (moment old before s) (moment new calls t) d moves))),
     ))
 
 -- with one, after a hold that changed nothing
@@ -133,11 +133,11 @@ leads_on strict now_strict number was now first old new start before calls o a b
     known_both o a b (LeadsFrom strict number was.pairs first old start before) (GoesOn now_strict was now old new before calls) (LeadsFrom strict number now.pairs first new start calls) g k
     (λ s m t x y.
     subst (λ (ps : List Pair). LeadsFrom strict number ps first new start calls s t) (sym y.1)
-    (leads_join strict number None 0 was.pairs y.0 (standing first start s) (standing old before m) (standing new calls t) x
-    (subst (λ (v : Bool). PairsLead v number (client_after None was.pairs) (listed_after 0 was.pairs) y.0 (standing old before m) (standing new calls t)) same
-    (subst (λ (n : ℕ). PairsLead now_strict n (client_after None was.pairs) (listed_after 0 was.pairs) y.0 (standing old before m) (standing new calls t)) named
-    (subst (λ (c : Option ℕ). PairsLead now_strict was.number c (listed_after 0 was.pairs) y.0 (standing old before m) (standing new calls t)) after.0
-    (subst (λ (l : ℕ). PairsLead now_strict was.number was.client l y.0 (standing old before m) (standing new calls t)) after.1 y.2)))))))
+    (leads_join strict number None 0 was.pairs y.0 (moment first start s) (moment old before m) (moment new calls t) x
+    (subst (λ (v : Bool). PairsLead v number (client_after None was.pairs) (listed_after 0 was.pairs) y.0 (moment old before m) (moment new calls t)) same
+    (subst (λ (n : ℕ). PairsLead now_strict n (client_after None was.pairs) (listed_after 0 was.pairs) y.0 (moment old before m) (moment new calls t)) named
+    (subst (λ (c : Option ℕ). PairsLead now_strict was.number c (listed_after 0 was.pairs) y.0 (moment old before m) (moment new calls t)) after.0
+    (subst (λ (l : ℕ). PairsLead now_strict was.number was.client l y.0 (moment old before m) (moment new calls t)) after.1 y.2)))))))
 
 pub leads_yet : (strict : Bool) (number : ℕ) (ps : List Pair) (first old : SeatState) (start before : List Call) (o a : Option State)
     → ps ≡ [] → a ≡ o → old ≡ first → before ≡ start → ∥ WhereKnown o a (LeadsFrom strict number ps first old start before) ∥₁
@@ -146,7 +146,7 @@ leads_yet strict number ps first old start before o a none same seat calls =
     (known_one o o IsSame (LeadsFrom strict number ps first old start before) (same_state o)
     (λ s t e.
     subst (λ (qs : List Pair). LeadsFrom strict number qs first old start before s t) (sym none)
-    (leads_nowhere strict number None 0 (standing first start s) (standing old before t) (λ i. record { seat = seat i; calls = calls i; domain = e i })))) ∣₁
+    (leads_nowhere strict number None 0 (moment first start s) (moment old before t) (λ i. record { seat = seat i; calls = calls i; domain = e i })))) ∣₁
 
 -- What a batch does.
 
@@ -245,46 +245,46 @@ module _ (law : RefusalsKeepTheState) (number w id : ℕ) (tally : TallyState) (
   -- one request more at the front
   told_then : (strict : Bool) (listed : ℕ) (r : Request) (x : Told) (ps : List Pair) (held now left : Totals) (s m t : State)
       → ClientDoes strict number (seat_with w tally held) id listed r (answer_of x) calls calls s m → MovesTold x held now
-      → ((more : ℕ) → PairsLead strict number (Some id) more ps (standing (seat_with w tally now) calls m) (standing (seat_with w tally left) calls t))
-      → PairsLead strict number (Some id) listed (record { request = r; answer = answer_of x } ∷ ps) (standing (seat_with w tally held) calls s) (standing (seat_with w tally left) calls t)
+      → ((more : ℕ) → PairsLead strict number (Some id) more ps (moment (seat_with w tally now) calls m) (moment (seat_with w tally left) calls t))
+      → PairsLead strict number (Some id) listed (record { request = r; answer = answer_of x } ∷ ps) (moment (seat_with w tally held) calls s) (moment (seat_with w tally left) calls t)
   unfolding PairsLead
   told_then strict listed r x ps held now left s m t does moves rest = (
-    standing (seat_with w tally now) calls m,
+    moment (seat_with w tally now) calls m,
     does,
     record { worker = refl; shares = told_moves x held now moves },
-    subst (λ (c : Option ℕ). PairsLead strict number c (listed + count_listed (answer_of x)) ps (standing (seat_with w tally now) calls m) (standing (seat_with w tally left) calls t)) (sym (told_stays id x))
+    subst (λ (c : Option ℕ). PairsLead strict number c (listed + count_listed (answer_of x)) ps (moment (seat_with w tally now) calls m) (moment (seat_with w tally left) calls t)) (sym (told_stays id x))
         (rest (listed + count_listed (answer_of x))),
   )
 
   alloc_then : (strict : Bool) (listed frames limit : ℕ) (x : Told) (ps : List Pair) (held now left : Totals) (s m t : State)
       → IsToldOf (ask.Alloc frames limit) x → DoesAsk w id (ask.Alloc frames limit) x held s m → MovesTold x held now
-      → ((more : ℕ) → PairsLead strict number (Some id) more ps (standing (seat_with w tally now) calls m) (standing (seat_with w tally left) calls t))
-      → PairsLead strict number (Some id) listed (record { request = request.Alloc frames limit; answer = answer_of x } ∷ ps) (standing (seat_with w tally held) calls s) (standing (seat_with w tally left) calls t)
+      → ((more : ℕ) → PairsLead strict number (Some id) more ps (moment (seat_with w tally now) calls m) (moment (seat_with w tally left) calls t))
+      → PairsLead strict number (Some id) listed (record { request = request.Alloc frames limit; answer = answer_of x } ∷ ps) (moment (seat_with w tally held) calls s) (moment (seat_with w tally left) calls t)
   alloc_then strict listed frames limit x ps held now left s m t of does moves rest =
       let told = alloc_told w id frames limit x does.0 s m of does.1 does.2 in
       told_then strict listed (request.Alloc frames limit) x ps held now left s m t (told.0, told.1, told.2, refl) moves rest
 
   stat_then : (strict : Bool) (listed : ℕ) (x : Told) (ps : List Pair) (held now left : Totals) (s m t : State)
       → DoesAsk w id ask.Stat x held s m → MovesTold x held now
-      → ((more : ℕ) → PairsLead strict number (Some id) more ps (standing (seat_with w tally now) calls m) (standing (seat_with w tally left) calls t))
-      → PairsLead strict number (Some id) listed (record { request = request.Stat; answer = answer_of x } ∷ ps) (standing (seat_with w tally held) calls s) (standing (seat_with w tally left) calls t)
+      → ((more : ℕ) → PairsLead strict number (Some id) more ps (moment (seat_with w tally now) calls m) (moment (seat_with w tally left) calls t))
+      → PairsLead strict number (Some id) listed (record { request = request.Stat; answer = answer_of x } ∷ ps) (moment (seat_with w tally held) calls s) (moment (seat_with w tally left) calls t)
   stat_then strict listed x ps held now left s m t does moves rest =
       told_then strict listed request.Stat x ps held now left s m t (ap answer_of does.0, refl, does.1) moves rest
 
   free_then : (listed lo : ℕ) (x : Told) (ps : List Pair) (held now left : Totals) (s m t : State)
       → IsToldOf (ask.Free lo) x → DoesAsk w id (ask.Free lo) x held s m → MovesTold x held now
-      → ((more : ℕ) → PairsLead false number (Some id) more ps (standing (seat_with w tally now) calls m) (standing (seat_with w tally left) calls t))
-      → PairsLead false number (Some id) listed (record { request = request.Free lo; answer = answer_of x } ∷ ps) (standing (seat_with w tally held) calls s) (standing (seat_with w tally left) calls t)
+      → ((more : ℕ) → PairsLead false number (Some id) more ps (moment (seat_with w tally now) calls m) (moment (seat_with w tally left) calls t))
+      → PairsLead false number (Some id) listed (record { request = request.Free lo; answer = answer_of x } ∷ ps) (moment (seat_with w tally held) calls s) (moment (seat_with w tally left) calls t)
   free_then listed lo x ps held now left s m t of does moves rest =
       told_then false listed (request.Free lo) x ps held now left s m t (free_told number (seat_with w tally held) id lo x does.0 calls s m of does.1 does.2 does.3) moves rest
 
   asks_lead : (strict : Bool) (listed : ℕ) (rs : List Request) (xs : List Told) (held left : Totals) (s t : State)
       → AreTold rs xs → DoesAsks w id (may_do strict (asks_in rs)) xs held left s t
-      → PairsLead strict number (Some id) listed (told_pairs rs xs) (standing (seat_with w tally held) calls s) (standing (seat_with w tally left) calls t)
+      → PairsLead strict number (Some id) listed (told_pairs rs xs) (moment (seat_with w tally held) calls s) (moment (seat_with w tally left) calls t)
   asks_lead strict listed rs [] held left s t each h =
       let same = stop_same law w id (may_do strict (asks_in rs)) held s t h.0 in
-      leads_nowhere strict number (Some id) listed (standing (seat_with w tally held) calls s) (standing (seat_with w tally left) calls t)
-      (λ i. standing (seat_with w tally (h.1 i)) calls (same i))
+      leads_nowhere strict number (Some id) listed (moment (seat_with w tally held) calls s) (moment (seat_with w tally left) calls t)
+      (λ i. moment (seat_with w tally (h.1 i)) calls (same i))
   asks_lead strict listed [] (x ∷ xs) held left s t each h = absurd each
   asks_lead true listed (request.Alloc frames limit ∷ rs) (x ∷ xs) held left s t each h =
       alloc_then true listed frames limit x (told_pairs rs xs) held h.1 left s h.0 t each.0 h.2 h.3 (λ more. asks_lead true more rs xs h.1 left h.0 t each.1 h.4)
@@ -327,8 +327,8 @@ batch_goes law strict id rs asks before told count was now old new calls a b is 
     let seat : seat_with old.worker old.tally new.held ≡ new = (λ i. record { worker = sym rest.0 i; held = new.held; tally = sym rest.1 i }) in (
       told_pairs rs told,
       more,
-      subst (λ (c : Option ℕ). PairsLead strict was.number c was.listed (told_pairs rs told) (standing old calls s) (standing new calls t)) (sym is)
-          (subst (λ (x : SeatState). PairsLead strict was.number (Some id) was.listed (told_pairs rs told) (standing old calls s) (standing x calls t)) seat
+      subst (λ (c : Option ℕ). PairsLead strict was.number c was.listed (told_pairs rs told) (moment old calls s) (moment new calls t)) (sym is)
+          (subst (λ (x : SeatState). PairsLead strict was.number (Some id) was.listed (told_pairs rs told) (moment old calls s) (moment x calls t)) seat
           (asks_lead law was.number old.worker id old.tally calls strict was.listed rs told old.held new.held s t each does)),
     ))
 
@@ -336,24 +336,24 @@ batch_goes law strict id rs asks before told count was now old new calls a b is 
 
 pub end_does : (number : ℕ) (id : ℕ) (told : Option Ending) (l : Leaving) (back : Option Totals) (was waiting : List ℕ) (old new : SeatState) (before now : List Call) (a b : Option State)
     → TellsFitting told l.ended back new.held → waiting ≡ was ++ kept_if (still_waits l.ended) id → WhereKnown a b (Departs old new.held id l number before now)
-    → WhereKnown a b (λ s t. EndDoes number (Some id) told back was waiting (standing old before s) (standing new now t))
+    → WhereKnown a b (λ s t. EndDoes number (Some id) told back was waiting (moment old before s) (moment new now t))
 end_does number id told l back was waiting old new before now a b tells listed h =
-    known_one a b (Departs old new.held id l number before now) (λ s t. EndDoes number (Some id) told back was waiting (standing old before s) (standing new now t)) h
+    known_one a b (Departs old new.held id l number before now) (λ s t. EndDoes number (Some id) told back was waiting (moment old before s) (moment new now t)) h
     (λ s t d. (l, tells, listed, d))
 
 pub session_leads : (strict : Bool) (number there id : ℕ) (ps : List Pair) (told : Option Ending) (was waiting : List ℕ) (old mid new : SeatState) (before calls now : List Call) (o a b : Option State)
     → client_after None ps ≡ Some id → there ≡ number → ∥ WhereKnown o a (LeadsFrom strict number ps old mid before calls) ∥₁
-    → WhereKnown a b (λ s t. EndDoes there (Some id) told (Some old.held) was waiting (standing mid calls s) (standing new now t))
+    → WhereKnown a b (λ s t. EndDoes there (Some id) told (Some old.held) was waiting (moment mid calls s) (moment new now t))
     → ∥ WhereKnown o b (SessionLeads strict number ps told old new was waiting before now) ∥₁
 session_leads strict number there id ps told was waiting old mid new before calls now o a b is same h k =
     ∥∥₁_map h (λ g.
-    known_both o a b (LeadsFrom strict number ps old mid before calls) (λ s t. EndDoes there (Some id) told (Some old.held) was waiting (standing mid calls s) (standing new now t))
+    known_both o a b (LeadsFrom strict number ps old mid before calls) (λ s t. EndDoes there (Some id) told (Some old.held) was waiting (moment mid calls s) (moment new now t))
     (SessionLeads strict number ps told old new was waiting before now) g k
     (λ s m t x y. record {
-      here = standing mid calls m;
+      here = moment mid calls m;
       asked = x;
-      ended = subst (λ (c : Option ℕ). EndDoes number c told (Some old.held) was waiting (standing mid calls m) (standing new now t)) (sym is)
-          (subst (λ (n : ℕ). EndDoes n (Some id) told (Some old.held) was waiting (standing mid calls m) (standing new now t)) same y);
+      ended = subst (λ (c : Option ℕ). EndDoes number c told (Some old.held) was waiting (moment mid calls m) (moment new now t)) (sym is)
+          (subst (λ (n : ℕ). EndDoes n (Some id) told (Some old.held) was waiting (moment mid calls m) (moment new now t)) same y);
     }))
 
 pub unopened_leads : (strict : Bool) (number : ℕ) (ps : List Pair) (waiting : List ℕ) (old new : SeatState) (before now : List Call) (o a : Option State)
@@ -363,9 +363,9 @@ unopened_leads strict number ps waiting old new before now o a none h =
     ∥∥₁_map h (λ g.
     known_one o a (LeadsFrom strict number ps old new before now) (SessionLeads strict number ps None old new waiting waiting before now) g
     (λ s t x. record {
-      here = standing new now t;
+      here = moment new now t;
       asked = x;
-      ended = subst (λ (c : Option ℕ). EndDoes number c None (Some old.held) waiting waiting (standing new now t) (standing new now t)) (sym none) (refl, refl, refl);
+      ended = subst (λ (c : Option ℕ). EndDoes number c None (Some old.held) waiting waiting (moment new now t) (moment new now t)) (sym none) (refl, refl, refl);
     }))
 
 pub nothing_leads : (strict : Bool) (number : ℕ) (waiting : List ℕ) (seat : SeatState) (calls : List Call) (o : Option State)

@@ -21,13 +21,13 @@ use Rattle.iova_session.specs.Desks.{MovesBy, SessionState, given_by, taken_by, 
 use Rattle.iova_session.specs.Domains.{Lists, FreesRange, FlushesAndDrains}
 
 -- how things stand at one moment of a session: its seat, the calls of its sink, and the domain
-pub record Standing : Type 0 where
+pub record Moment : Type 0 where
   pub seat : SeatState
   pub calls : List Call
   pub domain : State
 
-abbrev pub standing : SeatState → List Call → State → Standing
-standing seat calls s = record { seat = seat; calls = calls; domain = s }
+abbrev pub moment : SeatState → List Call → State → Moment
+moment seat calls s = record { seat = seat; calls = calls; domain = s }
 
 abbrev pub IsSame : State → State → Type 0
 IsSame s t = t ≡ s
@@ -83,7 +83,7 @@ ClientDoes strict number seat id listed request.Bye a before now s t =
     (a ≡ answer.Bye) × (now ≡ before) × (t ≡ s)
 
 -- One request with its answer leads from a to b, by the client so far and the ranges listed so far.
-abbrev pub PairDoes : Bool → ℕ → Option ℕ → ℕ → Pair → Standing → Standing → Type 0
+abbrev pub PairDoes : Bool → ℕ → Option ℕ → ℕ → Pair → Moment → Moment → Type 0
 PairDoes strict number None listed p a b =
     FirstDoes number a.seat.worker p.request p.answer a.domain b.domain × (b.calls ≡ a.calls)
 PairDoes strict number (Some id) listed p a b =
@@ -95,10 +95,10 @@ pub record MovesSeat (a : Answer) (old new : SeatState) : Type 0 where
   pub shares : MovesBy (given_by a) (taken_by a) old.held new.held
 
 -- All of these requests with their answers lead from a to b, in their order.
-unfoldable pub PairsLead : Bool → ℕ → Option ℕ → ℕ → List Pair → Standing → Standing → Type 0
+unfoldable pub PairsLead : Bool → ℕ → Option ℕ → ℕ → List Pair → Moment → Moment → Type 0
 PairsLead strict number client listed [] a b = b ≡ a
 PairsLead strict number client listed (p ∷ ps) a b =
-    (mid : Standing) × PairDoes strict number client listed p a mid
+    (mid : Moment) × PairDoes strict number client listed p a mid
     × MovesSeat p.answer a.seat mid.seat
     × PairsLead strict number (next_client client p.answer) (listed + count_listed p.answer) ps mid
     b
@@ -108,7 +108,7 @@ PairsLead strict number client listed (p ∷ ps) a b =
 abbrev pub LeadsFrom : Bool → ℕ → List Pair → SeatState → SeatState → List Call → List Call → State
     → State → Type 0
 LeadsFrom strict number ps old new before now s t =
-    PairsLead strict number None 0 ps (standing old before s) (standing new now t)
+    PairsLead strict number None 0 ps (moment old before s) (moment new now t)
 
 -- A session goes on by some pairs, which lead so.
 abbrev pub GoesOn : Bool → SessionState → SessionState → SeatState → SeatState → List Call
@@ -116,14 +116,14 @@ abbrev pub GoesOn : Bool → SessionState → SessionState → SeatState → Sea
     → Type 0
 GoesOn strict was now old new before calls s t =
     (ps : List Pair) × (now.pairs ≡ was.pairs ++ ps)
-    × PairsLead strict was.number was.client was.listed ps (standing old before s)
-    (standing new calls t)
+    × PairsLead strict was.number was.client was.listed ps (moment old before s)
+    (moment new calls t)
 
 -- The client that a session opened leaves, of whose end this is told, by what the seat's shares are
 -- to come back to: it is told where they fit it, and the client is the last of those that wait
 -- exactly where it waits. Where none was opened, nothing is done.
-abbrev pub EndDoes : ℕ → Option ℕ → Option Ending → Option Totals → List ℕ → List ℕ → Standing
-    → Standing → Type 0
+abbrev pub EndDoes : ℕ → Option ℕ → Option Ending → Option Totals → List ℕ → List ℕ → Moment
+    → Moment → Type 0
 EndDoes number None told back was now a b = (told ≡ None) × (now ≡ was) × (b ≡ a)
 EndDoes number (Some id) told back was now a b =
     (l : Leaving) × TellsFitting told l.ended back b.seat.held
@@ -135,7 +135,7 @@ EndDoes number (Some id) told back was now a b =
 pub record SessionLeads (strict : Bool) (number : ℕ) (ps : List Pair) (told : Option Ending)
     (old new : SeatState) (was waiting : List ℕ)
     (before now : List Call) (s t : State) : Type 0 where
-  pub here : Standing
-  pub asked : PairsLead strict number None 0 ps (standing old before s) here
+  pub here : Moment
+  pub asked : PairsLead strict number None 0 ps (moment old before s) here
   pub ended : EndDoes number (client_after None ps) told (Some old.held) was waiting here
-      (standing new now t)
+      (moment new now t)

@@ -6,7 +6,7 @@ ghost use Rattle.iova_sink.specs.Calls.{Call};
 ghost use Rattle.iova_keep.specs.Views.{WhereKnown, KeepsPlace};
 ghost use Rattle.iova_session.specs.Domains.{LeavesOthers};
 ghost use Rattle.iova_session.specs.Gone.{HasRoom};
-ghost use Rattle.iova_session.specs.Leading.{EndDoes, LeadsFrom, SessionLeads, standing};
+ghost use Rattle.iova_session.specs.Leading.{EndDoes, LeadsFrom, SessionLeads, moment};
 ghost use Rattle.iova_session.specs.Pairs.{Pair};
 ghost use Rattle.iova_session.specs.Sessions.{Serves, ServesWithin, failures_at, ends_at};
 ghost use Rattle.iova_session.specs.Desks.{AreAnswers, MovesBy, given_in, taken_in, client_after};
@@ -252,8 +252,8 @@ pub(crate) fn end_opened<B: Names, K: Keep<B>, D: Sink>(
     ensures does { WhereKnown (K.domain keeper.old) (K.domain keeper.new)
         (λ s t. EndDoes (K.identity keeper.old).number
         (Some id) result back post.old.waiting.items post.new.waiting.items
-        (standing post.old.seat (D.calls sink.old) s)
-        (standing post.new.seat (D.calls sink.new) t)) }
+        (moment post.old.seat (D.calls sink.old) s)
+        (moment post.new.seat (D.calls sink.new) t)) }
     ensures ended { EndsFrom id result back post.old.seat.held post.new.seat.held
         post.old.waiting.items
         post.new.waiting.items }

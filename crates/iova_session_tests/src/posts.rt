@@ -1,6 +1,6 @@
-//! Sessions at a post, over a book and under a lock: what they are answered, links, sinks and growths
-//! that fail, and clients that wait. Cut anywhere, over links that fail at each call, and at the
-//! limits they are seen on the program (tests/run_links).
+//! Sessions at a post, over a book and under a lock: what they are answered, links, sinks and
+//! growths that fail, and clients that wait. Cut anywhere, over links that fail at each call, and
+//! at the limits they are seen on the program (tests/run_links).
 use crate::fresh::{Seen, Setup, at_post};
 use crate::links::ByLines;
 use iova_keep::ending::{Ending, Why};
@@ -34,8 +34,8 @@ struct Row {
     cuts: &'static [usize],
     fails_at: (u64, u64),
     end: End,
-    /// The result of the client that was opened; not asked: it is gone where the answers tell of it,
-    /// and else there was none.
+    /// The result of the client that was opened; not asked: it is gone where the answers tell of
+    /// it, and else there was none.
     client: Option<Option<Ending>>,
     /// Where the frame is at last.
     place: Option<Place>,

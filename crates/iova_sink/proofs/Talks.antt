@@ -3,14 +3,14 @@ use Rattle.std.proofs.Common.{◌≡◌, ◌≢◌, ℕ, ◌+◌, ◌-◌, ◌<�
 use Rattle.std.proofs.lemmas.List.{map-append, take_all, take_more, get_or_append_left, get_or-append-add}
 use Rattle.std.proofs.lemmas.Bool.{cases_lt}
 use Rattle.iova_sink.specs.declared.channel.ChannelFault.{ChannelFault}
-use Rattle.iova_sink.specs.declared.channel.Standing.{Standing}
-use Rattle.iova_sink.specs.declared.channel.Standing.TheVariants as standing
+use Rattle.iova_sink.specs.declared.channel.Incoming.{Incoming}
+use Rattle.iova_sink.specs.declared.channel.Incoming.TheVariants as incoming
 use Rattle.iova_sink.specs.declared.history.Passed.{Passed}
 use Rattle.iova_sink.specs.declared.history.Passed.TheVariants as passed
 use Rattle.iova_sink.specs.declared.sink.SinkFault.{SinkFault}
 use Rattle.iova_sink.specs.declared.sink.SinkFault.TheVariants as fault
-use Rattle.iova_sink.specs.declared.asking.Heard.{Heard}
-use Rattle.iova_sink.specs.declared.asking.Heard.TheVariants as heard
+use Rattle.iova_sink.specs.declared.asking.AnswerState.{AnswerState}
+use Rattle.iova_sink.specs.declared.asking.AnswerState.TheVariants as heard
 use Rattle.iova_range.specs.Frames.{Frames}
 use Rattle.iova_sink.specs.Records.{range_line, ranges_text}
 use Rattle.iova_sink.specs.Passing.{sent_bytes, received_bytes, with_received_bytes}
@@ -101,15 +101,15 @@ readies_from_connects old new (Err f) e = cut_at_once old new (passed.Failed ∷
 pub readies_by_failure : (old new : Talk) → new ≡ with_failure old → (request : List ℕ) → IsCutOff old new request
 readies_by_failure old new e = cut_at_once old new (passed.Failed ∷ []) (ap (λ (t : Talk). t.passed) e) (inl refl)
 
-pub readies_by_stray : (old new : Talk) (s : Standing) → s ≡ standing.Bytes → Looks old new (Ok s) → (request : List ℕ) → IsCutOff old new request
-readies_by_stray old new standing.Nothing is e = absurd (let no = is in cc)
-readies_by_stray old new standing.Bytes is e = cut_at_once old new (passed.Strayed ∷ []) (ap (λ (t : Talk). t.passed) e) (inr refl)
-readies_by_stray old new standing.End is e = absurd (let no = is in cc)
+pub readies_by_stray : (old new : Talk) (s : Incoming) → s ≡ incoming.Bytes → Looks old new (Ok s) → (request : List ℕ) → IsCutOff old new request
+readies_by_stray old new incoming.Nothing is e = absurd (let no = is in cc)
+readies_by_stray old new incoming.Bytes is e = cut_at_once old new (passed.Strayed ∷ []) (ap (λ (t : Talk). t.passed) e) (inr refl)
+readies_by_stray old new incoming.End is e = absurd (let no = is in cc)
 
-pub readies_behind_end : (old middle new : Talk) (s : Standing) (r : Result Unit ChannelFault) → s ≡ standing.End → Looks old middle (Ok s) → Connects middle new r → Readies old new r
-readies_behind_end old middle new standing.Nothing r is e c = absurd (let no = is in cc)
-readies_behind_end old middle new standing.Bytes r is e c = absurd (let no = is in cc)
-readies_behind_end old middle new standing.End r is e c = readies_from_connects old new r (subst (λ (t : Talk). Connects t new r) e c)
+pub readies_behind_end : (old middle new : Talk) (s : Incoming) (r : Result Unit ChannelFault) → s ≡ incoming.End → Looks old middle (Ok s) → Connects middle new r → Readies old new r
+readies_behind_end old middle new incoming.Nothing r is e c = absurd (let no = is in cc)
+readies_behind_end old middle new incoming.Bytes r is e c = absurd (let no = is in cc)
+readies_behind_end old middle new incoming.End r is e c = readies_from_connects old new r (subst (λ (t : Talk). Connects t new r) e c)
 
 pub stays_open : (old new : Talk) → new ≡ old → old.ahead ≡ [] → old.connected ≡ true → (anew : Bool) × (new ≡ readied anew old)
 stays_open old new e none is = (
@@ -119,10 +119,10 @@ stays_open old new e none is = (
       ∙ ap (λ (x : List Passed). record old { passed = x; ahead = []; connected = true }) (sym (append-nil old.passed)))),
 )
 
-pub readies_still : (old new : Talk) (s : Standing) → s ≡ standing.Nothing → Looks old new (Ok s) → old.connected ≡ true → (anew : Bool) × (new ≡ readied anew old)
-readies_still old new standing.Nothing is e was = stays_open old new e.0 e.1 was
-readies_still old new standing.Bytes is e was = absurd (let no = is in cc)
-readies_still old new standing.End is e was = absurd (let no = is in cc)
+pub readies_still : (old new : Talk) (s : Incoming) → s ≡ incoming.Nothing → Looks old new (Ok s) → old.connected ≡ true → (anew : Bool) × (new ≡ readied anew old)
+readies_still old new incoming.Nothing is e was = stays_open old new e.0 e.1 was
+readies_still old new incoming.Bytes is e was = absurd (let no = is in cc)
+readies_still old new incoming.End is e was = absurd (let no = is in cc)
 
 -- A request sent
 
@@ -265,7 +265,7 @@ received_end a b c got xs n p q is =
 pub received_cut : (a b c : Talk) (got : List ℕ) → HandsOn a b got → c ≡ with_failure b → FailsBehind a c got
 received_cut a b c got p e = (b, p, e)
 
-pub hears_said : (old new : Talk) (got done failed : List ℕ) (what : Heard) → HandsOn old new got → IsAnswer got done → IsSaid got done failed what
+pub hears_said : (old new : Talk) (got done failed : List ℕ) (what : AnswerState) → HandsOn old new got → IsAnswer got done → IsSaid got done failed what
     → Hears old new done failed what
 hears_said old new got done failed heard.Done h answer is = subst (λ (x : List ℕ). HandsOn old new x) is h
 hears_said old new got done failed heard.Failed h answer is = subst (λ (x : List ℕ). HandsOn old new x) is h

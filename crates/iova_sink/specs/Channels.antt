@@ -3,14 +3,14 @@ use Rattle.std.specs.Prelude.{ℕ, ◌≡◌, ◌≢◌, ◌+◌, ◌<◌, ◌�
 use Rattle.iova_sink.specs.Calls.{Call}
 use Rattle.iova_sink.specs.Passing.{with_one, sent_bytes, received_bytes, with_sent_bytes, with_received_bytes}
 use Rattle.iova_sink.specs.declared.channel.ChannelFault.{ChannelFault}
-use Rattle.iova_sink.specs.declared.channel.Standing.{Standing}
-use Rattle.iova_sink.specs.declared.channel.Standing.TheVariants as standing
+use Rattle.iova_sink.specs.declared.channel.Incoming.{Incoming}
+use Rattle.iova_sink.specs.declared.channel.Incoming.TheVariants as incoming
 use Rattle.iova_sink.specs.declared.history.Passed.{Passed}
 use Rattle.iova_sink.specs.declared.history.Passed.TheVariants as passed
 use Rattle.iova_sink.specs.declared.sink.SinkFault.{SinkFault}
 use Rattle.iova_sink.specs.declared.sink.SinkFault.TheVariants as fault
-use Rattle.iova_sink.specs.declared.asking.Heard.{Heard}
-use Rattle.iova_sink.specs.declared.asking.Heard.TheVariants as heard
+use Rattle.iova_sink.specs.declared.asking.AnswerState.{AnswerState}
+use Rattle.iova_sink.specs.declared.asking.AnswerState.TheVariants as heard
 
 -- what passed over a channel, oldest first: over all connections, one behind the other; the bytes
 -- of it that were received and not handed on yet; and whether there is a connection
@@ -59,10 +59,10 @@ Receives old new buffer (Err e) = new ≡ with_failure old
 
 -- nothing was sent or received, and bytes that stand there are counted; where nothing stands there,
 -- all that was received was handed on
-abbrev pub Looks : Talk → Talk → Result Standing ChannelFault → Type 0
-Looks old new (Ok standing.Nothing) = (new ≡ old) × (old.ahead ≡ [])
-Looks old new (Ok standing.Bytes) = new ≡ with_stray old
-Looks old new (Ok standing.End) = new ≡ old
+abbrev pub Looks : Talk → Talk → Result Incoming ChannelFault → Type 0
+Looks old new (Ok incoming.Nothing) = (new ≡ old) × (old.ahead ≡ [])
+Looks old new (Ok incoming.Bytes) = new ≡ with_stray old
+Looks old new (Ok incoming.End) = new ≡ old
 Looks old new (Err e) = new ≡ with_failure old
 
 -- there is a connection, or the call failed and there is none
@@ -151,13 +151,13 @@ pub record IsAnswer (got done : List ℕ) : Type 0 where
   pub one : EndsAtLf got
 
 -- what these bytes are, of the two answers that there are
-abbrev pub IsSaid : List ℕ → List ℕ → List ℕ → Heard → Type 0
+abbrev pub IsSaid : List ℕ → List ℕ → List ℕ → AnswerState → Type 0
 IsSaid got done failed heard.Done = got ≡ done
 IsSaid got done failed heard.Failed = got ≡ failed
 IsSaid got done failed heard.Broken = (got ≢ done) × (got ≢ failed)
 
 -- what came after a request, over a connection that stays
-abbrev pub Hears : Talk → Talk → List ℕ → List ℕ → Heard → Type 0
+abbrev pub Hears : Talk → Talk → List ℕ → List ℕ → AnswerState → Type 0
 Hears old new done failed heard.Done = HandsOn old new done
 Hears old new done failed heard.Failed = HandsOn old new failed
 Hears old new done failed heard.Broken =

@@ -4,7 +4,7 @@ ghost use Rattle.iova_sink.specs.Passing.{with_received_bytes};
 
 use crate::again::{is_interrupted, read_again};
 use crate::history::History;
-use crate::soon::Looks;
+use crate::soon::SpinBudget;
 use std::io;
 use std::marker::Model;
 use std::os::unix::net::UnixStream;
@@ -58,7 +58,7 @@ impl Ahead {
         &mut self,
         clock: &C,
         stream: &UnixStream,
-        looks: &mut Looks,
+        spins: &mut SpinBudget,
         limit: Duration,
         past: &mut History,
     ) -> io::Result<()>
@@ -70,7 +70,7 @@ impl Ahead {
         if self.len() > 0 {
             return Ok(());
         }
-        let n = read_noted(clock, stream, looks, limit, &mut self.bytes, past)?;
+        let n = read_noted(clock, stream, spins, limit, &mut self.bytes, past)?;
         self.from = 0;
         self.left = n;
         Ok(())
@@ -82,8 +82,8 @@ impl Ahead {
         ensures count { result ≡ min (length self.old) (length buffer.new) }
     {
         let n = self.left.min(buffer.len());
-        let standing = &self.bytes[self.from..];
-        buffer[..n].copy_from_slice(&standing[..n]);
+        let incoming = &self.bytes[self.from..];
+        buffer[..n].copy_from_slice(&incoming[..n]);
         self.from += n;
         self.left -= n;
         n
@@ -95,7 +95,7 @@ impl Ahead {
 fn read_noted<C: Clock>(
     clock: &C,
     stream: &UnixStream,
-    looks: &mut Looks,
+    spins: &mut SpinBudget,
     limit: Duration,
     buffer: &mut [u8],
     past: &mut History,
@@ -104,7 +104,7 @@ fn read_noted<C: Clock>(
     ensures read { IfOk result (λ n. past.new ≡ with_received_bytes past.old (take n buffer.new)) }
     ensures failed { IfErr result (λ e. past.new ≡ past.old) }
 {
-    let n = read_next(clock, stream, looks, limit, buffer)?;
+    let n = read_next(clock, stream, spins, limit, buffer)?;
     past.add_received(&buffer[..n]);
     Ok(n)
 }
@@ -113,14 +113,14 @@ fn read_noted<C: Clock>(
 fn read_next<C: Clock>(
     clock: &C,
     stream: &UnixStream,
-    looks: &mut Looks,
+    spins: &mut SpinBudget,
     limit: Duration,
     buffer: &mut [u8],
 ) -> io::Result<usize>
     ensures { IfOk result (λ n. n ≤ length buffer.new) }
 {
     let begun = clock.monotonic()?;
-    let read = looks.read(stream, buffer);
+    let read = spins.read(stream, buffer);
     if is_interrupted(&read) {
         return read_again(clock, stream, buffer, begun, limit);
     }
@@ -173,7 +173,7 @@ impl Connection {
     pub(crate) fn receive<C: Clock>(
         &mut self,
         clock: &C,
-        looks: &mut Looks,
+        spins: &mut SpinBudget,
         limit: Duration,
         buffer: &mut [u8],
         past: &mut History,
@@ -185,7 +185,7 @@ impl Connection {
         ensures bound { IfOk result (λ n. n ≤ length buffer.new) }
         ensures failed { IfErr result (λ e. (self.new ≡ self.old) × (past.new ≡ past.old)) }
     {
-        self.ahead.fill(clock, &self.stream, looks, limit, past)?;
+        self.ahead.fill(clock, &self.stream, spins, limit, past)?;
         Ok(self.ahead.take(buffer))
     }
 }

@@ -3,14 +3,14 @@ ghost use Rattle.std.specs.Prelude.{◌≡◌, ◌≤◌, ◌+◌, [], length};
 ghost use Rattle.iova_sink.specs.Channels.{SendsAll, Takes, EndsAtLf, IsSaid, Hears, Requests, Readies, Settles, Concludes, Answers};
 ghost use Rattle.iova_sink.specs.Records.{answer_line, done_line, fail_line};
 
-use crate::channel::{Channel, ChannelFault, Standing};
+use crate::channel::{Channel, ChannelFault, Incoming};
 use crate::record::{MAX_RECORD, put, put_number};
 use crate::sink::SinkFault;
 use arrayvec::ArrayVec;
 
 /// What came after a request.
 #[derive(Clone, Copy, PartialEq, Eq, Debug)]
-pub enum Heard {
+pub enum AnswerState {
     /// The answer that all is done.
     Done,
     /// The answer that it failed.
@@ -53,9 +53,9 @@ pub(crate) fn ready<C: Channel>(channel: &mut C) -> Result<(), ChannelFault>
         return channel.connect();
     }
     match channel.look() {
-        Ok(Standing::Nothing) => Ok(()),
-        Ok(Standing::Bytes) => Err(ChannelFault),
-        Ok(Standing::End) => channel.connect(),
+        Ok(Incoming::Nothing) => Ok(()),
+        Ok(Incoming::Bytes) => Err(ChannelFault),
+        Ok(Incoming::End) => channel.connect(),
         Err(fault) => Err(fault),
     }
 }
@@ -105,9 +105,9 @@ fn settle<C: Channel>(channel: &mut C, word: &[u8], number: u64) -> Result<(), S
     let done = answer(b"done", word, number);
     let failed = answer(b"fail", word, number);
     match hear(channel, done.as_slice(), failed.as_slice()) {
-        Heard::Done => Ok(()),
-        Heard::Failed => Err(SinkFault::Refused),
-        Heard::Broken => {
+        AnswerState::Done => Ok(()),
+        AnswerState::Failed => Err(SinkFault::Refused),
+        AnswerState::Broken => {
             channel.close();
             Err(SinkFault::Broken)
         }
@@ -131,27 +131,27 @@ fn answer(outcome: &[u8], word: &[u8], number: u64) -> ArrayVec<u8, MAX_RECORD>
 }
 
 /// Receives an answer, and says which of the two it is.
-fn hear<C: Channel>(channel: &mut C, done: &[u8], failed: &[u8]) -> Heard
+fn hear<C: Channel>(channel: &mut C, done: &[u8], failed: &[u8]) -> AnswerState
     requires { length done.now ≤ MAX_RECORD }
     ensures { Hears (C.talk channel.old) (C.talk channel.new) done.now failed.now result }
 {
     let mut got = ArrayVec::new();
     match receive_line(channel, done.len(), &mut got) {
         Ok(()) => said(got.as_slice(), done, failed),
-        Err(_) => Heard::Broken,
+        Err(_) => AnswerState::Broken,
     }
 }
 
 /// Which of the two answers these bytes are.
-fn said(got: &[u8], done: &[u8], failed: &[u8]) -> Heard
+fn said(got: &[u8], done: &[u8], failed: &[u8]) -> AnswerState
     ensures { IsSaid got.now done.now failed.now result }
 {
     if got == done {
-        Heard::Done
+        AnswerState::Done
     } else if got == failed {
-        Heard::Failed
+        AnswerState::Failed
     } else {
-        Heard::Broken
+        AnswerState::Broken
     }
 }
 

@@ -8,7 +8,7 @@ pub struct ChannelFault;
 
 /// What stands in a connection.
 #[derive(Clone, Copy, PartialEq, Eq, Debug)]
-pub enum Standing {
+pub enum Incoming {
     /// Nothing: a peer that is quiet.
     Nothing,
     /// Bytes that the peer has sent.
@@ -48,7 +48,7 @@ pub trait Channel {
 
     /// Looks what stands in the connection, without waiting. Where it is `Bytes`, the connection is
     /// good for nothing but to be closed: some of them may be lost.
-    fn look(&mut self) -> Result<Standing, ChannelFault>
+    fn look(&mut self) -> Result<Incoming, ChannelFault>
         ensures { Looks (talk self.old) (talk self.new) result };
 
     /// Connects anew, in place of a connection that there is.

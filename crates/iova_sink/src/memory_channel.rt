@@ -3,7 +3,7 @@ ghost use Rattle.std.specs.Prelude.{◌≡◌, ◌<◌, ◌≤◌, [], IfOk, len
 ghost use Rattle.iova_sink.specs.Channels.{Sends, Receives, Looks, Connects, without_connection, with_failure, with_stray};
 ghost use Rattle.iova_sink.specs.Passing.{sent_of, received_of};
 
-use crate::channel::{Channel, ChannelFault, Standing};
+use crate::channel::{Channel, ChannelFault, Incoming};
 use crate::history::{History, Passed};
 use std::alloc::Global;
 use std::marker::Model;
@@ -104,7 +104,7 @@ impl<'a> MemoryChannel<'a> {
     }
 
     /// What stands in the connection.
-    fn standing(&self) -> &'a [u8] {
+    fn incoming(&self) -> &'a [u8] {
         let peers = self.peers;
         let Some(peer) = peers.get(self.peer) else {
             return &[];
@@ -138,7 +138,7 @@ impl<'a> MemoryChannel<'a> {
     fn hear_next(&mut self)
         ensures { self.new ≡ self.old }
     {
-        if self.standing().is_empty() && self.has_more() {
+        if self.incoming().is_empty() && self.has_more() {
             self.text = self.text.saturating_add(1);
             self.taken = 0;
         }
@@ -157,9 +157,9 @@ impl<'a> MemoryChannel<'a> {
         ensures bound { IfOk result (λ n. n ≤ length buffer.new) }
         ensures receives { Receives self.old self.new buffer.new result }
     {
-        let standing = self.standing();
-        let n = standing.len().min(buffer.len());
-        let now = &standing[..n];
+        let incoming = self.incoming();
+        let n = incoming.len().min(buffer.len());
+        let now = &incoming[..n];
         buffer[..n].copy_from_slice(now);
         match self.received.extend_from_slice(now) {
             Ok(()) => {
@@ -199,24 +199,24 @@ impl<'a> Channel for MemoryChannel<'a> {
         if self.next_fails() || !self.connected {
             return Err(self.fault());
         }
-        if self.standing().is_empty() && !self.ends() {
+        if self.incoming().is_empty() && !self.ends() {
             return Err(self.fault());
         }
         self.take(buffer)
     }
 
-    fn look(&mut self) -> Result<Standing, ChannelFault> {
+    fn look(&mut self) -> Result<Incoming, ChannelFault> {
         if self.next_fails() || !self.connected {
             return Err(self.fault());
         }
-        if !self.standing().is_empty() {
+        if !self.incoming().is_empty() {
             self.past.add(Passed::Strayed);
-            return Ok(Standing::Bytes);
+            return Ok(Incoming::Bytes);
         }
         if self.ends() {
-            Ok(Standing::End)
+            Ok(Incoming::End)
         } else {
-            Ok(Standing::Nothing)
+            Ok(Incoming::Nothing)
         }
     }
 

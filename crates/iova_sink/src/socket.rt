@@ -5,11 +5,11 @@ ghost use Rattle.iova_sink.specs.Channels.{with_failure};
 use crate::again::{is_interrupted, write_again};
 use crate::ahead::Connection;
 use crate::backoff::Backoff;
-use crate::channel::{Channel, ChannelFault, Standing};
+use crate::channel::{Channel, ChannelFault, Incoming};
 use crate::device::bytes_taken;
 use crate::history::{History, Passed};
-use crate::hurry::Hurry;
-use crate::soon::{Looks, read_now};
+use crate::soon::{SpinBudget, read_now};
+use crate::stop_deadline::StopDeadline;
 use std::io;
 use std::io::{ErrorKind, Write};
 use std::marker::Model;
@@ -19,8 +19,8 @@ use std::rt::Clock;
 use std::time::Duration;
 
 /// A Unix socket at a path, with one time limit for each read and each write; one that a signal
-/// interrupts is made again, for what is left of its time. An answer is one read: what comes with it
-/// is read too, and is handed on with the next call that receives. A read looks a while for what
+/// interrupts is made again, for what is left of its time. An answer is one read: what comes with
+/// it is read too, and is handed on with the next call that receives. A read looks a while for what
 /// comes before it waits, as long as that pays: to sleep and to be woken costs as much as a peer
 /// that is at hand takes to answer. A connect waits no longer than that of `net` does. Behind two
 /// connections in a row that had no answer none is made for a while, up to a second, so that the
@@ -31,11 +31,11 @@ pub struct SocketChannel<'a, N: Net> {
     net: &'a N,
     path: &'a str,
     limit: Duration,
-    hurry: Option<&'a Hurry>,
+    stop_deadline: Option<&'a StopDeadline>,
     connection: Option<Connection>,
     was_full: bool,
     backoff: Backoff,
-    looks: Looks,
+    spins: SpinBudget,
     past: History,
 }
 
@@ -46,11 +46,11 @@ impl<'a, N: Net> Drop for SocketChannel<'a, N> {
             net: _,
             path: _,
             limit: _,
-            hurry: _,
+            stop_deadline: _,
             connection: _,
             was_full: _,
             backoff: _,
-            looks: _,
+            spins: _,
             past: _,
         } = self;
     }
@@ -80,20 +80,20 @@ impl<'a, N: Net + Clock> SocketChannel<'a, N> {
             net,
             path,
             limit: Duration::from_secs(seconds),
-            hurry: None,
+            stop_deadline: None,
             connection: None,
             was_full: false,
             backoff: Backoff::new(),
-            looks: Looks::new(),
+            spins: SpinBudget::new(),
             past: History::new(),
         }
     }
 
     /// From now on its end is hurried there.
-    pub fn hurry_by(&mut self, hurry: &'a Hurry)
+    pub fn stop_by(&mut self, stop_deadline: &'a StopDeadline)
         ensures { self.new ≡ self.old }
     {
-        self.hurry = Some(hurry);
+        self.stop_deadline = Some(stop_deadline);
     }
 
     /// Whether the last connect failed since the peer's queue was full, or no connection is made
@@ -104,8 +104,8 @@ impl<'a, N: Net + Clock> SocketChannel<'a, N> {
 
     /// Whether no call is made any more.
     fn is_given_up(&self) -> bool {
-        match self.hurry {
-            Some(hurry) => hurry.is_over(),
+        match self.stop_deadline {
+            Some(stop_deadline) => stop_deadline.is_over(),
             None => false,
         }
     }
@@ -114,10 +114,10 @@ impl<'a, N: Net + Clock> SocketChannel<'a, N> {
     fn fault_of(&mut self, error: &io::Error) -> ChannelFault
         ensures { self.new ≡ with_failure self.old }
     {
-        if let Some(hurry) = self.hurry
+        if let Some(stop_deadline) = self.stop_deadline
             && is_late(error)
         {
-            hurry.note_silence();
+            stop_deadline.note_silence();
         }
         self.fault()
     }
@@ -165,8 +165,8 @@ impl<'a, N: Net + Clock> Channel for SocketChannel<'a, N> {
         let Some(connection) = &mut self.connection else {
             return Err(self.fault());
         };
-        let (looks, past) = (&mut self.looks, &mut self.past);
-        match connection.receive(self.net, looks, self.limit, buffer, past) {
+        let (spins, past) = (&mut self.spins, &mut self.past);
+        match connection.receive(self.net, spins, self.limit, buffer, past) {
             Ok(n) => {
                 if n > 0 {
                     self.backoff.reset();
@@ -179,16 +179,16 @@ impl<'a, N: Net + Clock> Channel for SocketChannel<'a, N> {
 
     /// Bytes that were read ahead stand there too. Where there are none, it reads a byte without
     /// waiting: one that stands there is lost.
-    fn look(&mut self) -> Result<Standing, ChannelFault> {
+    fn look(&mut self) -> Result<Incoming, ChannelFault> {
         let Some(connection) = &self.connection else {
             return Err(self.fault());
         };
-        match stands_in(connection) {
-            Ok(Standing::Bytes) => {
+        match incoming_of(connection) {
+            Ok(Incoming::Bytes) => {
                 self.past.add(Passed::Strayed);
-                Ok(Standing::Bytes)
+                Ok(Incoming::Bytes)
             }
-            Ok(standing) => Ok(standing),
+            Ok(incoming) => Ok(incoming),
             Err(_) => Err(self.fault()),
         }
     }
@@ -253,19 +253,19 @@ fn connected<N: Net>(net: &N, path: &str, limit: Duration) -> io::Result<UnixStr
 }
 
 /// What stands in the connection, or was read of it ahead.
-fn stands_in(connection: &Connection) -> io::Result<Standing>
-    ensures { IfOk result (λ s. s ≡ Standing.Nothing → connection.now ≡ []) }
+fn incoming_of(connection: &Connection) -> io::Result<Incoming>
+    ensures { IfOk result (λ s. s ≡ Incoming.Nothing → connection.now ≡ []) }
 {
     if connection.is_ahead() {
-        return Ok(Standing::Bytes);
+        return Ok(Incoming::Bytes);
     }
     let mut byte = [0u8];
     match read_now(connection.stream(), &mut byte) {
-        Ok(0) => Ok(Standing::End),
-        Ok(_) => Ok(Standing::Bytes),
+        Ok(0) => Ok(Incoming::End),
+        Ok(_) => Ok(Incoming::Bytes),
         Err(error) => {
             if error.kind() == ErrorKind::WouldBlock {
-                Ok(Standing::Nothing)
+                Ok(Incoming::Nothing)
             } else {
                 Err(error)
             }

@@ -24,15 +24,15 @@ const SELDOM: u32 = 16;
 /// How often a thread looks for what comes before it sleeps, as long as that pays. It pays where a
 /// peer that is at hand answers at once, since to sleep and to be woken takes as long as that.
 #[derive(Clone, Copy, Debug)]
-pub struct Looks {
+pub struct SpinBudget {
     /// How many waits in a row had no success.
     vain: u32,
 }
 
-impl Looks {
+impl SpinBudget {
     /// It is looked at first.
-    pub fn new() -> Looks {
-        Looks { vain: 0 }
+    pub fn new() -> SpinBudget {
+        SpinBudget { vain: 0 }
     }
 
     /// How often is looked now.

@@ -14,7 +14,7 @@ use Rattle.iova_check.specs.declared.finding.Finding.{Finding}
 use Rattle.iova_check.specs.declared.finding.Kind.TheVariants as kind
 use Rattle.iova_check.specs.declared.finding.Run.{Run}
 use Rattle.iova_check.specs.declared.source.Source.{Source}
-use Rattle.iova_check.specs.declared.stage.Flight.{Flight}
+use Rattle.iova_check.specs.declared.stage.OpenFlush.{OpenFlush}
 use Rattle.iova_check.specs.declared.stage.Stage.{Stage}
 use Rattle.iova_check.specs.declared.stage.Stage.TheVariants as stage
 use Rattle.iova_check.specs.Bounds.{Bounds}
@@ -48,7 +48,7 @@ within_range : (tells : ℕ → Option (Option ℕ)) (lo to : ℕ) (found : Opti
 within_range tells lo to None h is f from under = h f from under
 within_range tells lo to (Some run) h is f from under = absurd cc
 
-new_line : (bounds : Bounds) (past : List Event) (flights : ℕ → Option Flight) (e : Event) (fs : List (Option Finding)) (f : ℕ)
+new_line : (bounds : Bounds) (past : List Event) (flights : ℕ → Option OpenFlush) (e : Event) (fs : List (Option Finding)) (f : ℕ)
     → AreFindings bounds (stage_of past) flights e fs → TellsBreaks past e fs → how_many fs ≡ 0 → maps f e ≡ true
     → IsKeptAt (e ∷ past) f (next_line past) × (told_outside bounds f ≡ None)
 new_line bounds past flights (event.Map r) fs f h breaks none in_range =

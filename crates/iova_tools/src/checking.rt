@@ -7,9 +7,9 @@ ghost use Rattle.iova_tools.specs.Verdicts.{EndsCheck};
 use crate::fault::Fault;
 use crate::regions::add_regions;
 use crate::verdict::Verdict;
-use iova_check::allowed::Asked;
+use iova_check::allowed::LogBounds;
 use iova_check::checker::Checker;
-use iova_check::counts::Counts;
+use iova_check::counts::LogCounts;
 use iova_check::fault::CheckFault;
 use iova_check::law::promise_is_told;
 use iova_check::run::{check, check_trace, write_counts};
@@ -79,12 +79,12 @@ fn check_from<'a, R: Runtime + AllocGlobal, I: Read>(
 {
     // for the proof: what a finding of a line says of the lines before it
     promise_is_told();
-    let asked = Asked {
+    let asked = LogBounds {
         first: plan.first,
         last: plan.last,
         windows: windows.ranges(),
     };
-    let checked = checked_here(rt, plan, &asked, reader);
+    let checked = check_and_print(rt, plan, &asked, reader);
     let told = write_counts(&checked, &mut io::writer(rt));
     if let Ok(checker) = &checked {
         tell_gaps(rt, plan, &checker.counts);
@@ -95,10 +95,10 @@ fn check_from<'a, R: Runtime + AllocGlobal, I: Read>(
 }
 
 /// Checks it, and prints the findings where they are wanted.
-fn checked_here<R: Runtime + AllocGlobal, I: Read>(
+fn check_and_print<R: Runtime + AllocGlobal, I: Read>(
     rt: &R,
     plan: &CheckPlan<'_>,
-    asked: &Asked<'_>,
+    asked: &LogBounds<'_>,
     reader: &mut I,
 ) -> Result<Checker, CheckFault>
     ensures { (output : Option (List ℕ)) × (filled : Option (List ℕ))
@@ -135,7 +135,7 @@ fn end_of_check<'a>(
 fn checked_by<R: Runtime + AllocGlobal, I: Read, W: Write>(
     rt: &R,
     plan: &CheckPlan<'_>,
-    asked: &Asked<'_>,
+    asked: &LogBounds<'_>,
     reader: &mut I,
     writer: &mut W,
 ) -> Result<Checker, CheckFault>
@@ -153,7 +153,7 @@ fn checked_by<R: Runtime + AllocGlobal, I: Read, W: Write>(
 
 /// Tells on standard error how many lines of a kernel's trace said nothing of frames, and what was
 /// not checked.
-fn tell_gaps<R: Eprint>(rt: &R, plan: &CheckPlan<'_>, counts: &Counts) {
+fn tell_gaps<R: Eprint>(rt: &R, plan: &CheckPlan<'_>, counts: &LogCounts) {
     if plan.ftrace {
         let others = counts.others;
         let _ = eprintln!(rt; "{others} lines passed over");

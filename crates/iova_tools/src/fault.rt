@@ -161,8 +161,9 @@ impl<'a> Fault<'a> {
     }
 
     /// Prints the fault's line on standard error, or help on standard output, and gives the status.
-    /// A finding has been printed, as has what was not checked, and prints nothing. Help that can't be
-    /// written is the fault `CannotWrite`; where a fault's line can't be, nobody is left to tell.
+    /// A finding has been printed, as has what was not checked, and prints nothing. Help that can't
+    /// be written is the fault `CannotWrite`; where a fault's line can't be, nobody is left to
+    /// tell.
     pub fn tell<R: Print + Eprint>(&self, rt: &R) -> ExitCode
         ensures { (exit_status result ≡ fault_status self.now)
             ⊎ ((fault_status self.now ≡ 0) × (exit_status result

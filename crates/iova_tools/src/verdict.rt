@@ -2,7 +2,7 @@
 ghost use Rattle.std.specs.Prelude.{◌≡◌};
 ghost use Rattle.iova_tools.specs.Verdicts.{has_gap};
 
-use iova_check::counts::Counts;
+use iova_check::counts::LogCounts;
 
 /// What a check says of a text that it took to its end.
 #[derive(Clone, Copy)]
@@ -21,7 +21,7 @@ impl Verdict {
     ghost use Rattle.iova_tools.specs.Verdicts.{verdict_of};
 
     /// The result of these counts. A finding stands, whatever was left out.
-    pub fn of(counts: &Counts) -> Verdict
+    pub fn of(counts: &LogCounts) -> Verdict
         ensures { result ≡ verdict_of counts.now.findings counts.now.maps counts.now.lost
             counts.now.too_long }
     {
@@ -36,7 +36,7 @@ impl Verdict {
 }
 
 /// Whether something was left out.
-fn has_gap(counts: &Counts) -> bool
+fn has_gap(counts: &LogCounts) -> bool
     ensures { result ≡ has_gap counts.now.maps counts.now.lost counts.now.too_long }
 {
     counts.maps == 0 || counts.lost > 0 || counts.too_long > 0

@@ -29,7 +29,7 @@ use Rattle.iova_trace.specs.Lines.{first_lines_text, count_steps, next_line_numb
 use Rattle.iova_trace.specs.Log.{log_header, log_line, pair_line}
 use Rattle.iova_trace.specs.Replay.{IsReplayed, BreaksOff}
 use Rattle.iova_trace.specs.Logged.{IsLogged}
-use Rattle.iova_trace.specs.Progress.{Stands, number_at, Goes, Stops}
+use Rattle.iova_trace.specs.Progress.{HasTaken, number_at, Goes, Stops}
 
 pub All-push : (P : Step → Type 0) (xs : List Step) (x : Step) → AllByRecursion P xs → P x → AllByRecursion P (xs ++ x ∷ [])
 All-push P [] x a p = (p, tt)
@@ -105,7 +105,7 @@ header_logged lines h text log is logged =
     ([], refl, none.0, ap (λ (x : List ℕ). x ++ log_header h.bounds) none.1 ∙ sym (append-nil (log_header h.bounds)))
 
 -- the header's line has been taken
-header_begins : (p : Progress) (taken written line kept : List ℕ) (x y : Option (List ℕ)) (h : Header) (st : Stands taken written x y p) → p.line ≡ []
+header_begins : (p : Progress) (taken written line kept : List ℕ) (x y : Option (List ℕ)) (h : Header) (st : HasTaken taken written x y p) → p.line ≡ []
     → p.domain ≡ None → IsHeader h.bounds h.workers → line ≡ header_text h.bounds h.workers → kept ≡ []
     → BeginsWithLines (taken ++ whole_line line) (Some (header_trace h)) kept
 header_begins p taken written line kept x y h st empty none good is nothing =
@@ -223,7 +223,7 @@ step_taken law valid p q x y line d s m empty domain lt step spelled kept steps 
 -- A log at a line that is not taken
 
 -- what was kept is not written, and the line is none that was replied to
-stays_broken : (p : Progress) (taken written bytes : List ℕ) (x y : Option (List ℕ)) → Stands taken written x y p
+stays_broken : (p : Progress) (taken written bytes : List ℕ) (x y : Option (List ℕ)) → HasTaken taken written x y p
     → BreaksOff (taken ++ bytes) (written ++ p.replies.items)
 stays_broken p taken written bytes x y st = record {
   lines = st.lines;

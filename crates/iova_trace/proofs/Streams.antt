@@ -13,7 +13,7 @@ use Rattle.iova_text.proofs.LineEnds.{odd_more, overlong_more}
 use Rattle.iova_trace.specs.Lines.{BeginsWithLines, IsBad, MayFollow, first_lines_text}
 use Rattle.iova_trace.specs.Replay.{BreaksOff, IsReplayed, StopsInLine, TellsOfReplay}
 use Rattle.iova_trace.specs.Logged.{IsLogged, LogsAll, LogsFront, TellsOfLog, ReplaysAndLogs}
-use Rattle.iova_trace.specs.Progress.{Stands, Goes, EndsReplay, EndsLog, Stops, Outcome, TakesBytes, Closes}
+use Rattle.iova_trace.specs.Progress.{HasTaken, Goes, EndsReplay, EndsLog, Stops, Outcome, TakesBytes, Closes}
 
 -- Outcomes
 
@@ -23,8 +23,8 @@ Ends taken written before now e = EndsReplay taken written e × EndsLog taken wr
 
 pub Goes-then : (a b c : Progress) (x y z : Option (List ℕ)) (p q v w : List ℕ) → Goes a x p v b y → Goes b y q w c z → Goes a x (p ++ q) (v ++ w) c z
 Goes-then a b c x y z p q v w first second taken written log st =
-    let P : List ℕ → Type 0 = λ l. Stands l ((written ++ v) ++ w) log z c in
-    let Q : List ℕ → Type 0 = λ l. Stands (taken ++ (p ++ q)) l log z c in
+    let P : List ℕ → Type 0 = λ l. HasTaken l ((written ++ v) ++ w) log z c in
+    let Q : List ℕ → Type 0 = λ l. HasTaken (taken ++ (p ++ q)) l log z c in
     subst Q (append_assoc written v w) (subst P (append_assoc taken p q) (second (taken ++ p) (written ++ v) log (first taken written log st)))
 
 pub Stops-then : (a b : Progress) (x y z : Option (List ℕ)) (p q v w : List ℕ) (e : ReplayFault) → Goes a x p v b y → Stops b y q w z e
@@ -266,8 +266,8 @@ Outcome-then a b c x y z p q v w (Err e) first second = Stops-then a b x y z p q
 
 -- The line that was kept is whole once its last bytes have come.
 
-fresh_line : (taken written : List ℕ) (x y : Option (List ℕ)) (q mid : Progress) (st : Stands taken written x y q) → mid.line ≡ [] → mid.domain ≡ q.domain → mid.steps ≡ q.steps
-    → mid.replies.items ≡ q.replies.items → Stands (first_lines_text st.lines) written x y mid
+fresh_line : (taken written : List ℕ) (x y : Option (List ℕ)) (q mid : Progress) (st : HasTaken taken written x y q) → mid.line ≡ [] → mid.domain ≡ q.domain → mid.steps ≡ q.steps
+    → mid.replies.items ≡ q.replies.items → HasTaken (first_lines_text st.lines) written x y mid
 fresh_line taken written x y q mid st empty domain steps replies = record {
   lines = st.lines;
   text = st.text;
@@ -297,7 +297,7 @@ pub TakesBytes-ended : (p mid new : Progress) (x z : Option (List ℕ)) (bytes l
     → TakesBytes mid x (whole_line line) new z r → TakesBytes p x (whole_line bytes) new z r
 TakesBytes-ended p mid new x z bytes line (Ok u) empty domain steps replies is t = λ taken written log st.
     let after = t (first_lines_text st.lines) written log (fresh_line taken written log x p mid st empty domain steps replies) in
-    let P : List ℕ → Type 0 = λ l. Stands l (written ++ []) log z new in
+    let P : List ℕ → Type 0 = λ l. HasTaken l (written ++ []) log z new in
     subst P (ended_text taken bytes line p.line st.lines is st.begins.whole) after
 TakesBytes-ended p mid new x z bytes line (Err e) empty domain steps replies is t = (
   (λ taken written log st.
@@ -334,12 +334,12 @@ nothing_told input output log = record {
 }
 
 -- all replies to what was taken are written
-all_written : (taken written : List ℕ) (x y : Option (List ℕ)) (p : Progress) (st : Stands taken written x y p) → p.replies.items ≡ [] → st.text ≡ written
+all_written : (taken written : List ℕ) (x y : Option (List ℕ)) (p : Progress) (st : HasTaken taken written x y p) → p.replies.items ≡ [] → st.text ≡ written
 all_written taken written x y p st none = st.gathered ∙ (ap (λ (l : List ℕ). written ++ l) none ∙ append-nil written)
 
-pub Stands-stops : (taken written : List ℕ) (x y : Option (List ℕ)) (p : Progress) → Stands taken written x y p → p.replies.items ≡ [] → IsUnended p.line
+pub HasTaken-stops : (taken written : List ℕ) (x y : Option (List ℕ)) (p : Progress) → HasTaken taken written x y p → p.replies.items ≡ [] → IsUnended p.line
     → StopsInLine taken written
-Stands-stops taken written x y p st none unended = record {
+HasTaken-stops taken written x y p st none unended = record {
   lines = st.lines;
   rest = p.line;
   state = p.domain;
@@ -348,8 +348,8 @@ Stands-stops taken written x y p st none unended = record {
   unended = unended;
 }
 
-pub Stands-logs : (taken written : List ℕ) (x y : Option (List ℕ)) (p : Progress) → Stands taken written x y p → p.replies.items ≡ [] → LogsAll taken written x y
-Stands-logs taken written x y p st none = record {
+pub HasTaken-logs : (taken written : List ℕ) (x y : Option (List ℕ)) (p : Progress) → HasTaken taken written x y p → p.replies.items ≡ [] → LogsAll taken written x y
+HasTaken-logs taken written x y p st none = record {
   lines = st.lines;
   rest = p.line;
   log = st.log;
@@ -391,7 +391,7 @@ pub record SoFar (input left output filled before now : Option (List ℕ)) (p : 
   pub written : List ℕ
   pub takes : Consumes input left taken
   pub writes : Appends output filled written
-  pub stands : Stands taken written before now p
+  pub stands : HasTaken taken written before now p
   pub none : p.replies.items ≡ []
 
 pub read_fails : (input mid left output filled x y : Option (List ℕ)) (p : Progress) → SoFar input mid output filled x y p → IsUnended p.line → Keeps mid left
@@ -402,14 +402,14 @@ read_fails input mid left output filled x y p s unended keeps = record {
     written = s.written;
     takes = Consumes-kept input mid left s.taken s.takes keeps;
     writes = s.writes;
-    tells = Stands-stops s.taken s.written x y p s.stands s.none unended;
+    tells = HasTaken-stops s.taken s.written x y p s.stands s.none unended;
   };
-  logs = Stands-logs s.taken s.written x y p s.stands s.none;
+  logs = HasTaken-logs s.taken s.written x y p s.stands s.none;
 }
 
 pub read_ends : (input mid left output filled x y : Option (List ℕ)) (p : Progress) (n : ℕ) (buffer : List ℕ) (r : Result (State × ℕ) ReplayFault)
     → SoFar input mid output filled x y p → Consumes mid left (take n buffer) → n ≡ 0 → IsAtEnd left
-    → ((taken written : List ℕ) (before now : Option (List ℕ)) → Stands taken written before now p → Closes taken written r)
+    → ((taken written : List ℕ) (before now : Option (List ℕ)) → HasTaken taken written before now p → Closes taken written r)
     → ReplaysAndLogs input left output filled x y r
 read_ends input mid left output filled x y p n buffer r s consumes no_bytes end closes =
     let P : List ℕ → Type 0 = Consumes input left in
@@ -423,7 +423,7 @@ read_ends input mid left output filled x y p n buffer r s consumes no_bytes end 
         writes = s.writes;
         tells = Closes-tells s.taken s.written left r close end;
       };
-      logs = Closes-logs s.taken s.written x y r close (Stands-logs s.taken s.written x y p s.stands s.none);
+      logs = Closes-logs s.taken s.written x y r close (HasTaken-logs s.taken s.written x y p s.stands s.none);
     }
 
 pub piece_stops : (input mid left output filled full x y z : Option (List ℕ)) (p : Progress) (piece more : List ℕ) (e : ReplayFault)

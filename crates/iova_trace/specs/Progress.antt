@@ -12,7 +12,7 @@ use Rattle.iova_trace.specs.Logged.{IsLogged, LogsAll, LogsFront}
 
 -- What was taken is good lines and the kept part of one. What was written and the kept replies are
 -- the replies to them. A log before and now has got theirs.
-pub record Stands (taken written : List ℕ) (before now : Option (List ℕ))
+pub record HasTaken (taken written : List ℕ) (before now : Option (List ℕ))
     (p : Progress) : Type 0 where
   pub lines : Option Trace
   pub text : List ℕ
@@ -32,8 +32,8 @@ number_at (Some s) steps = steps + 2
 -- from wherever it stood, it takes these bytes and writes these, and the log grows by what they say
 abbrev pub Goes : Progress → Option (List ℕ) → List ℕ → List ℕ → Progress → Option (List ℕ) → Type 0
 Goes old log bytes more new longer =
-    (taken written : List ℕ) (before : Option (List ℕ)) → Stands taken written before log old
-    → Stands (taken ++ bytes) (written ++ more) before longer new
+    (taken written : List ℕ) (before : Option (List ℕ)) → HasTaken taken written before log old
+    → HasTaken (taken ++ bytes) (written ++ more) before longer new
 
 -- what a fault says of all bytes taken and written, but for those of reading
 abbrev pub EndsReplay : List ℕ → List ℕ → ReplayFault → Type 0
@@ -54,7 +54,7 @@ EndsLog taken written before now fault.WriteFault = LogsFront taken written befo
 abbrev pub Stops : Progress → Option (List ℕ) → List ℕ → List ℕ → Option (List ℕ) → ReplayFault
     → Type 0
 Stops old log bytes more longer e =
-    (taken written : List ℕ) (before : Option (List ℕ)) → Stands taken written before log old
+    (taken written : List ℕ) (before : Option (List ℕ)) → HasTaken taken written before log old
     → EndsReplay (taken ++ bytes) (written ++ more) e
     × EndsLog (taken ++ bytes) (written ++ more) before longer e
 

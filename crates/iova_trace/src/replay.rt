@@ -121,10 +121,10 @@ struct Progress {
 impl Progress {
     ghost use Rattle.std.specs.Prelude.{List, Option, []};
     ghost use Rattle.iova_text.specs.Lines.{HasNoLf, whole_line};
-    ghost use Rattle.iova_trace.specs.Progress.{Stands, number_at, TakesBytes, Outcome, Closes};
+    ghost use Rattle.iova_trace.specs.Progress.{HasTaken, number_at, TakesBytes, Outcome, Closes};
 
     fn new(alloc: Global) -> Result<Self, ReplayFault>
-        ensures ok { IfOk result (λ p. (log : Option (List ℕ)) → Stands [] [] log log p) }
+        ensures ok { IfOk result (λ p. (log : Option (List ℕ)) → HasTaken [] [] log log p) }
         ensures none { IfOk result (λ p. p.replies.items ≡ []) }
         ensures err { OnErr result (result ≡ Err ReplayFault.NoMemory) }
     {
@@ -299,7 +299,7 @@ impl Progress {
     fn finish(self) -> Result<(Domain, u64), ReplayFault>
         requires { self.replies.items ≡ [] }
         ensures { (taken written : List ℕ) (before now : Option (List ℕ))
-            → Stands taken written before now self
+            → HasTaken taken written before now self
             → Closes taken written result }
     {
         let number = self.number();

@@ -7,8 +7,8 @@ use Rattle.iova_tree.specs.declared.search.Wanted.{Wanted}
 use Rattle.iova_tree.specs.declared.search.Found.{Found}
 use Rattle.iova_tree.specs.declared.search.Found.TheVariants.{Nowhere, At, Taken}
 
--- a request of some frames, at most those that `room` speaks of, with the alignment of its size, and
--- a cap that a range may end at
+-- a request of some frames, at most those that `room` speaks of, with the alignment of its size,
+-- and a cap that a range may end at
 pub record IsWanted (w : Wanted) : Type 0 where
   pub some : 1 ≤ w.size
   pub bounded : w.size ≤ MAX_FRAMES

@@ -98,8 +98,8 @@ impl Block {
         self.room
     }
 
-    /// The room of a node, where it follows from this block alone, or else None. It was `room` while
-    /// the block had `before`, and began and ended there.
+    /// The room of a node, where it follows from this block alone, or else None. It was `room`
+    /// while the block had `before`, and began and ended there.
     #[inline]
     pub fn settled_within(&self, first: u64, end: u64, before: u32, room: u32) -> Option<u32>
         requires { 0 < length self.now }

@@ -699,12 +699,12 @@ fn put_below(
         return Some(node.right.settled_above(height, first, before, room));
     }
     if !node.block.is_full() {
-        return Some(put_here(node, span, room));
+        return Some(put_in_block(node, span, room));
     }
     let Some(fresh) = spare else {
         return None;
     };
-    split_here(node, span, fresh);
+    split_block(node, span, fresh);
     Some(None)
 }
 
@@ -755,8 +755,8 @@ fn take_between(node: &mut Node, wanted: &Wanted, room: u32) -> (Found, u32)
     }
 }
 
-// Takes a place beside the node's own block, where that has room for a range; tells the room of this
-// node.
+// Takes a place beside the node's own block, where that has room for a range; tells the room of
+// this node.
 #[inline(never)]
 fn take_beside(node: &mut Node, wanted: &Wanted, lo: u64, room: u32) -> (Found, u32)
     requires wanted { IsWanted wanted.now }
@@ -792,7 +792,7 @@ fn room_once(node: &Node, before: u32, room: u32, after: u32) -> u32
 
 // Lets a range into the node's own block, and tells the room of this node, where it is known.
 #[inline]
-fn put_here(node: &mut Node, span: Span, room: u32) -> Option<u32>
+fn put_in_block(node: &mut Node, span: Span, room: u32) -> Option<u32>
     requires free { IsRisingFrom 0 (with_span span (node_spans node.old)) }
     requires balanced { IsBalanced 1 node.old }
     requires space { length node.old.block < BLOCK }
@@ -812,7 +812,7 @@ fn put_here(node: &mut Node, span: Span, room: u32) -> Option<u32>
 // Lets a range into a node whose own block is full: the upper part of the block stands in a fresh
 // node then, the lowest of the upper side.
 #[inline(never)]
-fn split_here(node: &mut Node, span: Span, mut fresh: Box<Node>)
+fn split_block(node: &mut Node, span: Span, mut fresh: Box<Node>)
     requires single { IsSingle fresh.value }
     requires free { IsRisingFrom 0 (with_span span (node_spans node.old)) }
     requires balanced { IsBalanced 1 node.old }
@@ -878,7 +878,7 @@ fn take_below(node: &mut Node, lo: u64, room: u32) -> (Span, Option<u32>)
         return (gone, node.left.settled_below(height, end, before, room));
     }
     if lo < node.block.end() {
-        return take_here(node, lo, room);
+        return take_from_block(node, lo, room);
     }
     let height = node.right.height();
     let first = node.right.first_or(0);
@@ -887,10 +887,10 @@ fn take_below(node: &mut Node, lo: u64, room: u32) -> (Span, Option<u32>)
     (gone, node.right.settled_above(height, first, before, room))
 }
 
-// Takes a range out of the node's own block, which keeps one, and tells the room of this node, where
-// it is known.
+// Takes a range out of the node's own block, which keeps one, and tells the room of this node,
+// where it is known.
 #[inline]
-fn take_here(node: &mut Node, lo: u64, room: u32) -> (Span, Option<u32>)
+fn take_from_block(node: &mut Node, lo: u64, room: u32) -> (Span, Option<u32>)
     requires held { Holds lo node.old.block }
     requires others { 2 ≤ length node.old.block }
     requires balanced { IsBalanced 1 node.old }

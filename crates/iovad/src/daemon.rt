@@ -32,7 +32,7 @@ use iova_links::dial::{Dial, UnixNet};
 use iova_links::locked_sink::SharedSink;
 use iova_links::made_file::MadeFile;
 use iova_links::pause::Ticks;
-use iova_links::served_link::{Patience, ServedLink};
+use iova_links::served_link::{ServedLink, TimeOuts};
 use iova_links::signals::Signals;
 use iova_links::socket::SocketAccept;
 use iova_lock::shared::Shared;
@@ -156,23 +156,23 @@ fn tell_start<R: Clock + Eprint>(notices: &Notices<'_, R>, said: &Said<'_>, wind
 /// What keeps a daemon from its end once it has a domain: a plain value, which no function has to
 /// drop.
 #[derive(Clone, Copy)]
-enum Hindrance {
+enum StartFault {
     CannotOpenSink,
     SocketFault,
     NoMemory,
     CannotWrite,
 }
 
-impl Hindrance {
+impl StartFault {
     /// The fault of the run.
     fn fault(self) -> Fault<'static>
         ensures { (plan : Plan) → IsFaultOfServing plan result }
     {
         match self {
-            Hindrance::CannotOpenSink => Fault::CannotOpenSink,
-            Hindrance::SocketFault => Fault::SocketFault,
-            Hindrance::NoMemory => Fault::NoMemory,
-            Hindrance::CannotWrite => Fault::CannotWrite,
+            StartFault::CannotOpenSink => Fault::CannotOpenSink,
+            StartFault::SocketFault => Fault::SocketFault,
+            StartFault::NoMemory => Fault::NoMemory,
+            StartFault::CannotWrite => Fault::CannotWrite,
         }
     }
 }
@@ -265,7 +265,7 @@ fn serve_opened<'a, R, B>(
     run: &Running<'a, R>,
     plan: &Plan<'_>,
     daemon: Daemon<'a, '_, R, B, DaemonSink<'a, UnixNet<'a, R>>>,
-) -> Result<Rest, Hindrance>
+) -> Result<Rest, StartFault>
 where
     R: Runtime + AllocGlobal + Net + Dial + Threads + Wait + Sync + Files<File = File>,
     B: Names + Send + Sync,
@@ -303,7 +303,7 @@ impl<'a, 'p, R, B: Names, D: Drop> Drop for Daemon<'a, 'p, R, B, D> {
 #[derive(Drop)]
 struct Rest {
     domain: Domain,
-    recorded: Result<(), Hindrance>,
+    recorded: Result<(), StartFault>,
 }
 
 impl<'a, 'p, R, B> Daemon<'a, 'p, R, B, DaemonSink<'a, UnixNet<'a, R>>>
@@ -318,7 +318,7 @@ where
         plan: &Plan<'p>,
         shared: Shared<&'a R, B>,
         posts: Vec<Post<B>>,
-    ) -> Result<Daemon<'a, 'p, R, B, DaemonSink<'a, UnixNet<'a, R>>>, Hindrance>
+    ) -> Result<Daemon<'a, 'p, R, B, DaemonSink<'a, UnixNet<'a, R>>>, StartFault>
         requires posts { AreNewSeats shared (map (λ p. p.seat) posts.items) }
         requires parts { B.ledgers.good.parts ≡ SEAT_PARTS * shared.seats }
         ensures posts { IfOk result (λ d. AreNewSeats d.shared (map (λ p. p.seat) d.posts.items)) }
@@ -357,7 +357,7 @@ where
 {
     /// Serves the plan's sessions, and ends the service. Where nothing was served, no file that was
     /// made for it is left.
-    fn run(self, run: &Running<'a, R>, plan: &Plan<'_>) -> Result<Rest, Hindrance>
+    fn run(self, run: &Running<'a, R>, plan: &Plan<'_>) -> Result<Rest, StartFault>
         requires posts { AreNewSeats self.shared (map (λ p. p.seat) self.posts.items) }
         requires parts { B.ledgers.good.parts ≡ SEAT_PARTS * self.shared.seats }
         requires sinks { 2 ≤ vec_len self.sinks }
@@ -376,7 +376,7 @@ where
                 drop(posts);
                 drop(shared);
                 forget_sockets(run.rt, sockets);
-                Err(Hindrance::NoMemory)
+                Err(StartFault::NoMemory)
             }
         };
         if rest.is_err() {
@@ -424,7 +424,7 @@ fn begin<'a, 'p, Q, R, B>(
     plan: &Plan<'p>,
     shared: &Shared<Q, B>,
     record: &mut Option<RecordFile<'_>>,
-) -> Result<Sockets<'p>, Hindrance>
+) -> Result<Sockets<'p>, StartFault>
 where
     R: AllocGlobal + Clock + Eprint + Wait + Net + Files<File = File>,
     Q: Wait,
@@ -433,7 +433,7 @@ where
     let control = listen_for_control(run, plan)?;
     let Some(service) = listen(run.rt, run.notices, plan.socket, Access::Umask) else {
         remove_control(run.rt, &control);
-        return Err(Hindrance::SocketFault);
+        return Err(StartFault::SocketFault);
     };
     match write_record(run, shared, record) {
         Ok(()) => Ok(Sockets { service, control }),
@@ -451,7 +451,7 @@ where
 fn listen_for_control<'a, 'p, R: AllocGlobal + Clock + Eprint + Wait + Net + Files<File = File>>(
     run: &Running<'a, R>,
     plan: &Plan<'p>,
-) -> Result<Option<MadeFile<'p>>, Hindrance> {
+) -> Result<Option<MadeFile<'p>>, StartFault> {
     let Some(path) = plan.control else {
         return Ok(None);
     };
@@ -461,7 +461,7 @@ fn listen_for_control<'a, 'p, R: AllocGlobal + Clock + Eprint + Wait + Net + Fil
             run.control.listen(run.rt.alloc(), listener);
             Ok(Some(file))
         }
-        None => Err(Hindrance::SocketFault),
+        None => Err(StartFault::SocketFault),
     }
 }
 
@@ -488,7 +488,7 @@ fn serve_held<'a, R, B, D>(
     held: &[SharedSink<D>],
     sockets: Sockets<'_>,
     record: &mut Option<RecordFile<'_>>,
-) -> Result<Rest, Hindrance>
+) -> Result<Rest, StartFault>
 where
     R: Runtime + AllocGlobal + Net + Dial + Threads + Wait + Sync + Files<File = File>,
     B: Names + Send + Sync,
@@ -503,7 +503,7 @@ where
             drop(posts);
             drop(shared);
             forget_sockets(run.rt, sockets);
-            Err(Hindrance::NoMemory)
+            Err(StartFault::NoMemory)
         }
     }
 }
@@ -517,7 +517,7 @@ fn serve_to_end<'a, R, B, D>(
     sinks: Vec<D>,
     sockets: Sockets<'_>,
     record: &mut Option<RecordFile<'_>>,
-) -> Result<Rest, Hindrance>
+) -> Result<Rest, StartFault>
 where
     R: Runtime + AllocGlobal + Net + Dial + Threads + Wait + Sync + Files<File = File>,
     B: Names + Send + Sync,
@@ -572,7 +572,7 @@ where
             run.rt,
             run.notices,
             run.net,
-            run.signals.hurry(),
+            run.signals.stop_deadline(),
             run.place.at_once(),
             None,
         )
@@ -592,7 +592,7 @@ fn serve_and_end<'a, R, B, D, E, O>(
     sinks: Vec<D>,
     sockets: Sockets<'_>,
     record: &mut Option<RecordFile<'_>>,
-) -> Result<Ended<D, E>, Hindrance>
+) -> Result<Ended<D, E>, StartFault>
 where
     R: Runtime + AllocGlobal + Net + Dial + Threads + Wait + Sync + Files<File = File>,
     B: Names + Send + Sync,
@@ -611,7 +611,7 @@ where
         drop(posts);
         drop(shared);
         forget_sockets(run.rt, sockets);
-        return Err(Hindrance::NoMemory);
+        return Err(StartFault::NoMemory);
     };
     match serve_sockets(run, plan, shared, posts, sinks, sockets) {
         Ok(served) => Ok(end_service(run, opener, served, room, record)),
@@ -704,7 +704,7 @@ fn serve_sockets<'a, R, B, D>(
     posts: Vec<Post<B>>,
     sinks: Vec<D>,
     sockets: Sockets<'_>,
-) -> Result<ServedBy<&'a R, B, D>, Hindrance>
+) -> Result<ServedBy<&'a R, B, D>, StartFault>
 where
     R: Runtime + AllocGlobal + Net + Dial + Threads + Wait + Sync + Files<File = File>,
     B: Names + Send + Sync,
@@ -724,7 +724,7 @@ where
         file,
         listener,
         run.signals,
-        patience_of(plan),
+        time_outs_of(plan),
     );
     let served = serve_threads(run, plan, shared, posts, sinks, &accept);
     // removes the socket's file, where the last session's accept has not
@@ -733,8 +733,8 @@ where
     remove_control(rt, &control);
     match served {
         Ok(served) => Ok(served),
-        Err(Refusal::NoMemory) => Err(Hindrance::NoMemory),
-        Err(_) => Err(Hindrance::SocketFault),
+        Err(Refusal::NoMemory) => Err(StartFault::NoMemory),
+        Err(_) => Err(StartFault::SocketFault),
     }
 }
 
@@ -777,7 +777,7 @@ where
 
 /// How long a session's peer is waited for: in short turns, where the daemon may be asked to stop
 /// or a session may be idle for so long only.
-fn patience_of(plan: &Plan<'_>) -> Patience {
+fn time_outs_of(plan: &Plan<'_>) -> TimeOuts {
     let turns = match plan.idle {
         Some(seconds) => seconds.saturating_mul(1000 / STOP_PAUSE),
         None => u64::MAX,
@@ -787,7 +787,7 @@ fn patience_of(plan: &Plan<'_>) -> Patience {
     } else {
         None
     };
-    Patience { turn, turns }
+    TimeOuts { turn, turns }
 }
 
 /// What the plan's service is lent, and what it serves.
@@ -804,7 +804,7 @@ fn service_of<'a, R: AllocGlobal>(
         alloc: run.rt.alloc(),
         notices: run.notices,
         serving: serving_of(plan, run.clients),
-        aside: run.control,
+        control_task: run.control,
     }
 }
 
@@ -842,7 +842,7 @@ fn open_all<'a, 'p, Q, R, B>(
     plan: &Plan<'p>,
     shared: &Shared<Q, B>,
     count: usize,
-) -> Result<Opened<'a, 'p, UnixNet<'a, R>>, Hindrance>
+) -> Result<Opened<'a, 'p, UnixNet<'a, R>>, StartFault>
 where
     R: AllocGlobal + Clock + Eprint + Wait + Net + Dial + Files<File = File>,
     Q: Wait,
@@ -879,22 +879,22 @@ fn open_sinks_first<'a, R: AllocGlobal + Clock + Eprint + Net + Dial + Files<Fil
     run: &Running<'a, R>,
     plan: &Plan<'_>,
     count: usize,
-) -> Result<Vec<DaemonSink<'a, UnixNet<'a, R>>>, Hindrance>
+) -> Result<Vec<DaemonSink<'a, UnixNet<'a, R>>>, StartFault>
     ensures { IfOk result (λ v. vec_len v ≡ count) }
 {
     let has_peer = has_peer(plan);
     if has_peer && !is_free(run.rt, run.notices, plan.socket) {
-        return Err(Hindrance::SocketFault);
+        return Err(StartFault::SocketFault);
     }
     if is_read_too(run, plan) {
-        return Err(Hindrance::CannotOpenSink);
+        return Err(StartFault::CannotOpenSink);
     }
     let sinks = open_sinks(run, plan.domain, count)?;
     if !has_peer {
         warn!(run.notices; target: "", "records only: no device answers");
         if !is_free(run.rt, run.notices, plan.socket) {
             drop(sinks);
-            return Err(Hindrance::SocketFault);
+            return Err(StartFault::SocketFault);
         }
     }
     Ok(sinks)
@@ -918,7 +918,7 @@ fn is_read_too<'a, R: Clock + Eprint + Files<File = File>>(
 fn open_record<'a, 'p, R: Clock + Eprint + Files<File = File>>(
     run: &Running<'a, R>,
     plan: &Plan<'p>,
-) -> Result<Option<RecordFile<'p>>, Hindrance> {
+) -> Result<Option<RecordFile<'p>>, StartFault> {
     let Some(path) = plan.record else {
         return Ok(None);
     };
@@ -930,7 +930,7 @@ fn open_record<'a, 'p, R: Clock + Eprint + Files<File = File>>(
     };
     match RecordFile::open(run.rt, run.notices, path, &[sink, regions]) {
         Some(file) => Ok(Some(file)),
-        None => Err(Hindrance::CannotWrite),
+        None => Err(StartFault::CannotWrite),
     }
 }
 
@@ -970,7 +970,7 @@ fn tell<R: Runtime + AllocGlobal>(
     rt: &R,
     plan: &Plan<'_>,
     domain: &Domain,
-    recorded: Result<(), Hindrance>,
+    recorded: Result<(), StartFault>,
 ) -> Result<(), Fault<'static>>
     ensures { IfErr result (IsFaultOfServing plan.now) }
 {
@@ -1030,7 +1030,7 @@ fn write_record<'a, R, Q, B>(
     run: &Running<'a, R>,
     shared: &Shared<Q, B>,
     record: &mut Option<RecordFile<'_>>,
-) -> Result<(), Hindrance>
+) -> Result<(), StartFault>
 where
     R: AllocGlobal + Clock + Eprint,
     Q: Wait,
@@ -1042,8 +1042,8 @@ where
     let mut text = Vec::new(run.rt.alloc());
     match shared.transcript(&mut text) {
         Ok(_steps) if file.write(run.notices, &text) => Ok(()),
-        Ok(_steps) => Err(Hindrance::CannotWrite),
-        Err(_) => Err(Hindrance::NoMemory),
+        Ok(_steps) => Err(StartFault::CannotWrite),
+        Err(_) => Err(StartFault::NoMemory),
     }
 }
 
@@ -1053,11 +1053,11 @@ fn open_sinks<'a, R: AllocGlobal + Clock + Eprint + Net + Dial + Files<File = Fi
     run: &Running<'a, R>,
     domain: u64,
     count: usize,
-) -> Result<Vec<DaemonSink<'a, UnixNet<'a, R>>>, Hindrance>
+) -> Result<Vec<DaemonSink<'a, UnixNet<'a, R>>>, StartFault>
     ensures { IfOk result (λ v. vec_len v ≡ count) }
 {
     let Ok(mut sinks) = Vec::with_capacity(run.rt.alloc(), count) else {
-        return Err(Hindrance::NoMemory);
+        return Err(StartFault::NoMemory);
     };
     for at in 0..count {
         let reset = if at == 0 { Some(domain) } else { None };
@@ -1065,11 +1065,11 @@ fn open_sinks<'a, R: AllocGlobal + Clock + Eprint + Net + Dial + Files<File = Fi
             run.rt,
             run.notices,
             run.net,
-            run.signals.hurry(),
+            run.signals.stop_deadline(),
             run.place,
             reset,
         ) else {
-            return Err(Hindrance::CannotOpenSink);
+            return Err(StartFault::CannotOpenSink);
         };
         let Ok(()) = sinks.push(sink) else {
             unreachable!();

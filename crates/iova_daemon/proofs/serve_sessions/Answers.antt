@@ -8,12 +8,12 @@ use Rattle.iova_daemon.proofs.serve_sessions.Goals as goal
 pub serve_kept-served-requires-sync-W : goal.serve_kept-served-requires-sync-W
 serve_kept-served-requires-sync-W g c κs within =
     let domain = c.domains_are_sync.ensures in
-    let roster = c.rosters_are_sync.ensures in
+    let daemon_state = c.daemon_states_are_sync.ensures in
     let pool = c.pools_are_sync.ensures in
     let runtime = c.type_bounds.sync-R in
     let notices = c.type_bounds.sync-N in
     let accept = c.type_bounds.sync-A in
-    let aside = c.type_bounds.sync-X in
+    let control_task = c.type_bounds.sync-X in
     search (WorkerContext-sync, shr_sync, sendable) depth 20
 
 -- all that was counted is within what sinks were given: the flusher's is the last of them

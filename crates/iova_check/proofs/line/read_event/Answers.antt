@@ -5,14 +5,14 @@ use Rattle.iova_text.specs.Words.{spaced_words}
 use Rattle.iova_text.proofs.Cuts.{stops-spaced_words}
 use Rattle.iova_check.specs.declared.event.Event.{Event}
 use Rattle.iova_check.specs.declared.event.Event.TheVariants as event
-use Rattle.iova_check.specs.declared.line.Verb.{Verb}
-use Rattle.iova_check.specs.declared.line.Verb.TheVariants as verb
+use Rattle.iova_check.specs.declared.line.LogVerb.{LogVerb}
+use Rattle.iova_check.specs.declared.line.LogVerb.TheVariants as verb
 use Rattle.iova_check.specs.Text.{verb_text, outcome_text, range_words, scope_words, event_text, IsEvent}
 use Rattle.iova_check.proofs.line.read_event.Goals as goal
 
 -- a line of whose first word none of the verbs is the text says no event
 unread : (line word rest : List ℕ) → ((w r : List ℕ) → list_all is_not_space w ≡ true → stops is_not_space r ≡ true → line ≡ w ++ r → (word ≡ w) × (rest ≡ r))
-    → ((v : Verb) → word ≡ verb_text v → ⊥) → (e : Event) → IsEvent e → line ≡ event_text e → ⊥
+    → ((v : LogVerb) → word ≡ verb_text v → ⊥) → (e : Event) → IsEvent e → line ≡ event_text e → ⊥
 unread line word rest read none (event.Map r) is e = none verb.Map (read (codes "map") (spaced_words (range_words r)) refl (stops-spaced_words (range_words r)) e).0
 unread line word rest read none (event.Unmap r) is e = none verb.Unmap (read (codes "unmap") (spaced_words (range_words r)) refl (stops-spaced_words (range_words r)) e).0
 unread line word rest read none (event.Use r) is e = none verb.Use (read (codes "use") (spaced_words (range_words r)) refl (stops-spaced_words (range_words r)) e).0

@@ -2,7 +2,7 @@ use Rattle.std.proofs.Common.{ℕ, List, Option, subst}
 use Rattle.std.proofs.Math.Path.{fun_ext}
 use Rattle.iova_check.specs.declared.event.Event.{Event}
 use Rattle.iova_check.specs.declared.stage.Stage.{Stage}
-use Rattle.iova_check.specs.declared.stage.Flight.{Flight}
+use Rattle.iova_check.specs.declared.stage.OpenFlush.{OpenFlush}
 use Rattle.iova_check.specs.declared.finding.Finding.{Finding}
 use Rattle.iova_check.specs.Bounds.{Bounds}
 use Rattle.iova_check.specs.declared.tracker.Tracker.{Tracker}
@@ -20,7 +20,7 @@ followed : (past : List Event) (t : Tracker) (bounds : Bounds) (e : Event) (fs :
     → AreFindings bounds (stage_at t.stages) (get nat_cmp t.flights) e fs → AreFindings bounds (stage_of past) (flight_of past) e fs
 followed past t bounds e fs follows h =
     let P : (ℕ → Stage) → Type 0 = λ at. AreFindings bounds at (get nat_cmp t.flights) e fs in
-    let Q : (ℕ → Option Flight) → Type 0 = λ flights. AreFindings bounds (stage_of past) flights e fs in
+    let Q : (ℕ → Option OpenFlush) → Type 0 = λ flights. AreFindings bounds (stage_of past) flights e fs in
     subst Q (fun_ext follows.flights) (subst P (fun_ext follows.stages) h)
 
 pub returns-clause-told : goal.returns-clause-told

@@ -4,7 +4,7 @@ use Rattle.iova_daemon.proofs.threads.start_all.Given as goal
 
 abbrev pub invariant-loop-place : goal.invariant-loop-place
 invariant-loop-place g l =
-    (map (λ h. g.P.Place.seat h.promise.place.value) l.started.items ≡ map g.P.Place.seat l.yielded)
+    (map (λ h. g.P.WorkerPlace.seat h.promise.place.value) l.started.items ≡ map g.P.WorkerPlace.seat l.yielded)
     × (map (λ h. g.D.Sink.calls h.promise.sink.value) l.started.items
     ++ map g.D.Sink.calls (into_iter_items l.sinks) ≡ map g.D.Sink.calls l.fn.sinks.items)
     × (vec_len l.started + into_iter_len l.place-iterator ≡ vec_len l.fn.places)

@@ -36,29 +36,29 @@ put_below-returns-then-not-is_empty-2-clause-known t c =
     let e = c.settled_above.ensures in
     keeps_right c.args.node.now c.args.room c.room-before-then-not-is_empty-2.result c.requires.balanced c.requires.room c.put-then-not-is_empty-2.new.self c.height-height-then-not-is_empty-2.result c.first_or-first.result c.settled_above.result g.balanced c.height-height-then-not-is_empty-2.ensures.is c.first_or-first.ensures c.room-before-then-not-is_empty-2.ensures e.height e.first e.room
 
-pub put_below-put_here-requires-clause-above_left : goal.put_below-put_here-requires-clause-above_left
-put_below-put_here-requires-clause-above_left t c =
+pub put_below-put_in_block-requires-clause-above_left : goal.put_below-put_in_block-requires-clause-above_left
+put_below-put_in_block-requires-clause-above_left t c =
     elim c.else-lo-first.branch [
       | put_below-else-lo-first-via-then-lo-first+else-not-is_empty w ↦ low_none c.args.span c.args.node.now (w.is_empty.ensures.nothing w.if-not-is_empty.false)
       | put_below-else-lo-first-via-else-lo-first w ↦ low_left c.args.span c.args.node.now (grind (arith, c.lo.ensures, c.first.ensures)) c.requires.balanced
     ]
 
-pub put_below-put_here-requires-clause-below_right : goal.put_below-put_here-requires-clause-below_right
-put_below-put_here-requires-clause-below_right t c =
+pub put_below-put_in_block-requires-clause-below_right : goal.put_below-put_in_block-requires-clause-below_right
+put_below-put_in_block-requires-clause-below_right t c =
     elim c.else-lo-end.branch [
       | put_below-else-lo-end-via-then-lo-end+else-not-is_empty-2 w ↦ high_none c.args.span c.args.node.now (w.is_empty-then-lo-end.ensures.nothing w.if-not-is_empty-2.false)
       | put_below-else-lo-end-via-else-lo-end w ↦ high_right c.args.span c.args.node.now (grind (arith, c.lo-2.ensures, c.end.ensures)) c.requires.balanced
     ]
 
-pub put_below-split_here-requires-clause-above_left : goal.put_below-split_here-requires-clause-above_left
-put_below-split_here-requires-clause-above_left t c =
+pub put_below-split_block-requires-clause-above_left : goal.put_below-split_block-requires-clause-above_left
+put_below-split_block-requires-clause-above_left t c =
     elim c.else-lo-first.branch [
       | put_below-else-lo-first-via-then-lo-first+else-not-is_empty w ↦ low_none c.args.span c.args.node.now (w.is_empty.ensures.nothing w.if-not-is_empty.false)
       | put_below-else-lo-first-via-else-lo-first w ↦ low_left c.args.span c.args.node.now (grind (arith, c.lo.ensures, c.first.ensures)) c.requires.balanced
     ]
 
-pub put_below-split_here-requires-clause-below_right : goal.put_below-split_here-requires-clause-below_right
-put_below-split_here-requires-clause-below_right t c =
+pub put_below-split_block-requires-clause-below_right : goal.put_below-split_block-requires-clause-below_right
+put_below-split_block-requires-clause-below_right t c =
     elim c.else-lo-end.branch [
       | put_below-else-lo-end-via-then-lo-end+else-not-is_empty-2 w ↦ high_none c.args.span c.args.node.now (w.is_empty-then-lo-end.ensures.nothing w.if-not-is_empty-2.false)
       | put_below-else-lo-end-via-else-lo-end w ↦ high_right c.args.span c.args.node.now (grind (arith, c.lo-2.ensures, c.end.ensures)) c.requires.balanced

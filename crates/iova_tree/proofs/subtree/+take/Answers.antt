@@ -28,12 +28,12 @@ take_below-take-gone-requires-2 t c =
     let n = c.args.node.now in
     (grind (arith, c.requires.balanced.some), (held_right c.args.lo n (grind (arith, c.end.ensures)) c.requires.balanced c.requires.held, grind arith))
 
-pub take_below-take_here-requires-clause-held : goal.take_below-take_here-requires-clause-held
-take_below-take_here-requires-clause-held t c =
+pub take_below-take_from_block-requires-clause-held : goal.take_below-take_from_block-requires-clause-held
+take_below-take_from_block-requires-clause-held t c =
     held_here c.args.lo c.args.node.now (grind (arith, c.first.ensures)) (grind (arith, c.end.ensures)) c.requires.balanced c.requires.held
 
-pub take_below-take_here-requires-clause-others : goal.take_below-take_here-requires-clause-others
-take_below-take_here-requires-clause-others t c =
+pub take_below-take_from_block-requires-clause-others : goal.take_below-take_from_block-requires-clause-others
+take_below-take_from_block-requires-clause-others t c =
     c.requires.others (held_here c.args.lo c.args.node.now (grind (arith, c.first.ensures)) (grind (arith, c.end.ensures)) c.requires.balanced c.requires.held)
 
 pub take_below-returns-then-lo-first-clause-taken : goal.take_below-returns-then-lo-first-clause-taken

@@ -1,7 +1,7 @@
 use Rattle.std.proofs.Common.{◌≡◌, ◌∙◌, true, arith}
 use Rattle.iova_tree.proofs.Spans.{length-with}
 use Rattle.iova_tree.proofs.Placed.{free_here, places_here, keeps_here}
-use Rattle.iova_tree.proofs.subtree.put_here.Goals as goal
+use Rattle.iova_tree.proofs.subtree.put_in_block.Goals as goal
 
 pub insert-requires-clause-free : goal.insert-requires-clause-free
 insert-requires-clause-free c = free_here c.args.span c.args.node.now c.requires.balanced c.requires.above_left c.requires.below_right c.requires.free

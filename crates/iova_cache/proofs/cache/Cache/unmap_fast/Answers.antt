@@ -1,5 +1,5 @@
 use Rattle.iova_cache.proofs.Orders.{is_cached, sizes_lost}
-use Rattle.iova_cache.proofs.cache.Cache.unmap_at_once.Goals as goal
+use Rattle.iova_cache.proofs.cache.Cache.unmap_fast.Goals as goal
 
 pub add-requires-clause-cached : goal.add-requires-clause-cached
 add-requires-clause-cached c =

@@ -1,6 +1,6 @@
 use Rattle.iova_cache.proofs.Orders.{even_power, sizes_gained}
 use Rattle.iova_cache.proofs.Stacks.{not_none}
-use Rattle.iova_cache.proofs.cache.Cache.get_at_once.Goals as goal
+use Rattle.iova_cache.proofs.cache.Cache.get_fast.Goals as goal
 
 pub drop_newest-requires-clause-some : goal.drop_newest-requires-clause-some
 drop_newest-requires-clause-some c = not_none _ c.in_ok-range.range c.in_ok-range.ensures.newest

@@ -1,8 +1,8 @@
-//! What the threads of a daemon share beside its domain and the pool of its slots.
+//! What the threads of a daemon share beside its domain and the pool of its session threads.
 ghost use Rattle.std.specs.Prelude.{◌≡◌};
 
 use crate::Serving;
-use iova_links::aside::{Figures, Standing};
+use iova_links::control_task::{DaemonMetrics, MetricsSource};
 use iova_links::pause::milliseconds;
 use iova_model::step::ClientId;
 use iova_range::limits::MAX_WORKERS;
@@ -13,10 +13,10 @@ use std::rt::Clock;
 use std::sync::atomic::{AtomicBool, AtomicU64, Ordering};
 use std::sync::{Mutex, Wait};
 
-/// The gate that slots wait at until all are started, what is served, the next session's number,
-/// how many sessions had their accept, who waits, and how many slots have ended.
+/// The gate that session threads wait at until all are started, what is served, the next session's
+/// number, how many sessions had their accept, who waits, and how many session threads have ended.
 #[derive(Drop)]
-pub(crate) struct Roster {
+pub(crate) struct DaemonState {
     /// Held while threads are started; then whether all were, so that none accepts a link where one
     /// couldn't be.
     pub gate: Mutex<bool>,
@@ -27,28 +27,28 @@ pub(crate) struct Roster {
     full: AtomicU64,
     /// By worker: how many sessions it serves.
     sessions: [AtomicU64; MAX_WORKERS as usize],
-    /// By worker: whether one of its slots tries its waiting clients.
+    /// By worker: whether one of its session threads tries its waiting clients.
     trying: [AtomicBool; MAX_WORKERS as usize],
     waiting: AtomicU64,
     noted: Mutex<Vec<Noted>>,
-    slots: u64,
+    threads: u64,
     begun: AtomicU64,
     ended: AtomicU64,
     /// When the flusher began its last round that ended well, in milliseconds of the clock.
     round: AtomicU64,
 }
 
-/// A client that waits, and the slot that has it.
+/// A client that waits, and the session thread that has it.
 #[derive(Clone, Copy)]
 struct Noted {
-    slot: u64,
+    thread: u64,
     client: ClientId,
 }
 
-impl Roster {
-    /// These sessions, none of which is begun, for so many slots, and a closed gate.
-    pub(crate) fn new(alloc: Global, serving: Serving, slots: u64) -> Roster {
-        Roster {
+impl DaemonState {
+    /// These sessions, none of which is begun, for so many session threads, and a closed gate.
+    pub(crate) fn new(alloc: Global, serving: Serving, threads: u64) -> DaemonState {
+        DaemonState {
             gate: Mutex::new(false),
             serving,
             next: AtomicU64::new(0),
@@ -59,7 +59,7 @@ impl Roster {
             trying: array::from_fn(|_worker| AtomicBool::new(false)),
             waiting: AtomicU64::new(0),
             noted: Mutex::new(Vec::new(alloc)),
-            slots,
+            threads,
             begun: AtomicU64::new(0),
             ended: AtomicU64::new(0),
             round: AtomicU64::new(0),
@@ -118,8 +118,8 @@ impl Roster {
         self.served.fetch_sub(1, Ordering::SeqCst);
     }
 
-    /// A slot of this worker is to try its waiting clients. Whether it may: it may not while
-    /// another one does.
+    /// A session thread of this worker is to try its waiting clients. Whether it may: it may not
+    /// while another one does.
     pub(crate) fn begin_trying(&self, worker: u64) -> bool {
         match self.trying.get(worker as usize) {
             Some(trying) => !trying.swap(true, Ordering::SeqCst),
@@ -127,28 +127,28 @@ impl Roster {
         }
     }
 
-    /// The slot that might try has done so.
+    /// The session thread that might try has done so.
     pub(crate) fn end_trying(&self, worker: u64) {
         if let Some(trying) = self.trying.get(worker as usize) {
             trying.store(false, Ordering::SeqCst);
         }
     }
 
-    /// A slot begins: its number.
+    /// A session thread begins: its number.
     pub(crate) fn begin(&self) -> u64 {
         self.begun.fetch_add(1, Ordering::SeqCst)
     }
 
-    /// These clients of the slot wait now, and not as many as before. Where memory is refused it
-    /// isn't noted which.
-    pub(crate) fn wait_for<R: Wait>(&self, rt: &R, slot: u64, before: u64, now: &[ClientId]) {
+    /// These clients of the session thread wait now, and not as many as before. Where memory is
+    /// refused it isn't noted which.
+    pub(crate) fn wait_for<R: Wait>(&self, rt: &R, thread: u64, before: u64, now: &[ClientId]) {
         self.waiting.fetch_add(now.len() as u64, Ordering::SeqCst);
         self.waiting.fetch_sub(before, Ordering::SeqCst);
         let mut noted = self.noted.lock(rt);
-        note_all(&mut noted, slot, now);
+        note_all(&mut noted, thread, now);
     }
 
-    /// A slot has ended.
+    /// A session thread has ended.
     pub(crate) fn end(&self) {
         self.ended.fetch_add(1, Ordering::SeqCst);
     }
@@ -161,22 +161,22 @@ impl Roster {
         }
     }
 
-    /// Whether all slots have ended.
+    /// Whether all session threads have ended.
     pub(crate) fn have_ended(&self) -> bool {
-        self.ended.load(Ordering::SeqCst) >= self.slots
+        self.ended.load(Ordering::SeqCst) >= self.threads
     }
 }
 
-/// Puts these clients of the slot in place of those that were noted. None of them where memory is
-/// refused.
-fn note_all(noted: &mut Vec<Noted>, slot: u64, clients: &[ClientId]) {
-    noted.retain(|note| note.slot != slot);
+/// Puts these clients of the session thread in place of those that were noted. None of them where
+/// memory is refused.
+fn note_all(noted: &mut Vec<Noted>, thread: u64, clients: &[ClientId]) {
+    noted.retain(|note| note.thread != thread);
     if noted.try_reserve(clients.len()).is_err() {
         return;
     }
     for client in clients {
         let _ = noted.push(Noted {
-            slot,
+            thread,
             client: *client,
         });
     }
@@ -184,33 +184,33 @@ fn note_all(noted: &mut Vec<Noted>, slot: u64, clients: &[ClientId]) {
 
 /// The metrics of a daemon that serves.
 #[derive(Drop)]
-pub(crate) struct Stands<'a, R> {
+pub(crate) struct LiveMetrics<'a, R> {
     pub rt: &'a R,
-    pub roster: &'a Roster,
+    pub daemon_state: &'a DaemonState,
 }
 
-impl<'a, R: Wait + Clock> Standing for Stands<'a, R> {
-    fn figures(&self) -> Figures {
-        let round = self.roster.round.load(Ordering::SeqCst);
+impl<'a, R: Wait + Clock> MetricsSource for LiveMetrics<'a, R> {
+    fn metrics(&self) -> DaemonMetrics {
+        let round = self.daemon_state.round.load(Ordering::SeqCst);
         let now = milliseconds(self.rt).unwrap_or(round);
-        Figures {
-            served: self.roster.served.load(Ordering::SeqCst),
-            accepted: self.roster.met.load(Ordering::SeqCst),
-            waiting: self.roster.waiting.load(Ordering::SeqCst),
-            full: self.roster.full.load(Ordering::SeqCst),
+        DaemonMetrics {
+            served: self.daemon_state.served.load(Ordering::SeqCst),
+            accepted: self.daemon_state.met.load(Ordering::SeqCst),
+            waiting: self.daemon_state.waiting.load(Ordering::SeqCst),
+            full: self.daemon_state.full.load(Ordering::SeqCst),
             since_round: now.saturating_sub(round),
         }
     }
 
     fn sessions(&self, worker: u64) -> u64 {
-        match self.roster.sessions.get(worker as usize) {
+        match self.daemon_state.sessions.get(worker as usize) {
             Some(sessions) => sessions.load(Ordering::SeqCst),
             None => 0,
         }
     }
 
     fn waits(&self, client: ClientId) -> bool {
-        let noted = self.roster.noted.lock(self.rt);
+        let noted = self.daemon_state.noted.lock(self.rt);
         for note in noted.iter() {
             if note.client == client {
                 return true;

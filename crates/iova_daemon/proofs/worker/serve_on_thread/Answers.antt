@@ -1,7 +1,7 @@
 use Rattle.std.proofs.Common.{◌∙◌, refl}
-use Rattle.iova_daemon.specs.Slots.{nothing}
-use Rattle.iova_daemon.proofs.Slots.{keeps_same, keeps_more, then_tried, then_served}
-use Rattle.iova_daemon.proofs.worker.serve_slot.Goals as goal
+use Rattle.iova_daemon.specs.SessionThreads.{nothing}
+use Rattle.iova_daemon.proofs.SessionThreads.{keeps_same, keeps_more, then_tried, then_served}
+use Rattle.iova_daemon.proofs.worker.serve_on_thread.Goals as goal
 
 pub turns-init : goal.turns-init
 turns-init g c = record { place = keeps_same _ _; same = refl; turns = nothing _ }

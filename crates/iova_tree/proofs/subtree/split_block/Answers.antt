@@ -1,6 +1,6 @@
 use Rattle.std.proofs.Common.{sym}
 use Rattle.iova_tree.proofs.Placed.{free_here, free_split, places_split}
-use Rattle.iova_tree.proofs.subtree.split_here.Goals as goal
+use Rattle.iova_tree.proofs.subtree.split_block.Goals as goal
 
 pub split-requires-clause-free : goal.split-requires-clause-free
 split-requires-clause-free c = free_here c.args.span c.args.node.now c.requires.balanced c.requires.above_left c.requires.below_right c.requires.free

@@ -5,15 +5,15 @@ use std::sync::atomic::{AtomicBool, Ordering};
 /// without an answer in time has all later ones of each channel fail at once: so an end takes no
 /// more than two time limits, however many calls are left. Threads share it.
 #[derive(Drop)]
-pub struct Hurry {
+pub struct StopDeadline {
     is_ending: AtomicBool,
     is_over: AtomicBool,
 }
 
-impl Hurry {
+impl StopDeadline {
     /// No end has begun.
-    pub fn new() -> Hurry {
-        Hurry {
+    pub fn new() -> StopDeadline {
+        StopDeadline {
             is_ending: AtomicBool::new(false),
             is_over: AtomicBool::new(false),
         }

@@ -1,4 +1,5 @@
--- What a slot does at its post: sessions, one after another, and tries of its waiting clients.
+-- What a session thread does at its post: sessions, one after another, and tries of its waiting
+-- clients.
 use Rattle.std.specs.Prelude.{ℕ, ◌≡◌, ◌+◌, ◌⊎◌, Bool, List, Option, None}
 use Rattle.std.specs.Io.KnownBytes.{Appends, Consumes}
 use Rattle.iova_keep.specs.Views.{WhereKnown}
@@ -43,12 +44,12 @@ IsTried number a b = (b ≡ a) ⊎ TriesAgain number a b
 
 -- Nothing but these leads from a to b: tries of the clients that wait, and sessions, each over a
 -- link of its own.
-pub data ServesAtSlot {L : Type 0} (left sent : L → Option (List ℕ)) (reads : L → ℕ)
+pub data ServesOnThread {L : Type 0} (left sent : L → Option (List ℕ)) (reads : L → ℕ)
     (limits : SessionLimits) (strict : Bool) (number : ℕ) : Between → Between → Type 0 where
-  nothing : (a : Between) → ServesAtSlot left sent reads limits strict number a a
-  tries : (a b c : Between) → ServesAtSlot left sent reads limits strict number a b
-      → IsTried number b c → ServesAtSlot left sent reads limits strict number a c
+  nothing : (a : Between) → ServesOnThread left sent reads limits strict number a a
+  tries : (a b c : Between) → ServesOnThread left sent reads limits strict number a b
+      → IsTried number b c → ServesOnThread left sent reads limits strict number a c
   serves : (a b c : Between) (link : L)
-      → ServesAtSlot left sent reads limits strict number a b
+      → ServesOnThread left sent reads limits strict number a b
       → ServesSession left sent reads limits strict number link b c
-      → ServesAtSlot left sent reads limits strict number a c
+      → ServesOnThread left sent reads limits strict number a c

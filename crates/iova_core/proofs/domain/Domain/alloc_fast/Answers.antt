@@ -7,7 +7,7 @@ use Rattle.iova_core.specs.declared.walk.Walked.TheVariants as found
 use Rattle.iova_core.proofs.Outcomes.{refuses_ok, refuses_err, looked_up, looked_up_sac}
 use Rattle.iova_core.proofs.Queues.{domain_backed}
 use Rattle.iova_core.proofs.Allocs.{asked_from, starved_state, alloc_is, walked_state, domain_walked, found_low, found_new, given_state, domain_given}
-use Rattle.iova_core.proofs.domain.Domain.alloc_here.Goals as goal
+use Rattle.iova_core.proofs.domain.Domain.alloc_fast.Goals as goal
 
 pub walk-requires-clause-backed : goal.walk-requires-clause-backed
 walk-requires-clause-backed c =

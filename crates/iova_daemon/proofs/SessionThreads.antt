@@ -1,10 +1,10 @@
--- What a slot does, one turn more.
+-- What a session thread does, one turn more.
 use Rattle.std.proofs.Common.{ℕ, ◌≡◌, ◌∙◌, ◌+◌, ◌≤◌, List, Option, refl, subst, arith}
 use Rattle.iova_sink.specs.Calls.{Call, good_calls}
 use Rattle.iova_keep.specs.Views.{Identity, SeatState, KeepsPlace}
 use Rattle.iova_session.specs.declared.session_limits.SessionLimits.{SessionLimits}
 use Rattle.iova_session.specs.OneByOne.{Between}
-use Rattle.iova_daemon.specs.Slots.{ServesAtSlot, tries, serves, ServesSession, IsTried}
+use Rattle.iova_daemon.specs.SessionThreads.{ServesOnThread, tries, serves, ServesSession, IsTried}
 
 -- a place that nothing was done at
 pub keeps_same : (s : SeatState) (calls : List Call) → KeepsPlace s s calls calls
@@ -20,14 +20,14 @@ keeps_more s t u c d e one more =
 
 -- a try more
 pub then_tried : {L : Type 0} (left sent : L → Option (List ℕ)) (reads : L → ℕ) (limits : SessionLimits) (k now : Identity) (a b c : Between)
-    → ServesAtSlot left sent reads limits k.strict k.number a b → now ≡ k → IsTried now.number b c
-    → ServesAtSlot left sent reads limits k.strict k.number a c
+    → ServesOnThread left sent reads limits k.strict k.number a b → now ≡ k → IsTried now.number b c
+    → ServesOnThread left sent reads limits k.strict k.number a c
 then_tried left sent reads limits k now a b c before same tried =
     tries a b c before (subst (λ i. IsTried i.number b c) same tried)
 
 -- a session more
 pub then_served : {L : Type 0} (left sent : L → Option (List ℕ)) (reads : L → ℕ) (limits : SessionLimits) (k now : Identity) (a b c : Between) (link : L)
-    → ServesAtSlot left sent reads limits k.strict k.number a b → now ≡ k → ServesSession left sent reads limits now.strict now.number link b c
-    → ServesAtSlot left sent reads limits k.strict k.number a c
+    → ServesOnThread left sent reads limits k.strict k.number a b → now ≡ k → ServesSession left sent reads limits now.strict now.number link b c
+    → ServesOnThread left sent reads limits k.strict k.number a c
 then_served left sent reads limits k now a b c link before same served =
     serves a b c link before (subst (λ i. ServesSession left sent reads limits i.strict i.number link b c) same served)

@@ -2,7 +2,7 @@ use Rattle.std.proofs.Common.{◌≡◌, ◌∙◌, true, arith}
 use Rattle.iova_tree.proofs.Spans.{length-with}
 use Rattle.iova_tree.proofs.Placed.{keeps_here}
 use Rattle.iova_tree.proofs.Taken.{takes_here}
-use Rattle.iova_tree.proofs.subtree.take_here.Goals as goal
+use Rattle.iova_tree.proofs.subtree.take_from_block.Goals as goal
 
 pub settled_within-requires : goal.settled_within-requires
 settled_within-requires c =

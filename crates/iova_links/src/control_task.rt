@@ -4,7 +4,7 @@ use iova_model::step::ClientId;
 
 /// The numbers of a daemon, but for its domain.
 #[derive(Clone, Copy, Debug, PartialEq, Eq)]
-pub struct Figures {
+pub struct DaemonMetrics {
     /// How many sessions are served now.
     pub served: u64,
     /// How many had their accept, these among them.
@@ -19,9 +19,9 @@ pub struct Figures {
 }
 
 /// Where the metrics of a daemon come from.
-pub trait Standing {
+pub trait MetricsSource {
     /// Its numbers now.
-    fn figures(&self) -> Figures;
+    fn metrics(&self) -> DaemonMetrics;
 
     /// How many sessions of this worker are served now.
     fn sessions(&self, worker: u64) -> u64;
@@ -30,24 +30,24 @@ pub trait Standing {
     fn waits(&self, client: ClientId) -> bool;
 }
 
-/// What the control socket's thread does, from the start of the first session to the end of the last
-/// one.
-pub trait Aside {
+/// What the control socket's thread does, from the start of the first session to the end of the
+/// last one.
+pub trait ControlTask {
     /// Whether there is anything to do: else no thread is started.
     fn is_wanted(&self) -> bool;
 
     /// Does what there is to do, and waits for it no longer than a part of a second.
-    fn turn<K: Look, T: Standing>(&self, domain: &K, standing: &T);
+    fn turn<K: Look, T: MetricsSource>(&self, domain: &K, source: &T);
 }
 
 /// Nothing.
 #[derive(Clone, Copy, Debug)]
-pub struct NothingAside;
+pub struct NoControlTask;
 
-impl Aside for NothingAside {
+impl ControlTask for NoControlTask {
     fn is_wanted(&self) -> bool {
         false
     }
 
-    fn turn<K: Look, T: Standing>(&self, _domain: &K, _standing: &T) {}
+    fn turn<K: Look, T: MetricsSource>(&self, _domain: &K, _source: &T) {}
 }

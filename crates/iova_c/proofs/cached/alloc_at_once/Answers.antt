@@ -1,6 +1,0 @@
-use Rattle.iova_c.proofs.AtOnce.{met_call}
-use Rattle.iova_c.proofs.cached.alloc_at_once.Goals as goal
-
-pub returns-in-Some-clause-met : goal.returns-in-Some-clause-met
-returns-in-Some-clause-met c =
-    rw c.in-Some.is (met_call c.alloc_at_once.result c.in-Some.cached c.alloc_at_once.new.self c.args.frames c.args.limit c.alloc_at_once.ensures.met)
