@@ -241,6 +241,18 @@ class Daemon:
         """Waits until the socket listens, without a session."""
         until(self.listens, "the daemon never listened")
 
+    def await_threads(self):
+        """Waits until each thread of the daemon, which listens, sleeps: all of them have come to where they wait."""
+        self.await_socket()
+        until(lambda: all(state == "S" for state in self.thread_states()), "the daemon's threads never waited")
+
+    def thread_states(self):
+        found = []
+        for thread in os.listdir(f"/proc/{self.process.pid}/task"):
+            with open(f"/proc/{self.process.pid}/task/{thread}/stat", encoding="ascii") as file:
+                found.append(file.read().rpartition(")")[2].split()[0])
+        return found
+
     def listens(self):
         holds(self.process.poll() is None, "the daemon ended")
         return listens(self.socket)
