@@ -8,9 +8,9 @@ use Rattle.iova_lock.specs.contracts.shared.Shared as domains
 use Rattle.iova_daemon.specs.contracts.worker.WorkerContext as contexts
 
 -- it may be shared where all that it has may
-pub WorkerContext-sync : (R N K A T H X : RattleType) → IsSync R → IsSync N → IsSync K → IsSync A
-    → IsSync T → IsSync H → IsSync X → IsSync (contexts.the_row R N K A T H X)
-WorkerContext-sync R N K A T H X r n k a t h x = search (crosses, sendable) depth 20
+pub WorkerContext-sync : (R N K A T H : RattleType) → IsSync R → IsSync N → IsSync K → IsSync A
+    → IsSync T → IsSync H → IsSync (contexts.the_row R N K A T H)
+WorkerContext-sync R N K A T H r n k a t h = search (crosses, sendable) depth 20
 
 -- a domain under its lock may be shared where its book may go to another thread
 pub Shared-sync : (Q B : RattleType) (b : Ghosts B.Denot) → IsSync Q → IsSend (books.the_row B b)

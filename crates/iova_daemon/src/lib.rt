@@ -23,7 +23,7 @@ use iova_keep::keep::Keep;
 use iova_keep::names::Names;
 use iova_keep::seat::Tally;
 use iova_links::accept::Accept;
-use iova_links::control_task::{ControlTask, NoControlTask};
+use iova_links::control_task::{ControlTask, NoControlTask, WithControl};
 use iova_links::noting::NotingSink;
 use iova_links::pause::Pause;
 use iova_lock::shared::Shared;
@@ -83,7 +83,7 @@ pub struct Serving {
 
 /// What a service is lent, and what it serves.
 #[derive(Drop)]
-pub struct Service<'a, R, N, X> {
+pub struct Service<'a, R, N> {
     /// The runtime.
     pub rt: &'a R,
     /// Where memory comes from.
@@ -92,8 +92,6 @@ pub struct Service<'a, R, N, X> {
     pub notices: &'a N,
     /// What is served.
     pub serving: Serving,
-    /// What is done aside.
-    pub control_task: &'a X,
 }
 
 /// Serves so many sessions on the domain, each within the usual limits: see `serve_sessions`.
@@ -136,10 +134,10 @@ where
             clients: posts.len() as u64,
             limits: SessionLimits::usual(),
         },
-        control_task: &NoControlTask,
     };
-    let served = serve_sessions::<R, Q, N, B, L, A, D, P, NoControlTask>(
-        &service, shared, posts, sinks, accept, pause,
+    let accept = WithControl::new(accept, &NoControlTask);
+    let served = serve_sessions::<R, Q, N, B, L, WithControl<'_, A, NoControlTask>, D, P>(
+        &service, shared, posts, sinks, &accept, pause,
     );
     match served {
         Ok(
@@ -174,7 +172,7 @@ where
 /// link keeps the number; one that fails uses it up. Once each session had its accept, no more are
 /// accepted (`close`). Session threads stop once no number is left, and also once no link is to
 /// come any more (`has_ended`): then each tries its waiting clients a last time. What is to be done
-/// `control_task` has a thread of its own.
+/// beside them (`ControlTask`) has a thread of its own.
 ///
 /// The flusher repeats: it pauses, and stops where the pause says so or all session threads have
 /// ended; else it makes a round (`timeout`). At a busy domain it takes looks in place of the pause
@@ -186,8 +184,8 @@ where
 ///
 /// Refused by `LinkFault` where a thread can't be started: then no link has been accepted, and
 /// those that were started are joined. Refused by `NoMemory` before the first one is started.
-pub fn serve_sessions<R, Q, N, B, L, A, D, P, X>(
-    service: &Service<'_, R, N, X>,
+pub fn serve_sessions<R, Q, N, B, L, A, D, P>(
+    service: &Service<'_, R, N>,
     shared: Shared<Q, B>,
     posts: Vec<Post<B>>,
     sinks: Vec<D>,
@@ -200,10 +198,9 @@ where
     N: Log + Sync,
     B: Names + Send + Sync,
     L: Link + Send + Drop,
-    A: Accept<L> + Sync,
+    A: Accept<L> + ControlTask + Sync,
     D: Sink + Send + Drop,
     P: Pause + Drop,
-    X: ControlTask + Sync,
     requires some { 1 ≤ vec_len posts }
     requires sinks { vec_len sinks ≡ vec_len posts + 1 }
     requires parts { ForSome (slice_get posts.items 0) (λ p. 2 ≤ p.seat.tally.parts) }
@@ -235,17 +232,15 @@ where
         accept,
         daemon_state: &daemon_state,
         pool: &pool,
-        control_task: service.control_task,
     };
     let served = serve_kept::<
         R,
         N,
         B,
         &Shared<Q, B>,
-        WorkerContext<&R, &N, &Shared<Q, B>, &A, &DaemonState, &Pool<L>, &X>,
+        WorkerContext<&R, &N, &Shared<Q, B>, &A, &DaemonState, &Pool<L>>,
         D,
         P,
-        X,
     >(service, &shared, &context, posts, sinks, sink, pause);
     match served {
         Ok(
@@ -270,8 +265,8 @@ where
 
 /// Serves at the posts with what their threads are lent and given, and flushes beside them with
 /// this sink: gives all of them back.
-fn serve_kept<R, N, B, K, W, D, P, X>(
-    service: &Service<'_, R, N, X>,
+fn serve_kept<R, N, B, K, W, D, P>(
+    service: &Service<'_, R, N>,
     keeper: K,
     context: &W,
     posts: Vec<Post<B>>,

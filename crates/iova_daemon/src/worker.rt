@@ -38,7 +38,7 @@ impl<B: Names> WorkerPlace for Post<B> {
 /// What every session thread is lent: references, and a keeper of the domain. Each is a parameter,
 /// so that one short law says that threads may share it where they may share each of them.
 #[derive(Drop)]
-pub(crate) struct WorkerContext<R, N, K, A, T, H, X> {
+pub(crate) struct WorkerContext<R, N, K, A, T, H> {
     pub rt: R,
     pub alloc: Global,
     pub notices: N,
@@ -46,20 +46,18 @@ pub(crate) struct WorkerContext<R, N, K, A, T, H, X> {
     pub accept: A,
     pub daemon_state: T,
     pub pool: H,
-    pub control_task: X,
 }
 
-impl<'e, R, N, B, K, L, A, D, X> Work<Post<B>, D>
-    for WorkerContext<&'e R, &'e N, K, &'e A, &'e DaemonState, &'e Pool<L>, &'e X>
+impl<'e, R, N, B, K, L, A, D> Work<Post<B>, D>
+    for WorkerContext<&'e R, &'e N, K, &'e A, &'e DaemonState, &'e Pool<L>>
 where
     R: Wait + Clock,
     N: Log,
     B: Names,
     K: Keep<B> + Look + Copy,
     L: Link + Drop,
-    A: Accept<L>,
+    A: Accept<L> + ControlTask,
     D: Sink + Drop,
-    X: ControlTask,
 {
     /// Waits at the gate, and then serves sessions at the post until none is to come.
     fn work(&self, place: Post<B>, sink: D) -> (Post<B>, D)
@@ -93,11 +91,11 @@ where
     }
 
     fn is_control_wanted(&self) -> bool {
-        self.control_task.is_wanted()
+        self.accept.is_wanted()
     }
 
     fn run_control_task(&self) {
-        run_control_task(self.rt, self.daemon_state, self.control_task, &self.keeper);
+        run_control_task(self.rt, self.daemon_state, self.accept, &self.keeper);
     }
 
     fn cannot_start_control_task(&self, error: &io::Error) {
@@ -108,8 +106,8 @@ where
 /// Serves sessions at the post until none is to come. Its waiting clients are tried again before
 /// each wait in the pool, where it waits for a second at most while there are any: so a post that
 /// rests tries them about once a second, and before it takes a session.
-fn serve_on_thread<R, N, B, K, L, A, D, X>(
-    context: &WorkerContext<&R, &N, K, &A, &DaemonState, &Pool<L>, &X>,
+fn serve_on_thread<R, N, B, K, L, A, D>(
+    context: &WorkerContext<&R, &N, K, &A, &DaemonState, &Pool<L>>,
     keeper: &mut K,
     post: &mut Post<B>,
     sink: &mut NotingSink<'_, D, N>,
@@ -157,8 +155,8 @@ where
 
 /// Serves a session at the post over the link, from its first byte to the end of its client. The
 /// session thread has told of so many waiting clients; gives of how many it has told then.
-fn serve_accepted<R, N, B, K, L, A, D, X>(
-    context: &WorkerContext<&R, &N, K, &A, &DaemonState, &Pool<L>, &X>,
+fn serve_accepted<R, N, B, K, L, A, D>(
+    context: &WorkerContext<&R, &N, K, &A, &DaemonState, &Pool<L>>,
     keeper: &mut K,
     post: &mut Post<B>,
     sink: &mut NotingSink<'_, D, N>,

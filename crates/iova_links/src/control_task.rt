@@ -1,6 +1,8 @@
 //! What is done beside a daemon's sessions and its flusher.
+use crate::accept::Accept;
 use iova_keep::look::Look;
 use iova_model::step::ClientId;
+use iova_session::link::LinkFault;
 
 /// The numbers of a daemon, but for its domain.
 #[derive(Clone, Copy, Debug, PartialEq, Eq)]
@@ -50,4 +52,45 @@ impl ControlTask for NoControlTask {
     }
 
     fn turn<K: Look, T: MetricsSource>(&self, _domain: &K, _source: &T) {}
+}
+
+/// Where a daemon's links come from, and what is done beside their sessions.
+#[derive(Drop)]
+pub struct WithControl<'a, A, X> {
+    accept: &'a A,
+    control_task: &'a X,
+}
+
+impl<'a, A, X> WithControl<'a, A, X> {
+    /// Links from here, and this beside them.
+    pub fn new(accept: &'a A, control_task: &'a X) -> WithControl<'a, A, X> {
+        WithControl {
+            accept,
+            control_task,
+        }
+    }
+}
+
+impl<'a, L, A: Accept<L>, X> Accept<L> for WithControl<'a, A, X> {
+    fn accept(&self, limit: Option<u64>) -> Result<Option<L>, LinkFault> {
+        self.accept.accept(limit)
+    }
+
+    fn close(&self) {
+        self.accept.close();
+    }
+
+    fn has_ended(&self) -> bool {
+        self.accept.has_ended()
+    }
+}
+
+impl<'a, A, X: ControlTask> ControlTask for WithControl<'a, A, X> {
+    fn is_wanted(&self) -> bool {
+        self.control_task.is_wanted()
+    }
+
+    fn turn<K: Look, T: MetricsSource>(&self, domain: &K, source: &T) {
+        self.control_task.turn(domain, source);
+    }
 }

@@ -27,23 +27,21 @@ pub(crate) struct AnswerRoom {
     pub(crate) answers: Vec<Answer>,
     /// The text of answers of which each is one line.
     pub(crate) text: ArrayVec<u8, RUN_TEXT>,
-    /// The text of any answers.
+    /// The text of any answers, which takes memory once there is a list among them.
     pub(crate) lists: Vec<u8>,
 }
 
 impl AnswerRoom {
-    /// Room for the answers to one run, and for a text of so many bytes. None for want of memory.
-    pub(crate) fn new(alloc: Global, bytes: usize) -> Option<AnswerRoom> {
+    /// Room for the answers to one run, and for their text where each is one line. None for want of
+    /// memory.
+    pub(crate) fn new(alloc: Global) -> Option<AnswerRoom> {
         let Ok(answers) = Vec::with_capacity(alloc, MAX_RUN) else {
-            return None;
-        };
-        let Ok(lists) = Vec::with_capacity(alloc, bytes) else {
             return None;
         };
         Some(AnswerRoom {
             answers,
             text: ArrayVec::new(),
-            lists,
+            lists: Vec::new(alloc),
         })
     }
 }

@@ -21,9 +21,6 @@ use std::alloc::Global;
 /// How many bytes one read asks for at most.
 const PIECE: usize = 4096;
 
-/// How many bytes of the text of a list have room from the start.
-const TEXT: usize = 4096;
-
 /// Serves the peer at the other end of the link until the session ends: reads lines, asks the desk
 /// in runs of 1 to 16 requests, and writes the answers to each run before the next. It reads no
 /// more while a whole request that was read is not answered. A bad line is answered `no 20
@@ -61,7 +58,7 @@ pub fn serve_within<L: Link, D: Desk>(
     ensures failures { L.failures link.new ≡ L.failures link.old + failures_at result }
     ensures ends { L.ends link.new ≡ L.ends link.old + ends_at result }
 {
-    let Some(mut room) = AnswerRoom::new(alloc, TEXT) else {
+    let Some(mut room) = AnswerRoom::new(alloc) else {
         return End::NoMemory;
     };
     let mut lines = Lines::new();

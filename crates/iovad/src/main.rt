@@ -4,14 +4,11 @@
 
 mod daemon;
 
-use daemon::serve;
+use daemon::{Host, serve};
 use iova_command::asked::Asked;
-use iova_command::plan::Plan;
-use iova_command::said::Said;
 use iova_command::words::{asked, words};
 use iova_files::standard::hold_closed_streams;
 use iova_keep::ledgers::Blanks;
-use iova_links::dial::Dial;
 use iova_planned::seats::seat_count;
 use iova_range::limits::SEAT_PARTS;
 use iova_tools::asking::ask_at;
@@ -20,15 +17,9 @@ use iova_tools::controlling::control;
 use iova_tools::fault::Fault;
 use iova_tools::replaying::replay;
 use iova_tools::watching::{WatchPlan, watch};
-use log::Log;
-use std::fs::File;
 use std::io::IsTerminal;
 use std::marker::Brand;
-use std::net::Net;
 use std::process::ExitCode;
-use std::rt::{Files, Runtime};
-use std::sync::Wait;
-use std::thread::Threads;
 
 fn main(rt: HostRuntime) -> ExitCode {
     hold_closed_streams(&rt);
@@ -36,29 +27,26 @@ fn main(rt: HostRuntime) -> ExitCode {
         Ok(words) => words,
         Err(fault) => return Fault::from(fault).tell(&rt),
     };
-    match run(&rt, &words, is_at_terminal(&rt)) {
+    // whether lines are typed, and answers are read, at a terminal
+    let is_by_hand = rt.stdin().is_terminal() && rt.stdout().is_terminal();
+    match run(&rt, &words, is_by_hand) {
         Ok(()) => ExitCode::SUCCESS,
         Err(fault) => fault.tell(&rt),
     }
 }
 
-/// Whether lines are typed, and answers are read, at a terminal.
-fn is_at_terminal(rt: &HostRuntime) -> bool {
-    rt.stdin().is_terminal() && rt.stdout().is_terminal()
-}
-
-/// Does what the words ask for.
-fn run<'a, R>(rt: &R, words: &'a [String], is_by_hand: bool) -> Result<(), Fault<'a>>
-where
-    R: Runtime + AllocGlobal + Net + Dial + Threads + Wait + Sync + Files<File = File> + Log,
-{
+/// Does what the words ask for. The four ledgers of a domain that is served get their names here.
+fn run<'a, R: Host>(rt: &R, words: &'a [String], is_by_hand: bool) -> Result<(), Fault<'a>> {
     match asked(rt.alloc(), words)? {
         Asked::Replay {
             path,
             has_report,
             log,
         } => replay(rt, path, has_report, log),
-        Asked::Serve(plan, said) => serve_plan(rt, &plan, &said),
+        Asked::Serve(plan, said) => {
+            let blanks = Blanks::new(seat_count(&plan), SEAT_PARTS);
+            serve::<R, Brand>(rt, &plan, &said, blanks)
+        }
         Asked::Ask { path, timeout } => ask_at(rt, path, timeout, is_by_hand),
         Asked::Check(plan) => check_planned(rt, &plan),
         Asked::Control {
@@ -81,13 +69,4 @@ where
             watch(rt, path, how)
         }
     }
-}
-
-/// Serves what the plan says. The four ledgers of the domain get their names here.
-fn serve_plan<'a, R>(rt: &R, plan: &Plan<'a>, said: &Said<'a>) -> Result<(), Fault<'a>>
-where
-    R: Runtime + AllocGlobal + Net + Dial + Threads + Wait + Sync + Files<File = File> + Log,
-{
-    let seats = seat_count(plan);
-    serve::<R, Brand>(rt, plan, said, Blanks::new(seats, SEAT_PARTS))
 }

@@ -13,7 +13,6 @@ serve_kept-served-requires-sync-W g c κs within =
     let runtime = c.type_bounds.sync-R in
     let notices = c.type_bounds.sync-N in
     let accept = c.type_bounds.sync-A in
-    let control_task = c.type_bounds.sync-X in
     search (WorkerContext-sync, shr_sync, sendable) depth 20
 
 -- all that was counted is within what sinks were given: the flusher's is the last of them

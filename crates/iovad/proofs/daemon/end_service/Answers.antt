@@ -6,8 +6,8 @@ use Rattle.iovad.proofs.Gathering.{all_there, workers_at, given_back}
 use Rattle.iovad.proofs.daemon.end_service.Goals as goal
 
 -- the seats are those of all workers
-pub rest_of-requires-clause-all : goal.rest_of-requires-clause-all
-rest_of-requires-clause-all g c =
+pub into_counted-requires-clause-all : goal.into_counted-requires-clause-all
+into_counted-requires-clause-all g c =
     let lent = c.deref_mut.ensures in
     let ends = c.end_posts.ensures in
     let still = workers_at (λ p. p.seat) c.end_posts.new.posts ∙ ends.workers ∙ sym (workers_at (λ p. p.seat) c.deref_mut.result.now) in
@@ -17,8 +17,8 @@ rest_of-requires-clause-all g c =
     all_there c.args.served.served.shared.workers c.args.served.served.shared.seats c.seats_of.result.items c.requires.enough same
 
 -- and their tallies have all parts but the flusher's
-pub rest_of-requires-clause-parts : goal.rest_of-requires-clause-parts
-rest_of-requires-clause-parts g c =
+pub into_counted-requires-clause-parts : goal.into_counted-requires-clause-parts
+into_counted-requires-clause-parts g c =
     let lent = c.deref_mut.ensures in
     let ends = c.end_posts.ensures in
     let still = workers_at (λ p. p.seat) c.end_posts.new.posts ∙ ends.workers ∙ sym (workers_at (λ p. p.seat) c.deref_mut.result.now) in
@@ -35,4 +35,4 @@ returns-clause-ended g c =
     let back = given_back (λ p. p.seat.worker) _ c.end_posts.new.posts c.deref_mut.result.now _ lent.len still in
     let after = ap tally_good c.seats_of.ensures ∙ ap (λ ps. tally_good (map (λ p. p.seat) ps)) back in
     let before = ap (λ ps. tally_good (map (λ p. p.seat) ps)) lent.value in
-    omega (arith, after, before, ends.good, c.rest_of.ensures.ended)
+    omega (arith, after, before, ends.good, c.into_counted.ensures.counted.ended)

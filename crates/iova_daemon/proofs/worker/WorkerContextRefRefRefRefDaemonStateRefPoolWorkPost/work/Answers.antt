@@ -1,7 +1,7 @@
 use Rattle.std.proofs.Common.{sym}
 use Rattle.iova_daemon.specs.SessionThreads.{nothing}
-use Rattle.iova_daemon.proofs.worker.WorkerContextRefRefRefRefDaemonStateRefPoolRefWorkPost.work.Goals.{then-deref, else-deref}
-use Rattle.iova_daemon.proofs.worker.WorkerContextRefRefRefRefDaemonStateRefPoolRefWorkPost.work.Goals as goal
+use Rattle.iova_daemon.proofs.worker.WorkerContextRefRefRefRefDaemonStateRefPoolWorkPost.work.Goals.{then-deref, else-deref}
+use Rattle.iova_daemon.proofs.worker.WorkerContextRefRefRefRefDaemonStateRefPoolWorkPost.work.Goals as goal
 
 -- where the gate was closed nothing was done
 pub returns-clause-turns : goal.returns-clause-turns
