@@ -14,7 +14,7 @@ use Rattle.iova_keep.specs.declared.ask.Told.{Told}
 use Rattle.iova_keep.specs.declared.ask.Told.TheVariants as told
 use Rattle.iova_keep.specs.Steps.{Takes}
 use Rattle.iova_keep.specs.Views.{SeatState, IsAllocRefusal, IsUnmapRefusal, stat_of}
-use Rattle.iova_keep.specs.Events.{Does, Unmapping}
+use Rattle.iova_keep.specs.Events.{Event, Ran, Does, Unmapping}
 
 -- what may be told of an ask: a request is given a range of its own, or refused; what is freed
 -- begins where it was asked, and where the ring is full nothing is told
@@ -131,3 +131,58 @@ DoesBatch strict seat left id asks before now result s t =
     MatchResult result (λ count. Batched seat.worker id (may_do strict asks) before now count
     seat.held left s t)
     (λ e. t ≡ s)
+
+-- What is run for the asks.
+
+-- One ask of a client of worker w, whose seat has `held`: this is run for it, where it is told so.
+-- For the domain in numbers no step is run.
+abbrev pub AskRuns : ℕ → ℕ → Ask → Told → Totals → List Event → Type 0
+AskRuns w id (ask.Alloc frames limit) x held es =
+    (r : Reply) × IsReplyTold r x × (es ≡ Ran (step.Alloc w id frames limit) r ∷ [])
+AskRuns w id (ask.Free lo) x held es =
+    (r : Reply) × IsReplyTold r x × (r ≢ reply.Refused refusal.RingFull)
+    × Unmapping (step.Unmap w id lo) held r es
+AskRuns w id ask.Stat x held es = es ≡ []
+
+-- what is run where a batch stops: the free whose ring is full, if any ask is left
+abbrev pub StopRuns : ℕ → ℕ → List Ask → Totals → List Event → Type 0
+StopRuns w id [] held es = es ≡ []
+StopRuns w id (ask.Free lo ∷ asks) held es =
+    Unmapping (step.Unmap w id lo) held (reply.Refused refusal.RingFull) es
+StopRuns w id (a ∷ asks) held es = ⊥
+
+-- This is run for the asks, in order, where they are told so.
+pub data AsksRun (w id : ℕ) : List Ask → List Told → Totals → Totals → List Event → Type 0 where
+  stopped : (asks : List Ask) (held : Totals) (es : List Event) → StopRuns w id asks held es
+      → AsksRun w id asks [] held held es
+  asked : (a : Ask) (asks : List Ask) (x : Told) (xs : List Told) (held now left : Totals)
+      (es fs : List Event)
+      → AskRuns w id a x held es → MovesTold x held now → AsksRun w id asks xs now left fs
+      → AsksRun w id (a ∷ asks) (x ∷ xs) held left (es ++ fs)
+
+-- One ask is done, for which this is run, and what is told of it appended.
+pub record OneRuns (w id : ℕ) (a : Ask) (before now : List Told) (held left : Totals)
+    (es : List Event)
+    : Type 0 where
+  pub told : Told
+  pub appended : now ≡ before ++ told ∷ []
+  pub moves : MovesTold told held left
+  pub runs : AskRuns w id a told held es
+
+-- this is run where so many asks were done, and what is told of them appended
+pub record BatchedRuns (w id : ℕ) (asks : List Ask) (before now : List Told) (count : ℕ)
+    (held left : Totals) (es : List Event)
+    : Type 0 where
+  pub more : List Told
+  pub appended : now ≡ before ++ more
+  pub counted : length more ≡ count
+  pub runs : AsksRun w id asks more held left es
+
+-- a batch that is refused runs nothing
+abbrev pub BatchRuns : Bool → SeatState → Totals → ℕ → List Ask → List Told → List Told
+    → Result ℕ Refusal → List Event
+    → Type 0
+BatchRuns strict seat left id asks before now result es =
+    MatchResult result (λ count. BatchedRuns seat.worker id (may_do strict asks) before now count
+    seat.held left es)
+    (λ e. es ≡ [])

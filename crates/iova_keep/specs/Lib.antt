@@ -6,3 +6,4 @@ pub mod Names
 pub mod Releases
 pub mod Batches
 pub mod StepLogs
+pub mod Stored

@@ -6,10 +6,12 @@ ghost use Rattle.iova_model.specs.Clients.{totals, no_totals};
 ghost use Rattle.iova_model.specs.State.{State};
 ghost use Rattle.iova_model.specs.Valid.{Rises};
 ghost use Rattle.iova_model.specs.Effects.{MovesTotals, IsReplyTo, IsGivenTo, ended_well};
-ghost use Rattle.iova_keep.specs.Views.{TallyState, SeatState, Identity, WhereKnown, IsReserveRefusal, IsOpenRefusal, IsAllocRefusal, IsUnmapHeard, IsBeginHeard, IsReleaseBegin, IsSecondBegin, IsCloseHeard, MovesHeard, QueuedNone, Lowers, KeepsPlaceAtEnd, queued_by, given_or, stat_of, IsKept, IsWorker, MovesSharesAlone};
-ghost use Rattle.iova_keep.specs.Batches.{DoesBatch, TellsAsks};
-ghost use Rattle.iova_keep.specs.Releases.{ReleasesFirst, ReleasesAgain, ReleasesLast};
-ghost use Rattle.iova_keep.specs.StepLogs.{StepLog, GoesOn};
+ghost use Rattle.iova_keep.specs.Views.{TallyState, SeatState, Identity, WhereKnown, IsReserveRefusal, IsOpenRefusal, IsAllocRefusal, IsUnmapHeard, IsBeginHeard, IsReleaseBegin, IsSecondBegin, IsCloseHeard, MovesHeard, QueuedNone, Lowers, KeepsPlaceAtEnd, queued_by, reserved_or, opened_or, given_or, stat_of, IsKept, IsWorker, MovesSharesAlone};
+ghost use Rattle.iova_keep.specs.Batches.{DoesBatch, BatchRuns, TellsAsks};
+ghost use Rattle.iova_keep.specs.Releases.{ReleaseFirst, ReleaseAgain, ReleaseLast, ReleasesFirst, ReleasesAgain, ReleasesLast};
+ghost use Rattle.iova_keep.specs.StepLogs.{StepLog, StoresStep};
+ghost use Rattle.iova_keep.specs.Stored.{RecordsCall};
+ghost use Rattle.iova_keep.specs.Events.{UnmapFirst, UnmapAgain, CloseFirst, CloseAgain, DrainAll};
 ghost use Rattle.iova_keep.specs.Answers.{Reserves, Opens, Allocs, UnmapsFirst, UnmapsAgain, Begins, Ends, ClosesFirst, ClosesAgain, Leaves, RaisesByEnd, DrainsAll, ReadsHoldings};
 
 use crate::ask::{Ask, Told};
@@ -47,8 +49,9 @@ pub trait Keep<B: Names> {
     /// The domain's number, and whether it is strict, where that is known.
     ghost identity: { Self → Identity };
 
-    /// What is recorded of its steps, where that is known. No call ends the recording before it is
-    /// full, and then it is over for good.
+    /// What is recorded of its steps, where that is known. Each call stores the steps that it runs,
+    /// with their replies, and nothing else. So no call ends the recording before it is full, and
+    /// then it is over for good.
     ghost log: { Self → Option StepLog };
 
     /// The domain's number. It takes no hold.
@@ -65,7 +68,8 @@ pub trait Keep<B: Names> {
     /// then nothing has changed. No seat has a share in it.
     fn reserve(&mut self, lo: u64, hi: u64) -> Result<Range, Refusal>
         ensures same { identity self.new ≡ identity self.old }
-        ensures log { GoesOn (log self.old) (log self.new) }
+        ensures log { StoresStep (log self.old) (Step.Reserve lo hi) (reserved_or result)
+            (log self.new) }
         ensures domain { WhereKnown (domain self.old) (domain self.new) (Reserves lo hi result) }
         ensures refusal { IfErr result IsReserveRefusal };
 
@@ -73,7 +77,8 @@ pub trait Keep<B: Names> {
     /// `sac`. Refused by `Worn`, `ClientsFull` and `NoMemory`; then nothing has changed.
     fn open(&mut self, seat: &mut Seat<B>, sac: bool) -> Result<ClientId, Refusal>
         ensures same { identity self.new ≡ identity self.old }
-        ensures log { GoesOn (log self.old) (log self.new) }
+        ensures log { StoresStep (log self.old) (Step.Open seat.old.worker sac) (opened_or result)
+            (log self.new) }
         ensures domain { WhereKnown (domain self.old) (domain self.new)
             (Opens seat.old.worker sac result) }
         ensures refusal { IfErr result IsOpenRefusal }
@@ -90,7 +95,8 @@ pub trait Keep<B: Names> {
         limit: u64,
     ) -> Result<Range, Refusal>
         ensures same { identity self.new ≡ identity self.old }
-        ensures log { GoesOn (log self.old) (log self.new) }
+        ensures log { StoresStep (log self.old) (Step.Alloc seat.old.worker id frames limit)
+            (given_or result) (log self.new) }
         ensures domain { WhereKnown (domain self.old) (domain self.new)
             (Allocs seat.old.worker id frames limit result) }
         ensures given { MatchResult result (IsGivenTo frames limit) IsAllocRefusal }
@@ -100,7 +106,9 @@ pub trait Keep<B: Names> {
     /// The first hold of an unmap: an unmap; where the ring is full, a flush begins.
     fn unmap_first(&mut self, seat: &mut Seat<B>, id: ClientId, lo: u64) -> Heard
         ensures same { identity self.new ≡ identity self.old }
-        ensures log { GoesOn (log self.old) (log self.new) }
+        ensures log { RecordsCall (domain self.old) (domain self.new) (log self.old) (log self.new)
+            (λ s t. UnmapFirst (Step.Unmap seat.old.worker id lo) seat.old.held result.reply
+            result.begun) }
         ensures domain { WhereKnown (domain self.old) (domain self.new)
             (UnmapsFirst seat.old id lo result.reply result.begun) }
         ensures left { WhereKnown (domain self.old) (domain self.new) (Leaves id result.left) }
@@ -115,7 +123,8 @@ pub trait Keep<B: Names> {
     /// `ok` is what a sink answered for this flush.
     fn unmap_again(&mut self, seat: &mut Seat<B>, id: ClientId, lo: u64, no: u64, ok: bool) -> Heard
         ensures same { identity self.new ≡ identity self.old }
-        ensures log { GoesOn (log self.old) (log self.new) }
+        ensures log { RecordsCall (domain self.old) (domain self.new) (log self.old) (log self.new)
+            (λ s t. UnmapAgain (Step.Unmap seat.old.worker id lo) seat.old.held no ok result.reply) }
         ensures domain { WhereKnown (domain self.old) (domain self.new)
             (UnmapsAgain seat.old id lo no ok result.reply) }
         ensures left { WhereKnown (domain self.old) (domain self.new) (Leaves id result.left) }
@@ -130,7 +139,8 @@ pub trait Keep<B: Names> {
     /// The first hold of a flush: it begins. Refused by `FlightsFull` and `Worn`.
     fn begin(&mut self, tally: &mut Tally<B>) -> Heard
         ensures same { identity self.new ≡ identity self.old }
-        ensures log { GoesOn (log self.old) (log self.new) }
+        ensures log { MatchOption result.begun ⊥
+            (λ b. StoresStep (log self.old) Step.Begin b (log self.new)) }
         ensures domain { WhereKnown (domain self.old) (domain self.new) (Begins result.begun) }
         ensures tally { tally.new ≡ tally.old }
         ensures heard { MatchOption result.begun ⊥ (λ b. IsReplyTo Step.Begin b) }
@@ -140,7 +150,8 @@ pub trait Keep<B: Names> {
     /// sink answered for this flush.
     fn end(&mut self, tally: &mut Tally<B>, no: u64, ok: bool) -> Heard
         ensures same { identity self.new ≡ identity self.old }
-        ensures log { GoesOn (log self.old) (log self.new) }
+        ensures log { MatchOption result.reply ⊥
+            (λ r. StoresStep (log self.old) (Step.End no ok) r (log self.new)) }
         ensures domain { WhereKnown (domain self.old) (domain self.new) (Ends no ok result.reply) }
         ensures good { MatchOption result.reply ⊥
             (λ r. tally.new.good ≡ tally.old.good + ended_well (Step.End no ok) r) }
@@ -152,7 +163,9 @@ pub trait Keep<B: Names> {
     /// step is refused; where the ring is full, a flush begins.
     fn close_first(&mut self, seat: &mut Seat<B>, id: ClientId) -> Heard
         ensures same { identity self.new ≡ identity self.old }
-        ensures log { GoesOn (log self.old) (log self.new) }
+        ensures log { RecordsCall (domain self.old) (domain self.new) (log self.old) (log self.new)
+            (λ s t. CloseFirst (Step.CloseOne seat.old.worker id) seat.old.held seat.new.held
+            result.reply result.begun) }
         ensures domain { WhereKnown (domain self.old) (domain self.new)
             (ClosesFirst seat.old seat.new.held id result.reply result.begun) }
         ensures left { WhereKnown (domain self.old) (domain self.new) (Leaves id result.left) }
@@ -167,7 +180,9 @@ pub trait Keep<B: Names> {
     /// answered for this flush.
     fn close_again(&mut self, seat: &mut Seat<B>, id: ClientId, no: u64, ok: bool) -> Heard
         ensures same { identity self.new ≡ identity self.old }
-        ensures log { GoesOn (log self.old) (log self.new) }
+        ensures log { RecordsCall (domain self.old) (domain self.new) (log self.old) (log self.new)
+            (λ s t. CloseAgain (Step.CloseOne seat.old.worker id) no ok seat.old.held seat.new.held
+            result.reply result.begun) }
         ensures domain { WhereKnown (domain self.old) (domain self.new)
             (ClosesAgain seat.old seat.new.held id no ok result.reply result.begun) }
         ensures left { WhereKnown (domain self.old) (domain self.new) (Leaves id result.left) }
@@ -183,7 +198,9 @@ pub trait Keep<B: Names> {
     /// strict domain, a flush begins.
     fn release_first(&mut self, seat: &mut Seat<B>, id: ClientId, lo: u64) -> Heard
         ensures same { identity self.new ≡ identity self.old }
-        ensures log { GoesOn (log self.old) (log self.new) }
+        ensures log { RecordsCall (domain self.old) (domain self.new) (log self.old) (log self.new)
+            (λ s t. ReleaseFirst (identity self.old).strict (Step.Unmap seat.old.worker id lo)
+            seat.old.held result.reply result.begun) }
         ensures domain { WhereKnown (domain self.old) (domain self.new)
             (ReleasesFirst (identity self.old).strict seat.old id lo result.reply result.begun) }
         ensures left { WhereKnown (domain self.old) (domain self.new) (Leaves id result.left) }
@@ -208,7 +225,9 @@ pub trait Keep<B: Names> {
         ok: bool,
     ) -> Heard
         ensures same { identity self.new ≡ identity self.old }
-        ensures log { GoesOn (log self.old) (log self.new) }
+        ensures log { RecordsCall (domain self.old) (domain self.new) (log self.old) (log self.new)
+            (λ s t. ReleaseAgain (identity self.old).strict (Step.Unmap seat.old.worker id lo)
+            seat.old.held no ok result.reply result.begun) }
         ensures domain { WhereKnown (domain self.old) (domain self.new)
             (ReleasesAgain
             (identity self.old).strict seat.old id lo no ok result.reply result.begun) }
@@ -228,7 +247,8 @@ pub trait Keep<B: Names> {
     /// `ok` is what a sink answered for this flush.
     fn release_last(&mut self, seat: &mut Seat<B>, no: u64, ok: bool) -> bool
         ensures same { identity self.new ≡ identity self.old }
-        ensures log { GoesOn (log self.old) (log self.new) }
+        ensures log { RecordsCall (domain self.old) (domain self.new) (log self.old) (log self.new)
+            (λ s t. ReleaseLast seat.old.worker no ok t.flushes.finish result) }
         ensures domain { WhereKnown (domain self.old) (domain self.new)
             (ReleasesLast seat.old no ok result) }
         ensures held { seat.new.held ≡ seat.old.held }
@@ -241,7 +261,8 @@ pub trait Keep<B: Names> {
     /// changed. Worker 0 is there in every domain, and so is that of each seat.
     fn drain_all(&mut self, by: u64) -> Result<u64, Refusal>
         ensures same { identity self.new ≡ identity self.old }
-        ensures log { GoesOn (log self.old) (log self.new) }
+        ensures log { RecordsCall (domain self.old) (domain self.new) (log self.old) (log self.new)
+            (λ s t. DrainAll s.workers by result) }
         ensures domain { WhereKnown (domain self.old) (domain self.new) (DrainsAll by result) }
         ensures refusal { IfErr result (λ e. e ≡ Refusal.NoWorker) }
         ensures known { IsWorker B.ledgers by → IsOk result }
@@ -259,7 +280,9 @@ pub trait Keep<B: Names> {
     ) -> Result<usize, Refusal>
         requires { (1 ≤ length asks.now) × (length asks.now ≤ MAX_RUN) }
         ensures same { identity self.new ≡ identity self.old }
-        ensures log { GoesOn (log self.old) (log self.new) }
+        ensures log { RecordsCall (domain self.old) (domain self.new) (log self.old) (log self.new)
+            (λ s t. BatchRuns (identity self.old).strict seat.old seat.new.held id asks.now
+            told.old.items told.new.items result) }
         ensures domain { WhereKnown (domain self.old) (domain self.new)
             (DoesBatch (identity self.old).strict seat.old seat.new.held id asks.now told.old.items
             told.new.items result) }

@@ -1,5 +1,5 @@
 -- Closings, one after another.
-use Rattle.std.proofs.Common.{ℕ, ◌≡◌, ◌≢◌, ◌⊎◌, inl, inr, ◌+◌, List, [], ◌∷◌, ◌++◌, Some, length, refl, sym, ap, subst, arith, length-append}
+use Rattle.std.proofs.Common.{ℕ, ◌≡◌, ◌≢◌, ◌⊎◌, inl, inr, ◌+◌, List, [], ◌∷◌, ◌++◌, Option, Some, length, refl, sym, ap, subst, arith, length-append}
 use Rattle.std.specs.Prelude.{sum_by}
 use Rattle.std.proofs.lemmas.List.Sums.{sum_by-append}
 use Rattle.iova_range.specs.declared.refusal.Refusal.TheVariants as refusal
@@ -14,13 +14,16 @@ use Rattle.iova_model.specs.State.{State}
 use Rattle.iova_model.specs.Effects.{add_totals, MovesTotals, IsReplyTo}
 use Rattle.iova_keep.specs.Steps.{Takes}
 use Rattle.iova_keep.specs.Views.{IsLowered, IsCloseHeard}
-use Rattle.iova_keep.specs.Events.{Event, Ran, Leads, Does, Unmapping, run, not_run, Closing, stops, queues}
+use Rattle.iova_keep.specs.Events.{Event, Ran, Leads, Unmapping, run, not_run, Closing, stops, queues}
+use Rattle.iova_keep.specs.StepLogs.{StepLog, StoresStep}
+use Rattle.iova_keep.specs.Stored.{StoresEvents, DoesAndStores}
+use Rattle.iova_lock.proofs.Storing.{step_stored}
 
 -- Closings so far: ranges were queued, and whatever run of closings follows, they and it are one.
-pub record ClosesSoFar (st : Step) (held now : Totals) (s t : State) : Type 0 where
+pub record ClosesSoFar (st : Step) (held now : Totals) (a b : Option StepLog) (s t : State) : Type 0 where
   pub ranges : List Frames
   pub shares : IsLowered ranges held now
-  pub goes_on : (left : Totals) (r : Reply) (u : State) → Does (Closing st now left r) t u → Does (Closing st held left r) s u
+  pub goes_on : (left : Totals) (r : Reply) (c : Option StepLog) (u : State) → DoesAndStores (Closing st now left r) b c t u → DoesAndStores (Closing st held left r) a c s u
 
 -- totals of two lists
 add_up : (held now left : Totals) (qs rs : List Frames) → IsLowered qs held now → IsLowered rs now left → IsLowered (qs ++ rs) held left
@@ -40,32 +43,38 @@ none_more held =
     let sum_lo : held.sum_lo ≡ held.sum_lo + 0 = omega arith in
     λ i. record { count = count i; frames = frames i; sum_lo = sum_lo i }
 
-pub none_yet : (st : Step) (held : Totals) (s : State) → ClosesSoFar st held held s s
-none_yet st held s = record { ranges = []; shares = none_more held; goes_on = λ left r u d. d }
+pub none_yet : (st : Step) (held : Totals) (a : Option StepLog) (s : State) → ClosesSoFar st held held a a s s
+none_yet st held a s = record { ranges = []; shares = none_more held; goes_on = λ left r c u d. d }
 
 -- one range in front of a run
-in_front : (st : Step) (held mid left : Totals) (q : Frames) (r : Reply) (s m u : State) {o : Reply} {es : List Event} → Unmapping st held o es → o ≡ reply.Queued q → Leads s es m
-    → held ≡ add_totals mid (totals_of (q ∷ [])) → Does (Closing st mid left r) m u → Does (Closing st held left r) s u
-in_front st held mid left q r s m u (run o) e l moved d =
+in_front : (st : Step) (held mid left : Totals) (q : Frames) (r : Reply) (a b c : Option StepLog) (s m u : State) {o : Reply} {es : List Event} → Unmapping st held o es → o ≡ reply.Queued q → Leads s es m
+    → StoresEvents a es b → held ≡ add_totals mid (totals_of (q ∷ [])) → DoesAndStores (Closing st mid left r) b c m u → DoesAndStores (Closing st held left r) a c s u
+in_front st held mid left q r a b c s m u (run o) e l stored moved d =
     let here : Takes s st (reply.Queued q) m = subst (λ x. Takes s st x m) e (subst (λ x. Takes s st o x) (sym l.2) l.1) in
-    record { events = Ran st (reply.Queued q) ∷ d.events; allowed = queues held mid left q r d.events moved d.allowed; leads = (m, here, d.leads) }
-in_front st held mid left q r s m u not_run e l moved d = absurd cc
+    let first : StoresStep a st (reply.Queued q) b = subst (λ x. StoresStep a st x b) e (step_stored a stored.0 b st o stored.1 stored.2) in
+    record {
+      events = Ran st (reply.Queued q) ∷ d.events;
+      allowed = queues held mid left q r d.events moved d.allowed;
+      leads = (m, here, d.leads);
+      stored = (b, first, d.stored);
+    }
+in_front st held mid left q r a b c s m u not_run e l stored moved d = absurd cc
 
-pub one_more : (st : Step) (held now next : Totals) (q : Frames) (o : Reply) (s m t : State) → ClosesSoFar st held now s m → o ≡ reply.Queued q → Does (Unmapping st now o) m t → now ≡ add_totals next (totals_of (q ∷ []))
-    → ClosesSoFar st held next s t
-one_more st held now next q o s m t c e d moved = record {
-  ranges = c.ranges ++ q ∷ [];
-  shares = add_up held now next c.ranges (q ∷ []) c.shares moved;
-  goes_on = λ left r u k. c.goes_on left r u (in_front st now next left q r m t u d.allowed e d.leads moved k);
+pub one_more : (st : Step) (held now next : Totals) (q : Frames) (o : Reply) (a b c : Option StepLog) (s m t : State) → ClosesSoFar st held now a b s m → o ≡ reply.Queued q
+    → DoesAndStores (Unmapping st now o) b c m t → now ≡ add_totals next (totals_of (q ∷ [])) → ClosesSoFar st held next a c s t
+one_more st held now next q o a b c s m t so_far e d moved = record {
+  ranges = so_far.ranges ++ q ∷ [];
+  shares = add_up held now next so_far.ranges (q ∷ []) so_far.shares moved;
+  goes_on = λ left r x u k. so_far.goes_on left r x u (in_front st now next left q r b c x m t u d.allowed e d.leads d.stored moved k);
 }
 
-pub stops_here : (st : Step) (held now left : Totals) (o : Reply) (s m t : State) → ClosesSoFar st held now s m → ((q : Frames) → o ≢ reply.Queued q) → Does (Unmapping st now o) m t → left ≡ now
-    → Does (Closing st held left o) s t
-stops_here st held now left o s m t c other d same =
-    c.goes_on left o t (record { events = d.events; allowed = stops now left o d.events same other d.allowed; leads = d.leads })
+pub stops_here : (st : Step) (held now left : Totals) (o : Reply) (a b c : Option StepLog) (s m t : State) → ClosesSoFar st held now a b s m → ((q : Frames) → o ≢ reply.Queued q)
+    → DoesAndStores (Unmapping st now o) b c m t → left ≡ now → DoesAndStores (Closing st held left o) a c s t
+stops_here st held now left o a b c s m t so_far other d same =
+    so_far.goes_on left o c t (record { events = d.events; allowed = stops now left o d.events same other d.allowed; leads = d.leads; stored = d.stored })
 
-pub lowered_so_far : (st : Step) (held now left : Totals) (s m : State) → ClosesSoFar st held now s m → left ≡ now → (ranges : List Frames) × IsLowered ranges held left
-lowered_so_far st held now left s m c same = (c.ranges, subst (λ (l : Totals). IsLowered c.ranges held l) (sym same) c.shares)
+pub lowered_so_far : (st : Step) (held now left : Totals) (a b : Option StepLog) (s m : State) → ClosesSoFar st held now a b s m → left ≡ now → (ranges : List Frames) × IsLowered ranges held left
+lowered_so_far st held now left a b s m c same = (c.ranges, subst (λ (l : Totals). IsLowered c.ranges held l) (sym same) c.shares)
 
 -- a step that queues none leaves the shares
 pub settled : (w id : ℕ) (o : Reply) (now left : Totals) → (o ≡ reply.Refused refusal.NotHeld) ⊎ IsReplyTo (step.CloseOne w id) o → ((q : Frames) → o ≢ reply.Queued q) → MovesTotals o now left → left ≡ now

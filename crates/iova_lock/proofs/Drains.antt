@@ -1,22 +1,25 @@
 -- Rings that are drained, one after another.
-use Rattle.std.proofs.Common.{ℕ, zero, suc, ◌≡◌, ◌≢◌, ◌+◌, ◌-◌, ◌≤◌, List, [], ◌∷◌, refl, ap, arith}
+use Rattle.std.proofs.Common.{ℕ, zero, suc, ◌≡◌, ◌≢◌, ◌+◌, ◌-◌, ◌≤◌, List, [], ◌∷◌, Option, refl, ap, arith}
 use Rattle.iova_range.specs.declared.refusal.Refusal.TheVariants as refusal
 use Rattle.iova_model.specs.declared.step.Step.TheVariants as step
 use Rattle.iova_model.specs.declared.step.Reply.{Reply}
 use Rattle.iova_model.specs.declared.step.Reply.TheVariants as reply
 use Rattle.iova_model.specs.State.{State}
 use Rattle.iova_keep.specs.Steps.{Takes, IsDrainReply}
-use Rattle.iova_keep.specs.Events.{Ran, Does, Draining, drains, none_left, rings_from}
+use Rattle.iova_keep.specs.Events.{Ran, Draining, drains, none_left, rings_from}
+use Rattle.iova_keep.specs.StepLogs.{StepLog, StoresStep}
+use Rattle.iova_keep.specs.Stored.{DoesAndStores}
 
-pub drains_none : (by : ℕ) (s : State) → Does (Draining by [] 0) s s
-drains_none by s = record { events = []; allowed = none_left; leads = refl }
+pub drains_none : (by : ℕ) (a : Option StepLog) (s : State) → DoesAndStores (Draining by [] 0) a a s s
+drains_none by a s = record { events = []; allowed = none_left; leads = refl; stored = refl }
 
-pub drains_more : (by q n more : ℕ) (rings : List ℕ) (s m t : State) → Takes s (step.Drain q by) (reply.Drained n) m → Does (Draining by rings more) m t
-    → Does (Draining by (q ∷ rings) (n + more)) s t
-drains_more by q n more rings s m t h d = record {
+pub drains_more : (by q n more : ℕ) (rings : List ℕ) (a b c : Option StepLog) (s m t : State) → Takes s (step.Drain q by) (reply.Drained n) m → StoresStep a (step.Drain q by) (reply.Drained n) b
+    → DoesAndStores (Draining by rings more) b c m t → DoesAndStores (Draining by (q ∷ rings) (n + more)) a c s t
+drains_more by q n more rings a b c s m t h k d = record {
   events = Ran (step.Drain q by) (reply.Drained n) ∷ d.events;
   allowed = drains q rings n more d.events d.allowed;
   leads = (m, h, d.leads);
+  stored = (b, k, d.stored);
 }
 
 -- the first ring, and the others

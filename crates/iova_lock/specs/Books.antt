@@ -9,7 +9,9 @@ use Rattle.iova_model.specs.declared.totals.Totals.{Totals}
 use Rattle.iova_model.specs.Clients.{Client, client_with, newer_client, totals, no_totals, holdings_in}
 use Rattle.iova_model.specs.State.{State, new_domain}
 use Rattle.iova_keep.specs.Views.{SeatState, TallyState, IsKept}
-use Rattle.iova_keep.specs.StepLogs.{StepLog, IsRecorded, GoesOn}
+use Rattle.iova_keep.specs.Events.{Event}
+use Rattle.iova_keep.specs.StepLogs.{StepLog, IsRecorded}
+use Rattle.iova_keep.specs.Stored.{DoesAndStores}
 
 -- A book: its domain's number, whether it is strict, its domain, and its log; and the totals of its
 -- four ledgers, which are the sums of the shares that all seats and tallies keep.
@@ -68,9 +70,13 @@ pub record IsFound (count : ℕ) (b : BookState) : Type 0 where
   pub book : IsBook b
   pub workers : b.state.workers ≡ count
 
--- a book keeps its number, whether it is strict, and what it has recorded
+-- a book keeps its number, and whether it is strict
 abbrev pub IsSame : BookState → BookState → Type 0
-IsSame old new = (new.number ≡ old.number) × (new.strict ≡ old.strict) × GoesOn old.log new.log
+IsSame old new = (new.number ≡ old.number) × (new.strict ≡ old.strict)
+
+-- what is allowed happens in a book, and is stored in its log
+abbrev pub Runs : (List Event → Type 0) → BookState → BookState → Type 0
+Runs Allowed old new = DoesAndStores Allowed old.log new.log old.state new.state
 
 -- the steps of a seat, and those of a tally
 abbrev pub by_seat : Step → Bool

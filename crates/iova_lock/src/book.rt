@@ -10,9 +10,9 @@ ghost use Rattle.iova_model.specs.Valid.{Rises};
 ghost use Rattle.iova_model.specs.Effects.{MovesTotals, IsReplyTo, ended_well, to_queue, worker_of};
 ghost use Rattle.iova_keep.specs.Steps.{Takes, IsGivenWithin, IsDrainReply};
 ghost use Rattle.iova_keep.specs.Answers.{ReadsHoldings};
-ghost use Rattle.iova_keep.specs.StepLogs.{StepLog, IsRecorded, is_recording, new_log};
+ghost use Rattle.iova_keep.specs.StepLogs.{StepLog, StoresStep, IsRecorded, is_recording, new_log};
 ghost use Rattle.iova_keep.specs.Events.{Does, Unmapping, IsShort, Closing, Draining, rings_from};
-ghost use Rattle.iova_lock.specs.Books.{BookState, IsSame, ReadsNewer, by_seat, by_tally, new_book, steps_in, IsBook};
+ghost use Rattle.iova_lock.specs.Books.{BookState, IsSame, Runs, ReadsNewer, by_seat, by_tally, new_book, steps_in, IsBook};
 ghost use Rattle.iova_keep.specs.Views.{AreBlanksOf, TallyState, SeatState, Covers, IsWorker, new_seats, seats_in_turn, left_of, stat_of, IsLowered, IsCloseHeard, IsKept, MovesSharesAlone};
 
 use iova_core::domain::Domain;
@@ -467,6 +467,7 @@ impl<B: Names> Book<B> {
         requires by_seat { by_seat step ≡ true }
         requires worker { worker_of step ≡ Some seat.old.worker }
         ensures does { Does (Unmapping step seat.old.held result) self.old.state self.new.state }
+        ensures runs { Runs (Unmapping step seat.old.held result) self.old self.new }
         ensures same { IsSame self.old self.new }
         ensures kind { (result ≡ Reply.Refused Refusal.NotHeld) ⊎ IsReplyTo step result }
         ensures known { result ≢ Reply.Refused Refusal.NoWorker }
@@ -517,9 +518,8 @@ impl<B: Names> Book<B> {
 
     /// Closes the client, range by range, until a step queues none, and answers that step's reply.
     pub(crate) fn close_all(&mut self, seat: &mut Seat<B>, id: u64) -> Reply
-        ensures closes { Does (Closing (Step.CloseOne seat.old.worker id) seat.old.held
-            seat.new.held result)
-            self.old.state self.new.state }
+        ensures closes { Runs (Closing (Step.CloseOne seat.old.worker id) seat.old.held
+            seat.new.held result) self.old self.new }
         ensures shares { (ranges : List Frames) × IsLowered ranges seat.old.held seat.new.held }
         ensures heard { IsCloseHeard (Some result) }
         ensures same { IsSame self.old self.new }
@@ -540,8 +540,7 @@ impl<B: Names> Book<B> {
         requires few { ring + left ≤ MAX_WORKERS }
         requires rings { ring + left ≡ B.ledgers.workers }
         requires worker { IsWorker B.ledgers by }
-        ensures drains { Does (Draining by (rings_from ring left) result) self.old.state
-            self.new.state }
+        ensures drains { Runs (Draining by (rings_from ring left) result) self.old self.new }
         ensures bound { result ≤ MAX_ENTRIES * left }
         ensures same { IsSame self.old self.new }
     {
@@ -558,6 +557,8 @@ impl<B: Names> Book<B> {
         requires worker { IsWorker B.ledgers by }
         ensures takes { Takes self.old.state (Step.Drain ring by) (Reply.Drained result)
             self.new.state }
+        ensures stores { StoresStep self.old.log (Step.Drain ring by) (Reply.Drained result)
+            self.new.log }
         ensures bound { result ≤ MAX_ENTRIES }
         ensures same { IsSame self.old self.new }
     {
@@ -570,6 +571,7 @@ impl<B: Names> Book<B> {
     /// Drains a ring. No share and no tally moves.
     pub(crate) fn run_drain(&mut self, ring: u64, by: u64) -> Reply
         ensures takes { Takes self.old.state (Step.Drain ring by) result self.new.state }
+        ensures stores { StoresStep self.old.log (Step.Drain ring by) result self.new.log }
         ensures drained { IsDrainReply self.old.state.workers (Step.Drain ring by) result }
         ensures same { IsSame self.old self.new }
     {
@@ -579,6 +581,7 @@ impl<B: Names> Book<B> {
     /// Makes a window. No share and no tally moves.
     pub(crate) fn run_reserve(&mut self, lo: u64, hi: u64) -> Reply
         ensures takes { Takes self.old.state (Step.Reserve lo hi) result self.new.state }
+        ensures stores { StoresStep self.old.log (Step.Reserve lo hi) result self.new.log }
         ensures kind { IsReplyTo (Step.Reserve lo hi) result }
         ensures same { IsSame self.old self.new }
     {
@@ -593,6 +596,7 @@ impl<B: Names> Book<B> {
         requires enough { (r : Frames) → to_queue self.old.state step ≡ Some r
             → Covers seat.old.held r }
         ensures takes { Takes self.old.state step result self.new.state }
+        ensures stores { StoresStep self.old.log step result self.new.log }
         ensures same { IsSame self.old self.new }
         ensures kind { IsReplyTo step result }
         ensures known { result ≢ Reply.Refused Refusal.NoWorker }
@@ -615,6 +619,7 @@ impl<B: Names> Book<B> {
     pub(crate) fn run_flush(&mut self, tally: &mut Tally<B>, step: Step) -> Reply
         requires { by_tally step ≡ true }
         ensures takes { Takes self.old.state step result self.new.state }
+        ensures stores { StoresStep self.old.log step result self.new.log }
         ensures same { IsSame self.old self.new }
         ensures kind { IsReplyTo step result }
         ensures good { tally.new.good ≡ tally.old.good + ended_well step result }
@@ -631,6 +636,7 @@ impl<B: Names> Book<B> {
     pub(crate) fn run_flush_at(&mut self, seat: &mut Seat<B>, step: Step) -> Reply
         requires { by_tally step ≡ true }
         ensures takes { Takes self.old.state step result self.new.state }
+        ensures stores { StoresStep self.old.log step result self.new.log }
         ensures same { IsSame self.old self.new }
         ensures kind { IsReplyTo step result }
         ensures good { seat.new.tally.good ≡ seat.old.tally.good + ended_well step result }

@@ -7,8 +7,8 @@ use Rattle.iova_model.specs.declared.step.Step.TheVariants as step
 use Rattle.iova_model.specs.declared.step.Reply.TheVariants as reply
 use Rattle.iova_model.specs.State.{State}
 use Rattle.iova_keep.specs.Steps.{Takes}
-use Rattle.iova_keep.specs.StepLogs.{GoesOn}
-use Rattle.iova_record.proofs.GoingOn.{goes_on_here, goes_on_further}
+use Rattle.iova_keep.specs.StepLogs.{StoresStep}
+use Rattle.iova_record.proofs.GoingOn.{goes_on_here, goes_on_further, step_goes_on}
 use Rattle.iova_lock.specs.Books.{BookState}
 use Rattle.iova_planned.specs.PlannedDomains.{IsReserved, ReservesAll}
 
@@ -20,12 +20,12 @@ reserved_one w got hi s t is takes =
     (t, got, subst (λ (n : ℕ). Takes s (step.Reserve w.lo n) (reply.Reserved got) t) last takes, refl)
 
 pub reserved_window : (w got : Frames) (hi : ℕ) (a b : BookState) → hi + 1 ≡ w.lo + w.len → Takes a.state (step.Reserve w.lo hi) (reply.Reserved got) b.state
-    → b.number ≡ a.number → b.strict ≡ a.strict → GoesOn a.log b.log → IsReserved (w ∷ []) a b
-reserved_window w got hi a b is takes number strict log = record {
+    → b.number ≡ a.number → b.strict ≡ a.strict → StoresStep a.log (step.Reserve w.lo hi) (reply.Reserved got) b.log → IsReserved (w ∷ []) a b
+reserved_window w got hi a b is takes number strict stored = record {
   domain = reserved_one w got hi a.state b.state is takes;
   number = number;
   strict = strict;
-  log = log;
+  log = step_goes_on a.log b.log (step.Reserve w.lo hi) (reply.Reserved got) stored;
 }
 
 -- none

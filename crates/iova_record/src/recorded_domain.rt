@@ -10,7 +10,7 @@ ghost use Rattle.iova_model.specs.Effects.{MovesTotals, IsReplyTo, ended_well, t
 ghost use Rattle.iova_model.specs.Transcript.{Pair};
 ghost use Rattle.iova_keep.specs.Steps.{Takes, IsGivenWithin, IsDrainReply};
 ghost use Rattle.iova_record.specs.Records.{RecordedState};
-ghost use Rattle.iova_keep.specs.StepLogs.{StepLog, IsRecorded, is_recording, new_log, StoresPair, StoresStep, GoesOn};
+ghost use Rattle.iova_keep.specs.StepLogs.{StepLog, IsRecorded, is_recording, new_log, StoresPair, StoresStep};
 ghost use Rattle.iova_model.specs.declared.step.Step.{Step};
 ghost use Rattle.iova_keep.specs.Views.{Covers, left_of, stat_of, IsKept};
 
@@ -167,7 +167,6 @@ impl RecordedDomain {
     pub fn step(&mut self, step: Step) -> Reply
         ensures takes { Takes self.old.state step result self.new.state }
         ensures stores { StoresStep self.old.log step result self.new.log }
-        ensures goes_on { GoesOn self.old.log self.new.log }
         ensures moves { MovesTotals result (totals self.old.state.clients)
             (totals self.new.state.clients) }
         ensures good { self.new.state.flushes.good

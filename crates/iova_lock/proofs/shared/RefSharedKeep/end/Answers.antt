@@ -1,5 +1,5 @@
-use Rattle.iova_keep.specs.StepLogs.{unrecorded}
+use Rattle.iova_lock.proofs.Storing.{reply_unsaid}
 use Rattle.iova_lock.proofs.shared.RefSharedKeep.end.Goals as goal
 
 pub returns-clause-log : goal.returns-clause-log
-returns-clause-log g c = unrecorded
+returns-clause-log g c = reply_unsaid _ _ _ _ c.end.ensures.log

@@ -1,8 +1,7 @@
 use Rattle.std.proofs.Common.{Some}
 use Rattle.iova_model.specs.Transcript.{Pair}
 use Rattle.iova_keep.specs.StepLogs.{Stores}
-use Rattle.iova_record.proofs.StepLogs.{takes, recorded_goes_on, stores_goes_on}
-use Rattle.iova_record.proofs.GoingOn.{goes_on_here}
+use Rattle.iova_record.proofs.StepLogs.{takes, recorded_goes_on}
 use Rattle.iova_record.proofs.Drains.{drain_replies}
 use Rattle.iova_record.proofs.KnownWorkers.{known}
 use Rattle.iova_record.proofs.recorded_domain.RecordedDomain.step.Goals as goal
@@ -11,9 +10,6 @@ pub returns-in_default-clause-takes : goal.returns-in_default-clause-takes
 returns-in_default-clause-takes c =
     let m = c.step_at-answer in
     rw (← c.self.view_is) (takes c.self.inside.domain c.args.step m.result.1 m.result.0 m.new.self m.ensures.reply m.ensures.state)
-
-pub returns-in_default-clause-goes_on : goal.returns-in_default-clause-goes_on
-returns-in_default-clause-goes_on c = rw (← c.self.view_is) (goes_on_here c.self.inside.log)
 
 pub returns-in_default-clause-known : goal.returns-in_default-clause-known
 returns-in_default-clause-known c =
@@ -40,13 +36,6 @@ returns-clause-takes c =
 
 pub returns-clause-stores : goal.returns-clause-stores
 returns-clause-stores c = rw (← c.self.view_is, c.in-Some.is) (c.step_at-answer.result.1, c.keep.ensures)
-
-pub returns-clause-goes_on : goal.returns-clause-goes_on
-returns-clause-goes_on c =
-    let m = c.step_at-answer in
-    let p : Pair = record { step = c.args.step; point = m.result.1; reply = m.result.0 } in
-    let stored : Stores c.self.inside.log p (Some c.keep.new.self) = rw c.in-Some.is c.keep.ensures in
-    rw (← c.self.view_is) (stores_goes_on c.self.inside.log (Some c.keep.new.self) p stored)
 
 pub returns-clause-known : goal.returns-clause-known
 returns-clause-known c =

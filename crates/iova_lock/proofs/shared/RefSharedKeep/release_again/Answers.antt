@@ -1,5 +1,0 @@
-use Rattle.iova_keep.specs.StepLogs.{unrecorded}
-use Rattle.iova_lock.proofs.shared.RefSharedKeep.release_again.Goals as goal
-
-pub returns-clause-log : goal.returns-clause-log
-returns-clause-log g c = unrecorded
