@@ -1,5 +1,7 @@
 -- What matched words ask for.
-use Rattle.std.specs.Prelude.{◌≡◌, ◌≢◌, Bool, true, false, List, Option, Some, None, option_map, codes}
+use Rattle.std.specs.Prelude.{◌≡◌, ◌≢◌, Bool, true, false, List, Option, Some, None, option_map, option_and_then, find, codes}
+use Rattle.std.specs.Str.{bytes_eq}
+use Rattle.clap.specs.declared.parser.matches.ValueSource.TheVariants.{CommandLine}
 use Rattle.clap.specs.Words.{Row, Text, first_of, one_of}
 use Rattle.iova_range.specs.declared.limits.TheConstants.{DEFAULT_DOMAIN, DEFAULT_LAST, DEFAULT_START, DEFAULT_WORKERS}
 use Rattle.iova_command.specs.Controls.{HasControl}
@@ -13,6 +15,11 @@ use Rattle.iova_command.specs.declared.asked.Asked.{Asked}
 use Rattle.iova_command.specs.declared.asked.Asked.TheVariants.{Replay, Serve, Ask, Check, Control, Watch}
 use Rattle.iova_command.specs.declared.check_plan.CheckPlan.{CheckPlan}
 use Rattle.iova_command.specs.declared.plan.Plan.{Plan}
+
+-- the words have the option, which isn't there by a default
+abbrev pub IsGiven : List Row → Text → Type 0
+IsGiven rows id =
+    option_and_then (λ row. row.source) (find (λ row. bytes_eq row.id id) rows) ≡ Some CommandLine
 
 -- the flag is there
 abbrev pub HasFlag : List Row → Text → Bool → Type 0

@@ -68,10 +68,16 @@ with_options app (option ∷ options) =
 
 -- the bounds of a number are below 2^63
 abbrev pub is_parsable : Takes → Bool
+is_parsable Nothing = true
+is_parsable Path = true
+is_parsable WantedPath = true
 is_parsable (Number low high default) = nat_lt low (2 ^ 63) && nat_lt high (2 ^ 63)
 is_parsable (PowerOfTwo low high) = nat_lt low (2 ^ 63) && nat_lt high (2 ^ 63)
+is_parsable Level = true
+is_parsable Label = true
+is_parsable Spans = true
+is_parsable Place = true
 is_parsable (NumberPlace low high) = nat_lt low (2 ^ 63) && nat_lt high (2 ^ 63)
-is_parsable other = true
 
 abbrev pub are_parsable : List Taken → Bool
 are_parsable [] = true

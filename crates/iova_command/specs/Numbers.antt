@@ -19,6 +19,11 @@ ParsesNumber rows id n =
     (text : Text) × (one_of id rows ≡ Some text)
     × ParsesUnsigned {E = ParseIntError} 64 10 text (Ok n)
 
+-- the number that the option's text is, where it has one that is a number
+abbrev pub ParsesOptional : List Row → Text → Option ℕ → Type 0
+ParsesOptional rows id (Some n) = ParsesNumber rows id n
+ParsesOptional rows id None = (n : ℕ) → ¬ ParsesNumber rows id n
+
 -- the option has a text, which is the number in decimal digits without a sign
 abbrev pub HasNumber : List Row → Text → ℕ → Type 0
 HasNumber rows id n = ParsesNumber rows id n × IsPlain rows id

@@ -1,5 +1,5 @@
 //! Labels: names that stand in notices and metrics as they are.
-ghost use Rattle.std.specs.Prelude.{◌≡◌, map, true};
+ghost use Rattle.std.specs.Prelude.{◌≡◌, ◌↔◌, map, true};
 ghost use Rattle.clap.specs.Words.{found_of, rows_of};
 ghost use Rattle.iova_command.specs.Commands.{taken};
 ghost use Rattle.iova_command.specs.Labels.{AreRight, HasLabel, IsRight, are_label_bytes, is_label, is_label_byte};
@@ -12,7 +12,7 @@ const MAX_LABEL: usize = 64;
 
 /// Whether each option that takes a label has one, where it is there.
 pub(crate) fn are_right(found: &ArgMatches<'_>, rows: &[OptionRow]) -> bool
-    ensures { result ≡ true → AreRight (rows_of (found_of found.now)) (map taken rows.now) }
+    ensures { (result ≡ true) ↔ AreRight (rows_of (found_of found.now)) (map taken rows.now) }
 {
     match rows.split_first() {
         None => true,
@@ -27,7 +27,7 @@ pub(crate) fn are_right(found: &ArgMatches<'_>, rows: &[OptionRow]) -> bool
 
 /// Whether this option, where it takes a label and is there, has one.
 fn is_right(found: &ArgMatches<'_>, row: &OptionRow) -> bool
-    ensures { result ≡ true → IsRight (rows_of (found_of found.now)) (taken row.now) }
+    ensures { (result ≡ true) ↔ IsRight (rows_of (found_of found.now)) (taken row.now) }
 {
     match row.takes {
         Takes::Label => has_label(found, row.name),
@@ -37,7 +37,7 @@ fn is_right(found: &ArgMatches<'_>, row: &OptionRow) -> bool
 
 /// Whether the option of this name, where it is there, has a label.
 fn has_label(found: &ArgMatches<'_>, name: &str) -> bool
-    ensures { result ≡ true → HasLabel (rows_of (found_of found.now)) name.now }
+    ensures { (result ≡ true) ↔ HasLabel (rows_of (found_of found.now)) name.now }
 {
     match found.get_str(name) {
         Some(text) => is_label(text),

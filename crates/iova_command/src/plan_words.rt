@@ -38,7 +38,7 @@ fn write_option<W: fmt::Write>(
 ) -> fmt::Result {
     let name = option.name;
     match option.takes {
-        Takes::Nothing if said.has(name) => write!(f, " --{name}"),
+        Takes::Nothing if said.is_given(name) => write!(f, " --{name}"),
         Takes::Nothing => Ok(()),
         Takes::Number { default, .. } if is_asked_for(said, option) => {
             write_number(name, said.number(name).or(default), f)
@@ -52,7 +52,7 @@ fn write_option<W: fmt::Write>(
 
 /// Whether an option may be there: it needs no other one, or that is there.
 fn is_asked_for(said: &Said<'_>, option: &OptionRow) -> bool {
-    option.needs.is_empty() || said.has(option.needs)
+    option.needs.is_empty() || said.is_given(option.needs)
 }
 
 /// An option with a number, where there is one.

@@ -1,7 +1,9 @@
 //! What the words say of a command's options.
-ghost use Rattle.std.specs.Prelude.{◌≡◌};
+ghost use Rattle.std.specs.Prelude.{◌≡◌, ◌↔◌, true};
 ghost use Rattle.std.specs.Option.{option_map};
 ghost use Rattle.clap.specs.Words.{first_of, found_of, rows_of};
+ghost use Rattle.iova_command.specs.Asks.{IsGiven};
+ghost use Rattle.iova_command.specs.Numbers.{ParsesOptional};
 
 use clap::ArgMatches;
 use clap::parser::ValueSource;
@@ -38,18 +40,25 @@ impl<'a> Said<'a> {
         self.found.get_str(name)
     }
 
-    /// The number of the option of this name. None where there is none, or has none.
-    pub(crate) fn number(&self, name: &str) -> Option<u64> {
+    /// The number of the option of this name. None where there is no such option, or its text is no
+    /// number.
+    pub(crate) fn number(&self, name: &str) -> Option<u64>
+        ensures { ParsesOptional self.now name.now result }
+    {
         self.found.get_one::<u64>(name)
     }
 
-    /// Whether the option of this name is there.
-    pub(crate) fn has(&self, name: &str) -> bool {
-        is_there(&self.found, name)
+    /// Whether the words have the option of this name.
+    pub(crate) fn is_given(&self, name: &str) -> bool
+        ensures { (result ≡ true) ↔ IsGiven self.now name.now }
+    {
+        is_given(&self.found, name)
     }
 }
 
 /// Whether the words have the option of this name.
-pub(crate) fn is_there(found: &ArgMatches<'_>, name: &str) -> bool {
+pub(crate) fn is_given(found: &ArgMatches<'_>, name: &str) -> bool
+    ensures { (result ≡ true) ↔ IsGiven (rows_of (found_of found.now)) name.now }
+{
     matches!(found.value_source(name), Some(ValueSource::CommandLine))
 }

@@ -3,7 +3,7 @@ use crate::control_word::ControlWord;
 use crate::label::is_label;
 use crate::options::{OptionRow, Takes, ask_rows, check_rows, control_rows, serve_rows};
 use crate::plan::{has_plus, is_granule, level_of};
-use crate::said::is_there;
+use crate::said::is_given;
 use crate::words::WATCH;
 use clap::ArgMatches;
 use iova_range::limits::MAX_WATCH_PAUSE;
@@ -164,7 +164,7 @@ fn missing_need(
     let Some(value) = found.get_str(name) else {
         return Ok(None);
     };
-    if need.is_empty() || is_there(found, need) {
+    if need.is_empty() || is_given(found, need) {
         return Ok(None);
     }
     let text = format!(in alloc; "--{name} '{value}' is for --{need}, which is missing")?;
