@@ -22,15 +22,11 @@ range_answer reply.Ended = record { refused = 0; lo = 0; len = 0 }
 range_answer (reply.Drained number) = record { refused = 0; lo = 0; len = 0 }
 range_answer (reply.Marked number) = record { refused = 0; lo = 0; len = 0 }
 
--- an answer of a range from two numbers: a length of 0 has a refusal's number before it
-abbrev pub unpacked : ℕ × ℕ → RangeAnswer
-unpacked (first, len) =
-    if len == 0 then record { refused = first; lo = 0; len = 0 }
-    else record { refused = 0; lo = first; len = len }
-
--- the answer of a range that comes in two registers
-abbrev pub range_packed : PackedAnswer → RangeAnswer
-range_packed a = unpacked (a.lo, a.len)
+-- the answer of a range that comes in two registers: a length of 0 has a refusal's number before it
+abbrev pub unpacked : PackedAnswer → RangeAnswer
+unpacked packed =
+    if packed.len == 0 then record { refused = packed.lo; lo = 0; len = 0 }
+    else record { refused = 0; lo = packed.lo; len = packed.len }
 
 -- the number of a reply, 0 where it has none
 abbrev pub number_answer : Reply → NumberAnswer

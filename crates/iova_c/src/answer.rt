@@ -177,42 +177,44 @@ pub fn of_range(reply: Reply) -> RangeAnswer
     }
 }
 
-/// What `of_range` answers, in two numbers: the first frame and how many there are, or the number
-/// of the refusal and 0.
-pub fn pack(reply: Reply) -> (u64, u64)
+/// What `of_range` answers, in two registers.
+pub fn pack(reply: Reply) -> PackedAnswer
     ensures { unpacked result ≡ range_answer reply }
 {
     match reply {
-        Reply::Reserved(range) | Reply::Given(range) | Reply::Queued(range) => {
-            (range.lo(), range.len())
-        }
-        Reply::Refused(refusal) => (number_of(refusal), 0),
+        Reply::Reserved(range) | Reply::Given(range) | Reply::Queued(range) => PackedAnswer {
+            lo: range.lo(),
+            len: range.len(),
+        },
+        Reply::Refused(refusal) => PackedAnswer {
+            lo: number_of(refusal),
+            len: 0,
+        },
         Reply::Opened(_)
         | Reply::Empty
         | Reply::Begun(_)
         | Reply::Ended
         | Reply::Drained(_)
-        | Reply::Marked(_) => (0, 0),
+        | Reply::Marked(_) => PackedAnswer { lo: 0, len: 0 },
     }
 }
 
 /// What was packed.
 #[inline(always)]
-pub fn unpack(packed: (u64, u64)) -> RangeAnswer
+pub fn unpack(packed: PackedAnswer) -> RangeAnswer
     ensures { result ≡ unpacked packed }
 {
-    let (first, len) = packed;
-    if len == 0 {
+    if packed.len == 0 {
         RangeAnswer {
-            refused: first,
+            refused: packed.lo,
             lo: 0,
             len: 0,
         }
     } else {
         RangeAnswer {
             refused: 0,
-            lo: first,
-            len,
+            lo: packed.lo,
+            len: packed.len,
         }
     }
 }

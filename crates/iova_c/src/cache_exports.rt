@@ -5,7 +5,7 @@ ghost use Rattle.std.specs.Prelude.{◌≡◌, ◌≤◌, None};
 ghost use Rattle.std.specs.Borrow.{full_share, sem};
 ghost use Rattle.std.specs.Ptr.{lies_at, room_at};
 ghost use denote.Memory.{mem};
-ghost use Rattle.iova_c.specs.Answers.{range_packed};
+ghost use Rattle.iova_c.specs.Answers.{unpacked};
 ghost use Rattle.iova_c.specs.Bytes.{frame_at, frames_of, last_frame};
 ghost use Rattle.iova_c.specs.Slots.{is_set};
 ghost use Rattle.iova_c.specs.Caches.{granule_in, AllocCall, UnmapCall, MapCall, UnmapBytesCall, SettleCall, PutCall, TakeCall, RoomCall, KeepCall, ReleaseCall, AnyCall, ApartCall, CountsCall, MakeCall, RefillCall, SpillCall, AllocByCall, UnmapByCall, EndCall};
@@ -95,7 +95,7 @@ pub unsafe extern "C" fn iova_cache_alloc_packed(
     ghost old: { CacheSlot }
     requires* { sem 𝓛 (lies_at the_row full_share cache old) }
     ensures* { ∃ₛ (λ (new : CacheSlot). sem 𝓛 (lies_at the_row full_share cache new)
-        ∗ ⌜ AllocCall old.cache frames limit (range_packed result) new.cache ⌝) }
+        ∗ ⌜ AllocCall old.cache frames limit (unpacked result) new.cache ⌝) }
 {
     alloc_packed(&mut *(cache as *mut CacheSlot), frames, limit)
 }
@@ -121,7 +121,7 @@ pub unsafe extern "C" fn iova_cache_unmap_packed(
     ghost old: { CacheSlot }
     requires* { sem 𝓛 (lies_at the_row full_share cache old) }
     ensures* { ∃ₛ (λ (new : CacheSlot). sem 𝓛 (lies_at the_row full_share cache new)
-        ∗ ⌜ UnmapCall old.cache lo start (range_packed result) new.cache ⌝) }
+        ∗ ⌜ UnmapCall old.cache lo start (unpacked result) new.cache ⌝) }
 {
     unmap_packed(&mut *(cache as *mut CacheSlot), lo, start)
 }

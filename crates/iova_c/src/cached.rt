@@ -1,6 +1,6 @@
 //! A place for one cache, and the calls of a cache that need no domain, in numbers.
 ghost use Rattle.std.specs.Prelude.{◌≡◌, None, IfSome, IfNone};
-ghost use Rattle.iova_c.specs.Answers.{range_packed};
+ghost use Rattle.iova_c.specs.Answers.{unpacked};
 ghost use Rattle.iova_c.specs.Slots.{is_set};
 ghost use Rattle.iova_c.specs.Caches.{some_answer, no_range, a_range, AllocCall, UnmapCall, SettleCall, PutCall, TakeCall, RoomCall, KeepCall, ReleaseCall, AnyCall, ApartCall, CountsCall};
 
@@ -83,7 +83,7 @@ pub(crate) fn given(range: Range) -> RangeAnswer
 
 #[inline(always)]
 fn packed(range: Range) -> PackedAnswer
-    ensures { range_packed result ≡ a_range range }
+    ensures { unpacked result ≡ a_range range }
 {
     PackedAnswer {
         lo: range.lo(),
@@ -93,7 +93,7 @@ fn packed(range: Range) -> PackedAnswer
 
 #[inline(always)]
 fn packed_refusal(number: u64) -> PackedAnswer
-    ensures { range_packed result ≡ no_range number }
+    ensures { unpacked result ≡ no_range number }
 {
     PackedAnswer { lo: number, len: 0 }
 }
@@ -124,14 +124,13 @@ fn alloc_fast(slot: &mut CacheSlot, frames: u64, limit: u64) -> Option<Range>
 pub fn alloc(slot: &mut CacheSlot, frames: u64, limit: u64) -> RangeAnswer
     ensures { AllocCall slot.old.cache frames limit result slot.new.cache }
 {
-    let answer = alloc_packed(slot, frames, limit);
-    unpack((answer.lo, answer.len))
+    unpack(alloc_packed(slot, frames, limit))
 }
 
 /// `alloc`, answered in two registers. What is seldom done is out of line.
 #[inline(always)]
 pub fn alloc_packed(slot: &mut CacheSlot, frames: u64, limit: u64) -> PackedAnswer
-    ensures { AllocCall slot.old.cache frames limit (range_packed result) slot.new.cache }
+    ensures { AllocCall slot.old.cache frames limit (unpacked result) slot.new.cache }
 {
     match alloc_fast(slot, frames, limit) {
         Some(range) => packed(range),
@@ -143,7 +142,7 @@ pub fn alloc_packed(slot: &mut CacheSlot, frames: u64, limit: u64) -> PackedAnsw
 #[cold]
 #[inline(never)]
 fn alloc_cold(slot: &mut CacheSlot, frames: u64, limit: u64) -> PackedAnswer
-    ensures { AllocCall slot.old.cache frames limit (range_packed result) slot.new.cache }
+    ensures { AllocCall slot.old.cache frames limit (unpacked result) slot.new.cache }
 {
     match &mut slot.cache {
         Some(cached) => match cached.cache.alloc(frames, limit) {
@@ -174,14 +173,13 @@ fn unmap_fast(slot: &mut CacheSlot, lo: u64, start: u64) -> Option<Range>
 pub fn unmap(slot: &mut CacheSlot, lo: u64, start: u64) -> RangeAnswer
     ensures { UnmapCall slot.old.cache lo start result slot.new.cache }
 {
-    let answer = unmap_packed(slot, lo, start);
-    unpack((answer.lo, answer.len))
+    unpack(unmap_packed(slot, lo, start))
 }
 
 /// `unmap`, answered in two registers. What is seldom done is out of line.
 #[inline(always)]
 pub fn unmap_packed(slot: &mut CacheSlot, lo: u64, start: u64) -> PackedAnswer
-    ensures { UnmapCall slot.old.cache lo start (range_packed result) slot.new.cache }
+    ensures { UnmapCall slot.old.cache lo start (unpacked result) slot.new.cache }
 {
     match unmap_fast(slot, lo, start) {
         Some(range) => packed(range),
@@ -193,7 +191,7 @@ pub fn unmap_packed(slot: &mut CacheSlot, lo: u64, start: u64) -> PackedAnswer
 #[cold]
 #[inline(never)]
 fn unmap_cold(slot: &mut CacheSlot, lo: u64, start: u64) -> PackedAnswer
-    ensures { UnmapCall slot.old.cache lo start (range_packed result) slot.new.cache }
+    ensures { UnmapCall slot.old.cache lo start (unpacked result) slot.new.cache }
 {
     match &mut slot.cache {
         Some(cached) => match cached.cache.unmap(lo, start) {

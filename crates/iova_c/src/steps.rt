@@ -4,7 +4,7 @@ ghost use Rattle.iova_c.specs.Answers.{unpacked};
 ghost use Rattle.iova_c.specs.Slots.{is_set, granule_of, OpenStep, RangeStep, NumberStep, WordStep};
 
 use crate::answer::{
-    NumberAnswer, RangeAnswer, number_of, of_number, of_range, of_word, pack, unpack,
+    NumberAnswer, PackedAnswer, RangeAnswer, number_of, of_number, of_range, of_word, pack, unpack,
 };
 use crate::granule::FRAME_BYTES;
 use crate::slot::{Slot, is_unmap_fast, step, step_cold};
@@ -67,7 +67,7 @@ pub fn unmap(slot: &mut Slot, worker: u64, client: u64, lo: u64) -> RangeAnswer
 /// Out of line and answered in two registers, so that the caller has no room for a reply, and
 /// nothing to keep.
 #[inline(never)]
-fn unmap_cold(slot: &mut Slot, worker: u64, client: u64, lo: u64) -> (u64, u64)
+fn unmap_cold(slot: &mut Slot, worker: u64, client: u64, lo: u64) -> PackedAnswer
     ensures { RangeStep slot.old.domain (Step.Unmap worker client lo) (unpacked result)
         slot.new.domain }
 {

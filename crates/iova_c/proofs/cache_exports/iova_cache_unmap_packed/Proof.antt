@@ -1,7 +1,7 @@
 -- The slot at the pointer is lent for a lifetime that is made for the call, and lies there again once it is ended.
 use Rattle.iova_c.proofs.Words.{ℕ, ◌^◌, ◌<◌, [], ◌∷◌, ◌++◌, refl, sym, subst, w64, MutBor, full_share, named, Val, vint, vptr, SProp, ent, sep, emp, ex, ex_i, never, id⊢, Lft, GName, ftrue, flft, flent, WpFn, sem, Body, suffices, ‵, raw, ◌⊛◌, some, later, ◌$◌, ◌∵◌, !, qed, by, move, keep, use0, use1, use2, use3, split, join, pick, fsplit, fjoin, await, lft_new, lft_end, stop, addr, of_opd, and_then, no_more, returns, enter, alloc_all, pass_all, free_all, look_at, get, through, sets, lands_as, fact, fact_i, tables, yes, RattleType, Is, shows, part_at, mem, uint_vals, uint_Tells, uint_Makes, u64, MutRef, lends_ref, ref_back, Ptr, block_ptr, RawPtr, rawptr_vals, rawptr_Tells, lies_at, in_a_block, plain, owned, peeks, heard, nothing, calls_at, Lasts, lasts, on_entry, triple_of, Stays, stay_dropped, walk_of, Goes-dropped, fm, proved, leaves}
 use Rattle.iova_c.specs.contracts.cached.CacheSlot.{the_row}
-use Rattle.iova_c.specs.Answers.{range_packed}
+use Rattle.iova_c.specs.Answers.{unpacked}
 use Rattle.iova_c.specs.Caches.{UnmapCall}
 use Rattle.iova_c.specs.contracts.answer.PackedAnswer.{the_row as Out}
 use Rattle.iova_c.proofs.answer.PackedAnswer.TheLaws as out_laws
@@ -23,7 +23,7 @@ iova_cache_unmap_packed_spec 𝓤 𝓛 𝓜 𝓡 wired =
     let x1 : ℕ = a.1.1.0 in let fx1 : x1 < 2 ^ 64 = are.1.1.0.1 in
     let At : Ptr → (walk_of 𝓛 ended hs c).Ghost = λ p. ((tt, tt, tt, (p, (x0, (x1, tt))), (rawptr_vals p, (vint w64 x0 ∷ [], (vint w64 x1 ∷ [], tt)))), old) in
     let Ends : Ptr → Val → SProp 𝓤 = λ p. (walk_of 𝓛 ended hs c).post (At p) in
-    let Told : Out.Denot → R.Denot → Type 0 = λ result new. UnmapCall old.cache x0 x1 (range_packed result) new.cache in
+    let Told : Out.Denot → R.Denot → Type 0 = λ result new. UnmapCall old.cache x0 x1 (unpacked result) new.cache in
     let New : Ptr → Out.Denot → R.Denot → SProp 𝓤 = λ p r new. sep 𝓤 (sem 𝓛 (lies_at R full_share p new)) (fact 𝓤 (Told r new)) in
     let Runs : Ptr → SProp 𝓤 = λ p. WpFn 𝓤 H 𝓣.C 𝓣.Λ code.function ((rawptr_vals p ++ (vint w64 x0 ∷ vint w64 x1 ∷ []))) (Ends p) in
     qed 𝓛 (raw (on_entry 𝓛 ended.signature tt tt a (rawptr_vals a.0, (vint w64 x0 ∷ [], (vint w64 x1 ∷ [], tt)))) ∷ ‵ (lies_at R full_share a.0 old) ∷ []) ∵ move ! (1 ∷ []) $
