@@ -1,5 +1,5 @@
 //! A daemon's control socket: what the daemon does now, asked in lines, and its stop.
-ghost use Rattle.std.specs.Prelude.{◌≡◌, ◌≤◌, ◌++◌, false, length, true};
+ghost use Rattle.std.specs.Prelude.{◌≡◌, ◌<◌, ◌≤◌, ◌++◌, false, length, true};
 ghost use Rattle.iova_control.specs.Texts.{answer_text};
 
 use crate::info::put_info;
@@ -84,9 +84,15 @@ impl Facts {
         }
     }
 
-    /// Gives the daemon this name. A name that is longer than 64 bytes is not kept.
-    pub fn set_name(&mut self, name: &str) {
-        let _ = self.name.try_push_str(name);
+    /// Gives the daemon this name. One that is longer than 64 bytes changes nothing.
+    pub fn set_name(&mut self, name: &str)
+        ensures named { length name.now ≤ MAX_NAME → self.new.name.bytes ≡ name.now }
+        ensures too_long { MAX_NAME < length name.now → self.new ≡ self.old }
+        ensures others { self.new ≡ record self.old { name = self.new.name } }
+    {
+        if let Ok(kept) = ArrayString::from(name) {
+            self.name = kept;
+        }
     }
 }
 
