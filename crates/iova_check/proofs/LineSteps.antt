@@ -9,7 +9,7 @@ use Rattle.iova_check.specs.declared.event.Event.TheVariants.{Other}
 use Rattle.iova_check.specs.declared.event.OtherLine.TheVariants.{Plain}
 use Rattle.iova_check.specs.declared.checker.Checker.{Checker}
 use Rattle.iova_check.specs.declared.fault.CheckFault.TheVariants as fault
-use Rattle.iova_check.specs.declared.run.Progress.{Progress}
+use Rattle.iova_check.specs.declared.run.CheckState.{CheckState}
 use Rattle.iova_check.specs.declared.source.Form.{Form}
 use Rattle.iova_check.specs.declared.source.Form.TheVariants as form
 use Rattle.iova_check.specs.declared.source.Source.{Source}
@@ -20,7 +20,7 @@ use Rattle.iova_check.specs.Trace.{event_said}
 use Rattle.iova_check.specs.Logs.{Lines, events_text, IsLog, IsTrace, AreLinesOf, AreLines, IsOfLog, IsCutOff, AreFirstLines, first_lines_text, next_line_number, MayFollow}
 use Rattle.iova_check.specs.Checking.{HasChecked, ChecksNext}
 use Rattle.iova_check.specs.Runs.{IsChecked, IsDone, StopsAtCut}
-use Rattle.iova_check.specs.Progress.{IsFront, IsKeptOf, IsRestOf, IsOpen, IsBegun, HasTaken, number_at, Goes, Stops, is_last}
+use Rattle.iova_check.specs.CheckState.{IsFront, IsKeptOf, IsRestOf, IsOpen, IsBegun, HasTaken, number_at, Goes, Stops, is_last}
 use Rattle.iova_text.proofs.Cuts.{list_all-append}
 use Rattle.iova_check.proofs.TraceWords.{long_says}
 
@@ -149,7 +149,7 @@ gathered_more text written before after more is appended =
     ap (λ (x : List ℕ). x ++ more) is ∙ (append_assoc written before more
     ∙ (ap (λ (x : List ℕ). written ++ x) (sym appended) ∙ ap (λ (x : List ℕ). x ++ after) (sym (append-nil written))))
 
-pub header_taken : (source : Source) (p q : Progress) (line : List ℕ) (first last : ℕ) (fresh c : Checker) → source.form ≡ form.Log
+pub header_taken : (source : Source) (p q : CheckState) (line : List ℕ) (first last : ℕ) (fresh c : Checker) → source.form ≡ form.Log
     → p.line.items ≡ [] → p.checker ≡ None → IsHeader first last → line ≡ header_text first last
     → q.line.items ≡ p.line.items → q.checker ≡ Some c → HasChecked (bounds_asked source.asked first last) [] fresh []
     → ChecksNext fresh (Other Plain) p.findings.items c q.findings.items → Goes source p (whole_line line) [] q
@@ -195,7 +195,7 @@ open_some : (f : Form) (c : Checker) → IsOpen f (Some c)
 open_some form.Log c = tt
 open_some (form.Trace domain) c = tt
 
-pub line_taken : (source : Source) (p q : Progress) (line : List ℕ) (old new : Checker) (e : Event)
+pub line_taken : (source : Source) (p q : CheckState) (line : List ℕ) (old new : Checker) (e : Event)
     → ((l : Lines) → AreLines source l → AreLines source (with_line l e line))
     → p.line.items ≡ [] → p.checker ≡ Some old → ChecksNext old e p.findings.items new q.findings.items
     → q.line.items ≡ p.line.items → q.checker ≡ Some new → Goes source p (whole_line line) [] q
@@ -235,7 +235,7 @@ HasNoLf-take : (n : ℕ) (bytes : List ℕ) → HasNoLf bytes → HasNoLf (take 
 HasNoLf-take n bytes all = HasNoLf-left (take n bytes) (drop n bytes) (ap (list_all is_not_lf) (take-append-drop n bytes) ∙ all)
 
 -- what has come of a line, and more of it
-rest_taken : (source : Source) (p q : Progress) (bytes : List ℕ) → ((rest : List ℕ) → IsRestOf source.form p.line.items rest → IsRestOf source.form q.line.items (rest ++ bytes))
+rest_taken : (source : Source) (p q : CheckState) (bytes : List ℕ) → ((rest : List ℕ) → IsRestOf source.form p.line.items rest → IsRestOf source.form q.line.items (rest ++ bytes))
     → q.checker ≡ p.checker → q.findings.items ≡ p.findings.items → Goes source p bytes [] q
 rest_taken source p q bytes more checker findings taken written st = record {
   lines = st.lines;
@@ -251,7 +251,7 @@ rest_taken source p q bytes more checker findings taken written st = record {
   gathered = st.gathered ∙ (ap (λ (x : List ℕ). written ++ x) (sym findings) ∙ ap (λ (x : List ℕ). x ++ q.findings.items) (sym (append-nil written)));
 }
 
-pub part_kept : (source : Source) (p q : Progress) (bytes : List ℕ) → source.form ≡ form.Log → HasNoLf bytes
+pub part_kept : (source : Source) (p q : CheckState) (bytes : List ℕ) → source.form ≡ form.Log → HasNoLf bytes
     → length p.line.items + length bytes < 128 → q.line.items ≡ p.line.items ++ bytes
     → q.checker ≡ p.checker → q.findings.items ≡ p.findings.items → Goes source p bytes [] q
 part_kept source p q bytes log one short line checker findings =
@@ -295,7 +295,7 @@ front_more kept bytes rest n one fits within room h = elim h.all_or_long [
   | inr long ↦ front_long kept bytes rest n one h long (omega (arith, long, room))
 ]
 
-pub front_kept : (source : Source) (domain : Option ℕ) (p q : Progress) (bytes : List ℕ) (n : ℕ) → source.form ≡ form.Trace domain → HasNoLf bytes
+pub front_kept : (source : Source) (domain : Option ℕ) (p q : CheckState) (bytes : List ℕ) (n : ℕ) → source.form ≡ form.Trace domain → HasNoLf bytes
     → (length bytes ≤ n) ⊎ (1024 ≤ length p.line.items + n) → n ≤ length bytes → n + length p.line.items ≤ 1024
     → q.line.items ≡ p.line.items ++ take n bytes → q.checker ≡ p.checker → q.findings.items ≡ p.findings.items → Goes source p bytes [] q
 front_kept source domain p q bytes n trace one fits within room line checker findings =
@@ -311,7 +311,7 @@ of_log : (f : Form) → f ≡ form.Log → IsOfLog f
 of_log f is = let P : Form → Type 0 = IsOfLog in subst P (sym is) tt
 
 -- memory is refused
-pub no_memory : (source : Source) (p : Progress) (bytes : List ℕ) → Stops source p bytes p.findings.items fault.NoMemory
+pub no_memory : (source : Source) (p : CheckState) (bytes : List ℕ) → Stops source p bytes p.findings.items fault.NoMemory
 no_memory source p bytes taken written st = record {
   lines = st.lines;
   rest = st.rest ++ bytes;
@@ -327,7 +327,7 @@ no_memory source p bytes taken written st = record {
 }
 
 -- a line that may not stand there
-pub bad_line : (source : Source) (p : Progress) (line : List ℕ) (number : ℕ) → source.form ≡ form.Log → HasNoLf line → p.line.items ≡ []
+pub bad_line : (source : Source) (p : CheckState) (line : List ℕ) (number : ℕ) → source.form ≡ form.Log → HasNoLf line → p.line.items ≡ []
     → ((lines : Option Lines) (text : List ℕ) → IsChecked lines p.checker text → ¬ MayFollow lines line) → number ≡ number_at p.checker
     → Stops source p (whole_line line) p.findings.items (fault.BadLog number)
 bad_line source p line number log one empty bad is taken written st =
@@ -367,7 +367,7 @@ bad_header checker line is none (Some l) text r = absurd (let P : Option Checker
 log_rest : (f : Form) (kept rest : List ℕ) → f ≡ form.Log → IsRestOf f kept rest → (rest ≡ kept) × IsUnended kept
 log_rest f kept rest is h = let P : Form → Type 0 = λ x. IsRestOf x kept rest in subst P is h
 
-pub overlong : (source : Source) (p : Progress) (bytes : List ℕ) (number : ℕ) → source.form ≡ form.Log → HasNoLf bytes
+pub overlong : (source : Source) (p : CheckState) (bytes : List ℕ) (number : ℕ) → source.form ≡ form.Log → HasNoLf bytes
     → 128 ≤ length p.line.items + length bytes → number ≡ number_at p.checker → Stops source p bytes p.findings.items (fault.BadLog number)
 overlong source p bytes number log more long is taken written st =
     let kept = log_rest source.form p.line.items st.rest log st.kept in
@@ -388,7 +388,7 @@ overlong source p bytes number log more long is taken written st =
 
 -- The beginning and the end
 
-pub begun_stands : (source : Source) (p : Progress) → IsBegun source.form source.asked p.checker → p.line.items ≡ [] → p.findings.items ≡ [] → HasTaken source [] [] p
+pub begun_stands : (source : Source) (p : CheckState) → IsBegun source.form source.asked p.checker → p.line.items ≡ [] → p.findings.items ≡ [] → HasTaken source [] [] p
 begun_stands source p begun empty none = go source.form source.asked p.checker begun refl (refl, refl)
   where
     stands : (lines : Option Lines) → AreFirstLines source lines → first_lines_text lines ≡ [] → IsOpen source.form p.checker → IsChecked lines p.checker []
@@ -433,7 +433,7 @@ cut_lines : (lines : Option Lines) (rest : List ℕ) → HasNoLf rest → ((l : 
 cut_lines None rest one some = one
 cut_lines (Some l) rest one some = (one, some l refl)
 
-pub ends_cut : (source : Source) (taken written : List ℕ) (p : Progress) (number : ℕ) → HasTaken source taken written p → p.findings.items ≡ []
+pub ends_cut : (source : Source) (taken written : List ℕ) (p : CheckState) (number : ℕ) → HasTaken source taken written p → p.findings.items ≡ []
     → IsOfLog source.form → number ≡ number_at p.checker → (p.line.items ≢ []) ⊎ (p.checker ≡ None) → StopsAtCut source taken written number
 ends_cut source taken written p number st none log is why =
     let kept = log_rest source.form p.line.items st.rest (is_log source.form log) st.kept in
@@ -463,7 +463,7 @@ done_lines source (Some l) checker c taken rest written is r good whole = record
   checked = (let P : Option Checker → Type 0 = λ x. IsChecked (Some l) x written in subst P is r);
 }
 
-pub ends_done : (source : Source) (taken written : List ℕ) (p : Progress) (c : Checker) → HasTaken source taken written p → p.findings.items ≡ []
+pub ends_done : (source : Source) (taken written : List ℕ) (p : CheckState) (c : Checker) → HasTaken source taken written p → p.findings.items ≡ []
     → p.line.items ≡ [] → p.checker ≡ Some c → IsDone source taken written c
 ends_done source taken written p c st none empty is =
     let nothing : st.rest ≡ [] = rest_empty source.form p.line.items st.rest empty st.kept in

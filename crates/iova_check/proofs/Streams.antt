@@ -11,24 +11,24 @@ use Rattle.iova_check.specs.declared.checker.Checker.{Checker}
 use Rattle.iova_check.specs.Logs.{Lines}
 use Rattle.iova_check.specs.declared.fault.CheckFault.{CheckFault}
 use Rattle.iova_check.specs.declared.fault.CheckFault.TheVariants as fault
-use Rattle.iova_check.specs.declared.run.Progress.{Progress}
+use Rattle.iova_check.specs.declared.run.CheckState.{CheckState}
 use Rattle.iova_text.specs.Lines.{HasNoLf, whole_line, IsUnended}
 use Rattle.iova_text.proofs.LineEnds.{odd_more, overlong_more}
 use Rattle.iova_text.proofs.LineEnds.{no_line}
 use Rattle.iova_check.proofs.LineSteps.{rest_one, rest_kept, no_rest}
 use Rattle.iova_check.specs.Logs.{BeginsWithLines, IsBad, MayFollow, first_lines_text}
 use Rattle.iova_check.specs.Runs.{IsUnendedIn, AreRead, BreaksOff, IsChecked, StopsInLine, TellsOfCheck, Checks}
-use Rattle.iova_check.specs.Progress.{IsKeptOf, IsRestOf, IsOpen, is_last, HasTaken, Goes, EndsCheck, Stops, Outcome, TakesBytes, Closes}
+use Rattle.iova_check.specs.CheckState.{IsKeptOf, IsRestOf, IsOpen, is_last, HasTaken, Goes, EndsCheck, Stops, Outcome, TakesBytes, Closes}
 
 -- Outcomes
 
-pub Goes-then : (source : Source) → (a b c : Progress) (p q v w : List ℕ) → Goes source a p v b → Goes source b q w c → Goes source a (p ++ q) (v ++ w) c
+pub Goes-then : (source : Source) → (a b c : CheckState) (p q v w : List ℕ) → Goes source a p v b → Goes source b q w c → Goes source a (p ++ q) (v ++ w) c
 Goes-then source a b c p q v w first second taken written st =
     let P : List ℕ → Type 0 = λ x. HasTaken source x ((written ++ v) ++ w) c in
     let Q : List ℕ → Type 0 = λ x. HasTaken source (taken ++ (p ++ q)) x c in
     subst Q (append_assoc written v w) (subst P (append_assoc taken p q) (second (taken ++ p) (written ++ v) (first taken written st)))
 
-pub Stops-then : (source : Source) → (a b : Progress) (p q v w : List ℕ) (e : CheckFault) → Goes source a p v b → Stops source b q w e → Stops source a (p ++ q) (v ++ w) e
+pub Stops-then : (source : Source) → (a b : CheckState) (p q v w : List ℕ) (e : CheckFault) → Goes source a p v b → Stops source b q w e → Stops source a (p ++ q) (v ++ w) e
 Stops-then source a b p q v w e first second taken written st =
     let P : List ℕ → Type 0 = λ x. EndsCheck source x ((written ++ v) ++ w) e in
     let Q : List ℕ → Type 0 = λ x. EndsCheck source (taken ++ (p ++ q)) x e in
@@ -79,7 +79,7 @@ EndsCheck-more source taken more written fault.WriteFault s = record {
   begun = s.begun;
 }
 
-pub Stops-more : (source : Source) → (p : Progress) (bytes more written : List ℕ) (e : CheckFault) → Stops source p bytes written e → Stops source p (bytes ++ more) written e
+pub Stops-more : (source : Source) → (p : CheckState) (bytes more written : List ℕ) (e : CheckFault) → Stops source p bytes written e → Stops source p (bytes ++ more) written e
 Stops-more source p bytes more written e s taken before st =
     let P : List ℕ → Type 0 = λ x. EndsCheck source x (before ++ written) e in
     subst P (append_assoc taken bytes more) (EndsCheck-more source (taken ++ bytes) more (before ++ written) e (s taken before st))
@@ -124,11 +124,11 @@ EndsCheck-broken source taken before more n fault.WriteFault s = record {
 }
 
 -- the fault is that of the write, where the kept findings are not all written
-pub Stops-broken : (source : Source) → (p : Progress) (bytes more : List ℕ) (n : ℕ) (e : CheckFault) → Stops source p bytes more e → Stops source p bytes (take n more) fault.WriteFault
+pub Stops-broken : (source : Source) → (p : CheckState) (bytes more : List ℕ) (n : ℕ) (e : CheckFault) → Stops source p bytes more e → Stops source p bytes (take n more) fault.WriteFault
 Stops-broken source p bytes more n e s taken before st = EndsCheck-broken source (taken ++ bytes) before more n e (s taken before st)
 
 -- after bytes that were taken the kept findings are not all written
-pub Goes-broken : (source : Source) → (p q : Progress) (bytes : List ℕ) (n : ℕ) → Goes source p bytes [] q → Stops source p bytes (take n q.findings.items) fault.WriteFault
+pub Goes-broken : (source : Source) → (p q : CheckState) (bytes : List ℕ) (n : ℕ) → Goes source p bytes [] q → Stops source p bytes (take n q.findings.items) fault.WriteFault
 Goes-broken source p q bytes n goes taken before st =
     let at = goes taken before st in
     record {
@@ -144,7 +144,7 @@ Goes-broken source p q bytes n goes taken before st =
     }
 
 -- after bytes that were taken the kept findings are written
-pub Goes-written : (source : Source) → (p q r : Progress) (bytes : List ℕ) → Goes source p bytes [] q → r.line.items ≡ q.line.items → r.checker ≡ q.checker
+pub Goes-written : (source : Source) → (p q r : CheckState) (bytes : List ℕ) → Goes source p bytes [] q → r.line.items ≡ q.line.items → r.checker ≡ q.checker
     → r.findings.items ≡ [] → Goes source p bytes q.findings.items r
 Goes-written source p q r bytes goes line domain none taken before st =
     let at = goes taken before st in
@@ -160,27 +160,27 @@ Goes-written source p q r bytes goes line domain none taken before st =
           ∙ (sym (append-nil (before ++ q.findings.items)) ∙ ap (λ (x : List ℕ). (before ++ q.findings.items) ++ x) (sym none)));
     }
 
-pub TakesBytes-broken : (source : Source) → (p q : Progress) (bytes : List ℕ) (n : ℕ) (r : Result Unit CheckFault) → TakesBytes source p bytes q r → Stops source p bytes (take n q.findings.items) fault.WriteFault
+pub TakesBytes-broken : (source : Source) → (p q : CheckState) (bytes : List ℕ) (n : ℕ) (r : Result Unit CheckFault) → TakesBytes source p bytes q r → Stops source p bytes (take n q.findings.items) fault.WriteFault
 TakesBytes-broken source p q bytes n (Ok u) t = Goes-broken source p q bytes n t
 TakesBytes-broken source p q bytes n (Err e) t =
     let P : List ℕ → Type 0 = λ x. Stops source p bytes (take n x) fault.WriteFault in
     subst P (sym t.1) (Stops-broken source p bytes p.findings.items n e t.0)
 
-pub TakesBytes-written : (source : Source) → (p q r : Progress) (bytes : List ℕ) (result : Result Unit CheckFault) → TakesBytes source p bytes q result
+pub TakesBytes-written : (source : Source) → (p q r : CheckState) (bytes : List ℕ) (result : Result Unit CheckFault) → TakesBytes source p bytes q result
     → r ≡ record q { findings = r.findings } → r.findings.items ≡ [] → Outcome source p bytes q.findings.items r result
 TakesBytes-written source p q r bytes (Ok u) t same none =
-    Goes-written source p q r bytes t (ap (λ (x : Progress). x.line.items) same) (ap (λ (x : Progress). x.checker) same) none
+    Goes-written source p q r bytes t (ap (λ (x : CheckState). x.line.items) same) (ap (λ (x : CheckState). x.checker) same) none
 TakesBytes-written source p q r bytes (Err e) t same none =
     let P : List ℕ → Type 0 = λ x. Stops source p bytes x e in
     subst P (sym t.1) t.0
 
-pub Outcome-then : (source : Source) → (a b c : Progress) (p q v w : List ℕ) (r : Result Unit CheckFault) → Goes source a p v b → Outcome source b q w c r → Outcome source a (p ++ q) (v ++ w) c r
+pub Outcome-then : (source : Source) → (a b c : CheckState) (p q v w : List ℕ) (r : Result Unit CheckFault) → Goes source a p v b → Outcome source b q w c r → Outcome source a (p ++ q) (v ++ w) c r
 Outcome-then source a b c p q v w (Ok u) first second = Goes-then source a b c p q v w first second
 Outcome-then source a b c p q v w (Err e) first second = Stops-then source a b p q v w e first second
 
 -- The line that was kept is whole once its last bytes have come.
 
-fresh_line : (source : Source) (taken written : List ℕ) (q mid : Progress) (st : HasTaken source taken written q) → mid.line.items ≡ [] → mid.checker ≡ q.checker
+fresh_line : (source : Source) (taken written : List ℕ) (q mid : CheckState) (st : HasTaken source taken written q) → mid.line.items ≡ [] → mid.checker ≡ q.checker
     → mid.findings.items ≡ q.findings.items → HasTaken source (first_lines_text st.lines) written mid
 fresh_line source taken written q mid st empty domain replies = record {
   lines = st.lines;
@@ -200,13 +200,13 @@ line_whole taken bytes rest lines e =
     sym (append_assoc (first_lines_text lines) rest (10 ∷ [])) ∙ (ap (λ (x : List ℕ). x ++ 10 ∷ []) (sym e) ∙ append_assoc taken bytes (10 ∷ []))
 
 -- this is kept of what has come of the line in `q`
-kept_line : (source : Source) (taken written : List ℕ) (q : Progress) (line : List ℕ) (st : HasTaken source taken written q) → line ≡ q.line.items
+kept_line : (source : Source) (taken written : List ℕ) (q : CheckState) (line : List ℕ) (st : HasTaken source taken written q) → line ≡ q.line.items
     → IsKeptOf source.form line st.rest
 kept_line source taken written q line st is =
     let P : List ℕ → Type 0 = λ x. IsKeptOf source.form x st.rest in
     subst P (sym is) (rest_kept source.form q.line.items st.rest st.kept)
 
-pub TakesBytes-ended : (source : Source) (p q mid new : Progress) (bytes line : List ℕ) (r : Result Unit CheckFault) → Goes source p bytes [] q
+pub TakesBytes-ended : (source : Source) (p q mid new : CheckState) (bytes line : List ℕ) (r : Result Unit CheckFault) → Goes source p bytes [] q
     → q.findings.items ≡ p.findings.items → mid.line.items ≡ [] → mid.checker ≡ q.checker → mid.findings.items ≡ q.findings.items
     → line ≡ q.line.items
     → ((whole : List ℕ) → HasNoLf whole → IsKeptOf source.form line whole → TakesBytes source mid (whole_line whole) new r)
@@ -256,7 +256,7 @@ nothing_told source input output = record {
 }
 
 -- what was told of all that was taken is written
-pub HasTaken-stops : (source : Source) (taken written : List ℕ) (p : Progress) → HasTaken source taken written p → p.findings.items ≡ [] → StopsInLine source taken written
+pub HasTaken-stops : (source : Source) (taken written : List ℕ) (p : CheckState) → HasTaken source taken written p → p.findings.items ≡ [] → StopsInLine source taken written
 HasTaken-stops source taken written p st none = record {
   lines = st.lines;
   rest = st.rest;
@@ -281,7 +281,7 @@ Closes-tells source taken written left (Err fault.ReadFault) s end = absurd s
 Closes-tells source taken written left (Err fault.WriteFault) s end = absurd s
 
 -- a reader and a writer before and now, between two reads: what was told of all that was taken is written
-pub record SoFar (source : Source) (input left output filled : Option (List ℕ)) (p : Progress) : Type 0 where
+pub record SoFar (source : Source) (input left output filled : Option (List ℕ)) (p : CheckState) : Type 0 where
   pub taken : List ℕ
   pub written : List ℕ
   pub takes : Consumes input left taken
@@ -289,7 +289,7 @@ pub record SoFar (source : Source) (input left output filled : Option (List ℕ)
   pub stands : HasTaken source taken written p
   pub none : p.findings.items ≡ []
 
-pub read_fails : (source : Source) → (input mid left output filled : Option (List ℕ)) (p : Progress) → SoFar source input mid output filled p → Keeps mid left
+pub read_fails : (source : Source) → (input mid left output filled : Option (List ℕ)) (p : CheckState) → SoFar source input mid output filled p → Keeps mid left
     → Checks source input left output filled (Err fault.ReadFault)
 read_fails source input mid left output filled p s keeps = record {
   taken = s.taken;
@@ -310,7 +310,7 @@ at_end input mid left taken buffer n before consumes no_bytes =
     subst P nothing (Consumes-trans input mid left taken (take n buffer) before consumes)
 
 -- the input ends, and no line of a trace is left
-pub read_ends : (source : Source) (input mid left output filled : Option (List ℕ)) (p : Progress) (n : ℕ) (buffer : List ℕ) (r : Result Checker CheckFault)
+pub read_ends : (source : Source) (input mid left output filled : Option (List ℕ)) (p : CheckState) (n : ℕ) (buffer : List ℕ) (r : Result Checker CheckFault)
     → SoFar source input mid output filled p → Consumes mid left (take n buffer) → n ≡ 0 → IsAtEnd left
     → ((taken written : List ℕ) → HasTaken source taken written p → Closes source taken written r) → Checks source input left output filled r
 read_ends source input mid left output filled p n buffer r s consumes no_bytes end closes = record {
@@ -351,7 +351,7 @@ not_last_empty (form.Trace domain) [] rest none h = refl
 not_last_empty (form.Trace domain) (b ∷ kept) rest none h = let no : [] ≡ b ∷ (kept ++ h.dropped) = sym none ∙ h.whole in absurd cc
 
 -- the input ends in a line of a trace, which is read
-pub last_ends : (source : Source) (input mid left output filled full : Option (List ℕ)) (p q : Progress) (n : ℕ) (buffer more : List ℕ) (r : Result Checker CheckFault)
+pub last_ends : (source : Source) (input mid left output filled full : Option (List ℕ)) (p q : CheckState) (n : ℕ) (buffer more : List ℕ) (r : Result Checker CheckFault)
     → SoFar source input mid output filled p → Consumes mid left (take n buffer) → n ≡ 0 → IsAtEnd left → is_last source.form p.line.items ≡ true
     → Appends filled full more → Goes source p (10 ∷ []) more q
     → ((taken written : List ℕ) → HasTaken source taken written q → is_last source.form q.line.items ≡ false → Closes source taken written r)
@@ -371,7 +371,7 @@ last_ends source input mid left output filled full p q n buffer more r s consume
       tells = Closes-tells source taken written left r (closes taken written now (not_last_empty source.form q.line.items now.rest nothing now.kept)) end;
     }
 
-pub last_stops : (source : Source) (input mid left output filled full : Option (List ℕ)) (p : Progress) (n : ℕ) (buffer more : List ℕ) (e : CheckFault)
+pub last_stops : (source : Source) (input mid left output filled full : Option (List ℕ)) (p : CheckState) (n : ℕ) (buffer more : List ℕ) (e : CheckFault)
     → SoFar source input mid output filled p → Consumes mid left (take n buffer) → n ≡ 0 → IsAtEnd left → is_last source.form p.line.items ≡ true
     → Appends filled full more → Stops source p (10 ∷ []) more e → Checks source input left output full (Err e)
 last_stops source input mid left output filled full p n buffer more e s consumes no_bytes end last appends stops = record {
@@ -385,12 +385,12 @@ last_stops source input mid left output filled full p n buffer more e s consumes
 }
 
 -- the result of the end of a line
-abbrev pub IsLastRead : Source → Option (List ℕ) → Option (List ℕ) → Progress → Progress → Result Unit CheckFault → Type 0
+abbrev pub IsLastRead : Source → Option (List ℕ) → Option (List ℕ) → CheckState → CheckState → Result Unit CheckFault → Type 0
 IsLastRead source filled full p q ended =
     (more : List ℕ) × Appends filled full more × Outcome source p (10 ∷ []) more q ended × OnOk ended (q.findings.items ≡ [])
 
 -- the input ends, whatever of a line has come
-input_ends : (source : Source) (input mid left output filled full : Option (List ℕ)) (p q : Progress) (n : ℕ) (buffer : List ℕ)
+input_ends : (source : Source) (input mid left output filled full : Option (List ℕ)) (p q : CheckState) (n : ℕ) (buffer : List ℕ)
     (ended : Result Unit CheckFault) (u : Unit) (r : Result Checker CheckFault)
     → SoFar source input mid output filled p → Consumes mid left (take n buffer) → n ≡ 0 → IsAtEnd left → ended ≡ Ok u
     → (is_last source.form p.line.items ≡ false → (ended ≡ Ok tt) × (q ≡ p) × (full ≡ filled))
@@ -408,13 +408,13 @@ input_ends source input mid left output filled full p q n buffer ended u r s con
       | inr not ↦
           let same = other not in
           let F : Option (List ℕ) → Type 0 = λ x. Checks source input left output x r in
-          let C : Progress → Type 0 = λ x. (taken written : List ℕ) → HasTaken source taken written x → x.findings.items ≡ []
+          let C : CheckState → Type 0 = λ x. (taken written : List ℕ) → HasTaken source taken written x → x.findings.items ≡ []
           → is_last source.form x.line.items ≡ false → Closes source taken written r in
           let here = subst C same.1 closes in
           subst F (sym same.2) (read_ends source input mid left output filled p n buffer r s consumes no_bytes end (λ taken written st. here taken written st s.none not))
     ]
 
-input_stops : (source : Source) (input mid left output filled full : Option (List ℕ)) (p q : Progress) (n : ℕ) (buffer : List ℕ)
+input_stops : (source : Source) (input mid left output filled full : Option (List ℕ)) (p q : CheckState) (n : ℕ) (buffer : List ℕ)
     (ended : Result Unit CheckFault) (e : CheckFault)
     → SoFar source input mid output filled p → Consumes mid left (take n buffer) → n ≡ 0 → IsAtEnd left → ended ≡ Err e
     → (is_last source.form p.line.items ≡ false → (ended ≡ Ok tt) × (q ≡ p) × (full ≡ filled))
@@ -434,7 +434,7 @@ input_stops source input mid left output filled full p q n buffer ended e s cons
 
 -- the input ends, and the result of the end of a line is returned: it is the answer, or the end of what was taken has one
 
-pub end_goes : (source : Source) (input mid left output filled full : Option (List ℕ)) (p q : Progress) (n : ℕ) (buffer : List ℕ) (ended : Result Unit CheckFault)
+pub end_goes : (source : Source) (input mid left output filled full : Option (List ℕ)) (p q : CheckState) (n : ℕ) (buffer : List ℕ) (ended : Result Unit CheckFault)
     → SoFar source input mid output filled p → Consumes mid left (take n buffer) → n ≡ 0 → IsAtEnd left
     → (is_last source.form p.line.items ≡ false → (ended ≡ Ok tt) × (q ≡ p) × (full ≡ filled))
     → (is_last source.form p.line.items ≡ true → IsLastRead source filled full p q ended)
@@ -445,7 +445,7 @@ end_goes source input mid left output filled full p q n buffer (Ok u) s consumes
     λ r closes. input_ends source input mid left output filled full p q n buffer (Ok u) u r s consumes no_bytes end refl other last closes
 end_goes source input mid left output filled full p q n buffer (Err e) s consumes no_bytes end other last = tt
 
-pub end_stops : (source : Source) (input mid left output filled full : Option (List ℕ)) (p q : Progress) (n : ℕ) (buffer : List ℕ) (ended : Result Unit CheckFault)
+pub end_stops : (source : Source) (input mid left output filled full : Option (List ℕ)) (p q : CheckState) (n : ℕ) (buffer : List ℕ) (ended : Result Unit CheckFault)
     → SoFar source input mid output filled p → Consumes mid left (take n buffer) → n ≡ 0 → IsAtEnd left
     → (is_last source.form p.line.items ≡ false → (ended ≡ Ok tt) × (q ≡ p) × (full ≡ filled))
     → (is_last source.form p.line.items ≡ true → IsLastRead source filled full p q ended)
@@ -454,7 +454,7 @@ end_stops source input mid left output filled full p q n buffer (Ok u) s consume
 end_stops source input mid left output filled full p q n buffer (Err e) s consumes no_bytes end other last =
     input_stops source input mid left output filled full p q n buffer (Err e) e s consumes no_bytes end refl other last
 
-pub piece_stops : (source : Source) → (input mid left output filled full : Option (List ℕ)) (p : Progress) (piece more : List ℕ) (e : CheckFault)
+pub piece_stops : (source : Source) → (input mid left output filled full : Option (List ℕ)) (p : CheckState) (piece more : List ℕ) (e : CheckFault)
     → SoFar source input mid output filled p → Consumes mid left piece → Appends filled full more → Stops source p piece more e
     → Checks source input left output full (Err e)
 piece_stops source input mid left output filled full p piece more e s consumes appends stops = record {
@@ -467,7 +467,7 @@ piece_stops source input mid left output filled full p piece more e s consumes a
   tells = EndsCheck-tells source (s.taken ++ piece) (s.written ++ more) left e (stops s.taken s.written s.stands);
 }
 
-pub piece_goes : (source : Source) → (input mid left output filled full : Option (List ℕ)) (p q : Progress) (piece more : List ℕ)
+pub piece_goes : (source : Source) → (input mid left output filled full : Option (List ℕ)) (p q : CheckState) (piece more : List ℕ)
     → SoFar source input mid output filled p → Consumes mid left piece → Appends filled full more → Goes source p piece more q → q.findings.items ≡ []
     → SoFar source input left output full q
 piece_goes source input mid left output filled full p q piece more s consumes appends goes none = record {

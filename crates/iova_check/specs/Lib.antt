@@ -12,6 +12,6 @@ pub mod Checking
 pub mod Logs
 pub mod Runs
 pub mod StageIndex
-pub mod Progress
+pub mod CheckState
 pub mod Summary
 pub mod Trace

@@ -2,7 +2,7 @@
 ghost use Rattle.std.specs.Prelude.{◌≡◌, ◌<◌, ℕ, [], ◌∷◌, Option, take, length, IfOk, IfErr, OnOk, OnErr};
 ghost use Rattle.std.specs.Io.KnownBytes.{Appends};
 ghost use Rattle.iova_check.specs.declared.source.Source.{Source};
-ghost use Rattle.iova_check.specs.Progress.{IsBegun, is_last};
+ghost use Rattle.iova_check.specs.CheckState.{IsBegun, is_last};
 ghost use Rattle.iova_check.specs.Bounds.{bounds_asked};
 ghost use Rattle.iova_check.specs.Checking.{HasChecked};
 ghost use Rattle.iova_check.specs.Runs.{Checks, Counts, ChecksAndCounts};
@@ -98,11 +98,11 @@ fn run<R: Read, W: Write, N: Write>(
         (W.contents writer.old) (W.contents writer.new) result }
 {
     let mut input: Vec<u8> = vec![in alloc; 0u8; BUFFER]?;
-    let mut progress = Progress::new(alloc, source)?;
-    match progress.read_all(&mut input, source, reader, writer, notices) {
+    let mut state = CheckState::new(alloc, source)?;
+    match state.read_all(&mut input, source, reader, writer, notices) {
         Ok(()) => {
-            progress.tell_end(notices);
-            progress.finish()
+            state.tell_end(notices);
+            state.finish()
         }
         Err(fault) => Err(fault),
     }
@@ -145,7 +145,7 @@ pub fn write_counts<W: Write>(
 }
 
 /// How far a check has come.
-struct Progress {
+struct CheckState {
     alloc: Global,
     /// What is known of the lines: nothing before the header of a log.
     checker: Option<Checker>,
@@ -156,9 +156,9 @@ struct Progress {
 }
 
 /// Drops its parts. The proof stands here, once for all exits.
-impl Drop for Progress {
+impl Drop for CheckState {
     fn drop(self) {
-        let Progress {
+        let CheckState {
             alloc: _,
             checker: _,
             line: _,
@@ -167,12 +167,12 @@ impl Drop for Progress {
     }
 }
 
-impl Progress {
+impl CheckState {
     ghost use Rattle.std.specs.Prelude.{List, Result, false, true, ◌++◌};
     ghost use Rattle.iova_check.specs.declared.fault.CheckFault.{CheckFault};
     ghost use Rattle.iova_check.specs.declared.checker.Checker.{Checker};
     ghost use Rattle.iova_text.specs.Lines.{HasNoLf, whole_line};
-    ghost use Rattle.iova_check.specs.Progress.{HasTaken, number_at, IsKeptOf, IsFront, Goes, TakesBytes, Outcome, Closes, is_last};
+    ghost use Rattle.iova_check.specs.CheckState.{HasTaken, number_at, IsKeptOf, IsFront, Goes, TakesBytes, Outcome, Closes, is_last};
 
     /// Nothing has been taken.
     fn new(alloc: Global, source: &Source<'_>) -> Result<Self, CheckFault>
@@ -182,7 +182,7 @@ impl Progress {
     {
         let findings = Vec::with_capacity(alloc, BUFFER)?;
         let checker = first_checker(alloc, source)?;
-        Ok(Progress {
+        Ok(CheckState {
             alloc,
             checker,
             line: ArrayVec::new(),
@@ -502,7 +502,7 @@ impl Progress {
         if !self.line.is_empty() {
             return Err(CheckFault::BadLog(number));
         }
-        let Progress {
+        let CheckState {
             alloc: _,
             checker,
             line: _,

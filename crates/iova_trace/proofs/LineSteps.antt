@@ -19,7 +19,7 @@ use Rattle.iova_model.proofs.Runs.{run_none, run_more, run_keeps}
 use Rattle.iova_line.specs.declared.line.Header.{Header}
 use Rattle.iova_line.specs.declared.trace.Trace.{Trace}
 use Rattle.iova_trace.specs.declared.fault.ReplayFault.TheVariants as fault
-use Rattle.iova_trace.specs.declared.replay.Progress.{Progress}
+use Rattle.iova_trace.specs.declared.replay.ReplayState.{ReplayState}
 use Rattle.iova_line.specs.Text.{IsHeader, header_text, step_text}
 use Rattle.iova_trace.specs.Replies.{reply_text}
 use Rattle.iova_line.specs.LineSteps.{IsStep}
@@ -29,7 +29,7 @@ use Rattle.iova_trace.specs.Lines.{first_lines_text, count_steps, next_line_numb
 use Rattle.iova_trace.specs.Log.{log_header, log_line, pair_line}
 use Rattle.iova_trace.specs.Replay.{IsReplayed, BreaksOff}
 use Rattle.iova_trace.specs.Logged.{IsLogged}
-use Rattle.iova_trace.specs.Progress.{HasTaken, number_at, Goes, Stops}
+use Rattle.iova_trace.specs.ReplayState.{HasTaken, number_at, Goes, Stops}
 
 pub All-push : (P : Step → Type 0) (xs : List Step) (x : Step) → AllByRecursion P xs → P x → AllByRecursion P (xs ++ x ∷ [])
 All-push P [] x a p = (p, tt)
@@ -105,7 +105,7 @@ header_logged lines h text log is logged =
     ([], refl, none.0, ap (λ (x : List ℕ). x ++ log_header h.bounds) none.1 ∙ sym (append-nil (log_header h.bounds)))
 
 -- the header's line has been taken
-header_begins : (p : Progress) (taken written line kept : List ℕ) (x y : Option (List ℕ)) (h : Header) (st : HasTaken taken written x y p) → p.line ≡ []
+header_begins : (p : ReplayState) (taken written line kept : List ℕ) (x y : Option (List ℕ)) (h : Header) (st : HasTaken taken written x y p) → p.line ≡ []
     → p.domain ≡ None → IsHeader h.bounds h.workers → line ≡ header_text h.bounds h.workers → kept ≡ []
     → BeginsWithLines (taken ++ whole_line line) (Some (header_trace h)) kept
 header_begins p taken written line kept x y h st empty none good is nothing =
@@ -118,7 +118,7 @@ header_begins p taken written line kept x y h st empty none good is nothing =
       whole = ap (λ (l : List ℕ). l ++ whole_line line) whole ∙ (text ∙ (sym (append-nil (trace_text t)) ∙ ap (λ (l : List ℕ). trace_text t ++ l) (sym nothing)));
     }
 
-pub header_taken : PromisesAreKept → NewDomainsAreValid → (p q : Progress) (x y : Option (List ℕ)) (line : List ℕ) (h : Header) → p.line ≡ [] → p.domain ≡ None
+pub header_taken : PromisesAreKept → NewDomainsAreValid → (p q : ReplayState) (x y : Option (List ℕ)) (line : List ℕ) (h : Header) → p.line ≡ [] → p.domain ≡ None
     → IsHeader h.bounds h.workers → line ≡ header_text h.bounds h.workers
     → q.line ≡ p.line → q.steps ≡ p.steps → q.replies.items ≡ p.replies.items → q.domain ≡ Some (new_domain h.bounds h.workers)
     → Appends x y (log_header h.bounds) → Goes p x (whole_line line) [] q y
@@ -196,7 +196,7 @@ step_logged lines t text log s r is logged =
           ∙ ap (λ (l : List ℕ). log_header t.bounds ++ l) (sym (flat_map_push pair_line all.0 p))),
     )
 
-pub step_taken : PromisesAreKept → NewDomainsAreValid → (p q : Progress) (x y : Option (List ℕ)) (line : List ℕ) (d : State) (s : Step) (m : Point) → p.line ≡ [] → p.domain ≡ Some d
+pub step_taken : PromisesAreKept → NewDomainsAreValid → (p q : ReplayState) (x y : Option (List ℕ)) (line : List ℕ) (d : State) (s : Step) (m : Point) → p.line ≡ [] → p.domain ≡ Some d
     → p.steps < 1000000 → IsStep s → line ≡ step_text s
     → q.line ≡ p.line → q.steps ≡ p.steps + 1 → q.domain ≡ Some (next d s m).state
     → q.replies.items ≡ p.replies.items ++ reply_text (next d s m).reply
@@ -223,7 +223,7 @@ step_taken law valid p q x y line d s m empty domain lt step spelled kept steps 
 -- A log at a line that is not taken
 
 -- what was kept is not written, and the line is none that was replied to
-stays_broken : (p : Progress) (taken written bytes : List ℕ) (x y : Option (List ℕ)) → HasTaken taken written x y p
+stays_broken : (p : ReplayState) (taken written bytes : List ℕ) (x y : Option (List ℕ)) → HasTaken taken written x y p
     → BreaksOff (taken ++ bytes) (written ++ p.replies.items)
 stays_broken p taken written bytes x y st = record {
   lines = st.lines;
@@ -237,7 +237,7 @@ stays_broken p taken written bytes x y st = record {
 }
 
 -- the header's line of the log is not all written
-pub header_cut : (p : Progress) (x y : Option (List ℕ)) (line : List ℕ) (h : Header) (n : ℕ) → p.line ≡ [] → p.domain ≡ None
+pub header_cut : (p : ReplayState) (x y : Option (List ℕ)) (line : List ℕ) (h : Header) (n : ℕ) → p.line ≡ [] → p.domain ≡ None
     → IsHeader h.bounds h.workers → line ≡ header_text h.bounds h.workers → Appends x y (take n (log_header h.bounds))
     → Stops p x (whole_line line) p.replies.items y fault.WriteFault
 header_cut p x y line h n empty none good is told taken written before st =
@@ -259,7 +259,7 @@ header_cut p x y line h n empty none good is told taken written before st =
     )
 
 -- a step was run, and its line of the log or its reply is not kept
-pub step_cut : PromisesAreKept → NewDomainsAreValid → (p : Progress) (x y : Option (List ℕ)) (line : List ℕ) (d : State) (s : Step) (m : Point) (n : ℕ)
+pub step_cut : PromisesAreKept → NewDomainsAreValid → (p : ReplayState) (x y : Option (List ℕ)) (line : List ℕ) (d : State) (s : Step) (m : Point) (n : ℕ)
     → p.line ≡ [] → p.domain ≡ Some d → p.steps < 1000000 → IsStep s → line ≡ step_text s → Appends x y (take n (log_line s (next d s m).reply))
     → Stops p x (whole_line line) p.replies.items y fault.WriteFault
 step_cut law valid p x y line d s m n empty domain lt step spelled told taken written before st =
@@ -282,14 +282,14 @@ step_cut law valid p x y line d s m n empty domain lt step spelled told taken wr
       },
     )
 
-pub step_lost : PromisesAreKept → NewDomainsAreValid → (p : Progress) (x y : Option (List ℕ)) (line : List ℕ) (d : State) (s : Step) (m : Point)
+pub step_lost : PromisesAreKept → NewDomainsAreValid → (p : ReplayState) (x y : Option (List ℕ)) (line : List ℕ) (d : State) (s : Step) (m : Point)
     → p.line ≡ [] → p.domain ≡ Some d → p.steps < 1000000 → IsStep s → line ≡ step_text s → Appends x y (log_line s (next d s m).reply)
     → Stops p x (whole_line line) p.replies.items y fault.NoMemory
 step_lost law valid p x y line d s m empty domain lt step spelled told =
     step_cut law valid p x y line d s m (length (log_line s (next d s m).reply)) empty domain lt step spelled (Appends-whole x y (log_line s (next d s m).reply) told)
 
 -- a line that is too long
-pub overlong : (p : Progress) (x : Option (List ℕ)) (bytes : List ℕ) (number : ℕ) → IsOverlong (p.line ++ bytes) → number ≡ number_at p.domain p.steps
+pub overlong : (p : ReplayState) (x : Option (List ℕ)) (bytes : List ℕ) (number : ℕ) → IsOverlong (p.line ++ bytes) → number ≡ number_at p.domain p.steps
     → Stops p x bytes p.replies.items x (fault.BadTrace number)
 overlong p x bytes number long is taken written before st =
     let rest = p.line ++ bytes in

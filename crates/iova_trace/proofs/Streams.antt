@@ -7,13 +7,13 @@ use Rattle.iova_model.specs.State.{State}
 use Rattle.iova_line.specs.declared.trace.Trace.{Trace}
 use Rattle.iova_trace.specs.declared.fault.ReplayFault.{ReplayFault}
 use Rattle.iova_trace.specs.declared.fault.ReplayFault.TheVariants as fault
-use Rattle.iova_trace.specs.declared.replay.Progress.{Progress}
+use Rattle.iova_trace.specs.declared.replay.ReplayState.{ReplayState}
 use Rattle.iova_text.specs.Lines.{whole_line, IsUnended}
 use Rattle.iova_text.proofs.LineEnds.{odd_more, overlong_more}
 use Rattle.iova_trace.specs.Lines.{BeginsWithLines, IsBad, MayFollow, first_lines_text}
 use Rattle.iova_trace.specs.Replay.{BreaksOff, IsReplayed, StopsInLine, TellsOfReplay}
 use Rattle.iova_trace.specs.Logged.{IsLogged, LogsAll, LogsFront, TellsOfLog, ReplaysAndLogs}
-use Rattle.iova_trace.specs.Progress.{HasTaken, Goes, EndsReplay, EndsLog, Stops, Outcome, TakesBytes, Closes}
+use Rattle.iova_trace.specs.ReplayState.{HasTaken, Goes, EndsReplay, EndsLog, Stops, Outcome, TakesBytes, Closes}
 
 -- Outcomes
 
@@ -21,13 +21,13 @@ use Rattle.iova_trace.specs.Progress.{HasTaken, Goes, EndsReplay, EndsLog, Stops
 abbrev Ends : List ℕ → List ℕ → Option (List ℕ) → Option (List ℕ) → ReplayFault → Type 0
 Ends taken written before now e = EndsReplay taken written e × EndsLog taken written before now e
 
-pub Goes-then : (a b c : Progress) (x y z : Option (List ℕ)) (p q v w : List ℕ) → Goes a x p v b y → Goes b y q w c z → Goes a x (p ++ q) (v ++ w) c z
+pub Goes-then : (a b c : ReplayState) (x y z : Option (List ℕ)) (p q v w : List ℕ) → Goes a x p v b y → Goes b y q w c z → Goes a x (p ++ q) (v ++ w) c z
 Goes-then a b c x y z p q v w first second taken written log st =
     let P : List ℕ → Type 0 = λ l. HasTaken l ((written ++ v) ++ w) log z c in
     let Q : List ℕ → Type 0 = λ l. HasTaken (taken ++ (p ++ q)) l log z c in
     subst Q (append_assoc written v w) (subst P (append_assoc taken p q) (second (taken ++ p) (written ++ v) log (first taken written log st)))
 
-pub Stops-then : (a b : Progress) (x y z : Option (List ℕ)) (p q v w : List ℕ) (e : ReplayFault) → Goes a x p v b y → Stops b y q w z e
+pub Stops-then : (a b : ReplayState) (x y z : Option (List ℕ)) (p q v w : List ℕ) (e : ReplayFault) → Goes a x p v b y → Stops b y q w z e
     → Stops a x (p ++ q) (v ++ w) z e
 Stops-then a b x y z p q v w e first second taken written log st =
     let P : List ℕ → Type 0 = λ l. Ends l ((written ++ v) ++ w) log z e in
@@ -107,7 +107,7 @@ EndsLog-more taken more written x y fault.NoMemory s = LogsFront-more taken more
 EndsLog-more taken more written x y fault.ReadFault s = absurd s
 EndsLog-more taken more written x y fault.WriteFault s = LogsFront-more taken more written x y s
 
-pub Stops-more : (p : Progress) (x y : Option (List ℕ)) (bytes more written : List ℕ) (e : ReplayFault) → Stops p x bytes written y e
+pub Stops-more : (p : ReplayState) (x y : Option (List ℕ)) (bytes more written : List ℕ) (e : ReplayFault) → Stops p x bytes written y e
     → Stops p x (bytes ++ more) written y e
 Stops-more p x y bytes more written e s taken before log st =
     let P : List ℕ → Type 0 = λ l. Ends l (before ++ written) log y e in
@@ -196,14 +196,14 @@ EndsLog-broken taken before more n x y fault.ReadFault s = absurd s
 EndsLog-broken taken before more n x y fault.WriteFault s = LogsFront-broken taken before more n x y s
 
 -- the fault is that of the write, where the kept replies are not all written
-pub Stops-broken : (p : Progress) (x y : Option (List ℕ)) (bytes more : List ℕ) (n : ℕ) (e : ReplayFault) → Stops p x bytes more y e
+pub Stops-broken : (p : ReplayState) (x y : Option (List ℕ)) (bytes more : List ℕ) (n : ℕ) (e : ReplayFault) → Stops p x bytes more y e
     → Stops p x bytes (take n more) y fault.WriteFault
 Stops-broken p x y bytes more n e s taken before log st =
     let ends = s taken before log st in
     (EndsReplay-broken (taken ++ bytes) before more n e ends.0, EndsLog-broken (taken ++ bytes) before more n log y e ends.1)
 
 -- after bytes that were taken the kept replies are not all written
-pub Goes-broken : (p q : Progress) (x y : Option (List ℕ)) (bytes : List ℕ) (n : ℕ) → Goes p x bytes [] q y
+pub Goes-broken : (p q : ReplayState) (x y : Option (List ℕ)) (bytes : List ℕ) (n : ℕ) → Goes p x bytes [] q y
     → Stops p x bytes (take n q.replies.items) y fault.WriteFault
 Goes-broken p q x y bytes n goes taken before log st =
     let at = goes taken before log st in
@@ -227,7 +227,7 @@ Goes-broken p q x y bytes n goes taken before log st =
     )
 
 -- after bytes that were taken the kept replies are written
-pub Goes-written : (p q r : Progress) (x y : Option (List ℕ)) (bytes : List ℕ) → Goes p x bytes [] q y → r.line ≡ q.line → r.domain ≡ q.domain
+pub Goes-written : (p q r : ReplayState) (x y : Option (List ℕ)) (bytes : List ℕ) → Goes p x bytes [] q y → r.line ≡ q.line → r.domain ≡ q.domain
     → r.steps ≡ q.steps → r.replies.items ≡ [] → Goes p x bytes q.replies.items r y
 Goes-written p q r x y bytes goes line domain steps none taken before log st =
     let at = goes taken before log st in
@@ -244,29 +244,29 @@ Goes-written p q r x y bytes goes line domain steps none taken before log st =
       grown = at.grown;
     }
 
-pub TakesBytes-broken : (p q : Progress) (x y : Option (List ℕ)) (bytes : List ℕ) (n : ℕ) (r : Result Unit ReplayFault) → TakesBytes p x bytes q y r
+pub TakesBytes-broken : (p q : ReplayState) (x y : Option (List ℕ)) (bytes : List ℕ) (n : ℕ) (r : Result Unit ReplayFault) → TakesBytes p x bytes q y r
     → Stops p x bytes (take n q.replies.items) y fault.WriteFault
 TakesBytes-broken p q x y bytes n (Ok u) t = Goes-broken p q x y bytes n t
 TakesBytes-broken p q x y bytes n (Err e) t =
     let P : List ℕ → Type 0 = λ l. Stops p x bytes (take n l) y fault.WriteFault in
     subst P (sym t.1) (Stops-broken p x y bytes p.replies.items n e t.0)
 
-pub TakesBytes-written : (p q r : Progress) (x y : Option (List ℕ)) (bytes : List ℕ) (result : Result Unit ReplayFault) → TakesBytes p x bytes q y result
+pub TakesBytes-written : (p q r : ReplayState) (x y : Option (List ℕ)) (bytes : List ℕ) (result : Result Unit ReplayFault) → TakesBytes p x bytes q y result
     → r ≡ record q { replies = r.replies } → r.replies.items ≡ [] → Outcome p x bytes q.replies.items r y result
 TakesBytes-written p q r x y bytes (Ok u) t same none =
-    Goes-written p q r x y bytes t (ap (λ (l : Progress). l.line) same) (ap (λ (l : Progress). l.domain) same) (ap (λ (l : Progress). l.steps) same) none
+    Goes-written p q r x y bytes t (ap (λ (l : ReplayState). l.line) same) (ap (λ (l : ReplayState). l.domain) same) (ap (λ (l : ReplayState). l.steps) same) none
 TakesBytes-written p q r x y bytes (Err e) t same none =
     let P : List ℕ → Type 0 = λ l. Stops p x bytes l y e in
     subst P (sym t.1) t.0
 
-pub Outcome-then : (a b c : Progress) (x y z : Option (List ℕ)) (p q v w : List ℕ) (r : Result Unit ReplayFault) → Goes a x p v b y → Outcome b y q w c z r
+pub Outcome-then : (a b c : ReplayState) (x y z : Option (List ℕ)) (p q v w : List ℕ) (r : Result Unit ReplayFault) → Goes a x p v b y → Outcome b y q w c z r
     → Outcome a x (p ++ q) (v ++ w) c z r
 Outcome-then a b c x y z p q v w (Ok u) first second = Goes-then a b c x y z p q v w first second
 Outcome-then a b c x y z p q v w (Err e) first second = Stops-then a b x y z p q v w e first second
 
 -- The line that was kept is whole once its last bytes have come.
 
-fresh_line : (taken written : List ℕ) (x y : Option (List ℕ)) (q mid : Progress) (st : HasTaken taken written x y q) → mid.line ≡ [] → mid.domain ≡ q.domain → mid.steps ≡ q.steps
+fresh_line : (taken written : List ℕ) (x y : Option (List ℕ)) (q mid : ReplayState) (st : HasTaken taken written x y q) → mid.line ≡ [] → mid.domain ≡ q.domain → mid.steps ≡ q.steps
     → mid.replies.items ≡ q.replies.items → HasTaken (first_lines_text st.lines) written x y mid
 fresh_line taken written x y q mid st empty domain steps replies = record {
   lines = st.lines;
@@ -292,7 +292,7 @@ ended_text taken bytes line kept lines is e =
     ∙ (ap (λ (x : List ℕ). first ++ x) (append_assoc kept bytes (10 ∷ []))
     ∙ (sym (append_assoc first kept (whole_line bytes)) ∙ ap (λ (x : List ℕ). x ++ whole_line bytes) (sym e)))
 
-pub TakesBytes-ended : (p mid new : Progress) (x z : Option (List ℕ)) (bytes line : List ℕ) (r : Result Unit ReplayFault) → mid.line ≡ []
+pub TakesBytes-ended : (p mid new : ReplayState) (x z : Option (List ℕ)) (bytes line : List ℕ) (r : Result Unit ReplayFault) → mid.line ≡ []
     → mid.domain ≡ p.domain → mid.steps ≡ p.steps → mid.replies.items ≡ p.replies.items → line ≡ p.line ++ bytes
     → TakesBytes mid x (whole_line line) new z r → TakesBytes p x (whole_line bytes) new z r
 TakesBytes-ended p mid new x z bytes line (Ok u) empty domain steps replies is t = λ taken written log st.
@@ -334,10 +334,10 @@ nothing_told input output log = record {
 }
 
 -- all replies to what was taken are written
-all_written : (taken written : List ℕ) (x y : Option (List ℕ)) (p : Progress) (st : HasTaken taken written x y p) → p.replies.items ≡ [] → st.text ≡ written
+all_written : (taken written : List ℕ) (x y : Option (List ℕ)) (p : ReplayState) (st : HasTaken taken written x y p) → p.replies.items ≡ [] → st.text ≡ written
 all_written taken written x y p st none = st.gathered ∙ (ap (λ (l : List ℕ). written ++ l) none ∙ append-nil written)
 
-pub HasTaken-stops : (taken written : List ℕ) (x y : Option (List ℕ)) (p : Progress) → HasTaken taken written x y p → p.replies.items ≡ [] → IsUnended p.line
+pub HasTaken-stops : (taken written : List ℕ) (x y : Option (List ℕ)) (p : ReplayState) → HasTaken taken written x y p → p.replies.items ≡ [] → IsUnended p.line
     → StopsInLine taken written
 HasTaken-stops taken written x y p st none unended = record {
   lines = st.lines;
@@ -348,7 +348,7 @@ HasTaken-stops taken written x y p st none unended = record {
   unended = unended;
 }
 
-pub HasTaken-logs : (taken written : List ℕ) (x y : Option (List ℕ)) (p : Progress) → HasTaken taken written x y p → p.replies.items ≡ [] → LogsAll taken written x y
+pub HasTaken-logs : (taken written : List ℕ) (x y : Option (List ℕ)) (p : ReplayState) → HasTaken taken written x y p → p.replies.items ≡ [] → LogsAll taken written x y
 HasTaken-logs taken written x y p st none = record {
   lines = st.lines;
   rest = p.line;
@@ -386,7 +386,7 @@ Closes-logs taken written x y (Err fault.ReadFault) s all = absurd s
 Closes-logs taken written x y (Err fault.WriteFault) s all = absurd s
 
 -- a reader, a writer and a log before and now, between two reads: all replies to what was taken are written
-pub record SoFar (input left output filled before now : Option (List ℕ)) (p : Progress) : Type 0 where
+pub record SoFar (input left output filled before now : Option (List ℕ)) (p : ReplayState) : Type 0 where
   pub taken : List ℕ
   pub written : List ℕ
   pub takes : Consumes input left taken
@@ -394,7 +394,7 @@ pub record SoFar (input left output filled before now : Option (List ℕ)) (p : 
   pub stands : HasTaken taken written before now p
   pub none : p.replies.items ≡ []
 
-pub read_fails : (input mid left output filled x y : Option (List ℕ)) (p : Progress) → SoFar input mid output filled x y p → IsUnended p.line → Keeps mid left
+pub read_fails : (input mid left output filled x y : Option (List ℕ)) (p : ReplayState) → SoFar input mid output filled x y p → IsUnended p.line → Keeps mid left
     → ReplaysAndLogs input left output filled x y (Err fault.ReadFault)
 read_fails input mid left output filled x y p s unended keeps = record {
   replays = record {
@@ -407,7 +407,7 @@ read_fails input mid left output filled x y p s unended keeps = record {
   logs = HasTaken-logs s.taken s.written x y p s.stands s.none;
 }
 
-pub read_ends : (input mid left output filled x y : Option (List ℕ)) (p : Progress) (n : ℕ) (buffer : List ℕ) (r : Result (State × ℕ) ReplayFault)
+pub read_ends : (input mid left output filled x y : Option (List ℕ)) (p : ReplayState) (n : ℕ) (buffer : List ℕ) (r : Result (State × ℕ) ReplayFault)
     → SoFar input mid output filled x y p → Consumes mid left (take n buffer) → n ≡ 0 → IsAtEnd left
     → ((taken written : List ℕ) (before now : Option (List ℕ)) → HasTaken taken written before now p → Closes taken written r)
     → ReplaysAndLogs input left output filled x y r
@@ -426,7 +426,7 @@ read_ends input mid left output filled x y p n buffer r s consumes no_bytes end 
       logs = Closes-logs s.taken s.written x y r close (HasTaken-logs s.taken s.written x y p s.stands s.none);
     }
 
-pub piece_stops : (input mid left output filled full x y z : Option (List ℕ)) (p : Progress) (piece more : List ℕ) (e : ReplayFault)
+pub piece_stops : (input mid left output filled full x y z : Option (List ℕ)) (p : ReplayState) (piece more : List ℕ) (e : ReplayFault)
     → SoFar input mid output filled x y p → Consumes mid left piece → Appends filled full more → Stops p y piece more z e
     → ReplaysAndLogs input left output full x z (Err e)
 piece_stops input mid left output filled full x y z p piece more e s consumes appends stops =
@@ -442,7 +442,7 @@ piece_stops input mid left output filled full x y z p piece more e s consumes ap
       logs = EndsLog-tells (s.taken ++ piece) (s.written ++ more) x z e ends.1;
     }
 
-pub piece_goes : (input mid left output filled full x y z : Option (List ℕ)) (p q : Progress) (piece more : List ℕ)
+pub piece_goes : (input mid left output filled full x y z : Option (List ℕ)) (p q : ReplayState) (piece more : List ℕ)
     → SoFar input mid output filled x y p → Consumes mid left piece → Appends filled full more → Goes p y piece more q z → q.replies.items ≡ []
     → SoFar input left output full x z q
 piece_goes input mid left output filled full x y z p q piece more s consumes appends goes none = record {

@@ -4,5 +4,5 @@ pub mod Lines
 pub mod Whole
 pub mod Replay
 pub mod Logged
-pub mod Progress
+pub mod ReplayState
 pub mod Recorded

@@ -92,11 +92,11 @@ fn replay_lines<R: Read, W: Write, L: Log>(
         result }
 {
     let mut input: Vec<u8> = vec![in alloc; 0u8; BUFFER]?;
-    let mut progress = Progress::new(alloc)?;
+    let mut state = ReplayState::new(alloc)?;
     for _ in 0..MAX_READS {
         match read_some(reader, &mut input)? {
-            0 => return progress.finish(),
-            len => progress.replay_piece(&input[..len], writer, log)?,
+            0 => return state.finish(),
+            len => state.replay_piece(&input[..len], writer, log)?,
         }
     }
     Err(ReplayFault::ReadFault)
@@ -104,7 +104,7 @@ fn replay_lines<R: Read, W: Write, L: Log>(
 
 /// How far a replay has come.
 #[derive(Drop)]
-struct Progress {
+struct ReplayState {
     alloc: Global,
     /// The domain, once the header has been read.
     domain: Option<Domain>,
@@ -118,17 +118,17 @@ struct Progress {
     ghost unended: { IsUnended line },
 }
 
-impl Progress {
+impl ReplayState {
     ghost use Rattle.std.specs.Prelude.{List, Option, []};
     ghost use Rattle.iova_text.specs.Lines.{HasNoLf, whole_line};
-    ghost use Rattle.iova_trace.specs.Progress.{HasTaken, number_at, TakesBytes, Outcome, Closes};
+    ghost use Rattle.iova_trace.specs.ReplayState.{HasTaken, number_at, TakesBytes, Outcome, Closes};
 
     fn new(alloc: Global) -> Result<Self, ReplayFault>
         ensures ok { IfOk result (λ p. (log : Option (List ℕ)) → HasTaken [] [] log log p) }
         ensures none { IfOk result (λ p. p.replies.items ≡ []) }
         ensures err { OnErr result (result ≡ Err ReplayFault.NoMemory) }
     {
-        Ok(Progress {
+        Ok(ReplayState {
             alloc,
             domain: None,
             steps: 0,
@@ -306,7 +306,7 @@ impl Progress {
         if !self.line.is_empty() {
             return Err(ReplayFault::BadTrace(number));
         }
-        let Progress {
+        let ReplayState {
             alloc: _,
             domain,
             steps,

@@ -8,10 +8,10 @@ returns-in_err-input g c =
     let p = err_from_is_err_and c.from_residual.result c.from_residual.ensures.1 in
     rw (p.1, p.2) (nothing_told c.args.source.now (g.R.Read.remaining c.args.reader.now) (g.W.Write.contents c.args.writer.now))
 
-pub returns-in_err-progress : goal.returns-in_err-progress
-returns-in_err-progress g c =
-    let p = err_from_is_err_and c.from_residual-in_err-progress.result c.from_residual-in_err-progress.ensures.1 in
-    rw (p.1, p.2, err_is c.in_err-progress.field-0.0 NoMemory c.in_err-progress.ensures.err)
+pub returns-in_err-state : goal.returns-in_err-state
+returns-in_err-state g c =
+    let p = err_from_is_err_and c.from_residual-in_err-state.result c.from_residual-in_err-state.ensures.1 in
+    rw (p.1, p.2, err_is c.in_err-state.field-0.0 NoMemory c.in_err-state.ensures.err)
     (nothing_told c.args.source.now (g.R.Read.remaining c.args.reader.now) (g.W.Write.contents c.args.writer.now))
 
 pub returns-in-Ok : goal.returns-in-Ok

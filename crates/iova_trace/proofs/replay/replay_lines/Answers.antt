@@ -11,10 +11,10 @@ returns-in_err-input g c =
     let p = err_from_is_err_and c.from_residual.result c.from_residual.ensures.1 in
     rw (p.1, p.2) (nothing_told (g.R.Read.remaining c.args.reader.now) (g.W.Write.contents c.args.writer.now) (g.L.Log.contents c.args.log.now))
 
-pub returns-in_err-progress : goal.returns-in_err-progress
-returns-in_err-progress g c =
-    let p = err_from_is_err_and c.from_residual-in_err-progress.result c.from_residual-in_err-progress.ensures.1 in
-    rw (p.1, p.2, err_is c.in_err-progress.field-0.0 NoMemory c.in_err-progress.ensures.err)
+pub returns-in_err-state : goal.returns-in_err-state
+returns-in_err-state g c =
+    let p = err_from_is_err_and c.from_residual-in_err-state.result c.from_residual-in_err-state.ensures.1 in
+    rw (p.1, p.2, err_is c.in_err-state.field-0.0 NoMemory c.in_err-state.ensures.err)
     (nothing_told (g.R.Read.remaining c.args.reader.now) (g.W.Write.contents c.args.writer.now) (g.L.Log.contents c.args.log.now))
 
 pub loop-init : goal.loop-init
@@ -24,8 +24,8 @@ loop-init g c = record {
     written = [];
     takes = Consumes-nil (g.R.Read.remaining c.args.reader.now);
     writes = Appends-nil (g.W.Write.contents c.args.writer.now);
-    stands = c.in_ok-progress.ensures.ok (g.L.Log.contents c.args.log.now);
-    none = c.in_ok-progress.ensures.none;
+    stands = c.in_ok-state.ensures.ok (g.L.Log.contents c.args.log.now);
+    none = c.in_ok-state.ensures.none;
   };
   room = omega (arith, c.in_ok-input.ensures.len, c.in_ok-input.input.ok.0);
 }
@@ -35,13 +35,13 @@ returns-in_err-len g c =
     let p = err_from_is_err_and c.from_residual-in_err-len.result c.from_residual-in_err-len.ensures.1 in
     rw (p.1, p.2)
     (read_fails (g.R.Read.remaining c.args.reader.now) (g.R.Read.remaining c.loop.reader) (g.R.Read.remaining c.read_some.new.reader)
-    (g.W.Write.contents c.args.writer.now) (g.W.Write.contents c.loop.writer) (g.L.Log.contents c.args.log.now) (g.L.Log.contents c.loop.log) c.loop.progress c.loop.invariant.so_far c.loop.progress.unended c.in_err-len.ensures.err)
+    (g.W.Write.contents c.args.writer.now) (g.W.Write.contents c.loop.writer) (g.L.Log.contents c.args.log.now) (g.L.Log.contents c.loop.log) c.loop.state c.loop.invariant.so_far c.loop.state.unended c.in_err-len.ensures.err)
 
 pub returns-in-0 : goal.returns-in-0
 returns-in-0 g c =
     let read = c.in_ok-len.ensures in
     read_ends (g.R.Read.remaining c.args.reader.now) (g.R.Read.remaining c.loop.reader) (g.R.Read.remaining c.read_some.new.reader)
-    (g.W.Write.contents c.args.writer.now) (g.W.Write.contents c.loop.writer) (g.L.Log.contents c.args.log.now) (g.L.Log.contents c.loop.log) c.loop.progress c.in_ok-len.len c.read_some.new.buffer c.finish.result
+    (g.W.Write.contents c.args.writer.now) (g.W.Write.contents c.loop.writer) (g.L.Log.contents c.args.log.now) (g.L.Log.contents c.loop.log) c.loop.state c.in_ok-len.len c.read_some.new.buffer c.finish.result
     c.loop.invariant.so_far read.ok c.in-0.is (read.end c.in-0.is) c.finish.ensures
 
 pub slice_bounds-replay_piece-end : goal.slice_bounds-replay_piece-end
@@ -60,7 +60,7 @@ returns-in_err-replay_piece-in_default g c =
     let out = c.in_err-replay_piece-in_default.ensures.outcome in
     rw (p.1, p.2) (piece_stops (g.R.Read.remaining c.args.reader.now) (g.R.Read.remaining c.loop.reader) (g.R.Read.remaining c.read_some.new.reader)
     (g.W.Write.contents c.args.writer.now) (g.W.Write.contents c.loop.writer) (g.W.Write.contents c.replay_piece.new.writer) (g.L.Log.contents c.args.log.now) (g.L.Log.contents c.loop.log) (g.L.Log.contents c.replay_piece.new.log)
-    c.loop.progress (take c.in_ok-len.len c.deref.result.now) out.0 c.in_err-replay_piece-in_default.field-0.0
+    c.loop.state (take c.in_ok-len.len c.deref.result.now) out.0 c.in_err-replay_piece-in_default.field-0.0
     c.loop.invariant.so_far (subst P is c.in_ok-len.ensures.ok) out.1 out.2)
 
 pub loop-preserved : goal.loop-preserved
@@ -72,7 +72,7 @@ loop-preserved g c =
     record {
       so_far = piece_goes (g.R.Read.remaining c.args.reader.now) (g.R.Read.remaining c.loop.reader) (g.R.Read.remaining c.read_some.new.reader)
           (g.W.Write.contents c.args.writer.now) (g.W.Write.contents c.loop.writer) (g.W.Write.contents c.replay_piece.new.writer) (g.L.Log.contents c.args.log.now) (g.L.Log.contents c.loop.log) (g.L.Log.contents c.replay_piece.new.log)
-          c.loop.progress c.replay_piece.new.self (take c.in_ok-len.len c.deref.result.now) out.outcome.0
+          c.loop.state c.replay_piece.new.self (take c.in_ok-len.len c.deref.result.now) out.outcome.0
           c.loop.invariant.so_far (subst P is c.in_ok-len.ensures.ok) out.outcome.1 out.outcome.2 out.written;
       room = rw back (omega (arith, c.loop.invariant.room, c.read_some.auto.buffer, ap length c.deref_mut.ensures.value));
     }
@@ -80,5 +80,5 @@ loop-preserved g c =
 pub returns : goal.returns
 returns g c =
     read_fails (g.R.Read.remaining c.args.reader.now) (g.R.Read.remaining c.loop.reader) (g.R.Read.remaining c.loop.reader)
-    (g.W.Write.contents c.args.writer.now) (g.W.Write.contents c.loop.writer) (g.L.Log.contents c.args.log.now) (g.L.Log.contents c.loop.log) c.loop.progress c.loop.invariant.so_far c.loop.progress.unended
+    (g.W.Write.contents c.args.writer.now) (g.W.Write.contents c.loop.writer) (g.L.Log.contents c.args.log.now) (g.L.Log.contents c.loop.log) c.loop.state c.loop.invariant.so_far c.loop.state.unended
     (Keeps-refl (g.R.Read.remaining c.loop.reader))

@@ -6,6 +6,6 @@ use Rattle.iova_trace.proofs.replay.replay_lines.Given as goal
 abbrev pub invariant-loop : goal.invariant-loop
 invariant-loop g l = record {
   so_far : SoFar (g.R.Read.remaining l.initial.reader) (g.R.Read.remaining l.reader)
-      (g.W.Write.contents l.initial.writer) (g.W.Write.contents l.writer) (g.L.Log.contents l.initial.log) (g.L.Log.contents l.log) l.progress;
+      (g.W.Write.contents l.initial.writer) (g.W.Write.contents l.writer) (g.L.Log.contents l.initial.log) (g.L.Log.contents l.log) l.state;
   room : 0 < length l.input.items;
 }
