@@ -5,7 +5,7 @@ use Rattle.std.proofs.KnownBytes.{Appends-nil, Appends-trans, Consumes-nil, Cons
 use Rattle.std.specs.Io.KnownBytes.{Appends, Consumes}
 use Rattle.iova_ask.specs.Answers.{IsAnswered, LeavesOwed}
 use Rattle.iova_ask.specs.Asking.{Breaks, Passes, lines_text}
-use Rattle.iova_ask.specs.Runs.{Copies, CopiesMore}
+use Rattle.iova_ask.specs.LineRuns.{Copies, CopiesMore}
 use Rattle.iova_ask.specs.declared.answers.Owed.{Owed}
 use Rattle.iova_ask.specs.declared.fault.AskFault.{AskFault}
 use Rattle.iova_ask.proofs.Answering.{answered_front, answers_append, leaves_trans, no_answers}

@@ -12,8 +12,8 @@ use Rattle.std.proofs.lemmas.Grind.{flat_map-append}
 use Rattle.iova_range.specs.declared.limits.TheConstants.{MAX_RUN, MAX_LINE}
 use Rattle.iova_text.specs.Lines.{HasNoLf, is_not_lf, IsOverlong, IsUnended, whole_line}
 use Rattle.iova_ask.specs.Asking.{AreLines, AreLinesAnd, AreOpen, EndByBye, IsLine, bye, lines_text}
-use Rattle.iova_ask.specs.Runs.{IsRunOfLines, IsStuck}
-use Rattle.iova_ask.specs.declared.front.Run.{Run}
+use Rattle.iova_ask.specs.LineRuns.{IsRunOfLines, IsStuck}
+use Rattle.iova_ask.specs.declared.front.LineRun.{LineRun}
 
 pub take_front : (xs ys : List ℕ) → take (length xs) (xs ++ ys) ≡ xs
 take_front [] ys = refl
@@ -139,7 +139,7 @@ none_of : (ls : List (List ℕ)) → 0 ≡ length ls → ls ≡ []
 none_of [] e = refl
 none_of (l ∷ ls) e = absurd (omega (arith, e))
 
-pub run_none : (bytes : List ℕ) (run : Run) → IsRunOfLines bytes run → run.lines ≡ 0 → IsStuck bytes
+pub run_none : (bytes : List ℕ) (run : LineRun) → IsRunOfLines bytes run → run.lines ≡ 0 → IsStuck bytes
 run_none bytes run r none =
     let no_lines : r.lines ≡ [] = none_of r.lines (sym none ∙ r.count) in
     let same : bytes ≡ r.rest = r.whole ∙ ap (λ (t : List ℕ). t ++ r.rest) (ap lines_text no_lines ∙ lines_text-none) in
@@ -155,15 +155,15 @@ stuck_long bytes (inr overlong) long = overlong
 
 -- a run of whole lines was read
 
-pub run_text : (bytes : List ℕ) (run : Run) (r : IsRunOfLines bytes run) → take run.len bytes ≡ lines_text r.lines
+pub run_text : (bytes : List ℕ) (run : LineRun) (r : IsRunOfLines bytes run) → take run.len bytes ≡ lines_text r.lines
 run_text bytes run r =
     ap (λ (n : ℕ). take n bytes) r.len ∙ (ap (take (length (lines_text r.lines))) r.whole ∙ take_front (lines_text r.lines) r.rest)
 
-pub run_rest : (bytes : List ℕ) (run : Run) (r : IsRunOfLines bytes run) → drop run.len bytes ≡ r.rest
+pub run_rest : (bytes : List ℕ) (run : LineRun) (r : IsRunOfLines bytes run) → drop run.len bytes ≡ r.rest
 run_rest bytes run r =
     ap (λ (n : ℕ). drop n bytes) r.len ∙ (ap (drop (length (lines_text r.lines))) r.whole ∙ drop_front (lines_text r.lines) r.rest)
 
-pub run_within : (bytes : List ℕ) (run : Run) → IsRunOfLines bytes run → run.len ≤ length bytes
+pub run_within : (bytes : List ℕ) (run : LineRun) → IsRunOfLines bytes run → run.len ≤ length bytes
 run_within bytes run r = omega (arith, r.len, ap length r.whole, length-append (lines_text r.lines) r.rest)
 
 pub count_within : (ls : List (List ℕ)) → length ls ≤ length (lines_text ls)
@@ -173,17 +173,17 @@ count_within (l ∷ ls) =
     let whole : lines_text (l ∷ ls) ≡ whole_line l ++ lines_text ls = lines_text-append (l ∷ []) ls ∙ ap (λ (t : List ℕ). t ++ lines_text ls) (lines_text-one l) in
     omega (arith, ap length whole, length-append (whole_line l) (lines_text ls), length-append l (10 ∷ []), one)
 
-pub run_count : (bytes : List ℕ) (run : Run) → IsRunOfLines bytes run → run.lines ≤ run.len
+pub run_count : (bytes : List ℕ) (run : LineRun) → IsRunOfLines bytes run → run.lines ≤ run.len
 run_count bytes run r = omega (arith, r.count, r.len, count_within r.lines)
 
 -- lines and then a run of them
-pub more_whole : (bytes mid : List ℕ) (run : Run) (ls : List (List ℕ)) → bytes ≡ lines_text ls ++ mid → (r : IsRunOfLines mid run)
+pub more_whole : (bytes mid : List ℕ) (run : LineRun) (ls : List (List ℕ)) → bytes ≡ lines_text ls ++ mid → (r : IsRunOfLines mid run)
     → bytes ≡ lines_text (ls ++ r.lines) ++ r.rest
 more_whole bytes mid run ls whole r =
     whole ∙ (ap (λ (t : List ℕ). lines_text ls ++ t) r.whole ∙ (sym (append_assoc (lines_text ls) (lines_text r.lines) r.rest)
     ∙ ap (λ (t : List ℕ). t ++ r.rest) (sym (lines_text-append ls r.lines))))
 
-pub more_open : (bytes mid : List ℕ) (run : Run) (ls : List (List ℕ)) → AreLinesAnd bytes mid ls → (r : IsRunOfLines mid run) → run.is_last ≡ false
+pub more_open : (bytes mid : List ℕ) (run : LineRun) (ls : List (List ℕ)) → AreLinesAnd bytes mid ls → (r : IsRunOfLines mid run) → run.is_last ≡ false
     → AreLinesAnd bytes (drop run.len mid) (ls ++ r.lines)
 more_open bytes mid run ls a r not = record {
   good = open_append ls r.lines a.good (subst (λ (b : Bool). MatchBool b (EndByBye r.lines) (AreOpen r.lines)) not r.byes);

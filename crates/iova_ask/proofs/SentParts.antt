@@ -7,7 +7,7 @@ use Rattle.std.specs.Io.KnownBytes.{Appends, IsAtEnd}
 use Rattle.std.proofs.KnownBytes.{Appends-nil, Appends-trans}
 use Rattle.iova_text.specs.Lines.{IsUnended, whole_line}
 use Rattle.iova_ask.specs.Asking.{AreLines, AreLinesAnd, BeginWith, IsLine, Sends, lines_text}
-use Rattle.iova_ask.specs.Runs.{SendsRun, Rests}
+use Rattle.iova_ask.specs.LineRuns.{SendsRun, Rests}
 use Rattle.iova_ask.specs.declared.fault.AskFault.{AskFault}
 use Rattle.iova_ask.specs.declared.fault.AskFault.TheVariants as fault
 use Rattle.iova_ask.proofs.Lined.{all_append, lines_text-append, lines_text-none, lines_text-one, lines_text-push, more_bye, more_sent, some_sent, open_append}

@@ -1,3 +1,3 @@
 pub mod Asking
 pub mod Answers
-pub mod Runs
+pub mod LineRuns

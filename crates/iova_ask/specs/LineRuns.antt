@@ -6,7 +6,7 @@ use Rattle.iova_text.specs.Lines.{IsUnended, IsOverlong, whole_line}
 use Rattle.iova_text.specs.Writing.{AppendsFront}
 use Rattle.iova_ask.specs.Asking.{AreLines, AreLinesAnd, AreOpen, EndByBye, BeginWith, IsLine, Passes, lines_text}
 use Rattle.iova_ask.specs.Answers.{AreWholeAnswers}
-use Rattle.iova_ask.specs.declared.front.Run.{Run}
+use Rattle.iova_ask.specs.declared.front.LineRun.{LineRun}
 use Rattle.iova_ask.specs.declared.fault.AskFault.{AskFault}
 use Rattle.iova_ask.specs.declared.fault.AskFault.TheVariants as fault
 
@@ -15,7 +15,7 @@ abbrev pub IsStuck : List ℕ → Type 0
 IsStuck rest = IsUnended rest ⊎ IsOverlong rest
 
 -- the lines of a run, and what stands after them
-pub record IsRunOfLines (bytes : List ℕ) (run : Run) : Type 0 where
+pub record IsRunOfLines (bytes : List ℕ) (run : LineRun) : Type 0 where
   pub lines : List (List ℕ)
   pub rest : List ℕ
   pub whole : bytes ≡ lines_text lines ++ rest

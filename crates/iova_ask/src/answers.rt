@@ -3,7 +3,7 @@ ghost use Rattle.std.specs.Prelude.{◌≡◌, ◌≢◌, ◌<◌, ◌≤◌, �
 ghost use Rattle.std.specs.Io.KnownBytes.{Appends, Consumes};
 ghost use Rattle.iova_ask.specs.Answers.{HasLinesAfter, IsAnswered, LeavesOwed};
 ghost use Rattle.iova_ask.specs.Asking.{Breaks, IsLine};
-ghost use Rattle.iova_ask.specs.Runs.{Copies};
+ghost use Rattle.iova_ask.specs.LineRuns.{Copies};
 
 use crate::buffer::{Buffer, PIECE};
 use crate::fault::AskFault;

@@ -1,12 +1,12 @@
 //! The whole lines at the front of what was read.
-ghost use Rattle.iova_ask.specs.Runs.{IsRunOfLines};
+ghost use Rattle.iova_ask.specs.LineRuns.{IsRunOfLines};
 
 use iova_range::limits::{MAX_LINE, MAX_RUN};
 use iova_text::line::cut_line;
 
 /// Lines that are sent together.
 #[derive(Clone, Copy)]
-pub(crate) struct Run {
+pub(crate) struct LineRun {
     /// How many bytes they have, with their LFs.
     pub len: usize,
     /// How many they are.
@@ -17,7 +17,7 @@ pub(crate) struct Run {
 
 /// The whole lines at the front of the bytes, at most 16, up to the first `bye`, and before a line
 /// of more than 128 bytes.
-pub(crate) fn run_in_front(bytes: &[u8]) -> Run
+pub(crate) fn run_in_front(bytes: &[u8]) -> LineRun
     ensures { IsRunOfLines bytes.now result }
 {
     let mut rest = bytes;
@@ -25,14 +25,14 @@ pub(crate) fn run_in_front(bytes: &[u8]) -> Run
     let mut lines = 0;
     while lines < MAX_RUN {
         let Some((line, after)) = cut_line(rest) else {
-            return Run {
+            return LineRun {
                 len,
                 lines: lines as u64,
                 is_last: false,
             };
         };
         if line.len() >= MAX_LINE {
-            return Run {
+            return LineRun {
                 len,
                 lines: lines as u64,
                 is_last: false,
@@ -42,14 +42,14 @@ pub(crate) fn run_in_front(bytes: &[u8]) -> Run
         lines += 1;
         rest = after;
         if line == b"bye".as_slice() {
-            return Run {
+            return LineRun {
                 len,
                 lines: lines as u64,
                 is_last: true,
             };
         }
     }
-    Run {
+    LineRun {
         len,
         lines: lines as u64,
         is_last: false,

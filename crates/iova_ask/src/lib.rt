@@ -6,7 +6,7 @@ ghost use Rattle.std.specs.Io.KnownBytes.{Appends, Consumes};
 ghost use Rattle.iova_text.specs.Lines.{IsUnended};
 ghost use Rattle.iova_text.specs.Writing.{AppendsFront};
 ghost use Rattle.iova_ask.specs.Asking.{Breaks, Sends};
-ghost use Rattle.iova_ask.specs.Runs.{SendsRun, Copies, CopiesMore, Rests};
+ghost use Rattle.iova_ask.specs.LineRuns.{SendsRun, Copies, CopiesMore, Rests};
 
 mod answers;
 mod buffer;

@@ -4,7 +4,7 @@ use Rattle.std.proofs.KnownBytes.{Consumes-nil, Consumes-trans}
 use Rattle.std.specs.Io.KnownBytes.{Consumes}
 use Rattle.iova_text.specs.Lines.{IsUnended}
 use Rattle.iova_ask.specs.Asking.{AreLinesAnd, Sends}
-use Rattle.iova_ask.specs.Runs.{SendsRun, Copies}
+use Rattle.iova_ask.specs.LineRuns.{SendsRun, Copies}
 use Rattle.iova_ask.specs.declared.fault.AskFault.{AskFault}
 use Rattle.iova_ask.specs.declared.fault.AskFault.TheVariants as fault
 use Rattle.iova_ask.proofs.Copying.{Copies-none, breaks_after, breaks_here, copied_rest, copies_further}

@@ -2,7 +2,7 @@ use Rattle.std.proofs.Common.{ℕ, ◌≡◌, ◌+◌, ◌*◌, ◌≤◌, List,
 use Rattle.std.specs.Io.KnownBytes.{Appends, Consumes}
 use Rattle.iova_text.specs.Lines.{IsUnended}
 use Rattle.iova_ask.specs.Asking.{AreLinesAnd, lines_text}
-use Rattle.iova_ask.specs.Runs.{Copies}
+use Rattle.iova_ask.specs.LineRuns.{Copies}
 use Rattle.iova_ask.proofs.ask_lines.Given as goal
 
 abbrev pub invariant-reading : goal.invariant-reading

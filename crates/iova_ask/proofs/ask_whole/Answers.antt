@@ -1,6 +1,6 @@
 use Rattle.std.proofs.Common.{rules, ℕ, ◌≤◌, ◌<◌, ◌+◌, ◌++◌, List, length, take, refl, subst, ap, arith, length-drop, length-append}
 use Rattle.std.specs.Io.KnownBytes.{Appends}
-use Rattle.iova_ask.specs.Runs.{IsRunOfLines}
+use Rattle.iova_ask.specs.LineRuns.{IsRunOfLines}
 use Rattle.iova_ask.proofs.Copying.{breaks_after, copied_more, copied_none}
 use Rattle.iova_ask.proofs.SentParts.{asks_broken, none_asked, more_begin}
 use Rattle.iova_ask.proofs.Lined.{all_append, lines_of_run, more_bye, more_open, more_sent, run_count, run_none, run_text, run_within, some_sent, stuck_long, stuck_short}

@@ -1,6 +1,6 @@
 use Rattle.std.proofs.Common.{◌≡◌, ◌+◌, ◌≤◌, length}
 use Rattle.iova_ask.specs.Asking.{AreLinesAnd, lines_text}
-use Rattle.iova_ask.specs.Runs.{CopiesMore}
+use Rattle.iova_ask.specs.LineRuns.{CopiesMore}
 use Rattle.std.specs.Io.KnownBytes.{Appends}
 use Rattle.std.specs.Prelude.{List, ℕ}
 use Rattle.iova_ask.proofs.ask_whole.Given as goal
