@@ -10,9 +10,9 @@ use iova_range::limits::MAX_WATCH_PAUSE;
 use iova_regions::span::read_span;
 use std::alloc::{AllocError, Global};
 
-/// What of the options is looked at, in this order: the first that is wrong is told.
+/// What the options are tested for, in this order: the first test that fails is reported.
 #[derive(Clone, Copy, PartialEq, Eq)]
-enum Look {
+enum OptionTest {
     /// Whether numbers begin with a digit; clap has seen to their ranges.
     Numbers,
     /// Whether words are among those of their option.
@@ -81,16 +81,16 @@ fn wrong_to_control(alloc: Global, found: &ArgMatches<'_>) -> Result<Option<Stri
 }
 
 fn wrong_to_serve(alloc: Global, found: &ArgMatches<'_>) -> Result<Option<String>, AllocError> {
-    for look in [Look::Numbers, Look::Words] {
-        if let Some(text) = first_wrong(alloc, found, serve_rows(), look)? {
+    for test in [OptionTest::Numbers, OptionTest::Words] {
+        if let Some(text) = first_wrong(alloc, found, serve_rows(), test)? {
             return Ok(Some(text));
         }
     }
     if let Some(text) = wrong_sinks(alloc, found)? {
         return Ok(Some(text));
     }
-    for look in [Look::Needs, Look::Powers, Look::Spans] {
-        if let Some(text) = first_wrong(alloc, found, serve_rows(), look)? {
+    for test in [OptionTest::Needs, OptionTest::Powers, OptionTest::Spans] {
+        if let Some(text) = first_wrong(alloc, found, serve_rows(), test)? {
             return Ok(Some(text));
         }
     }
@@ -103,8 +103,8 @@ fn wrong_among(
     found: &ArgMatches<'_>,
     rows: &[OptionRow],
 ) -> Result<Option<String>, AllocError> {
-    for look in [Look::Numbers, Look::Words, Look::Needs] {
-        if let Some(text) = first_wrong(alloc, found, rows, look)? {
+    for test in [OptionTest::Numbers, OptionTest::Words, OptionTest::Needs] {
+        if let Some(text) = first_wrong(alloc, found, rows, test)? {
             return Ok(Some(text));
         }
     }
@@ -116,10 +116,10 @@ fn first_wrong(
     alloc: Global,
     found: &ArgMatches<'_>,
     rows: &[OptionRow],
-    look: Look,
+    test: OptionTest,
 ) -> Result<Option<String>, AllocError> {
     for row in rows {
-        if let Some(text) = wrong_option(alloc, found, row, look)? {
+        if let Some(text) = wrong_option(alloc, found, row, test)? {
             return Ok(Some(text));
         }
     }
@@ -131,25 +131,25 @@ fn wrong_option(
     alloc: Global,
     found: &ArgMatches<'_>,
     row: &OptionRow,
-    look: Look,
+    test: OptionTest,
 ) -> Result<Option<String>, AllocError> {
     let name = row.name;
-    if look == Look::Needs {
+    if test == OptionTest::Needs {
         return missing_need(alloc, found, name, row.needs);
     }
-    match (row.takes, look) {
-        (Takes::Number { low, high, .. }, Look::Numbers) => {
+    match (row.takes, test) {
+        (Takes::Number { low, high, .. }, OptionTest::Numbers) => {
             wrong_number(alloc, found, name, low, high)
         }
-        (Takes::PowerOfTwo { low, high }, Look::Numbers) => {
+        (Takes::PowerOfTwo { low, high }, OptionTest::Numbers) => {
             wrong_number(alloc, found, name, low, high)
         }
-        (Takes::PowerOfTwo { low, high }, Look::Powers) => {
+        (Takes::PowerOfTwo { low, high }, OptionTest::Powers) => {
             wrong_power(alloc, found, name, low, high)
         }
-        (Takes::Level, Look::Words) => wrong_level(alloc, found, name),
-        (Takes::Label, Look::Words) => wrong_label(alloc, found, name),
-        (Takes::Spans, Look::Spans) => wrong_span(alloc, found, name),
+        (Takes::Level, OptionTest::Words) => wrong_level(alloc, found, name),
+        (Takes::Label, OptionTest::Words) => wrong_label(alloc, found, name),
+        (Takes::Spans, OptionTest::Spans) => wrong_span(alloc, found, name),
         _ => Ok(None),
     }
 }
