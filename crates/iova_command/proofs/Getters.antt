@@ -1,7 +1,7 @@
 -- What the getters of matches read, by the rows.
 use Rattle.std.proofs.Common.{ℕ, ◌≡◌, ◌∙◌, Bool, true, false, codes, List, Option, Some, None, Result, refl, sym, ap, subst, rules}
 use Rattle.std.specs.Option.{option_and_then, option_map}
-use Rattle.std.specs.Prelude.{find}
+use Rattle.std.specs.Prelude.{IfSome, find}
 use Rattle.std.specs.Str.{bytes_eq}
 use Rattle.std.specs.Borrow.{Bor}
 use Rattle.std.specs.Str.Parse.{ParsesUnsigned, ExplainsUnsignedError, HasUnsignedDigitsIfOk}
@@ -83,9 +83,11 @@ no_text f id r reads is text has =
     let bad : None ≡ Some text = sym none ∙ has in
     cc
 
-pub left_out : (f : Found) (id : Text) (default : ℕ) (r : Option (Bor Text)) → option_map (λ b. b.now) r ≡ first_value f id → r ≡ None
-    → HasNumberOr (rows_of f) id default default
-left_out f id default r reads is =
+-- the number of an option that is left out is its default
+pub left_out : (f : Found) (id : Text) (default : Option ℕ) (r : Option (Bor Text)) → option_map (λ b. b.now) r ≡ first_value f id → r ≡ None
+    → IfSome default (λ n. IfSome default (λ d. HasNumberOr (rows_of f) id d n))
+left_out f id None r reads is = tt
+left_out f id (Some default) r reads is =
     let none : first_of id (rows_of f) ≡ None = optional_text_read f id r reads ∙ ap (option_map (λ b. b.now)) is in
     (λ e. refl, λ some. absurd (some none))
 

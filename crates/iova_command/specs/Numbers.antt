@@ -1,8 +1,10 @@
 -- The number that an option has.
-use Rattle.std.specs.Prelude.{ℕ, ◌≡◌, ◌≢◌, ◌==◌, Bool, false, List, [], ◌∷◌, Option, Some, None, Ok}
+use Rattle.std.specs.Prelude.{ℕ, ◌≡◌, ◌≢◌, ◌≤◌, ◌==◌, Bool, false, List, [], ◌∷◌, Option, Some, None, Ok}
 use Rattle.std.specs.declared.num.ParseIntError.{ParseIntError}
 use Rattle.std.specs.Str.Parse.{ParsesUnsigned}
 use Rattle.clap.specs.Words.{Row, Text, first_of, one_of}
+use Rattle.iova_command.specs.declared.options.Takes.{Takes}
+use Rattle.iova_command.specs.declared.options.Takes.TheVariants.{Nothing, Path, WantedPath, Number, PowerOfTwo, Level, Label, Spans, Place, NumberPlace}
 
 -- a text begins with the sign +
 abbrev pub begins_with_plus : Text → Bool
@@ -38,3 +40,29 @@ HasNumberOr rows id default n =
 abbrev pub HasOptional : List Row → Text → Option ℕ → Type 0
 HasOptional rows id (Some n) = HasNumber rows id n
 HasOptional rows id None = (n : ℕ) → ¬ ParsesNumber rows id n
+
+-- what an option takes has a range, and this number is in it
+abbrev pub IsInRange : Takes → ℕ → Type 0
+IsInRange Nothing n = ⊥
+IsInRange Path n = ⊥
+IsInRange WantedPath n = ⊥
+IsInRange (Number low high default) n = (low ≤ n) × (n ≤ high)
+IsInRange (PowerOfTwo low high) n = (low ≤ n) × (n ≤ high)
+IsInRange Level n = ⊥
+IsInRange Label n = ⊥
+IsInRange Spans n = ⊥
+IsInRange Place n = ⊥
+IsInRange (NumberPlace low high) n = (low ≤ n) × (n ≤ high)
+
+-- the number that is used without the option
+abbrev pub default_of : Takes → Option ℕ
+default_of Nothing = None
+default_of Path = None
+default_of WantedPath = None
+default_of (Number low high default) = default
+default_of (PowerOfTwo low high) = None
+default_of Level = None
+default_of Label = None
+default_of Spans = None
+default_of Place = None
+default_of (NumberPlace low high) = None

@@ -4,9 +4,9 @@ ghost use Rattle.std.specs.Option.{ForSome};
 ghost use Rattle.clap.specs.Words.{rows_of, found_of};
 ghost use Rattle.iova_range.specs.declared.limits.TheConstants.{LAST_DOMAIN_ID, WIDE_TOP};
 
+use crate::options;
 use crate::plan::optional;
 use clap::ArgMatches;
-use iova_range::limits::{LAST_DOMAIN_ID, WIDE_TOP};
 
 /// The options of `check`, each in its range.
 #[derive(Drop)]
@@ -40,11 +40,11 @@ impl<'a> CheckPlan<'a> {
     {
         let path = found.get_str("file")?;
         let quiet = found.get_flag("quiet");
-        let first = optional(found, "first", 0, WIDE_TOP)?;
-        let last = optional(found, "last", 0, WIDE_TOP)?;
+        let first = optional(found, &options::CHECK_FIRST)?;
+        let last = optional(found, &options::CHECK_LAST)?;
         let regions = found.get_str("reserved-regions");
         let ftrace = found.get_flag("ftrace");
-        let did = optional(found, "did", 0, LAST_DOMAIN_ID)?;
+        let did = optional(found, &options::DID)?;
         let plan = CheckPlan {
             path,
             quiet,

@@ -158,7 +158,7 @@ const SOCKET: OptionRow = OptionRow {
     hint: "the socket's path",
 };
 
-const WORKERS: OptionRow = OptionRow {
+pub(crate) const WORKERS: OptionRow = OptionRow {
     name: "workers",
     value: "N",
     takes: Takes::Number {
@@ -171,7 +171,7 @@ const WORKERS: OptionRow = OptionRow {
     hint: "how many workers the domain has, 1 to 16",
 };
 
-const CLIENTS: OptionRow = OptionRow {
+pub(crate) const CLIENTS: OptionRow = OptionRow {
     name: "clients",
     value: "N",
     takes: Takes::Number {
@@ -184,7 +184,7 @@ const CLIENTS: OptionRow = OptionRow {
     hint: "how many clients are served at a time, 1 to 1024",
 };
 
-const DOMAIN: OptionRow = OptionRow {
+pub(crate) const DOMAIN: OptionRow = OptionRow {
     name: "domain",
     value: "N",
     takes: Takes::Number {
@@ -197,7 +197,7 @@ const DOMAIN: OptionRow = OptionRow {
     hint: "the number of the domain, 0 to 7",
 };
 
-const START: OptionRow = OptionRow {
+pub(crate) const START: OptionRow = OptionRow {
     name: "start",
     value: "N",
     takes: Takes::Number {
@@ -210,7 +210,7 @@ const START: OptionRow = OptionRow {
     hint: "the first frame that may be given",
 };
 
-const LAST: OptionRow = OptionRow {
+pub(crate) const LAST: OptionRow = OptionRow {
     name: "last",
     value: "N",
     takes: Takes::Number {
@@ -241,7 +241,7 @@ const SINK: OptionRow = OptionRow {
     hint: "a file for records, which no device answers",
 };
 
-const PEER_WAIT: OptionRow = OptionRow {
+pub(crate) const PEER_WAIT: OptionRow = OptionRow {
     name: "peer-wait",
     value: "SECONDS",
     takes: Takes::Number {
@@ -254,7 +254,7 @@ const PEER_WAIT: OptionRow = OptionRow {
     hint: "the seconds that the peer is waited for at the start",
 };
 
-const SESSIONS: OptionRow = OptionRow {
+pub(crate) const SESSIONS: OptionRow = OptionRow {
     name: "sessions",
     value: "N",
     takes: Takes::Number {
@@ -267,7 +267,7 @@ const SESSIONS: OptionRow = OptionRow {
     hint: "how many sessions are served",
 };
 
-const SESSION_REQUESTS: OptionRow = OptionRow {
+pub(crate) const SESSION_REQUESTS: OptionRow = OptionRow {
     name: "session-requests",
     value: "N",
     takes: Takes::Number {
@@ -280,7 +280,7 @@ const SESSION_REQUESTS: OptionRow = OptionRow {
     hint: "the most requests of a session",
 };
 
-const IDLE: OptionRow = OptionRow {
+pub(crate) const IDLE: OptionRow = OptionRow {
     name: "idle",
     value: "SECONDS",
     takes: Takes::Number {
@@ -293,7 +293,7 @@ const IDLE: OptionRow = OptionRow {
     hint: "the seconds after which a silent session ends",
 };
 
-const DEPOT: OptionRow = OptionRow {
+pub(crate) const DEPOT: OptionRow = OptionRow {
     name: "depot",
     value: "N",
     takes: Takes::Number {
@@ -324,7 +324,7 @@ const RECORD: OptionRow = OptionRow {
     hint: "the file that the first steps are written to",
 };
 
-const RECORD_STEPS: OptionRow = OptionRow {
+pub(crate) const RECORD_STEPS: OptionRow = OptionRow {
     name: "record-steps",
     value: "N",
     takes: Takes::Number {
@@ -355,7 +355,7 @@ const RESERVED_REGIONS: OptionRow = OptionRow {
     hint: "the reserved_regions of a group",
 };
 
-const SINK_TIMEOUT: OptionRow = OptionRow {
+pub(crate) const SINK_TIMEOUT: OptionRow = OptionRow {
     name: "sink-timeout",
     value: "SECONDS",
     takes: Takes::Number {
@@ -395,7 +395,7 @@ const CONTROL: OptionRow = OptionRow {
     hint: "the path of the control socket",
 };
 
-const GRANULE: OptionRow = OptionRow {
+pub(crate) const GRANULE: OptionRow = OptionRow {
     name: "granule",
     value: "BYTES",
     takes: Takes::PowerOfTwo {
@@ -449,7 +449,7 @@ pub(crate) fn ask_rows() -> &'static [OptionRow]
 
 const ASK_ROWS: [OptionRow; 2] = [ASK_TIMEOUT, ASK_PATH];
 
-const ASK_TIMEOUT: OptionRow = OptionRow {
+pub(crate) const ASK_TIMEOUT: OptionRow = OptionRow {
     name: "timeout",
     value: "SECONDS",
     takes: Takes::Number {
@@ -480,7 +480,7 @@ pub(crate) fn control_rows() -> &'static [OptionRow]
 
 const CONTROL_ROWS: [OptionRow; 5] = [CONTROL_TIMEOUT, TOP, CONTROL_PATH, WORD, SECONDS];
 
-const CONTROL_TIMEOUT: OptionRow = OptionRow {
+pub(crate) const CONTROL_TIMEOUT: OptionRow = OptionRow {
     name: "timeout",
     value: "SECONDS",
     takes: Takes::Number {
@@ -520,7 +520,7 @@ const WORD: OptionRow = OptionRow {
     hint: "",
 };
 
-const SECONDS: OptionRow = OptionRow {
+pub(crate) const SECONDS: OptionRow = OptionRow {
     name: "seconds",
     value: "SECONDS",
     takes: Takes::NumberPlace {
@@ -558,7 +558,7 @@ const QUIET: OptionRow = OptionRow {
     hint: "prints the counts alone",
 };
 
-const CHECK_FIRST: OptionRow = OptionRow {
+pub(crate) const CHECK_FIRST: OptionRow = OptionRow {
     name: "first",
     value: "N",
     takes: Takes::Number {
@@ -571,7 +571,7 @@ const CHECK_FIRST: OptionRow = OptionRow {
     hint: "the first frame that may be mapped",
 };
 
-const CHECK_LAST: OptionRow = OptionRow {
+pub(crate) const CHECK_LAST: OptionRow = OptionRow {
     name: "last",
     value: "N",
     takes: Takes::Number {
@@ -602,7 +602,7 @@ const FTRACE: OptionRow = OptionRow {
     hint: "reads a kernel's trace",
 };
 
-const DID: OptionRow = OptionRow {
+pub(crate) const DID: OptionRow = OptionRow {
     name: "did",
     value: "N",
     takes: Takes::Number {

@@ -1,20 +1,17 @@
 //! What a daemon is to serve.
-ghost use Rattle.std.specs.Prelude.{◌≡◌, ◌<◌, ◌≤◌, IfSome, map, false, true};
+ghost use Rattle.std.specs.Prelude.{◌≡◌, ◌<◌, ◌≤◌, ◌↔◌, IfSome, codes, map, false, true};
 ghost use Rattle.std.specs.Option.{ForSome};
 ghost use Rattle.clap.specs.Words.{rows_of, found_of};
 ghost use Rattle.iova_command.specs.Granules.{IsGranule, is_granule};
 ghost use Rattle.iova_command.specs.Levels.{HasLevel, IsChoiceOf};
-ghost use Rattle.iova_command.specs.Numbers.{HasNumber, HasNumberOr, HasOptional, IsPlain, begins_with_plus};
+ghost use Rattle.iova_command.specs.Numbers.{HasNumber, HasNumberOr, HasOptional, IsInRange, IsPlain, begins_with_plus, default_of};
 ghost use Rattle.iova_command.specs.Spans.{HasSpans, InsertsSpan, InsertsSpans};
-ghost use Rattle.iova_range.specs.declared.limits.TheConstants.{DEFAULT_DOMAIN, DEFAULT_LAST, DEFAULT_START, DEFAULT_WORKERS, MAX_CLIENTS, MAX_DEPOT, MAX_WORKERS, MAX_DOMAINS, MAX_IDLE, MAX_PEER_WAIT, MAX_RECORDED_STEPS, MAX_SESSION_REQUESTS, MAX_SESSIONS, MAX_SINK_TIMEOUT, WIDE_TOP};
+ghost use Rattle.iova_range.specs.declared.limits.TheConstants.{MAX_CLIENTS, MAX_DEPOT, MAX_WORKERS, MAX_DOMAINS, MAX_IDLE, MAX_PEER_WAIT, MAX_RECORDED_STEPS, MAX_SESSION_REQUESTS, MAX_SESSIONS, MAX_SINK_TIMEOUT, WIDE_TOP};
 
+use crate::options;
+use crate::options::{OptionRow, Takes};
 use crate::sink_path::SinkPath;
 use clap::ArgMatches;
-use iova_range::limits::{
-    DEFAULT_DOMAIN, DEFAULT_LAST, DEFAULT_START, DEFAULT_WORKERS, FRAME_BYTES, MAX_CLIENTS,
-    MAX_DEPOT, MAX_DOMAINS, MAX_GRANULE, MAX_IDLE, MAX_PEER_WAIT, MAX_RECORDED_STEPS,
-    MAX_SESSION_REQUESTS, MAX_SESSIONS, MAX_SINK_TIMEOUT, MAX_WORKERS, WIDE_TOP,
-};
 use iova_range::range::Range;
 use iova_regions::span::read_span;
 use iova_regions::windows::Windows;
@@ -118,7 +115,7 @@ impl<'a> Plan<'a> {
     ghost use Rattle.iova_command.specs.Asks.{Plans};
 
     /// What the matches of `serve` say; workers, domain and bounds that are left out are those of
-    /// the limits. None where the socket is missing, a peer and a file for records are named, or
+    /// their rows. None where the socket is missing, a peer and a file for records are named, or
     /// neither is, a number is outside its range, a level is none of the four, a window is of
     /// another form or makes too many, or where a count of steps is said and no record is wanted,
     /// or a wait and no peer.
@@ -126,26 +123,26 @@ impl<'a> Plan<'a> {
         ensures { IfSome result (λ p. Plans (rows_of (found_of found.now)) p) }
     {
         let socket = found.get_str("socket")?;
-        let workers = number_or(found, "workers", DEFAULT_WORKERS, 1, MAX_WORKERS)?;
-        let clients = optional(found, "clients", 1, MAX_CLIENTS as u64)?;
-        let domain = number_or(found, "domain", DEFAULT_DOMAIN, 0, MAX_DOMAINS - 1)?;
-        let start = number_or(found, "start", DEFAULT_START, 1, WIDE_TOP)?;
-        let last = number_or(found, "last", DEFAULT_LAST, 1, WIDE_TOP)?;
+        let workers = number_or(found, &options::WORKERS)?;
+        let clients = optional(found, &options::CLIENTS)?;
+        let domain = number_or(found, &options::DOMAIN)?;
+        let start = number_or(found, &options::START)?;
+        let last = number_or(found, &options::LAST)?;
         let sink = SinkPath::of(found)?;
-        let peer_wait = optional(found, "peer-wait", 0, MAX_PEER_WAIT)?;
-        let sessions = optional(found, "sessions", 1, MAX_SESSIONS)?;
-        let session_requests = optional(found, "session-requests", 0, MAX_SESSION_REQUESTS)?;
-        let idle = optional(found, "idle", 1, MAX_IDLE)?;
-        let depot = optional(found, "depot", 0, MAX_DEPOT)?;
+        let peer_wait = optional(found, &options::PEER_WAIT)?;
+        let sessions = optional(found, &options::SESSIONS)?;
+        let session_requests = optional(found, &options::SESSION_REQUESTS)?;
+        let idle = optional(found, &options::IDLE)?;
+        let depot = optional(found, &options::DEPOT)?;
         let strict = found.get_flag("strict");
         let record = found.get_str("record");
-        let record_steps = optional(found, "record-steps", 1, MAX_RECORDED_STEPS)?;
+        let record_steps = optional(found, &options::RECORD_STEPS)?;
         let windows = windows(found, "reserve", start, last)?;
         let regions = found.get_str("reserved-regions");
-        let sink_timeout = optional(found, "sink-timeout", 1, MAX_SINK_TIMEOUT)?;
+        let sink_timeout = optional(found, &options::SINK_TIMEOUT)?;
         let log_level = level(found, "log-level")?;
         let control = found.get_str("control");
-        let granule = granule(found, "granule")?;
+        let granule = granule(found)?;
         let plan = Plan {
             socket,
             workers,
@@ -179,12 +176,13 @@ impl<'a> Plan<'a> {
     }
 }
 
-/// The bytes of a frame that an option names. None where they are no power of two in their range.
-fn granule(found: &ArgMatches<'_>, name: &str) -> Option<Option<u64>>
+/// The bytes of a frame. None where they are no power of two in their range.
+fn granule(found: &ArgMatches<'_>) -> Option<Option<u64>>
     ensures range { IfSome result (λ o. ForSome o IsGranule) }
-    ensures read { IfSome result (λ o. HasOptional (rows_of (found_of found.now)) name.now o) }
+    ensures read { IfSome result (λ o. HasOptional (rows_of (found_of found.now)) (codes "granule")
+        o) }
 {
-    let granule = optional(found, name, FRAME_BYTES, MAX_GRANULE)?;
+    let granule = optional(found, &options::GRANULE)?;
     if let Some(bytes) = granule
         && !is_granule(bytes)
     {
@@ -273,19 +271,56 @@ fn insert_span(text: &str, start: u64, last: u64, windows: &mut Windows) -> Opti
     windows.insert(Range::new(lo, hi - lo + 1)).ok()
 }
 
-/// The number of an option, where it is from `low` to `high`.
-fn number(found: &ArgMatches<'_>, name: &str, low: u64, high: u64) -> Option<u64>
-    ensures range { IfSome result (λ n. (low ≤ n) × (n ≤ high)) }
-    ensures read { IfSome result (λ n. HasNumber (rows_of (found_of found.now)) name.now n) }
+/// The number of an option, where it is in its range.
+fn number(found: &ArgMatches<'_>, option: &OptionRow) -> Option<u64>
+    ensures range { IfSome result (IsInRange option.now.takes) }
+    ensures read { IfSome result (λ n. HasNumber (rows_of (found_of found.now)) option.now.name.now
+        n) }
 {
-    if has_plus(found, name) {
+    if has_plus(found, option.name) {
         return None;
     }
-    let n = found.get_one::<u64>(name)?;
-    if n < low || n > high {
+    let n = found.get_one::<u64>(option.name)?;
+    if !is_in_range(option.takes, n) {
         return None;
     }
     Some(n)
+}
+
+/// Whether an option that takes this may have this number.
+fn is_in_range(takes: Takes, n: u64) -> bool
+    ensures { (result ≡ true) ↔ IsInRange takes n }
+{
+    match takes {
+        Takes::Number { low, high, .. }
+        | Takes::PowerOfTwo { low, high }
+        | Takes::NumberPlace { low, high } => low <= n && n <= high,
+        Takes::Nothing
+        | Takes::Path
+        | Takes::WantedPath
+        | Takes::Level
+        | Takes::Label
+        | Takes::Spans
+        | Takes::Place => false,
+    }
+}
+
+/// The number that is used without an option that takes this, where there is one.
+fn default_of(takes: Takes) -> Option<u64>
+    ensures { result ≡ default_of takes }
+{
+    match takes {
+        Takes::Number { default, .. } => default,
+        Takes::PowerOfTwo { .. }
+        | Takes::NumberPlace { .. }
+        | Takes::Nothing
+        | Takes::Path
+        | Takes::WantedPath
+        | Takes::Level
+        | Takes::Label
+        | Takes::Spans
+        | Takes::Place => None,
+    }
 }
 
 /// Whether the text of this option begins with `+`, which std's reading of a number takes.
@@ -307,35 +342,31 @@ fn begins_with_plus(text: &[u8]) -> bool
     }
 }
 
-/// The number of an option that may be left out, which is `default` then, where it is from `low` to
-/// `high`.
-fn number_or(found: &ArgMatches<'_>, name: &str, default: u64, low: u64, high: u64) -> Option<u64>
-    requires { (low ≤ default) × (default ≤ high) }
-    ensures range { IfSome result (λ n. (low ≤ n) × (n ≤ high)) }
-    ensures read { IfSome result (λ n. HasNumberOr (rows_of (found_of found.now)) name.now default
-        n) }
+/// The number of an option that may be left out, which is that of its row then, where it is in its
+/// range.
+fn number_or(found: &ArgMatches<'_>, option: &OptionRow) -> Option<u64>
+    requires { IfSome (default_of option.now.takes) (IsInRange option.now.takes) }
+    ensures range { IfSome result (IsInRange option.now.takes) }
+    ensures read { IfSome result (λ n. IfSome (default_of option.now.takes) (λ default.
+        HasNumberOr (rows_of (found_of found.now)) option.now.name.now default n)) }
 {
-    match found.get_str(name) {
-        None => Some(default),
-        Some(_) => number(found, name, low, high),
+    match found.get_str(option.name) {
+        None => default_of(option.takes),
+        Some(_) => number(found, option),
     }
 }
 
-/// The number of an option that may be missing, where it is from `low` to `high`.
-pub(crate) fn optional(
-    found: &ArgMatches<'_>,
-    name: &str,
-    low: u64,
-    high: u64,
-) -> Option<Option<u64>>
-    ensures range { IfSome result (λ o. ForSome o (λ n. (low ≤ n) × (n ≤ high))) }
-    ensures read { IfSome result (λ o. HasOptional (rows_of (found_of found.now)) name.now o) }
+/// The number of an option that may be missing, where it is in its range.
+pub(crate) fn optional(found: &ArgMatches<'_>, option: &OptionRow) -> Option<Option<u64>>
+    ensures range { IfSome result (λ o. ForSome o (IsInRange option.now.takes)) }
+    ensures read { IfSome result (λ o. HasOptional (rows_of (found_of found.now))
+        option.now.name.now o) }
 {
-    if has_plus(found, name) {
+    if has_plus(found, option.name) {
         return None;
     }
-    match found.get_one::<u64>(name) {
-        Some(n) if n < low || n > high => None,
+    match found.get_one::<u64>(option.name) {
+        Some(n) if !is_in_range(option.takes, n) => None,
         number => Some(number),
     }
 }

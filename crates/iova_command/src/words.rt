@@ -11,6 +11,7 @@ use crate::check_plan::CheckPlan;
 use crate::command::iovad_command;
 use crate::control_word::ControlWord;
 use crate::label::are_right;
+use crate::options;
 use crate::options::serve_rows;
 use crate::plan::{Plan, optional};
 use crate::said::Said;
@@ -18,7 +19,6 @@ use crate::usage::WordsFault;
 use crate::wrong_word::wrong_word;
 use clap::error::ErrorKind;
 use clap::{ArgMatches, Command};
-use iova_range::limits::{MAX_ANSWER_TIMEOUT, MAX_WATCH_PAUSE};
 use std::alloc::Global;
 use std::convert::AsStr;
 use std::rt::Env;
@@ -133,7 +133,7 @@ fn asked_of_command<'a>(name: &str, found: &ArgMatches<'a>) -> Option<Asked<'a>>
         "serve" => None,
         "ask" => Some(Asked::Ask {
             path: found.get_str("path")?,
-            timeout: optional(found, "timeout", 1, MAX_ANSWER_TIMEOUT)?,
+            timeout: optional(found, &options::ASK_TIMEOUT)?,
         }),
         "check" => Some(Asked::Check(CheckPlan::of(found)?)),
         "control" => asked_of_control(found),
@@ -151,8 +151,8 @@ fn asked_of_control<'a>(found: &ArgMatches<'a>) -> Option<Asked<'a>>
     ensures { IfSome result (λ a. AsksOf (codes "control") (rows_of (found_of found.now)) a) }
 {
     let path = found.get_str("path")?;
-    let timeout = optional(found, "timeout", 1, MAX_ANSWER_TIMEOUT)?;
-    let seconds = optional(found, "seconds", 1, MAX_WATCH_PAUSE)?;
+    let timeout = optional(found, &options::CONTROL_TIMEOUT)?;
+    let seconds = optional(found, &options::SECONDS)?;
     let is_top = found.get_flag("top");
     let word = found.get_str("word")?;
     match (word, seconds, is_top) {
