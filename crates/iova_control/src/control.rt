@@ -33,7 +33,7 @@ pub struct Control<'a, R, N> {
     signals: &'a Signals,
     facts: Facts,
     was_told: AtomicBool,
-    desk: Mutex<Option<Desk>>,
+    socket: Mutex<Option<ControlSocket>>,
 }
 
 /// The most bytes of a version's text.
@@ -98,7 +98,7 @@ impl Facts {
 
 /// The listener, who is connected, and room to write answers in.
 #[derive(Drop)]
-struct Desk {
+struct ControlSocket {
     listener: UnixListener,
     connections: Vec<Connection>,
     pad: Pad,
@@ -135,13 +135,13 @@ impl<'a, R: Wait, N> Control<'a, R, N> {
             signals,
             facts,
             was_told: AtomicBool::new(false),
-            desk: Mutex::new(None),
+            socket: Mutex::new(None),
         }
     }
 
     /// Serves whoever connects to this listener. The caller has made it one that doesn't block.
     pub fn listen(&self, alloc: Global, listener: UnixListener) {
-        *self.desk.lock(self.rt) = Some(Desk {
+        *self.socket.lock(self.rt) = Some(ControlSocket {
             listener,
             connections: Vec::new(alloc),
             pad: Pad {
@@ -163,18 +163,18 @@ impl<'a, R, N: Log> Control<'a, R, N> {
 
 impl<'a, R: AllocGlobal + Clock + Wait, N: Log> ControlTask for Control<'a, R, N> {
     fn is_wanted(&self) -> bool {
-        self.facts.is_recorded || self.desk.lock(self.rt).is_some()
+        self.facts.is_recorded || self.socket.lock(self.rt).is_some()
     }
 
     fn turn<K: Look, T: MetricsSource>(&self, domain: &K, source: &T) {
         self.look_at_record(domain.is_recording());
-        if let Some(desk) = &mut *self.desk.lock(self.rt) {
-            self.admit(desk);
-            let Desk {
+        if let Some(socket) = &mut *self.socket.lock(self.rt) {
+            self.admit(socket);
+            let ControlSocket {
                 listener: _,
                 connections,
                 pad,
-            } = desk;
+            } = socket;
             connections.retain_mut(|connection| self.serves(connection, domain, source, pad));
         }
         // no wait for a descriptor, so there is none to run out of
@@ -361,23 +361,23 @@ fn place_of_oldest(connections: &[Connection]) -> Option<usize> {
 
 impl<'a, R: AllocGlobal, N: Log> Control<'a, R, N> {
     /// Accepts whoever waits, where there is room or somebody makes some.
-    fn admit(&self, desk: &mut Desk) {
-        let oldest = if desk.connections.len() < MAX_CONTROLS {
+    fn admit(&self, socket: &mut ControlSocket) {
+        let oldest = if socket.connections.len() < MAX_CONTROLS {
             None
         } else {
-            match place_of_oldest(&desk.connections) {
+            match place_of_oldest(&socket.connections) {
                 Some(at) => Some(at),
                 None => return,
             }
         };
-        match desk.listener.accept() {
+        match socket.listener.accept() {
             Ok((stream, _peer)) => {
                 if let Some(at) = oldest
-                    && at < desk.connections.len()
+                    && at < socket.connections.len()
                 {
-                    desk.connections.remove(at);
+                    socket.connections.remove(at);
                 }
-                self.serve_too(desk, stream);
+                self.serve_too(socket, stream);
             }
             Err(error) if error.kind() == ErrorKind::WouldBlock => {}
             Err(error) => warn!(self.notices; target: "accept", "accept of control: {error}"),
@@ -385,7 +385,7 @@ impl<'a, R: AllocGlobal, N: Log> Control<'a, R, N> {
     }
 
     /// Serves this connection too. One that can't be served is closed, and a notice says so.
-    fn serve_too(&self, desk: &mut Desk, stream: UnixStream) {
+    fn serve_too(&self, socket: &mut ControlSocket, stream: UnixStream) {
         let is_ready = stream.set_nonblocking(true).is_ok();
         let connection = Connection {
             stream,
@@ -396,7 +396,7 @@ impl<'a, R: AllocGlobal, N: Log> Control<'a, R, N> {
             is_read: true,
             is_kept: false,
         };
-        if !is_ready || desk.connections.push(connection).is_err() {
+        if !is_ready || socket.connections.push(connection).is_err() {
             warn!(self.notices; target: "accept", "accept of control: no memory");
         }
     }

@@ -143,7 +143,7 @@ fn checked_by<R: Runtime + AllocGlobal, I: Read, W: Write>(
         (I.remaining reader.old) (I.remaining reader.new)
         (W.contents writer.old) (W.contents writer.new) result }
 {
-    let mut notices = Notices { rt };
+    let mut notices = StandardError { rt };
     if plan.ftrace {
         check_trace(rt.alloc(), asked, plan.did, reader, writer, &mut notices)
     } else {
@@ -173,11 +173,11 @@ fn tell_gaps<R: Eprint>(rt: &R, plan: &CheckPlan<'_>, counts: &LogCounts) {
 
 /// Standard error, as a writer of text.
 #[derive(Drop)]
-struct Notices<'a, R> {
+struct StandardError<'a, R> {
     rt: &'a R,
 }
 
-impl<R: Eprint> Write for Notices<'_, R> {
+impl<R: Eprint> Write for StandardError<'_, R> {
     fn write(&mut self, bytes: &[u8]) -> io::Result<usize> {
         match str::from_utf8(bytes) {
             Ok(text) => {
