@@ -246,7 +246,7 @@ iova_mapping iova_map(iova_domain *domain, uint64_t worker, uint64_t client, uin
  * flush that begins later and ends well. The answer is the whole range. Refusals: those of iova_unmap. */
 iova_mapping iova_unmap_bytes(iova_domain *domain, uint64_t worker, uint64_t client, uint64_t address);
 
-/* The nine steps. */
+/* The steps. */
 
 /* Makes one window of the frames `lo` to `hi`, both inside, and of all windows that overlap them: frames that nobody is given.
  * Answers the window. Refusals, the first that applies: IOVA_BAD_WINDOW, IOVA_TAKEN, IOVA_WINDOWS_FULL, IOVA_NO_MEMORY. */

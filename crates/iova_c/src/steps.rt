@@ -1,4 +1,4 @@
-//! The nine steps of a slot's domain, in numbers.
+//! The steps of a slot's domain, in numbers.
 ghost use Rattle.std.specs.Prelude.{◌≡◌, ◌≢◌};
 ghost use Rattle.iova_c.specs.Answers.{unpacked};
 ghost use Rattle.iova_c.specs.Slots.{is_set, granule_of, OpenStep, RangeStep, NumberStep, WordStep};

@@ -1,4 +1,4 @@
-//! The nine steps, their replies, and the growths in them that can be refused memory.
+//! The steps, their replies, and the growths in them that can be refused memory.
 use iova_range::range::Range;
 use iova_range::refusal::Refusal;
 
