@@ -1,12 +1,11 @@
 //! What is wrong with words that clap takes and that ask for nothing: the option, and its value.
 use crate::control_word::ControlWord;
 use crate::label::is_label;
-use crate::options::{OptionRow, Takes, ask_rows, check_rows, control_rows, serve_rows};
+use crate::options::{OptionRow, SECONDS, Takes, ask_rows, check_rows, control_rows, serve_rows};
 use crate::plan::{has_plus, is_granule, level_of};
 use crate::said::is_given;
 use crate::words::WATCH;
 use clap::ArgMatches;
-use iova_range::limits::MAX_WATCH_PAUSE;
 use iova_regions::span::read_span;
 use std::alloc::{AllocError, Global};
 
@@ -74,59 +73,58 @@ fn wrong_to_control(alloc: Global, found: &ArgMatches<'_>) -> Result<Option<Stri
         return Ok(Some(text));
     }
     let seconds = seconds.unwrap_or("");
-    let text = format!(in alloc;
-        "SECONDS: '{seconds}' is not a number from 1 to {MAX_WATCH_PAUSE}"
-    )?;
-    Ok(Some(text))
+    match SECONDS.takes {
+        Takes::NumberPlace { low, high } => {
+            let text = format!(in alloc;
+                "SECONDS: '{seconds}' is not a number from {low} to {high}"
+            )?;
+            Ok(Some(text))
+        }
+        _ => Ok(None),
+    }
 }
 
 fn wrong_to_serve(alloc: Global, found: &ArgMatches<'_>) -> Result<Option<String>, AllocError> {
-    for test in [OptionTest::Numbers, OptionTest::Words] {
-        if let Some(text) = first_wrong(alloc, found, serve_rows(), test)? {
-            return Ok(Some(text));
-        }
+    let rows = serve_rows();
+    let first = [OptionTest::Numbers, OptionTest::Words];
+    if let Some(text) = first_wrong(alloc, found, rows, &first)? {
+        return Ok(Some(text));
     }
     if let Some(text) = wrong_sinks(alloc, found)? {
         return Ok(Some(text));
     }
-    for test in [OptionTest::Needs, OptionTest::Powers, OptionTest::Spans] {
-        if let Some(text) = first_wrong(alloc, found, serve_rows(), test)? {
-            return Ok(Some(text));
-        }
-    }
-    Ok(None)
+    let rest = [OptionTest::Needs, OptionTest::Powers, OptionTest::Spans];
+    first_wrong(alloc, found, rows, &rest)
 }
 
-/// What is wrong with the first of these options that is.
+/// What is wrong with the first of these options that is, of a command without tests of its own.
 fn wrong_among(
     alloc: Global,
     found: &ArgMatches<'_>,
     rows: &[OptionRow],
 ) -> Result<Option<String>, AllocError> {
-    for test in [OptionTest::Numbers, OptionTest::Words, OptionTest::Needs] {
-        if let Some(text) = first_wrong(alloc, found, rows, test)? {
-            return Ok(Some(text));
-        }
-    }
-    Ok(None)
+    let tests = [OptionTest::Numbers, OptionTest::Words, OptionTest::Needs];
+    first_wrong(alloc, found, rows, &tests)
 }
 
-/// What is wrong with the first of these options that is, of what is looked at.
+/// What is wrong with the first of these options that fails the first test that one fails.
 fn first_wrong(
     alloc: Global,
     found: &ArgMatches<'_>,
     rows: &[OptionRow],
-    test: OptionTest,
+    tests: &[OptionTest],
 ) -> Result<Option<String>, AllocError> {
-    for row in rows {
-        if let Some(text) = wrong_option(alloc, found, row, test)? {
-            return Ok(Some(text));
+    for test in tests {
+        for row in rows {
+            if let Some(text) = wrong_option(alloc, found, row, *test)? {
+                return Ok(Some(text));
+            }
         }
     }
     Ok(None)
 }
 
-/// What is wrong with this option, of what is looked at.
+/// What is wrong with this option, of what the test looks at.
 fn wrong_option(
     alloc: Global,
     found: &ArgMatches<'_>,
