@@ -6,7 +6,7 @@ _iovad() {
   local -a commands=(
     'replay:answers each step of a trace'
     'serve:serves sessions on a Unix socket'
-    'control:asks a daemon for its report or figures, watches it, or stops it'
+    'control:asks a daemon for its report or metrics, watches it, or stops it'
     'ask:sends requests to a socket and prints the answers'
     'check:checks a log of mappings and flushes, or a kernel'\''s trace'
     'help:prints help'

@@ -36,7 +36,7 @@ pub enum Asked<'a> {
         /// How many seconds a connection and the answer are waited for, where it is said.
         timeout: Option<u64>,
     },
-    /// A daemon's figures, again and again.
+    /// A daemon's metrics, again and again.
     Watch {
         /// The path of its control socket.
         path: &'a str,

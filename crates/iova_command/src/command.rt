@@ -119,7 +119,7 @@ fn control_command<'a>(alloc: Global) -> Result<Command<'a>, AllocError>
     ensures { IfOk result (IsCommand control_app) }
 {
     let command = Command::new(alloc, "control")
-        .about("Asks a daemon for its report or its figures, or has it stop")
+        .about("Asks a daemon for its report or its metrics, or has it stop")
         .after_help(CONTROL_WORDS);
     with_rows(alloc, command, control_rows())
 }

@@ -31,7 +31,7 @@ rattle-kit-13f logic dac8208d650f15bf";
 /// The name that stands for standard input.
 pub const STANDARD_INPUT: &str = "-";
 
-/// What asks for a daemon's figures again and again, and isn't a word of its socket.
+/// What asks for a daemon's metrics again and again, and isn't a word of its socket.
 pub(crate) const WATCH: &str = "watch";
 
 /// The process's words, its name first. Refused where a word is not UTF-8, and by `NoMemory`.

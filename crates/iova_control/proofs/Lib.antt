@@ -1,3 +1,3 @@
 mod Behind
-mod Figures
+mod MetricTexts
 mod Reports

@@ -1,17 +1,17 @@
 -- DaemonMetrics and counts, one behind another.
 use Rattle.std.proofs.Common.{ℕ, zero, suc, ◌≡◌, ◌∙◌, ◌+◌, List, [], ◌∷◌, ◌++◌, ap, ap₂, refl, sym, codes, decimal, length, map, append-nil, arith, Result}
 use Rattle.iova_range.specs.declared.limits.TheConstants.{MAX_REFUSAL}
-use Rattle.iova_control.specs.declared.metrics.Figure.{Figure}
+use Rattle.iova_control.specs.declared.metrics.Metric.{Metric}
 use Rattle.std.specs.Prelude.{OnOk}
 use Rattle.std.specs.declared.alloc.AllocError.{AllocError}
 use Rattle.iova_links.specs.declared.control_task.DaemonMetrics.{DaemonMetrics}
 use Rattle.iova_control.specs.declared.control.Facts.{Facts}
 use Rattle.iova_control.specs.declared.metrics.Numbers.{Numbers}
-use Rattle.iova_control.specs.Metrics.{Told, told_of, Counted, places_text, figures_text, flush_figures, daemon_figures, wait_text, refusal_text, refusals_text, refusals_kind, program_text, PutsRefusals, PutsMetrics}
+use Rattle.iova_control.specs.Metrics.{Told, told_of, Counted, places_text, metrics_text, flush_metrics, daemon_metrics, wait_text, refusal_text, refusals_text, refusals_kind, program_text, PutsRefusals, PutsMetrics}
 use Rattle.iova_control.proofs.Behind.{ok_map, behind}
 
--- a figure more
-pub told_more : (f : Figure) (t : Told) (fs : List Figure) (ts : List Told) → told_of f ≡ t → map told_of fs ≡ ts → map told_of (f ∷ fs) ≡ t ∷ ts
+-- a metric more
+pub told_more : (f : Metric) (t : Told) (fs : List Metric) (ts : List Told) → told_of f ≡ t → map told_of fs ≡ ts → map told_of (f ∷ fs) ≡ t ∷ ts
 told_more f t fs ts is more = ap₂ (λ x xs. x ∷ xs) is more
 
 -- a count that isn't 0 has its line
@@ -37,9 +37,9 @@ pub refusals_behind : (r : Result Unit AllocError) (old mid new kind : List ℕ)
 refusals_behind r old mid new kind first then =
     ok_map r (λ from. (from.0, omega (arith, from.1), behind old mid new kind (refusals_text 1 from.0) first from.2)) then
 
--- all figures, part by part
+-- all metrics, part by part
 pub metrics_behind : (r : Result Unit AllocError) (f : Facts) (n : Numbers) (g : DaemonMetrics) (c : Counted) (counts : List ℕ) (a b d e h k : List ℕ)
-    → b ≡ a ++ (places_text n ++ figures_text (flush_figures n)) → d ≡ b ++ figures_text (daemon_figures f c g) → e ≡ d ++ wait_text n.ring g.since_round
+    → b ≡ a ++ (places_text n ++ metrics_text (flush_metrics n)) → d ≡ b ++ metrics_text (daemon_metrics f c g) → e ≡ d ++ wait_text n.ring g.since_round
     → length counts ≡ MAX_REFUSAL → h ≡ e ++ (refusals_kind ++ refusals_text 1 counts) → OnOk r (k ≡ h ++ program_text f) → OnOk r (PutsMetrics f n g a k)
 metrics_behind r f n g c counts a b d e h k domain daemon wait long refusals program =
     ok_map r
@@ -47,10 +47,10 @@ metrics_behind r f n g c counts a b d e h k domain daemon wait long refusals pro
       c,
       counts,
       long,
-      behind a b k (places_text n ++ figures_text (flush_figures n))
-          (figures_text (daemon_figures f c g) ++ (wait_text n.ring g.since_round ++ ((refusals_kind ++ refusals_text 1 counts) ++ program_text f)))
+      behind a b k (places_text n ++ metrics_text (flush_metrics n))
+          (metrics_text (daemon_metrics f c g) ++ (wait_text n.ring g.since_round ++ ((refusals_kind ++ refusals_text 1 counts) ++ program_text f)))
           domain
-          (behind b d k (figures_text (daemon_figures f c g)) (wait_text n.ring g.since_round ++ ((refusals_kind ++ refusals_text 1 counts) ++ program_text f))
+          (behind b d k (metrics_text (daemon_metrics f c g)) (wait_text n.ring g.since_round ++ ((refusals_kind ++ refusals_text 1 counts) ++ program_text f))
           daemon
           (behind d e k (wait_text n.ring g.since_round) ((refusals_kind ++ refusals_text 1 counts) ++ program_text f)
           wait

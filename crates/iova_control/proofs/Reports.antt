@@ -42,8 +42,8 @@ field_unread name line rest digits text named spaced is none n field =
     none n field.0 (is ∙ ap behind_spaces (ap (drop 1) (sym spaced ∙ same)) ∙ field.1.2)
 
 -- a report's first line has the number, or the rest has
-pub number_here : (name report line more at word : List ℕ) (n : ℕ) → IsCut report line more → at ≡ line → word ≡ name → IsField word n at → NumberIn name report n
-number_here name report line more at word n cut same is field =
+pub number_in_first : (name report line more at word : List ℕ) (n : ℕ) → IsCut report line more → at ≡ line → word ≡ name → IsField word n at → NumberIn name report n
+number_in_first name report line more at word n cut same is field =
     here report n (subst (λ w. IsField w n (first_line report)) is (subst (λ l. IsField word n l) (same ∙ cut.0) field))
 
 pub number_later : (name report line more at word : List ℕ) (n : ℕ) → IsCut report line more → at ≡ line → word ≡ name

@@ -1,26 +1,26 @@
--- What `metrics` is answered: all figures of a daemon, in the text form that Prometheus reads.
+-- What `metrics` is answered: all metrics of a daemon, in the text form that Prometheus reads.
 use Rattle.std.specs.Prelude.{ℕ, zero, suc, ◌≡◌, ◌++◌, ◌+◌, ◌/◌, ◌%◌, ◌==◌, Bool, List, [], ◌∷◌, codes, decimal, length, if◌then◌else◌}
 use Rattle.iova_range.specs.declared.limits.TheConstants.{MAX_REFUSAL}
 use Rattle.iova_links.specs.declared.control_task.DaemonMetrics.{DaemonMetrics}
 use Rattle.iova_control.specs.declared.control.Facts.{Facts}
-use Rattle.iova_control.specs.declared.metrics.Figure.{Figure}
+use Rattle.iova_control.specs.declared.metrics.Metric.{Metric}
 use Rattle.iova_control.specs.declared.metrics.Numbers.{Numbers}
 use Rattle.iova_control.specs.Infos.{first_line, second_line, sink_kind}
 
--- two lines that say what a figure is
+-- two lines that say what a metric is
 abbrev pub kind_text : List ℕ → List ℕ → List ℕ → List ℕ
 kind_text name kind help =
     (codes "# HELP " ++ (name ++ (codes " " ++ (help ++ 10 ∷ []))))
     ++ (codes "# TYPE " ++ (name ++ (codes " " ++ (kind ++ 10 ∷ []))))
 
--- a figure of one number, as it is told
+-- a metric of one number, as its lines have it
 pub record Told : Type 0 where
   pub name : List ℕ
   pub kind : List ℕ
   pub help : List ℕ
   pub number : ℕ
 
-abbrev pub told_of : Figure → Told
+abbrev pub told_of : Metric → Told
 told_of f =
     record { name = f.name.now; kind = f.kind.now; help = f.help.now; number = f.number }
 
@@ -33,13 +33,13 @@ abbrev pub gauge : List ℕ → List ℕ → ℕ → Told
 gauge name help number =
     record { name = name; kind = codes "gauge"; help = help; number = number }
 
-abbrev pub figure_text : Told → List ℕ
-figure_text t =
+abbrev pub metric_text : Told → List ℕ
+metric_text t =
     kind_text t.name t.kind t.help ++ (t.name ++ (codes " " ++ (decimal t.number ++ 10 ∷ [])))
 
-abbrev pub figures_text : List Told → List ℕ
-figures_text [] = []
-figures_text (t ∷ more) = figure_text t ++ figures_text more
+abbrev pub metrics_text : List Told → List ℕ
+metrics_text [] = []
+metrics_text (t ∷ more) = metric_text t ++ metrics_text more
 
 -- what a daemon counted itself when it was asked
 pub record Counted : Type 0 where
@@ -66,15 +66,15 @@ places_text n =
     ++ (place_line (codes "depot") n.depot
     ++ place_line (codes "ring") n.ring)))))
 
-abbrev pub flush_figures : Numbers → List Told
-flush_figures n =
+abbrev pub flush_metrics : Numbers → List Told
+flush_metrics n =
     counter (codes "iovad_flushes_begun_total") (codes "Flushes that have begun.") n.start
     ∷ counter (codes "iovad_flushes_ended_total") (codes "The finish count.") n.finish
     ∷ gauge (codes "iovad_flushes_owed") (codes "Failed flushes that none has made up for.") n.owed
     ∷ []
 
-abbrev pub daemon_figures : Facts → Counted → DaemonMetrics → List Told
-daemon_figures f c g =
+abbrev pub daemon_metrics : Facts → Counted → DaemonMetrics → List Told
+daemon_metrics f c g =
     counter (codes "iovad_flushes_failed_total") (codes "Flushes that the sink failed.") c.failed
     ∷ gauge (codes "iovad_workers") (codes "Workers of the domain.") f.workers
     ∷ gauge (codes "iovad_granule_bytes") (codes "Bytes of a page frame.") f.granule
@@ -159,12 +159,12 @@ abbrev pub program_text : Facts → List ℕ
 program_text f =
     sink_text f.has_peer ++ (build_text f.version.bytes ++ name_text f.name.bytes)
 
--- All figures of such a daemon, of a domain with these numbers: those with counts of its own are
--- told of some counts.
+-- All metrics of such a daemon, of a domain with these numbers: those with counts of its own have
+-- some counts.
 abbrev pub PutsMetrics : Facts → Numbers → DaemonMetrics → List ℕ → List ℕ → Type 0
 PutsMetrics f n g old new =
     (c : Counted) × (refusals : List ℕ) × (length refusals ≡ MAX_REFUSAL)
-    × (new ≡ old ++ ((places_text n ++ figures_text (flush_figures n))
-    ++ (figures_text (daemon_figures f c g)
+    × (new ≡ old ++ ((places_text n ++ metrics_text (flush_metrics n))
+    ++ (metrics_text (daemon_metrics f c g)
     ++ (wait_text n.ring g.since_round
     ++ ((refusals_kind ++ refusals_text 1 refusals) ++ program_text f)))))

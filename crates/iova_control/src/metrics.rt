@@ -3,7 +3,7 @@ ghost use Rattle.std.specs.Prelude.{◌≡◌, ◌≢◌, ◌++◌, ◌+◌, ◌
 ghost use Rattle.iova_range.specs.declared.limits.TheConstants.{MAX_REFUSAL};
 ghost use Rattle.iova_control.specs.declared.metrics.Numbers.{Numbers};
 ghost use Rattle.iova_control.specs.Metrics.{Counted, PutsMetrics, PutsRefusals};
-ghost use Rattle.iova_control.specs.Metrics.{build_text, counter, daemon_figures, figure_text, figures_text, flush_figures, gauge, kind_text, name_text, named_text};
+ghost use Rattle.iova_control.specs.Metrics.{build_text, counter, daemon_metrics, metric_text, metrics_text, flush_metrics, gauge, kind_text, name_text, named_text};
 ghost use Rattle.iova_control.specs.Metrics.{place_line, places_text, program_text, refusal_text, refusals_kind, refusals_text, sink_text, told_of, wait_text, waited};
 ghost use Rattle.iova_control.specs.Reports.{AreNumbersOf, IsField, NumberIn, behind_spaces};
 
@@ -17,9 +17,9 @@ use iova_text::number::number;
 use std::alloc::AllocError;
 use std::str;
 
-/// A figure of one number.
+/// A metric of one number.
 #[derive(Clone, Copy)]
-struct Figure {
+struct Metric {
     name: &'static str,
     kind: &'static str,
     /// What it is.
@@ -42,17 +42,17 @@ struct Numbers {
     owed: u64,
 }
 
-/// Puts all figures of such a daemon into the text, each with what it is. Refused for want of
+/// Puts all metrics of such a daemon into the text, each with what it is. Refused for want of
 /// memory.
 pub fn put_metrics<K: Look>(
     facts: &Facts,
     signals: &Signals,
-    figures: DaemonMetrics,
+    metrics: DaemonMetrics,
     domain: &K,
     pad: &mut Pad,
 ) -> Result<(), AllocError>
     ensures { OnOk result ((n : Numbers) × AreNumbersOf pad.new.report.items n
-        × PutsMetrics facts.now n figures pad.old.text.bytes.items pad.new.text.bytes.items) }
+        × PutsMetrics facts.now n metrics pad.old.text.bytes.items pad.new.text.bytes.items) }
 {
     let Ok(()) = domain.look(&mut pad.report) else {
         return Err(AllocError);
@@ -65,27 +65,27 @@ pub fn put_metrics<K: Look>(
         &mut pad.text,
         facts,
         signals,
-        figures,
+        metrics,
         numbers,
         domain.steps(),
     )
 }
 
-/// All figures, of a domain with these numbers.
+/// All metrics, of a domain with these numbers.
 fn put_all_of(
     text: &mut String,
     facts: &Facts,
     signals: &Signals,
-    figures: DaemonMetrics,
+    metrics: DaemonMetrics,
     numbers: Numbers,
     steps: u64,
 ) -> Result<(), AllocError>
-    ensures { OnOk result (PutsMetrics facts.now numbers figures text.old.bytes.items
+    ensures { OnOk result (PutsMetrics facts.now numbers metrics text.old.bytes.items
         text.new.bytes.items) }
 {
     put_domain(text, numbers)?;
-    put_daemon(text, facts, signals, figures, steps)?;
-    put_oldest_wait(text, numbers.ring, figures.since_round)?;
+    put_daemon(text, facts, signals, metrics, steps)?;
+    put_oldest_wait(text, numbers.ring, metrics.since_round)?;
     put_refusals(text, signals)?;
     put_program(text, facts)
 }
@@ -93,7 +93,7 @@ fn put_all_of(
 /// What the report has of the domain.
 fn put_domain(text: &mut String, numbers: Numbers) -> Result<(), AllocError>
     ensures { OnOk result (text.new.bytes.items ≡ text.old.bytes.items
-        ++ (places_text numbers ++ figures_text (flush_figures numbers))) }
+        ++ (places_text numbers ++ metrics_text (flush_metrics numbers))) }
 {
     put_places(text, numbers)?;
     put_all(
@@ -175,11 +175,11 @@ fn put_daemon(
     text: &mut String,
     facts: &Facts,
     signals: &Signals,
-    figures: DaemonMetrics,
+    metrics: DaemonMetrics,
     steps: u64,
 ) -> Result<(), AllocError>
     ensures { OnOk result ((c : Counted) × (text.new.bytes.items ≡ text.old.bytes.items
-        ++ figures_text (daemon_figures facts.now c figures))) }
+        ++ metrics_text (daemon_metrics facts.now c metrics))) }
 {
     put_all(
         text,
@@ -203,17 +203,17 @@ fn put_daemon(
             gauge(
                 "iovad_sessions",
                 "Sessions that are served.",
-                figures.served,
+                metrics.served,
             ),
             counter(
                 "iovad_clients_full_total",
                 "How often the last place for a session was taken.",
-                figures.full,
+                metrics.full,
             ),
             counter(
                 "iovad_sessions_total",
                 "Sessions that were accepted.",
-                figures.accepted,
+                metrics.accepted,
             ),
             counter(
                 "iovad_requests_total",
@@ -233,7 +233,7 @@ fn put_daemon(
             gauge(
                 "iovad_clients_waiting",
                 "Clients whose end waits.",
-                figures.waiting,
+                metrics.waiting,
             ),
             counter(
                 "iovad_notices_total",
@@ -345,10 +345,10 @@ fn put_named(text: &mut String, name: &str) -> Result<(), AllocError>
 }
 
 /// A count that rises.
-fn counter(name: &'static str, help: &'static str, number: u64) -> Figure
+fn counter(name: &'static str, help: &'static str, number: u64) -> Metric
     ensures { told_of result ≡ counter name.now help.now number }
 {
-    Figure {
+    Metric {
         name,
         kind: "counter",
         help,
@@ -357,10 +357,10 @@ fn counter(name: &'static str, help: &'static str, number: u64) -> Figure
 }
 
 /// A number that rises and falls.
-fn gauge(name: &'static str, help: &'static str, number: u64) -> Figure
+fn gauge(name: &'static str, help: &'static str, number: u64) -> Metric
     ensures { told_of result ≡ gauge name.now help.now number }
 {
-    Figure {
+    Metric {
         name,
         kind: "gauge",
         help,
@@ -368,34 +368,34 @@ fn gauge(name: &'static str, help: &'static str, number: u64) -> Figure
     }
 }
 
-/// Puts these figures into the text, one after another.
-fn put_all(text: &mut String, figures: &[Figure]) -> Result<(), AllocError>
+/// Puts these metrics into the text, one after another.
+fn put_all(text: &mut String, metrics: &[Metric]) -> Result<(), AllocError>
     ensures { OnOk result (text.new.bytes.items ≡ text.old.bytes.items
-        ++ figures_text (map told_of figures.now)) }
+        ++ metrics_text (map told_of metrics.now)) }
 {
-    let Some((figure, more)) = figures.split_first() else {
+    let Some((metric, more)) = metrics.split_first() else {
         return Ok(());
     };
-    put(text, *figure)?;
+    put(text, *metric)?;
     put_all(text, more)
 }
 
-/// Puts a figure into the text.
-fn put(text: &mut String, figure: Figure) -> Result<(), AllocError>
+/// Puts a metric into the text.
+fn put(text: &mut String, metric: Metric) -> Result<(), AllocError>
     ensures { OnOk result (text.new.bytes.items ≡ text.old.bytes.items
-        ++ figure_text (told_of figure)) }
+        ++ metric_text (told_of metric)) }
 {
-    let Figure {
+    let Metric {
         name,
         kind,
         help,
         number,
-    } = figure;
+    } = metric;
     put_kind(text, name, kind, help)?;
     writeln!(text, "{name} {number}")
 }
 
-/// What a figure is.
+/// What a metric is.
 fn put_kind(text: &mut String, name: &str, kind: &str, help: &str) -> Result<(), AllocError>
     ensures { OnOk result (text.new.bytes.items ≡ text.old.bytes.items
         ++ kind_text name.now kind.now help.now) }

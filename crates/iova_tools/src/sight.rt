@@ -1,9 +1,9 @@
-//! What is counted of a daemon at one time, read from its figures.
+//! What is counted of a daemon at one time, read from its metrics.
 
 /// The places of a frame, as the report has them.
 pub(crate) const PLACES: [&str; 6] = ["free", "reserved", "client", "magazine", "depot", "ring"];
 
-/// The figures of the places, in that order.
+/// The metrics of the places, in that order.
 const FRAMES: [&str; 6] = [
     "iovad_frames{place=\"free\"}",
     "iovad_frames{place=\"reserved\"}",
@@ -53,27 +53,27 @@ pub(crate) struct Rates {
 }
 
 impl Sight {
-    /// What this text of figures says, at this time. A figure that isn't there is 0.
+    /// What this text of metrics says, at this time. A metric that isn't there is 0.
     pub(crate) fn of(text: &str, time: u64) -> Sight {
         let mut places = [0; 6];
         for (frames, name) in places.iter_mut().zip(FRAMES) {
-            *frames = figure(text, name);
+            *frames = metric(text, name);
         }
         Sight {
             time,
-            requests: figure(text, "iovad_requests_total"),
-            allocs: figure(text, "iovad_allocs_total"),
-            frees: figure(text, "iovad_frees_total"),
+            requests: metric(text, "iovad_requests_total"),
+            allocs: metric(text, "iovad_allocs_total"),
+            frees: metric(text, "iovad_frees_total"),
             refusals: all_refusals(text),
-            begun: figure(text, "iovad_flushes_begun_total"),
-            failed: figure(text, "iovad_flushes_failed_total"),
-            owed: figure(text, "iovad_flushes_owed"),
-            sessions: figure(text, "iovad_sessions"),
-            clients: figure(text, "iovad_clients"),
-            waiting: figure(text, "iovad_clients_waiting"),
+            begun: metric(text, "iovad_flushes_begun_total"),
+            failed: metric(text, "iovad_flushes_failed_total"),
+            owed: metric(text, "iovad_flushes_owed"),
+            sessions: metric(text, "iovad_sessions"),
+            clients: metric(text, "iovad_clients"),
+            waiting: metric(text, "iovad_clients_waiting"),
             places,
             oldest: thousandths(word_of(text, "iovad_oldest_wait_seconds")),
-            has_peer: figure(text, "iovad_sink{kind=\"peer\"}") == 1,
+            has_peer: metric(text, "iovad_sink{kind=\"peer\"}") == 1,
         }
     }
 
@@ -112,7 +112,7 @@ fn rate(before: u64, now: u64, milliseconds: u64) -> u64 {
 }
 
 /// The number of this name; 0 where there is none.
-fn figure(text: &str, name: &str) -> u64 {
+fn metric(text: &str, name: &str) -> u64 {
     word_of(text, name).parse::<u64>().unwrap_or(0)
 }
 

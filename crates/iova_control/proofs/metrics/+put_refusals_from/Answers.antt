@@ -1,6 +1,6 @@
 use Rattle.std.proofs.Common.{arith}
 use Rattle.iova_control.proofs.Behind.{ok_map}
-use Rattle.iova_control.proofs.Figures.{no_refusals, more_refusals}
+use Rattle.iova_control.proofs.MetricTexts.{no_refusals, more_refusals}
 use Rattle.iova_control.proofs.metrics.+put_refusals_from.Goals as goal
 
 pub returns-then-number-gt-MAX_REFUSAL : goal.returns-then-number-gt-MAX_REFUSAL

@@ -1,5 +1,5 @@
 use Rattle.iova_control.proofs.Behind.{is_put_ok}
-use Rattle.iova_control.proofs.Figures.{refusal_some}
+use Rattle.iova_control.proofs.MetricTexts.{refusal_some}
 use Rattle.iova_control.proofs.metrics.put_refusal.Goals as goal
 
 pub returns : goal.returns

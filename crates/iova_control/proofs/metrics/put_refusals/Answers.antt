@@ -1,4 +1,4 @@
-use Rattle.iova_control.proofs.Figures.{refusals_behind}
+use Rattle.iova_control.proofs.MetricTexts.{refusals_behind}
 use Rattle.iova_control.proofs.metrics.put_refusals.Goals as goal
 
 pub returns : goal.returns
