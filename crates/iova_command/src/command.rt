@@ -1,6 +1,6 @@
 //! The command and its help.
 ghost use Rattle.std.specs.Prelude.{◌≡◌, ◌<◌, ◌^◌, IfOk, false, map, true};
-ghost use Rattle.clap.specs.Words.{App, rule_of, with_subcommand};
+ghost use Rattle.clap.specs.Words.{App, new_app, rule_of, with_subcommand};
 ghost use Rattle.iova_command.specs.Commands.{IsCommand, are_parsable, is_parsable, option_rule_of, taken, with_options, place_rule, flag_rule, option_rule, optional_rule, repeated_rule, optional_number_rule, optional_place_rule, replay_app, serve_app, ask_app, check_app, control_app, iovad_app};
 
 use crate::options::{
@@ -91,10 +91,8 @@ pub fn iovad_command<'a>(alloc: Global) -> Result<Command<'a>, AllocError>
 fn replay_command<'a>(alloc: Global) -> Result<Command<'a>, AllocError>
     ensures { IfOk result (IsCommand replay_app) }
 {
-    let command = Command::new(alloc, "replay")
-        .about("Replays a trace and prints the reply to each of its steps")
-        .after_help(LINES_OF_A_TRACE);
-    with_rows(alloc, command, replay_rows())
+    let about = "Replays a trace and prints the reply to each of its steps";
+    command_of(alloc, "replay", about, LINES_OF_A_TRACE, replay_rows())
 }
 
 fn serve_command<'a>(alloc: Global) -> Result<Command<'a>, AllocError>
@@ -109,28 +107,37 @@ fn serve_command<'a>(alloc: Global) -> Result<Command<'a>, AllocError>
 fn ask_command<'a>(alloc: Global) -> Result<Command<'a>, AllocError>
     ensures { IfOk result (IsCommand ask_app) }
 {
-    let command = Command::new(alloc, "ask")
-        .about("Sends lines from standard input to a socket and prints the answers")
-        .after_help(REQUESTS);
-    with_rows(alloc, command, ask_rows())
+    let about = "Sends lines from standard input to a socket and prints the answers";
+    command_of(alloc, "ask", about, REQUESTS, ask_rows())
 }
 
 fn control_command<'a>(alloc: Global) -> Result<Command<'a>, AllocError>
     ensures { IfOk result (IsCommand control_app) }
 {
-    let command = Command::new(alloc, "control")
-        .about("Asks a daemon for its report or its metrics, or has it stop")
-        .after_help(CONTROL_WORDS);
-    with_rows(alloc, command, control_rows())
+    let about = "Asks a daemon for its report or its metrics, or has it stop";
+    command_of(alloc, "control", about, CONTROL_WORDS, control_rows())
 }
 
 fn check_command<'a>(alloc: Global) -> Result<Command<'a>, AllocError>
     ensures { IfOk result (IsCommand check_app) }
 {
-    let command = Command::new(alloc, "check")
-        .about("Checks a log of what was mapped, unmapped and flushed, by whomever")
-        .after_help(LINES_OF_A_LOG);
-    with_rows(alloc, command, check_rows())
+    let about = "Checks a log of what was mapped, unmapped and flushed, by whomever";
+    command_of(alloc, "check", about, LINES_OF_A_LOG, check_rows())
+}
+
+/// The command of this name, what it is about, a text after its help, and its options and places.
+fn command_of<'a>(
+    alloc: Global,
+    name: &'a str,
+    about: &'a str,
+    after: &'a str,
+    rows: &[OptionRow],
+) -> Result<Command<'a>, AllocError>
+    requires { are_parsable (map taken rows.now) ≡ true }
+    ensures { IfOk result (IsCommand (with_options (new_app name.now) (map taken rows.now))) }
+{
+    let command = Command::new(alloc, name).about(about).after_help(after);
+    with_rows(alloc, command, rows)
 }
 
 /// The command with these options and places, in this order.
