@@ -72,9 +72,9 @@ set_value_same id a (e ∷ es) q = step (is_serial id e.0) q (λ later. set_valu
     step true is ih = let mine : a ≡ e.1 = cc in ap (λ x. (e.0, x) ∷ es) mine
     step false is ih = ap (λ xs. e ∷ xs) (ih is)
 
-pub lookup-set_here : (id : ℕ) (a w : Account) (es : List (ℕ × Account)) → lookup (is_serial id) es ≡ Some a → lookup (is_serial id) (set_value (is_serial id) es w) ≡ Some w
-lookup-set_here id a w [] q = absurd (let bad : None ≡ Some a = q in cc)
-lookup-set_here id a w (e ∷ es) q = step (is_serial id e.0) refl q (λ later. lookup-set_here id a w es later)
+pub lookup-set_same : (id : ℕ) (a w : Account) (es : List (ℕ × Account)) → lookup (is_serial id) es ≡ Some a → lookup (is_serial id) (set_value (is_serial id) es w) ≡ Some w
+lookup-set_same id a w [] q = absurd (let bad : None ≡ Some a = q in cc)
+lookup-set_same id a w (e ∷ es) q = step (is_serial id e.0) refl q (λ later. lookup-set_same id a w es later)
   where
     step : (b : Bool) → is_serial id e.0 ≡ b → cond b (Some e.1) (lookup (is_serial id) es) ≡ Some a → (lookup (is_serial id) es ≡ Some a → lookup (is_serial id) (set_value (is_serial id) es w) ≡ Some w)
         → lookup (is_serial id) (cond b ((e.0, w) ∷ es) (e ∷ set_value (is_serial id) es w)) ≡ Some w

@@ -299,8 +299,8 @@ chains_past cells p last k ne =
     let other = get_or-set_other cells p k (range_at cells last) (record { lo = 0; len = 0 }) ne in
     rw (long, other) refl
 
-pub chains_here : (cells : List Frames) (p last : ℕ) → p < length cells → chain_at (set cells p (range_at cells last)) p ≡ chain_at cells last
-chains_here cells p last lt =
+pub chain_at-set_same : (cells : List Frames) (p last : ℕ) → p < length cells → chain_at (set cells p (range_at cells last)) p ≡ chain_at cells last
+chain_at-set_same cells p last lt =
     let long = length-set cells p (range_at cells last) in
     let same = put_there cells p last lt in
     rw (long, same) refl
@@ -323,7 +323,7 @@ pub removed_same : (cells : List Frames) (n : ℕ) (links : List ℕ) (p : ℕ) 
     → AreChains (chain_at (set cells p (range_at cells n))) (length cells) n (set links (length cells + chain_at cells n) (get_or links n 0))
 removed_same cells n links p lt own within same h =
     chains_same (chain_at cells) (chain_at (set cells p (range_at cells n))) (length cells) n (set links (length cells + chain_at cells n) (get_or links n 0))
-    (λ k less. by_either (cases_eq k p) (λ is. rw is (chains_here cells p n within ∙ same)) (λ ne. chains_past cells p n k ne))
+    (λ k less. by_either (cases_eq k p) (λ is. rw is (chain_at-set_same cells p n within ∙ same)) (λ ne. chains_past cells p n k ne))
     (unlinked (chain_at cells) (length cells) n links lt own h)
 
 pub removed_other : (cells : List Frames) (n : ℕ) (links : List ℕ) (e c b f d : ℕ) → n < length cells → chain_at cells n < length cells
@@ -345,7 +345,7 @@ removed_other cells n links e c b f d lt own h entry pos ne ff pd fl =
     let kept = kept_entry at size n e c b other entry in
     let past : e ≢ size + at n = λ is. by_either kept.1 (λ here. omega (arith, here.0, is, lt)) (λ there. other (omega (arith, there.0, is))) in
     let link : get_or one e 0 ≡ p + 1 = get_or-set_other links (size + at n) e (get_or links n 0) 0 past ∙ omega (arith, pos) in
-    let here : new p ≡ at n = chains_here cells p n within in
+    let here : new p ≡ at n = chain_at-set_same cells p n within in
     moved at new size n one p e kept.0 f d (omega (arith, lt)) below (λ k k_p. chains_past cells p n k k_p) (rw here own) (λ is. ne (sym here ∙ is))
     (unlinked at size n links lt own h) (subst (λ x. IsEntry at size n e x kept.0) (sym chain) kept.1) link (subst (λ x. IsEntry at size n f x d) (sym here) ff) pd fl
 

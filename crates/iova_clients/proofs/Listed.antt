@@ -256,9 +256,9 @@ pub find_passed : (at : ℕ → Option Account) (p : ℕ × Account → Bool) (e
     → find p (listed_accounts at (e ∷ es)) ≡ find p (listed_accounts at es)
 find_passed at p e es a some fails = rw (some, fails) refl
 
-pub find_here : (at : ℕ → Option Account) (p : ℕ × Account → Bool) (e : ℕ × ℕ) (es : List (ℕ × ℕ)) (a : Account) → at e.1 ≡ Some a → p (e.0, a) ≡ true
+pub find_met : (at : ℕ → Option Account) (p : ℕ × Account → Bool) (e : ℕ × ℕ) (es : List (ℕ × ℕ)) (a : Account) → at e.1 ≡ Some a → p (e.0, a) ≡ true
     → find p (listed_accounts at (e ∷ es)) ≡ Some (e.0, a)
-find_here at p e es a some holds = rw (some, holds) refl
+find_met at p e es a some holds = rw (some, holds) refl
 
 -- What is remembered.
 

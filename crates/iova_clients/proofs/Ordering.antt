@@ -21,29 +21,29 @@ use Rattle.iova_clients.proofs.Kept.{Rises-inserted, Rises-removed, length-inser
 begins_there : (lo : ℕ) (x : Frames) → x.lo ≡ lo → begins_at lo x ≡ true
 begins_there lo x is = grind (arith, nat_tests)
 
-begins_elsewhere : (lo : ℕ) (x : Frames) → x.lo ≢ lo → begins_at lo x ≡ false
-begins_elsewhere lo x ne = grind (arith, nat_tests)
+begins_not_at : (lo : ℕ) (x : Frames) → x.lo ≢ lo → begins_at lo x ≡ false
+begins_not_at lo x ne = grind (arith, nat_tests)
 
-found_here : (lo : ℕ) (x : Frames) (hs : List Frames) → x.lo ≡ lo → find (begins_at lo) (x ∷ hs) ≡ Some x
-found_here lo x hs is = rw (begins_there lo x is) refl
+find_head : (lo : ℕ) (x : Frames) (hs : List Frames) → x.lo ≡ lo → find (begins_at lo) (x ∷ hs) ≡ Some x
+find_head lo x hs is = rw (begins_there lo x is) refl
 
 found_behind : (lo : ℕ) (x : Frames) (hs : List Frames) → x.lo ≢ lo → find (begins_at lo) (x ∷ hs) ≡ find (begins_at lo) hs
-found_behind lo x hs ne = rw (begins_elsewhere lo x ne) refl
+found_behind lo x hs ne = rw (begins_not_at lo x ne) refl
 
 pub found_lo : (lo : ℕ) (r : Frames) (hs : List Frames) → find (begins_at lo) hs ≡ Some r → r.lo ≡ lo
 found_lo lo r [] q = absurd (let bad : None ≡ Some r = q in cc)
 found_lo lo r (x ∷ hs) q = by_either (cases_eq x.lo lo)
-    (λ is. let same : Some x ≡ Some r = sym (found_here lo x hs is) ∙ q in let mine : x ≡ r = cc in sym (ap (λ (y : Frames). y.lo) mine) ∙ is)
+    (λ is. let same : Some x ≡ Some r = sym (find_head lo x hs is) ∙ q in let mine : x ≡ r = cc in sym (ap (λ (y : Frames). y.lo) mine) ∙ is)
     (λ ne. found_lo lo r hs (sym (found_behind lo x hs ne) ∙ q))
 
 pub found_inserted : (r : Frames) (hs : List Frames) → find (begins_at r.lo) hs ≡ None → find (begins_at r.lo) (insert_rising r hs) ≡ Some r
-found_inserted r [] none = found_here r.lo r [] refl
+found_inserted r [] none = find_head r.lo r [] refl
 found_inserted r (x ∷ hs) none = by_either (cases_eq x.lo r.lo)
-    (λ is. absurd (let bad : None ≡ Some x = sym none ∙ found_here r.lo x hs is in cc))
+    (λ is. absurd (let bad : None ≡ Some x = sym none ∙ find_head r.lo x hs is in cc))
     (λ ne. step (nat_lt r.lo x.lo) ne (found_inserted r hs (sym (found_behind r.lo x hs ne) ∙ none)))
   where
     step : (b : Bool) → x.lo ≢ r.lo → find (begins_at r.lo) (insert_rising r hs) ≡ Some r → find (begins_at r.lo) (cond b (r ∷ x ∷ hs) (x ∷ insert_rising r hs)) ≡ Some r
-    step true ne ih = found_here r.lo r (x ∷ hs) refl
+    step true ne ih = find_head r.lo r (x ∷ hs) refl
     step false ne ih = found_behind r.lo x (insert_rising r hs) ne ∙ ih
 
 pub others_inserted : (lo : ℕ) (r : Frames) (hs : List Frames) → r.lo ≢ lo → find (begins_at lo) (insert_rising r hs) ≡ find (begins_at lo) hs
@@ -63,24 +63,24 @@ pub none_removed : (from lo : ℕ) (hs : List Frames) → Rises from hs → find
 none_removed from lo [] h = refl
 none_removed from lo (x ∷ hs) h = by_either (cases_eq x.lo lo)
     (λ is. rw (begins_there lo x is) (none_below (x.lo + 1) lo hs (omega (arith, is)) h.1))
-    (λ ne. rw (begins_elsewhere lo x ne) (found_behind lo x (remove_at lo hs) ne ∙ none_removed (x.lo + 1) lo hs h.1))
+    (λ ne. rw (begins_not_at lo x ne) (found_behind lo x (remove_at lo hs) ne ∙ none_removed (x.lo + 1) lo hs h.1))
 
 pub others_removed : (lo other : ℕ) (hs : List Frames) → other ≢ lo → find (begins_at other) (remove_at lo hs) ≡ find (begins_at other) hs
 others_removed lo other [] ne = refl
 others_removed lo other (x ∷ hs) ne = by_either (cases_eq x.lo lo)
     (λ is. rw (begins_there lo x is) (sym (found_behind other x hs (λ e. ne (sym e ∙ is)))))
-    (λ not. rw (begins_elsewhere lo x not) (ap (cond (begins_at other x) (Some x)) (others_removed lo other hs ne)))
+    (λ not. rw (begins_not_at lo x not) (ap (cond (begins_at other x) (Some x)) (others_removed lo other hs ne)))
 
 -- rising lists in which the same is found are the same
 pub same_found : (from : ℕ) (xs ys : List Frames) → Rises from xs → Rises from ys → ((lo : ℕ) → find (begins_at lo) xs ≡ find (begins_at lo) ys) → xs ≡ ys
 same_found from [] [] hx hy same = refl
-same_found from [] (y ∷ ys) hx hy same = absurd (let bad : None ≡ Some y = same y.lo ∙ found_here y.lo y ys refl in cc)
-same_found from (x ∷ xs) [] hx hy same = absurd (let bad : None ≡ Some x = sym (same x.lo) ∙ found_here x.lo x xs refl in cc)
+same_found from [] (y ∷ ys) hx hy same = absurd (let bad : None ≡ Some y = same y.lo ∙ find_head y.lo y ys refl in cc)
+same_found from (x ∷ xs) [] hx hy same = absurd (let bad : None ≡ Some x = sym (same x.lo) ∙ find_head x.lo x xs refl in cc)
 same_found from (x ∷ xs) (y ∷ ys) hx hy same =
-    let x_there : find (begins_at x.lo) (y ∷ ys) ≡ Some x = sym (same x.lo) ∙ found_here x.lo x xs refl in
-    let y_there : find (begins_at y.lo) (x ∷ xs) ≡ Some y = same y.lo ∙ found_here y.lo y ys refl in
+    let x_there : find (begins_at x.lo) (y ∷ ys) ≡ Some x = sym (same x.lo) ∙ find_head x.lo x xs refl in
+    let y_there : find (begins_at y.lo) (x ∷ xs) ≡ Some y = same y.lo ∙ find_head y.lo y ys refl in
     by_either (cases_eq y.lo x.lo)
-    (λ is. let one : Some y ≡ Some x = sym (found_here x.lo y ys is) ∙ x_there in
+    (λ is. let one : Some y ≡ Some x = sym (find_head x.lo y ys is) ∙ x_there in
     let head : y ≡ x = cc in
     let tails : (lo : ℕ) → find (begins_at lo) xs ≡ find (begins_at lo) ys = λ lo. by_either (cases_eq x.lo lo)
     (λ here. none_below (x.lo + 1) lo xs (omega (arith, here)) hx.1 ∙ sym (none_below (y.lo + 1) lo ys (omega (arith, here, is)) hy.1))
@@ -194,11 +194,11 @@ first_ordered f n p (x ∷ hs) is apart some least =
     let rises : Rises 0 (x ∷ hs) = subst (λ l. Rises 0 l) (sym is) (ordered_rises f n apart) in
     let mine : find (begins_at (f p).lo) (x ∷ hs) ≡ Some (f p) = subst (λ l. find (begins_at (f p).lo) l ≡ Some (f p)) (sym is) (ordered_some f n apart p some) in
     by_either (cases_eq x.lo (f p).lo)
-    (λ same. sym (found_here (f p).lo x hs same) ∙ mine)
+    (λ same. sym (find_head (f p).lo x hs same) ∙ mine)
     (λ ne. by_either (seek f n x.lo)
     (λ found. let up : (f p).lo ≤ x.lo = rw (← found.2) (least found.0 found.1) in
     absurd (let bad : None ≡ Some (f p) = sym (none_below (x.lo + 1) (f p).lo hs (omega (arith, up)) rises.1) ∙ sym (found_behind (f p).lo x hs ne) ∙ mine in cc))
-    (λ absent. absurd (let bad : None ≡ Some x = sym (ordered_none f n x.lo absent) ∙ (ap (find (begins_at x.lo)) (sym is) ∙ found_here x.lo x hs refl) in cc)))
+    (λ absent. absurd (let bad : None ≡ Some x = sym (ordered_none f n x.lo absent) ∙ (ap (find (begins_at x.lo)) (sym is) ∙ find_head x.lo x hs refl) in cc)))
 
 -- Two in each other's place.
 pub apart_swapped : (f g : ℕ → Frames) (n a b : ℕ) → BeginApart f n → a < n → b < n → Swapped f g a b → BeginApart g n
@@ -263,13 +263,13 @@ permuted xs ys apart perm = IsPermutation-keeps xs (AreSame xs) (record { long =
 at_past : (cells : List Frames) (p : ℕ) (r : Frames) (k : ℕ) → k ≢ p → range_at (set cells p r) k ≡ range_at cells k
 at_past cells p r k ne = get_or-set_other cells p k r (record { lo = 0; len = 0 }) ne
 
-at_here : (cells : List Frames) (p : ℕ) (r : Frames) → p < length cells → range_at (set cells p r) p ≡ r
-at_here cells p r lt = get_or-set_same cells p r (record { lo = 0; len = 0 }) lt
+range_at-set_same : (cells : List Frames) (p : ℕ) (r : Frames) → p < length cells → range_at (set cells p r) p ≡ r
+range_at-set_same cells p r lt = get_or-set_same cells p r (record { lo = 0; len = 0 }) lt
 
 pub pushed_ordered : (cells : List Frames) (n : ℕ) (r : Frames) → n < length cells → ordered (set cells n r) (n + 1) ≡ insert_rising r (ordered cells n)
 pushed_ordered cells n r lt =
     let m : n + 1 ≡ suc n = omega arith in
-    rw (m, at_here cells n r lt, ordered_same (range_at cells) (range_at (set cells n r)) n (λ k less. at_past cells n r k (omega (arith, less)))) refl
+    rw (m, range_at-set_same cells n r lt, ordered_same (range_at cells) (range_at (set cells n r)) n (λ k less. at_past cells n r k (omega (arith, less)))) refl
 
 pub pushed_apart : (cells : List Frames) (n : ℕ) (r : Frames) → n < length cells → BeginApart (range_at cells) n → find (begins_at r.lo) (ordered cells n) ≡ None
     → BeginApart (range_at (set cells n r)) (n + 1)
@@ -277,21 +277,21 @@ pushed_apart cells n r lt apart none =
     let m : n + 1 ≡ suc n = omega arith in
     let same : (k : ℕ) → k < n → range_at (set cells n r) k ≡ range_at cells k = λ k less. at_past cells n r k (omega (arith, less)) in
     rw m (apart_more (range_at (set cells n r)) n (apart_same (range_at cells) (range_at (set cells n r)) n same apart)
-    (rw (at_here cells n r lt, ordered_same (range_at cells) (range_at (set cells n r)) n same) none))
+    (rw (range_at-set_same cells n r lt, ordered_same (range_at cells) (range_at (set cells n r)) n same) none))
 
 pub taken_ordered : (cells : List Frames) (n p : ℕ) → BeginApart (range_at cells) (n + 1) → p < n + 1 → n < length cells
     → ordered (set cells p (range_at cells n)) n ≡ remove_at (range_at cells p).lo (ordered cells (n + 1))
 taken_ordered cells n p apart within lt =
     let m : n + 1 ≡ suc n = omega arith in
     rw m (ordered_taken (range_at cells) (range_at (set cells p (range_at cells n))) n p (rw m at apart) (omega (arith, within))
-    (λ k less ne. at_past cells p (range_at cells n) k ne) (λ less. at_here cells p (range_at cells n) (omega (arith, less, lt))))
+    (λ k less ne. at_past cells p (range_at cells n) k ne) (λ less. range_at-set_same cells p (range_at cells n) (omega (arith, less, lt))))
 
 pub taken_apart : (cells : List Frames) (n p : ℕ) → BeginApart (range_at cells) (n + 1) → p < n + 1 → n < length cells
     → BeginApart (range_at (set cells p (range_at cells n))) n
 taken_apart cells n p apart within lt =
     let m : n + 1 ≡ suc n = omega arith in
     apart_taken (range_at cells) (range_at (set cells p (range_at cells n))) n p (rw m at apart) (omega (arith, within))
-    (λ k less ne. at_past cells p (range_at cells n) k ne) (λ less. at_here cells p (range_at cells n) (omega (arith, less, lt)))
+    (λ k less ne. at_past cells p (range_at cells n) k ne) (λ less. range_at-set_same cells p (range_at cells n) (omega (arith, less, lt)))
 
 pub found_at : (cells : List Frames) (n k lo : ℕ) → BeginApart (range_at cells) n → k < n → (range_at cells k).lo ≡ lo → find (begins_at lo) (ordered cells n) ≡ Some (range_at cells k)
 found_at cells n k lo apart lt is = subst (λ l. find (begins_at l) (ordered cells n) ≡ Some (range_at cells k)) is (ordered_some (range_at cells) n apart k lt)

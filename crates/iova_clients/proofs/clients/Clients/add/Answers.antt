@@ -4,7 +4,7 @@ use Rattle.iova_model.specs.Clients.{with_holding}
 use Rattle.iova_clients.specs.Registry.{is_serial, CanBeGiven, IsBelowTop}
 use Rattle.iova_clients.specs.Accounts.{Account, client_at, clients_at}
 use Rattle.iova_clients.specs.Sums.{with_share, with_one}
-use Rattle.iova_clients.proofs.Changed.{client_some, changed-at, spare_at, spare_same, lookup-set_here, lookup-set_other, found_mut, client_known, mut_there}
+use Rattle.iova_clients.proofs.Changed.{client_some, changed-at, spare_at, spare_same, lookup-set_same, lookup-set_other, found_mut, client_known, mut_there}
 use Rattle.iova_clients.proofs.Kept.{client_is, client_is_low, IsRegistry-changed, IsClient-given, all_inserted}
 use Rattle.iova_clients.proofs.BooksLemmas.{sums_given, share_has_room}
 use Rattle.iova_clients.proofs.clients.Clients.add.Goals as goal
@@ -81,7 +81,7 @@ returns-clause-spare c =
     let found = found_mut c.get_mut.result c.unwrap-ledger.result _ c.get_mut.ensures.value c.unwrap-ledger.ensures in
     let spare = rw (← c.self.view_is) at c.requires.spare in
     let old = spare_at id es a found in
-    let new = spare_at id (set_value (is_serial id) es w) w (lookup-set_here id a w es found) in
+    let new = spare_at id (set_value (is_serial id) es w) w (lookup-set_same id a w es found) in
     let less : w.spare ≡ a.spare - 1 = ap (λ (x : Account). x.spare) c.add.ensures in
     rw (← c.self.view_is) (omega arith)
 

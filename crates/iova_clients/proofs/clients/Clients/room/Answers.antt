@@ -5,7 +5,7 @@ use Rattle.std.proofs.lemmas.Result.{err_from_is_err_and, on_ok_weaker, on_err_w
 use Rattle.iova_range.specs.declared.refusal.Refusal.TheVariants.{NoClient}
 use Rattle.iova_clients.specs.Registry.{is_serial}
 use Rattle.iova_clients.specs.Accounts.{client_at}
-use Rattle.iova_clients.proofs.Changed.{client_some, client_none, set_value_same, clients-set, spare_at, spare_same, lookup-set_here, lookup-set_other, found_mut, refused_at, none_mut}
+use Rattle.iova_clients.proofs.Changed.{client_some, client_none, set_value_same, clients-set, spare_at, spare_same, lookup-set_same, lookup-set_other, found_mut, refused_at, none_mut}
 use Rattle.iova_clients.proofs.clients.Clients.room.Goals as goal
 
 pub returns-in_err-ledger-clause-refused : goal.returns-in_err-ledger-clause-refused
@@ -54,7 +54,7 @@ returns-clause-spare c =
     let id = c.args.id in
     let w = c.room.new.self in
     let found = found_mut c.get_mut.result c.in_ok-ledger.ledger _ c.get_mut.ensures.value (c.ok_or.ensures.ok_part ∙ ap (λ r. result_ok r) c.in_ok-ledger.was) in
-    let new = spare_at id (set_value (is_serial id) es w) w (lookup-set_here id c.in_ok-ledger.ledger.now w es found) in
+    let new = spare_at id (set_value (is_serial id) es w) w (lookup-set_same id c.in_ok-ledger.ledger.now w es found) in
     on_ok_weaker c.room.result (λ room. omega arith) c.room.ensures.spare
 
 pub returns-clause-grows : goal.returns-clause-grows
@@ -64,7 +64,7 @@ returns-clause-grows c =
     let w = c.room.new.self in
     let found = found_mut c.get_mut.result c.in_ok-ledger.ledger _ c.get_mut.ensures.value (c.ok_or.ensures.ok_part ∙ ap (λ r. result_ok r) c.in_ok-ledger.was) in
     let old = spare_at id es c.in_ok-ledger.ledger.now found in
-    let new = spare_at id (set_value (is_serial id) es w) w (lookup-set_here id c.in_ok-ledger.ledger.now w es found) in
+    let new = spare_at id (set_value (is_serial id) es w) w (lookup-set_same id c.in_ok-ledger.ledger.now w es found) in
     rw (← c.self.view_is) (omega (arith, c.room.ensures.grows))
 
 pub returns-clause-clients : goal.returns-clause-clients

@@ -7,7 +7,7 @@ use Rattle.iova_model.specs.Clients.{without_holding, begins_at, remove_at}
 use Rattle.iova_clients.specs.Registry.{is_serial, held_at, IsBelowTop}
 use Rattle.iova_clients.specs.Accounts.{Account, client_at, clients_at}
 use Rattle.iova_clients.specs.Sums.{with_share, without_one}
-use Rattle.iova_clients.proofs.Changed.{client_some, client_none, changed-at, set_value_same, spare_at, spare_same, lookup-set_here, lookup-set_other, found_mut, refused_at, none_mut}
+use Rattle.iova_clients.proofs.Changed.{client_some, client_none, changed-at, set_value_same, spare_at, spare_same, lookup-set_same, lookup-set_other, found_mut, refused_at, none_mut}
 use Rattle.iova_clients.proofs.Kept.{client_is, client_is_low, IsRegistry-changed, IsClient-taken, all_removed}
 use Rattle.iova_clients.proofs.BooksLemmas.{sums_taken, share_includes}
 use Rattle.iova_clients.proofs.clients.Clients.take.Goals as goal
@@ -126,7 +126,7 @@ returns-clause-spare c =
     let taken : c.take.result ≡ Some c.in_ok-range.range = c.ok_or-2.ensures.ok_part ∙ ap (λ r. result_ok r) c.in_ok-range.was in
     let now : w ≡ record a { holdings = remove_at c.args.lo a.holdings; spare = a.spare + 1 } = rw taken at c.take.ensures.some in
     let old = spare_at id es a found in
-    let new = spare_at id (set_value (is_serial id) es w) w (lookup-set_here id a w es found) in
+    let new = spare_at id (set_value (is_serial id) es w) w (lookup-set_same id a w es found) in
     let more : w.spare ≡ a.spare + 1 = ap (λ (x : Account). x.spare) now in
     rw (← c.self.view_is) (omega arith)
 
