@@ -98,8 +98,8 @@ copied_none before left out kept = (0, omega arith, Copies-none left out kept)
 pub breaks_after : (n : ℕ) (a b c p q r : Option (List ℕ)) (k l : List ℕ) → Copies n a b p q k l → Breaks b c q r l → Breaks a c p r k
 breaks_after n a b c p q r k l x y = (y.0, lines_text x.ls ++ y.1, Passes-trans a b c p q r k l y.0 (lines_text x.ls) y.1 x.passes y.2)
 
-pub breaks_here : (n : ℕ) (a b p q : Option (List ℕ)) (k l : List ℕ) → Copies n a b p q k l → Breaks a b p q k
-breaks_here n a b p q k l x = (l, lines_text x.ls, x.passes)
+pub Copies-breaks : (n : ℕ) (a b p q : Option (List ℕ)) (k l : List ℕ) → Copies n a b p q k l → Breaks a b p q k
+Copies-breaks n a b p q k l x = (l, lines_text x.ls, x.passes)
 
 pub breaks_same : (a b out : Option (List ℕ)) (k : List ℕ) → b ≡ a → Breaks a b out out k
 breaks_same a b out k same = (k, [], Passes-same a b out k same)

@@ -7,7 +7,7 @@ use Rattle.iova_ask.specs.Asking.{AreLinesAnd, Sends}
 use Rattle.iova_ask.specs.LineRuns.{SendsRun, Copies}
 use Rattle.iova_ask.specs.declared.fault.AskFault.{AskFault}
 use Rattle.iova_ask.specs.declared.fault.AskFault.TheVariants as fault
-use Rattle.iova_ask.proofs.Copying.{Copies-none, breaks_after, breaks_here, copied_rest, copies_further}
+use Rattle.iova_ask.proofs.Copying.{Copies-none, breaks_after, Copies-breaks, copied_rest, copies_further}
 use Rattle.iova_ask.proofs.Lined.{more_sent}
 use Rattle.iova_ask.proofs.SentParts.{add_piece, length_more, more_lines, none_asked, nothing_sent, sends_broken, sends_bye, sends_refused, sends_rest}
 use Rattle.iova_ask.proofs.ask_lines.Goals as goal
@@ -18,7 +18,7 @@ returns-in_default-clause-sent g c =
 
 pub returns-in_default-clause-copied : goal.returns-in_default-clause-copied
 returns-in_default-clause-copied g c =
-    breaks_here 0 (g.L.Link.left c.args.link.now) (g.L.Link.left c.args.link.now) (g.W.Write.contents c.args.writer.now) (g.W.Write.contents c.args.writer.now) [] []
+    Copies-breaks 0 (g.L.Link.left c.args.link.now) (g.L.Link.left c.args.link.now) (g.W.Write.contents c.args.writer.now) (g.W.Write.contents c.args.writer.now) [] []
     (Copies-none (g.L.Link.left c.args.link.now) (g.W.Write.contents c.args.writer.now) [])
 
 pub reading-init : goal.reading-init
