@@ -1,4 +1,4 @@
--- What C is told of a slot, which holds a domain or none.
+-- What C reads of a slot, which holds a domain or none.
 use Rattle.std.specs.Prelude.{ℕ, ◌≡◌, Bool, true, false, nat_lt, Option, None, Some, length, if◌then◌else◌}
 use Rattle.iova_range.specs.declared.refusal.Refusal.{Refusal}
 use Rattle.iova_range.specs.declared.refusal.Refusal.TheVariants as refusal

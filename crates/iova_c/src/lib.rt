@@ -1,5 +1,5 @@
 //! The allocator as a static library for C: `libiova.a`, whose header is `include/iova.h`. C gives
-//! the memory that a domain lies in, and each export is told where it lies.
+//! the memory that a domain lies in, and each export is given its address.
 #![tactic(auto)]
 
 pub mod answer;

@@ -138,7 +138,7 @@ queued_held weigh s t w id lo q st =
     let at_new = ap (λ l. sum_by weigh l) new in
     (omega (arith, less, a, b, at_old, at_new), at)
 
--- A range of a client is told by its first frame.
+-- A range of a client is identified by its first frame.
 
 abbrev is_range : Frames → Frames → ℕ
 is_range r x = if x.lo == r.lo then (if x.len == r.len then 1 else 0) else 0

@@ -25,7 +25,7 @@ seen_by_others (Asks before later c st r ∷ ds) m n h =
     let asked = h.1.0.1.1 in
     (h.0.world, ((asked.1.1.0, (asked.1.1.1, names_none st c.client m.world.caches asked.0 asked.1.0)), (tt, seen_by_others ds h.0 n h.1.1)))
 
--- without what caches are told
+-- without what caches learn of flushes
 pub goes : (es : List Event) (w v : World) → GoesTold es w v → Goes es w v
 goes [] w v h = h
 goes (e ∷ es) w v h = (h.0, (h.1.0, goes es h.0 v h.1.1.1))

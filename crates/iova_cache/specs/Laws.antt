@@ -89,7 +89,7 @@ IsSettledAbove count (Releases lo r ∷ acts) = IsSettledAbove count acts
 IsSettledAbove count (Grows ∷ acts) = IsSettledAbove count acts
 IsSettledAbove count (Refuses ∷ acts) = IsSettledAbove count acts
 
--- What waits in the ring stays there until the cache is told of a flush that ended well and has a
+-- What waits in the ring stays there until the cache learns of a flush that ended well and has a
 -- greater number than the last one that had begun when it was given up.
 abbrev pub EntriesWait : Type 0
 EntriesWait =

@@ -105,7 +105,7 @@ window_allowed b w f was at is h =
           ∙ sym (whole ∙ (ap (λ (x : Bool). pick (o || (s || (x || false)))) not ∙ none_of o s)))
     ]
 
--- what is found where the same is told
+-- the first finding of frames whose findings are equal
 pub found_alike : (tells other : ℕ → Option (Option ℕ)) (lo to : ℕ) (found : Option Run) → ((f : ℕ) → f < to → tells f ≡ other f)
     → IsFound tells lo to found → IsFound other lo to found
 found_alike tells other lo to None same h = λ f from under. sym (same f under) ∙ h f from under

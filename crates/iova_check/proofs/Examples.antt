@@ -1,4 +1,4 @@
--- Worked examples of the stages of frames: what the definitions compute, against stages worked out by hand. Logs are told with the
+-- Worked examples of the stages of frames: what the definitions compute, against stages worked out by hand. Logs stand with the
 -- newest line first.
 use Rattle.std.proofs.Common.{◌≡◌, true, false, List, [], ◌∷◌, Some, None, ℕ, refl}
 use Rattle.iova_range.specs.Frames.{Frames}

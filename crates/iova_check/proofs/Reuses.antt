@@ -17,7 +17,7 @@ use Rattle.iova_check.specs.History.{stage_of}
 use Rattle.iova_check.specs.Findings.{since_of, IsFound, IsRun, of_run, IsMapTold, is_reuse, AreFindings, IsKeptNext, TellsBreaks}
 use Rattle.iova_check.proofs.Kept.{free_is, given_is, kept_from_given, given_from_kept}
 
--- a stage of which neither is told
+-- a stage with neither finding
 neither : (s : Stage) → since_of kind.Overlap s ≡ None → since_of kind.Reused s ≡ None → s ≡ stage.Free
 neither stage.Free a b = refl
 neither (stage.Mapped since) a b = absurd cc
@@ -27,7 +27,7 @@ neither (stage.Stale since) a b = absurd cc
 found_first : (tells : ℕ → Option (Option ℕ)) (lo to : ℕ) (run : Run) → IsRun tells lo to run → tells run.lo ≡ Some run.since
 found_first tells lo to run h = let some : 1 ≤ run.len = h.some in h.same run.lo (omega arith) (omega arith)
 
--- nothing is found where nothing is told
+-- no finding of frames without one
 not_found : (tells : ℕ → Option (Option ℕ)) (lo to : ℕ) (found : Option Run) → IsFound tells lo to found
     → ((f : ℕ) → lo ≤ f → f < to → tells f ≡ None) → found ≡ None
 not_found tells lo to None h none = refl

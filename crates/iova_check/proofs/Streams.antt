@@ -255,7 +255,7 @@ nothing_told source input output = record {
   tells = record { lines = None; rest = []; checker = None; text = []; begins = record { good = tt; whole = refl }; checked = refl; unwritten = []; begun = refl };
 }
 
--- what was told of all that was taken is written
+-- the findings of all that was taken are written
 pub HasTaken-stops : (source : Source) (taken written : List ℕ) (p : CheckState) → HasTaken source taken written p → p.findings.items ≡ [] → StopsInLine source taken written
 HasTaken-stops source taken written p st none = record {
   lines = st.lines;
@@ -280,7 +280,7 @@ Closes-tells source taken written left (Err fault.NoMemory) s end = absurd s
 Closes-tells source taken written left (Err fault.ReadFault) s end = absurd s
 Closes-tells source taken written left (Err fault.WriteFault) s end = absurd s
 
--- a reader and a writer before and now, between two reads: what was told of all that was taken is written
+-- a reader and a writer before and now, between two reads: the findings of all that was taken are written
 pub record SoFar (source : Source) (input left output filled : Option (List ℕ)) (p : CheckState) : Type 0 where
   pub taken : List ℕ
   pub written : List ℕ

@@ -46,7 +46,7 @@ IsBegun (form.Trace domain) asked None = ⊥
 IsBegun (form.Trace domain) asked (Some c) = HasChecked (bounds_asked asked 0 WIDE_TOP) [] c []
 
 -- What was taken is good lines and the front of one. What was written and the kept findings are the
--- text of what was told of them.
+-- text of their findings.
 pub record HasTaken (source : Source) (taken written : List ℕ) (p : CheckState) : Type 0 where
   pub lines : Option Lines
   pub text : List ℕ

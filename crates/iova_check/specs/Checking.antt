@@ -1,4 +1,4 @@
--- What a checker knows, and what it has told.
+-- What a checker knows, and the text of its findings.
 use Rattle.std.specs.Prelude.{ℕ, ◌≡◌, List, ◌∷◌, ◌++◌}
 use Rattle.iova_check.specs.declared.event.Event.{Event}
 use Rattle.iova_check.specs.Bounds.{Bounds}
@@ -8,7 +8,7 @@ use Rattle.iova_check.specs.Following.{Follows}
 use Rattle.iova_check.specs.Counting.{IsCounted}
 use Rattle.iova_check.specs.Output.{IsTold}
 
--- it has taken these lines under these bounds, and this is the text of what was told of them
+-- it has taken these lines under these bounds, and this is the text of their findings
 pub record HasChecked (bounds : Bounds) (past : List Event) (c : Checker)
     (text : List ℕ) : Type 0 where
   pub under : Allows c.allowed bounds
@@ -17,8 +17,8 @@ pub record HasChecked (bounds : Bounds) (past : List Event) (c : Checker)
   pub told : IsTold bounds past text found
   pub counted : IsCounted past found c.counts
 
--- It takes a line more, and appends what is told of it: whatever it had told, it has told that and
--- what was appended.
+-- It takes a line more, and appends its findings: the text is whatever it was before, and what was
+-- appended.
 pub record ChecksNext (old : Checker) (e : Event) (before : List ℕ) (new : Checker)
     (after : List ℕ) : Type 0 where
   pub more : List ℕ

@@ -22,7 +22,7 @@ is_long other.Plain = false
 is_long other.Lost = false
 is_long other.TooLong = true
 
--- with a line more, of which so many findings are told
+-- with a line more, which has so many findings
 abbrev pub counts_after : LogCounts → Event → ℕ → LogCounts
 counts_after c (event.Map r) found =
     record {

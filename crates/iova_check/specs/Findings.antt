@@ -1,4 +1,4 @@
--- What is told of a line.
+-- The findings of a line.
 use Rattle.std.specs.Prelude.{ℕ, zero, suc, ◌≡◌, ◌≢◌, ◌↔◌, ◌+◌, ◌-◌, ◌≤◌, ◌<◌, ◌==◌, ◌||◌, Bool, true, false, not, nat_lt, List, [], ◌∷◌, Option, Some, None, is_some, if◌then◌else◌}
 use Rattle.std.specs.List.{list_any}
 use Rattle.iova_range.specs.Frames.{Frames, covers}
@@ -37,8 +37,8 @@ since_of kind.Wild stage.Free = Some None
 since_of kind.Wild (stage.Mapped since) = None
 since_of kind.Wild (stage.Stale since) = None
 
--- The lowest of the frames from `lo` on and below `to` of which something is told, and all after it
--- of which the same is told.
+-- The lowest of the frames from `lo` on and below `to` that has a finding, and all after it that
+-- have an equal one.
 pub record IsRun (tells : ℕ → Option (Option ℕ)) (lo to : ℕ) (run : Run) : Type 0 where
   pub from : lo ≤ run.lo
   pub some : 1 ≤ run.len
@@ -51,7 +51,7 @@ abbrev pub IsFound : (ℕ → Option (Option ℕ)) → ℕ → ℕ → Option Ru
 IsFound tells lo to None = (f : ℕ) → lo ≤ f → f < to → tells f ≡ None
 IsFound tells lo to (Some run) = IsRun tells lo to run
 
--- what is told of a frame that is out of the bounds
+-- the finding of a frame that is out of the bounds
 abbrev pub told_outside : Bounds → ℕ → Option (Option ℕ)
 told_outside bounds f =
     if (nat_lt f bounds.first || nat_lt bounds.last f) || list_any (covers f) bounds.windows
@@ -95,7 +95,7 @@ abbrev pub of_run : Kind → Option Run → Option Finding
 of_run kind None = None
 of_run kind (Some run) = Some (finding.Frames kind run)
 
--- what is told of a line that maps these frames
+-- the findings of a line that maps these frames
 pub record IsMapTold (bounds : Bounds) (at : ℕ → Stage) (r : Frames)
     (fs : List (Option Finding)) : Type 0 where
   pub outside : Option Run
@@ -134,7 +134,7 @@ pub record IsUseTold (bounds : Bounds) (at : ℕ → Stage) (r : Frames)
 abbrev pub flush_told : ℕ → Bool → List (Option Finding)
 flush_told number odd = (if odd then Some (finding.Flush number) else None) ∷ None ∷ None ∷ []
 
--- what is told of a line that says `e`, where the frames are at these stages and these flushes in
+-- the findings of a line that says `e`, where the frames are at these stages and these flushes in
 -- flight before it
 abbrev pub AreFindings : Bounds → (ℕ → Stage) → (ℕ → Option OpenFlush) → Event → List (Option Finding)
     → Type 0

@@ -1,4 +1,4 @@
--- What became of each frame, by the lines of a log. A list of lines is told with the newest one
+-- What became of each frame, by the lines of a log. A list of lines has the newest one
 -- first.
 use Rattle.std.specs.Prelude.{ℕ, ◌+◌, ◌<◌, ◌≤◌, ◌^◌, ◌==◌, Bool, true, false, nat_lt, List, [], ◌∷◌, length, Option, Some, None, if◌then◌else◌}
 use Rattle.iova_range.specs.Frames.{Frames, covers}

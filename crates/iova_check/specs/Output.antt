@@ -24,7 +24,7 @@ abbrev pub since_text : Option ℕ → List ℕ
 since_text None = []
 since_text (Some line) = codes " since " ++ decimal line
 
--- the first frame, how many, and the line since which, where one is told
+-- the first frame, how many, and the line since which, where there is one
 abbrev pub run_text : Run → List ℕ
 run_text run = 32 ∷ (decimal run.lo ++ 32 ∷ (decimal run.len ++ since_text run.since))
 
@@ -43,7 +43,7 @@ found_text line (Some f) = finding_text line f
 abbrev pub findings_text : ℕ → List (Option Finding) → List ℕ
 findings_text line fs = flat_map (found_text line) fs
 
--- The text of what is told of lines, and how many findings that are: of those before, and then of
+-- The text of the findings of lines, and how many that are: of those before, and then of
 -- the newest one.
 pub record IsToldNext (bounds : Bounds) (past : List Event) (e : Event) (before text : List ℕ)
     (n found : ℕ) : Type 0 where

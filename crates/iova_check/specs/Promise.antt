@@ -89,7 +89,7 @@ NoneBetween passes past n to = (m : ℕ) → n < m → m < to → is_line passes
 
 -- What has to hold of a frame
 
--- a flush that has the frame began at line `begun` and ended well at line `ended`, told by two
+-- a flush that has the frame began at line `begun` and ended well at line `ended`, as by two
 -- lines of its number
 pub record IsLongFlush (past : List Event) (f begun ended : ℕ) : Type 0 where
   pub number : ℕ

@@ -14,14 +14,14 @@ use Rattle.iova_check.specs.Checking.{HasChecked}
 use Rattle.iova_check.specs.Summary.{summary_text}
 
 -- lines were checked: this is known of them, nothing before the header of a log, and this is the
--- text of what was told of them
+-- text of their findings
 abbrev pub IsChecked : Option Lines → Option Checker → List ℕ → Type 0
 IsChecked None None text = text ≡ []
 IsChecked None (Some c) text = ⊥
 IsChecked (Some l) None text = ⊥
 IsChecked (Some l) (Some c) text = HasChecked l.bounds l.past c text
 
--- all that was taken are whole lines, what was told of each line is written, and this is known of
+-- all that was taken are whole lines, the findings of each line are written, and this is known of
 -- it
 pub record IsDone (source : Source) (taken written : List ℕ) (c : Checker) : Type 0 where
   pub lines : Lines
@@ -34,7 +34,7 @@ abbrev pub IsUnendedIn : Form → List ℕ → Type 0
 IsUnendedIn form.Log rest = IsUnended rest
 IsUnendedIn (form.Trace domain) rest = HasNoLf rest
 
--- what was told of the good lines of a log is written, and the line after them, of this number, is
+-- the findings of the good lines of a log are written, and the line after them, of this number, is
 -- bad
 pub record StopsAtBad (source : Source) (taken written : List ℕ) (number : ℕ) : Type 0 where
   pub lines : Option Lines
@@ -57,7 +57,7 @@ pub record StopsAtCut (source : Source) (taken written : List ℕ) (number : ℕ
   pub of_log : IsOfLog source.form
   pub cut : IsCutOff lines rest
 
--- what was told of all whole lines is written, and no bad line has been taken
+-- the findings of all whole lines are written, and no bad line has been taken
 pub record StopsInLine (source : Source) (taken written : List ℕ) : Type 0 where
   pub lines : Option Lines
   pub rest : List ℕ
@@ -66,7 +66,7 @@ pub record StopsInLine (source : Source) (taken written : List ℕ) : Type 0 whe
   pub checked : IsChecked lines checker written
   pub unended : IsUnendedIn source.form rest
 
--- of what was told of good lines the first bytes are written
+-- of the findings of good lines the first bytes are written
 pub record BreaksOff (source : Source) (taken written : List ℕ) : Type 0 where
   pub lines : Option Lines
   pub rest : List ℕ

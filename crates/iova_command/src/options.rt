@@ -36,7 +36,7 @@ pub enum Takes {
         low: u64,
         /// The greatest one.
         high: u64,
-        /// The number that is used without the option, and told in the notice of a start.
+        /// The number that is used without the option, and stands in the notice of a start.
         default: Option<u64>,
     },
     /// A power of two.
@@ -437,7 +437,7 @@ const TOLD: [OptionRow; 22] = [
     RESERVED_REGIONS,
 ];
 
-/// The level of the notices that are told without `--log-level`.
+/// The level of the notices that are printed without `--log-level`.
 pub(crate) const DEFAULT_LEVEL: &str = "warn";
 
 /// The options of `ask`, in the order of its help.

@@ -103,9 +103,9 @@ impl<'a> SinkPlace<'a> {
     }
 }
 
-/// A sink there; a peer is told first that nothing is mapped of the domain that is to be reset,
-/// where one is. None where the file can't be opened, nobody listens, or the peer didn't answer
-/// that it is done; a notice says which. A stop ends its waits.
+/// A sink there; a peer first gets a record that nothing is mapped of the domain that is to be
+/// reset, where one is. None where the file can't be opened, nobody listens, or the peer didn't
+/// answer that it is done; a notice says which. A stop ends its waits.
 pub fn open_sink<'a, R: Clock + Files<File = File>, W: Log, N: Net + Clock>(
     rt: &R,
     notices: &W,

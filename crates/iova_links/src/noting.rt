@@ -11,7 +11,7 @@ use log::{Log, debug, warn};
 pub struct NotingSink<'a, D, N> {
     sink: D,
     notices: &'a N,
-    /// How many ranges the clients held that it told of since a session began.
+    /// How many ranges the clients held that it reported since a session began.
     gone: u64,
 }
 
@@ -47,7 +47,7 @@ impl<'a, D, N> NotingSink<'a, D, N> {
         self.gone = 0;
     }
 
-    /// How many ranges the clients held that it told of since a session began.
+    /// How many ranges the clients held that it reported since a session began.
     pub fn ranges_gone(&self) -> u64 {
         self.gone
     }

@@ -247,7 +247,7 @@ fn read_received(
 ///
 /// A peer that reads its answers wakes whoever waits in a read of the other end, though nothing has
 /// come: of bytes taken from a socket the system tells its other end by the queue at which a read
-/// waits too. A poll is told only of what it asks for. It is one call more, and pays where the peer
+/// waits too. A poll reports only what it asks for. It is one call more, and pays where the peer
 /// has a run of answers to go through before it asks again.
 #[inline(never)]
 fn wait_for(stream: &UnixStream, turn: Option<Duration>) -> Result<(), i32> {

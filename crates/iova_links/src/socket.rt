@@ -188,7 +188,7 @@ impl<'a, R: AllocGlobal + Dial + Clock + Wait, N: Log> Accept<ServedLink<'a, R>>
 }
 
 /// Accepts whoever waits at the listener, and closes the connection. What came on it is read first:
-/// else the peer would be told of a reset.
+/// else the peer would get a reset.
 fn hang_up(listener: &UnixListener) {
     for _ in 0..MAX_WAITING {
         let Ok((mut stream, _peer)) = listener.accept() else {

@@ -1,4 +1,4 @@
-//! The ranges that a client is told to hold.
+//! The ranges that a client holds, by its answers.
 use iova_range::range::Range;
 use std::marker::Model;
 

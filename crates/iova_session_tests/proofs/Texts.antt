@@ -1,4 +1,4 @@
--- What desks were asked and told, one pair more.
+-- What desks were asked and answered, one pair more.
 use Rattle.std.proofs.Common.{◌≡◌, ◌+◌, ◌-◌, refl, List, [], ◌∷◌, ◌++◌, ap}
 use Rattle.iova_session.specs.Pairs.{Pair, requests_of, answers_of}
 

@@ -14,7 +14,7 @@ pub struct Calls {
     before: Option<Snapshot<Calls>>,
     domain: u64,
     number: u64,
-    /// The ranges that the last call told of, where it was of a client that is gone.
+    /// The ranges of the last call, where it was of a client that is gone.
     ranges: Option<Snapshot<Vec<Range>>>,
     /// Whether the last call was good, where it was a flush.
     ok: bool,

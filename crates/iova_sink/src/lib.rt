@@ -1,4 +1,4 @@
-//! Where invalidations go: sinks, which are told of each flush, the devices that records of them
+//! Where invalidations go: sinks, which get each flush, the devices that records of them
 //! are written to, and the channels to a peer that answers.
 #![tactic(auto)]
 

@@ -1,4 +1,4 @@
-//! What is told of each flush, and of each client that is gone.
+//! What gets each flush, and each client that is gone.
 ghost use Rattle.std.specs.Prelude.{◌≡◌, is_ok, List};
 ghost use Rattle.iova_sink.specs.Calls.{Call, with_call, with_gone};
 
@@ -7,13 +7,13 @@ use iova_range::range::Range;
 /// A call of a sink failed.
 #[derive(Clone, Copy, PartialEq, Eq, Debug)]
 pub enum SinkFault {
-    /// Whoever was told answered that it failed.
+    /// A peer answered that it failed.
     Refused,
-    /// It wasn't told whole, or no whole answer came.
+    /// It wasn't sent whole, or no whole answer came.
     Broken,
 }
 
-/// A sink of invalidations, which is also told which clients are gone. It tells the list of its
+/// A sink of invalidations, which also gets the clients that are gone. It tells the list of its
 /// calls; how many invalidations were good, how many calls failed, and which invalidation was the
 /// last good one are functions of that list.
 pub trait Sink {

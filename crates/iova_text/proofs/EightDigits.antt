@@ -126,7 +126,7 @@ joined_is a b c d e f g h la lb lc ld le lf lg lh =
     let eight = eight_is (100 * p + q) (100 * r + s) (omega (arith, la, lb, lc, ld)) (omega (arith, le, lf, lg, lh)) in
     ap (λ (x : ℕ). eight_of (fours_of x)) pairs ∙ (ap eight_of fours ∙ (eight ∙ omega arith))
 
--- the lowest byte and those above it are told apart in one way
+-- the lowest byte and those above it are separated in one way
 low_byte : (b x bs xs : ℕ) → b < 256 → x < 256 → b + 256 * bs ≡ x + 256 * xs → (b ≡ x) × (bs ≡ xs)
 low_byte b x bs xs lb lx e = (omega (arith, lb, lx, e), omega (arith, lb, lx, e))
 

@@ -1,4 +1,4 @@
--- How the parts of a line are told apart.
+-- How a line is parsed into its parts.
 use Rattle.std.specs.Prelude.{ℕ, ◌==◌, Bool, true, not, List, [], ◌∷◌}
 
 abbrev pub is_not_space : ℕ → Bool

@@ -1,4 +1,4 @@
--- A log of which nothing was told is sound.
+-- A log without findings is sound.
 use Rattle.std.proofs.Common.{ℕ, zero, suc, ◌≡◌, ◌∙◌, ◌+◌, ◌<◌, ◌≤◌, Bool, true, false, inl, inr, List, [], ◌∷◌, Option, Some, None, Result, Ok, Err, refl, sym, ap, subst, arith}
 use Rattle.std.specs.Prelude.{◌≢◌, ◌⊎◌, ◌==◌, ◌||◌, if◌then◌else◌, nat_lt, nat_le, OnOk, ⊤}
 use Rattle.std.specs.Borrow.{Bor}
@@ -32,7 +32,7 @@ use Rattle.iova_tools.specs.declared.fault.Fault.{Fault}
 
 -- The newest line
 
--- where no finding was told none is of reuse
+-- where there is no finding there is none of reuse
 no_reuse : (fs : List (Option Finding)) → how_many fs ≡ 0 → list_any is_reuse fs ≡ false
 no_reuse [] none = refl
 no_reuse (None ∷ fs) none = no_reuse fs (omega arith)

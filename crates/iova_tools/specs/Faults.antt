@@ -23,9 +23,9 @@ left_text left =
     codes "iovad: " ++ decimal left.clients ++ codes " clients and " ++ decimal left.ranges
     ++ codes " ranges are left" ++ rings_text left.frames ++ cause_text left.has_peer
 
--- the one line of a fault, without its LF; what is not understood, and help, are told in the words
--- of the command line; that a log has findings, or was not checked as a whole, is told by other
--- lines alone, and by the status
+-- the one line of a fault, without its LF; what is not understood, and help, are printed in the
+-- words of the command line; that a log has findings, or was not checked as a whole, is said by
+-- other lines alone, and by the status
 abbrev pub fault_text : Fault → Option (List ℕ)
 fault_text (fault.Words usage) = None
 fault_text fault.StartAboveLast = Some (codes "iovad: start is above last")

@@ -3,7 +3,7 @@ use Rattle.iova_check.specs.Marks.{stage_at}
 use Rattle.iova_check.specs.Findings.{since_of}
 use Rattle.iova_check.proofs.scan.find.Given as goal
 
--- nothing is told of the frames before this one
+-- the frames before this one have no finding
 abbrev pub invariant-loop-at : goal.invariant-loop-at
 invariant-loop-at l = record {
   from : l.lo ≤ l.at;
