@@ -110,8 +110,8 @@ ring_not frame w rings d lt before none =
     let missed : is_covered frame (map entry_range ring) ≡ false = ring_covers frame ring ∙ none in
     ring_next frame w rings d lt before ∙ placed_later frame (at_place (place.Ring w) (map entry_range ring)) (ring_holders (w + 1) (drop (w + 1) rings)) (rw missed at here)
 
-pub ring_here : (frame w : ℕ) (rings : List (List Entry)) (d : List Entry) → w < length rings → NotBefore frame rings w → ring_has frame (get_or rings w d) ≡ true → place_in (holder_in frame (ring_holders 0 rings)) ≡ place.Ring w
-ring_here frame w rings d lt before has =
+pub found_in_ring : (frame w : ℕ) (rings : List (List Entry)) (d : List Entry) → w < length rings → NotBefore frame rings w → ring_has frame (get_or rings w d) ≡ true → place_in (holder_in frame (ring_holders 0 rings)) ≡ place.Ring w
+found_in_ring frame w rings d lt before has =
     let ring = get_or rings w d in
     let here = placed_at frame (place.Ring w) (map entry_range ring) in
     let found : is_covered frame (map entry_range ring) ≡ true = ring_covers frame ring ∙ has in

@@ -193,10 +193,10 @@ comes_cached s c w size limit lo emptying here m left r cached is now at =
     record { found = ap (λ (t : next.Tried). t.found) e ∙ ap next.At (sym at); left = ap (λ (t : next.Tried). t.state.caches) e ∙ sym now }
 
 -- a growth is refused where it is, and not where none is
-at_here : (here : Point) → IsTryPoint here ⊎ (here ≡ point.Last) → (next.is_at here here ≡ true) × (next.is_at here point.Never ≡ false)
-at_here here (inl (inl e)) = rw e (refl, refl)
-at_here here (inl (inr e)) = rw e (refl, refl)
-at_here here (inr e) = rw e (refl, refl)
+is_at_own : (here : Point) → IsTryPoint here ⊎ (here ≡ point.Last) → (next.is_at here here ≡ true) × (next.is_at here point.Never ≡ false)
+is_at_own here (inl (inl e)) = rw e (refl, refl)
+is_at_own here (inl (inr e)) = rw e (refl, refl)
+is_at_own here (inr e) = rw e (refl, refl)
 
 -- what the tree gives
 tree_gives : (s : State) (o : Option ℕ) (here : Point) (size : ℕ) (old new : Space) (f : Walked) → IsTryPoint here ⊎ (here ≡ point.Last) → Places o here size old new f → Comes (next.from_tree s o (next.is_at here (point_of f))) f s.caches
@@ -206,8 +206,8 @@ tree_gives s None here size old new (found.OutOfMemory m) own h = absurd h
 tree_gives s (Some lo) here size old new found.Nowhere own h = absurd h
 tree_gives s (Some lo) here size old new (found.Placed r) own h =
     let at : lo ≡ r.lo = sym (ap (λ (x : Frames). x.lo) h.0) in
-    record { found = rw (at_here here own).1 (ap next.At at); left = refl }
-tree_gives s (Some lo) here size old new (found.OutOfMemory m) own h = record { found = rw (h.0, (at_here here own).0) refl; left = refl }
+    record { found = rw (is_at_own here own).1 (ap next.At at); left = refl }
+tree_gives s (Some lo) here size old new (found.OutOfMemory m) own h = record { found = rw (h.0, (is_at_own here own).0) refl; left = refl }
 
 -- the tree alone is asked again only where nothing was found, and only where emptying is allowed
 emptied_not : (x : next.Found) (s : State) (size limit : ℕ) (emptying no_memory : Bool) → (x ≡ next.Nowhere → emptying ≡ false) → next.or_emptied x s size limit emptying no_memory ≡ record { found = x; state = s }
@@ -285,9 +285,9 @@ places_point (Some lo) here size old new found.Nowhere h = absurd h
 places_point (Some lo) here size old new (found.Placed r) h = inl refl
 places_point (Some lo) here size old new (found.OutOfMemory m) h = inr h.0
 
-pub point_here : (here m : Point) → (m ≡ point.Never) ⊎ (m ≡ here) → IsPointFrom here m
-point_here here m (inl e) = inl e
-point_here here m (inr e) = inr (inl e)
+pub point_from_own : (here m : Point) → (m ≡ point.Never) ⊎ (m ≡ here) → IsPointFrom here m
+point_from_own here m (inl e) = inl e
+point_from_own here m (inr e) = inr (inl e)
 
 pub point_last : (here m : Point) → (m ≡ point.Never) ⊎ (m ≡ point.Last) → IsPointFrom here m
 point_last here m (inl e) = inl e

@@ -8,7 +8,7 @@ use Rattle.iova_core.specs.declared.walk.Walked.TheVariants.{Nowhere}
 use Rattle.iova_model.specs.declared.step.Point.TheVariants.{Last}
 use Rattle.iova_core.proofs.Reclaims.{has_low}
 use Rattle.iova_core.proofs.Drains.{backed_left}
-use Rattle.iova_core.proofs.Tries.{gets, gets_has, exchanges_got, exchanges_placed, exchanges_later, comes_tree, comes_emptied, places_none, places_size, places_point, point_here, as_nowhere, missed_exchange, missed_stands, emptied_stands, emptied_left}
+use Rattle.iova_core.proofs.Tries.{gets, gets_has, exchanges_got, exchanges_placed, exchanges_later, comes_tree, comes_emptied, places_none, places_size, places_point, point_from_own, as_nowhere, missed_exchange, missed_stands, emptied_stands, emptied_left}
 use Rattle.iova_core.proofs.walk.try_once.Goals as goal
 
 pub new-requires-clause-fits : goal.new-requires-clause-fits
@@ -38,7 +38,7 @@ returns-in_default-from_tree c =
           (missed_stands tree old c.from_caches.new.caches c.args.w c.args.size c.args.limit c.requires.backed c.requires.worker c.from_caches.ensures.cached miss left s stands) (ap (λ (x : Cached). x.caches) left) c.requires.here c.from_tree.ensures.places
           (λ e. absurd (c.in_default-from_tree.not-Nowhere (as_nowhere c.from_tree.result e)));
       size = places_size o c.args.here c.args.size tree c.from_tree.new.tree c.from_tree.result c.from_tree.ensures.places;
-      point = point_here c.args.here _ (places_point o c.args.here c.args.size tree c.from_tree.new.tree c.from_tree.result c.from_tree.ensures.places);
+      point = point_from_own c.args.here _ (places_point o c.args.here c.args.size tree c.from_tree.new.tree c.from_tree.result c.from_tree.ensures.places);
       backed = exchanges_later tree tree c.from_tree.new.tree old c.from_caches.new.caches c.from_caches.new.caches _
           (missed_exchange tree old c.from_caches.new.caches c.args.w c.args.size c.args.limit c.requires.backed c.requires.worker c.from_caches.ensures.cached miss left)
           (exchanges_placed o c.args.here c.args.size tree c.from_tree.new.tree c.from_caches.new.caches c.from_tree.result (c.from_tree.ensures.space c.requires.backed.space) (c.from_caches.ensures.cached c.requires.backed.cached) c.from_tree.ensures.places);
