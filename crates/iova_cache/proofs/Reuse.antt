@@ -69,9 +69,9 @@ either_later : (k : ℕ) (e : Event) (es : List Event) (w u : World) → ((n : �
 either_later k e es w u back (inl h) = inl (whole_later e es h)
 either_later k e es w u back (inr h) = inr (ends_later k e es w u back h)
 
-begins_here : (k : ℕ) (e : Event) (es : List Event) (w u : World) → e ≡ Steps step.Begin (reply.Begun (w.domain.flushes.start + 1)) → u.domain.flushes ≡ with_flight w.domain.flushes → Whole es ⊎ EndsOne k es u → Whole (e ∷ es) ⊎ EndsOne k (e ∷ es) w
-begins_here k e es w u is same (inl h) = inl (whole_later e es h)
-begins_here k e es w u is same (inr h) =
+either_begin : (k : ℕ) (e : Event) (es : List Event) (w u : World) → e ≡ Steps step.Begin (reply.Begun (w.domain.flushes.start + 1)) → u.domain.flushes ≡ with_flight w.domain.flushes → Whole es ⊎ EndsOne k es u → Whole (e ∷ es) ⊎ EndsOne k (e ∷ es) w
+either_begin k e es w u is same (inl h) = inl (whole_later e es h)
+either_begin k e es w u is same (inr h) =
     let n = h.1.0 in
     let there : is_in_flight n (with_flight w.domain.flushes).in_flight ≡ true = subst (λ (f : Flushes). is_in_flight n f.in_flight ≡ true) same h.1.1.1.1 in
     which (flies_pushed n w.domain.flushes.in_flight (w.domain.flushes.start + 1) (1 + w.domain.flushes.owed) there)
@@ -82,12 +82,12 @@ begins_here k e es w u is same (inr h) =
         let begun = ap (λ e. Some e) is ∙ ap (λ (n : ℕ). Some (Steps step.Begin (reply.Begun n))) (sym new) in
         inl (0, (suc h.0, record { number = h.1.0; begins = begun; ends = h.1.1.0; order = omega arith }))
 
-ends_here : (k : ℕ) (e : Event) (es : List Event) (w u : World) (n : ℕ) (ok : Bool) → e ≡ Steps (step.End n ok) reply.Ended → is_in_flight n w.domain.flushes.in_flight ≡ true → u.domain.flushes ≡ after_end w.domain.flushes n ok
+either_end : (k : ℕ) (e : Event) (es : List Event) (w u : World) (n : ℕ) (ok : Bool) → e ≡ Steps (step.End n ok) reply.Ended → is_in_flight n w.domain.flushes.in_flight ≡ true → u.domain.flushes ≡ after_end w.domain.flushes n ok
     → w.domain.flushes.newest ≤ k → (u.domain.flushes.newest ≤ k → Whole es ⊎ EndsOne k es u) → Whole (e ∷ es) ⊎ EndsOne k (e ∷ es) w
-ends_here k e es w u n false is flies same low rest =
+either_end k e es w u n false is flies same low rest =
     let now = ap (λ (f : Flushes). f.newest) same in
     either_later k e es w u (λ m at. flies_passed m n w.domain.flushes.in_flight (subst (λ (f : Flushes). is_in_flight m f.in_flight ≡ true) same at)) (rest (omega (arith, now, low)))
-ends_here k e es w u n true is flies same low rest = which (nat_lt k n) refl
+either_end k e es w u n true is flies same low rest = which (nat_lt k n) refl
   where
     which : (b : Bool) → nat_lt k n ≡ b → Whole (e ∷ es) ⊎ EndsOne k (e ∷ es) w
     which true lt = inr (0, (n, (ap (λ e. Some e) is, (grind (arith, nat_tests), flies))))
@@ -105,8 +105,8 @@ flush_found k (e ∷ es) w v h low lt = moved (event_moves e w h.0 h.1.0) (λ lo
         either_later k e es w h.0 (λ n at. subst (λ (f : Flushes). is_in_flight n f.in_flight ≡ true) same at) (rest (omega (arith, now, low)))
     moved (inr (inl b)) rest =
         let now = ap (λ (f : Flushes). f.newest) b.1 in
-        begins_here k e es w h.0 b.0 b.1 (rest (omega (arith, now, low)))
-    moved (inr (inr d)) rest = ends_here k e es w h.0 d.0 d.1.0 d.1.1.0 d.1.1.1.0 d.1.1.1.1 low rest
+        either_begin k e es w h.0 b.0 b.1 (rest (omega (arith, now, low)))
+    moved (inr (inr d)) rest = either_end k e es w h.0 d.0 d.1.0 d.1.1.0 d.1.1.1.0 d.1.1.1.1 low rest
 
 -- where one with a greater number than that of the last that had begun has ended well, it began meanwhile
 whole_flush : (k : ℕ) (es : List Event) (w v : World) → IsWorld w → Goes es w v → w.domain.flushes.start ≤ k → k < v.domain.flushes.newest → Whole es

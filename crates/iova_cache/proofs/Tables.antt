@@ -225,8 +225,8 @@ pub none_so_far : (lo k : ℕ) (bs : List (List Frames)) → k < length bs → f
 none_so_far lo k bs lt before none =
     rw (take_more bs k [] lt, joined (take k bs) (get_or bs k []), find-append (begins_at lo) (all_ranges (take k bs)) (get_or bs k []), before) none
 
-pub sought_here : (lo k : ℕ) (bs : List (List Frames)) → k < length bs → find (begins_at lo) (get_or bs k []) ≢ None → sought lo k bs ≡ find (begins_at lo) (get_or bs k [])
-sought_here lo k bs lt some =
+pub sought_at : (lo k : ℕ) (bs : List (List Frames)) → k < length bs → find (begins_at lo) (get_or bs k []) ≢ None → sought lo k bs ≡ find (begins_at lo) (get_or bs k [])
+sought_at lo k bs lt some =
     rw (drop_more bs k [] lt, find-append (begins_at lo) (get_or bs k []) (all_ranges (drop (k + 1) bs)), some_or (find (begins_at lo) (get_or bs k [])) (find (begins_at lo) (all_ranges (drop (k + 1) bs))) some)
     (some_or (find (begins_at lo) (get_or bs k [])) (find (begins_at lo) (all_ranges (take k bs))) some)
 
@@ -545,7 +545,7 @@ pub at_home : (home : ℕ → ℕ) (lo h : ℕ) (bs : List (List Frames)) (b : L
 at_home home lo h bs b r at lt is found =
     let here = bucket_at bs h b lt is in
     let some : find (begins_at lo) (get_or bs h []) ≢ None = λ none. let bad : Some r ≡ None = sym found ∙ (ap (λ b. find (begins_at lo) b) (sym here) ∙ none) in absurd cc in
-    find_in_order home lo h bs at ∙ (sought_here lo h bs lt some ∙ (ap (λ b. find (begins_at lo) b) here ∙ found))
+    find_in_order home lo h bs at ∙ (sought_at lo h bs lt some ∙ (ap (λ b. find (begins_at lo) b) here ∙ found))
 
 pub not_at_home : (home : ℕ → ℕ) (lo h n : ℕ) (bs : List (List Frames)) (s : List ℕ) (b : List Frames) → h ≡ home lo → h < length bs → b ≡ get_or bs h b → AreStrays home bs s → h < length s → n ≡ get_or s h n → n ≤ 0 → find (begins_at lo) b ≡ None → find (begins_at lo) (in_order home bs) ≡ None
 not_at_home home lo h n bs s b at lt is away within number zero_here none =

@@ -1,14 +1,14 @@
 use Rattle.std.proofs.Common.{◌≢◌, ◌<◌, find, take, drop, length, None, ap, arith}
 use Rattle.std.proofs.lemmas.List.{length-take-le, length-drop}
 use Rattle.iova_model.specs.Clients.{begins_at}
-use Rattle.iova_cache.proofs.Tables.{sought_here, sought_onward, sought_around, bucket_at, is_some_not, the_rest}
+use Rattle.iova_cache.proofs.Tables.{sought_at, sought_onward, sought_around, bucket_at, is_some_not, the_rest}
 use Rattle.iova_cache.proofs.table.seek_from.Goals as goal
 
 pub returns-then-is_some-clause-is : goal.returns-then-is_some-clause-is
 returns-then-is_some-clause-is c =
     let here = bucket_at c.args.buckets.now c.args.home c.index-buckets-home.result c.requires.within c.index-buckets-home.is in
     let found : find (begins_at c.args.lo) c.index-buckets-home.result ≢ None = rw c.find.ensures.is at (is_some_not c.find.result c.is_some.result c.is_some.ensures c.if-is_some.true) in
-    sought_here c.args.lo c.args.home c.args.buckets.now c.requires.within (rw here found)
+    sought_at c.args.lo c.args.home c.args.buckets.now c.requires.within (rw here found)
 
 pub returns-then-onward-buckets-clause-is : goal.returns-then-onward-buckets-clause-is
 returns-then-onward-buckets-clause-is c =
