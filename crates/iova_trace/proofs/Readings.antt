@@ -202,9 +202,9 @@ abbrev pub IsStuck : List Step → List ℕ → Type 0
 IsStuck steps left = (s : Step) (more : List ℕ) → length steps < 1000000 → IsStep s → left ≡ whole_line (step_text s) ++ more → ⊥
 
 -- then no more steps are read
-stuck_here : (bounds : Extent) (workers : ℕ) (steps : List Step) (left : List ℕ) (lines : Option Trace) (rest : List ℕ) → GoesOn bounds workers steps left lines rest
+stuck_ends : (bounds : Extent) (workers : ℕ) (steps : List Step) (left : List ℕ) (lines : Option Trace) (rest : List ℕ) → GoesOn bounds workers steps left lines rest
     → IsStuck steps left → (lines ≡ Some (trace_of bounds workers steps)) × (left ≡ rest)
-stuck_here bounds workers steps left lines rest g stuck = go g.more g.is g.whole g.each g.few
+stuck_ends bounds workers steps left lines rest g stuck = go g.more g.is g.whole g.each g.few
   where
     go : (ms : List Step) → lines ≡ Some (trace_of bounds workers (steps ++ ms)) → left ≡ flat_map step_line ms ++ rest → AllByRecursion IsStep ms
         → length (steps ++ ms) ≤ 1000000 → (lines ≡ Some (trace_of bounds workers steps)) × (left ≡ rest)
@@ -216,12 +216,12 @@ stuck_here bounds workers steps left lines rest g stuck = go g.more g.is g.whole
 pub stuck_whole : (text : List ℕ) (bounds : Extent) (workers : ℕ) (steps : List Step) (left : List ℕ) (t : Trace) → IsOnly text bounds workers steps left
     → IsStuck steps left → (left ≡ [] → ⊥) → IsTrace t → text ≡ trace_text t → ⊥
 stuck_whole text bounds workers steps left t only stuck some is whole =
-    some (stuck_here bounds workers steps left (Some t) [] (only (Some t) [] (reads_trace text t is whole)) stuck).1
+    some (stuck_ends bounds workers steps left (Some t) [] (only (Some t) [] (reads_trace text t is whole)) stuck).1
 
 pub stuck_refused : (text : List ℕ) (bounds : Extent) (workers : ℕ) (steps : List Step) (left : List ℕ) (number : ℕ) → IsOnly text bounds workers steps left
     → IsStuck steps left → IsRefused text number → number ≡ length steps + 2
 stuck_refused text bounds workers steps left number only stuck r =
-    r.number_is ∙ ap next_line_number (stuck_here bounds workers steps left r.lines r.rest (only r.lines r.rest (reads_refused text number r)) stuck).0
+    r.number_is ∙ ap next_line_number (stuck_ends bounds workers steps left r.lines r.rest (only r.lines r.rest (reads_refused text number r)) stuck).0
 
 -- a text whose first line is no header
 abbrev pub HasNoHeader : List ℕ → Type 0
