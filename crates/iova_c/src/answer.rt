@@ -143,7 +143,8 @@ pub fn number_of(refusal: Refusal) -> u64
     refusal.number() as u64
 }
 
-fn a_range(range: Range) -> RangeAnswer
+/// The answer of a range.
+pub(crate) fn a_range(range: Range) -> RangeAnswer
     ensures { result ≡ record { refused = 0; lo = range.lo; len = range.len } }
 {
     RangeAnswer {
@@ -153,27 +154,30 @@ fn a_range(range: Range) -> RangeAnswer
     }
 }
 
+/// The answer of a refusal of this number, or at 0 an empty range.
+pub(crate) fn no_range(number: u64) -> RangeAnswer
+    ensures { result ≡ record { refused = number; lo = 0; len = 0 } }
+{
+    RangeAnswer {
+        refused: number,
+        lo: 0,
+        len: 0,
+    }
+}
+
 /// Of `Reserve`, `Alloc`, `Unmap` and `CloseOne`: the range, empty where the client is gone.
 pub fn of_range(reply: Reply) -> RangeAnswer
     ensures { result ≡ range_answer reply }
 {
     match reply {
         Reply::Reserved(range) | Reply::Given(range) | Reply::Queued(range) => a_range(range),
-        Reply::Refused(refusal) => RangeAnswer {
-            refused: number_of(refusal),
-            lo: 0,
-            len: 0,
-        },
+        Reply::Refused(refusal) => no_range(number_of(refusal)),
         Reply::Opened(_)
         | Reply::Empty
         | Reply::Begun(_)
         | Reply::Ended
         | Reply::Drained(_)
-        | Reply::Marked(_) => RangeAnswer {
-            refused: 0,
-            lo: 0,
-            len: 0,
-        },
+        | Reply::Marked(_) => no_range(0),
     }
 }
 
@@ -205,11 +209,7 @@ pub fn unpack(packed: PackedAnswer) -> RangeAnswer
     ensures { result ≡ unpacked packed }
 {
     if packed.len == 0 {
-        RangeAnswer {
-            refused: packed.lo,
-            lo: 0,
-            len: 0,
-        }
+        no_range(packed.lo)
     } else {
         RangeAnswer {
             refused: 0,

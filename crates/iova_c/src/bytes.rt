@@ -4,8 +4,8 @@ ghost use Rattle.iova_c.specs.Bytes.{frame_at, frames_of, last_frame};
 ghost use Rattle.iova_c.specs.Slots.{granule_of, MappingStep};
 ghost use Rattle.iova_c.specs.Caches.{granule_in, in_bytes, MapCall, UnmapBytesCall};
 
-use crate::answer::{MappingAnswer, RangeAnswer, of_mapping};
-use crate::cached::{CacheSlot, NO_CACHE, alloc, refused, unmap};
+use crate::answer::{MappingAnswer, RangeAnswer, no_range, of_mapping};
+use crate::cached::{CacheSlot, NO_CACHE, alloc, unmap};
 use crate::granule::FRAME_BYTES;
 use crate::slot::Slot;
 use iova_core::{Reply, Step};
@@ -67,7 +67,7 @@ pub fn map_cached(slot: &mut CacheSlot, bytes: u64, mask: u64) -> MappingAnswer
         (last_frame (granule_in slot.old.cache) mask) result slot.new.cache }
 {
     let Some(cached) = &slot.cache else {
-        return in_bytes(FRAME_BYTES, refused(NO_CACHE));
+        return in_bytes(FRAME_BYTES, no_range(NO_CACHE));
     };
     let granule = cached.granule.bytes();
     let frames = cached.granule.frames_of(bytes);
@@ -81,7 +81,7 @@ pub fn unmap_bytes_cached(slot: &mut CacheSlot, address: u64, start: u64) -> Map
         result slot.new.cache }
 {
     let Some(cached) = &slot.cache else {
-        return in_bytes(FRAME_BYTES, refused(NO_CACHE));
+        return in_bytes(FRAME_BYTES, no_range(NO_CACHE));
     };
     let granule = cached.granule.bytes();
     let lo = cached.granule.frame_at(address);

@@ -5,7 +5,8 @@ ghost use Rattle.iova_c.specs.Slots.{is_set};
 ghost use Rattle.iova_c.specs.Caches.{some_answer, no_range, a_range, AllocCall, UnmapCall, SettleCall, PutCall, TakeCall, RoomCall, KeepCall, ReleaseCall, AnyCall, ApartCall, CountsCall};
 
 use crate::answer::{
-    CacheCountsAnswer, NumberAnswer, PackedAnswer, RangeAnswer, number_of, unpack,
+    CacheCountsAnswer, NumberAnswer, PackedAnswer, RangeAnswer, a_range, no_range, number_of,
+    unpack,
 };
 use crate::granule::{Granule, usual};
 use iova_cache::apart::Unput;
@@ -61,26 +62,6 @@ pub fn clear(slot: &mut CacheSlot)
     slot.cache = None;
 }
 
-pub(crate) fn refused(number: u64) -> RangeAnswer
-    ensures { result ≡ no_range number }
-{
-    RangeAnswer {
-        refused: number,
-        lo: 0,
-        len: 0,
-    }
-}
-
-pub(crate) fn given(range: Range) -> RangeAnswer
-    ensures { result ≡ record { refused = 0; lo = range.lo; len = range.len } }
-{
-    RangeAnswer {
-        refused: 0,
-        lo: range.lo(),
-        len: range.len(),
-    }
-}
-
 #[inline(always)]
 fn packed(range: Range) -> PackedAnswer
     ensures { unpacked result ≡ a_range range }
@@ -102,8 +83,8 @@ fn of_some(number: u64, res: Option<Range>) -> RangeAnswer
     ensures { result ≡ some_answer number res }
 {
     match res {
-        Some(range) => given(range),
-        None => refused(number),
+        Some(range) => a_range(range),
+        None => no_range(number),
     }
 }
 
@@ -260,11 +241,11 @@ pub fn take(slot: &mut CacheSlot, order: u64) -> RangeAnswer
     match &mut slot.cache {
         Some(cached) => {
             if order >= ORDERS as u64 {
-                return refused(NO_ORDER);
+                return no_range(NO_ORDER);
             }
             of_some(DRY, cached.cache.take(order as u8))
         }
-        None => refused(NO_CACHE),
+        None => no_range(NO_CACHE),
     }
 }
 
@@ -300,7 +281,7 @@ pub fn release(slot: &mut CacheSlot, lo: u64) -> RangeAnswer
 {
     match &mut slot.cache {
         Some(cached) => of_some(8, cached.cache.release(lo)),
-        None => refused(NO_CACHE),
+        None => no_range(NO_CACHE),
     }
 }
 
@@ -310,7 +291,7 @@ pub fn any(slot: &mut CacheSlot) -> RangeAnswer
 {
     match &mut slot.cache {
         Some(cached) => of_some(0, cached.cache.any()),
-        None => refused(NO_CACHE),
+        None => no_range(NO_CACHE),
     }
 }
 

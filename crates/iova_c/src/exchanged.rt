@@ -4,8 +4,8 @@ ghost use Rattle.iova_range.specs.Refusals.{refusal_number};
 ghost use Rattle.iova_c.specs.Slots.{is_set};
 ghost use Rattle.iova_c.specs.Caches.{MakeCall, MakesIn, no_number, no_range, count_answer, refusal_answer, RefillCall, SpillCall, AllocByCall, UnmapByCall, EndCall};
 
-use crate::answer::{NumberAnswer, RangeAnswer, number_of, of_number};
-use crate::cached::{CacheSlot, Cached, NO_CACHE, NO_ORDER, given, refused};
+use crate::answer::{NumberAnswer, RangeAnswer, a_range, no_range, number_of, of_number};
+use crate::cached::{CacheSlot, Cached, NO_CACHE, NO_ORDER};
 use crate::granule::FRAME_BYTES;
 use crate::slot::{Paged, Slot};
 use iova_cache::cache::Cache;
@@ -42,8 +42,8 @@ fn of_refusal(res: Result<Range, Refusal>) -> RangeAnswer
     ensures { result ≡ refusal_answer res }
 {
     match res {
-        Ok(range) => given(range),
-        Err(refusal) => refused(number_of(refusal)),
+        Ok(range) => a_range(range),
+        Err(refusal) => no_range(number_of(refusal)),
     }
 }
 
@@ -141,9 +141,9 @@ pub fn alloc_by(slot: &mut Slot, cache: &mut CacheSlot, frames: u64, limit: u64)
     match &mut cache.cache {
         Some(cached) => match &mut slot.domain {
             Some(paged) => of_refusal(cached.cache.alloc_by(&mut paged.domain, frames, limit)),
-            None => refused(no_domain()),
+            None => no_range(no_domain()),
         },
-        None => refused(NO_CACHE),
+        None => no_range(NO_CACHE),
     }
 }
 
@@ -155,9 +155,9 @@ pub fn unmap_by(slot: &mut Slot, cache: &mut CacheSlot, lo: u64) -> RangeAnswer
     match &mut cache.cache {
         Some(cached) => match &mut slot.domain {
             Some(paged) => of_refusal(cached.cache.unmap_by(&mut paged.domain, lo)),
-            None => refused(no_domain()),
+            None => no_range(no_domain()),
         },
-        None => refused(NO_CACHE),
+        None => no_range(NO_CACHE),
     }
 }
 
