@@ -6,9 +6,7 @@ ghost use Rattle.iova_command.specs.Labels.{AreRight, HasLabel, IsRight, are_lab
 
 use crate::options::{OptionRow, Takes};
 use clap::ArgMatches;
-
-/// The most bytes of a label.
-const MAX_LABEL: usize = 64;
+use iova_range::limits::MAX_DAEMON_NAME;
 
 /// Whether each option that takes a label has one, where it is there.
 pub(crate) fn are_right(found: &ArgMatches<'_>, rows: &[OptionRow]) -> bool
@@ -45,13 +43,13 @@ fn has_label(found: &ArgMatches<'_>, name: &str) -> bool
     }
 }
 
-/// Whether a text is a label: 1 to 64 visible characters of ASCII, none of them a quote or a
-/// backslash.
+/// Whether a text is a label: one to `MAX_DAEMON_NAME` visible characters of ASCII, none of them a
+/// quote or a backslash.
 pub(crate) fn is_label(text: &str) -> bool
     ensures { result ≡ is_label text.now }
 {
     let bytes = text.as_bytes();
-    !bytes.is_empty() && bytes.len() <= MAX_LABEL && are_label_bytes(bytes)
+    !bytes.is_empty() && bytes.len() <= MAX_DAEMON_NAME && are_label_bytes(bytes)
 }
 
 fn are_label_bytes(bytes: &[u8]) -> bool

@@ -48,7 +48,8 @@ pub enum Takes {
     },
     /// The name of a level of notices.
     Level,
-    /// A label: 1 to 64 visible characters of ASCII, none of them a quote or a backslash.
+    /// A label: one to `MAX_DAEMON_NAME` visible characters of ASCII, none of them a quote or a
+    /// backslash.
     Label,
     /// Two frames as FIRST-LAST; the option may be there any number of times.
     Spans,

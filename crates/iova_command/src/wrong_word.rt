@@ -6,6 +6,7 @@ use crate::plan::{has_plus, is_granule, level_of};
 use crate::said::is_given;
 use crate::words::WATCH;
 use clap::ArgMatches;
+use iova_range::limits::{MAX_DAEMON_NAME, MAX_WINDOWS};
 use iova_regions::span::read_span;
 use std::alloc::{AllocError, Global};
 
@@ -230,7 +231,7 @@ fn wrong_label(
         return Ok(None);
     }
     let text = format!(in alloc;
-        "--{name}: '{label}' is not 1 to 64 visible ASCII characters without quote or backslash"
+        "--{name}: '{label}' is not 1 to {MAX_DAEMON_NAME} visible ASCII characters without quote or backslash"
     )?;
     Ok(Some(text))
 }
@@ -274,6 +275,6 @@ fn wrong_span(
         Some(span) => *span,
         None => "",
     };
-    let text = format!(in alloc; "--{name}: more than 64 windows up to '{last}'")?;
+    let text = format!(in alloc; "--{name}: more than {MAX_WINDOWS} windows up to '{last}'")?;
     Ok(Some(text))
 }

@@ -1,6 +1,7 @@
 //! A daemon's control socket: what the daemon does now, asked in lines, and its stop.
 ghost use Rattle.std.specs.Prelude.{◌≡◌, ◌<◌, ◌≤◌, ◌++◌, false, length, true};
 ghost use Rattle.iova_control.specs.Texts.{answer_text};
+ghost use Rattle.iova_range.specs.declared.limits.TheConstants.{MAX_DAEMON_NAME};
 
 use crate::info::put_info;
 use crate::metrics::put_metrics;
@@ -10,7 +11,8 @@ use iova_keep::look::Look;
 use iova_links::control_task::{ControlTask, MetricsSource};
 use iova_links::signals::Signals;
 use iova_range::limits::{
-    CONTROL_PAUSE, CONTROL_READS, FRAME_BYTES, MAX_CONTROL_SILENCE, MAX_CONTROLS, MAX_LINE,
+    CONTROL_PAUSE, CONTROL_READS, FRAME_BYTES, MAX_CONTROL_SILENCE, MAX_CONTROLS, MAX_DAEMON_NAME,
+    MAX_LINE,
 };
 use iova_text::buffer::{LineBuffer, put, put_number};
 use log::{Log, warn};
@@ -39,9 +41,6 @@ pub struct Control<'a, R, N> {
 /// The most bytes of a version's text.
 const MAX_VERSION: usize = 128;
 
-/// The most bytes of a daemon's name.
-const MAX_NAME: usize = 64;
-
 /// What is so of a daemon from its start to its end.
 #[derive(Drop)]
 pub struct Facts {
@@ -59,7 +58,7 @@ pub struct Facts {
     pub is_recorded: bool,
     /// The daemon's name, in printable ASCII without quotes and backslashes; empty where it has
     /// none.
-    pub name: ArrayString<MAX_NAME>,
+    pub name: ArrayString<MAX_DAEMON_NAME>,
 }
 
 impl Facts {
@@ -84,10 +83,10 @@ impl Facts {
         }
     }
 
-    /// Gives the daemon this name. One that is longer than 64 bytes changes nothing.
+    /// Gives the daemon this name. One of more than `MAX_DAEMON_NAME` bytes changes nothing.
     pub fn set_name(&mut self, name: &str)
-        ensures named { length name.now ≤ MAX_NAME → self.new.name.bytes ≡ name.now }
-        ensures too_long { MAX_NAME < length name.now → self.new ≡ self.old }
+        ensures named { length name.now ≤ MAX_DAEMON_NAME → self.new.name.bytes ≡ name.now }
+        ensures too_long { MAX_DAEMON_NAME < length name.now → self.new ≡ self.old }
         ensures others { self.new ≡ record self.old { name = self.new.name } }
     {
         if let Ok(kept) = ArrayString::from(name) {

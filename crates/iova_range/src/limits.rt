@@ -214,6 +214,9 @@ pub const DEFAULT_WORKERS: u64 = 4;
 /// The clients that a daemon serves at a time where nobody says how many.
 pub const DEFAULT_CLIENTS: u64 = 64;
 
+/// The most bytes of the name that a daemon is given.
+pub const MAX_DAEMON_NAME: usize = 64;
+
 /// The number of a daemon's domain where nobody says another.
 pub const DEFAULT_DOMAIN: u64 = 0;
 
