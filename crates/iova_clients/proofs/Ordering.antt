@@ -286,6 +286,12 @@ taken_ordered cells n p apart within lt =
     rw m (ordered_taken (range_at cells) (range_at (set cells p (range_at cells n))) n p (rw m at apart) (omega (arith, within))
     (λ k less ne. at_past cells p (range_at cells n) k ne) (λ less. range_at-set_same cells p (range_at cells n) (omega (arith, less, lt))))
 
+pub last_ordered : (cells : List Frames) (n : ℕ) → BeginApart (range_at cells) (n + 1) → n < length cells
+    → ordered cells n ≡ remove_at (range_at cells n).lo (ordered cells (n + 1))
+last_ordered cells n apart lt =
+    let m : n + 1 ≡ suc n = omega arith in
+    rw m (ordered_taken (range_at cells) (range_at cells) n n (rw m at apart) (omega arith) (λ k less ne. refl) (λ less. absurd (omega (arith, less))))
+
 pub taken_apart : (cells : List Frames) (n p : ℕ) → BeginApart (range_at cells) (n + 1) → p < n + 1 → n < length cells
     → BeginApart (range_at (set cells p (range_at cells n))) n
 taken_apart cells n p apart within lt =

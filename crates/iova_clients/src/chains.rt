@@ -72,6 +72,20 @@ pub(crate) fn link(cells: &[Range], links: &mut [u16], place: usize)
     links[entry] = (place + 1) as u16;
 }
 
+/// The newest range comes into its chain, where it is in none yet.
+#[inline(always)]
+pub(crate) fn link_newest(cells: &[Range], links: &mut [u16], linked: usize, count: usize)
+    requires links { AreLinks cells.now linked links.old }
+    requires newest { (linked ≤ count) × (count ≤ linked + 1) }
+    requires within { count ≤ length cells.now }
+    requires few { length cells.now < 2 ^ 16 }
+    ensures { AreLinks cells.now count links.new }
+{
+    if linked < count {
+        link(cells, links, linked);
+    }
+}
+
 /// Links the first so many ranges anew.
 pub(crate) fn link_all(cells: &[Range], links: &mut [u16], count: usize)
     requires long { length links.old ≡ length cells.now + length cells.now }

@@ -17,7 +17,8 @@ const SOME_CELLS: usize = 8;
 
 /// Ranges in no order, so that one that comes or goes moves one other at most, wherever it lies: it
 /// comes behind the others, and the last one takes its place. Each is found through the chain of
-/// its first frame.
+/// its first frame; the newest at its place, and it comes into its chain only once it is not what
+/// goes next.
 ///
 /// Once the client is closing they are a heap, and no chain leads to them: the lowest is found at
 /// once, and goes in as many steps as twice the ranges are halved. Another one is searched for.
@@ -26,6 +27,8 @@ pub(crate) struct Holdings {
     cells: Vec<Range>,
     links: Vec<u16>,
     count: usize,
+    /// How many ranges are in their chains: all, or all but the newest.
+    linked: usize,
     closing: bool,
     alloc: Global,
 }
@@ -44,7 +47,7 @@ impl Model for Holdings {
       closing = h.closing;
     } };
 
-    ghost invariant = { λ h. IsBlock h.cells.items h.links.items h.count h.closing };
+    ghost invariant = { λ h. IsBlock h.cells.items h.links.items h.linked h.count h.closing };
 }
 
 /// As many cells as that, the new ones behind the others. Where memory is refused nothing has
@@ -144,6 +147,7 @@ impl Holdings {
             cells: Vec::new(alloc),
             links: Vec::new(alloc),
             count: 0,
+            linked: 0,
             closing: false,
             alloc,
         }
@@ -207,6 +211,7 @@ impl Holdings {
         grow(&mut self.cells, more)?;
         chains::link_all(self.cells.as_slice(), links.as_mut_slice(), self.count);
         self.links = links;
+        self.linked = self.count;
         Ok(())
     }
 
@@ -236,9 +241,11 @@ impl Holdings {
         ensures closing { self.new.closing ≡ self.old.closing }
     {
         let place = self.count;
+        let links = self.links.as_mut_slice();
+        chains::link_newest(self.cells.as_slice(), links, self.linked, place);
+        self.linked = place;
         self.cells[place] = range;
         self.count = place + 1;
-        chains::link(self.cells.as_slice(), self.links.as_mut_slice(), place);
     }
 
     #[cold]
@@ -266,8 +273,12 @@ impl Holdings {
             return None;
         }
         let cells = self.cells.as_slice();
+        let newest = cells[self.count - 1];
+        if newest.lo() == lo {
+            return Some(newest);
+        }
         let links = self.links.as_slice();
-        let entry = chains::entry_of(cells, links, self.count, lo);
+        let entry = chains::entry_of(cells, links, self.linked, lo);
         let link = links[entry] as usize;
         if link == 0 {
             return None;
@@ -304,14 +315,23 @@ impl Holdings {
         if count == 0 {
             return None;
         }
+        let last = count - 1;
+        let newest = self.cells[last];
+        if self.linked == last && newest.lo() == lo {
+            self.count = last;
+            return Some(newest);
+        }
+        let links = self.links.as_mut_slice();
+        chains::link_newest(self.cells.as_slice(), links, self.linked, count);
+        self.linked = count;
         let entry = chains::entry_of(self.cells.as_slice(), self.links.as_slice(), count, lo);
         let link = self.links[entry] as usize;
         if link == 0 {
             return None;
         }
         let range = self.cells[link - 1];
-        let last = count - 1;
         self.count = last;
+        self.linked = last;
         let links = self.links.as_mut_slice();
         chains::remove(self.cells.as_mut_slice(), links, last, entry);
         Some(range)
