@@ -9,7 +9,7 @@ mod doubles;
 
 use crate::fresh::new_shared;
 use crate::posts::{NOTHING, repeated};
-use doubles::{Counted, GatedSink, Rounds, Row, Rows};
+use doubles::{CountedWarnings, GatedSink, Rounds, Row, Rows};
 use iova_daemon::{Served, serve_on};
 use iova_keep::keep::Keep;
 use iova_keep::ledgers::Blanks;
@@ -369,7 +369,7 @@ fn serve_case<R: Threads + Wait + Clock + Sync>(
     alloc: Global,
     case: &Case,
     flags: &[Flag; 5],
-    notices: &Counted,
+    notices: &CountedWarnings,
     accept: &Rows<'_>,
 ) -> Result<Seen, &'static str> {
     if case.is_open {
@@ -578,7 +578,7 @@ fn check<R: Abort + Threads + Wait + Clock + Sync>(
         Flag::new(),
         Flag::new(),
     ];
-    let notices = Counted {
+    let notices = CountedWarnings {
         records: AtomicU64::new(0),
     };
     let accept = Rows {

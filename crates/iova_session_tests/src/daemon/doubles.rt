@@ -165,11 +165,11 @@ impl<'a> Sink for GatedSink<'a> {
 
 /// Counts warnings and errors, and prints none.
 #[derive(Drop)]
-pub struct Counted {
+pub struct CountedWarnings {
     pub records: AtomicU64,
 }
 
-impl Log for Counted {
+impl Log for CountedWarnings {
     fn enabled(&self, _metadata: &Metadata<'_>) -> bool {
         true
     }
