@@ -1,5 +1,5 @@
 -- The ranges of a block, read from one end to the other.
-use Rattle.std.proofs.Common.{ℕ, zero, suc, ◌≡◌, ◌+◌, ◌-◌, ◌<◌, ◌≤◌, inl, inr, max, min, ◌&&◌, ◌||◌, Bool, true, false, not, cond, List, [], ◌∷◌, ◌++◌, length, take, drop, slice_index_or, refl, sym, ap, ◌∙◌, arith, take-append-drop, length-drop}
+use Rattle.std.proofs.Common.{ℕ, zero, suc, ◌≡◌, ◌+◌, ◌-◌, ◌<◌, ◌≤◌, ◌⊎◌, inl, inr, max, min, ◌&&◌, ◌||◌, Bool, true, false, not, cond, List, [], ◌∷◌, ◌++◌, length, take, drop, slice_index_or, refl, sym, ap, ◌∙◌, arith, take-append-drop, length-drop}
 use Rattle.std.specs.Prelude.{nat_lt, nat_le, nat_eq, insert, remove}
 use Rattle.std.specs.List.Sorted.{IsNonDecreasingBy}
 use Rattle.std.proofs.Math.Seq.{take-suc, drop-cons}
@@ -14,7 +14,7 @@ use Rattle.iova_model.specs.Fit.{is_covered}
 use Rattle.std.specs.List.{list_any}
 use Rattle.iova_tree.specs.declared.search.Wanted.{Wanted}
 use Rattle.iova_tree.specs.Fit.{higher, place, place_behind, highest_between}
-use Rattle.iova_tree.proofs.Rooms.{room-short, room_mono, room-below}
+use Rattle.iova_tree.proofs.Rooms.{room_mono, room-below}
 use Rattle.iova_tree.proofs.Spans.{end_after-middle, room_between-middle, with_span-before, with_span-behind, rising-front, rising-after, rising-without, with_span-front, with_span-later, rising_with, holds_above, rising-back}
 use Rattle.iova_tree.proofs.Fits.{highest_between-last}
 
@@ -87,7 +87,7 @@ some_end e [] k x r lt is = absurd (omega arith)
 some_end e (y ∷ l) zero x r lt is = rw is (omega (arith, r.1))
 some_end e (y ∷ l) (suc k) x r lt is = some_end y.end l k x r.2 (omega arith) is
 
-own_at : (e : ℕ) (l : List Span) (k : ℕ) (x : Span) → IsRisingFrom e l → k < length l → x ≡ slice_index_or l k x → x.lo < x.end
+pub own_at : (e : ℕ) (l : List Span) (k : ℕ) (x : Span) → IsRisingFrom e l → k < length l → x ≡ slice_index_or l k x → x.lo < x.end
 own_at e [] k x r lt is = absurd (omega arith)
 own_at e (y ∷ l) zero x r lt is = rw is r.1
 own_at e (y ∷ l) (suc k) x r lt is = own_at y.end l k x r.2 (omega arith) is
@@ -290,41 +290,24 @@ is_between l at x y z some lt own next free =
       until = first_lo-drop at l z lt next;
     }
 
-pub inserted_most : (l : List Span) (at : ℕ) (x y z : Span) → 1 ≤ at → at < length l → y ≡ slice_index_or l (at - 1) y → z ≡ slice_index_or l at z → IsRisingFrom 0 (insert l at x)
-    → room_between (insert l at x) ≤ room_between l
-inserted_most l at x y z some lt own next free =
+pub inserted_most : (l : List Span) (at : ℕ) (x : Span) → 1 ≤ at → at < length l → IsRisingFrom 0 (insert l at x) → room_between (insert l at x) ≤ room_between l
+inserted_most l at x some lt free =
+    let y = slice_index_or l (at - 1) x in
+    let z = slice_index_or l at x in
+    let own : y ≡ slice_index_or l (at - 1) y = get_or_default l (at - 1) x y (omega arith) in
+    let next : z ≡ slice_index_or l at z = get_or_default l at x z lt in
     let i = is_between l at x y z some lt own next free in
     rw (take-append-drop at l) at (room-inside_most (take at l) x (drop at l) i.front i.back i.low i.high i.own)
-
-pub inserted_inside : (l : List Span) (at : ℕ) (x y z : Span) → 1 ≤ at → at < length l → y ≡ slice_index_or l (at - 1) y → z ≡ slice_index_or l at z → IsRisingFrom 0 (insert l at x)
-    → room y.end z.lo < room_between l → room_between (insert l at x) ≡ room_between l
-inserted_inside l at x y z some lt own next free gap =
-    let i = is_between l at x y z some lt own next free in
-    let whole : take at l ++ drop at l ≡ l = take-append-drop at l in
-    room-inside (take at l) x (drop at l) i.front i.back i.low i.high i.own (rw (i.from, i.until, whole) gap) ∙ ap room_between whole
 
 -- The most room once the range at a place is gone.
 
 parts_at : (l : List Span) (at : ℕ) (x : Span) → at < length l → x ≡ slice_index_or l at x → l ≡ take at l ++ x ∷ drop (suc at) l
 parts_at l at x lt is = sym (take-append-drop at l) ∙ ap (λ (m : List Span). take at l ++ m) (drop-cons l at x lt ∙ ap (λ (y : Span). y ∷ drop (suc at) l) (sym is))
 
-pub removed_first : (l : List Span) (y z : Span) → 1 < length l → y ≡ slice_index_or l 0 y → z ≡ slice_index_or l 1 z → z.lo - y.end < room_between l → room_between (remove l 0) ≡ room_between l
-removed_first [] y z lt p q gap = absurd (omega arith)
-removed_first (x ∷ []) y z lt p q gap = absurd (omega arith)
-removed_first (x ∷ (k ∷ r)) y z lt p q gap =
-    let short = room-short x.end k.lo in
-    let g : k.lo - x.end < room_between (x ∷ (k ∷ r)) = rw (q, p) at gap in
-    omega arith
-
-pub removed_last : (l : List Span) (at : ℕ) (x y : Span) → 1 ≤ at → at + 1 ≡ length l → y ≡ slice_index_or l (at - 1) y → x ≡ slice_index_or l at x → x.lo - y.end < room_between l → room_between (remove l at) ≡ room_between l
-removed_last l at x y some is own last gap =
-    let n : length (take at l) ≡ at = length-take-le at l (omega arith) in
-    let e = end_after-front l at y some (omega arith) own in
-    let none : drop (suc at) l ≡ [] = drop_all (suc at) l (omega arith) in
-    let whole : l ≡ take at l ++ x ∷ [] = rw none at (parts_at l at x (omega arith) last) in
-    let r : room_between l ≡ max (room_between (take at l)) (room y.end x.lo) = rw e at (ap room_between whole ∙ room-last (take at l) x (omega arith)) in
-    let short = room-short y.end x.lo in
-    rw (none, append-nil (take at l)) (omega arith)
+removed_first : (l : List Span) → room_between (remove l 0) ≤ room_between l
+removed_first [] = omega arith
+removed_first (x ∷ []) = omega arith
+removed_first (x ∷ (k ∷ r)) = omega arith
 
 pub removed_inside : (l : List Span) (at : ℕ) (y z : Span) → 1 ≤ at → at + 1 < length l → y ≡ slice_index_or l (at - 1) y → z ≡ slice_index_or l (at + 1) z → IsRisingFrom 0 l
     → room_between (remove l at) ≡ max (room_between l) (room y.end z.lo)
@@ -352,10 +335,15 @@ around_apart l at y z rising some lt own next =
     let own = own_at 0 l at x rising (omega arith) is in
     omega arith
 
-pub removed_back : (l : List Span) (at : ℕ) → at + 1 ≡ length l → room_between (remove l at) ≤ room_between l
-removed_back l at last =
+removed_last : (l : List Span) (at : ℕ) → at + 1 ≡ length l → room_between (remove l at) ≤ room_between l
+removed_last l at last =
     let none : drop (suc at) l ≡ [] = drop_all (suc at) l (omega arith) in
     rw (none, append-nil (take at l)) (room-take at l)
+
+-- the first or the last
+pub removed_edge : (l : List Span) (at : ℕ) → (at ≡ 0) ⊎ (at + 1 ≡ length l) → room_between (remove l at) ≤ room_between l
+removed_edge l at (inl first) = rw first (removed_first l)
+removed_edge l at (inr last) = removed_last l at last
 
 -- no room is above the greatest size of a request
 room_after-bounded : (e : ℕ) (l : List Span) → room_after e l ≤ 1048576

@@ -1,18 +1,20 @@
 -- The range that a search between ranges takes.
-use Rattle.std.proofs.Common.{◌≡◌, ℕ, ◌+◌, ◌<◌, ◌≤◌, min, true, false, List, [], ◌∷◌, ◌++◌, length, Option, Some, None, refl, sym, ◌∙◌, arith}
-use Rattle.std.specs.Prelude.{nat_lt}
+use Rattle.std.proofs.Common.{◌≡◌, ℕ, ◌+◌, ◌-◌, ◌<◌, ◌≤◌, min, true, List, [], ◌∷◌, ◌++◌, length, slice_index_or, Option, Some, None, refl, sym, ap, ◌∙◌, arith}
+use Rattle.std.specs.Prelude.{nat_lt, insert}
 use Rattle.std.proofs.lemmas.Bool.Decides.{nat_tests}
-use Rattle.iova_tree.specs.Spans.{Span, IsRisingFrom, IsBefore, with_span, end_after, first_lo, first_or, room_between}
+use Rattle.iova_tree.specs.Spans.{Span, IsRisingFrom, IsBefore, with_span, end_after, first_lo, room_after, room_between, GoesIn}
 use Rattle.iova_tree.specs.declared.search.Wanted.{Wanted}
-use Rattle.iova_tree.specs.Room.{IsSettledRoom}
 use Rattle.iova_tree.specs.Fit.{IsWanted, higher, place, highest_after, highest_between, place_before, place_behind, taken, IsFound}
 use Rattle.iova_tree.specs.declared.search.Found.{Found}
 use Rattle.iova_tree.specs.declared.search.Found.TheVariants.{Nowhere, At, Taken}
-use Rattle.iova_tree.specs.Node.{node_spans, node_height, IsBalanced, IsSummedUp, TakesPlace}
+use Rattle.iova_tree.specs.Node.{node_spans, IsBalanced, IsSummedUp, TakesPlace}
 use Rattle.iova_tree.specs.declared.subtree.Node.{Node}
-use Rattle.iova_tree.proofs.Spans.{with_span-later, rising-end, rising-front, rising-after, rising-weaken, node-gaps, node-middle, first_below_end, before_all, length-with}
-use Rattle.iova_tree.proofs.Fits.{highest_between-node, IsPlace, IsGreatestPlace, place_greatest, wanted_align}
-use Rattle.iova_tree.proofs.Placed.{places_left, places_right, places_here, keeps_left, keeps_right, keeps_here}
+use Rattle.iova_tree.proofs.Spans.{with_span-later, rising-end, rising-front, rising-weaken, node-gaps, node-middle, first_below_end, before_all, length-with}
+use Rattle.std.proofs.lemmas.List.{get_or_default}
+use Rattle.iova_tree.proofs.Rooms.{room_mono}
+use Rattle.iova_tree.proofs.Blocks.{with_span-at, rising_sorted, own_at}
+use Rattle.iova_tree.proofs.Fits.{highest_between-node, IsPlace, place_greatest, wanted_align}
+use Rattle.iova_tree.proofs.Placed.{places_left, places_right, places_here}
 
 pub record ComesIn (w : Wanted) (e s : ℕ) (l : List Span) : Type 0 where
   pub rising : IsRisingFrom e (with_span (taken w s) l)
@@ -20,6 +22,7 @@ pub record ComesIn (w : Wanted) (e s : ℕ) (l : List Span) : Type 0 where
   pub low : e ≤ s
   pub high : s < end_after e l
   pub cap : s + w.size ≤ w.cap
+  pub room : room_after e (with_span (taken w s) l) ≤ room_after e l
 
 pub is_place : (w : Wanted) (from until s : ℕ) → IsWanted w → place from until w ≡ Some s → IsPlace w from until s
 is_place w from until s h is = (rw is at (place_greatest w from until (wanted_align w h))).0
@@ -38,18 +41,22 @@ comes_in w e (x ∷ l) s h r is = split (λ z found. comes_in w x.end l z h r.2 
           low = omega (arith, i.low, r.0, r.1);
           high = i.high;
           cap = i.cap;
+          room = rw later (omega (arith, i.room));
         }
     split rest None own found =
         let p = is_place w e (min x.lo w.cap) s h found in
         let some = h.some in
         let before : nat_lt s x.lo ≡ true = grind (arith, nat_tests, p.below) in
         let behind = rising-end x.end l r.2 in
+        let lower = room_mono e x.lo e s (omega arith) (omega (arith, p.below)) in
+        let upper = room_mono e x.lo (s + w.size) x.lo (omega (arith, p.above)) (omega arith) in
         record {
           rising = rw before (p.above, omega arith, (omega (arith, p.below), r.1, r.2));
           same_end = rw before refl;
           low = p.above;
           high = omega (arith, p.below, r.1);
           cap = omega (arith, p.below);
+          room = rw before (omega (arith, lower, upper));
         }
 
 -- between two neighbours it changes neither edge
@@ -60,6 +67,7 @@ pub record ComesBetween (w : Wanted) (s : ℕ) (l : List Span) : Type 0 where
   pub above : (e : ℕ) → IsRisingFrom e l → e ≤ s
   pub below : s < end_after 0 l
   pub cap : s + w.size ≤ w.cap
+  pub room : room_between (with_span (taken w s) l) ≤ room_between l
 
 pub comes_between : (w : Wanted) (l : List Span) (s : ℕ) → IsWanted w → IsRisingFrom 0 l → highest_between w l ≡ Some s → ComesBetween w s l
 comes_between w [] s h r is = absurd cc
@@ -73,7 +81,37 @@ comes_between w (x ∷ l) s h r is =
       above = λ e t. omega (arith, t.0, t.1, i.low);
       below = i.high;
       cap = i.cap;
+      room = rw later i.room;
     }
+
+-- the place where it comes in
+goes_at : (x : Span) (l : List Span) (at : ℕ) (y z : Span) → IsRisingFrom 0 l → IsRisingFrom 0 (with_span x l) → 1 ≤ at → at < length l → y ≡ slice_index_or l (at - 1) y → z ≡ slice_index_or l at z → y.end ≤ x.lo → x.lo ≤ z.lo
+    → insert l at x ≡ with_span x l
+goes_at x l at y z rising free some lt own next low high = with_span-at 0 x l at free (omega arith) below above
+  where
+    sorted : (i j : ℕ) (d : Span) → i ≤ j → j < length l → (slice_index_or l i d).lo ≤ (slice_index_or l j d).lo
+    sorted i j d le lt = rising_sorted 0 l rising i j d le lt
+
+    below : (k : ℕ) (d : Span) → k < at → (slice_index_or l k d).lo < x.lo
+    below k d h =
+        let s = sorted k (at - 1) d (omega arith) (omega arith) in
+        let e : (slice_index_or l (at - 1) d).lo ≡ y.lo = ap (λ (u : Span). u.lo) (get_or_default l (at - 1) d y (omega arith) ∙ sym own) in
+        let o = own_at 0 l (at - 1) y rising (omega arith) own in
+        omega arith
+
+    above : (k : ℕ) (d : Span) → at ≤ k → k < length l → x.lo ≤ (slice_index_or l k d).lo
+    above k d le h =
+        let s = sorted at k d le h in
+        let e : (slice_index_or l at d).lo ≡ z.lo = ap (λ (u : Span). u.lo) (get_or_default l at d z lt ∙ sym next) in
+        omega arith
+
+pub goes_in : (w : Wanted) (l : List Span) (at s : ℕ) (y z : Span) → IsWanted w → IsRisingFrom 0 l → 1 ≤ at → at < length l → y ≡ slice_index_or l (at - 1) y → z ≡ slice_index_or l at z
+    → place y.end (min z.lo w.cap) w ≡ Some s → highest_between w l ≡ Some s → GoesIn at (taken w s) l
+goes_in w l at s y z h r some lt own next here found =
+    let i = comes_between w l s h r found in
+    let p = is_place w y.end (min z.lo w.cap) s h here in
+    let is = goes_at (taken w s) l at y z r i.rising some lt own next p.above (omega (arith, p.below)) in
+    record { within = omega arith; is = is; room = rw is i.room }
 
 -- A node that takes it.
 
@@ -155,53 +193,36 @@ module _ (w : Wanted) (n : Node) (lo : ℕ) (b : IsBalanced 1 n) where
   pub whole_left : (o : Option ℕ) → highest_between w n.right.0 ≡ None → place_before w (end_after 0 n.block) n.right.0 ≡ None → highest_between w n.block ≡ None → place_behind w n.left.0 (first_lo n.block) ≡ None → highest_between w n.left.0 ≡ o → highest_between w (node_spans n) ≡ o
   whole_left o p q s u v = rw (parts, p, q, s, u, v) refl
 
--- The room of the node then.
+-- no gap of the node has more room then
+pub room_taken : (w : Wanted) (n m : Node) (lo : ℕ) → IsWanted w → IsBalanced 1 n → highest_between w (node_spans n) ≡ Some lo → TakesPlace (taken w lo) n m → room_between (node_spans m) ≤ room_between (node_spans n)
+room_taken w n m lo h b found t = rw t.spans (comes_between w (node_spans n) lo h b.rising found).room
 
-weaken : {n : Node} → IsBalanced 1 n → IsBalanced 2 n
-weaken {n} b = record { some = b.some; rising = b.rising; level = (omega (arith, b.level.0), omega (arith, b.level.1)) }
-
-first_same : (l m : List Span) → first_lo l ≡ first_lo m → first_or 0 l ≡ first_or 0 m
-first_same [] [] e = refl
-first_same [] (y ∷ m) e = e
-first_same (x ∷ l) [] e = e
-first_same (x ∷ l) (y ∷ m) e = e
-
-module _ (w : Wanted) (n : Node) (lo before was after now : ℕ) (h : IsWanted w) (b : IsBalanced 1 n) (found : highest_between w (node_spans n) ≡ Some lo) (whole : was ≡ room_between (node_spans n)) (s : IsSettledRoom before was after now) where
-  pub room_right : highest_between w n.right.0 ≡ Some lo → before ≡ room_between n.right.0 → after ≡ room_between (with_span (taken w lo) n.right.0) → now ≡ room_between (node_spans (record n { right = (with_span (taken w lo) n.right.0, n.right.1) }))
-  room_right here q e =
-      let i = comes_between w n.right.0 lo h (rising-after 0 n.block n.right.0 (rising-after 0 n.left.0 (n.block ++ n.right.0) b.rising)) here in
-      (keeps_right n was before b whole (with_span (taken w lo) n.right.0, n.right.1) n.right.1 (first_or 0 n.right.0) (Some now) (weaken (found_right w n lo h b found here).balanced) refl refl q (λ y. refl) (λ y. first_same (with_span (taken w lo) n.right.0) n.right.0 i.same_first) (rw e at s)).room
-
-  pub room_left : highest_between w n.left.0 ≡ Some lo → before ≡ room_between n.left.0 → after ≡ room_between (with_span (taken w lo) n.left.0) → now ≡ room_between (node_spans (record n { left = (with_span (taken w lo) n.left.0, n.left.1) }))
-  room_left here q e =
-      let i = comes_between w n.left.0 lo h (rising-front 0 n.left.0 (n.block ++ n.right.0) b.rising) here in
-      (keeps_left n was before b whole (with_span (taken w lo) n.left.0, n.left.1) n.left.1 (end_after 0 n.left.0) (Some now) (weaken (found_left w n lo h b found here).balanced) refl refl q (λ y. refl) (λ y. i.same_end) (rw e at s)).room
-
-  pub room_here : highest_between w n.block ≡ Some lo → before ≡ room_between n.block → after ≡ room_between (with_span (taken w lo) n.block) → now ≡ room_between (node_spans (record n { block = with_span (taken w lo) n.block }))
-  room_here here q e =
-      let i = comes_between w n.block lo h (node-middle n.left.0 n.block n.right.0 b.rising) here in
-      (keeps_here n was before b whole (with_span (taken w lo) n.block) (first_lo n.block) (end_after 0 n.block) (Some now) (weaken (found_here w n lo h b found here).balanced) refl refl q (λ y. i.same_first) (λ y. i.same_end) (rw e at s)).room
+-- where it was taken, or nothing has changed
+pub room_found : (w : Wanted) (n m : Node) (o : Found) → IsWanted w → IsBalanced 1 n → IsFound (highest_between w (node_spans n)) (m ≡ n) (λ lo. TakesPlace (taken w lo) n m) o → room_between (node_spans m) ≤ room_between (node_spans n)
+room_found w n m Nowhere h b f = rw f.1 (omega arith)
+room_found w n m (At lo) h b f = rw f.1 (omega arith)
+room_found w n m (Taken lo) h b f = room_taken w n m lo h b f.0 f.1
 
 -- what a link tells of the node, with the range
-pub summed_up : (w : Wanted) (n m : Node) (lo height room first end now : ℕ) → IsWanted w → IsSummedUp height room first end n → highest_between w (node_spans n) ≡ Some lo → TakesPlace (taken w lo) n m → now ≡ room_between (node_spans m) → IsSummedUp height now first end m
+pub summed_up : (w : Wanted) (n m : Node) (lo height room first end now : ℕ) → IsWanted w → IsSummedUp height room first end n → highest_between w (node_spans n) ≡ Some lo → TakesPlace (taken w lo) n m → room_between (node_spans m) ≤ now → IsSummedUp height now first end m
 summed_up w n m lo height room first end now h g found t is =
     let i = comes_between w (node_spans n) lo h g.balanced.rising found in
     record {
       balanced = t.balanced;
       height_is = rw t.height g.height_is;
-      room_is = is;
+      room_most = is;
       first_is = rw (t.spans, i.same_first) g.first_is;
       end_is = rw (t.spans, i.same_end) g.end_is;
       low = rw (t.height, t.spans) (omega (arith, g.low, length-with (taken w lo) (node_spans n)));
     }
 
-same : (w : Wanted) (n m : Node) (height room first end now : ℕ) → IsSummedUp height room first end n → m ≡ n → now ≡ room_between (node_spans m) → IsSummedUp height now first end m
+same : (w : Wanted) (n m : Node) (height room first end now : ℕ) → IsSummedUp height room first end n → m ≡ n → room_between (node_spans m) ≤ now → IsSummedUp height now first end m
 same w n m height room first end now g e is =
-    let room_is : now ≡ room_between (node_spans n) = rw e at is in
-    rw e (record { balanced = g.balanced; height_is = g.height_is; room_is = room_is; first_is = g.first_is; end_is = g.end_is; low = g.low })
+    let most : room_between (node_spans n) ≤ now = rw e at is in
+    rw e (record { balanced = g.balanced; height_is = g.height_is; room_most = most; first_is = g.first_is; end_is = g.end_is; low = g.low })
 
 -- the same where nothing has changed, or this range has come in
-pub summed_found : (w : Wanted) (n m : Node) (height room first end now : ℕ) (o : Found) → IsWanted w → IsSummedUp height room first end n → IsFound (highest_between w (node_spans n)) (m ≡ n) (λ lo. TakesPlace (taken w lo) n m) o → now ≡ room_between (node_spans m) → IsSummedUp height now first end m
+pub summed_found : (w : Wanted) (n m : Node) (height room first end now : ℕ) (o : Found) → IsWanted w → IsSummedUp height room first end n → IsFound (highest_between w (node_spans n)) (m ≡ n) (λ lo. TakesPlace (taken w lo) n m) o → room_between (node_spans m) ≤ now → IsSummedUp height now first end m
 summed_found w n m height room first end now Nowhere h g f is = same w n m height room first end now g f.1 is
 summed_found w n m height room first end now (At lo) h g f is = same w n m height room first end now g f.1 is
 summed_found w n m height room first end now (Taken lo) h g f is = summed_up w n m lo height room first end now h g f.0 f.1 is

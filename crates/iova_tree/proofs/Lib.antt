@@ -6,6 +6,7 @@ mod Rotations
 mod Root
 mod Blocks
 mod Placed
+mod Outside
 mod Taken
 mod Fits
 mod Found

@@ -1,11 +1,9 @@
 -- A node after a range has come in.
-use Rattle.std.proofs.Common.{◌≡◌, ◌∙◌, ℕ, ◌+◌, ◌<◌, ◌≤◌, max, List, [], ◌++◌, length, Option, Some, None, refl, sym, arith, append_assoc}
-use Rattle.std.specs.Prelude.{IsSome, IfSome}
-use Rattle.iova_tree.specs.Spans.{Span, IsRisingFrom, IsBefore, with_span, first_lo, end_after, room_between, room_below, room_after, first_or}
-use Rattle.iova_tree.specs.Room.{IsSettledRoom}
+use Rattle.std.proofs.Common.{◌≡◌, ℕ, ◌+◌, ◌<◌, ◌≤◌, max, List, [], ◌++◌, length, refl, sym, arith, append_assoc}
+use Rattle.iova_tree.specs.Spans.{Span, IsRisingFrom, IsBefore, with_span, first_lo, end_after, room_between}
 use Rattle.iova_tree.specs.Node.{node_spans, IsBalanced, Grows, KeepsHeight, DifferByAtMost, IsHeightAfterRebalance}
 use Rattle.iova_tree.specs.declared.subtree.Node.{Node}
-use Rattle.iova_tree.proofs.Spans.{rising-front, rising-after, end_some, before_all, with_span-left, with_span-right, with_span-here, node-gaps, node-middle, length-with, room_between-node, room_below-edge, edge_below, edge_below-same, room_after-edge, edge_after, edge_after-same}
+use Rattle.iova_tree.proofs.Spans.{rising-front, rising-after, before_all, with_span-left, with_span-right, with_span-here, node-gaps, node-middle, length-with, room_between-node, room_between-below, room_between-after}
 
 pub free_left : (x : Span) (n : Node) → x.lo < first_lo n.block → IsBalanced 1 n → IsRisingFrom 0 (with_span x (node_spans n)) → IsRisingFrom 0 (with_span x n.left.0)
 free_left x n p b s = rising-front 0 (with_span x n.left.0) _ (rw (with_span-left x n.left.0 n.block n.right.0 b.some p) at s)
@@ -78,53 +76,24 @@ places_split x n low high r b le before s parts some e h q =
       settles = λ z w. settles_right n.left.1 n.right.1 r.1 z b.level h q w;
     }
 
--- What a node knows of its ranges, where one part has changed and ends where it did.
+-- What is known of a node of which one part has changed.
 
-module _ (n : Node) (was before : ℕ) (b : IsBalanced 1 n) (whole : was ≡ room_between (node_spans n)) where
-  pub keeps_left : (l : List Span × ℕ) (height end : ℕ) (o : Option ℕ) → IsBalanced 2 (record n { left = l }) → height ≡ n.left.1 → end ≡ end_after 0 n.left.0 → before ≡ room_between n.left.0
-      → (IsSome o → l.1 ≡ height) → (IsSome o → end_after 0 l.0 ≡ end) → IfSome o (IsSettledRoom before was (room_between l.0)) → IfSome o (KeepsHeight n (record n { left = l }))
-  keeps_left l height end None p h e q same_height same_end s = tt
-  keeps_left l height end (Some now) p h e q same_height same_end s =
-      let lo = first_lo n.block in
-      let rest = max (edge_below lo n.left.0) (max (room_between n.block) (room_after (end_after 0 n.block) n.right.0)) in
-      let same = edge_below-same lo l.0 n.left.0 (rising-front 0 l.0 _ p.rising) (rising-front 0 n.left.0 _ b.rising) (same_end refl ∙ e) in
-      let high : l.1 ≡ n.left.1 = same_height refl ∙ h in
-      let old : was ≡ max before rest = omega (arith, whole, q, room_between-node n.left.0 n.block n.right.0 b.some, room_below-edge lo n.left.0) in
-      record {
-        height = rw high refl;
-        room = omega (arith, s rest old, same, room_between-node l.0 n.block n.right.0 b.some, room_below-edge lo l.0);
-        balanced = record { some = b.some; rising = p.rising; level = rw high b.level };
-      }
+pub keeps_left : (n : Node) (l : List Span × ℕ) (most : ℕ) → IsBalanced 1 n → IsBalanced 2 (record n { left = l }) → l.1 ≡ n.left.1 → room_between (node_spans (record n { left = l })) ≤ most → KeepsHeight n (record n { left = l }) most
+keeps_left n l most b p k r = record { height = rw k refl; room = r; balanced = record { some = b.some; rising = p.rising; level = rw k b.level } }
 
-  pub keeps_right : (r : List Span × ℕ) (height first : ℕ) (o : Option ℕ) → IsBalanced 2 (record n { right = r }) → height ≡ n.right.1 → first ≡ first_or 0 n.right.0 → before ≡ room_between n.right.0
-      → (IsSome o → r.1 ≡ height) → (IsSome o → first_or 0 r.0 ≡ first) → IfSome o (IsSettledRoom before was (room_between r.0)) → IfSome o (KeepsHeight n (record n { right = r }))
-  keeps_right r height first None p h f q same_height same_first s = tt
-  keeps_right r height first (Some now) p h f q same_height same_first s =
-      let lo = first_lo n.block in
-      let end = end_after 0 n.block in
-      let above = end_some 0 n.block (node-middle n.left.0 n.block n.right.0 b.rising) b.some in
-      let rest = max (edge_after end n.right.0) (max (room_between n.block) (room_below lo n.left.0)) in
-      let same = edge_after-same end r.0 n.right.0 above (node-gaps n.left.0 n.block r.0 b.some p.rising).1 (node-gaps n.left.0 n.block n.right.0 b.some b.rising).1 (same_first refl ∙ f) in
-      let high : r.1 ≡ n.right.1 = same_height refl ∙ h in
-      let old : was ≡ max before rest = omega (arith, whole, q, room_between-node n.left.0 n.block n.right.0 b.some, room_after-edge end n.right.0) in
-      record {
-        height = rw high refl;
-        room = omega (arith, s rest old, same, room_between-node n.left.0 n.block r.0 b.some, room_after-edge end r.0);
-        balanced = record { some = b.some; rising = p.rising; level = rw high b.level };
-      }
+pub keeps_right : (n : Node) (r : List Span × ℕ) (most : ℕ) → IsBalanced 1 n → IsBalanced 2 (record n { right = r }) → r.1 ≡ n.right.1 → room_between (node_spans (record n { right = r })) ≤ most → KeepsHeight n (record n { right = r }) most
+keeps_right n r most b p k q = record { height = rw k refl; room = q; balanced = record { some = b.some; rising = p.rising; level = rw k b.level } }
 
-  pub keeps_here : (k : List Span) (first end : ℕ) (o : Option ℕ) → IsBalanced 2 (record n { block = k }) → first ≡ first_lo n.block → end ≡ end_after 0 n.block → before ≡ room_between n.block
-      → (IsSome o → first_lo k ≡ first) → (IsSome o → end_after 0 k ≡ end) → IfSome o (IsSettledRoom before was (room_between k)) → IfSome o (KeepsHeight n (record n { block = k }))
-  keeps_here k first end None p f e q same_first same_end s = tt
-  keeps_here k first end (Some now) p f e q same_first same_end s =
-      let rest = max (room_below (first_lo n.block) n.left.0) (room_after (end_after 0 n.block) n.right.0) in
-      let old : was ≡ max before rest = omega (arith, whole, q, room_between-node n.left.0 n.block n.right.0 b.some) in
-      let node = rw (same_first refl ∙ f, same_end refl ∙ e) at (room_between-node n.left.0 k n.right.0 p.some) in
-      record {
-        height = refl;
-        room = omega (arith, s rest old, node);
-        balanced = record { some = p.some; rising = p.rising; level = b.level };
-      }
+pub keeps_here : (n : Node) (k : List Span) (most : ℕ) → IsBalanced 1 n → IsBalanced 2 (record n { block = k }) → room_between (node_spans (record n { block = k })) ≤ most → KeepsHeight n (record n { block = k }) most
+keeps_here n k most b p r = record { height = refl; room = r; balanced = record { some = p.some; rising = p.rising; level = b.level } }
+
+-- The room of the parts of a node.
+
+pub room_left : (n : Node) → 0 < length n.block → room_between n.left.0 ≤ room_between (node_spans n)
+room_left n some = omega (arith, room_between-node n.left.0 n.block n.right.0 some, room_between-below (first_lo n.block) n.left.0)
+
+pub room_right : (n : Node) → 0 < length n.block → room_between n.right.0 ≤ room_between (node_spans n)
+room_right n some = omega (arith, room_between-node n.left.0 n.block n.right.0 some, room_between-after (end_after 0 n.block) n.right.0)
 
 -- Where a range goes that goes to neither side.
 

@@ -1,5 +1,5 @@
 -- The tree once a request has taken its place.
-use Rattle.std.proofs.Common.{◌≡◌, ℕ, ◌+◌, ◌^◌, ◌<◌, ◌≤◌, min, List, Option, Some, sym, ◌∙◌, arith}
+use Rattle.std.proofs.Common.{◌≡◌, ℕ, ◌+◌, min, List, Some, sym, ◌∙◌}
 use Rattle.iova_range.specs.Frames.{Frames}
 use Rattle.iova_range.specs.Bounds.{Extent}
 use Rattle.iova_model.specs.Fit.{best}
@@ -8,7 +8,7 @@ use Rattle.iova_model.proofs.Placing.{best-from, best-place}
 use Rattle.iova_tree.specs.declared.search.Wanted.{Wanted}
 use Rattle.iova_tree.specs.Fit.{IsWanted, highest_free, taken}
 use Rattle.iova_tree.specs.Spans.{Span, inserted_of, with_span}
-use Rattle.iova_tree.specs.Space.{IsInside, IsTreeKept, ranges_of, space_of}
+use Rattle.iova_tree.specs.Space.{IsTreeKept, ranges_of, space_of}
 use Rattle.iova_tree.proofs.Allocated.{kept_space}
 use Rattle.iova_tree.proofs.Fits.{highest_free-best}
 use Rattle.iova_tree.proofs.Kept.{best_kept, kept_insert, inserted_with}

@@ -42,7 +42,7 @@ pub record IsBalanced (by : ℕ) (n : Node) : Type 0 where
 pub record IsSummedUp (height room first end : ℕ) (n : Node) : Type 0 where
   pub balanced : IsBalanced 1 n
   pub height_is : height ≡ node_height n
-  pub room_is : room ≡ room_between (node_spans n)
+  pub room_most : room_between (node_spans n) ≤ room
   pub first_is : first ≡ first_lo (node_spans n)
   pub end_is : end ≡ end_after 0 (node_spans n)
   pub low : IsLow (node_spans n) (node_height n)
@@ -92,10 +92,10 @@ pub record Grows (spans : List Span) (n m : Node) : Type 0 where
   pub at_most_one_higher : node_height m ≤ node_height n + 1
   pub settles : (h : ℕ) → IsHeightAfterRebalance m.left.1 m.right.1 h → node_height n ≤ h
 
--- the node m has the height of n and so much room, and is balanced
+-- the node m has the height of n and no more room than `most`, and is balanced
 pub record KeepsHeight (n m : Node) (most : ℕ) : Type 0 where
   pub height : node_height m ≡ node_height n
-  pub room : most ≡ room_between (node_spans m)
+  pub room : room_between (node_spans m) ≤ most
   pub balanced : IsBalanced 1 m
 
 -- the node m has one range more than n, and stands as high

@@ -1,5 +1,5 @@
 -- The greatest size that fits aligned into a gap.
-use Rattle.std.specs.Prelude.{ℕ, ◌≡◌, ◌+◌, ◌-◌, ◌*◌, ◌/◌, ◌%◌, ◌≤◌, ◌&&◌, max, Bool, nat_le, Option, Some, None}
+use Rattle.std.specs.Prelude.{ℕ, ◌≡◌, ◌+◌, ◌-◌, ◌*◌, ◌/◌, ◌%◌, ◌≤◌, ◌&&◌, Bool, nat_le, Option, Some, None}
 use Rattle.iova_range.specs.Sizes.{align_of}
 use Rattle.iova_model.specs.Fit.{greatest}
 
@@ -25,9 +25,3 @@ room_for sizes from until = or_zero (greatest (fits_between from until) sizes)
 -- and below `until`, or 0
 unfoldable pub room : ℕ → ℕ → ℕ
 room from until = room_for 1048577 from until
-
--- the whole, which had this room while a part had `before` of it, has `now` where the part has
--- `after`
-abbrev pub IsSettledRoom : ℕ → ℕ → ℕ → ℕ → Type 0
-IsSettledRoom before room after now =
-    (rest : ℕ) → room ≡ max before rest → now ≡ max after rest

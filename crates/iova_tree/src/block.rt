@@ -1,13 +1,12 @@
 //! Ranges that rise apart, side by side in a block: what a node of the tree holds.
-ghost use Rattle.std.specs.Prelude.{◌≡◌, ◌<◌, ◌≤◌, ◌-◌, [], ◌∷◌, ◌++◌, length, true, false, insert, remove, IfSome, IfNone, IsSome};
-ghost use Rattle.iova_tree.specs.Room.{room, IsSettledRoom};
-ghost use Rattle.iova_tree.specs.Spans.{Span as Seen, first_lo, end_after, room_between, with_span, without_span, with_replaced, has_frame, is_taken_between, all_of, inserted_of, IsRisingFrom, Holds, StandsHere};
+ghost use Rattle.std.specs.Prelude.{◌≡◌, ◌<◌, ◌≤◌, ◌-◌, [], ◌∷◌, ◌++◌, length, true, false, insert, remove, Some, None, IfSome, IfNone, IsSome};
+ghost use Rattle.iova_tree.specs.Spans.{Span as Seen, first_lo, end_after, room_between, with_span, without_span, with_replaced, has_frame, is_taken_between, all_of, inserted_of, IsRisingFrom, Holds, StandsHere, GoesIn};
 ghost use Rattle.std.specs.List.{list_any};
 ghost use Rattle.iova_range.specs.Frames.{meets};
 ghost use Rattle.iova_model.specs.Fit.{is_covered};
 ghost use Rattle.iova_tree.specs.Fit.{IsWanted, IsFound, highest_between, taken};
 
-use crate::room::{room_above, room_of, room_with, settled};
+use crate::room::{room_above, room_with};
 use crate::search::{Found, Wanted, place_between};
 use crate::span::Span;
 use arrayvec::ArrayVec;
@@ -20,8 +19,8 @@ pub const BLOCK: usize = 24;
 // The most room that a gap may have.
 const MOST_ROOM: u32 = MAX_FRAMES as u32;
 
-/// Ranges that rise apart, at most `BLOCK`, with the greatest size that fits aligned between two
-/// neighbours.
+/// Ranges that rise apart, at most `BLOCK`, with a bound: no greater size fits aligned between two
+/// neighbours. It may be too great once a range has come in, until a search finds nothing.
 #[derive(Drop)]
 pub struct Block {
     spans: ArrayVec<Span, BLOCK>,
@@ -29,7 +28,7 @@ pub struct Block {
 }
 
 impl Model for Block {
-    ghost use Rattle.std.specs.Prelude.{◌≡◌, List};
+    ghost use Rattle.std.specs.Prelude.{◌≤◌, List};
     ghost use Rattle.iova_tree.specs.Spans.{Span as Seen, IsRisingFrom, room_between};
 
     ghost Value = { List Seen };
@@ -37,7 +36,7 @@ impl Model for Block {
     ghost view = { λ b. b.spans.items };
 
     ghost invariant = { λ b. IsRisingFrom 0 b.spans.items
-        × (b.room ≡ room_between b.spans.items) };
+        × (room_between b.spans.items ≤ b.room) };
 }
 
 impl Block {
@@ -90,27 +89,12 @@ impl Block {
         spans[spans.len() - 1].end()
     }
 
-    /// The most room between two neighbours.
+    /// No size above it fits between two neighbours.
     #[inline]
     pub fn room(&self) -> u32
-        ensures { result ≡ room_between self.now }
+        ensures { room_between self.now ≤ result }
     {
         self.room
-    }
-
-    /// The room of a node, where it follows from this block alone, or else None. It was `room`
-    /// while the block had `before`, and began and ended there.
-    #[inline]
-    pub fn settled_within(&self, first: u64, end: u64, before: u32, room: u32) -> Option<u32>
-        requires { 0 < length self.now }
-        ensures first { IsSome result → first_lo self.now ≡ first }
-        ensures end { IsSome result → end_after 0 self.now ≡ end }
-        ensures room { IfSome result (IsSettledRoom before room (room_between self.now)) }
-    {
-        if self.first() != first || self.end() != end {
-            return None;
-        }
-        settled(before, room, self.room)
     }
 
     /// The highest place between two neighbours.
@@ -122,7 +106,10 @@ impl Block {
         if (self.room as u64) < wanted.size {
             return None;
         }
-        highest_of(self.spans.as_slice(), wanted)
+        match highest_of(self.spans.as_slice(), wanted) {
+            Some((_, lo)) => Some(lo),
+            None => None,
+        }
     }
 
     /// Takes the highest place between two neighbours, where the block has room for a range.
@@ -133,13 +120,18 @@ impl Block {
         ensures { IsFound (highest_between wanted.now self.old) (self.new ≡ self.old)
             (λ lo. self.new ≡ with_span (taken wanted.now lo) self.old) result }
     {
-        let Some(lo) = self.highest_between(wanted) else {
+        if (self.room as u64) < wanted.size {
+            return Found::Nowhere;
+        }
+        let Some((at, lo)) = highest_of(self.spans.as_slice(), wanted) else {
+            self.room = room_of_all(self.spans.as_slice(), self.room);
             return Found::Nowhere;
         };
         if self.is_full() {
             return Found::At(lo);
         }
-        self.insert(Span::new(lo, lo + wanted.size, false));
+        self.spans
+            .insert(at, Span::new(lo, lo + wanted.size, false));
         Found::Taken(lo)
     }
 
@@ -151,12 +143,9 @@ impl Block {
     {
         let spans = self.spans.as_slice();
         let at = place_of(spans, span.lo());
-        let known = room_with_one(spans, at, span, self.room);
+        let room = room_with_one(spans, at, span, self.room);
         self.spans.insert(at, span);
-        self.room = match known {
-            Some(room) => room,
-            None => room_of_all(self.spans.as_slice(), self.room),
-        };
+        self.room = room;
     }
 
     /// Takes out the range that begins at `lo`.
@@ -168,12 +157,9 @@ impl Block {
     {
         let spans = self.spans.as_slice();
         let at = place_of(spans, lo);
-        let known = room_without(spans, at, self.room);
+        let room = room_without(spans, at, self.room);
         let gone = self.spans.remove(at);
-        self.room = match known {
-            Some(room) => room,
-            None => room_of_all(self.spans.as_slice(), self.room),
-        };
+        self.room = room;
         gone
     }
 
@@ -260,87 +246,54 @@ fn place_of(spans: &[Span], lo: u64) -> usize
     spans.partition_point(|span| span.lo() < lo)
 }
 
-// The most room between two neighbours once `span` comes in at this place, where it is known
-// without a look at all of them.
+// A bound for the room between two neighbours once `span` comes in at this place: two gaps that lie
+// in one have no more room.
 #[inline]
-fn room_with_one(spans: &[Span], at: usize, span: Span, known: u32) -> Option<u32>
+fn room_with_one(spans: &[Span], at: usize, span: Span, known: u32) -> u32
     requires within { at ≤ length spans.now }
-    requires known { known ≡ room_between spans.now }
+    requires known { room_between spans.now ≤ known }
     requires rising { IsRisingFrom 0 spans.now }
     requires free { IsRisingFrom 0 (insert spans.now at span) }
-    ensures found { IfSome result (λ room. room ≡ room_between (insert spans.now at span)) }
-    ensures most { IfNone result (room_between (insert spans.now at span) ≤ known) }
+    ensures { room_between (insert spans.now at span) ≤ result }
 {
     if spans.is_empty() {
-        return Some(0);
+        return 0;
     }
     if at == 0 {
-        return Some(room_with(known, span.end(), spans[0].lo()));
+        return room_with(known, span.end(), spans[0].lo());
     }
-    let from = spans[at - 1].end();
     if at == spans.len() {
-        return Some(room_with(known, from, span.lo()));
+        return room_with(known, spans[at - 1].end(), span.lo());
     }
-    if is_below(known, from, spans[at].lo()) {
-        Some(known)
-    } else {
-        None
-    }
+    known
 }
 
-// Whether the room of the frames from `from` on and below `until` is less than `known`.
+// A bound for the room between two neighbours once the range at this place is gone: one gap more
+// than before may have more room, where two were.
 #[inline]
-fn is_below(known: u32, from: u64, until: u64) -> bool
-    requires some { 1 ≤ from }
-    requires apart { from ≤ until }
-    ensures { result ≡ true → room from until < known }
-{
-    until - from < known as u64 || room_of(from, until) < known
-}
-
-// The most room between two neighbours once the range at this place is gone, where it is known
-// without a look at all of them.
-#[inline]
-fn room_without(spans: &[Span], at: usize, known: u32) -> Option<u32>
+fn room_without(spans: &[Span], at: usize, known: u32) -> u32
     requires within { at < length spans.now }
-    requires known { known ≡ room_between spans.now }
+    requires known { room_between spans.now ≤ known }
     requires rising { IsRisingFrom 0 spans.now }
-    ensures found { IfSome result (λ room. room ≡ room_between (remove spans.now at)) }
-    ensures most { IfNone result (room_between (remove spans.now at) ≤ known) }
+    ensures { room_between (remove spans.now at) ≤ result }
 {
-    let count = spans.len();
-    if count == 1 {
-        return Some(0);
+    if at == 0 || at + 1 == spans.len() {
+        return known;
     }
-    if at == 0 {
-        let gap = spans[1].lo() - spans[0].end();
-        return if gap < known as u64 {
-            Some(known)
-        } else {
-            None
-        };
-    }
-    let from = spans[at - 1].end();
-    if at + 1 == count {
-        let gap = spans[at].lo() - from;
-        return if gap < known as u64 {
-            Some(known)
-        } else {
-            None
-        };
-    }
-    Some(room_with(known, from, spans[at + 1].lo()))
+    room_with(known, spans[at - 1].end(), spans[at + 1].lo())
 }
 
-// The highest place between two neighbours of these.
-fn highest_of(spans: &[Span], wanted: &Wanted) -> Option<u64>
+// The highest place between two neighbours of these, and how many of them lie below it.
+fn highest_of(spans: &[Span], wanted: &Wanted) -> Option<(usize, u64)>
     requires wanted { IsWanted wanted.now }
     requires rising { IsRisingFrom 0 spans.now }
-    ensures { result ≡ highest_between wanted.now spans.now }
+    ensures none { IfNone result (highest_between wanted.now spans.now ≡ None) }
+    ensures found { IfSome result (λ found. highest_between wanted.now spans.now ≡ Some found.1) }
+    ensures place { IfSome result (λ found. GoesIn found.0 (taken wanted.now found.1) spans.now) }
 {
     for at in (1..spans.len()).rev() {
-        if let Some(place) = place_between(spans[at - 1].end(), spans[at].lo(), wanted) {
-            return Some(place);
+        if let Some(lo) = place_between(spans[at - 1].end(), spans[at].lo(), wanted) {
+            return Some((at, lo));
         }
     }
     None

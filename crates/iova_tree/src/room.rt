@@ -1,6 +1,6 @@
 //! The greatest size that fits aligned into a gap.
 ghost use Rattle.std.specs.Prelude.{◌≡◌, ◌+◌, ◌^◌, ◌≤◌, ◌<◌, max, ℕ, IfSome, IfNone};
-ghost use Rattle.iova_tree.specs.Room.{room, FitsBetween, IsSettledRoom};
+ghost use Rattle.iova_tree.specs.Room.{room, FitsBetween};
 
 use iova_range::limits::MAX_FRAMES;
 
@@ -58,21 +58,6 @@ pub fn room_with(known: u32, from: u64, until: u64) -> u32
     match room_above(known, from, until) {
         Some(more) => more,
         None => known,
-    }
-}
-
-/// The result of the room of the whole, where a part had `before` of it and has `after`: None where
-/// that hangs on the other parts.
-#[inline]
-pub fn settled(before: u32, room: u32, after: u32) -> Option<u32>
-    ensures { IfSome result (IsSettledRoom before room after) }
-{
-    if after >= room {
-        Some(after)
-    } else if before < room {
-        Some(room)
-    } else {
-        None
     }
 }
 

@@ -1,20 +1,21 @@
 //! A balanced tree of blocks of ranges that rise apart. A link knows of the ranges below it where
-//! they begin and end, how high their nodes stand, and the greatest size that fits aligned into a
-//! gap between two neighbours: so a search enters no part of the tree in which nothing fits.
+//! they begin and end, how high their nodes stand, and a bound for the sizes that fit aligned into a
+//! gap between two neighbours. A range that comes in leaves the bounds as they are. So a bound may
+//! be too great, and a search that finds nothing below a link lowers the link's.
 ghost use Rattle.std.specs.Prelude.{◌≡◌, ◌+◌, ◌^◌, ◌<◌, ◌≤◌, max, [], ◌∷◌, ◌++◌, ◌-◌};
-ghost use Rattle.std.specs.Prelude.{true, false, length, IfOk, OnOk, OnErr, IfSome, IfNone, Some, None, IsSome, ℕ};
+ghost use Rattle.std.specs.Prelude.{true, false, length, IfOk, OnOk, OnErr, IfSome, IfNone, Some, None, IsSome, ℕ, List};
 ghost use Rattle.std.specs.Int.{IsPowerOfTwo};
 ghost use Rattle.std.specs.List.{list_any};
 ghost use Rattle.iova_range.specs.Frames.{meets};
 ghost use Rattle.iova_model.specs.Fit.{is_covered};
-ghost use Rattle.iova_tree.specs.Spans.{all_of, inserted_of, first_lo, first_or, end_after, room_after, room_below, room_between, with_span, with_replaced, IsRisingFrom, Holds, IsBefore, IsLow};
+ghost use Rattle.iova_tree.specs.Spans.{Span as Seen};
+ghost use Rattle.iova_tree.specs.Spans.{all_of, inserted_of, first_lo, first_or, end_after, room_after, room_below, room_between, with_span, with_replaced, IsRisingFrom, Holds, IsBefore, IsLow, KeepsEdges};
 ghost use Rattle.iova_tree.specs.Fit.{IsWanted, IsFound, taken, place_before, place_behind, highest_between, highest_free};
-ghost use Rattle.iova_tree.specs.Room.{IsSettledRoom};
 ghost use Rattle.iova_tree.specs.Node.{node_height, node_spans, link_spans, link_height, IsSubtree, IsUnsettled, IsSettledHeight, IsSingle, IsBalanced, Rebalances, IsRootOf, Grows, KeepsHeight, TakesPlace, TakesFirst, TakesBelow, Replaces, DifferByAtMost, IsHeightOfBoth};
 
 use crate::block::{BLOCK, Block};
-use crate::room::{room_with, settled};
-use crate::search::{Found, Wanted, place_in};
+use crate::room::room_with;
+use crate::search::{Found, Wanted, place_between, place_in};
 use crate::span::Span;
 use std::alloc::{AllocError, Global};
 use std::marker::Model;
@@ -28,7 +29,7 @@ pub struct Subtree {
 }
 
 /// The way to a node, and what is known of the ranges below: how many nodes stand on one another,
-/// the greatest size that fits aligned between two neighbours, where the first range begins and
+/// a bound for the sizes that fit aligned between two neighbours, where the first range begins and
 /// where the last ends.
 ///
 /// Height and room lie in the eight bytes of the tag. They are 0 where there is no node, in the
@@ -130,10 +131,10 @@ impl Subtree {
         }
     }
 
-    // The most room between two neighbours.
+    // No size above it fits between two neighbours.
     #[inline]
     fn room(&self) -> u32
-        ensures { result ≡ room_between self.now.0 }
+        ensures { room_between self.now.0 ≤ result }
     {
         match &self.link {
             Link::Empty { room, .. } | Link::Rooted { room, .. } => *room,
@@ -167,33 +168,6 @@ impl Subtree {
             Link::Empty { .. } => known,
             Link::Rooted { end, .. } => room_with(known, *end, lo),
         }
-    }
-
-    // The room of a node, where it follows from this lower side alone, or else None. It was `room`
-    // while this side had `before`, stood this high and ended there.
-    #[inline]
-    fn settled_below(&self, height: u8, end: u64, before: u32, room: u32) -> Option<u32>
-        ensures height { IsSome result → self.now.1 ≡ height }
-        ensures end { IsSome result → end_after 0 self.now.0 ≡ end }
-        ensures room { IfSome result (IsSettledRoom before room (room_between self.now.0)) }
-    {
-        if self.height() != height || self.end_or(0) != end {
-            return None;
-        }
-        settled(before, room, self.room())
-    }
-
-    // What `settled_below` answers, of an upper side that began at `first`.
-    #[inline]
-    fn settled_above(&self, height: u8, first: u64, before: u32, room: u32) -> Option<u32>
-        ensures height { IsSome result → self.now.1 ≡ height }
-        ensures first { IsSome result → first_or 0 self.now.0 ≡ first }
-        ensures room { IfSome result (IsSettledRoom before room (room_between self.now.0)) }
-    {
-        if self.height() != height || self.first_or(0) != first {
-            return None;
-        }
-        settled(before, room, self.room())
     }
 
     // Lets a range in. It doesn't where the range wants a node and there is no spare one: then
@@ -281,43 +255,56 @@ impl Subtree {
         first
     }
 
-    // Takes out the range that begins at `lo`.
+    // Takes out the range that begins at `lo`, which `gone` is then. Where the subtree stands as high
+    // as before, it tells whether it begins and ends where it did.
     #[cycle(take)]
-    fn take(&mut self, lo: u64) -> Span
+    fn take(&mut self, lo: u64, gone: &mut Span) -> Option<bool>
         requires held { Holds lo self.old.0 }
         requires height_fits { self.old.1 < 2 ^ 7 }
-        ensures begins { result.lo ≡ lo }
-        ensures taken { self.old.0 ≡ with_span result self.new.0 }
+        ensures begins { gone.new.lo ≡ lo }
+        ensures taken { self.old.0 ≡ with_span gone.new self.new.0 }
         ensures not_higher { self.new.1 ≤ self.old.1 }
         ensures at_most_one_lower { self.old.1 ≤ self.new.1 + 1 }
+        ensures level { IfSome result (λ same. self.new.1 ≡ self.old.1) }
+        ensures same { IfSome result (λ same. same ≡ true → KeepsEdges self.old.0 self.new.0) }
     {
         let Link::Rooted {
+            height,
             room,
             first,
             end,
             root,
-            ..
         } = &mut self.link
         else {
             unreachable!()
         };
         if root.block.is_only(lo) {
             let sides = take_sides(root);
-            let gone = root.block.remove(lo);
+            *gone = root.block.remove(lo);
             *self = sides;
-            return gone;
+            return None;
         }
-        let (gone, known) = take_below(root, lo, *room);
-        let Some(now) = known else {
+        let Some((now, same)) = take_below(root, lo, gone, *room) else {
+            let before = *height;
             renew(&mut self.link);
-            return gone;
+            return if self.height() == before {
+                Some(false)
+            } else {
+                None
+            };
         };
         // for the proof: the node is low
         let _height = root.height();
         *room = now;
-        *first = root.first();
-        *end = root.last_end();
-        gone
+        if same {
+            return Some(true);
+        }
+        let begins = root.first();
+        let ends = root.last_end();
+        let is_same = *first == begins && *end == ends;
+        *first = begins;
+        *end = ends;
+        Some(is_same)
     }
 
     // Puts a range in the place of the one that begins at `lo`.
@@ -355,8 +342,10 @@ impl Subtree {
         root.highest_within(wanted)
     }
 
-    // Takes the highest place between two neighbours, where its block has room for a range.
+    // Takes the highest place between two neighbours, where its block has room for a range. A link
+    // below which nothing fits costs no call.
     #[cycle(take_within)]
+    #[inline(always)]
     fn take_within(&mut self, wanted: &Wanted) -> Found
         requires { IsWanted wanted.now }
         ensures { IsFound (highest_between wanted.now self.old.0) (self.new ≡ self.old)
@@ -377,32 +366,32 @@ impl Subtree {
         if wanted.cap <= *first {
             return Found::Nowhere;
         }
-        let (found, now) = take_between(root, wanted, *room);
-        *room = now;
-        found
+        take_between(root, wanted, room)
     }
 
     // The place below the lowest range and above `from`.
     #[inline]
     fn place_before(&self, from: u64, wanted: &Wanted) -> Option<u64>
-        requires { IsPowerOfTwo wanted.now.align }
+        requires wanted { IsWanted wanted.now }
+        requires rising { IsRisingFrom from self.now.0 }
         ensures { result ≡ place_before wanted.now from self.now.0 }
     {
         match &self.link {
             Link::Empty { .. } => None,
-            Link::Rooted { first, .. } => place_in(from, (*first).min(wanted.cap), wanted),
+            Link::Rooted { first, .. } => place_between(from, *first, wanted),
         }
     }
 
     // The place after the highest range and below `lo`.
     #[inline]
     fn place_behind(&self, lo: u64, wanted: &Wanted) -> Option<u64>
-        requires { IsPowerOfTwo wanted.now.align }
+        requires wanted { IsWanted wanted.now }
+        requires apart { end_after 0 self.now.0 ≤ lo }
         ensures { result ≡ place_behind wanted.now self.now.0 lo }
     {
         match &self.link {
             Link::Empty { .. } => None,
-            Link::Rooted { end, .. } => place_in(*end, lo.min(wanted.cap), wanted),
+            Link::Rooted { end, .. } => place_between(*end, lo, wanted),
         }
     }
 
@@ -479,7 +468,9 @@ impl Subtree {
     {
         // for the proof: a subtree of so many ranges is low
         let _link = &self.link;
-        self.take(lo)
+        let mut gone = Span::new(0, 0, false);
+        let _ = self.take(lo, &mut gone);
+        gone
     }
 
     /// Puts a range in the place of the one that begins at `lo`. It takes no memory.
@@ -599,7 +590,7 @@ impl Node {
     #[inline(never)]
     fn highest_within(&self, wanted: &Wanted) -> Option<u64>
         requires wanted { IsWanted wanted.now }
-        requires some { 0 < length self.now.block }
+        requires balanced { IsBalanced 1 self.now }
         ensures { result ≡ highest_between wanted.now (node_spans self.now) }
     {
         if let Some(at) = self.right.highest_within(wanted) {
@@ -628,14 +619,46 @@ impl Node {
         self.left.height().max(self.right.height()) + 1
     }
 
-    // The most room between two neighbours.
+    // No size above it fits between two neighbours.
     #[inline]
     fn room(&self) -> u32
         requires { IsBalanced 1 self.now }
-        ensures { result ≡ room_between (node_spans self.now) }
+        ensures { room_between (node_spans self.now) ≤ result }
     {
-        let sides = self.left.room().max(self.right.room());
-        let known = sides.max(self.block.room());
+        self.room_by_block(self.left.room().max(self.right.room()))
+    }
+
+    // A bound for the room, where `room` bounds that of all but the lower side and what is beside it.
+    #[inline]
+    fn room_by_left(&self, room: u32) -> u32
+        requires balanced { IsBalanced 2 self.now }
+        ensures { (was : List Seen) → room_between (was ++ (self.now.block ++ self.now.right.0)) ≤ room
+            → room_between (node_spans self.now) ≤ result }
+    {
+        let known = room.max(self.left.room());
+        self.left.room_below(self.block.first(), known)
+    }
+
+    // A bound for the room, where `room` bounds that of all but the upper side and what is beside it.
+    #[inline]
+    fn room_by_right(&self, room: u32) -> u32
+        requires balanced { IsBalanced 2 self.now }
+        ensures { (was : List Seen) → room_between (self.now.left.0 ++ (self.now.block ++ was)) ≤ room
+            → room_between (node_spans self.now) ≤ result }
+    {
+        let known = room.max(self.right.room());
+        self.right.room_after(self.block.end(), known)
+    }
+
+    // A bound for the room, where `room` bounds that of both sides.
+    #[inline]
+    fn room_by_block(&self, room: u32) -> u32
+        requires balanced { IsBalanced 2 self.now }
+        requires left { room_between self.now.left.0 ≤ room }
+        requires right { room_between self.now.right.0 ≤ room }
+        ensures { room_between (node_spans self.now) ≤ result }
+    {
+        let known = room.max(self.block.room());
         let below = self.left.room_below(self.block.first(), known);
         self.right.room_after(self.block.end(), below)
     }
@@ -659,9 +682,9 @@ impl Node {
     }
 }
 
-// Lets a range in on one side or in the node's own block, and tells the room of this node, where it
-// is known and the node stands as high as before. None where it wants a node and there is no spare
-// one.
+// Lets a range in on one side or in the node's own block, and tells a bound for the room of this
+// node, where one is known and the node stands as high as before. None where it wants a node and
+// there is no spare one.
 #[cycle(put)]
 #[inline]
 fn put_below(
@@ -674,7 +697,7 @@ fn put_below(
     requires free { IsRisingFrom 0 (with_span span (node_spans node.old)) }
     requires balanced { IsBalanced 1 node.old }
     requires height_fits { node_height node.old < 2 ^ 7 }
-    requires room { room ≡ room_between (node_spans node.old) }
+    requires room { room_between (node_spans node.old) ≤ room }
     ensures needs { IfNone result ((spare ≡ None) × (node.new ≡ node.old)) }
     ensures grows { IfSome result (λ known.
         Grows (with_span span (node_spans node.old)) node.old node.new) }
@@ -682,24 +705,27 @@ fn put_below(
 {
     if span.lo() < node.block.first() && !node.left.is_empty() {
         let height = node.left.height();
-        let end = node.left.end_or(0);
-        let before = node.left.room();
         if !node.left.put(span, spare) {
             return None;
         }
-        return Some(node.left.settled_below(height, end, before, room));
+        if node.left.height() != height {
+            return Some(None);
+        }
+        return Some(Some(node.room_by_left(room)));
     }
     if span.lo() >= node.block.end() && !node.right.is_empty() {
         let height = node.right.height();
-        let first = node.right.first_or(0);
-        let before = node.right.room();
         if !node.right.put(span, spare) {
             return None;
         }
-        return Some(node.right.settled_above(height, first, before, room));
+        if node.right.height() != height {
+            return Some(None);
+        }
+        return Some(Some(node.room_by_right(room)));
     }
     if !node.block.is_full() {
-        return Some(put_in_block(node, span, room));
+        node.block.insert(span);
+        return Some(Some(node.room_by_block(room)));
     }
     let Some(fresh) = spare else {
         return None;
@@ -709,104 +735,58 @@ fn put_below(
 }
 
 // Takes the highest place between two neighbours, of the node's ranges and those below, where its
-// block has room for a range; tells the room of this node.
+// block has room for a range. Where nothing fits it renews `room`, the bound of the node's link.
 #[cycle(take_within)]
-#[inline]
-fn take_between(node: &mut Node, wanted: &Wanted, room: u32) -> (Found, u32)
+#[inline(never)]
+fn take_between(node: &mut Node, wanted: &Wanted, room: &mut u32) -> Found
     requires wanted { IsWanted wanted.now }
     requires balanced { IsBalanced 1 node.old }
-    requires room { room ≡ room_between (node_spans node.old) }
+    requires room { room_between (node_spans node.old) ≤ room.old }
     ensures found { IsFound (highest_between wanted.now (node_spans node.old)) (node.new ≡ node.old)
-        (λ lo. TakesPlace (taken wanted.now lo) node.old node.new) result.0 }
-    ensures room { result.1 ≡ room_between (node_spans node.new) }
+        (λ lo. TakesPlace (taken wanted.now lo) node.old node.new) result }
+    ensures room { room_between (node_spans node.new) ≤ room.new }
 {
-    let before = node.right.room();
     match node.right.take_within(wanted) {
         Found::Nowhere => {}
-        Found::At(lo) => return (Found::At(lo), room),
-        Found::Taken(lo) => {
-            let now = room_once(node, before, room, node.right.room());
-            return (Found::Taken(lo), now);
-        }
+        Found::At(lo) => return Found::At(lo),
+        Found::Taken(lo) => return Found::Taken(lo),
     }
     if let Some(lo) = node.right.place_before(node.block.end(), wanted) {
-        return take_beside(node, wanted, lo, room);
+        return take_beside(node, wanted, lo);
     }
-    let before = node.block.room();
     match node.block.take_highest(wanted) {
         Found::Nowhere => {}
-        Found::At(lo) => return (Found::At(lo), room),
-        Found::Taken(lo) => {
-            let now = room_once(node, before, room, node.block.room());
-            return (Found::Taken(lo), now);
-        }
+        Found::At(lo) => return Found::At(lo),
+        Found::Taken(lo) => return Found::Taken(lo),
     }
     if let Some(lo) = node.left.place_behind(node.block.first(), wanted) {
-        return take_beside(node, wanted, lo, room);
+        return take_beside(node, wanted, lo);
     }
-    let before = node.left.room();
     match node.left.take_within(wanted) {
-        Found::Nowhere => (Found::Nowhere, room),
-        Found::At(lo) => (Found::At(lo), room),
-        Found::Taken(lo) => {
-            let now = room_once(node, before, room, node.left.room());
-            (Found::Taken(lo), now)
-        }
+        Found::Nowhere => {}
+        Found::At(lo) => return Found::At(lo),
+        Found::Taken(lo) => return Found::Taken(lo),
     }
+    *room = node.room();
+    Found::Nowhere
 }
 
-// Takes a place beside the node's own block, where that has room for a range; tells the room of
-// this node.
+// Takes a place beside the node's own block, where that has room for a range.
 #[inline(never)]
-fn take_beside(node: &mut Node, wanted: &Wanted, lo: u64, room: u32) -> (Found, u32)
+fn take_beside(node: &mut Node, wanted: &Wanted, lo: u64) -> Found
     requires wanted { IsWanted wanted.now }
     requires balanced { IsBalanced 1 node.old }
-    requires room { room ≡ room_between (node_spans node.old) }
     requires highest { highest_between wanted.now (node_spans node.old) ≡ Some lo }
     requires takes { TakesPlace (taken wanted.now lo) node.old
         (record node.old { block = with_span (taken wanted.now lo) node.old.block }) }
-    ensures found { IsFound (highest_between wanted.now (node_spans node.old)) (node.new ≡ node.old)
-        (λ lo. TakesPlace (taken wanted.now lo) node.old node.new) result.0 }
-    ensures room { result.1 ≡ room_between (node_spans node.new) }
+    ensures { IsFound (highest_between wanted.now (node_spans node.old)) (node.new ≡ node.old)
+        (λ lo. TakesPlace (taken wanted.now lo) node.old node.new) result }
 {
     if node.block.is_full() {
-        return (Found::At(lo), room);
+        return Found::At(lo);
     }
     node.block.insert(Span::new(lo, lo + wanted.size, false));
-    (Found::Taken(lo), node.room())
-}
-
-// The room of a node whose part had `before`, and now has `after`.
-#[inline]
-fn room_once(node: &Node, before: u32, room: u32, after: u32) -> u32
-    requires balanced { IsBalanced 1 node.now }
-    requires settled { (now : ℕ) → IsSettledRoom before room after now
-        → now ≡ room_between (node_spans node.now) }
-    ensures { result ≡ room_between (node_spans node.now) }
-{
-    match settled(before, room, after) {
-        Some(now) => now,
-        None => node.room(),
-    }
-}
-
-// Lets a range into the node's own block, and tells the room of this node, where it is known.
-#[inline]
-fn put_in_block(node: &mut Node, span: Span, room: u32) -> Option<u32>
-    requires free { IsRisingFrom 0 (with_span span (node_spans node.old)) }
-    requires balanced { IsBalanced 1 node.old }
-    requires space { length node.old.block < BLOCK }
-    requires room { room ≡ room_between (node_spans node.old) }
-    requires above_left { end_after 0 node.old.left.0 ≤ span.lo }
-    requires below_right { IsBefore span node.old.right.0 }
-    ensures grows { Grows (with_span span (node_spans node.old)) node.old node.new }
-    ensures known { IfSome result (KeepsHeight node.old node.new) }
-{
-    let first = node.block.first();
-    let end = node.block.end();
-    let before = node.block.room();
-    node.block.insert(span);
-    node.block.settled_within(first, end, before, room)
+    Found::Taken(lo)
 }
 
 // Lets a range into a node whose own block is full: the upper part of the block stands in a fresh
@@ -856,54 +836,43 @@ fn take_first_below(node: &mut Node) -> Option<Box<Node>>
     }
 }
 
-// Takes a range out of one side or of the node's own block, which keeps one, and tells the room of
-// this node, where it is known and the node stands as high as before.
+// Takes a range out of one side or of the node's own block, which keeps one. Where this node stands
+// as high as before, it tells a bound for its room, and whether it is known to begin and end where
+// it did.
 #[cycle(take)]
 #[inline]
-fn take_below(node: &mut Node, lo: u64, room: u32) -> (Span, Option<u32>)
+fn take_below(node: &mut Node, lo: u64, gone: &mut Span, room: u32) -> Option<(u32, bool)>
     requires held { Holds lo (node_spans node.old) }
     requires others { Holds lo node.old.block → 2 ≤ length node.old.block }
     requires height_fits { node_height node.old < 2 ^ 7 }
     requires balanced { IsBalanced 1 node.old }
-    requires room { room ≡ room_between (node_spans node.old) }
-    ensures begins { result.0.lo ≡ lo }
-    ensures taken { TakesBelow result.0 node.old node.new }
-    ensures known { IfSome result.1 (KeepsHeight node.old node.new) }
+    requires room { room_between (node_spans node.old) ≤ room }
+    ensures begins { gone.new.lo ≡ lo }
+    ensures taken { TakesBelow gone.new node.old node.new }
+    ensures known { IfSome result (λ known. KeepsHeight node.old node.new known.0) }
+    ensures same { IfSome result (λ known. known.1 ≡ true
+        → KeepsEdges (node_spans node.old) (node_spans node.new)) }
 {
     if lo < node.block.first() {
-        let height = node.left.height();
-        let end = node.left.end_or(0);
-        let before = node.left.room();
-        let gone = node.left.take(lo);
-        return (gone, node.left.settled_below(height, end, before, room));
+        let Some(same) = node.left.take(lo, gone) else {
+            return None;
+        };
+        if same {
+            return Some((room.max(node.left.room()), true));
+        }
+        return Some((node.room_by_left(room), false));
     }
     if lo < node.block.end() {
-        return take_from_block(node, lo, room);
+        *gone = node.block.remove(lo);
+        return Some((node.room_by_block(room), false));
     }
-    let height = node.right.height();
-    let first = node.right.first_or(0);
-    let before = node.right.room();
-    let gone = node.right.take(lo);
-    (gone, node.right.settled_above(height, first, before, room))
-}
-
-// Takes a range out of the node's own block, which keeps one, and tells the room of this node,
-// where it is known.
-#[inline]
-fn take_from_block(node: &mut Node, lo: u64, room: u32) -> (Span, Option<u32>)
-    requires held { Holds lo node.old.block }
-    requires others { 2 ≤ length node.old.block }
-    requires balanced { IsBalanced 1 node.old }
-    requires room { room ≡ room_between (node_spans node.old) }
-    ensures begins { result.0.lo ≡ lo }
-    ensures taken { TakesBelow result.0 node.old node.new }
-    ensures known { IfSome result.1 (KeepsHeight node.old node.new) }
-{
-    let first = node.block.first();
-    let end = node.block.end();
-    let before = node.block.room();
-    let gone = node.block.remove(lo);
-    (gone, node.block.settled_within(first, end, before, room))
+    let Some(same) = node.right.take(lo, gone) else {
+        return None;
+    };
+    if same {
+        return Some((room.max(node.right.room()), true));
+    }
+    Some((node.room_by_right(room), false))
 }
 
 // Puts a range in the place of one on one side or in the node's own block.

@@ -77,9 +77,9 @@ impl Tree {
 
     /// The greatest first frame from which `size` frames fit, `size` being 1 to 1,048,576: aligned
     /// to `align_of(size)`, inside the bounds, none above `limit`, and all free. None where nothing
-    /// fits. The search enters no part of the tree in which nothing fits or that lies above the
-    /// limit (own: the kernel walks from where it remembers, Linux 5.15 `drivers/iommu/iova.c`:
-    /// `__alloc_and_insert_iova_range`).
+    /// fits. The search enters no part of the tree that lies above the limit or whose bound is below
+    /// `size` (own: the kernel walks from where it remembers, Linux 5.15 `drivers/iommu/iova.c`:
+    /// `__alloc_and_insert_iova_range`). Unlike `take` it lowers no bound.
     pub fn highest(&self, size: u64, limit: u64) -> Option<u64>
         requires some { 1 ≤ size }
         requires bounded { size ≤ MAX_FRAMES }
@@ -96,6 +96,10 @@ impl Tree {
 
     /// Allocates the frames that `highest` finds, and gives them: `highest` and `insert` in one way
     /// down, where a block has room. None where nothing fits; `NoMemory` leaves the tree as it was.
+    ///
+    /// A range that comes in leaves the bounds of its block and of the links above as they are, and
+    /// a search that is misled by one lowers it. So a call costs a way down, and at most one way
+    /// down more for each block that a range came into since a search passed it.
     pub fn take(&mut self, size: u64, limit: u64) -> Result<Option<Range>, Refusal>
         requires some { 1 ≤ size }
         requires bounded { size ≤ MAX_FRAMES }

@@ -1,6 +1,4 @@
-use Rattle.std.proofs.Common.{◌≡◌, ◌<◌, ◌≤◌, ◌+◌, ◌-◌, max, take, arith}
-use Rattle.iova_tree.specs.Room.{room}
-use Rattle.iova_tree.specs.Spans.{room_between}
+use Rattle.std.proofs.Common.{◌+◌, ◌-◌, arith}
 use Rattle.iova_tree.proofs.Blocks.{room_between-next, some_end, apart_at, room-take}
 use Rattle.iova_tree.proofs.block.room_of_all.Goals.{in-Some+else-more-most, in_default}
 use Rattle.iova_tree.proofs.block.room_of_all.Goals as goal

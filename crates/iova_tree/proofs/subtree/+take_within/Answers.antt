@@ -1,15 +1,15 @@
-use Rattle.std.proofs.Common.{◌≡◌, Some, None, refl, sym, ◌∙◌, arith}
+use Rattle.std.proofs.Common.{◌≡◌, ◌≤◌, Some, None, refl, sym, ◌∙◌, arith}
 use Rattle.iova_tree.specs.Spans.{first_lo, room_between}
 use Rattle.iova_tree.proofs.Root.{at_root}
-use Rattle.iova_tree.proofs.Spans.{node-middle}
-use Rattle.iova_tree.proofs.Fits.{highest_between-no_room, highest_between-above_cap, wanted_power}
-use Rattle.iova_tree.proofs.Found.{found_right, found_above, found_here, found_below, found_left, whole_right, whole_above, whole_here, whole_below, whole_left, room_right, room_here, room_left, summed_found}
+use Rattle.iova_tree.proofs.Spans.{node-gaps, node-middle}
+use Rattle.iova_tree.proofs.Fits.{highest_between-no_room, highest_between-above_cap}
+use Rattle.iova_tree.proofs.Found.{found_right, found_above, found_here, found_below, found_left, whole_right, whole_above, whole_here, whole_below, whole_left, room_taken, room_found, summed_found}
 use Rattle.iova_tree.proofs.subtree.+take_within.Goals as goal
 
 pub Subtree::take_within-returns-then-room-wanted : goal.Subtree::take_within-returns-then-room-wanted
 Subtree::take_within-returns-then-room-wanted t c =
     let f = at_root c.self.view_is c.self.invariant c.in-Rooted.is in
-    let room : c.in-Rooted.room ≡ room_between c.args.self.now.0 = rw f.spans f.summary.room_is in
+    let room : room_between c.args.self.now.0 ≤ c.in-Rooted.room = rw f.spans f.summary.room_most in
     (highest_between-no_room c.args.wanted.now c.args.self.now.0 c.requires (omega (arith, room, c.if-room-wanted.true)), rw c.in-Rooted.is at c.self.view_is)
 
 pub Subtree::take_within-returns-then-wanted-first : goal.Subtree::take_within-returns-then-wanted-first
@@ -21,9 +21,9 @@ Subtree::take_within-returns-then-wanted-first t c =
 pub Subtree::take_within-invariant_of-self-2 : goal.Subtree::take_within-invariant_of-self-2
 Subtree::take_within-invariant_of-self-2 t c =
     let f = at_root c.self.view_is c.self.invariant c.in-Rooted.is in
-    let e = c.take_between-found.ensures in
+    let e = c.take_between.ensures in
     let found = rw c.deref_mut.ensures.value at e.found in
-    summed_found c.args.wanted.now c.in-Rooted.root.value c.take_between-found.new.node c.in-Rooted.height c.in-Rooted.room c.in-Rooted.first c.in-Rooted.end c.take_between-found.result.1 c.take_between-found.result.0 c.requires f.summary found e.room
+    summed_found c.args.wanted.now c.in-Rooted.root.value c.take_between.new.node c.in-Rooted.height c.in-Rooted.room c.in-Rooted.first c.in-Rooted.end c.take_between.new.room c.take_between.result c.requires f.summary found e.room
 
 pub take_between-returns-in-At-clause-found : goal.take_between-returns-in-At-clause-found
 take_between-returns-in-At-clause-found t c =
@@ -32,24 +32,6 @@ take_between-returns-in-At-clause-found t c =
     let b = c.requires.balanced in
     let e = c.in-At.ensures in
     (whole_right w n c.in-At.lo b e.0, rw e.1 refl)
-
-pub take_between-room_once-now-requires-clause-balanced : goal.take_between-room_once-now-requires-clause-balanced
-take_between-room_once-now-requires-clause-balanced t c =
-    let w = c.args.wanted.now in
-    let n = c.args.node.now in
-    let b = c.requires.balanced in
-    let e = c.in-Taken.ensures in
-    let whole = whole_right w n c.in-Taken.lo b e.0 in
-    rw e.1 (found_right w n c.in-Taken.lo c.requires.wanted b whole e.0).balanced
-
-pub take_between-room_once-now-requires-clause-settled : goal.take_between-room_once-now-requires-clause-settled
-take_between-room_once-now-requires-clause-settled t c =
-    let w = c.args.wanted.now in
-    let n = c.args.node.now in
-    let b = c.requires.balanced in
-    let e = c.in-Taken.ensures in
-    let whole = whole_right w n c.in-Taken.lo b e.0 in
-    λ now s. rw e.1 (room_right w n c.in-Taken.lo c.room-before.result c.args.room c.room.result now c.requires.wanted b whole c.requires.room s e.0 c.room-before.ensures (rw e.1 at c.room.ensures))
 
 pub take_between-returns-in-Taken-clause-found : goal.take_between-returns-in-Taken-clause-found
 take_between-returns-in-Taken-clause-found t c =
@@ -60,8 +42,18 @@ take_between-returns-in-Taken-clause-found t c =
     let whole = whole_right w n c.in-Taken.lo b e.0 in
     (whole, rw e.1 (found_right w n c.in-Taken.lo c.requires.wanted b whole e.0))
 
+pub take_between-returns-in-Taken-clause-room : goal.take_between-returns-in-Taken-clause-room
+take_between-returns-in-Taken-clause-room t c =
+    let f = take_between-returns-in-Taken-clause-found t c in
+    let r = room_taken c.args.wanted.now c.args.node.now _ c.in-Taken.lo c.requires.wanted c.requires.balanced f.0 f.1 in
+    omega (arith, r, c.requires.room)
+
 pub take_between-place_before-requires : goal.take_between-place_before-requires
-take_between-place_before-requires t c = wanted_power _ c.requires.wanted
+take_between-place_before-requires t c =
+    let n = c.args.node.now in
+    let b = c.requires.balanced in
+    let none = c.in-Nowhere.ensures in
+    record { wanted = c.requires.wanted; rising = rw (c.end.ensures, none.1) (node-gaps n.left.0 n.block n.right.0 b.some b.rising).1 }
 
 pub take_between-take_beside-requires-clause-highest : goal.take_between-take_beside-requires-clause-highest
 take_between-take_beside-requires-clause-highest t c =
@@ -100,28 +92,6 @@ take_between-returns-in-At-take_highest-clause-found t c =
     let e = c.in-At-take_highest.ensures in
     (whole_here w n c.in-At-take_highest.lo b none.0 above e.0, rw (e.1, none.1) refl)
 
-pub take_between-room_once-now-requires-in-Taken-take_highest-clause-balanced : goal.take_between-room_once-now-requires-in-Taken-take_highest-clause-balanced
-take_between-room_once-now-requires-in-Taken-take_highest-clause-balanced t c =
-    let w = c.args.wanted.now in
-    let n = c.args.node.now in
-    let b = c.requires.balanced in
-    let none = c.in-Nowhere.ensures in
-    let above = rw (c.end.ensures, none.1) at (sym c.place_before.ensures ∙ c.in_default.is) in
-    let e = c.in-Taken-take_highest.ensures in
-    let whole = whole_here w n c.in-Taken-take_highest.lo b none.0 above e.0 in
-    rw (e.1, none.1) (found_here w n c.in-Taken-take_highest.lo c.requires.wanted b whole e.0).balanced
-
-pub take_between-room_once-now-requires-in-Taken-take_highest-clause-settled : goal.take_between-room_once-now-requires-in-Taken-take_highest-clause-settled
-take_between-room_once-now-requires-in-Taken-take_highest-clause-settled t c =
-    let w = c.args.wanted.now in
-    let n = c.args.node.now in
-    let b = c.requires.balanced in
-    let none = c.in-Nowhere.ensures in
-    let above = rw (c.end.ensures, none.1) at (sym c.place_before.ensures ∙ c.in_default.is) in
-    let e = c.in-Taken-take_highest.ensures in
-    let whole = whole_here w n c.in-Taken-take_highest.lo b none.0 above e.0 in
-    λ now s. rw (e.1, none.1) (room_here w n c.in-Taken-take_highest.lo c.room-before-2.result c.args.room c.room-in-Taken-take_highest.result now c.requires.wanted b whole c.requires.room s e.0 c.room-before-2.ensures (rw e.1 at c.room-in-Taken-take_highest.ensures))
-
 pub take_between-returns-in-Taken-take_highest-clause-found : goal.take_between-returns-in-Taken-take_highest-clause-found
 take_between-returns-in-Taken-take_highest-clause-found t c =
     let w = c.args.wanted.now in
@@ -133,8 +103,18 @@ take_between-returns-in-Taken-take_highest-clause-found t c =
     let whole = whole_here w n c.in-Taken-take_highest.lo b none.0 above e.0 in
     (whole, rw (e.1, none.1) (found_here w n c.in-Taken-take_highest.lo c.requires.wanted b whole e.0))
 
+pub take_between-returns-in-Taken-take_highest-clause-room : goal.take_between-returns-in-Taken-take_highest-clause-room
+take_between-returns-in-Taken-take_highest-clause-room t c =
+    let f = take_between-returns-in-Taken-take_highest-clause-found t c in
+    let r = room_taken c.args.wanted.now c.args.node.now _ c.in-Taken-take_highest.lo c.requires.wanted c.requires.balanced f.0 f.1 in
+    omega (arith, r, c.requires.room)
+
 pub take_between-place_behind-requires : goal.take_between-place_behind-requires
-take_between-place_behind-requires t c = wanted_power _ c.requires.wanted
+take_between-place_behind-requires t c =
+    let n = c.args.node.now in
+    let b = c.requires.balanced in
+    let inside = c.in-Nowhere-take_highest.ensures in
+    record { wanted = c.requires.wanted; apart = rw (c.first.ensures, inside.1) (node-gaps n.left.0 n.block n.right.0 b.some b.rising).0 }
 
 pub take_between-take_beside-requires-in-Some-place_behind-clause-highest : goal.take_between-take_beside-requires-in-Some-place_behind-clause-highest
 take_between-take_beside-requires-in-Some-place_behind-clause-highest t c =
@@ -160,34 +140,8 @@ take_between-take_beside-requires-in-Some-place_behind-clause-takes t c =
     let whole = whole_below w n c.in-Some-place_behind.lo b none.0 above inside.0 found in
     rw (inside.1, none.1) (found_below w n c.in-Some-place_behind.lo c.requires.wanted b whole found)
 
-pub take_between-room_once-now-requires-in-Taken-take_within-clause-balanced : goal.take_between-room_once-now-requires-in-Taken-take_within-clause-balanced
-take_between-room_once-now-requires-in-Taken-take_within-clause-balanced t c =
-    let w = c.args.wanted.now in
-    let n = c.args.node.now in
-    let b = c.requires.balanced in
-    let none = c.in-Nowhere.ensures in
-    let above = rw (c.end.ensures, none.1) at (sym c.place_before.ensures ∙ c.in_default.is) in
-    let inside = c.in-Nowhere-take_highest.ensures in
-    let below = rw (c.first.ensures, inside.1) at (sym c.place_behind.ensures ∙ c.in_default-place_behind.is) in
-    let e = c.in-Taken-take_within.ensures in
-    let whole = whole_left w n c.in-Taken-take_within.lo b (Some c.in-Taken-take_within.lo) none.0 above inside.0 below e.0 in
-    rw (inside.1, none.1, e.1) (found_left w n c.in-Taken-take_within.lo c.requires.wanted b whole e.0).balanced
-
-pub take_between-room_once-now-requires-in-Taken-take_within-clause-settled : goal.take_between-room_once-now-requires-in-Taken-take_within-clause-settled
-take_between-room_once-now-requires-in-Taken-take_within-clause-settled t c =
-    let w = c.args.wanted.now in
-    let n = c.args.node.now in
-    let b = c.requires.balanced in
-    let none = c.in-Nowhere.ensures in
-    let above = rw (c.end.ensures, none.1) at (sym c.place_before.ensures ∙ c.in_default.is) in
-    let inside = c.in-Nowhere-take_highest.ensures in
-    let below = rw (c.first.ensures, inside.1) at (sym c.place_behind.ensures ∙ c.in_default-place_behind.is) in
-    let e = c.in-Taken-take_within.ensures in
-    let whole = whole_left w n c.in-Taken-take_within.lo b (Some c.in-Taken-take_within.lo) none.0 above inside.0 below e.0 in
-    λ now s. rw (inside.1, none.1, e.1) (room_left w n c.in-Taken-take_within.lo c.room-before-3.result c.args.room c.room-in-Taken-take_within.result now c.requires.wanted b whole c.requires.room s e.0 c.room-before-3.ensures (rw e.1 at c.room-in-Taken-take_within.ensures))
-
-pub take_between-returns-in-Nowhere-take_within-clause-found : goal.take_between-returns-in-Nowhere-take_within-clause-found
-take_between-returns-in-Nowhere-take_within-clause-found t c =
+pub take_between-returns-clause-found : goal.take_between-returns-clause-found
+take_between-returns-clause-found t c =
     let w = c.args.wanted.now in
     let n = c.args.node.now in
     let b = c.requires.balanced in
@@ -222,3 +176,22 @@ take_between-returns-in-Taken-take_within-clause-found t c =
     let e = c.in-Taken-take_within.ensures in
     let whole = whole_left w n c.in-Taken-take_within.lo b (Some c.in-Taken-take_within.lo) none.0 above inside.0 below e.0 in
     (whole, rw (inside.1, none.1, e.1) (found_left w n c.in-Taken-take_within.lo c.requires.wanted b whole e.0))
+
+pub take_between-returns-in-Taken-take_within-clause-room : goal.take_between-returns-in-Taken-take_within-clause-room
+take_between-returns-in-Taken-take_within-clause-room t c =
+    let f = take_between-returns-in-Taken-take_within-clause-found t c in
+    let r = room_taken c.args.wanted.now c.args.node.now _ c.in-Taken-take_within.lo c.requires.wanted c.requires.balanced f.0 f.1 in
+    omega (arith, r, c.requires.room)
+
+pub take_between-returns-in-Some-clause-room : goal.take_between-returns-in-Some-clause-room
+take_between-returns-in-Some-clause-room t c =
+    let none = c.in-Nowhere.ensures in
+    let r = room_found c.args.wanted.now c.args.node.now c.take_beside.new.node c.take_beside.result c.requires.wanted c.requires.balanced (rw none.1 at c.take_beside.ensures) in
+    omega (arith, r, c.requires.room)
+
+pub take_between-returns-in-Some-place_behind-clause-room : goal.take_between-returns-in-Some-place_behind-clause-room
+take_between-returns-in-Some-place_behind-clause-room t c =
+    let none = c.in-Nowhere.ensures in
+    let inside = c.in-Nowhere-take_highest.ensures in
+    let r = room_found c.args.wanted.now c.args.node.now c.take_beside-in-Some-place_behind.new.node c.take_beside-in-Some-place_behind.result c.requires.wanted c.requires.balanced (rw (inside.1, none.1) at c.take_beside-in-Some-place_behind.ensures) in
+    omega (arith, r, c.requires.room)

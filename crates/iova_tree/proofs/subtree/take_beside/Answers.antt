@@ -1,4 +1,4 @@
-use Rattle.std.proofs.Common.{◌≡◌, arith}
+use Rattle.std.proofs.Common.{arith}
 use Rattle.iova_tree.specs.Spans.{with_span}
 use Rattle.iova_tree.specs.Fit.{taken}
 use Rattle.iova_tree.proofs.Spans.{node-middle}

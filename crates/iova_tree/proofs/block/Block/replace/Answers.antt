@@ -16,7 +16,7 @@ room_of_all-self-inside-requires c =
 pub invariant_of-self : goal.invariant_of-self
 invariant_of-self c =
     let s = rw c.as_slice.ensures.value at (c.place_of-at.ensures.stands (rw (c.as_slice.ensures.value, c.self.view_is) c.requires.held)) in
-    (rw (c.insert.ensures.items, c.remove.ensures.items, s.replaced c.args.span) (rw (← c.self.view_is) at c.requires.free), rw (← c.as_slice-2.ensures.value) c.room_of_all-self-inside.ensures)
+    (rw (c.insert.ensures.items, c.remove.ensures.items, s.replaced c.args.span) (rw (← c.self.view_is) at c.requires.free), rw (← c.as_slice-2.ensures.value) (omega (arith, c.room_of_all-self-inside.ensures)))
 
 pub returns : goal.returns
 returns c =

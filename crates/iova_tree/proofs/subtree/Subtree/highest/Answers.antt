@@ -5,4 +5,4 @@ pub place_in-requires : goal.place_in-requires
 place_in-requires c = wanted_power _ c.requires.wanted
 
 pub place_before-requires : goal.place_before-requires
-place_before-requires c = wanted_power _ c.requires.wanted
+place_before-requires c = record { wanted = c.requires.wanted; rising = c.requires.rising }

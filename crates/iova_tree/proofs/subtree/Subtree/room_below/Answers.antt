@@ -1,4 +1,4 @@
-use Rattle.std.proofs.Common.{◌≡◌, sym, ap, ◌∙◌, arith}
+use Rattle.std.proofs.Common.{◌≡◌, arith}
 use Rattle.iova_tree.specs.Spans.{end_after}
 use Rattle.iova_tree.proofs.Root.{at_root}
 use Rattle.iova_tree.proofs.subtree.Subtree.room_below.Goals as goal

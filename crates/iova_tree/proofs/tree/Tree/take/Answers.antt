@@ -1,5 +1,4 @@
-use Rattle.std.proofs.Common.{◌≡◌, ◌+◌, ◌<◌, ◌≤◌, min, None, Some, refl, sym, ◌∙◌, arith}
-use Rattle.iova_model.specs.Fit.{best}
+use Rattle.std.proofs.Common.{◌≡◌, ◌+◌, min, refl, sym, ◌∙◌, arith}
 use Rattle.iova_model.proofs.Placing.{best-place}
 use Rattle.iova_tree.specs.Fit.{IsWanted}
 use Rattle.iova_tree.specs.declared.search.Wanted.{Wanted}
