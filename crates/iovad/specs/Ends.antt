@@ -3,8 +3,7 @@ use Rattle.std.specs.Prelude.{ℕ, ◌≡◌, ◌+◌, ◌≤◌, List, [], Opti
 use Rattle.iova_model.specs.State.{State}
 use Rattle.iova_sink.specs.Calls.{Call, good_calls}
 use Rattle.iova_keep.specs.Views.{SeatState, TallyState, RisesWithin}
-use Rattle.iova_lock.specs.Books.{SharedState, tally_parts, tally_good}
-use Rattle.iova_daemon.specs.Serving.{CountsWithin}
+use Rattle.iova_lock.specs.Books.{tally_parts, tally_good}
 
 -- the calls of a sink, where there is one
 abbrev pub last_calls : {E : Type 0} → (E → List Call) → Option E → List Call
@@ -14,17 +13,6 @@ last_calls calls (Some sink) = calls sink
 -- the workers of these seats
 abbrev pub workers_of : List SeatState → List ℕ
 workers_of seats = map (λ s. s.worker) seats
-
--- What serving leaves: the same domain, seats of the same workers, all parts of their tallies, of
--- which the flusher has one, and no more flushes counted as ended well than sinks were given good
--- calls.
-pub record ServesAll (shared : SharedState) (seats : List SeatState) (calls : List (List Call))
-    (shared_now : SharedState) (seats_now : List SeatState) (tally : TallyState)
-    (calls_now : List (List Call)) (flusher_calls : List Call) : Type 0 where
-  pub same : shared_now ≡ shared
-  pub workers : workers_of seats_now ≡ workers_of seats
-  pub parts : tally_parts seats_now + tally.parts ≡ tally_parts seats
-  pub within : CountsWithin seats calls seats_now tally calls_now flusher_calls
 
 -- What the end of a service leaves of seats, all with one sink: their workers, their parts, and
 -- tallies that rose by no more than its good calls.

@@ -1,12 +1,12 @@
 //! A daemon: the sessions of a plan, served on a socket, and the report of what they leave.
-ghost use Rattle.std.specs.Prelude.{◌≡◌, ◌<◌, ◌≤◌, ◌+◌, ◌*◌, true, [], None, Err, IfErr, IfOk, map, length, unwrap_or, vec_len, vec_capacity};
+ghost use Rattle.std.specs.Prelude.{◌≡◌, ◌<◌, ◌≤◌, ◌+◌, ◌*◌, true, [], None, Err, IfErr, IfOk, map, vec_len, vec_capacity};
 ghost use Rattle.iova_range.specs.declared.limits.TheConstants.{SEAT_PARTS};
 ghost use Rattle.iova_keep.specs.Views.{AreBlanksOf, KeepsPlace, seats_in_turn};
-ghost use Rattle.iova_lock.specs.Books.{AreCounted, are_all, tally_parts};
+ghost use Rattle.iova_lock.specs.Books.{tally_parts};
 ghost use Rattle.iova_command.specs.declared.plan.Plan.{Plan};
 ghost use Rattle.iova_planned.specs.PlannedDomains.{AreNewSeats, seat_count};
 ghost use Rattle.iovad.specs.Plans.{IsAboveProfile, IsBoundsOf, IsFaultOfServing, planned_limits};
-ghost use Rattle.iovad.specs.Ends.{EndsAll, EndsCounted, IsAnswered, ServesAll, last_calls, workers_of};
+ghost use Rattle.iovad.specs.Ends.{EndsAll, EndsCounted, IsAnswered, last_calls, workers_of};
 
 use iova_command::plan::Plan;
 use iova_command::plan_words::PlanWords;
@@ -365,7 +365,8 @@ impl<'a, R: Host, B: Names + Send + Sync> Daemon<'a, R, B> {
     ) -> Result<Daemon<'a, R, B>, StartFault>
         requires posts { AreNewSeats shared (map (λ p. p.seat) posts.items) }
         requires parts { B.ledgers.good.parts ≡ SEAT_PARTS * shared.seats }
-        ensures posts { IfOk result (λ d. AreNewSeats d.shared (map (λ p. p.seat) d.posts.items)) }
+        ensures posts { IfOk result (λ d. AreNewSeats d.shared
+            (map (λ p. p.seat) d.posts.items)) }
         ensures parts { IfOk result (λ d. B.ledgers.good.parts ≡ SEAT_PARTS * d.shared.seats) }
         ensures sinks { IfOk result (λ d. 2 ≤ vec_len d.sinks) }
     {
@@ -445,7 +446,8 @@ where
     requires parts { B.ledgers.good.parts ≡ SEAT_PARTS * shared.seats }
     requires sinks { vec_len sinks ≡ vec_len posts + 1 }
     ensures { IfOk result (λ e. IsAnswered e.rest.domain (map D.calls sinks.items)
-        (map D.calls e.sinks.items) (D.calls e.sink) (last_calls ⟦<OpenedSink<'a, R> as Sink>⟧.calls e.last)) }
+        (map D.calls e.sinks.items) (D.calls e.sink)
+        (last_calls ⟦<OpenedSink<'a, R> as Sink>⟧.calls e.last)) }
 {
     // so the end needs no memory for the seats
     let Ok(room) = Vec::with_capacity(run.rt.alloc(), posts.len()) else {
@@ -501,7 +503,8 @@ where
     requires empty { room.items ≡ [] }
     requires room { vec_len served.served.posts ≤ vec_capacity room }
     ensures ended { EndsCounted (map (λ p. p.seat) served.entry.served.posts.items)
-        served.entry.tally (last_calls ⟦<OpenedSink<'a, R> as Sink>⟧.calls result.last) result.rest.domain }
+        served.entry.tally (last_calls ⟦<OpenedSink<'a, R> as Sink>⟧.calls result.last)
+        result.rest.domain }
     ensures sinks { (result.sinks ≡ served.entry.sinks) × (result.sink ≡ served.entry.sink) }
 {
     info!(run.notices; target: "", "all sessions have ended");
