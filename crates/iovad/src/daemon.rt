@@ -1,5 +1,5 @@
 //! A daemon: the sessions of a plan, served on a socket, and the report of what they leave.
-ghost use Rattle.std.specs.Prelude.{◌≡◌, ◌<◌, ◌≤◌, ◌+◌, ◌*◌, true, [], None, Err, IfErr, IfOk, map, vec_len, vec_capacity};
+ghost use Rattle.std.specs.Prelude.{◌≡◌, ◌<◌, ◌≤◌, ◌+◌, ◌*◌, true, [], None, Err, IfErr, IfOk, map, length, vec_len, vec_capacity};
 ghost use Rattle.iova_range.specs.declared.limits.TheConstants.{SEAT_PARTS};
 ghost use Rattle.iova_keep.specs.Views.{AreBlanksOf, KeepsPlace, seats_in_turn};
 ghost use Rattle.iova_lock.specs.Books.{tally_parts};
@@ -176,7 +176,7 @@ where
     };
     let mut files = StartFiles::new(&run);
     let rest = match Daemon::open(&run, &mut files, shared, posts) {
-        Ok(daemon) => daemon.serve(&run, &mut files),
+        Ok(daemon) => serve_opened(&run, &mut files, daemon),
         Err(why) => Err(why),
     };
     match rest {
@@ -328,15 +328,15 @@ type DaemonControl<'a, R> = Control<'a, R, Notices<'a, R>>;
 
 /// A daemon: its domain under a lock, a post at each of its seats, a sink for each worker and one
 /// for the flusher, and the socket that it listens on.
-struct Daemon<'a, R: Host, B: Names> {
+struct Daemon<'a, R, B: Names, D> {
     shared: Shared<&'a R, B>,
     posts: Vec<Post<B>>,
-    sinks: Vec<SharedSink<OpenedSink<'a, R>>>,
+    sinks: Vec<SharedSink<D>>,
     accept: DaemonAccept<'a, R>,
 }
 
 /// Drops its parts. The proof stands here, once.
-impl<'a, R: Host, B: Names> Drop for Daemon<'a, R, B> {
+impl<'a, R, B: Names, D: Drop> Drop for Daemon<'a, R, B, D> {
     fn drop(self) {
         let Daemon {
             shared: _,
@@ -354,7 +354,7 @@ struct Rest {
     recorded: Result<(), StartFault>,
 }
 
-impl<'a, R: Host, B: Names + Send + Sync> Daemon<'a, R, B> {
+impl<'a, R: Host, B: Names + Send + Sync> Daemon<'a, R, B, OpenedSink<'a, R>> {
     /// Opens what the plan names: its sinks, the record's file, and its sockets, on which nobody is
     /// accepted yet; and begins the record.
     fn open<'p>(
@@ -362,7 +362,7 @@ impl<'a, R: Host, B: Names + Send + Sync> Daemon<'a, R, B> {
         files: &mut StartFiles<'p>,
         shared: Shared<&'a R, B>,
         posts: Vec<Post<B>>,
-    ) -> Result<Daemon<'a, R, B>, StartFault>
+    ) -> Result<Daemon<'a, R, B, OpenedSink<'a, R>>, StartFault>
         requires posts { AreNewSeats shared (map (λ p. p.seat) posts.items) }
         requires parts { B.ledgers.good.parts ≡ SEAT_PARTS * shared.seats }
         ensures posts { IfOk result (λ d. AreNewSeats d.shared
@@ -387,8 +387,10 @@ impl<'a, R: Host, B: Names + Send + Sync> Daemon<'a, R, B> {
             }
         }
     }
+}
 
-    /// Serves the plan's sessions, and ends the service. Each post has the sink of its worker.
+impl<'a, R: Host, B: Names + Send + Sync, D: Sink + Send + Drop> Daemon<'a, R, B, D> {
+    /// Serves the plan's sessions, and ends the service.
     fn serve<'p>(
         self,
         run: &Running<'a, 'p, R>,
@@ -404,15 +406,54 @@ impl<'a, R: Host, B: Names + Send + Sync> Daemon<'a, R, B> {
             sinks,
             accept,
         } = self;
-        let Some(lent) = sinks_in_turn(run.rt, run.rt.alloc(), &sinks, posts.len()) else {
-            accept.close();
-            return Err(StartFault::NoMemory);
-        };
-        match serve_and_end(run, files, shared, posts, lent, &accept) {
+        serve_at_posts(run, files, shared, posts, &sinks, &accept)
+    }
+}
+
+/// Serves the plan's sessions, each post with the sink of its worker, and ends the service.
+fn serve_at_posts<'a, 'p, R, B, D>(
+    run: &Running<'a, 'p, R>,
+    files: &mut StartFiles<'p>,
+    shared: Shared<&'a R, B>,
+    posts: Vec<Post<B>>,
+    sinks: &[SharedSink<D>],
+    accept: &DaemonAccept<'a, R>,
+) -> Result<Rest, StartFault>
+where
+    R: Host,
+    B: Names + Send + Sync,
+    D: Sink + Send + Drop,
+    requires posts { AreNewSeats shared (map (λ p. p.seat) posts.items) }
+    requires parts { B.ledgers.good.parts ≡ SEAT_PARTS * shared.seats }
+    requires sinks { 2 ≤ length sinks.now }
+{
+    match sinks_in_turn(run.rt, run.rt.alloc(), sinks, posts.len()) {
+        Some(lent) => match serve_and_end(run, files, shared, posts, lent, accept) {
             Ok(ended) => Ok(ended.rest),
             Err(why) => Err(why),
+        },
+        None => {
+            accept.close();
+            Err(StartFault::NoMemory)
         }
     }
+}
+
+/// Serves with this daemon. A function of its own: that its sinks may go to threads is found where
+/// nothing else is known.
+fn serve_opened<'a, 'p, R, B>(
+    run: &Running<'a, 'p, R>,
+    files: &mut StartFiles<'p>,
+    daemon: Daemon<'a, R, B, OpenedSink<'a, R>>,
+) -> Result<Rest, StartFault>
+where
+    R: Host,
+    B: Names + Send + Sync,
+    requires posts { AreNewSeats daemon.shared (map (λ p. p.seat) daemon.posts.items) }
+    requires parts { B.ledgers.good.parts ≡ SEAT_PARTS * daemon.shared.seats }
+    requires sinks { 2 ≤ vec_len daemon.sinks }
+{
+    daemon.serve(run, files)
 }
 
 /// What a service leaves at its end, and the sinks that it was given: those of the posts, the
