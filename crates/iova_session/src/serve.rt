@@ -18,8 +18,9 @@ use iova_proto::request::Request;
 use iova_range::limits::MAX_RUN;
 use std::alloc::Global;
 
-/// How many bytes one read asks for at most.
-const PIECE: usize = 4096;
+/// How many bytes one read asks for at most: those of two full runs of requests and more. They lie
+/// on the thread's stack, which is most of what a client costs.
+const PIECE: usize = 1024;
 
 /// Serves the peer at the other end of the link until the session ends: reads lines, asks the desk
 /// in runs of 1 to 16 requests, and writes the answers to each run before the next. It reads no
