@@ -607,7 +607,7 @@ const ALL: &[u8] =
 
 // Where a growth is refused, how many ranges the session's end queues then, and what it was
 // answered.
-static ANSWERS: [(&str, u64, &[u8]); 7] = [
+static ANSWERS: [(&str, u64, &[u8]); 8] = [
     (
         "nothing",
         1,
@@ -619,6 +619,11 @@ static ANSWERS: [(&str, u64, &[u8]); 7] = [
         b"no 17 NoMemory\nopened 1\ngiven 9 1\ngiven 8 1\nheld 2\n8 1\n9 1\nheld 2\n8 1\n9 1\nqueued 9 1\nstat 1021 0 1 0 0 1 0 0\nbye\n",
     ),
     ("ask_run", 0, b"opened 1\nno 24 Twice\n"),
+    (
+        "encode",
+        2,
+        b"opened 1\nno 24 Twice\ngiven 9 1\ngiven 8 1\n",
+    ),
     (
         "alloc",
         0,
@@ -662,7 +667,7 @@ fn refused_in(link: &ByLines<'_>, seen: Result<Seen, Refusal>) -> Option<&'stati
     }
     for (place, queued, answers) in ANSWERS {
         if link.sent.as_slice() == answers {
-            let wanted = if place == "ask_run" {
+            let wanted = if place == "ask_run" || place == "encode" {
                 End::NoMemory
             } else {
                 End::Bye
