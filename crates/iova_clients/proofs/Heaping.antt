@@ -81,13 +81,9 @@ appended all list front zs from len start is same long =
     let whole : length (list ++ zs) ≡ len = length-append list zs ∙ (omega (arith, same) ∙ (sym (length-append list front) ∙ (ap length (sym is) ∙ long))) in
     rw inner (take_at (list ++ zs) (drop (length (list ++ zs)) all) len whole)
 
-pub ordered_front : (cells : List Frames) (n : ℕ) → n ≤ length cells → ordered (take n cells) (length (take n cells)) ≡ ordered cells n
-ordered_front cells n within =
-    ap (λ m. ordered (take n cells) m) (length-take-le n cells within)
-    ∙ ordered_same (range_at cells) (range_at (take n cells)) n (λ k lt. get_or-take n cells k (record { lo = 0; len = 0 }) lt)
-
 -- what is read of a slice behind a list
-pub slice_behind : (all list front : List Frames) (from n : ℕ) → length list ≡ from → all ≡ list ++ front → length front ≡ n → take (from + n - from) (drop from all) ≡ front
-slice_behind all list front from n start is long =
-    let m : from + n - from ≡ n = omega arith in
-    rw (is, drop_at list front from start, m) (take_all n front (omega (arith, long)))
+pub slice_behind : (all list front : List Frames) (from len : ℕ) → length list ≡ from → all ≡ list ++ front → length all ≡ len → take (len - from) (drop from all) ≡ front
+slice_behind all list front from len start is long =
+    let sum : length all ≡ length list + length front = ap length is ∙ length-append list front in
+    let m : len - from ≡ length front = omega (arith, sum, long, start) in
+    rw (m, is, drop_at list front from start) (take_all (length front) front (omega arith))

@@ -1,11 +1,11 @@
 -- Ranges in no order, and the same rising.
-use Rattle.std.proofs.Common.{◌≡◌, ◌≢◌, ◌⊎◌, inl, inr, ℕ, zero, suc, ◌+◌, ◌-◌, ◌<◌, ◌≤◌, Bool, true, false, cond, ◌||◌, List, [], ◌∷◌, ◌++◌, length, find, set, take, None, Some, refl, subst, sym, ap, arith, ◌∙◌}
+use Rattle.std.proofs.Common.{◌≡◌, ◌≢◌, ◌⊎◌, inl, inr, ℕ, zero, suc, ◌+◌, ◌<◌, ◌≤◌, Bool, true, false, cond, ◌||◌, List, [], ◌∷◌, ◌++◌, length, find, set, take, None, Some, refl, subst, sym, ap, arith, ◌∙◌}
 use Rattle.std.specs.Prelude.{nat_lt, slice_get}
 use Rattle.std.proofs.lemmas.Bool.{cases_eq, cases_lt}
 use Rattle.std.proofs.lemmas.Bool.Decides.{nat_tests}
 use Rattle.std.proofs.lemmas.List.{get_or-set_same, get_or-set_other, get_or-take, take_more, take_all, length-take-le}
 use Rattle.std.proofs.lemmas.List.Edits.{Swapped, swapped_from_swap, length-swap}
-use Rattle.std.proofs.lemmas.List.Sorted.{IsPermutation-keeps}
+use Rattle.std.proofs.lemmas.List.Sorted.{IsPermutation-keeps, IsPermutation-refl, IsPermutation-sym, IsPermutation-trans, IsPermutation-cons, IsPermutation-middle, IsPermutation-to_front, IsNonDecreasingBy-from_default}
 use Rattle.std.specs.List.{swap, list_any}
 use Rattle.std.specs.List.Sorted.{IsPermutation, IsNonDecreasingBy}
 use Rattle.iova_range.specs.Frames.{Frames}
@@ -354,6 +354,55 @@ ordered_rising cells (suc n) within up =
     ∙ behind_all (range_at cells n) (take n cells) (λ k lt. rw (get_or-take n cells k (record { lo = 0; len = 0 }) (omega (arith, lt, long))) (up k n (record { lo = 0; len = 0 }) (omega (arith, lt, long)) (omega (arith, within))))
     ∙ sym more
 
-pub sorted_ordered : (xs ys : List Frames) → BeginApart (range_at xs) (length xs) → IsPermutation xs ys → IsNonDecreasingBy (λ (r : Frames). r.lo) ys → ys ≡ ordered xs (length xs)
-sorted_ordered xs ys apart perm up =
-    sym (ordered_rising ys (length ys) (omega arith) up ∙ take_all (length ys) ys (omega arith)) ∙ (permuted xs ys apart perm).same
+-- A rising list, from which ranges came in another order.
+rises_from : (from : ℕ) (xs : List Frames) → Rises from xs → (k : ℕ) → k < length xs → from ≤ (range_at xs k).lo
+rises_from from [] h k lt = absurd (omega (arith, lt))
+rises_from from (x ∷ xs) h zero lt = h.0
+rises_from from (x ∷ xs) h (suc k) lt = let more = rises_from (x.lo + 1) xs h.1 k (omega (arith, lt)) in omega (arith, more, h.0)
+
+rises_up : (from : ℕ) (xs : List Frames) → Rises from xs → (i j : ℕ) → i < j → j < length xs → (range_at xs i).lo < (range_at xs j).lo
+rises_up from [] h i j less lt = absurd (omega (arith, lt))
+rises_up from (x ∷ xs) h i zero less lt = absurd (omega (arith, less))
+rises_up from (x ∷ xs) h zero (suc j) less lt = let more = rises_from (x.lo + 1) xs h.1 j (omega (arith, lt)) in omega (arith, more)
+rises_up from (x ∷ xs) h (suc i) (suc j) less lt = rises_up (x.lo + 1) xs h.1 i j (omega (arith, less)) (omega (arith, lt))
+
+rising_apart : (xs : List Frames) → Rises 0 xs → BeginApart (range_at xs) (length xs)
+rising_apart xs h i j x y is = by_either (cases_lt i j)
+    (λ lt. let up = rises_up 0 xs h i j lt y in absurd (omega (arith, up, is)))
+    (λ ge. by_either (cases_eq i j) (λ same. same)
+    (λ ne. let up = rises_up 0 xs h j i (omega (arith, ge, ne)) x in absurd (omega (arith, up, is))))
+
+rising_ordered : (xs : List Frames) → Rises 0 xs → ordered xs (length xs) ≡ xs
+rising_ordered xs h =
+    ordered_rising xs (length xs) (omega arith) (IsNonDecreasingBy-from_default (λ (r : Frames). r.lo) xs (record { lo = 0; len = 0 }) up) ∙ take_all (length xs) xs (omega arith)
+  where
+    up : (i j : ℕ) → i ≤ j → j < length xs → (range_at xs i).lo ≤ (range_at xs j).lo
+    up i j le lt = by_either (cases_eq i j) (λ same. rw same (omega arith))
+        (λ ne. let more = rises_up 0 xs h i j (omega (arith, le, ne)) lt in omega (arith, more))
+
+pub sorted_rising : (rising ys : List Frames) → Rises 0 rising → IsPermutation rising ys → IsNonDecreasingBy (λ (r : Frames). r.lo) ys → ys ≡ rising
+sorted_rising rising ys h perm up =
+    sym (ordered_rising ys (length ys) (omega arith) up ∙ take_all (length ys) ys (omega arith))
+    ∙ (permuted rising ys (rising_apart rising h) perm).same
+    ∙ rising_ordered rising h
+
+-- Some cells, and the same in order.
+inserted_permuted : (r : Frames) (hs : List Frames) → IsPermutation (insert_rising r hs) (r ∷ hs)
+inserted_permuted r [] = IsPermutation-refl (r ∷ [])
+inserted_permuted r (x ∷ hs) = step (nat_lt r.lo x.lo) (inserted_permuted r hs)
+  where
+    step : (b : Bool) → IsPermutation (insert_rising r hs) (r ∷ hs) → IsPermutation (cond b (r ∷ x ∷ hs) (x ∷ insert_rising r hs)) (r ∷ x ∷ hs)
+    step true ih = IsPermutation-refl (r ∷ x ∷ hs)
+    step false ih = IsPermutation-trans (x ∷ insert_rising r hs) (x ∷ r ∷ hs) (r ∷ x ∷ hs)
+        (IsPermutation-cons x (insert_rising r hs) (r ∷ hs) ih) (IsPermutation-middle (x ∷ []) r hs)
+
+pub ordered_permuted : (cells : List Frames) (n : ℕ) → n ≤ length cells → IsPermutation (ordered cells n) (take n cells)
+ordered_permuted cells zero within = IsPermutation-refl []
+ordered_permuted cells (suc n) within =
+    let r = range_at cells n in
+    let m : suc n ≡ n + 1 = omega arith in
+    let more : take (suc n) cells ≡ take n cells ++ r ∷ [] = rw m (take_more cells n (record { lo = 0; len = 0 }) (omega (arith, within))) in
+    let rest = IsPermutation-cons r (ordered cells n) (take n cells) (ordered_permuted cells n (omega (arith, within))) in
+    let last = IsPermutation-sym (take n cells ++ r ∷ []) (r ∷ take n cells) (IsPermutation-to_front (take n cells) r) in
+    let behind = IsPermutation-trans (r ∷ ordered cells n) (r ∷ take n cells) (take n cells ++ r ∷ []) rest last in
+    rw more (IsPermutation-trans (insert_rising r (ordered cells n)) (r ∷ ordered cells n) (take n cells ++ r ∷ []) (inserted_permuted r (ordered cells n)) behind)

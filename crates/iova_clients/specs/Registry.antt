@@ -1,5 +1,5 @@
 -- What `Clients` are seen as, and what refuses a call of theirs.
-use Rattle.std.specs.Prelude.{ℕ, ◌≡◌, ◌==◌, ◌+◌, ◌^◌, ◌<◌, ◌≤◌, Bool, true, nat_le, List, [], ◌∷◌, ◌++◌, length, Option, Some, None, Result, Err, MatchOption, MatchResult, unwrap_or, find, option_map, ok_or, slice_get}
+use Rattle.std.specs.Prelude.{ℕ, ◌≡◌, ◌==◌, ◌+◌, ◌^◌, ◌<◌, ◌≤◌, Bool, true, nat_le, List, [], ◌∷◌, length, Option, Some, None, Result, Err, MatchOption, MatchResult, unwrap_or, find, option_map, ok_or, slice_get}
 use Rattle.std.specs.List.{AllByRecursion}
 use Rattle.std.specs.Map.{lookup}
 use Rattle.iova_range.specs.declared.limits.TheConstants.{MAX_WORKERS, MAX_CLIENTS, MAX_HOLDINGS, MAX_SERIAL}
@@ -11,6 +11,7 @@ use Rattle.iova_model.specs.Clients.{Client, begins_at}
 use Rattle.iova_model.specs.Next.{first_refusal}
 use Rattle.iova_model.specs.Valid.{AreClients}
 use Rattle.iova_clients.specs.declared.flags.ClientFlags.{ClientFlags}
+use Rattle.iova_clients.specs.Orders.{AppendsInAnyOrder}
 
 -- The clients, rising by serial; the last serial given; and by the serial of each client how many
 -- more holdings it can be given without memory
@@ -68,12 +69,14 @@ abbrev pub held_at : ℕ → Option Client → Result Frames Refusal
 held_at lo None = Err refusal.NoClient
 held_at lo (Some c) = ok_or (find (begins_at lo) c.holdings) refusal.NotHeld
 
--- the client's holdings come behind the list, unless there is no such client or memory is refused
+-- the client's holdings come behind the list, in any order; unless there is no such client, or
+-- memory is refused
 abbrev pub AppendsHoldings : Option Client → List Frames → List Frames → Result Unit Refusal
     → Type 0
 AppendsHoldings o old new result =
     MatchOption o (result ≡ Err refusal.NoClient)
-    (λ c. MatchResult result (λ u. new ≡ old ++ c.holdings) (λ e. e ≡ refusal.NoMemory))
+    (λ c. MatchResult result (λ u. AppendsInAnyOrder c.holdings old new)
+    (λ e. e ≡ refusal.NoMemory))
 
 -- what a step asks of a client before it looks at a holding
 abbrev pub flags_of : Client → ClientFlags

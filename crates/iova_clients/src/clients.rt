@@ -196,9 +196,10 @@ impl Clients {
         Some(ledger.count())
     }
 
-    /// Appends the client's holdings, rising by first frame, at most 4,096. Refused by `NoClient`
-    /// where there is no such client, else by `NoMemory` where memory is refused; then nothing is
-    /// appended. Where the list has room for 4,096 more it takes no memory.
+    /// Appends the client's holdings, in no order, at most 4,096: `orders::put_in_order_from` puts
+    /// them in order. Refused by `NoClient` where there is no such client, else by `NoMemory` where
+    /// memory is refused; then nothing is appended. Where the list has room for 4,096 more it takes
+    /// no memory.
     pub fn append_holdings(&self, id: ClientId, list: &mut Vec<Range>) -> Result<(), Refusal>
         ensures is { AppendsHoldings (client_with id self.now.clients) list.old.items
             list.new.items result }

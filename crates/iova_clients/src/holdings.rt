@@ -1,11 +1,11 @@
 //! The holdings of one client, in a block of cells.
-ghost use Rattle.std.specs.Prelude.{◌≡◌, ◌≢◌, ◌<◌, ◌≤◌, ◌+◌, ◌++◌, ℕ, [], true, false, find, length, take, slice_get, slice_index_or, vec_len, vec_capacity, IsOk, OnOk, OnErr, OnSome, IfSome, IfNone, None, IsTrue, ◌↔◌};
+ghost use Rattle.std.specs.Prelude.{◌≡◌, ◌≢◌, ◌<◌, ◌≤◌, ◌+◌, ℕ, [], true, false, find, length, take, slice_get, slice_index_or, vec_len, vec_capacity, IsOk, OnOk, OnErr, OnSome, IfSome, IfNone, None, IsTrue, ◌↔◌};
 ghost use Rattle.iova_model.specs.Fit.{is_covered};
 ghost use Rattle.iova_model.specs.Clients.{begins_at, insert_rising, remove_at};
-ghost use Rattle.std.specs.List.Sorted.{IsPermutation};
 ghost use Rattle.iova_clients.specs.Chains.{range_at};
-ghost use Rattle.iova_clients.specs.Orders.{ordered, BeginApart};
+ghost use Rattle.iova_clients.specs.Orders.{ordered, BeginApart, AppendsInAnyOrder};
 
+use crate::orders::put_in_order;
 use crate::{chains, heaps};
 use iova_range::limits::MAX_HOLDINGS;
 use iova_range::range::Range;
@@ -101,16 +101,6 @@ fn is_any_covering(ranges: &[Range], frame: u64) -> bool
     ranges.iter().any(|range| range.covers(frame))
 }
 
-/// The ranges come into order, in place.
-fn put_in_order(ranges: &mut [Range])
-    requires { BeginApart (range_at ranges.old) (length ranges.old) }
-    ensures value { ranges.new ≡ ordered ranges.old (length ranges.old) }
-    ensures permutation { IsPermutation ranges.old ranges.new }
-    ensures len { length ranges.new ≡ length ranges.old }
-{
-    ranges.sort_unstable_by_key(|range| range.lo());
-}
-
 /// The first so many of these cells, at the front of the list, in order.
 fn copy_in_order(cells: &[Range], count: usize, list: &mut [Range])
     requires within { count ≤ length cells.now }
@@ -123,20 +113,17 @@ fn copy_in_order(cells: &[Range], count: usize, list: &mut [Range])
     put_in_order(&mut list[..count]);
 }
 
-/// The first so many of these cells, behind the others of the list, in order. Refused where memory
-/// is; then the list is as it was.
-fn append_in_order(cells: &[Range], count: usize, list: &mut Vec<Range>) -> Result<(), AllocError>
+/// The first so many of these cells, behind the others of the list. Refused where memory is; then
+/// the list is as it was.
+fn append(cells: &[Range], count: usize, list: &mut Vec<Range>) -> Result<(), AllocError>
     requires within { count ≤ length cells.now }
-    requires apart { BeginApart (range_at cells.now) count }
-    ensures ok { OnOk result (list.new.items ≡ list.old.items ++ ordered cells.now count) }
+    ensures ok { OnOk result (AppendsInAnyOrder (ordered cells.now count) list.old.items
+        list.new.items) }
     ensures unchanged { OnErr result (list.new.items ≡ list.old.items) }
     ensures room { vec_len list.old + count ≤ vec_capacity list.old → IsOk result }
     ensures capacity { vec_capacity list.old ≤ vec_capacity list.new }
 {
-    let from = list.len();
-    list.extend_from_slice(&cells[..count])?;
-    put_in_order(list.slice_mut(from..from + count));
-    Ok(())
+    list.extend_from_slice(&cells[..count])
 }
 
 impl Holdings {
@@ -391,15 +378,16 @@ impl Holdings {
         copy_in_order(self.cells.as_slice(), self.count, list);
     }
 
-    /// Appends the ranges, rising. Refused where memory is; then the list is as it was.
+    /// Appends the ranges, in no order. Refused where memory is; then the list is as it was.
     pub(crate) fn append_to(&self, list: &mut Vec<Range>) -> Result<(), AllocError>
-        ensures ok { OnOk result (list.new.items ≡ list.old.items ++ self.now.ranges) }
+        ensures ok { OnOk result (AppendsInAnyOrder self.now.ranges list.old.items
+            list.new.items) }
         ensures unchanged { OnErr result (list.new.items ≡ list.old.items) }
         ensures room { vec_len list.old + length self.now.ranges ≤ vec_capacity list.old
             → IsOk result }
         ensures capacity { vec_capacity list.old ≤ vec_capacity list.new }
     {
-        append_in_order(self.cells.as_slice(), self.count, list)
+        append(self.cells.as_slice(), self.count, list)
     }
 
     /// Whether a range has the frame. This looks at all.

@@ -1,8 +1,9 @@
 //! The ledger of one client.
-ghost use Rattle.std.specs.Prelude.{◌≡◌, ◌≤◌, ◌+◌, ◌-◌, ◌++◌, false, true, [], find, length, slice_get, take, vec_len, vec_capacity, Some, Err, IsOk, OnOk, OnErr, OnSome, IfSome, IfNone, None, IsOkUnless};
+ghost use Rattle.std.specs.Prelude.{◌≡◌, ◌≤◌, ◌+◌, ◌-◌, false, true, [], find, length, slice_get, take, vec_len, vec_capacity, Some, Err, IsOk, OnOk, OnErr, OnSome, IfSome, IfNone, None, IsOkUnless};
 ghost use Rattle.iova_model.specs.Fit.{is_covered};
 ghost use Rattle.iova_model.specs.Clients.{begins_at};
 ghost use Rattle.iova_clients.specs.Registry.{room_refusal};
+ghost use Rattle.iova_clients.specs.Orders.{AppendsInAnyOrder};
 ghost use Rattle.iova_clients.specs.Accounts.{client_at, with_held, without_held};
 
 use crate::holdings::Holdings;
@@ -96,10 +97,11 @@ impl ClientLedger {
         self.holdings.copy_to(list);
     }
 
-    /// Appends the holdings, rising. `NoMemory` where memory is refused; then the list is as it
-    /// was.
+    /// Appends the holdings, in no order. `NoMemory` where memory is refused; then the list is as
+    /// it was.
     pub(crate) fn append_to(&self, list: &mut Vec<Range>) -> Result<(), Refusal>
-        ensures ok { OnOk result (list.new.items ≡ list.old.items ++ self.now.holdings) }
+        ensures ok { OnOk result (AppendsInAnyOrder self.now.holdings list.old.items
+            list.new.items) }
         ensures refused { IsOkUnless result Refusal.NoMemory }
         ensures unchanged { OnErr result (list.new.items ≡ list.old.items) }
         ensures room { vec_len list.old + length self.now.holdings ≤ vec_capacity list.old

@@ -8,6 +8,7 @@ mod heaps;
 mod holdings;
 mod ledger;
 mod ledgers;
+pub mod orders;
 mod sums;
 
 pub use crate::clients::Clients;

@@ -635,9 +635,10 @@ impl Domain {
         self.clients.copy_holdings(client, list)
     }
 
-    /// Appends the client's holdings, rising by first frame, at most 4,096. Refused by `NoClient`
-    /// where there is no such client, else by `NoMemory` where memory is refused; then nothing is
-    /// appended. Where the list has room for 4,096 more it takes no memory.
+    /// Appends the client's holdings, in no order, at most 4,096: `put_in_order_from` of
+    /// `iova_clients` puts them in order. Refused by `NoClient` where there is no such client, else
+    /// by `NoMemory` where memory is refused; then nothing is appended. Where the list has room for
+    /// 4,096 more it takes no memory.
     pub fn append_holdings(&self, client: ClientId, list: &mut Vec<Range>) -> Result<(), Refusal>
         ensures is { AppendsHoldings (client_with client self.now.clients) list.old.items
             list.new.items result }

@@ -1,6 +1,6 @@
 -- Where seats are gathered, there is one.
 use Rattle.std.proofs.Common.{ℕ, zero, suc, ◌≡◌, ◌∙◌, ◌<◌, ◌≤◌, List, [], ◌∷◌, length, sym, refl, arith}
-use Rattle.std.specs.Prelude.{Bool, true, false, ◌==◌, ◌&&◌}
+use Rattle.std.specs.Prelude.{true, false}
 use Rattle.std.proofs.lemmas.Bool.{and_right}
 use Rattle.iova_keep.specs.Views.{SeatState}
 use Rattle.iova_lock.specs.Books.{are_all, has_seat, have_seats}

@@ -1,6 +1,7 @@
 -- What contracts see of a book and of a lock round it.
-use Rattle.std.specs.Prelude.{ℕ, zero, suc, ◌≡◌, ◌+◌, ◌==◌, ◌&&◌, sum_by, Bool, true, false, List, [], ◌++◌, length, Option, Some, None, option_and_then, option_map}
+use Rattle.std.specs.Prelude.{ℕ, zero, suc, ◌≡◌, ◌≤◌, ◌+◌, ◌==◌, ◌&&◌, sum_by, Bool, true, false, List, ◌++◌, length, Option, Some, None, option_and_then, option_map}
 use Rattle.std.specs.List.{list_any}
+use Rattle.iova_range.specs.declared.limits.TheConstants.{MAX_HOLDINGS}
 use Rattle.iova_range.specs.Bounds.{Extent}
 use Rattle.iova_range.specs.Frames.{Frames}
 use Rattle.iova_model.specs.declared.step.Step.{Step}
@@ -8,6 +9,8 @@ use Rattle.iova_model.specs.declared.step.Step.TheVariants as step
 use Rattle.iova_model.specs.declared.totals.Totals.{Totals}
 use Rattle.iova_model.specs.Clients.{Client, client_with, newer_client, totals, no_totals, holdings_in}
 use Rattle.iova_model.specs.State.{State, new_domain}
+use Rattle.iova_model.specs.Valid.{Rises}
+use Rattle.iova_clients.specs.Orders.{AppendsInAnyOrder}
 use Rattle.iova_keep.specs.Views.{SeatState, TallyState, IsKept}
 use Rattle.iova_keep.specs.Events.{Event}
 use Rattle.iova_keep.specs.StepLogs.{StepLog, IsRecorded}
@@ -43,6 +46,24 @@ pub record ReadsNewer (worker than : ℕ) (s : State) (before after : List Frame
     (id : Option ℕ) : Type 0 where
   pub serial : id ≡ option_map (λ c. c.id) (newer_client worker than s.clients)
   pub ranges : after ≡ before ++ holdings_in (option_and_then (λ i. client_with i s.clients) id)
+
+-- its own serial, and its ranges in any order
+pub record AppendsNewer (worker than : ℕ) (s : State) (before after : List Frames)
+    (id : Option ℕ) : Type 0 where
+  pub serial : id ≡ option_map (λ c. c.id) (newer_client worker than s.clients)
+  pub ranges : AppendsInAnyOrder
+      (holdings_in (option_and_then (λ i. client_with i s.clients) id)) before after
+
+-- what a client holds comes behind a list, in any order
+pub record AppendsHeld (before after : List Frames) : Type 0 where
+  pub held : List Frames
+  pub few : length held ≤ MAX_HOLDINGS
+  pub rising : Rises 0 held
+  pub appends : AppendsInAnyOrder held before after
+
+-- a client has at most 4,096 ranges, which rise
+abbrev pub HoldsInOrder : Client → Type 0
+HoldsInOrder c = (length c.holdings ≤ MAX_HOLDINGS) × Rises 0 c.holdings
 
 -- a new domain's book
 abbrev pub new_book : ℕ → Extent → ℕ → Option StepLog → BookState

@@ -6,13 +6,12 @@ ghost use Rattle.iova_range.specs.declared.limits.TheConstants.{MAX_CLIENTS, MAX
 ghost use Rattle.iova_range.specs.Frames.{Frames};
 ghost use Rattle.iova_model.specs.Clients.{totals, client_of, no_totals};
 ghost use Rattle.iova_model.specs.State.{State, new_domain};
-ghost use Rattle.iova_model.specs.Valid.{Rises};
+ghost use Rattle.iova_clients.specs.Registry.{AppendsHoldings};
 ghost use Rattle.iova_model.specs.Effects.{MovesTotals, IsReplyTo, ended_well, to_queue, worker_of};
 ghost use Rattle.iova_keep.specs.Steps.{Takes, IsGivenWithin, IsDrainReply};
-ghost use Rattle.iova_keep.specs.Answers.{ReadsHoldings};
 ghost use Rattle.iova_keep.specs.StepLogs.{StepLog, StoresStep, IsRecorded, is_recording, new_log};
 ghost use Rattle.iova_keep.specs.Events.{Does, Unmapping, IsShort, Closing, Draining, rings_from};
-ghost use Rattle.iova_lock.specs.Books.{BookState, IsSame, Runs, ReadsNewer, by_seat, by_tally, new_book, steps_in, IsBook};
+ghost use Rattle.iova_lock.specs.Books.{BookState, IsSame, Runs, AppendsNewer, HoldsInOrder, by_seat, by_tally, new_book, steps_in, IsBook};
 ghost use Rattle.iova_keep.specs.Views.{AreBlanksOf, TallyState, SeatState, Covers, IsWorker, new_seats, seats_in_turn, left_of, stat_of, IsLowered, IsCloseHeard, IsKept, MovesSharesAlone};
 
 use iova_core::domain::Domain;
@@ -303,14 +302,14 @@ impl<B: Names> Book<B> {
     }
 
     /// The first client that the worker opened behind this serial, and its ranges, at most 4,096,
-    /// appended rising by first frame. Refused by `NoMemory`, which appends nothing.
-    pub fn newer(
+    /// appended in no order. Refused by `NoMemory`, which appends nothing.
+    pub(crate) fn append_newer(
         &self,
         worker: u64,
         than: ClientId,
         ranges: &mut Vec<Range>,
     ) -> Result<Option<ClientId>, Refusal>
-        ensures ok { IfOk result (ReadsNewer worker than self.now.state ranges.old.items
+        ensures ok { IfOk result (AppendsNewer worker than self.now.state ranges.old.items
             ranges.new.items) }
         ensures err { OnErr result ((result ≡ Err Refusal.NoMemory)
             × (ranges.new.items ≡ ranges.old.items)) }
@@ -393,18 +392,16 @@ impl<B: Names> Book<B> {
         self.recorded.stat()
     }
 
-    /// Appends the holdings of the worker's client, rising by first frame.
+    /// Appends the holdings of the worker's client, in no order.
     pub(crate) fn append_holdings(
         &self,
         worker: u64,
         id: u64,
         ranges: &mut Vec<Range>,
     ) -> Result<(), Refusal>
-        ensures is { ReadsHoldings worker id ranges.old.items ranges.new.items result
-            self.now.state }
-        ensures ok { OnOk result ((more : List Frames)
-            × (ranges.new.items ≡ ranges.old.items ++ more) × Rises 0 more) }
-        ensures most { length ranges.new.items ≤ length ranges.old.items + MAX_HOLDINGS }
+        ensures is { AppendsHoldings (client_of worker id self.now.state.clients)
+            ranges.old.items ranges.new.items result }
+        ensures held { IfSome (client_of worker id self.now.state.clients) HoldsInOrder }
         ensures room { vec_len ranges.old + MAX_HOLDINGS ≤ vec_capacity ranges.old
             → result ≢ Err Refusal.NoMemory }
         ensures capacity { vec_capacity ranges.old ≤ vec_capacity ranges.new }

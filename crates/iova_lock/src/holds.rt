@@ -7,6 +7,7 @@ ghost use Rattle.iova_keep.specs.Views.{queued_by, Lowers, IsLowered};
 
 use crate::batch;
 use crate::book::{Book, is_queued};
+use iova_clients::orders::put_in_order_from;
 use iova_core::{ClientId, Reply, Step};
 use iova_keep::ask::{Ask, Told};
 use iova_keep::keep::{Heard, Keep};
@@ -317,7 +318,10 @@ impl<B: Names> Keep<B> for Book<B> {
         id: ClientId,
         ranges: &mut Vec<Range>,
     ) -> Result<(), Refusal> {
-        self.append_holdings(seat.worker(), id, ranges)
+        let from = ranges.len();
+        self.append_holdings(seat.worker(), id, ranges)?;
+        put_in_order_from(ranges, from);
+        Ok(())
     }
 
     fn totals(&self) -> Totals {

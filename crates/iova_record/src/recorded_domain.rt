@@ -3,7 +3,7 @@
 ghost use Rattle.std.specs.Prelude.{ℕ, ◌≡◌, ◌≢◌, ◌+◌, ◌<◌, ◌⊎◌, ◌++◌, ◌∷◌, IfOk, IfErr, IsErr, Err, ◌≤◌, ◌↔◌, Some, None, [], true, false, option_copied, option_map, OnErr, vec_len, vec_capacity};
 ghost use Rattle.iova_range.specs.declared.limits.TheConstants.{MAX_HOLDINGS};
 ghost use Rattle.iova_range.specs.Frames.{Frames};
-ghost use Rattle.iova_keep.specs.Answers.{ReadsHoldings};
+ghost use Rattle.iova_clients.specs.Registry.{AppendsHoldings};
 ghost use Rattle.iova_model.specs.Clients.{totals, client_of};
 ghost use Rattle.iova_model.specs.State.{State, new_domain};
 ghost use Rattle.iova_model.specs.Effects.{MovesTotals, IsReplyTo, ended_well, to_queue, worker_of};
@@ -228,17 +228,17 @@ impl RecordedDomain {
         }
     }
 
-    /// Appends the holdings of the worker's client, at most 4,096, rising by first frame. Refused
-    /// by `NoClient` and `NoMemory`; then nothing is appended. Where the list has room for 4,096
-    /// more it takes no memory.
+    /// Appends the holdings of the worker's client, at most 4,096, in no order. Refused by
+    /// `NoClient` and `NoMemory`; then nothing is appended. Where the list has room for 4,096 more
+    /// it takes no memory.
     pub fn append_holdings(
         &self,
         worker: u64,
         client: u64,
         list: &mut Vec<Range>,
     ) -> Result<(), Refusal>
-        ensures is { ReadsHoldings worker client list.old.items list.new.items result
-            self.now.state }
+        ensures is { AppendsHoldings (client_of worker client self.now.state.clients)
+            list.old.items list.new.items result }
         ensures unchanged { OnErr result (list.new.items ≡ list.old.items) }
         ensures room { vec_len list.old + MAX_HOLDINGS ≤ vec_capacity list.old
             → result ≢ Err Refusal.NoMemory }

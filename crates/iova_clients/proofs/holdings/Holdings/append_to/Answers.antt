@@ -5,4 +5,4 @@ use Rattle.iova_clients.proofs.holdings.Holdings.append_to.Goals as goal
 pub returns-clause-room : goal.returns-clause-room
 returns-clause-room c =
     let h = c.self.inside in
-    rw (← c.self.view_is, length-ordered (range_at h.cells.items) h.count) c.append_in_order.ensures.room
+    rw (← c.self.view_is, length-ordered (range_at h.cells.items) h.count) c.append.ensures.room
