@@ -6,7 +6,7 @@ use Rattle.iova_tree.specs.Spans.{Span, IsRisingFrom, IsBefore, with_span, end_a
 use Rattle.iova_tree.specs.declared.search.Wanted.{Wanted}
 use Rattle.iova_tree.specs.Fit.{IsWanted, higher, place, highest_after, highest_between, place_before, place_behind, taken, IsFound}
 use Rattle.iova_tree.specs.declared.search.Found.{Found}
-use Rattle.iova_tree.specs.declared.search.Found.TheVariants.{Nowhere, At, Taken}
+use Rattle.iova_tree.specs.declared.search.Found.TheVariants.{Nowhere, At, Taken, Marked}
 use Rattle.iova_tree.specs.Node.{node_spans, IsBalanced, IsSummedUp, TakesPlace}
 use Rattle.iova_tree.specs.declared.subtree.Node.{Node}
 use Rattle.iova_tree.proofs.Spans.{with_span-later, rising-end, rising-front, rising-weaken, node-gaps, node-middle, first_below_end, before_all, length-with}
@@ -202,6 +202,7 @@ pub room_found : (w : Wanted) (n m : Node) (o : Found) → IsWanted w → IsBala
 room_found w n m Nowhere h b f = rw f.1 (omega arith)
 room_found w n m (At lo) h b f = rw f.1 (omega arith)
 room_found w n m (Taken lo) h b f = room_taken w n m lo h b f.0 f.1
+room_found w n m (Marked lo) h b f = room_taken w n m lo h b f.0 f.1
 
 -- what a link tells of the node, with the range
 pub summed_up : (w : Wanted) (n m : Node) (lo height room first end now : ℕ) → IsWanted w → IsSummedUp height room first end n → highest_between w (node_spans n) ≡ Some lo → TakesPlace (taken w lo) n m → room_between (node_spans m) ≤ now → IsSummedUp height now first end m
@@ -226,3 +227,4 @@ pub summed_found : (w : Wanted) (n m : Node) (height room first end now : ℕ) (
 summed_found w n m height room first end now Nowhere h g f is = same w n m height room first end now g f.1 is
 summed_found w n m height room first end now (At lo) h g f is = same w n m height room first end now g f.1 is
 summed_found w n m height room first end now (Taken lo) h g f is = summed_up w n m lo height room first end now h g f.0 f.1 is
+summed_found w n m height room first end now (Marked lo) h g f is = summed_up w n m lo height room first end now h g f.0 f.1 is

@@ -78,14 +78,23 @@ places_split x n low high r b le before s parts some e h q =
 
 -- What is known of a node of which one part has changed.
 
+pub level_left : (n : Node) (l : List Span × ℕ) → IsBalanced 1 n → IsBalanced 2 (record n { left = l }) → l.1 ≡ n.left.1 → IsBalanced 1 (record n { left = l })
+level_left n l b p k = record { some = b.some; rising = p.rising; level = rw k b.level }
+
+pub level_right : (n : Node) (r : List Span × ℕ) → IsBalanced 1 n → IsBalanced 2 (record n { right = r }) → r.1 ≡ n.right.1 → IsBalanced 1 (record n { right = r })
+level_right n r b p k = record { some = b.some; rising = p.rising; level = rw k b.level }
+
+pub level_here : (n : Node) (k : List Span) → IsBalanced 1 n → IsBalanced 2 (record n { block = k }) → IsBalanced 1 (record n { block = k })
+level_here n k b p = record { some = p.some; rising = p.rising; level = b.level }
+
 pub keeps_left : (n : Node) (l : List Span × ℕ) (most : ℕ) → IsBalanced 1 n → IsBalanced 2 (record n { left = l }) → l.1 ≡ n.left.1 → room_between (node_spans (record n { left = l })) ≤ most → KeepsHeight n (record n { left = l }) most
-keeps_left n l most b p k r = record { height = rw k refl; room = r; balanced = record { some = b.some; rising = p.rising; level = rw k b.level } }
+keeps_left n l most b p k r = record { height = rw k refl; room = r; balanced = level_left n l b p k }
 
 pub keeps_right : (n : Node) (r : List Span × ℕ) (most : ℕ) → IsBalanced 1 n → IsBalanced 2 (record n { right = r }) → r.1 ≡ n.right.1 → room_between (node_spans (record n { right = r })) ≤ most → KeepsHeight n (record n { right = r }) most
-keeps_right n r most b p k q = record { height = rw k refl; room = q; balanced = record { some = b.some; rising = p.rising; level = rw k b.level } }
+keeps_right n r most b p k q = record { height = rw k refl; room = q; balanced = level_right n r b p k }
 
 pub keeps_here : (n : Node) (k : List Span) (most : ℕ) → IsBalanced 1 n → IsBalanced 2 (record n { block = k }) → room_between (node_spans (record n { block = k })) ≤ most → KeepsHeight n (record n { block = k }) most
-keeps_here n k most b p r = record { height = refl; room = r; balanced = record { some = p.some; rising = p.rising; level = b.level } }
+keeps_here n k most b p r = record { height = refl; room = r; balanced = level_here n k b p }
 
 -- The room of the parts of a node.
 

@@ -20,11 +20,12 @@ pub const BLOCK: usize = 24;
 const MOST_ROOM: u32 = MAX_FRAMES as u32;
 
 /// Ranges that rise apart, at most `BLOCK`, with a bound: no greater size fits aligned between two
-/// neighbours. It may be too great once a range has come in, until a search finds nothing.
+/// neighbours. It may be too great where the block is marked, which it is once a range comes in.
 #[derive(Drop)]
 pub struct Block {
     spans: ArrayVec<Span, BLOCK>,
     room: u32,
+    is_marked: bool,
 }
 
 impl Model for Block {
@@ -47,7 +48,11 @@ impl Block {
     {
         let mut spans = ArrayVec::new();
         spans.push(span);
-        Block { spans, room: 0 }
+        Block {
+            spans,
+            room: 0,
+            is_marked: false,
+        }
     }
 
     /// Whether it has as many as it takes.
@@ -97,6 +102,24 @@ impl Block {
         self.room
     }
 
+    /// Whether it is marked.
+    #[inline]
+    pub fn is_marked(&self) -> bool {
+        self.is_marked
+    }
+
+    /// Makes the bound the least there is, and takes the mark off.
+    #[inline]
+    pub fn renew(&mut self)
+        ensures { self.new ≡ self.old }
+    {
+        if !self.is_marked {
+            return;
+        }
+        self.room = room_of_all(self.spans.as_slice(), self.room);
+        self.is_marked = false;
+    }
+
     /// The highest place between two neighbours.
     #[inline]
     pub fn highest_between(&self, wanted: &Wanted) -> Option<u64>
@@ -130,9 +153,14 @@ impl Block {
         if self.is_full() {
             return Found::At(lo);
         }
+        let is_most = gap_below(self.spans.as_slice(), at) >= self.room as u64;
         self.spans
             .insert(at, Span::new(lo, lo + wanted.size, false));
-        Found::Taken(lo)
+        if self.is_marked || !is_most {
+            return Found::Taken(lo);
+        }
+        self.is_marked = true;
+        Found::Marked(lo)
     }
 
     /// Lets a range in, whose frames are free.
@@ -146,9 +174,11 @@ impl Block {
         let room = room_with_one(spans, at, span, self.room);
         self.spans.insert(at, span);
         self.room = room;
+        self.is_marked = true;
     }
 
-    /// Takes out the range that begins at `lo`.
+    /// Takes out the range that begins at `lo`. Where it is the first or the last, a gap goes with
+    /// it: then a mark goes, and the bound is the least there is.
     pub fn remove(&mut self, lo: u64) -> Span
         requires { Holds lo self.old }
         ensures begins { result.lo ≡ lo }
@@ -159,7 +189,11 @@ impl Block {
         let at = place_of(spans, lo);
         let room = room_without(spans, at, self.room);
         let gone = self.spans.remove(at);
-        self.room = room;
+        let is_edge = at == 0 || at == self.spans.len();
+        let spans = self.spans.as_slice();
+        let is_looked_at = is_edge && (self.is_marked || is_most(spans, gone, room));
+        self.room = room_once_gone(spans, is_looked_at, room);
+        self.is_marked = self.is_marked && !is_edge;
         gone
     }
 
@@ -173,6 +207,7 @@ impl Block {
         let _ = self.spans.remove(at);
         self.spans.insert(at, span);
         self.room = room_of_all(self.spans.as_slice(), MOST_ROOM);
+        self.is_marked = false;
     }
 
     /// Whether one of the ranges has the frame.
@@ -230,7 +265,12 @@ impl Block {
         let room = room_of_all(high.as_slice(), MOST_ROOM);
         self.spans.truncate(keep);
         self.room = room_of_all(self.spans.as_slice(), MOST_ROOM);
-        Block { spans: high, room }
+        self.is_marked = false;
+        Block {
+            spans: high,
+            room,
+            is_marked: false,
+        }
     }
 }
 
@@ -281,6 +321,44 @@ fn room_without(spans: &[Span], at: usize, known: u32) -> u32
         return known;
     }
     room_with(known, spans[at - 1].end(), spans[at + 1].lo())
+}
+
+// How many frames lie between the range at this place and the one before it.
+#[inline]
+fn gap_below(spans: &[Span], at: usize) -> u64 {
+    if at == 0 || at >= spans.len() {
+        return 0;
+    }
+    spans[at].lo().saturating_sub(spans[at - 1].end())
+}
+
+// Whether the gap between these and the one that is gone may have had all of the room that is
+// known.
+#[inline]
+fn is_most(spans: &[Span], gone: Span, known: u32) -> bool {
+    if spans.is_empty() || known == 0 {
+        return false;
+    }
+    let first = spans[0].lo();
+    let end = spans[spans.len() - 1].end();
+    let gap = first
+        .saturating_sub(gone.end())
+        .max(gone.lo().saturating_sub(end));
+    known as u64 <= gap
+}
+
+// A bound for the room between two neighbours, which is `known` at most: the least there is where
+// they are to be looked at.
+#[inline]
+fn room_once_gone(spans: &[Span], is_looked_at: bool, known: u32) -> u32
+    requires known { room_between spans.now ≤ known }
+    requires rising { IsRisingFrom 0 spans.now }
+    ensures { room_between spans.now ≤ result }
+{
+    if is_looked_at {
+        return room_of_all(spans, known);
+    }
+    known
 }
 
 // The highest place between two neighbours of these, and how many of them lie below it.

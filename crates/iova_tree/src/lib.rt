@@ -4,9 +4,11 @@
 
 mod block;
 mod position;
+mod ranges;
 mod room;
 mod search;
 mod span;
 mod subtree;
 pub mod tree;
+mod ways;
 mod window;

@@ -1,7 +1,8 @@
 //! A balanced tree of blocks of ranges that rise apart. A link knows of the ranges below it where
 //! they begin and end, how high their nodes stand, and a bound for the sizes that fit aligned into a
-//! gap between two neighbours. A range that comes in leaves the bounds as they are. So a bound may
-//! be too great, and a search that finds nothing below a link lowers the link's.
+//! gap between two neighbours. A range that comes in leaves the bounds on its way as they are, and
+//! marks its block: these may be too great, until a search finds nothing below or `renew_at` goes
+//! the way. All else keeps the bounds of other ways the least there are.
 ghost use Rattle.std.specs.Prelude.{◌≡◌, ◌+◌, ◌^◌, ◌<◌, ◌≤◌, max, [], ◌∷◌, ◌++◌, ◌-◌};
 ghost use Rattle.std.specs.Prelude.{true, false, length, IfOk, OnOk, OnErr, IfSome, IfNone, Some, None, IsSome, ℕ, List};
 ghost use Rattle.std.specs.Int.{IsPowerOfTwo};
@@ -255,8 +256,9 @@ impl Subtree {
         first
     }
 
-    // Takes out the range that begins at `lo`, which `gone` is then. Where the subtree stands as high
-    // as before, it tells whether it begins and ends where it did.
+    // Takes out the range that begins at `lo`, which `gone` is then. It tells whether the subtree
+    // begins and ends where it did. None where a node goes, or the mark of the block: then all that
+    // the links on the way know is renewed.
     #[cycle(take)]
     fn take(&mut self, lo: u64, gone: &mut Span) -> Option<bool>
         requires held { Holds lo self.old.0 }
@@ -269,11 +271,11 @@ impl Subtree {
         ensures same { IfSome result (λ same. same ≡ true → KeepsEdges self.old.0 self.new.0) }
     {
         let Link::Rooted {
-            height,
             room,
             first,
             end,
             root,
+            ..
         } = &mut self.link
         else {
             unreachable!()
@@ -285,13 +287,8 @@ impl Subtree {
             return None;
         }
         let Some((now, same)) = take_below(root, lo, gone, *room) else {
-            let before = *height;
             renew(&mut self.link);
-            return if self.height() == before {
-                Some(false)
-            } else {
-                None
-            };
+            return None;
         };
         // for the proof: the node is low
         let _height = root.height();
@@ -305,6 +302,18 @@ impl Subtree {
         *first = begins;
         *end = ends;
         Some(is_same)
+    }
+
+    /// Makes the bounds on the way to the place of `lo` the least that those beside it allow.
+    #[cycle(renew_at)]
+    pub fn renew_at(&mut self, lo: u64)
+        ensures { self.new ≡ self.old }
+    {
+        let Link::Rooted { room, root, .. } = &mut self.link else {
+            return;
+        };
+        renew_below(root, lo);
+        *room = root.room();
     }
 
     // Puts a range in the place of the one that begins at `lo`.
@@ -750,6 +759,7 @@ fn take_between(node: &mut Node, wanted: &Wanted, room: &mut u32) -> Found
         Found::Nowhere => {}
         Found::At(lo) => return Found::At(lo),
         Found::Taken(lo) => return Found::Taken(lo),
+        Found::Marked(lo) => return Found::Marked(lo),
     }
     if let Some(lo) = node.right.place_before(node.block.end(), wanted) {
         return take_beside(node, wanted, lo);
@@ -758,6 +768,7 @@ fn take_between(node: &mut Node, wanted: &Wanted, room: &mut u32) -> Found
         Found::Nowhere => {}
         Found::At(lo) => return Found::At(lo),
         Found::Taken(lo) => return Found::Taken(lo),
+        Found::Marked(lo) => return Found::Marked(lo),
     }
     if let Some(lo) = node.left.place_behind(node.block.first(), wanted) {
         return take_beside(node, wanted, lo);
@@ -766,6 +777,7 @@ fn take_between(node: &mut Node, wanted: &Wanted, room: &mut u32) -> Found
         Found::Nowhere => {}
         Found::At(lo) => return Found::At(lo),
         Found::Taken(lo) => return Found::Taken(lo),
+        Found::Marked(lo) => return Found::Marked(lo),
     }
     *room = node.room();
     Found::Nowhere
@@ -785,8 +797,12 @@ fn take_beside(node: &mut Node, wanted: &Wanted, lo: u64) -> Found
     if node.block.is_full() {
         return Found::At(lo);
     }
+    let was_marked = node.block.is_marked();
     node.block.insert(Span::new(lo, lo + wanted.size, false));
-    Found::Taken(lo)
+    if was_marked {
+        return Found::Taken(lo);
+    }
+    Found::Marked(lo)
 }
 
 // Lets a range into a node whose own block is full: the upper part of the block stands in a fresh
@@ -836,9 +852,9 @@ fn take_first_below(node: &mut Node) -> Option<Box<Node>>
     }
 }
 
-// Takes a range out of one side or of the node's own block, which keeps one. Where this node stands
-// as high as before, it tells a bound for its room, and whether it is known to begin and end where
-// it did.
+// Takes a range out of one side or of the node's own block, which keeps one. It tells a bound for
+// the room, and whether this node is known to begin and end where it did. None where a node went,
+// or the mark of a block: the range that led there may be gone.
 #[cycle(take)]
 #[inline]
 fn take_below(node: &mut Node, lo: u64, gone: &mut Span, room: u32) -> Option<(u32, bool)>
@@ -860,11 +876,18 @@ fn take_below(node: &mut Node, lo: u64, gone: &mut Span, room: u32) -> Option<(u
         if same {
             return Some((room.max(node.left.room()), true));
         }
-        return Some((node.room_by_left(room), false));
+        return Some((node.room(), false));
     }
     if lo < node.block.end() {
+        let was_marked = node.block.is_marked();
         *gone = node.block.remove(lo);
-        return Some((node.room_by_block(room), false));
+        if was_marked && !node.block.is_marked() {
+            return None;
+        }
+        if node.block.first() < lo && lo < node.block.end() {
+            return Some((node.room_by_block(room), false));
+        }
+        return Some((node.room(), false));
     }
     let Some(same) = node.right.take(lo, gone) else {
         return None;
@@ -872,7 +895,25 @@ fn take_below(node: &mut Node, lo: u64, gone: &mut Span, room: u32) -> Option<(u
     if same {
         return Some((room.max(node.right.room()), true));
     }
-    Some((node.room_by_right(room), false))
+    Some((node.room(), false))
+}
+
+// Renews the bounds on the way to the place of `lo`, below this node, and of its block.
+#[cycle(renew_at)]
+#[inline]
+fn renew_below(node: &mut Node, lo: u64)
+    requires balanced { IsBalanced 1 node.old }
+    ensures { node.new ≡ node.old }
+{
+    if lo < node.block.first() {
+        node.left.renew_at(lo);
+        return;
+    }
+    if lo < node.block.end() {
+        node.block.renew();
+        return;
+    }
+    node.right.renew_at(lo);
 }
 
 // Puts a range in the place of one on one side or in the node's own block.

@@ -7,9 +7,9 @@ ghost use Rattle.iova_model.specs.Clients.{insert_rising, remove_at, begins_at};
 ghost use Rattle.iova_model.specs.Next.{from_to, union, windows_with};
 ghost use Rattle.iova_tree.specs.Space.{Space, ranges_of, IsInside, IsFree, IsSpace, with_window, reserve_refusal, clear_of};
 
+use crate::ranges::Ranges;
 use crate::search::{Found, Wanted};
 use crate::span::Span;
-use crate::subtree::Subtree;
 use crate::window::{absorb, count_clear, insert_window};
 use iova_range::bounds::Bounds;
 use iova_range::limits::{MAX_FRAMES, MAX_WINDOWS};
@@ -23,7 +23,7 @@ use std::marker::Model;
 pub struct Tree {
     alloc: Global,
     bounds: Bounds,
-    ranges: Subtree,
+    ranges: Ranges,
     windows: Vec<Range>,
 }
 
@@ -62,7 +62,7 @@ impl Tree {
         Ok(Tree {
             alloc,
             bounds,
-            ranges: Subtree::new(),
+            ranges: Ranges::new(),
             windows: Vec::new(alloc),
         })
     }
@@ -98,8 +98,9 @@ impl Tree {
     /// down, where a block has room. None where nothing fits; `NoMemory` leaves the tree as it was.
     ///
     /// A range that comes in leaves the bounds of its block and of the links above as they are, and
-    /// a search that is misled by one lowers it. So a call costs a way down, and at most one way
-    /// down more for each block that a range came into since a search passed it.
+    /// a search that is misled by one lowers it. The bounds are so on 32 ways at most, and another
+    /// way costs that the oldest is renewed. So a call costs a few ways down, and at most one more
+    /// for each of these 32.
     pub fn take(&mut self, size: u64, limit: u64) -> Result<Option<Range>, Refusal>
         requires some { 1 ≤ size }
         requires bounded { size ≤ MAX_FRAMES }
@@ -127,6 +128,7 @@ impl Tree {
         match self.ranges.take_highest(self.bounds.start(), &wanted) {
             Found::Nowhere => Ok(None),
             Found::Taken(lo) => Ok(Some(Range::new(lo, size))),
+            Found::Marked(lo) => Ok(Some(Range::new(lo, size))),
             Found::At(lo) => {
                 let range = Range::new(lo, size);
                 let Ok(()) = self.insert(range) else {

@@ -7,7 +7,7 @@ ghost use Rattle.iova_tree.specs.Spans.{windows_of};
 ghost use Rattle.iova_tree.specs.Space.{RiseApart, LieWithin, clear_of, IsPartOf, AreTakenBut};
 
 use crate::position::position_of;
-use crate::subtree::Subtree;
+use crate::ranges::Ranges;
 use iova_range::range::Range;
 use std::mem;
 
@@ -34,7 +34,7 @@ pub fn insert_window(windows: &mut Vec<Range>, window: Range)
 /// these and `window` itself. One of them stays in the tree, which the second result is: the window
 /// of all takes its place. None has frame 0. It takes no memory.
 pub fn absorb(
-    ranges: &mut Subtree,
+    ranges: &mut Ranges,
     windows: &mut Vec<Range>,
     window: Range,
 ) -> (Range, Option<Range>)

@@ -4,7 +4,7 @@ use Rattle.iova_tree.specs.Node.{link_spans}
 use Rattle.iova_tree.specs.declared.subtree.Node.{Node}
 use Rattle.iova_tree.proofs.Root.{at_root}
 use Rattle.iova_tree.proofs.Spans.{length-with}
-use Rattle.iova_tree.proofs.Placed.{keeps_left, keeps_right, keeps_here, room_left, room_right}
+use Rattle.iova_tree.proofs.Placed.{keeps_left, keeps_right, keeps_here, level_left, level_right, level_here, room_left, room_right}
 use Rattle.iova_tree.proofs.Outside.{room_same_left, room_same_right, edges_left, edges_right}
 use Rattle.iova_tree.proofs.Taken.{held_left, held_here, held_right, takes_left, takes_right, takes_here, takes_only}
 use Rattle.iova_tree.proofs.subtree.+take.Goals as goal
@@ -32,6 +32,24 @@ take_below-take-requires-2 t c =
 pub take_below-remove-requires : goal.take_below-remove-requires
 take_below-remove-requires t c = held_here c.args.lo c.args.node.now (grind (arith, c.first.ensures)) (grind (arith, c.end.ensures)) c.requires.balanced c.requires.held
 
+pub take_below-room-requires-then-lo-end : goal.take_below-room-requires-then-lo-end
+take_below-room-requires-then-lo-end t c =
+    let n = c.args.node.now in
+    let b = c.requires.balanced in
+    let held = held_here c.args.lo n (grind (arith, c.first.ensures)) (grind (arith, c.end.ensures)) b c.requires.held in
+    let e = c.remove.ensures.taken in
+    let l = rw (← e) at (length-with c.remove.result c.remove.new.self) in
+    level_here n c.remove.new.self b (takes_here c.remove.result n c.remove.new.self b e (omega (arith, c.requires.others held, l))).balanced
+
+pub take_below-returns-then-not-is_marked-clause-taken : goal.take_below-returns-then-not-is_marked-clause-taken
+take_below-returns-then-not-is_marked-clause-taken t c =
+    let n = c.args.node.now in
+    let b = c.requires.balanced in
+    let held = held_here c.args.lo n (grind (arith, c.first.ensures)) (grind (arith, c.end.ensures)) b c.requires.held in
+    let e = c.remove.ensures.taken in
+    let l = rw (← e) at (length-with c.remove.result c.remove.new.self) in
+    takes_here c.remove.result n c.remove.new.self b e (omega (arith, c.requires.others held, l))
+
 pub take_below-room_by_block-requires : goal.take_below-room_by_block-requires
 take_below-room_by_block-requires t c =
     let n = c.args.node.now in
@@ -56,7 +74,7 @@ take_below-returns-then-lo-end-clause-taken t c =
 
 pub take_below-returns-then-lo-end-clause-known : goal.take_below-returns-then-lo-end-clause-known
 take_below-returns-then-lo-end-clause-known t c =
-    keeps_here c.args.node.now c.remove.new.self c.room_by_block.result c.requires.balanced (take_below-returns-then-lo-end-clause-taken t c).balanced c.room_by_block.ensures
+    keeps_here c.args.node.now c.remove.new.self c.room-then-lo-end.result c.requires.balanced (take_below-returns-then-lo-end-clause-taken t c).balanced c.room-then-lo-end.ensures
 
 pub take_below-returns-in_default-clause-taken : goal.take_below-returns-in_default-clause-taken
 take_below-returns-in_default-clause-taken t c =
@@ -73,15 +91,16 @@ take_below-returns-then-lo-first-clause-taken t c =
     let e = c.take.ensures in
     takes_left c.take.new.gone c.args.node.now c.take.new.self (grind (arith, c.first.ensures, e.begins)) c.requires.balanced e.taken e.not_higher e.at_most_one_lower
 
-pub take_below-room_by_left-requires : goal.take_below-room_by_left-requires
-take_below-room_by_left-requires t c =
+pub take_below-room-requires-then-lo-first : goal.take_below-room-requires-then-lo-first
+take_below-room-requires-then-lo-first t c =
+    let n = c.args.node.now in
     let e = c.take.ensures in
-    record { balanced = (takes_left c.take.new.gone c.args.node.now c.take.new.self (grind (arith, c.first.ensures, e.begins)) c.requires.balanced e.taken e.not_higher e.at_most_one_lower).balanced }
+    level_left n c.take.new.self c.requires.balanced (takes_left c.take.new.gone n c.take.new.self (grind (arith, c.first.ensures, e.begins)) c.requires.balanced e.taken e.not_higher e.at_most_one_lower).balanced c.in-Some.ensures.level
 
 pub take_below-returns-then-lo-first-clause-known : goal.take_below-returns-then-lo-first-clause-known
 take_below-returns-then-lo-first-clause-known t c =
     let n = c.args.node.now in
-    keeps_left n c.take.new.self c.room_by_left.result c.requires.balanced (take_below-returns-then-lo-first-clause-taken t c).balanced c.in-Some.ensures.level (c.room_by_left.ensures n.left.0 c.requires.room)
+    keeps_left n c.take.new.self c.room-then-lo-first.result c.requires.balanced (take_below-returns-then-lo-first-clause-taken t c).balanced c.in-Some.ensures.level c.room-then-lo-first.ensures
 
 pub take_below-returns-then-same-clause-known : goal.take_below-returns-then-same-clause-known
 take_below-returns-then-same-clause-known t c =
@@ -109,15 +128,16 @@ take_below-returns-clause-taken t c =
     let e = c.take-2.ensures in
     takes_right c.take-2.new.gone c.args.node.now c.take-2.new.self (grind (arith, c.end.ensures, e.begins)) c.requires.balanced e.taken e.not_higher e.at_most_one_lower
 
-pub take_below-room_by_right-requires : goal.take_below-room_by_right-requires
-take_below-room_by_right-requires t c =
+pub take_below-room-requires-2 : goal.take_below-room-requires-2
+take_below-room-requires-2 t c =
+    let n = c.args.node.now in
     let e = c.take-2.ensures in
-    record { balanced = (takes_right c.take-2.new.gone c.args.node.now c.take-2.new.self (grind (arith, c.end.ensures, e.begins)) c.requires.balanced e.taken e.not_higher e.at_most_one_lower).balanced }
+    level_right n c.take-2.new.self c.requires.balanced (takes_right c.take-2.new.gone n c.take-2.new.self (grind (arith, c.end.ensures, e.begins)) c.requires.balanced e.taken e.not_higher e.at_most_one_lower).balanced c.in-Some-take.ensures.level
 
 pub take_below-returns-clause-known : goal.take_below-returns-clause-known
 take_below-returns-clause-known t c =
     let n = c.args.node.now in
-    keeps_right n c.take-2.new.self c.room_by_right.result c.requires.balanced (take_below-returns-clause-taken t c).balanced c.in-Some-take.ensures.level (c.room_by_right.ensures n.right.0 c.requires.room)
+    keeps_right n c.take-2.new.self c.room-2.result c.requires.balanced (take_below-returns-clause-taken t c).balanced c.in-Some-take.ensures.level c.room-2.ensures
 
 pub take_below-returns-then-same-2-clause-known : goal.take_below-returns-then-same-2-clause-known
 take_below-returns-then-same-2-clause-known t c =
@@ -129,3 +149,16 @@ take_below-returns-then-same-2-clause-known t c =
 
 pub take_below-returns-then-same-2-clause-same : goal.take_below-returns-then-same-2-clause-same
 take_below-returns-then-same-2-clause-same t c = λ known. edges_right c.args.node.now c.take-2.new.self (c.in-Some-take.ensures.same c.if-same-2.true)
+
+pub take_below-returns-then-lo-end-2-clause-taken : goal.take_below-returns-then-lo-end-2-clause-taken
+take_below-returns-then-lo-end-2-clause-taken t c =
+    let n = c.args.node.now in
+    let b = c.requires.balanced in
+    let held = held_here c.args.lo n (grind (arith, c.first.ensures)) (grind (arith, c.end.ensures)) b c.requires.held in
+    let e = c.remove.ensures.taken in
+    let l = rw (← e) at (length-with c.remove.result c.remove.new.self) in
+    takes_here c.remove.result n c.remove.new.self b e (omega (arith, c.requires.others held, l))
+
+pub take_below-returns-then-lo-end-2-clause-known : goal.take_below-returns-then-lo-end-2-clause-known
+take_below-returns-then-lo-end-2-clause-known t c =
+    keeps_here c.args.node.now c.remove.new.self c.room_by_block.result c.requires.balanced (take_below-returns-then-lo-end-2-clause-taken t c).balanced c.room_by_block.ensures

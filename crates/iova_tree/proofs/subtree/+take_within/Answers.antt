@@ -42,10 +42,25 @@ take_between-returns-in-Taken-clause-found t c =
     let whole = whole_right w n c.in-Taken.lo b e.0 in
     (whole, rw e.1 (found_right w n c.in-Taken.lo c.requires.wanted b whole e.0))
 
+pub take_between-returns-in-Marked-clause-found : goal.take_between-returns-in-Marked-clause-found
+take_between-returns-in-Marked-clause-found t c =
+    let w = c.args.wanted.now in
+    let n = c.args.node.now in
+    let b = c.requires.balanced in
+    let e = c.in-Marked.ensures in
+    let whole = whole_right w n c.in-Marked.lo b e.0 in
+    (whole, rw e.1 (found_right w n c.in-Marked.lo c.requires.wanted b whole e.0))
+
 pub take_between-returns-in-Taken-clause-room : goal.take_between-returns-in-Taken-clause-room
 take_between-returns-in-Taken-clause-room t c =
     let f = take_between-returns-in-Taken-clause-found t c in
     let r = room_taken c.args.wanted.now c.args.node.now _ c.in-Taken.lo c.requires.wanted c.requires.balanced f.0 f.1 in
+    omega (arith, r, c.requires.room)
+
+pub take_between-returns-in-Marked-clause-room : goal.take_between-returns-in-Marked-clause-room
+take_between-returns-in-Marked-clause-room t c =
+    let f = take_between-returns-in-Marked-clause-found t c in
+    let r = room_taken c.args.wanted.now c.args.node.now _ c.in-Marked.lo c.requires.wanted c.requires.balanced f.0 f.1 in
     omega (arith, r, c.requires.room)
 
 pub take_between-place_before-requires : goal.take_between-place_before-requires
@@ -103,10 +118,27 @@ take_between-returns-in-Taken-take_highest-clause-found t c =
     let whole = whole_here w n c.in-Taken-take_highest.lo b none.0 above e.0 in
     (whole, rw (e.1, none.1) (found_here w n c.in-Taken-take_highest.lo c.requires.wanted b whole e.0))
 
+pub take_between-returns-in-Marked-take_highest-clause-found : goal.take_between-returns-in-Marked-take_highest-clause-found
+take_between-returns-in-Marked-take_highest-clause-found t c =
+    let w = c.args.wanted.now in
+    let n = c.args.node.now in
+    let b = c.requires.balanced in
+    let none = c.in-Nowhere.ensures in
+    let above = rw (c.end.ensures, none.1) at (sym c.place_before.ensures ∙ c.in_default.is) in
+    let e = c.in-Marked-take_highest.ensures in
+    let whole = whole_here w n c.in-Marked-take_highest.lo b none.0 above e.0 in
+    (whole, rw (e.1, none.1) (found_here w n c.in-Marked-take_highest.lo c.requires.wanted b whole e.0))
+
 pub take_between-returns-in-Taken-take_highest-clause-room : goal.take_between-returns-in-Taken-take_highest-clause-room
 take_between-returns-in-Taken-take_highest-clause-room t c =
     let f = take_between-returns-in-Taken-take_highest-clause-found t c in
     let r = room_taken c.args.wanted.now c.args.node.now _ c.in-Taken-take_highest.lo c.requires.wanted c.requires.balanced f.0 f.1 in
+    omega (arith, r, c.requires.room)
+
+pub take_between-returns-in-Marked-take_highest-clause-room : goal.take_between-returns-in-Marked-take_highest-clause-room
+take_between-returns-in-Marked-take_highest-clause-room t c =
+    let f = take_between-returns-in-Marked-take_highest-clause-found t c in
+    let r = room_taken c.args.wanted.now c.args.node.now _ c.in-Marked-take_highest.lo c.requires.wanted c.requires.balanced f.0 f.1 in
     omega (arith, r, c.requires.room)
 
 pub take_between-place_behind-requires : goal.take_between-place_behind-requires
@@ -177,10 +209,29 @@ take_between-returns-in-Taken-take_within-clause-found t c =
     let whole = whole_left w n c.in-Taken-take_within.lo b (Some c.in-Taken-take_within.lo) none.0 above inside.0 below e.0 in
     (whole, rw (inside.1, none.1, e.1) (found_left w n c.in-Taken-take_within.lo c.requires.wanted b whole e.0))
 
+pub take_between-returns-in-Marked-take_within-clause-found : goal.take_between-returns-in-Marked-take_within-clause-found
+take_between-returns-in-Marked-take_within-clause-found t c =
+    let w = c.args.wanted.now in
+    let n = c.args.node.now in
+    let b = c.requires.balanced in
+    let none = c.in-Nowhere.ensures in
+    let above = rw (c.end.ensures, none.1) at (sym c.place_before.ensures ∙ c.in_default.is) in
+    let inside = c.in-Nowhere-take_highest.ensures in
+    let below = rw (c.first.ensures, inside.1) at (sym c.place_behind.ensures ∙ c.in_default-place_behind.is) in
+    let e = c.in-Marked-take_within.ensures in
+    let whole = whole_left w n c.in-Marked-take_within.lo b (Some c.in-Marked-take_within.lo) none.0 above inside.0 below e.0 in
+    (whole, rw (inside.1, none.1, e.1) (found_left w n c.in-Marked-take_within.lo c.requires.wanted b whole e.0))
+
 pub take_between-returns-in-Taken-take_within-clause-room : goal.take_between-returns-in-Taken-take_within-clause-room
 take_between-returns-in-Taken-take_within-clause-room t c =
     let f = take_between-returns-in-Taken-take_within-clause-found t c in
     let r = room_taken c.args.wanted.now c.args.node.now _ c.in-Taken-take_within.lo c.requires.wanted c.requires.balanced f.0 f.1 in
+    omega (arith, r, c.requires.room)
+
+pub take_between-returns-in-Marked-take_within-clause-room : goal.take_between-returns-in-Marked-take_within-clause-room
+take_between-returns-in-Marked-take_within-clause-room t c =
+    let f = take_between-returns-in-Marked-take_within-clause-found t c in
+    let r = room_taken c.args.wanted.now c.args.node.now _ c.in-Marked-take_within.lo c.requires.wanted c.requires.balanced f.0 f.1 in
     omega (arith, r, c.requires.room)
 
 pub take_between-returns-in-Some-clause-room : goal.take_between-returns-in-Some-clause-room

@@ -9,11 +9,17 @@ room_without-room-requires-clause-within c = (c.place_of-at.ensures.stands (rw (
 pub remove-gone-requires : goal.remove-gone-requires
 remove-gone-requires c = (omega arith, rw (← c.as_slice-spans.ensures.value) (c.place_of-at.ensures.stands (rw (c.as_slice-spans.ensures.value, c.self.view_is) c.requires)).within)
 
+pub room_once_gone-self-inside-requires-clause-rising : goal.room_once_gone-self-inside-requires-clause-rising
+room_once_gone-self-inside-requires-clause-rising c =
+    let s = rw c.as_slice-spans.ensures.value at (c.place_of-at.ensures.stands (rw (c.as_slice-spans.ensures.value, c.self.view_is) c.requires)) in
+    let again = s.again c.remove-gone.result in
+    rw (c.as_slice-spans-2.ensures.value, c.remove-gone.ensures.items, s.without) (rising-without 0 _ _ (rw again at c.self.invariant.0))
+
 pub invariant_of-self : goal.invariant_of-self
 invariant_of-self c =
     let s = rw c.as_slice-spans.ensures.value at (c.place_of-at.ensures.stands (rw (c.as_slice-spans.ensures.value, c.self.view_is) c.requires)) in
     let again = s.again c.remove-gone.result in
-    (rw (c.remove-gone.ensures.items, s.without) (rising-without 0 _ _ (rw again at c.self.invariant.0)), rw (c.remove-gone.ensures.items, ← c.as_slice-spans.ensures.value) c.room_without-room.ensures)
+    (rw (c.remove-gone.ensures.items, s.without) (rising-without 0 _ _ (rw again at c.self.invariant.0)), rw (← c.as_slice-spans-2.ensures.value) c.room_once_gone-self-inside.ensures)
 
 pub returns-clause-begins : goal.returns-clause-begins
 returns-clause-begins c =

@@ -22,3 +22,10 @@ invariant_of-self-2 c =
     let i = rw (← c.self.view_is) at (comes_between c.args.wanted.now c.args.self.now c.in-Some.lo c.requires.wanted c.requires.rising (rw (← c.self.view_is, ← c.as_slice.ensures.value) c.in-Some.ensures.found)) in
     let most = g.room in
     (rw (c.insert.ensures.items, c.new.ensures, g.is) i.rising, rw (c.insert.ensures.items, c.new.ensures) (omega (arith, most, c.self.invariant.1)))
+
+pub invariant_of-self-then-self : goal.invariant_of-self-then-self
+invariant_of-self-then-self c =
+    let g = rw c.as_slice.ensures.value at c.in-Some.ensures.place in
+    let i = rw (← c.self.view_is) at (comes_between c.args.wanted.now c.args.self.now c.in-Some.lo c.requires.wanted c.requires.rising (rw (← c.self.view_is, ← c.as_slice.ensures.value) c.in-Some.ensures.found)) in
+    let most = g.room in
+    (rw (c.insert.ensures.items, c.new.ensures, g.is) i.rising, rw (c.insert.ensures.items, c.new.ensures) (omega (arith, most, c.self.invariant.1)))
