@@ -18,16 +18,17 @@ use iova_proto::request::Request;
 use iova_range::limits::MAX_RUN;
 use std::alloc::Global;
 
-/// So many bytes the answers to a run have at most, but for the ranges of `Held`.
-const RUN_TEXT: usize = MAX_FIRST_LINE * MAX_RUN;
+/// Room for the text of the answers to a run, which has some 320 bytes; several `stat`s have more.
+/// It lies on the thread's stack.
+const RUN_TEXT: usize = 1024;
 
 /// Room for the answers to a run, and for their text.
 #[derive(Drop)]
 pub(crate) struct AnswerRoom {
     pub(crate) answers: Vec<Answer>,
-    /// The text of answers of which each is one line.
+    /// The text of answers of which each is one line, where there is room.
     pub(crate) text: ArrayVec<u8, RUN_TEXT>,
-    /// The text of any answers, which takes memory once there is a list among them.
+    /// The text of any answers, which takes memory once there is a list among them, or no room.
     pub(crate) lists: Vec<u8>,
 }
 
@@ -153,10 +154,10 @@ fn put_lines(answers: &[Answer], text: &mut ArrayVec<u8, RUN_TEXT>) -> bool
     requires { text.old.items ≡ [] }
     ensures { IsTrue result → text.new.items ≡ answers_text answers.now }
 {
-    if answers.len() > MAX_RUN {
-        return false;
-    }
     for answer in answers {
+        if text.len() > RUN_TEXT - MAX_FIRST_LINE {
+            return false;
+        }
         if !is_one_line(answer) {
             return false;
         }
