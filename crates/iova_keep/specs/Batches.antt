@@ -71,7 +71,8 @@ abbrev pub StopsAt : ℕ → ℕ → List Ask → Totals → State → State →
 StopsAt w id [] held s t = t ≡ s
 StopsAt w id (ask.Free lo ∷ asks) held s t =
     Does (Unmapping (step.Unmap w id lo) held (reply.Refused refusal.RingFull)) s t
-StopsAt w id (a ∷ asks) held s t = ⊥
+StopsAt w id (ask.Alloc frames limit ∷ asks) held s t = ⊥
+StopsAt w id (ask.Stat ∷ asks) held s t = ⊥
 
 -- The asks are done in order, and told so; where some are left, the next one is a free whose ring
 -- is full.
@@ -86,7 +87,8 @@ DoesAsks w id (a ∷ asks) (x ∷ xs) held left s t =
 abbrev pub MayStop : List Ask → Type 0
 MayStop [] = Unit {0}
 MayStop (ask.Free lo ∷ asks) = Unit {0}
-MayStop (a ∷ asks) = ⊥
+MayStop (ask.Alloc frames limit ∷ asks) = ⊥
+MayStop (ask.Stat ∷ asks) = ⊥
 
 -- what may be told of the asks where the keeper's domain isn't known
 abbrev pub ToldOfAsks : List Ask → List Told → Totals → Totals → Type 0
@@ -149,7 +151,8 @@ abbrev pub StopRuns : ℕ → ℕ → List Ask → Totals → List Event → Typ
 StopRuns w id [] held es = es ≡ []
 StopRuns w id (ask.Free lo ∷ asks) held es =
     Unmapping (step.Unmap w id lo) held (reply.Refused refusal.RingFull) es
-StopRuns w id (a ∷ asks) held es = ⊥
+StopRuns w id (ask.Alloc frames limit ∷ asks) held es = ⊥
+StopRuns w id (ask.Stat ∷ asks) held es = ⊥
 
 -- This is run for the asks, in order, where they are told so.
 pub data AsksRun (w id : ℕ) : List Ask → List Told → Totals → Totals → List Event → Type 0 where
