@@ -12,9 +12,7 @@ use Rattle.iova_model.specs.State.{State, new_domain}
 use Rattle.iova_model.specs.Valid.{Rises}
 use Rattle.iova_clients.specs.Orders.{AppendsInAnyOrder}
 use Rattle.iova_keep.specs.Views.{SeatState, TallyState, IsKept}
-use Rattle.iova_keep.specs.Events.{Event}
 use Rattle.iova_keep.specs.StepLogs.{StepLog, IsRecorded}
-use Rattle.iova_keep.specs.Stored.{DoesAndStores}
 
 -- A book: its domain's number, whether it is strict, its domain, and its log; and the totals of its
 -- four ledgers, which are the sums of the shares that all seats and tallies keep.
@@ -94,10 +92,6 @@ pub record IsFound (count : ℕ) (b : BookState) : Type 0 where
 -- a book keeps its number, and whether it is strict
 abbrev pub IsSame : BookState → BookState → Type 0
 IsSame old new = (new.number ≡ old.number) × (new.strict ≡ old.strict)
-
--- what is allowed happens in a book, and is stored in its log
-abbrev pub Runs : (List Event → Type 0) → BookState → BookState → Type 0
-Runs Allowed old new = DoesAndStores Allowed old.log new.log old.state new.state
 
 -- the steps of a seat, and those of a tally
 abbrev pub by_seat : Step → Bool
