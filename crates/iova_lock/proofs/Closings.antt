@@ -68,9 +68,9 @@ one_more st held now next q o a b c s m t so_far e d moved = record {
   goes_on = λ left r x u k. so_far.goes_on left r x u (in_front st now next left q r b c x m t u d.allowed e d.leads d.stored moved k);
 }
 
-pub stops_here : (st : Step) (held now left : Totals) (o : Reply) (a b c : Option StepLog) (s m t : State) → ClosesSoFar st held now a b s m → ((q : Frames) → o ≢ reply.Queued q)
+pub last_closing : (st : Step) (held now left : Totals) (o : Reply) (a b c : Option StepLog) (s m t : State) → ClosesSoFar st held now a b s m → ((q : Frames) → o ≢ reply.Queued q)
     → DoesAndStores (Unmapping st now o) b c m t → left ≡ now → DoesAndStores (Closing st held left o) a c s t
-stops_here st held now left o a b c s m t so_far other d same =
+last_closing st held now left o a b c s m t so_far other d same =
     so_far.goes_on left o c t (record { events = d.events; allowed = stops now left o d.events same other d.allowed; leads = d.leads; stored = d.stored })
 
 pub lowered_so_far : (st : Step) (held now left : Totals) (a b : Option StepLog) (s m : State) → ClosesSoFar st held now a b s m → left ≡ now → (ranges : List Frames) × IsLowered ranges held left

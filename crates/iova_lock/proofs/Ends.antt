@@ -41,9 +41,9 @@ again_closed st n ok held left end r a b c s m t h k other d = record {
   stored = (b, k, d.stored);
 }
 
-pub again_full_at_once : (st : Step) (n : ℕ) (ok : Bool) (held left : Totals) (end r : Reply) (a b c : Option StepLog) (s m t : State) → Takes s (step.End n ok) end m → StoresStep a (step.End n ok) end b
+pub again_none_queued : (st : Step) (n : ℕ) (ok : Bool) (held left : Totals) (end r : Reply) (a b c : Option StepLog) (s m t : State) → Takes s (step.End n ok) end m → StoresStep a (step.End n ok) end b
     → r ≡ reply.Refused refusal.RingFull → left.count ≡ held.count → DoesAndStores (Closing st held left r) b c m t → DoesAndStores (CloseAgain st n ok held left (Some r) None) a c s t
-again_full_at_once st n ok held left end r a b c s m t h k e none d =
+again_none_queued st n ok held left end r a b c s m t h k e none d =
     let closes : Closing st held left (reply.Refused refusal.RingFull) d.events = subst (λ x. Closing st held left x d.events) e d.allowed in
     let does : DoesAndStores (CloseAgain st n ok held left (Some (reply.Refused refusal.RingFull)) None) a c s t = record {
       events = Ran (step.End n ok) end ∷ d.events;

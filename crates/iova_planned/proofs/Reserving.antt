@@ -8,7 +8,7 @@ use Rattle.iova_model.specs.declared.step.Reply.TheVariants as reply
 use Rattle.iova_model.specs.State.{State}
 use Rattle.iova_keep.specs.Steps.{Takes}
 use Rattle.iova_keep.specs.StepLogs.{StoresStep}
-use Rattle.iova_record.proofs.GoingOn.{goes_on_here, goes_on_further, step_goes_on}
+use Rattle.iova_record.proofs.GoingOn.{unchanged_goes_on, goes_on_further, step_goes_on}
 use Rattle.iova_lock.specs.Books.{BookState}
 use Rattle.iova_planned.specs.PlannedDomains.{IsReserved, ReservesAll}
 
@@ -30,7 +30,7 @@ reserved_window w got hi a b is takes number strict stored = record {
 
 -- none
 pub reserved_none : (ws : List Frames) (a : BookState) → length ws ≡ 0 → IsReserved ws a a
-reserved_none [] a none = record { domain = refl; number = refl; strict = refl; log = goes_on_here a.log }
+reserved_none [] a none = record { domain = refl; number = refl; strict = refl; log = unchanged_goes_on a.log }
 reserved_none (w ∷ ws) a none = absurd (omega (arith, none))
 
 -- and others after it

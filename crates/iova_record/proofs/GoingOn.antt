@@ -10,9 +10,9 @@ use Rattle.iova_record.proofs.StepLogs.{stores_goes_on}
 
 -- What steps make of a log is what any one of them makes of it, none, or some and then others.
 
-pub goes_on_here : (o : Option StepLog) → GoesOn o o
-goes_on_here None = unrecorded
-goes_on_here (Some log) =
+pub unchanged_goes_on : (o : Option StepLog) → GoesOn o o
+unchanged_goes_on None = unrecorded
+unchanged_goes_on (Some log) =
     recorded log log (record { more = []; appended = sym (append-nil log.pairs); room = refl; full = λ (h : log.recording ≡ true) (k : log.recording ≡ false). absurd cc; ended = λ (h : log.recording ≡ false). refl })
 
 log_further : (a b c : StepLog) → LogGoesOn a b → LogGoesOn b c → LogGoesOn a c
@@ -41,7 +41,7 @@ pub step_goes_on : (old new : Option StepLog) (st : Step) (r : Reply) → Stores
 step_goes_on old new st r h = stores_goes_on old new (record { step = st; point = h.0; reply = r }) h.1
 
 pub events_go_on : (old new : Option StepLog) (es : List Event) → StoresEvents old es new → GoesOn old new
-events_go_on old new [] h = subst (λ o. GoesOn old o) (sym h) (goes_on_here old)
+events_go_on old new [] h = subst (λ o. GoesOn old o) (sym h) (unchanged_goes_on old)
 events_go_on old new (Ran st r ∷ es) h = goes_on_further (step_goes_on old h.0 st r h.1) (events_go_on h.0 new es h.2)
 events_go_on old new (NotRun st held ∷ es) h = events_go_on old new es h
 events_go_on old new (Invalidated n ok ∷ es) h = events_go_on old new es h

@@ -123,9 +123,9 @@ from_told rs asks before now count held left e none h =
     (from_batch rs now held left t, ap (λ (xs : List Told). length xs) all ∙ h.counted)
 
 -- where nothing is told, the batch stopped at once
-pub stopped_at_once : (rs : List Request) (asks : List Ask) (before now : List Told) (count : ℕ) (held left : Totals) → asks ≡ asks_in rs → before ≡ [] → count ≡ 0 → TellsAsks asks before now count held left
+pub none_done : (rs : List Request) (asks : List Ask) (before now : List Told) (count : ℕ) (held left : Totals) → asks ≡ asks_in rs → before ≡ [] → count ≡ 0 → TellsAsks asks before now count held left
     → IsFirstAlone rs × (left ≡ held) × (now ≡ [])
-stopped_at_once rs asks before now count held left e none zero h =
+none_done rs asks before now count held left e none zero h =
     let all : now ≡ h.more = h.appended ∙ ap (λ (xs : List Told). xs ++ h.more) none in
     let nothing : h.more ≡ [] = length0 h.more (h.counted ∙ zero) in
     let t : ToldOfAsks (asks_in rs) [] held left = subst (λ (xs : List Told). ToldOfAsks (asks_in rs) xs held left) nothing (subst (λ (qs : List Ask). ToldOfAsks qs h.more held left) e h.told) in

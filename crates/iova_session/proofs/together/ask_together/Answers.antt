@@ -2,7 +2,7 @@ use Rattle.std.proofs.Common.{refl, sym, ap, ◌∙◌, arith, append-nil}
 use Rattle.std.specs.Prelude.{take, List, ◌++◌}
 use Rattle.iova_session.specs.Pairs.{Pair}
 use Rattle.iova_session.specs.Desks.{SessionState, told_pairs}
-use Rattle.iova_session.proofs.ToldPairs.{from_told, stopped_at_once, none_asked}
+use Rattle.iova_session.proofs.ToldPairs.{from_told, none_done, none_asked}
 use Rattle.iova_session.proofs.Leads.{goes_nowhere, same_state, same_seat, batch_goes, batch_nothing}
 use Rattle.iova_session.proofs.together.ask_together.Goals as goal
 
@@ -32,11 +32,11 @@ returns-clause-most g c =
 
 pub returns-clause-alone : goal.returns-clause-alone
 returns-clause-alone g c = λ zero.
-    (stopped_at_once c.args.requests.now _ _ _ _ _ _ (c.asks_from-most.ensures.asks (omega (arith, c.if-most-eq0.false))) c.clear.ensures.items zero c.in_ok-count.ensures.told).0
+    (none_done c.args.requests.now _ _ _ _ _ _ (c.asks_from-most.ensures.asks (omega (arith, c.if-most-eq0.false))) c.clear.ensures.items zero c.in_ok-count.ensures.told).0
 
 pub returns-clause-none : goal.returns-clause-none
 returns-clause-none g c = λ zero.
-    let h = stopped_at_once c.args.requests.now _ _ _ _ _ _ (c.asks_from-most.ensures.asks (omega (arith, c.if-most-eq0.false))) c.clear.ensures.items zero c.in_ok-count.ensures.told in
+    let h = none_done c.args.requests.now _ _ _ _ _ _ (c.asks_from-most.ensures.asks (omega (arith, c.if-most-eq0.false))) c.clear.ensures.items zero c.in_ok-count.ensures.told in
     let none = c.as_slice.ensures.value ∙ h.2 in
     let s = rw none at c.tell_all.ensures.session in
     let a = rw none at c.tell_all.ensures.answers in (

@@ -1,6 +1,6 @@
 use Rattle.std.proofs.Common.{◌≡◌, ◌<◌, ap, arith}
 use Rattle.iova_model.specs.declared.totals.Totals.{Totals}
-use Rattle.iova_lock.proofs.Ends.{again_closed, again_full_at_once, again_full}
+use Rattle.iova_lock.proofs.Ends.{again_closed, again_none_queued, again_full}
 use Rattle.iova_lock.proofs.Storing.{does}
 use Rattle.iova_lock.proofs.holds.BookKeep.close_again.Goals.{then-is_full+then-count-before, else-is_full, else-is_full-via-then-is_full+else-count-before, else-is_full-via-else-is_full}
 use Rattle.iova_lock.proofs.holds.BookKeep.close_again.Goals as goal
@@ -20,7 +20,7 @@ returns-clause-log g c =
         | else-is_full-via-then-is_full+else-count-before v ↦
             let less = ap (λ (t : Totals). t.count) lowered.1 in
             let none : c.close_all-reply.new.seat.held.count ≡ c.args.seat.now.held.count = omega (arith, before, less, v.count.ensures, v.if-count-before.false) in
-            again_full_at_once _ _ _ _ _ _ _ _ _ _ _ _ _ c.run_flush_at-ended.ensures.takes c.run_flush_at-ended.ensures.stores (rw v.if-is_full.true at c.is_full.ensures) none closes
+            again_none_queued _ _ _ _ _ _ _ _ _ _ _ _ _ c.run_flush_at-ended.ensures.takes c.run_flush_at-ended.ensures.stores (rw v.if-is_full.true at c.is_full.ensures) none closes
         | else-is_full-via-else-is_full v ↦ again_closed _ _ _ _ _ _ _ _ _ _ _ _ _ c.run_flush_at-ended.ensures.takes c.run_flush_at-ended.ensures.stores (rw v.if-is_full.false at c.is_full.ensures) closes
       ])
     ]
