@@ -149,7 +149,7 @@ good_bound (Some r) n ok old new domain before now h told =
     let k : good_calls now ≡ good_calls before + (if ok then 1 else 0) = ap good_calls told ∙ e in
     omega (arith, h, f, k)
 
--- Where the keeper may tell nothing.
+-- Where the keeper's domain may not be known.
 
 pub known_flush_refused : (a b : Option State) (begun : Option Reply) (e : Refusal) (domain : ℕ) (calls : List Call) → begun ≡ Some (reply.Refused e)
     → WhereKnown a b (λ s t. MatchOption begun ⊥ (λ x. Takes s step.Begin x t)) → WhereKnown a b (Does (FlushesWith (Err e) domain calls calls))

@@ -16,8 +16,8 @@ use Rattle.iova_keep.specs.Steps.{Takes}
 use Rattle.iova_keep.specs.Views.{SeatState, IsAllocRefusal, IsUnmapRefusal, stat_of}
 use Rattle.iova_keep.specs.Events.{Event, Ran, Does, Unmapping}
 
--- what may be told of an ask: a request is given a range of its own, or refused; what is freed
--- begins where it was asked, and where the ring is full nothing is told
+-- what an ask may be answered: a request is given a range of its own, or refused; what is freed
+-- begins where it was asked, and where the ring is full there is no answer
 abbrev pub IsToldOf : Ask → Told → Type 0
 IsToldOf (ask.Alloc frames limit) (told.Given r) = IsGivenTo frames limit r
 IsToldOf (ask.Alloc frames limit) (told.Refused e) = IsAllocRefusal e
@@ -26,21 +26,21 @@ IsToldOf (ask.Free lo) (told.Refused e) = IsUnmapRefusal e × (e ≢ refusal.Rin
 IsToldOf ask.Stat (told.Stat x) = Unit {0}
 IsToldOf a x = ⊥
 
--- the reply that is told so
+-- the reply that is answered so
 abbrev pub IsReplyTold : Reply → Told → Type 0
 IsReplyTold (reply.Given r) (told.Given q) = q ≡ r
 IsReplyTold (reply.Queued r) (told.Queued q) = q ≡ r
 IsReplyTold (reply.Refused e) (told.Refused f) = f ≡ e
 IsReplyTold r x = ⊥
 
--- the shares move by what is told
+-- the shares move by what is answered
 abbrev pub MovesTold : Told → Totals → Totals → Type 0
 MovesTold (told.Given r) old new = MovesTotals (reply.Given r) old new
 MovesTold (told.Queued r) old new = MovesTotals (reply.Queued r) old new
 MovesTold (told.Stat x) old new = new ≡ old
 MovesTold (told.Refused e) old new = new ≡ old
 
--- One ask of a client of worker w, whose seat has `held`: it is told so, and leads from s to t.
+-- One ask of a client of worker w, whose seat has `held`: it is answered so, and leads from s to t.
 abbrev pub DoesAsk : ℕ → ℕ → Ask → Told → Totals → State → State → Type 0
 DoesAsk w id (ask.Alloc frames limit) x held s t =
     (r : Reply) × IsReplyTold r x × Takes s (step.Alloc w id frames limit) r t
@@ -49,14 +49,14 @@ DoesAsk w id (ask.Free lo) x held s t =
     × Does (Unmapping (step.Unmap w id lo) held r) s t
 DoesAsk w id ask.Stat x held s t = (x ≡ told.Stat (stat_of s)) × (t ≡ s)
 
--- What is told of the reply to an ask is appended.
+-- The answer for the reply to an ask is appended.
 pub record TellsReply (a : Ask) (r : Reply) (before now : List Told) : Type 0 where
   pub told : Told
   pub appended : now ≡ before ++ told ∷ []
   pub of_reply : IsReplyTold r told
   pub of_ask : IsToldOf a told
 
--- One ask is done, and what is told of it appended.
+-- One ask is done, and its answer appended.
 pub record TellsOne (w id : ℕ) (a : Ask) (before now : List Told) (held left : Totals)
     (s t : State) : Type 0 where
   pub told : Told
@@ -74,8 +74,8 @@ StopsAt w id (ask.Free lo ∷ asks) held s t =
 StopsAt w id (ask.Alloc frames limit ∷ asks) held s t = ⊥
 StopsAt w id (ask.Stat ∷ asks) held s t = ⊥
 
--- The asks are done in order, and told so; where some are left, the next one is a free whose ring
--- is full.
+-- The asks are done in order, and answered so; where some are left, the next one is a free whose
+-- ring is full.
 abbrev pub DoesAsks : ℕ → ℕ → List Ask → List Told → Totals → Totals → State → State → Type 0
 DoesAsks w id asks [] held left s t = StopsAt w id asks held s t × (left ≡ held)
 DoesAsks w id [] (x ∷ xs) held left s t = ⊥
@@ -90,14 +90,14 @@ MayStop (ask.Free lo ∷ asks) = Unit {0}
 MayStop (ask.Alloc frames limit ∷ asks) = ⊥
 MayStop (ask.Stat ∷ asks) = ⊥
 
--- what may be told of the asks where the keeper's domain isn't known
+-- what the asks may be answered where the keeper's domain isn't known
 abbrev pub ToldOfAsks : List Ask → List Told → Totals → Totals → Type 0
 ToldOfAsks asks [] held left = MayStop asks × (left ≡ held)
 ToldOfAsks [] (x ∷ xs) held left = ⊥
 ToldOfAsks (a ∷ asks) (x ∷ xs) held left =
     (now : Totals) × IsToldOf a x × MovesTold x held now × ToldOfAsks asks xs now left
 
--- so many asks were done, and what is told of them appended
+-- so many asks were done, and their answers appended
 pub record Batched (w id : ℕ) (asks : List Ask) (before now : List Told) (count : ℕ)
     (held left : Totals) (s t : State)
     : Type 0 where
@@ -136,7 +136,8 @@ DoesBatch strict seat left id asks before now result s t =
 
 -- What is run for the asks.
 
--- One ask of a client of worker w, whose seat has `held`: this is run for it, where it is told so.
+-- One ask of a client of worker w, whose seat has `held`: this is run for it, where it is answered
+-- so.
 -- For the domain in numbers no step is run.
 abbrev pub AskRuns : ℕ → ℕ → Ask → Told → Totals → List Event → Type 0
 AskRuns w id (ask.Alloc frames limit) x held es =
@@ -154,7 +155,7 @@ StopRuns w id (ask.Free lo ∷ asks) held es =
 StopRuns w id (ask.Alloc frames limit ∷ asks) held es = ⊥
 StopRuns w id (ask.Stat ∷ asks) held es = ⊥
 
--- This is run for the asks, in order, where they are told so.
+-- This is run for the asks, in order, where they are answered so.
 pub data AsksRun (w id : ℕ) : List Ask → List Told → Totals → Totals → List Event → Type 0 where
   stopped : (asks : List Ask) (held : Totals) (es : List Event) → StopRuns w id asks held es
       → AsksRun w id asks [] held held es
@@ -163,7 +164,7 @@ pub data AsksRun (w id : ℕ) : List Ask → List Told → Totals → Totals →
       → AskRuns w id a x held es → MovesTold x held now → AsksRun w id asks xs now left fs
       → AsksRun w id (a ∷ asks) (x ∷ xs) held left (es ++ fs)
 
--- One ask is done, for which this is run, and what is told of it appended.
+-- One ask is done, for which this is run, and its answer appended.
 pub record OneRuns (w id : ℕ) (a : Ask) (before now : List Told) (held left : Totals)
     (es : List Event)
     : Type 0 where
@@ -172,7 +173,7 @@ pub record OneRuns (w id : ℕ) (a : Ask) (before now : List Told) (held left : 
   pub moves : MovesTold told held left
   pub runs : AskRuns w id a told held es
 
--- this is run where so many asks were done, and what is told of them appended
+-- this is run where so many asks were done, and their answers appended
 pub record BatchedRuns (w id : ℕ) (asks : List Ask) (before now : List Told) (count : ℕ)
     (held left : Totals) (es : List Event)
     : Type 0 where

@@ -19,7 +19,7 @@ use Rattle.iova_keep.specs.declared.ending.Why.TheVariants as why
 use Rattle.iova_keep.specs.Views.{Lacks, IsUnknown}
 
 -- What happens in a call: a step is run and answered; a step is not run, since the seat has these
--- totals and the range that would be queued is more; the sink is told of a flush, and answers.
+-- totals and the range that would be queued is more; the sink is called for a flush, and answers.
 pub data Event : Type 0 where
   Ran : Step → Reply → Event
   NotRun : Step → Totals → Event
@@ -83,7 +83,7 @@ pub data Unmap (st : Step) (held : Totals) : Reply → List Event → Type 0 whe
       (Ran st (reply.Refused refusal.RingFull) ∷ Ran step.Begin (reply.Begun n) ∷ Invalidated n
       ok ∷ es)
 
--- A flush: it begins, the sink is told, and it ends as the sink answered.
+-- A flush: it begins, the sink is called, and it ends as the sink answered.
 pub data Flush : Result ℕ Refusal → List Event → Type 0 where
   refused : (e : Refusal) → Flush (Err e) (Ran step.Begin (reply.Refused e) ∷ [])
   done : (n : ℕ) (end : Reply)

@@ -56,8 +56,8 @@ pub data ReleaseLast (w n : ℕ) (ok : Bool) (finish : ℕ) : Bool → List Even
       → ReleaseLast w n ok finish false
       (Ran (step.End n ok) end ∷ Ran (step.Drain w w) (reply.Drained m) ∷ [])
 
--- What follows a range that was queued: nothing where no flush began; else the sink is told of that
--- flush, and the last hold.
+-- What follows a range that was queued: nothing where no flush began; else the sink is called
+-- for that flush, and the last hold.
 pub data AfterQueued (w finish : ℕ) (q : Frames) : Option ℕ → Unmapped → List Event → Type 0 where
   stays : AfterQueued w finish q None (unmapped.Queued q) []
   freed : (n : ℕ) (ok : Bool) (es : List Event) → ReleaseLast w n ok finish true es

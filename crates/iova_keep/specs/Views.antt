@@ -1,4 +1,4 @@
--- What contracts see of seats and tallies, and what a keeper tells.
+-- What contracts see of seats and tallies, and what a keeper answers.
 use Rattle.std.specs.Prelude.{ℕ, zero, suc, ◌≡◌, ◌≢◌, ◌+◌, ◌*◌, ◌<◌, ◌≤◌, ◌%◌, ◌⊎◌, Bool, true, List, [], ◌∷◌, ◌++◌, length, Option, Some, None, Result, Ok, Err, MatchOption, if◌then◌else◌}
 use Rattle.std.specs.declared.sync.ledger.Blank.{Blank}
 use Rattle.iova_range.specs.declared.refusal.Refusal.{Refusal}
@@ -287,13 +287,13 @@ abbrev pub Lowers : Totals → Totals → Totals → Type 0
 Lowers queued old new =
     (ranges : List Frames) × (queued ≡ totals_of ranges) × IsLowered ranges old new
 
--- so many ranges are told of where all were queued, and none is where the call was refused
+-- so many ranges are counted where all were queued, and none is where the call was refused
 abbrev pub Tells : Result Ending Refusal → ℕ → Type 0
 Tells (Ok (ending.Ended queued)) count = queued ≡ count
 Tells (Ok (ending.Waiting left why)) count = Unit {0}
 Tells (Err e) count = (count ≡ 0) × IsUnknown e
 
--- a client's end queues some ranges, lowers the shares by them, and tells how many where it has
+-- a client's end queues some ranges, lowers the shares by them, and answers how many where it has
 -- ended
 abbrev pub LowersTold : Result Ending Refusal → Totals → Totals → Type 0
 LowersTold result old new =

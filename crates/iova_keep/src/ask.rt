@@ -1,4 +1,4 @@
-//! What several requests in one hold ask, and what is told of them.
+//! What several requests in one hold ask, and what they are answered.
 
 use iova_range::range::Range;
 use iova_range::refusal::Refusal;
@@ -15,7 +15,7 @@ pub enum Ask {
     Stat,
 }
 
-/// What is told of one ask.
+/// What one ask is answered.
 #[derive(Clone, Copy, PartialEq, Eq, Debug)]
 pub enum Told {
     /// The client has this range.

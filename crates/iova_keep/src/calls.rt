@@ -15,7 +15,7 @@ use iova_range::refusal::Refusal;
 use iova_sink::sink::Sink;
 
 /// Begins a flush, calls the sink, and ends the flush as the sink answered. It gives the flush's
-/// number, which the sink was told with the domain's in its last call. Refused by `FlightsFull` and
+/// number, which the sink got with the domain's in its last call. Refused by `FlightsFull` and
 /// `Worn` where none begins, and then the sink isn't called; by `SinkFault` where the sink failed.
 /// Linux 5.15 drivers/iommu/iova.c: fq_flush_iotlb; failures are our own.
 pub fn flush<B: Names, K: Keep<B>, D: Sink>(

@@ -269,8 +269,8 @@ pub trait Keep<B: Names> {
         ensures first { by ≡ 0 → IsOk result };
 
     /// Does the asks in order, in one hold, and stops before the first free whose ring is full, in
-    /// a strict domain before the first free. It answers how many were done, and appends what is
-    /// told of each. Refused by `NoMemory` where there is no room for that; then nothing was done.
+    /// a strict domain before the first free. It gives how many were done, and appends the answer
+    /// to each. Refused by `NoMemory` where there is no room for that; then nothing was done.
     fn batch(
         &mut self,
         seat: &mut Seat<B>,

@@ -58,7 +58,7 @@ impl<D> SharedSink<D> {
         self.unanswered.fetch_add(1, SeqCst);
     }
 
-    /// Waits for the end of the turn that is under way, where one is, and tells whether it waited.
+    /// Waits for the end of the turn that is under way, where one is, and gives whether it waited.
     fn wait_for_turn<R: Wait>(&self, rt: &R) -> bool {
         self.waiting.fetch_add(1, SeqCst);
         // a turn that ends behind this look changes what the thread would sleep on
@@ -132,7 +132,7 @@ impl<'a, R, D> LockedSink<'a, R, D> {
 }
 
 impl<'a, R: Wait, D: Sink> LockedSink<'a, R, D> {
-    /// Tells those that wait where this call had no answer.
+    /// Notes for those that wait where this call had no answer.
     fn note(&self, told: Result<(), SinkFault>) {
         if told == Err(SinkFault::Broken) {
             self.sink.note_unanswered();

@@ -246,9 +246,9 @@ fn read_received(
 /// `EAGAIN`; where the call failed, the number of the system's error.
 ///
 /// A peer that reads its answers wakes whoever waits in a read of the other end, though nothing has
-/// come: of bytes taken from a socket the system tells its other end by the queue at which a read
-/// waits too. A poll reports only what it asks for. It is one call more, and pays where the peer
-/// has a run of answers to go through before it asks again.
+/// come: of bytes taken from a socket the system notifies its other end by the queue at which a
+/// read waits too. A poll reports only what it asks for. It is one call more, and pays where the
+/// peer has a run of answers to go through before it asks again.
 #[inline(never)]
 fn wait_for(stream: &UnixStream, turn: Option<Duration>) -> Result<(), i32> {
     let mut asked = [pollfd {

@@ -150,7 +150,7 @@ impl<'a, R: AllocGlobal + Dial + Wait, N: Log> SocketAccept<'a, R, N> {
         }
     }
 
-    /// Tells of an accept that failed, and gives how long to wait for the next.
+    /// Writes a notice of an accept that failed, and gives how long to wait for the next.
     fn note_failed(&self, error: &io::Error) -> Duration {
         let pause = self.pause.load(Ordering::SeqCst);
         warn!(self.notices; target: "accept", "accept: {error}");

@@ -1,4 +1,4 @@
--- What is told of the asks in front of the first free is told of all the asks; and what is run for asks, one after another.
+-- What the asks in front of the first free are answered, all the asks are; and what is run for asks, one after another.
 use Rattle.std.proofs.Common.{ℕ, ◌≡◌, ◌≢◌, ◌+◌, ◌++◌, ◌∙◌, Bool, true, false, List, [], ◌∷◌, Option, length, refl, sym, ap, subst, arith, append_assoc, append-nil}
 use Rattle.iova_range.specs.declared.refusal.Refusal.TheVariants as refusal
 use Rattle.iova_model.specs.declared.step.Step.TheVariants as step
@@ -51,7 +51,7 @@ alloc_runs w id frames limit before now held left x r a b s t appended is moves 
   stored = (b, k, refl);
 }
 
--- the shares move by what is told as they moved by the reply
+-- the shares move by what is answered as they moved by the reply
 moves_told : (r : Reply) (x : Told) (held left : Totals) → IsReplyTold r x → MovesTotals r held left → MovesTold x held left
 moves_told (reply.Given r) (told.Given q) held left is h = subst (λ (f : Frames). MovesTotals (reply.Given f) held left) (sym is) h
 moves_told (reply.Given r) (told.Queued q) held left is h = absurd is

@@ -98,7 +98,7 @@ queued_range stays = refl
 queued_range (freed n ok es l) = refl
 queued_range (not_freed n ok es l) = refl
 
--- by what is told of the range that was queued
+-- by the answer with the range that was queued
 queued_moves : {w finish : ℕ} {q : Frames} {o : Option ℕ} {u : Unmapped} {es : List Event} (held left : Totals) → AfterQueued w finish q o u es → Lowers (Some (unmapped_or (Ok u))) held left
     → Lowers (Some (reply.Queued q)) held left
 queued_moves held left f l = subst (λ (x : Frames). Lowers (Some (reply.Queued x)) held left) (queued_range f) l

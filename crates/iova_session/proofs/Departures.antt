@@ -24,7 +24,7 @@ pub told_good : (number id : ℕ) (held : List Frames) (answer : Result Unit Sin
 told_good number id [] answer before now h = ap good_calls h.1
 told_good number id (r ∷ rs) answer before now h = ap good_calls h ∙ good_gone before number id (r ∷ rs) answer
 
--- what a sink was told went well, and the client's end follows
+-- the sink was notified well, and the client's end follows
 pub departs_well : (a b : Option State) (seat : SeatState) (left : Totals) (id : ℕ) (held : List Frames) (l : Leaving) (number : ℕ) (before calls now : List Call)
     → IfSome a (λ s. held ≡ holdings_in (client_of seat.worker id s.clients)) → IsTold number id held (Ok tt) before calls → l.silent ≡ false
     → WhereKnown a b (DoesEndClient seat left id l.ended number calls now) → WhereKnown a b (Departs seat left id l number before now)
@@ -54,7 +54,7 @@ left_there : (w id number : ℕ) (clients : List Client) (fault : SinkFault) (be
 left_there w id number clients fault before now None is told = absurd (let no = told.0 in cc)
 left_there w id number clients fault before now (Some c) is told = let own = owned w id clients c is in sym (ap left_in own.is)
 
--- one that is told in vain has as many ranges left as it holds
+-- one of which a sink is notified in vain has as many ranges left as it holds
 pub left_ill : (w id number : ℕ) (s : State) (fault : SinkFault) (before now : List Call) → IsTold number id (holdings_in (client_of w id s.clients)) (Err fault) before now
     → length (holdings_in (client_of w id s.clients)) ≡ left_in (client_with id s.clients)
 left_ill w id number s fault before now told = left_there w id number s.clients fault before now (client_of w id s.clients) refl told

@@ -28,7 +28,7 @@ not_listed id r queued was now is h = subst (λ (x : Result Ending Refusal). now
 listed : (id : ℕ) (r : Result Ending Refusal) (left : ℕ) (why : Why) (was now : List ℕ) → r ≡ Ok (ending.Waiting left why) → now ≡ was ++ kept_if (still_waits r) id → now ≡ was ++ id ∷ []
 listed id r left why was now is h = subst (λ (x : Result Ending Refusal). now ≡ was ++ kept_if (still_waits x) id) is h
 
--- it queued as many ranges as it told
+-- it queued as many ranges as it counted
 queued_count : (r : Result Ending Refusal) (queued : ℕ) (old new : Totals) → r ≡ Ok (ending.Ended queued) → LowersTold r old new → old.count ≡ new.count + queued
 queued_count r queued old new is h =
     let l : LowersTold (Ok (ending.Ended queued)) old new = subst (λ (x : Result Ending Refusal). LowersTold x old new) is h in

@@ -1,4 +1,4 @@
--- A client whose end is told as `Ended` is gone.
+-- A client whose end is reported as `Ended` is gone.
 use Rattle.std.proofs.Common.{ℕ, ◌≡◌, ◌+◌, ◌≤◌, Bool, true, false, List, [], ◌∷◌, ◌++◌, Option, Some, None, refl, sym, ap, ◌∙◌, subst, arith}
 use Rattle.std.specs.Prelude.{Result, Ok, Err, length, option_and_then, nat_le}
 use Rattle.iova_range.specs.declared.limits.TheConstants.{MAX_ENTRIES}

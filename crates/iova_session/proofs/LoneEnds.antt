@@ -1,4 +1,4 @@
--- The end of a client where nobody else holds a range and the sink answers well: it is told as `Ended`, or there is no such client.
+-- The end of a client where nobody else holds a range and the sink answers well: it is reported as `Ended`, or there is no such client.
 use Rattle.std.proofs.Common.{ℕ, ◌≡◌, ◌+◌, ◌<◌, ◌≤◌, ◌⊎◌, inl, inr, Bool, true, false, List, [], ◌∷◌, ◌++◌, Option, Some, None, refl, sym, ap, ◌∙◌, subst, arith, length-append}
 use Rattle.std.specs.Prelude.{Result, length, sum_by}
 use Rattle.std.specs.List.{AllByRecursion}

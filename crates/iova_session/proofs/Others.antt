@@ -185,7 +185,7 @@ pub leads_keep_all : OthersKeepTheirHoldings → (es : List Event) (s t : State)
 leads_keep_all law es s t n l = λ other ne.
     leads_keep law (other + 1) es s t (n (other + 1)) l other (λ e. absurd (let same : other ≡ other + 1 = some_same e in omega (arith, same)))
 
--- what is told of a client's end is its result, or nothing
+-- what is reported of a client's end is its result, or nothing
 abbrev TellsAtMost : Option Ending → Result Ending Refusal → Type 0
 TellsAtMost None result = Unit {0}
 TellsAtMost (Some told) result = result ≡ Ok told

@@ -1,4 +1,4 @@
--- What a batch tells, as pairs, and how the shares move by it.
+-- What a batch answers, as pairs, and how the shares move by it.
 use Rattle.std.proofs.Common.{ℕ, ◌≡◌, ◌+◌, ◌≤◌, List, [], ◌∷◌, ◌++◌, Option, Some, None, refl, sym, ap, ◌∙◌, arith, subst, length-append, append-nil, rules, ◌<◌, drop, get_or}
 use Rattle.std.proofs.lemmas.Grind.{common_steps}
 use Rattle.std.proofs.lemmas.List.{drop_more}
@@ -38,7 +38,7 @@ moves_on g h t u a b c x y =
 pub no_move : (a b : Totals) → b ≡ a → MovesBy [] [] a b
 no_move a b e = ap (λ (t : Totals). add_totals t (totals_of [])) e
 
--- what is told moves the shares as its answer says
+-- what a hold answers moves the shares as the line's answer says
 pub told_moves : (x : Told) (a b : Totals) → MovesTold x a b → MovesBy (given_by (answer_of x)) (taken_by (answer_of x)) a b
 told_moves (lock_told.Given r) a b m =
     same_totals (add_totals b (totals_of [])) (add_totals a (totals_of (r ∷ [])))
@@ -62,7 +62,7 @@ pub released_answers : (listed lo : ℕ) (u : Unmapped) → (range_of u).lo ≡ 
 released_answers listed lo (unmapped.Queued r) is = is
 released_answers listed lo (unmapped.Freed r) is = is
 
--- what is told of a batch of the requests at the front
+-- what a batch of the requests at the front is answered
 pub record FromBatch (rs : List Request) (xs : List Told) (held left : Totals) : Type 0 where
   pub each : AreTold rs xs
   pub short : length xs ≤ length rs
@@ -114,7 +114,7 @@ pub length0 : (xs : List Told) → length xs ≡ 0 → xs ≡ []
 length0 [] e = refl
 length0 (x ∷ xs) e = absurd (omega (arith, e))
 
--- the pairs of a batch whose room for what is told was empty
+-- the pairs of a batch whose room for answers was empty
 pub from_told : (rs : List Request) (asks : List Ask) (before now : List Told) (count : ℕ) (held left : Totals) → asks ≡ asks_in rs → before ≡ [] → TellsAsks asks before now count held left
     → FromBatch rs now held left × (length now ≡ count)
 from_told rs asks before now count held left e none h =
@@ -122,7 +122,7 @@ from_told rs asks before now count held left e none h =
     let t : ToldOfAsks (asks_in rs) now held left = subst (λ (xs : List Told). ToldOfAsks (asks_in rs) xs held left) (sym all) (subst (λ (qs : List Ask). ToldOfAsks qs h.more held left) e h.told) in
     (from_batch rs now held left t, ap (λ (xs : List Told). length xs) all ∙ h.counted)
 
--- where nothing is told, the batch stopped at once
+-- a batch that did none has a first request that is asked alone, and moved nothing
 pub none_done : (rs : List Request) (asks : List Ask) (before now : List Told) (count : ℕ) (held left : Totals) → asks ≡ asks_in rs → before ≡ [] → count ≡ 0 → TellsAsks asks before now count held left
     → IsFirstAlone rs × (left ≡ held) × (now ≡ [])
 none_done rs asks before now count held left e none zero h =
@@ -139,7 +139,7 @@ told_short (r ∷ rs) (x ∷ xs) h = omega (arith, told_short rs xs h.1)
 told_first : (rs : List Request) (xs : List Told) (r : Request) (x : Told) (ss : List Request) (ys : List Told) → rs ≡ r ∷ ss → xs ≡ x ∷ ys → AreTold rs xs → IsToldTo (ask_of r) x
 told_first rs xs r x ss ys e f h = (subst (λ (vs : List Told). AreTold (r ∷ ss) vs) f (subst (λ (qs : List Request). AreTold qs xs) e h)).0
 
--- what is told at a place is told of the request there
+-- what stands at a place is what the request there is answered
 pub told_at : (rs : List Request) (xs : List Told) (i : ℕ) (r : Request) (x : Told) → i < length xs → length xs ≤ length rs → AreTold (drop i rs) (drop i xs)
     → IsToldTo (ask_of (get_or rs i r)) (get_or xs i x)
 told_at rs xs i r x lt short h =

@@ -184,7 +184,7 @@ abbrev pub asks_in : List Request → List Ask
 asks_in [] = []
 asks_in (r ∷ rs) = ask_then (ask_of r) (asks_in rs)
 
--- what is told as an answer
+-- what a hold answers, as a line's answer
 abbrev pub answer_of : Told → Answer
 answer_of (lock_told.Given r) = answer.Given r
 answer_of (lock_told.Queued r) = answer.Queued r
@@ -196,21 +196,21 @@ abbrev pub answer_of_release : Unmapped → Answer
 answer_of_release (unmapped.Queued r) = answer.Queued r
 answer_of_release (unmapped.Freed r) = answer.Freed r
 
--- the requests at the front, with what is told of them
+-- the requests at the front, with their answers
 abbrev pub told_pairs : List Request → List Told → List Pair
 told_pairs rs [] = []
 told_pairs [] (x ∷ xs) = []
 told_pairs (r ∷ rs) (x ∷ xs) = record { request = r; answer = answer_of x } ∷ told_pairs rs xs
 
--- a session: the domain's number, its client, how many ranges it was told in lists, and its
--- requests with their answers
+-- a session: the domain's number, its client, how many ranges were listed to it, and its requests
+-- with their answers
 pub record SessionState : Type 0 where
   pub number : ℕ
   pub client : Option ℕ
   pub listed : ℕ
   pub pairs : List Pair
 
--- What is told of the requests at the front is what may be told of their asks.
+-- What the requests at the front are answered is what their asks may be answered.
 abbrev pub IsToldTo : Option Ask → Told → Type 0
 IsToldTo None x = ⊥
 IsToldTo (Some a) x = IsToldOf a x

@@ -23,14 +23,14 @@ use Rattle.iova_session.specs.Desks.{answer_of_release}
 abbrev pub KeepsOthers : Option ℕ → State → State → Type 0
 KeepsOthers client s t = (id : ℕ) → client ≢ Some id → held_by id t.clients ≡ held_by id s.clients
 
--- a client that has ended is gone, and of one that waits is told how many holdings are left to it
+-- a client that has ended is gone, and of one that waits is counted how many holdings it has left
 abbrev pub IsLeft : Option ℕ → Option Ending → State → Type 0
 IsLeft (Some id) (Some (ending.Waiting left why)) t = left ≡ left_of id t
 IsLeft (Some id) (Some (ending.Ended queued)) t = client_with id t.clients ≡ None
 IsLeft (Some id) None t = Unit {0}
 IsLeft None told t = Unit {0}
 
--- what a session leaves, of whose client this is told
+-- what a session leaves, of whose client this is reported
 abbrev pub LeavesOthers : Option ℕ → Option Ending → State → State → Type 0
 LeavesOthers client told s t = KeepsOthers client s t × IsLeft client told t
 

@@ -60,8 +60,8 @@ FirstDoes number w request.Flush a s t = (a ≡ answer.Refused refusal.NoClient)
 FirstDoes number w request.Stat a s t = (a ≡ answer.Refused refusal.NoClient) × (t ≡ s)
 FirstDoes number w request.Bye a s t = (a ≡ answer.Bye) × (t ≡ s)
 
--- What a request does with a client that was told so many ranges in lists: what its call of the
--- lock does, which it is answered by, between these calls of the sink.
+-- What a request does with a client to which so many ranges were listed: what its call of the lock
+-- does, which it is answered by, between these calls of the sink.
 abbrev pub ClientDoes : Bool → ℕ → SeatState → ℕ → ℕ → Request → Answer → List Call → List Call
     → State → State
     → Type 0
@@ -119,9 +119,9 @@ GoesOn strict was now old new before calls s t =
     × PairsLead strict was.number was.client was.listed ps (moment old before s)
     (moment new calls t)
 
--- The client that a session opened leaves, of whose end this is told, by what the seat's shares are
--- to come back to: it is told where they fit it, and the client is the last of those that wait
--- exactly where it waits. Where none was opened, nothing is done.
+-- The client that a session opened leaves, of whose end this is reported, by what the seat's shares
+-- are to come back to: it is reported where they fit it, and the client is the last of those that
+-- wait exactly where it waits. Where none was opened, nothing is done.
 abbrev pub EndDoes : ℕ → Option ℕ → Option Ending → Option Totals → List ℕ → List ℕ → Moment
     → Moment → Type 0
 EndDoes number None told back was now a b = (told ≡ None) × (now ≡ was) × (b ≡ a)

@@ -16,8 +16,8 @@ use Rattle.iova_keep.specs.declared.ending.Why.TheVariants as why
 use Rattle.iova_session.specs.declared.leaving.Leaving.{Leaving}
 use Rattle.iova_session.specs.declared.leaving.Attempt.{Attempt}
 
--- What a sink is told before a client's end: nothing where it holds nothing; else that it is gone,
--- which has these ranges. What was answered, between these calls of the sink.
+-- What a sink is notified of before a client's end: nothing where it holds nothing; else that it is
+-- gone, which has these ranges. What was answered, between these calls of the sink.
 abbrev pub IsTold : ℕ → ℕ → List Frames → Result Unit SinkFault → List Call → List Call → Type 0
 IsTold number id [] answer before now = (answer ≡ Ok tt) × (now ≡ before)
 IsTold number id (r ∷ rs) answer before now = now ≡ with_gone before number id (r ∷ rs) answer

@@ -41,12 +41,12 @@ EndsFrom id told back old new was now =
     (ended : Result Ending Refusal) × LowersTold ended old new × TellsFitting told ended back new
     × (now ≡ was ++ kept_if (still_waits ended) id)
 
--- What is told of the end of a session's client, by the shares of the seat before the session and
--- after it, and the clients that wait. Where it ended, the shares are as before, and what its end
--- queued is what was given to it and not taken back. Where it waits, the count is greater by what
--- it has left, and it is the last of those that wait. Nothing is told of a client that was opened
--- only where the shares, which its requests had moved, don't fit its end, or where there was no
--- such client.
+-- What is reported of the end of a session's client, by the shares of the seat before the session
+-- and after it, and the clients that wait. Where it ended, the shares are as before, and what its
+-- end queued is what was given to it and not taken back. Where it waits, the count is greater by
+-- what it has left, and it is the last of those that wait. Nothing is reported of a client that was
+-- opened only where the shares, which its requests had moved, don't fit its end, or where there was
+-- no such client.
 abbrev pub EndsClientOf : Option ℕ → List Pair → Option Ending → Totals → Totals → List ℕ → List ℕ
     → Type 0
 EndsClientOf None ps told old new was now = (told ≡ None) × (new ≡ old) × (now ≡ was)

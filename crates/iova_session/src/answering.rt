@@ -66,7 +66,7 @@ pub(crate) fn ask_all<L: Link, D: Desk>(
 {
     let mut asked = 0;
     'asking: while asked < run.len() {
-        // nothing, but where the last run's answers were not told
+        // nothing, but where the last run's answers were not written
         room.answers.clear();
         match desk.ask_run(&run[asked..], &mut room.answers) {
             Ok(n) => asked += n,

@@ -53,7 +53,7 @@ pub(crate) fn ask_first<B: Names, K: Keep<B>>(
 }
 
 /// What a request is answered that isn't asked together with others, of a session with a client
-/// that was told `listed` ranges in lists. The sink is locked before a flush can begin: so there
+/// to which `listed` ranges were listed. The sink is locked before a flush can begin: so there
 /// are never more in flight than sinks.
 pub(crate) fn ask_alone<B: Names, K: Keep<B>, D: Sink>(
     alloc: Global,

@@ -7,7 +7,7 @@ use iova_proto::request::Request;
 use iova_range::limits::MAX_RUN;
 use iova_range::refusal::Refusal;
 
-/// Answers requests, and tells what it was asked and what it answered.
+/// Answers requests. Contracts see what it was asked and what it answered.
 pub trait Desk {
     /// What it was asked, with its answers, oldest first.
     ghost pairs: { Self → List Pair };

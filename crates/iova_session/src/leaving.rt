@@ -1,4 +1,4 @@
-//! The end of a client whose session is over: its sink is told of its ranges first.
+//! The end of a client whose session is over: its sink is notified of its ranges first.
 ghost use Rattle.std.specs.Prelude.{◌≡◌, ◌≢◌, ◌≤◌, [], true, vec_capacity, IfSome};
 ghost use Rattle.iova_range.specs.declared.limits.TheConstants.{MAX_HOLDINGS};
 ghost use Rattle.iova_keep.specs.Views.{WhereKnown, LowersTold, KeepsPlace};
@@ -21,7 +21,7 @@ use iova_sink::sink::{Sink, SinkFault};
 pub struct Leaving {
     /// How its end went; an error where it isn't known.
     pub ended: Result<Ending, Refusal>,
-    /// Whether the sink was told that it is gone, and gave no answer.
+    /// Whether the sink was notified that it is gone, and gave no answer.
     pub silent: bool,
 }
 
@@ -34,10 +34,10 @@ pub struct Attempt {
     pub over: bool,
 }
 
-/// Ends a client of the seat. Where it holds ranges, the sink is told first that it is gone, and of
-/// all of them; where the sink fails, none of them is queued, and the client waits with all of
-/// them. The sink is locked all the while; the end of a client that holds none needs no sink, and
-/// waits for none. It takes no memory.
+/// Ends a client of the seat. Where it holds ranges, the sink is notified first that it is gone,
+/// and of all of them; where the sink fails, none of them is queued, and the client waits with all
+/// of them. The sink is locked all the while; the end of a client that holds none needs no sink,
+/// and waits for none. It takes no memory.
 pub(crate) fn leave<B: Names, K: Keep<B>, D: Sink>(
     keeper: &mut K,
     seat: &mut Seat<B>,
@@ -108,7 +108,7 @@ fn leave_with<B: Names, K: Keep<B>, D: Sink>(
     }
 }
 
-/// Tells the sink that a client of the domain of this number is gone, and that it holds these
+/// Notifies the sink that a client of the domain of this number is gone, and that it holds these
 /// ranges, where there are any.
 fn tell<D: Sink>(
     number: u64,

@@ -20,7 +20,7 @@ use iova_sink::sink::Sink;
 use std::alloc::Global;
 
 /// Serves a session over each of the links in turn, all at one post, and appends how each of them
-/// ended. Over a keeper that tells its domain, each leads it on from where the one before it left
+/// ended. Over a keeper whose domain is known, each leads it on from where the one before it left
 /// it; so all of them run one transcript of steps, which keeps the promises.
 pub fn serve_one_by_one<B: Names, L: Link, K: Keep<B>, D: Sink>(
     alloc: Global,

@@ -15,7 +15,7 @@ pub struct Post<B: Names> {
     pub seat: Seat<B>,
     /// The clients of ended sessions that are not gone yet, oldest first.
     pub waiting: Vec<ClientId>,
-    /// Room for the ranges of a client that leaves: what is in it is what the sink was told last.
+    /// Room for the ranges of a client that leaves: what is in it is what the sink got last.
     /// The first session at the post takes it.
     pub ranges: Vec<Range>,
 }

@@ -13,7 +13,7 @@ use iova_laws::validity::steps_keep_validity;
 use iova_sink::sink::Sink;
 
 /// Tries once to end each client that waits, in the order of the list, and gives how many are left:
-/// the sink is told again that it is gone, and which ranges it still holds, and then they are
+/// the sink is notified again that it is gone, and which ranges it still holds, and then they are
 /// queued. One that is gone leaves the list, and so does one that isn't known any more. A sink that
 /// gives no answer to that ends the round: those behind the client wait on. Where nobody else holds
 /// a range of the domain and no call of the sink fails, all of them end, and nobody holds anything.

@@ -150,10 +150,10 @@ fn serve_at<B: Names, K: Keep<B>, D: Sink, L: Link>(
 
 /// Serves one session at the post, and then ends the client that its `hello` opened, whatever ended
 /// the session. A client that waits is put on the post's list, last. `NoMemory` without a read
-/// where there is no room for that. Where the client holds ranges, the sink is told that it is
+/// where there is no room for that. Where the client holds ranges, the sink is notified that it is
 /// gone, and of all of them, before the first is queued; where the sink fails, none is. `client` is
 /// none where no client was opened; so it would be where the seat's shares weren't as they have to
-/// be, but this never happens. Over a keeper that tells its domain, each request does there what
+/// be, but this never happens. Over a keeper whose domain is known, each request does there what
 /// its call of the lock does, and is answered by what that call answers.
 pub fn run_session<B: Names, L: Link, K: Keep<B>, D: Sink>(
     alloc: Global,

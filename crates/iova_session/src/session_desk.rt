@@ -25,7 +25,7 @@ pub(crate) trait SessionStart {
     /// The domain's number, and whether it is strict.
     ghost identity: { Identity };
 
-    /// The domain, where the keeper tells it.
+    /// The domain, where it is known.
     ghost domain: { Option State };
 
     /// The session.

@@ -29,7 +29,7 @@ pub(crate) struct LastBatch {
     pub(crate) stopped: bool,
     /// A range was freed at once: each free has a flush of its own.
     pub(crate) is_strict: bool,
-    /// What the lock told, and room for what it tells next.
+    /// The last hold's answers, and room for those of the next.
     pub(crate) told: Vec<Told>,
 }
 
@@ -47,7 +47,7 @@ impl LastBatch {
 /// Asks the longest front of `alloc`, `free` and `stat` in one hold, up to the first free whose
 /// ring is full, and gives how many were asked. A free that the last hold stopped at isn't tried in
 /// a hold again, nor one behind a free in a strict domain: these are asked alone. Refused by
-/// `NoMemory` where the room for what the lock tells has to grow and can't; then nothing was asked.
+/// `NoMemory` where the room for its answers has to grow and can't; then nothing was asked.
 pub(crate) fn ask_together<B: Names, K: Keep<B>>(
     keeper: &mut K,
     seat: &mut Seat<B>,
@@ -223,7 +223,7 @@ fn ask_of(request: Request) -> Option<Ask>
     }
 }
 
-/// Notes and answers the requests at the front, as they were told.
+/// Notes and answers the requests at the front, as the hold answered them.
 fn tell_all(session: &mut Session, requests: &[Request], told: &[Told], answers: &mut Vec<Answer>)
     requires client { IsSome session.old.client }
     requires told { AreTold requests.now told.now }

@@ -67,7 +67,7 @@ impl<C: Channel> ChannelSink<C> {
         &self.channel
     }
 
-    /// Tells the peer that nothing of the domain is mapped. Good exactly where it answers `done
+    /// Sends the line that nothing of the domain is mapped. Good exactly where it answers `done
     /// reset <domain>`.
     pub fn reset(&mut self, domain: u64) -> Result<(), SinkFault>
         ensures answers { Answers (C.talk self.old.channel) (C.talk self.new.channel)

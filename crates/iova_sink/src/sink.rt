@@ -13,9 +13,9 @@ pub enum SinkFault {
     Broken,
 }
 
-/// A sink of invalidations, which also gets the clients that are gone. It tells the list of its
-/// calls; how many invalidations were good, how many calls failed, and which invalidation was the
-/// last good one are functions of that list.
+/// A sink of invalidations, which also gets the clients that are gone. Contracts see the list of
+/// its calls; how many invalidations were good, how many calls failed, and which invalidation was
+/// the last good one are functions of that list.
 pub trait Sink {
     /// The calls that it was made, oldest first, with their answers.
     ghost calls: { Self → List Call };
@@ -25,8 +25,8 @@ pub trait Sink {
     fn invalidate(&mut self, domain: u64, no: u64) -> Result<(), SinkFault>
         ensures { calls self.new ≡ with_call (calls self.old) domain no (is_ok result) };
 
-    /// Tells that this client of the domain is gone, which had these ranges: nothing of them may be
-    /// mapped any more once this has ended well. A sink without an answer has nothing to do. The
+    /// Reports that this client of the domain is gone, which had these ranges: nothing of them may
+    /// be mapped any more once this has ended well. A sink without an answer has nothing to do. The
     /// ranges come in a `Vec`, of which proofs keep what it was.
     fn gone(&mut self, domain: u64, client: u64, ranges: &Vec<Range>) -> Result<(), SinkFault>
         ensures { calls self.new ≡ with_gone (calls self.old) domain client ranges.now.items
